@@ -1,0 +1,5 @@
+use Rattle.keyspace.proofs.Chaining.{run_chain}
+use Rattle.keyspace.proofs.laws.runs_are_chains.Goals as goal
+
+pub returns : goal.returns
+returns c = run_chain

@@ -1,0 +1,13 @@
+-- In the order in which one reads them aloud.
+pub mod Key
+pub mod Range
+pub mod Places
+pub mod Processed
+pub mod Writes
+pub mod Judged
+pub mod Judge
+pub mod Chain
+pub mod Found
+pub mod Leaving
+pub mod Run
+pub mod Laws

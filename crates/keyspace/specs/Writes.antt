@@ -1,0 +1,40 @@
+-- The write ranges of committed transactions. Source: Algorithm 1 of the FoundationDB paper (SIGMOD 2021), which
+-- keeps the last version of each committed write.
+use Rattle.std.specs.Prelude.{ℕ, ℤ, List, [], ◌∷◌, ◌++◌, map, take, flat_map}
+use Rattle.keyspace.specs.declared.range.Range.{Range}
+use Rattle.keyspace.specs.declared.txn.Txn.{Txn}
+use Rattle.keyspace.specs.declared.batch.Batch.{Batch}
+use Rattle.keyspace.specs.declared.reply.Verdict.{Verdict}
+use Rattle.keyspace.specs.declared.reply.Verdict.TheVariants.{Conflict, TooOld, Committed}
+use Rattle.keyspace.specs.declared.reply.Entry.{Entry}
+use Rattle.keyspace.specs.declared.reply.Reply.{Reply}
+use Rattle.keyspace.specs.Processed.{Processed}
+
+-- a range that was written, and the version of its batch
+pub record Write : Type 0 where
+  pub range : Range
+  pub version : ℤ
+
+-- what counts of a transaction's writes under this verdict: those of a committed one, and no other
+abbrev pub counted : Verdict → List Range → List Range
+counted Committed writes = writes
+counted TooOld writes = []
+counted Conflict writes = []
+
+-- the write ranges of the transactions whose entries say committed, in order
+abbrev pub committed : List Txn → List Entry → List Range
+committed (t ∷ ts) (e ∷ es) = counted e.verdict t.writes ++ committed ts es
+committed [] es = []
+committed (t ∷ ts) [] = []
+
+-- the same of a batch and its reply, each at the batch's version
+abbrev pub writes_of : Batch → Reply → List Write
+writes_of b r = map (λ range. record { range = range; version = b.version }) (committed b.txns r.entries)
+
+-- all writes committed so far
+abbrev pub writes : List Processed → List Write
+writes ps = flat_map (λ p. writes_of p.batch p.reply) ps
+
+-- the write ranges of the transactions before place j that the reply calls committed
+abbrev pub earlier : Batch → Reply → ℕ → List Range
+earlier b r j = committed (take j b.txns) (take j r.entries)

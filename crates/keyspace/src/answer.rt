@@ -1,0 +1,12 @@
+use crate::reply::Reply;
+
+/// What a proxy gets for a batch.
+#[derive(Debug, Drop)]
+pub enum Answer {
+    /// The reply to the batch.
+    Reply(Reply),
+    /// The batch of this version is a repeat whose reply was given up: there never will be one.
+    Never(i64),
+    /// The batch of this version was still held when all input had ended.
+    Held(i64),
+}

@@ -1,0 +1,42 @@
+ghost use Rattle.std.specs.Prelude.{◌≡◌, ◌≤◌, ◌≤ℤ◌, pos, length};
+
+use crate::range::Range;
+use crate::sequence::Sequence;
+
+/// The most read ranges, and the most write ranges, of a transaction.
+pub const MAX_RANGES: usize = 1_024;
+
+/// A transaction to be judged: `CommitTransactionRef` of FoundationDB 7.1, without its mutations.
+#[derive(Debug, Drop)]
+pub struct Txn {
+    /// The version that the transaction read at, 0 or more.
+    pub snapshot: i64,
+    /// Whether the reply is to tell the places of the read ranges in conflict.
+    pub marked: bool,
+    /// The read conflict ranges, at most [`MAX_RANGES`], in the order sent.
+    pub reads: Sequence<Range>,
+    /// The write conflict ranges, at most [`MAX_RANGES`], in the order sent.
+    pub writes: Sequence<Range>,
+    ghost natural: { pos 0 ≤ℤ snapshot },
+    ghost few_reads: { length reads ≤ 1024 },
+    ghost few_writes: { length writes ≤ 1024 },
+}
+
+impl Txn {
+    pub fn new(snapshot: i64, marked: bool, reads: Sequence<Range>, writes: Sequence<Range>) -> Self
+        requires natural { pos 0 ≤ℤ snapshot }
+        requires few_reads { length reads ≤ MAX_RANGES }
+        requires few_writes { length writes ≤ MAX_RANGES }
+        ensures snapshot { result.snapshot ≡ snapshot }
+        ensures marked { result.marked ≡ marked }
+        ensures reads { result.reads ≡ reads }
+        ensures writes { result.writes ≡ writes }
+    {
+        Txn {
+            snapshot,
+            marked,
+            reads,
+            writes,
+        }
+    }
+}
