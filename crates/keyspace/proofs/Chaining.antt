@@ -1,5 +1,5 @@
 -- What a run processes is a chain.
-use Rattle.std.proofs.Common.{◌≡◌, ℕ, zero, suc, Bool, true, false, cond, List, [], ◌∷◌, ◌++◌, length, refl, sym, ◌∙◌, ap, subst, inl, inr, ◌⊎◌, arith}
+use Rattle.std.proofs.Common.{◌≡◌, ℕ, zero, suc, true, false, cond, List, [], ◌∷◌, ◌++◌, length, refl, sym, ap, subst, inl, inr, ◌⊎◌, arith}
 use Rattle.std.specs.Prelude.{ℤ, int_lt, Option, Some, None}
 use Rattle.keyspace.specs.declared.batch.Batch.{Batch}
 use Rattle.keyspace.specs.Processed.{Processed, version_of}
@@ -8,7 +8,7 @@ use Rattle.keyspace.specs.Judge.{judge}
 use Rattle.keyspace.specs.Chain.{Continues, IsChain}
 use Rattle.keyspace.specs.Found.{found}
 use Rattle.keyspace.specs.Leaving.{Held, next_due}
-use Rattle.keyspace.specs.Run.{State, start, Step, Take, Finish, hold, answer, process, place, leave, leave_then, leave_all, step, run_from, run}
+use Rattle.keyspace.specs.Run.{State, start, Step, Take, Finish, hold, answer, process, place, leave, leave_then, step, run_from, run}
 use Rattle.std.proofs.lemmas.Int.{ints}
 use Rattle.keyspace.proofs.Judging.{judge_judged}
 
@@ -39,7 +39,7 @@ same_unless_less a b h k = grind (arith, ints)
 process_chain : (window : ℤ) (proxy : ℕ) (b : Batch) (s : State) → IsChain window s.processed → b.previous ≡ version_of s.processed → IsChain window (process window proxy b s).processed
 process_chain window proxy b s chain e =
     chain_more window s.processed (record { proxy = proxy; batch = b; reply = judge window (writes s.processed) b }) chain
-      (record { previous = e; judged = judge_judged window (writes s.processed) b })
+    (record { previous = e; judged = judge_judged window (writes s.processed) b })
 
 place_chain : (window : ℤ) (proxy : ℕ) (b : Batch) (s : State) → IsChain window s.processed → IsChain window (place window proxy b s).processed
 place_chain window proxy b s chain =
@@ -47,9 +47,9 @@ place_chain window proxy b s chain =
     elim (int_lt v b.previous) as (λ above. int_lt v b.previous ≡ above → IsChain window (cond above (hold proxy b s) (cond (int_lt b.previous v) (answer proxy (found s.processed proxy b.version) s) (process window proxy b s))).processed) [
       | true ↦ λ e. chain
       | false ↦ λ e. elim (int_lt b.previous v) as (λ below. int_lt b.previous v ≡ below → IsChain window (cond below (answer proxy (found s.processed proxy b.version) s) (process window proxy b s)).processed) [
-          | true ↦ λ f. chain
-          | false ↦ λ f. process_chain window proxy b s chain (same_unless_less v b.previous e f)
-        ] refl
+        | true ↦ λ f. chain
+        | false ↦ λ f. process_chain window proxy b s chain (same_unless_less v b.previous e f)
+      ] refl
     ] refl
 
 leave_then_chain : (go_on : State → State) (window : ℤ) → ((s : State) → IsChain window s.processed → IsChain window (go_on s).processed) → (s : State) (l : Option (Held × List Held)) → IsChain window s.processed → IsChain window (leave_then go_on window s l).processed

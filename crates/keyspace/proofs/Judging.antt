@@ -1,7 +1,6 @@
 -- `judge` gives the one reply that is `Judged`.
-use Rattle.std.proofs.Common.{◌≡◌, ℕ, zero, suc, ◌+◌, ◌<◌, ◌≤◌, Bool, true, false, cond, ◌||◌, List, [], ◌∷◌, ◌++◌, length, take, refl, sym, ◌∙◌, ap, subst, inl, inr, ◌⊎◌, ◌↔◌, arith, append_assoc, zero-add, append-nil}
-use Rattle.std.specs.Prelude.{ℤ, ◌≤ℤ◌, pos, Some, None, Option, slice_get, IsTrue, IsSomeAnd, Contains}
-use Rattle.std.specs.List.{list_any}
+use Rattle.std.proofs.Common.{◌≡◌, ℕ, zero, suc, ◌<◌, ◌≤◌, true, false, cond, List, [], ◌∷◌, ◌++◌, length, take, refl, sym, ◌∙◌, ap, subst, inl, inr, ◌⊎◌, ◌↔◌, arith, append_assoc, zero-add, append-nil}
+use Rattle.std.specs.Prelude.{ℤ, ◌≤ℤ◌, pos, Some, None, Option, slice_get, IsTrue, Contains}
 use Rattle.std.specs.List.Sorted.{IsStrictlyIncreasing}
 use mathlib.Core.HLevel.{is_prop→PathP}
 use Rattle.std.proofs.Props.{props}
@@ -12,11 +11,11 @@ use Rattle.keyspace.specs.declared.reply.Verdict.{Verdict}
 use Rattle.keyspace.specs.declared.reply.Verdict.TheVariants.{Conflict, TooOld, Committed}
 use Rattle.keyspace.specs.declared.reply.Entry.{Entry}
 use Rattle.keyspace.specs.declared.reply.Reply.{Reply}
-use Rattle.keyspace.specs.Writes.{Write, counted, committed, earlier}
+use Rattle.keyspace.specs.Writes.{Write, counted, committed}
 use Rattle.keyspace.specs.Judged.{edge, IsTooOld, IsHit, MeetsEarlier, IsInConflict, HasVerdict, IsReported, IsFirstToMeet, HasReport, Judged}
 use Rattle.keyspace.specs.Judge.{is_too_old, is_hit, meets_earlier, is_in_conflict, places_from, hits_or_first, report, without_places, in_conflict_at, judge_txn, judge_txns, length-judge_txns, judge}
-use Rattle.keyspace.proofs.Tests.{not_both_ways}
-use Rattle.keyspace.proofs.Rising.{In, Rises, PassesAt, contains_from_in, in_from_contains, rises_from_increasing, increasing_from_rises, same_rising, rises_places_from, in_places_from, passes_from_in, in_above}
+use Rattle.keyspace.proofs.Booleans.{not_both_ways}
+use Rattle.keyspace.proofs.Rising.{In, Rises, contains_from_in, in_from_contains, rises_from_increasing, increasing_from_rises, same_rising, rises_places_from, in_places_from, passes_from_in, in_above}
 use Rattle.keyspace.proofs.Scans.{too_old_from_test, test_from_too_old, conflict_from_test, test_from_conflict, hit_from_test, test_from_hit, earlier_from_test, test_from_earlier}
 
 -- entries are one where verdict and places are
@@ -24,7 +23,7 @@ pub entry_same : (d e : Entry) → d.verdict ≡ e.verdict → d.places ≡ e.pl
 entry_same d e p q = λ i. record {
   verdict = p i;
   places = q i;
-  only_conflict = is_prop→PathP (λ j. (p j ≡ Conflict → ⊥) → q j ≡ []) (λ j. hlevel props) d.only_conflict e.only_conflict i
+  only_conflict = is_prop→PathP (λ j. (p j ≡ Conflict → ⊥) → q j ≡ []) (λ j. hlevel props) d.only_conflict e.only_conflict i;
 }
 
 pub reply_same : (r s : Reply) → r.version ≡ s.version → r.entries ≡ s.entries → r ≡ s
@@ -32,7 +31,7 @@ reply_same r s p q = λ i. record {
   version = p i;
   entries = q i;
   natural = is_prop→PathP (λ j. pos 0 ≤ℤ p j) (λ j. hlevel props) r.natural s.natural i;
-  few = is_prop→PathP (λ j. length (q j) ≤ 4096) (λ j. hlevel props) r.few s.few i
+  few = is_prop→PathP (λ j. length (q j) ≤ 4096) (λ j. hlevel props) r.few s.few i;
 }
 
 module _ (edge : ℤ) (ws : List Write) (earlier : List Range) (t : Txn) where
@@ -44,11 +43,11 @@ module _ (edge : ℤ) (ws : List Write) (earlier : List Range) (t : Txn) where
       elim (is_too_old edge t) as (λ old. is_too_old edge t ≡ old → HasVerdict edge ws earlier t (cond old (without_places TooOld) (cond (is_in_conflict ws earlier t) (in_conflict_at (report ws earlier t)) (without_places Committed))).verdict) [
         | true ↦ λ e. too_old_from_test edge t e
         | false ↦ λ e.
-          let young = λ (o : IsTooOld edge t). not_both_ways (is_too_old edge t) (test_from_too_old edge t o) e in
-          elim (is_in_conflict ws earlier t) as (λ met. is_in_conflict ws earlier t ≡ met → HasVerdict edge ws earlier t (cond met (in_conflict_at (report ws earlier t)) (without_places Committed)).verdict) [
-            | true ↦ λ f. (young, conflict_from_test ws earlier t f)
-            | false ↦ λ f. (young, λ c. not_both_ways (is_in_conflict ws earlier t) (test_from_conflict ws earlier t c) f)
-          ] refl
+            let young = λ (o : IsTooOld edge t). not_both_ways (is_too_old edge t) (test_from_too_old edge t o) e in
+            elim (is_in_conflict ws earlier t) as (λ met. is_in_conflict ws earlier t ≡ met → HasVerdict edge ws earlier t (cond met (in_conflict_at (report ws earlier t)) (without_places Committed)).verdict) [
+              | true ↦ λ f. (young, conflict_from_test ws earlier t f)
+              | false ↦ λ f. (young, λ c. not_both_ways (is_in_conflict ws earlier t) (test_from_conflict ws earlier t c) f)
+            ] refl
       ] refl
 
   -- at most one verdict is right
@@ -105,14 +104,14 @@ module _ (ws : List Write) (earlier : List Range) (t : Txn) where
   told [] e (i, inl h) = absurd (subst (In i) e (hits_in i h))
   told [] e (i, inr m) = record {
     hits = λ k h. absurd (subst (In k) e (hits_in k h));
-    first = λ none. first_of (places_from 0 (meets_earlier earlier) t.reads) refl i (met_in i m)
+    first = λ none. first_of (places_from 0 (meets_earlier earlier) t.reads) refl i (met_in i m);
   }
   told (h ∷ hs) e c = record {
     hits = λ k hit. (
       increasing_from_rises 0 (h ∷ hs) (subst (Rises 0) e (rises_places_from 0 (is_hit ws t) t.reads)),
-      λ j. (λ in'. in_hits j (subst (In j) (sym e) (in_from_contains (h ∷ hs) j in')), λ hit. contains_from_in (h ∷ hs) j (subst (In j) e (hits_in j hit)))
+      λ j. (λ in'. in_hits j (subst (In j) (sym e) (in_from_contains (h ∷ hs) j in')), λ hit. contains_from_in (h ∷ hs) j (subst (In j) e (hits_in j hit))),
     );
-    first = λ none. absurd (none h (in_hits h (subst (In h) (sym e) (inl refl))))
+    first = λ none. absurd (none h (in_hits h (subst (In h) (sym e) (inl refl))));
   }
 
   same_first : (i m : ℕ) → IsFirstToMeet earlier t i → IsFirstToMeet earlier t m → i ≡ m
@@ -128,8 +127,8 @@ module _ (ws : List Write) (earlier : List Range) (t : Txn) where
   same_told (h ∷ hs) e places told =
       let f = told.hits h (in_hits h (subst (In h) (sym e) (inl refl))) in
       same_rising 0 places (h ∷ hs) (rises_from_increasing places f.0) (subst (Rises 0) e (rises_places_from 0 (is_hit ws t) t.reads))
-        (λ k i. subst (In k) e (hits_in k ((f.1 k).0 (contains_from_in places k i))))
-        (λ k i. in_from_contains places k ((f.1 k).1 (in_hits k (subst (In k) (sym e) i))))
+      (λ k i. subst (In k) e (hits_in k ((f.1 k).0 (contains_from_in places k i))))
+      (λ k i. in_from_contains places k ((f.1 k).1 (in_hits k (subst (In k) (sym e) i))))
 
   told_if_marked : IsInConflict ws earlier t → IsTrue t.marked → Tells (report ws earlier t)
   told_if_marked c marked = subst (λ b. Tells (cond b (hits_or_first (places_from 0 (is_hit ws t) t.reads) (places_from 0 (meets_earlier earlier) t.reads)) [])) (sym marked)
@@ -148,7 +147,7 @@ module _ (ws : List Write) (earlier : List Range) (t : Txn) where
       | true ↦ λ e. absurd (silent (e, refl))
       | false ↦ λ e. refl
     ] refl,
-    λ r. told_if_marked c r.0
+    λ r. told_if_marked c r.0,
   )
 
   report_judged : (edge : ℤ) → Report (judge_txn edge ws earlier t).verdict (judge_txn edge ws earlier t).places
@@ -156,9 +155,9 @@ module _ (ws : List Write) (earlier : List Range) (t : Txn) where
       elim (is_too_old edge t) as (λ old. let e : Entry = cond old (without_places TooOld) (cond (is_in_conflict ws earlier t) (in_conflict_at (report ws earlier t)) (without_places Committed)) in Report e.verdict e.places) [
         | true ↦ not_told TooOld (λ e. cc)
         | false ↦ elim (is_in_conflict ws earlier t) as (λ met. is_in_conflict ws earlier t ≡ met → let e : Entry = cond met (in_conflict_at (report ws earlier t)) (without_places Committed) in Report e.verdict e.places) [
-            | true ↦ λ f. report_in_conflict (conflict_from_test ws earlier t f)
-            | false ↦ λ f. not_told Committed (λ e. cc)
-          ] refl
+          | true ↦ λ f. report_in_conflict (conflict_from_test ws earlier t f)
+          | false ↦ λ f. not_told Committed (λ e. cc)
+        ] refl
       ]
 
   pub judge_txn-report : (edge : ℤ) → HasReport ws earlier t (judge_txn edge ws earlier t)
@@ -168,9 +167,9 @@ module _ (ws : List Write) (earlier : List Range) (t : Txn) where
   same_report TooOld xs ys h k = h.0 (λ r. let e : TooOld ≡ Conflict = r.1 in cc) ∙ sym (k.0 (λ r. let e : TooOld ≡ Conflict = r.1 in cc))
   same_report Committed xs ys h k = h.0 (λ r. let e : Committed ≡ Conflict = r.1 in cc) ∙ sym (k.0 (λ r. let e : Committed ≡ Conflict = r.1 in cc))
   same_report Conflict xs ys h k = elim t.marked as (λ b. t.marked ≡ b → xs ≡ ys) [
-      | true ↦ λ e. same_told (places_from 0 (is_hit ws t) t.reads) refl xs (h.1 (e, refl)) ∙ sym (same_told (places_from 0 (is_hit ws t) t.reads) refl ys (k.1 (e, refl)))
-      | false ↦ λ e. h.0 (λ r. not_both_ways t.marked r.0 e) ∙ sym (k.0 (λ r. not_both_ways t.marked r.0 e))
-    ] refl
+    | true ↦ λ e. same_told (places_from 0 (is_hit ws t) t.reads) refl xs (h.1 (e, refl)) ∙ sym (same_told (places_from 0 (is_hit ws t) t.reads) refl ys (k.1 (e, refl)))
+    | false ↦ λ e. h.0 (λ r. not_both_ways t.marked r.0 e) ∙ sym (k.0 (λ r. not_both_ways t.marked r.0 e))
+  ] refl
 
   report_from : (e : Entry) → HasReport ws earlier t e → Report e.verdict e.places
   report_from e h = (h.silent, λ is. record { hits = h.hits is; first = h.first is })
@@ -180,8 +179,8 @@ module _ (ws : List Write) (earlier : List Range) (t : Txn) where
   same_entry edge e v r =
       let same = same_verdict edge ws earlier t e.verdict (judge_txn edge ws earlier t).verdict v (judge_txn-verdict edge ws earlier t) in
       entry_same e (judge_txn edge ws earlier t) same
-        (same_report e.verdict e.places (judge_txn edge ws earlier t).places (report_from e r)
-          (subst (λ w. Report w (judge_txn edge ws earlier t).places) (sym same) (report_judged edge)))
+      (same_report e.verdict e.places (judge_txn edge ws earlier t).places (report_from e r)
+      (subst (λ w. Report w (judge_txn edge ws earlier t).places) (sym same) (report_judged edge)))
 
 -- what the entry at each place has to be, where ranges of others count before those of these transactions
 abbrev pub Entries : ℤ → List Write → List Range → List Txn → List Entry → Type 0
@@ -204,7 +203,7 @@ entries_judged edge ws before (s ∷ ts) (suc j) t e p q =
     let own = counted (judge_txn edge ws before s).verdict s.writes in
     let rest = committed (take j ts) (take j (judge_txns edge ws (before ++ own) ts)) in
     subst (λ ranges. HasVerdict edge ws ranges t e.verdict × HasReport ws ranges t e) (append_assoc before own rest)
-      (entries_judged edge ws (before ++ own) ts j t e p q)
+    (entries_judged edge ws (before ++ own) ts j t e p q)
 
 pub same_entries : (edge : ℤ) (ws : List Write) (before : List Range) (ts : List Txn) (es : List Entry) → length es ≡ length ts → Entries edge ws before ts es → es ≡ judge_txns edge ws before ts
 same_entries edge ws before [] [] n h = refl
@@ -215,7 +214,7 @@ same_entries edge ws before (t ∷ ts) (e ∷ es) n h =
     let same = same_entry ws before t edge e first.0 first.1 in
     let own = counted e.verdict t.writes in
     let more : es ≡ judge_txns edge ws (before ++ own) ts = same_entries edge ws (before ++ own) ts es (omega arith)
-          (λ j u f p q. subst (λ ranges. HasVerdict edge ws ranges u f.verdict × HasReport ws ranges u f) (sym (append_assoc before own (committed (take j ts) (take j es)))) (h (suc j) u f p q)) in
+    (λ j u f p q. subst (λ ranges. HasVerdict edge ws ranges u f.verdict × HasReport ws ranges u f) (sym (append_assoc before own (committed (take j ts) (take j es)))) (h (suc j) u f p q)) in
     let tails = ap (λ (x : Entry). judge_txns edge ws (before ++ counted x.verdict t.writes) ts) same in
     cc
 
@@ -227,7 +226,7 @@ judge_judged window ws b =
       version = refl;
       count = length-judge_txns (edge window b) ws [] b.txns;
       verdicts = λ j t e p q. (h j t e p q).0;
-      reports = λ j t e p q. (h j t e p q).1
+      reports = λ j t e p q. (h j t e p q).1;
     }
 
 -- and no other is

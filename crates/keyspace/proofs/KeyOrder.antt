@@ -1,9 +1,7 @@
 -- The order of keys is total.
 use Rattle.std.proofs.Common.{◌≡◌, ℕ, Bool, true, false, not, List, refl, sym, ◌∙◌, ap, subst, inl, inr, ◌⊎◌}
-use Rattle.std.specs.Prelude.{IsTrue}
-use Rattle.std.specs.Ordering.{nat_cmp, is_lt, is_le, is_eq, ordering_reverse}
+use Rattle.std.specs.Ordering.{nat_cmp, is_lt, is_le, ordering_reverse}
 use Rattle.std.specs.Cmp.Lexicographic.{slice_cmp}
-use Rattle.std.specs.Cmp.{IsTotalOrder}
 use Rattle.std.specs.FinMap.{slice_cmp-IsAntisymmetric, nat_cmp-IsAntisymmetric}
 use Rattle.std.proofs.lemmas.Cmp.{nat_list_cmp_total, tied_itself}
 use Rattle.std.specs.declared.cmp.Ordering.{Ordering}

@@ -1,4 +1,4 @@
-pub mod Tests
+pub mod Booleans
 pub mod KeyOrder
 pub mod Meeting
 pub mod Rising
@@ -6,3 +6,4 @@ pub mod Scans
 pub mod Judging
 pub mod Chaining
 pub mod Waiting
+pub mod Rows

@@ -1,12 +1,12 @@
 -- Ranges meet exactly if neither is empty and each begins before the other ends.
-use Rattle.std.proofs.Common.{◌≡◌, ℕ, Bool, true, false, ◌&&◌, List, ◌↔◌, inl, inr, subst}
+use Rattle.std.proofs.Common.{◌≡◌, ◌&&◌, inl, inr, subst}
 use Rattle.std.specs.Prelude.{IsTrue}
-use Rattle.keyspace.specs.Key.{IsBytes, is_before, IsBefore, IsAtMost}
-use Rattle.keyspace.specs.Range.{Holds, Meets}
+use Rattle.keyspace.specs.Key.{is_before, IsBefore, IsAtMost}
+use Rattle.keyspace.specs.Range.{Meets}
 use Rattle.keyspace.specs.Judge.{ranges_meet}
 use Rattle.keyspace.specs.declared.range.Range.{Range}
 use Rattle.keyspace.specs.Laws.{MeetByEnds}
-use Rattle.keyspace.proofs.Tests.{and_left, and_right, and_both}
+use Rattle.keyspace.proofs.Booleans.{and_left, and_right, and_both}
 use Rattle.keyspace.proofs.KeyOrder.{at_most_before, before_or_at_most, at_most_itself, before_at_most_same, before_or_same, not_both}
 
 -- what the test looks at
@@ -48,7 +48,7 @@ test_from_meets a b m = overlap_to a b (record {
   first = at_most_before a.begin m.0 a.end m.2.0 m.2.1;
   second = at_most_before b.begin m.0 b.end m.3.0 m.3.1;
   from_first = at_most_before a.begin m.0 b.end m.2.0 m.3.1;
-  from_second = at_most_before b.begin m.0 a.end m.3.0 m.2.1
+  from_second = at_most_before b.begin m.0 a.end m.3.0 m.2.1;
 })
 
 before_unless_empty : (a : Range) → (a.begin ≡ a.end → ⊥) → IsBefore a.begin a.end
@@ -61,5 +61,5 @@ not_empty a h e = not_both a.begin a.end h (subst (λ key. IsAtMost key a.begin)
 pub meets_by_ends : (a b : Range) → MeetByEnds a b
 meets_by_ends a b = (
   λ m. let o = overlap_from a b (test_from_meets a b m) in (not_empty a o.first, not_empty b o.second, o.from_first, o.from_second),
-  λ h. meets_from_test a b (overlap_to a b (record { first = before_unless_empty a h.0; second = before_unless_empty b h.1; from_first = h.2; from_second = h.3 }))
+  λ h. meets_from_test a b (overlap_to a b (record { first = before_unless_empty a h.0; second = before_unless_empty b h.1; from_first = h.2; from_second = h.3 })),
 )

@@ -1,10 +1,9 @@
 -- Rising lists of places: two with the same members are one, and what `places_from` lists.
-use Rattle.std.proofs.Common.{◌≡◌, ℕ, zero, suc, ◌+◌, ◌<◌, ◌≤◌, Bool, true, false, cond, List, [], ◌∷◌, length, take, refl, sym, ◌∙◌, ap, subst, inl, inr, ◌⊎◌, ◌↔◌, arith, add-one, get_or}
-use Rattle.std.specs.Prelude.{Some, None, slice_get, IsSomeAnd, Contains}
+use Rattle.std.proofs.Common.{◌≡◌, ℕ, zero, suc, ◌+◌, ◌<◌, ◌≤◌, Bool, true, false, cond, List, [], ◌∷◌, length, refl, sym, subst, inl, inr, ◌⊎◌, arith, get_or}
+use Rattle.std.specs.Prelude.{slice_get, IsSomeAnd, Contains}
 use Rattle.std.specs.List.Sorted.{IsStrictlyIncreasing}
 use Rattle.keyspace.specs.declared.range.Range.{Range}
 use Rattle.keyspace.specs.Judge.{places_from}
-use Rattle.keyspace.proofs.Tests.{true_or_false, not_both_ways}
 
 -- x is one of xs
 abbrev pub In : ℕ → List ℕ → Type 0
@@ -69,8 +68,8 @@ same_rising low (x ∷ xs) [] h k f g = elim (f x (inl refl)) [ ]
 same_rising low (x ∷ xs) (y ∷ ys) h k f g =
     let e = head_is low x y xs ys h k (f x (inl refl)) (g y (inl refl)) in
     let rest : xs ≡ ys = same_rising (suc x) xs ys h.1 (subst (λ z. Rises (suc z) ys) (sym e) k.1)
-        (λ z i. tail_in x z xs ys h.1 i (subst (λ w. In z (w ∷ ys)) (sym e) (f z (inr i))))
-        (λ z i. tail_in y z ys xs k.1 i (subst (λ w. In z (w ∷ xs)) e (g z (inr i)))) in
+    (λ z i. tail_in x z xs ys h.1 i (subst (λ w. In z (w ∷ ys)) (sym e) (f z (inr i))))
+    (λ z i. tail_in y z ys xs k.1 i (subst (λ w. In z (w ∷ xs)) e (g z (inr i)))) in
     cc
 
 -- range j of these passes the test

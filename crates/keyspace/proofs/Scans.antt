@@ -1,8 +1,7 @@
 -- The tests of `Judge` answer what the words of `Judged` say.
-use Rattle.std.proofs.Common.{◌≡◌, ℕ, zero, suc, ◌<◌, Bool, true, false, ◌&&◌, ◌||◌, List, [], ◌∷◌, length, refl, inl, inr, ◌⊎◌, ◌↔◌, arith, get_or, ltb}
+use Rattle.std.proofs.Common.{◌≡◌, ℕ, zero, suc, ◌<◌, Bool, true, ◌&&◌, ◌||◌, List, [], ◌∷◌, length, refl, inl, inr, ◌⊎◌, arith, get_or}
 use Rattle.std.specs.Prelude.{ℤ, ◌<ℤ◌, int_lt, Some, None, slice_get, IsSomeAnd, Any, nat_lt}
 use Rattle.std.specs.List.{list_any}
-use lib.Dec.{T}
 use borrow.Author.Tests.{ltb-true}
 use Rattle.keyspace.specs.declared.range.Range.{Range}
 use Rattle.keyspace.specs.declared.txn.Txn.{Txn}
@@ -10,7 +9,7 @@ use Rattle.keyspace.specs.Range.{Meets}
 use Rattle.keyspace.specs.Writes.{Write}
 use Rattle.keyspace.specs.Judged.{IsTooOld, IsHit, MeetsEarlier, IsInConflict}
 use Rattle.keyspace.specs.Judge.{ranges_meet, is_too_old, is_hit, meets_earlier, is_in_conflict}
-use Rattle.keyspace.proofs.Tests.{and_left, and_right, and_both, or_either, or_left, or_right}
+use Rattle.keyspace.proofs.Booleans.{and_left, and_right, and_both, or_either, or_left, or_right}
 use Rattle.keyspace.proofs.Meeting.{meets_from_test, test_from_meets}
 use Rattle.keyspace.proofs.Rising.{PassesAt}
 
@@ -24,9 +23,9 @@ test_from_lt a b h = grind arith
 pub any_from_test : {X : Type 0} (P : X → Type 0) (test : X → Bool) (xs : List X) → ((x : X) → test x ≡ true → P x) → list_any test xs ≡ true → Any P xs
 any_from_test P test [] f h = cc
 any_from_test P test (x ∷ xs) f h = elim (or_either (test x) (list_any test xs) h) [
-    | inl k ↦ (0, x, omega arith, refl, f x k)
-    | inr k ↦ let a = any_from_test P test xs f k in (suc a.0, a.1, omega (arith, a.2), a.3, a.4)
-  ]
+  | inl k ↦ (0, x, omega arith, refl, f x k)
+  | inr k ↦ let a = any_from_test P test xs f k in (suc a.0, a.1, omega (arith, a.2), a.3, a.4)
+]
 
 test_from_index : {X : Type 0} (P : X → Type 0) (test : X → Bool) (xs : List X) → ((x : X) → P x → test x ≡ true) → (k : ℕ) (x : X) → k < length xs → get_or xs k x ≡ x → P x → list_any test xs ≡ true
 test_from_index P test [] f k x l e p = absurd (omega arith)
@@ -40,9 +39,9 @@ test_from_any P test xs f a = test_from_index P test xs f a.0 a.1 a.2 a.3 a.4
 pub place_from_test : {X : Type 0} (test : X → Bool) (xs : List X) → list_any test xs ≡ true → (i : ℕ) × IsSomeAnd (slice_get xs i) (λ x. test x ≡ true)
 place_from_test test [] h = cc
 place_from_test test (x ∷ xs) h = elim (or_either (test x) (list_any test xs) h) [
-    | inl k ↦ (0, k)
-    | inr k ↦ let p = place_from_test test xs k in (suc p.0, p.1)
-  ]
+  | inl k ↦ (0, k)
+  | inr k ↦ let p = place_from_test test xs k in (suc p.0, p.1)
+]
 
 pub test_from_place : {X : Type 0} (test : X → Bool) (xs : List X) (i : ℕ) → IsSomeAnd (slice_get xs i) (λ x. test x ≡ true) → list_any test xs ≡ true
 test_from_place test [] i h = elim h [ ]

@@ -1,5 +1,5 @@
 -- After each step no held batch is due.
-use Rattle.std.proofs.Common.{◌≡◌, ℕ, zero, suc, ◌≤◌, Bool, true, false, cond, List, [], ◌∷◌, ◌++◌, length, refl, sym, ◌∙◌, ap, subst, inl, inr, ◌⊎◌, arith}
+use Rattle.std.proofs.Common.{◌≡◌, ℕ, zero, suc, ◌≤◌, true, false, cond, List, [], ◌∷◌, length, refl, ap, arith}
 use Rattle.std.specs.Prelude.{ℤ, ◌<ℤ◌, ◌≤ℤ◌, int_lt, int_le, Option, Some, None, All}
 use Rattle.std.specs.List.{AllByRecursion}
 use Rattle.std.proofs.lemmas.Int.{ints}
@@ -8,7 +8,7 @@ use Rattle.keyspace.specs.declared.batch.Batch.{Batch}
 use Rattle.keyspace.specs.Processed.{version_of}
 use Rattle.keyspace.specs.Found.{found}
 use Rattle.keyspace.specs.Leaving.{Held, first_or, least_first, if_due, next_due}
-use Rattle.keyspace.specs.Run.{State, start, Step, Take, Finish, hold, answer, process, place, leave, leave_then, leave_all, step, run_from, run}
+use Rattle.keyspace.specs.Run.{State, start, Step, Take, Finish, hold, answer, process, place, leave, leave_then, step, run_from, run}
 
 -- each has at least this previous version
 abbrev AllFrom : ℤ → List Held → Type 0
@@ -88,7 +88,7 @@ leave_then_quiet : (go_on : State → State) (window : ℤ) (turns : ℕ) → ((
 leave_then_quiet go_on window turns f s n None k = k
 leave_then_quiet go_on window turns f s n (Some l) k =
     f (place window l.0.0 l.0.1 (record s { held = l.1 }))
-      (let e = ap length (place_due window l.0.0 l.0.1 (record s { held = l.1 }) k.1) in omega (arith, k.0, e))
+    (let e = ap length (place_due window l.0.0 l.0.1 (record s { held = l.1 }) k.1) in omega (arith, k.0, e))
 
 leave_quiet : (turns : ℕ) (window : ℤ) (s : State) → length s.held ≤ turns → IsQuiet (leave turns window s)
 leave_quiet zero window s n = none_held s.held n

@@ -1,5 +1,5 @@
 -- The reply that is `Judged`, computed by a plain scan.
-use Rattle.std.specs.Prelude.{◌≡◌, ℕ, suc, ◌+◌, ◌≤◌, ℤ, Bool, true, false, not, ◌&&◌, ◌||◌, if◌then◌else◌, nat_lt, int_lt, List, [], ◌∷◌, ◌++◌, length, take, refl}
+use Rattle.std.specs.Prelude.{◌≡◌, ℕ, suc, ◌+◌, ◌≤◌, ℤ, Bool, ◌&&◌, ◌||◌, if◌then◌else◌, nat_lt, int_lt, List, [], ◌∷◌, ◌++◌, length, take, refl}
 use Rattle.std.specs.List.{list_any}
 use Rattle.std.proofs.Common.{ap, subst, sym}
 use Rattle.keyspace.specs.declared.range.Range.{Range}
@@ -70,5 +70,5 @@ judge window ws b = record {
   version = b.version;
   entries = judge_txns (edge window b) ws [] b.txns;
   natural = b.natural;
-  few = subst (λ (n : ℕ). n ≤ 4096) (sym (length-judge_txns (edge window b) ws [] b.txns)) b.few
+  few = subst (λ (n : ℕ). n ≤ 4096) (sym (length-judge_txns (edge window b) ws [] b.txns)) b.few;
 }

@@ -1,6 +1,6 @@
 -- The reference resolver. Source: `Resolver.actor.cpp`, FoundationDB 7.1; the order of leaving, and the answers `Never` and
 -- `Held`, are this project's own.
-use Rattle.std.specs.Prelude.{ℕ, zero, suc, ℤ, ◌==◌, int_lt, if◌then◌else◌, List, [], ◌∷◌, ◌++◌, length, map, filter, filter_map, Option, Some, None}
+use Rattle.std.specs.Prelude.{ℕ, zero, suc, ℤ, ◌==◌, int_lt, if◌then◌else◌, List, [], ◌∷◌, ◌++◌, length, map, filter, Option, Some, None}
 use Rattle.keyspace.specs.declared.batch.Batch.{Batch}
 use Rattle.keyspace.specs.declared.answer.Answer.{Answer}
 use Rattle.keyspace.specs.declared.answer.Answer.TheVariants as told

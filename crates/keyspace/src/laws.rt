@@ -6,24 +6,20 @@ ghost use Rattle.keyspace.specs.Laws.{MeetByEnds, JudgeIsRight, OnlyJudgeIsRight
 /// Meeting by a common key is what code that compares the ends of two ranges computes.
 pub fn meeting()
     ensures { (a b : Range) → MeetByEnds a b }
-{
-}
+{}
 
 /// For each list of writes and each batch there is exactly one reply that is right, the one of the plain scan.
 pub fn one_reply()
     ensures right { JudgeIsRight }
     ensures only { OnlyJudgeIsRight }
-{
-}
+{}
 
 /// What the reference resolver processes is a chain, whatever steps it makes.
 pub fn runs_are_chains()
     ensures { RunsAreChains }
-{
-}
+{}
 
 /// The reference resolver holds no batch that it could process or answer.
 pub fn nothing_held_is_due()
     ensures { NothingHeldIsDue }
-{
-}
+{}

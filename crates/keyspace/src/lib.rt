@@ -23,3 +23,6 @@ pub use txn::{MAX_RANGES, Txn};
 
 /// How many versions back the resolver remembers committed writes.
 pub const WINDOW: i64 = 5_000_000;
+
+#[cfg(test)]
+mod tests;

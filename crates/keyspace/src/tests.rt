@@ -1,0 +1,54 @@
+use super::*;
+use std::alloc::Global;
+use std::test::Fail;
+
+fn key(alloc: Global, bytes: &[u8]) -> Result<Key, Fail> {
+    let bytes = Vec::from_slice(alloc, bytes)?;
+    if bytes.len() > MAX_KEY_LENGTH {
+        return Err("a key that is too long")?;
+    }
+    Ok(Key::new(bytes))
+}
+
+#[test]
+fn copies_a_key(rt: HostRuntime) -> Result<(), Fail> {
+    let alloc = rt.alloc();
+    let copied = key(alloc, b"a")?.copy(alloc)?;
+    assert_eq!(rt; copied.as_bytes(), b"a".as_slice());
+    Ok(())
+}
+
+#[test]
+fn copies_a_range(rt: HostRuntime) -> Result<(), Fail> {
+    let alloc = rt.alloc();
+    let begin = key(alloc, b"a")?;
+    let end = key(alloc, b"b")?;
+    if end < begin {
+        return Err("a range that ends before it begins")?;
+    }
+    let range = Range::new(begin, end);
+    let copied = range.copy(alloc)?;
+    assert_eq!(rt; copied.begin.as_bytes(), b"a".as_slice());
+    assert_eq!(rt; copied.end.as_bytes(), b"b".as_slice());
+    assert!(rt; copied.meets(&range) && copied.holds(b"a") && !copied.holds(b"b"));
+    Ok(())
+}
+
+#[test]
+fn copies_a_reply(rt: HostRuntime) -> Result<(), Fail> {
+    let alloc = rt.alloc();
+    let places = Places::new(vec![in alloc; 0, 2]?);
+    let conflict = Entry::new(Verdict::Conflict, places);
+    let committed = Entry::new(Verdict::Committed, Places::new(Vec::new(alloc)));
+    let reply = Reply::new(200, Sequence::new(vec![in alloc; committed, conflict]?));
+    let copied = reply.copy(alloc)?;
+    assert_eq!(rt; copied.version, 200);
+    let [first, second] = copied.entries.as_slice() else {
+        return Err("two entries")?;
+    };
+    assert_eq!(rt; first.verdict, Verdict::Committed);
+    assert_eq!(rt; first.places.as_slice(), [].as_slice());
+    assert_eq!(rt; second.verdict, Verdict::Conflict);
+    assert_eq!(rt; second.places.as_slice(), [0, 2].as_slice());
+    Ok(())
+}
