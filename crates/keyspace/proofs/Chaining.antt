@@ -1,11 +1,13 @@
 -- What a run processes is a chain.
-use Rattle.std.proofs.Common.{◌≡◌, ℕ, zero, suc, true, false, cond, List, [], ◌∷◌, ◌++◌, length, refl, sym, ap, subst, inl, inr, ◌⊎◌, arith}
+use Rattle.std.proofs.Common.{◌≡◌, ℕ, zero, suc, true, false, cond, List, [], ◌∷◌, ◌++◌, length, refl, sym, ap, subst, ◌∙◌, append-nil, append_assoc, inl, inr, ◌⊎◌, arith}
 use Rattle.std.specs.Prelude.{ℤ, int_lt, Option, Some, None}
 use Rattle.keyspace.specs.declared.batch.Batch.{Batch}
+use Rattle.keyspace.specs.declared.reply.Reply.{Reply}
 use Rattle.keyspace.specs.Processed.{Processed, version_of}
-use Rattle.keyspace.specs.Writes.{writes}
+use Rattle.keyspace.specs.Writes.{Write, writes, writes_of}
+use Rattle.keyspace.specs.Judged.{Judged}
 use Rattle.keyspace.specs.Judge.{judge}
-use Rattle.keyspace.specs.Chain.{Continues, IsChain}
+use Rattle.keyspace.specs.Chain.{Continues, IsChainBy, IsChain}
 use Rattle.keyspace.specs.Found.{found}
 use Rattle.keyspace.specs.Leaving.{Held, next_due}
 use Rattle.keyspace.specs.Run.{State, start, Step, Take, Finish, hold, answer, process, place, leave, leave_then, step, run_from, run}
@@ -26,19 +28,30 @@ last_or_before (x ∷ ps) p (y ∷ before) q after e =
       | inr found ↦ let e : ps ≡ before ++ q ∷ found.0 = found.1 in inr (found.0, cc)
     ]
 
-chain_more : (window : ℤ) (ps : List Processed) (p : Processed) → IsChain window ps → Continues window ps p → IsChain window (ps ++ p ∷ [])
-chain_more window ps p chain c before q after e =
+pub chain_more : (IsRight : List Write → Batch → Reply → Type 0) (ps : List Processed) (p : Processed) → IsChainBy IsRight ps → Continues IsRight ps p → IsChainBy IsRight (ps ++ p ∷ [])
+chain_more IsRight ps p chain c before q after e =
     elim (last_or_before ps p before q after e) [
-      | inl last ↦ subst (λ x. Continues window x q) (sym last.0) (subst (Continues window ps) (sym last.1) c)
+      | inl last ↦ subst (λ x. Continues IsRight x q) (sym last.0) (subst (Continues IsRight ps) (sym last.1) c)
       | inr found ↦ chain before q found.0 found.1
     ]
+
+-- the version after one more
+pub version_of-more : (ps : List Processed) (p : Processed) → version_of (ps ++ p ∷ []) ≡ p.batch.version
+version_of-more [] p = refl
+version_of-more (q ∷ []) p = refl
+version_of-more (q ∷ r ∷ ps) p = version_of-more (r ∷ ps) p
+
+-- and the writes
+pub writes-more : (ps : List Processed) (p : Processed) → writes (ps ++ p ∷ []) ≡ writes ps ++ writes_of p.batch p.reply
+writes-more [] p = append-nil (writes_of p.batch p.reply)
+writes-more (q ∷ ps) p = ap (λ ws. writes_of q.batch q.reply ++ ws) (writes-more ps p) ∙ sym (append_assoc (writes_of q.batch q.reply) (writes ps) (writes_of p.batch p.reply))
 
 same_unless_less : (a b : ℤ) → int_lt a b ≡ false → int_lt b a ≡ false → b ≡ a
 same_unless_less a b h k = grind (arith, ints)
 
 process_chain : (window : ℤ) (proxy : ℕ) (b : Batch) (s : State) → IsChain window s.processed → b.previous ≡ version_of s.processed → IsChain window (process window proxy b s).processed
 process_chain window proxy b s chain e =
-    chain_more window s.processed (record { proxy = proxy; batch = b; reply = judge window (writes s.processed) b }) chain
+    chain_more (Judged window) s.processed (record { proxy = proxy; batch = b; reply = judge window (writes s.processed) b }) chain
     (record { previous = e; judged = judge_judged window (writes s.processed) b })
 
 place_chain : (window : ℤ) (proxy : ℕ) (b : Batch) (s : State) → IsChain window s.processed → IsChain window (place window proxy b s).processed
@@ -68,9 +81,9 @@ run_from_chain : (window : ℤ) (log : List Step) (s : State) → IsChain window
 run_from_chain window [] s chain = chain
 run_from_chain window (x ∷ log) s chain = run_from_chain window log (step window x s) (step_chain window x s chain)
 
-empty_chain : (window : ℤ) → IsChain window []
-empty_chain window [] p after e = cc
-empty_chain window (q ∷ before) p after e = cc
+pub empty_chain : (IsRight : List Write → Batch → Reply → Type 0) → IsChainBy IsRight []
+empty_chain IsRight [] p after e = cc
+empty_chain IsRight (q ∷ before) p after e = cc
 
 pub run_chain : (window : ℤ) (log : List Step) → IsChain window (run window log).processed
-run_chain window log = run_from_chain window log start (empty_chain window)
+run_chain window log = run_from_chain window log start (empty_chain (Judged window))

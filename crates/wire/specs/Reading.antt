@@ -1,0 +1,125 @@
+-- Reading from left to right, with the first fault that is met. The format is the project's own.
+use Rattle.std.specs.Prelude.{◌≡◌, ◌≢◌, ℕ, ◌+◌, zero, suc, ℤ, pos, negsuc, Bool, ◌&&◌, List, [], ◌∷◌, length, take, drop, Option, Some, None, Result, Ok, Err, nat_lt, nat_le, int_lt, int_le, ◌==◌, if◌then◌else◌}
+use Rattle.std.specs.Int.{w64, cast_signed}
+use Rattle.byteorder.specs.Endian.{big_number}
+use Rattle.keyspace.specs.Key.{is_before}
+use Rattle.wire.specs.declared.error.WireError.{WireError}
+use Rattle.wire.specs.declared.error.WireError.TheVariants.{Short, Long, Kind, Trailing, Version, Marks, Count, KeyLength, Inverted, Cut, Memory, Read}
+use Rattle.wire.specs.Fields.{RangeFields, TxnFields, BatchFields}
+
+infixl 10 ◌>>=◌
+abbrev pub ◌>>=◌ : {A B : Type 0} → Result A WireError → (A → Result B WireError) → Result B WireError
+(Ok x) >>= f = f x
+(Err e) >>= f = Err e
+
+-- What may be answered in place of a value: the first fault, or that memory ran out, and never a failed read.
+abbrev pub Refuses : {Y : Type 0} → WireError → Result Y WireError → Type 0
+Refuses e read = (e ≢ Read) × (e ≢ Memory → read ≡ Err e)
+
+-- What a function answered, seen by view, is what reading gives, unless memory ran out.
+abbrev pub Gives : {X Y : Type 0} → (X → Y) → Result X WireError → Result Y WireError → Type 0
+Gives view (Ok x) read = read ≡ Ok (view x)
+Gives view (Err e) read = Refuses e read
+
+-- A field of a body is a value and the bytes after it.
+
+-- a number of n bytes
+abbrev pub number_at : ℕ → List ℕ → Result (ℕ × List ℕ) WireError
+number_at n bytes = if nat_lt (length bytes) n then Err Cut else Ok (big_number n bytes, drop n bytes)
+
+-- a number of 8 bytes as two's complement
+abbrev pub signed_at : List ℕ → Result (ℤ × List ℕ) WireError
+signed_at bytes = do
+  n ← number_at 8 bytes
+  Ok (cast_signed w64 n.0, n.1)
+
+unfoldable pub version_at : (ℤ → Bool) → List ℕ → Result (ℤ × List ℕ) WireError
+version_at holds bytes = do
+  version ← signed_at bytes
+  if holds version.0 then Ok version else Err Version
+
+unfoldable pub count_at : ℕ → List ℕ → Result (ℕ × List ℕ) WireError
+count_at limit bytes = do
+  n ← number_at 2 bytes
+  if nat_le n.0 limit then Ok n else Err Count
+
+unfoldable pub marks_at : List ℕ → Result (Bool × List ℕ) WireError
+marks_at bytes = do
+  n ← number_at 1 bytes
+  if nat_lt 1 n.0 then Err Marks else Ok (n.0 == 1, n.1)
+
+unfoldable pub key_at : List ℕ → Result (List ℕ × List ℕ) WireError
+key_at bytes = do
+  n ← number_at 2 bytes
+  if nat_lt 10001 n.0 then Err KeyLength else if nat_lt (length n.1) n.0 then Err Cut else Ok (take n.0 n.1, drop n.0 n.1)
+
+unfoldable pub range_at : List ℕ → Result (RangeFields × List ℕ) WireError
+range_at bytes = do
+  begin ← key_at bytes
+  end ← key_at begin.1
+  if is_before end.0 begin.0 then Err Inverted else Ok (record { begin = begin.0; end = end.0 }, end.1)
+
+-- as many values, one after the other
+unfoldable pub many_at : {A : Type 0} → (List ℕ → Result (A × List ℕ) WireError) → ℕ → List ℕ → Result (List A × List ℕ) WireError
+many_at one zero bytes = Ok ([], bytes)
+many_at one (suc n) bytes = do
+  first ← one bytes
+  others ← many_at one n first.1
+  Ok (first.0 ∷ others.0, others.1)
+
+unfoldable pub txn_at : List ℕ → Result (TxnFields × List ℕ) WireError
+txn_at bytes = do
+  snapshot ← version_at (λ v. int_le (pos 0) v) bytes
+  marked ← marks_at snapshot.1
+  read_count ← count_at 1024 marked.1
+  write_count ← count_at 1024 read_count.1
+  reads ← many_at range_at read_count.0 write_count.1
+  writes ← many_at range_at write_count.0 reads.1
+  Ok (record { snapshot = snapshot.0; marked = marked.0; reads = reads.0; writes = writes.0 }, writes.1)
+
+unfoldable pub kind_at : ℕ → List ℕ → Result (List ℕ) WireError
+kind_at kind bytes = do
+  n ← number_at 1 bytes
+  if n.0 == kind then Ok n.1 else Err Kind
+
+-- the kind of a batch, and its previous version, version and last received version
+unfoldable pub header_at : List ℕ → Result ((ℤ × ℤ × ℤ) × List ℕ) WireError
+header_at bytes = do
+  rest ← kind_at 1 bytes
+  previous ← version_at (λ v. int_le (negsuc 0) v) rest
+  version ← version_at (λ v. int_le (pos 0) v && int_lt previous.0 v) previous.1
+  received ← version_at (λ v. int_le (negsuc 0) v && int_lt v version.0) version.1
+  Ok ((previous.0, version.0, received.0), received.1)
+
+unfoldable pub batch_at : List ℕ → Result (BatchFields × List ℕ) WireError
+batch_at bytes = do
+  header ← header_at bytes
+  count ← count_at 4096 header.1
+  txns ← many_at txn_at count.0 count.1
+  Ok (record { previous = header.0.0; version = header.0.1; received = header.0.2; txns = txns.0 }, txns.1)
+
+-- the body of the frame at the front
+unfoldable pub body_at : List ℕ → Result (List ℕ) WireError
+body_at bytes =
+    if nat_lt (length bytes) 4 then Err Short
+    else if nat_lt 4194304 (big_number 4 bytes) then Err Long
+    else if nat_lt (length bytes) (4 + big_number 4 bytes) then Err Short
+    else Ok (take (big_number 4 bytes) (drop 4 bytes))
+
+-- a value, with nothing left over behind it
+abbrev pub all_of : {A : Type 0} → Result (A × List ℕ) WireError → Result A WireError
+all_of read = read >>= λ x. if length x.1 == 0 then Ok x.0 else Err Trailing
+
+-- what the frame of a batch at the front says
+unfoldable pub read_batch : List ℕ → Result BatchFields WireError
+read_batch bytes = do
+  body ← body_at bytes
+  all_of (batch_at body)
+
+abbrev pub refusal : {A : Type 0} → Result A WireError → Option WireError
+refusal (Ok x) = None
+refusal (Err e) = Some e
+
+-- the first fault of the frame of a batch at the front, or none
+abbrev pub batch_fault : List ℕ → Option WireError
+batch_fault bytes = refusal (read_batch bytes)

@@ -1,0 +1,74 @@
+-- How each value is spelled: a text is the joining of its fields' texts. The format is the project's own. Every number
+-- is big-endian; versions and snapshots are two's complement in eight bytes.
+use Rattle.std.specs.Prelude.{◌≡◌, ℕ, ℤ, pos, negsuc, ◌≤◌, ◌≤ℤ◌, ◌<ℤ◌, Bool, List, [], ◌∷◌, ◌++◌, length, if◌then◌else◌}
+use Rattle.std.specs.List.{flat_map, AllByRecursion}
+use Rattle.std.specs.Int.{w64, cast_unsigned}
+use Rattle.std.specs.Int.RustNames.{FitsSigned}
+use Rattle.byteorder.specs.Endian.{big_bytes}
+use Rattle.keyspace.specs.Key.{IsKey, IsAtMost}
+use Rattle.keyspace.specs.declared.batch.Batch.{Batch}
+use Rattle.wire.specs.Fields.{RangeFields, TxnFields, BatchFields, batch_fields}
+
+abbrev pub signed_text : ℤ → List ℕ
+signed_text n = big_bytes 8 (cast_unsigned w64 n)
+
+-- a length and that many bytes
+abbrev pub key_text : List ℕ → List ℕ
+key_text key = big_bytes 2 (length key) ++ key
+
+abbrev pub range_text : RangeFields → List ℕ
+range_text range = key_text range.begin ++ key_text range.end
+
+abbrev pub marks_text : Bool → List ℕ
+marks_text marked = (if marked then 1 else 0) ∷ []
+
+unfoldable pub txn_text : TxnFields → List ℕ
+txn_text txn =
+    signed_text txn.snapshot ++ (marks_text txn.marked ++ (big_bytes 2 (length txn.reads) ++ (big_bytes 2 (length txn.writes)
+    ++ (flat_map range_text txn.reads ++ flat_map range_text txn.writes))))
+
+-- the kind of a batch, and its three versions
+abbrev pub header_text : ℤ → ℤ → ℤ → List ℕ
+header_text previous version received = (1 ∷ []) ++ (signed_text previous ++ (signed_text version ++ signed_text received))
+
+unfoldable pub batch_body : BatchFields → List ℕ
+batch_body batch =
+    header_text batch.previous batch.version batch.received ++ (big_bytes 2 (length batch.txns) ++ flat_map txn_text batch.txns)
+
+-- a body behind its length
+abbrev pub frame : List ℕ → List ℕ
+frame body = big_bytes 4 (length body) ++ body
+
+-- what must hold of each field; a number of a type of the program fits that type
+pub record RangeHolds (range : RangeFields) : Type 0 where
+  pub begin : IsKey range.begin
+  pub end : IsKey range.end
+  pub ordered : IsAtMost range.begin range.end
+
+pub record TxnHolds (txn : TxnFields) : Type 0 where
+  pub snapshot_fits : FitsSigned w64 txn.snapshot
+  pub snapshot : pos 0 ≤ℤ txn.snapshot
+  pub few_reads : length txn.reads ≤ 1024
+  pub few_writes : length txn.writes ≤ 1024
+  pub reads : AllByRecursion RangeHolds txn.reads
+  pub writes : AllByRecursion RangeHolds txn.writes
+
+pub record BatchHolds (batch : BatchFields) : Type 0 where
+  pub version_fits : FitsSigned w64 batch.version
+  pub previous : negsuc 0 ≤ℤ batch.previous
+  pub version : pos 0 ≤ℤ batch.version
+  pub rises : batch.previous <ℤ batch.version
+  pub received : negsuc 0 ≤ℤ batch.received
+  pub received_before : batch.received <ℤ batch.version
+  pub few : length batch.txns ≤ 4096
+  pub txns : AllByRecursion TxnHolds batch.txns
+
+-- the longest body of a frame, in bytes, is 4,194,304
+abbrev pub IsShort : List ℕ → Type 0
+IsShort body = length body ≤ 4194304
+
+-- the bytes are the frame of the batch, all of them
+pub record SpellsBatch (bytes : List ℕ) (batch : Batch) : Type 0 where
+  pub text : bytes ≡ frame (batch_body (batch_fields batch))
+  pub holds : BatchHolds (batch_fields batch)
+  pub short : IsShort (batch_body (batch_fields batch))

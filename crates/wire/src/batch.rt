@@ -1,0 +1,75 @@
+ghost use Rattle.std.specs.Prelude.{◌≡◌, ◌≢◌, ◌+◌, ◌≤◌, ◌≤ℤ◌, ◌<ℤ◌, negsuc, length, take, IfOk, IfErr, OnOk, Some, None};
+ghost use Rattle.byteorder.specs.Endian.{big_number};
+ghost use Rattle.wire.specs.Fields.{batch_fields};
+ghost use Rattle.wire.specs.Spelling.{SpellsBatch};
+ghost use Rattle.wire.specs.Reading.{Gives, header_at, batch_at, read_batch, batch_fault};
+
+use crate::error::WireError;
+use crate::field::{after_kind, body_of, count_of, i64_at};
+use crate::txn::txns_of;
+use keyspace::{Batch, MAX_TXNS, Sequence};
+use std::alloc::Global;
+
+const KIND: u8 = 1;
+
+/// The previous version, the version and the last received version, and the bytes after them.
+#[tactic(auto, unfolding(crate::specs::Reading::header_at, crate::specs::Reading::version_at))]
+fn header_of(bytes: &[u8]) -> Result<((i64, i64, i64), &[u8]), WireError>
+    ensures reads { Gives (λ x. (x.0, x.1.now)) result (header_at bytes.now) }
+    ensures previous_from { IfOk result (λ x. negsuc 0 ≤ℤ x.0.0) }
+    ensures rises { IfOk result (λ x. x.0.0 <ℤ x.0.1) }
+    ensures received_from { IfOk result (λ x. negsuc 0 ≤ℤ x.0.2) }
+    ensures received_before { IfOk result (λ x. x.0.2 <ℤ x.0.1) }
+{
+    let rest = after_kind(KIND, bytes)?;
+    let (previous, rest) = i64_at(rest)?;
+    if previous < -1 {
+        return Err(WireError::Version);
+    }
+    let (version, rest) = i64_at(rest)?;
+    if version < 0 || version <= previous {
+        return Err(WireError::Version);
+    }
+    let (received, rest) = i64_at(rest)?;
+    if received < -1 || version <= received {
+        return Err(WireError::Version);
+    }
+    Ok(((previous, version, received), rest))
+}
+
+#[tactic(auto, unfolding(crate::specs::Reading::batch_at))]
+fn batch_of(alloc: Global, bytes: &[u8]) -> Result<(Batch, &[u8]), WireError>
+    ensures { Gives (λ x. (batch_fields x.0, x.1.now)) result (batch_at bytes.now) }
+{
+    let ((previous, version, received), rest) = header_of(bytes)?;
+    let (count, rest) = count_of(MAX_TXNS as u16, rest)?;
+    let (txns, rest) = txns_of(alloc, count, rest)?;
+    let batch = Batch::new(previous, version, received, Sequence::new(txns));
+    Ok((batch, rest))
+}
+
+#[tactic(auto, unfolding(crate::specs::Reading::read_batch))]
+fn read_frame(alloc: Global, bytes: &[u8]) -> Result<(Batch, usize), WireError>
+    ensures reads { Gives (λ x. batch_fields x.0) result (read_batch bytes.now) }
+    ensures used { IfOk result (λ x. x.1 ≡ 4 + big_number 4 bytes.now) }
+{
+    let body = body_of(bytes)?;
+    let (batch, rest) = batch_of(alloc, body)?;
+    if !rest.is_empty() {
+        return Err(WireError::Trailing);
+    }
+    Ok((batch, 4 + body.len()))
+}
+
+/// The batch that the one frame at the front spells, and the bytes that the frame takes. Whatever follows the frame
+/// doesn't matter. What is allocated for a frame is bounded by the frame's own bytes, whether it is refused or not.
+pub fn decode_batch(alloc: Global, bytes: &[u8]) -> Result<(Batch, usize), WireError>
+    ensures within { IfOk result (λ found. found.1 ≤ length bytes.now) }
+    ensures spelled { IfOk result (λ found. SpellsBatch (take found.1 bytes.now) found.0) }
+    ensures ok { OnOk result (batch_fault bytes.now ≡ None) }
+    // But for want of memory, a refusal is the first fault.
+    ensures fault { IfErr result (λ e. e ≢ WireError.Memory → batch_fault bytes.now ≡ Some e) }
+    ensures never_read { IfErr result (λ e. e ≢ WireError.Read) }
+{
+    read_frame(alloc, bytes)
+}

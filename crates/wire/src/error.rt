@@ -1,0 +1,63 @@
+ghost use Rattle.std.specs.Prelude.{◌≡◌};
+ghost use Rattle.wire.specs.declared.error.WireError.TheVariants.{Memory};
+
+use std::alloc::{AllocError, AllocFailed};
+use thiserror::Error;
+
+/// Why there is no value: the first fault of the bytes, or that memory ran out, or that the reader failed. Each has
+/// its number and its name as its text.
+#[derive(Clone, Copy, Debug, PartialEq, Eq, Error)]
+pub enum WireError {
+    /// The input ends inside a frame.
+    #[error("1 Short")]
+    Short = 1,
+    /// The body's length is above the limit.
+    #[error("2 Long")]
+    Long = 2,
+    /// The kind isn't the expected one, or the byte of a verdict is above 2.
+    #[error("3 Kind")]
+    Kind = 3,
+    /// Bytes are left over in the body.
+    #[error("4 Trailing")]
+    Trailing = 4,
+    /// A version or a snapshot is against the limits.
+    #[error("5 Version")]
+    Version = 5,
+    /// The byte of marks is above 1, or a place is too high or not above the place before it.
+    #[error("6 Marks")]
+    Marks = 6,
+    /// A count is above its limit, or places stand where the verdict isn't conflict.
+    #[error("7 Count")]
+    Count = 7,
+    /// A key is longer than a key of a range may be.
+    #[error("8 KeyLength")]
+    KeyLength = 8,
+    /// A range's begin is after its end.
+    #[error("9 Inverted")]
+    Inverted = 9,
+    /// The body ends inside a field.
+    #[error("10 Cut")]
+    Cut = 10,
+    /// A growth of memory was refused in the call.
+    #[error("11 Memory")]
+    Memory = 11,
+    /// The reader failed in the call.
+    #[error("12 Read")]
+    Read = 12,
+}
+
+impl From<AllocError> for WireError {
+    ghost from_gives = { λ _ e. e ≡ Memory };
+
+    fn from(_e: AllocError) -> WireError {
+        WireError::Memory
+    }
+}
+
+impl<T: Drop> From<AllocFailed<T>> for WireError {
+    ghost from_gives = { λ _ e. e ≡ Memory };
+
+    fn from(_e: AllocFailed<T>) -> WireError {
+        WireError::Memory
+    }
+}

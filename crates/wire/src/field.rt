@@ -1,0 +1,114 @@
+//! The fields that all frames are made of. Each reader gives a value and the bytes after it.
+
+ghost use Rattle.std.specs.Prelude.{◌≡◌, ◌≤◌, IfOk, length};
+ghost use Rattle.byteorder.specs.Endian.{big_number};
+ghost use Rattle.wire.specs.Reading.{Gives, number_at, signed_at, count_at, marks_at, kind_at, key_at, body_at};
+
+use crate::error::WireError;
+use byteorder::{BigEndian, ByteOrder};
+use keyspace::{Key, MAX_KEY_LENGTH};
+use std::alloc::Global;
+
+/// The longest body of a frame, in bytes.
+pub const MAX_BODY_LENGTH: usize = 4_194_304;
+
+fn u8_at(bytes: &[u8]) -> Result<(u8, &[u8]), WireError>
+    ensures { Gives (λ x. (x.0, x.1.now)) result (number_at 1 bytes.now) }
+{
+    match bytes {
+        [] => Err(WireError::Cut),
+        [number, rest @ ..] => Ok((*number, rest)),
+    }
+}
+
+fn u16_at(bytes: &[u8]) -> Result<(u16, &[u8]), WireError>
+    ensures { Gives (λ x. (x.0, x.1.now)) result (number_at 2 bytes.now) }
+{
+    if bytes.len() < 2 {
+        return Err(WireError::Cut);
+    }
+    Ok((BigEndian::read_u16(bytes), &bytes[2..]))
+}
+
+/// A version or a snapshot, whatever its limits are.
+pub fn i64_at(bytes: &[u8]) -> Result<(i64, &[u8]), WireError>
+    ensures { Gives (λ x. (x.0, x.1.now)) result (signed_at bytes.now) }
+{
+    if bytes.len() < 8 {
+        return Err(WireError::Cut);
+    }
+    Ok((BigEndian::read_i64(bytes), &bytes[8..]))
+}
+
+/// A count of at most `limit` values.
+#[tactic(auto, unfolding(crate::specs::Reading::count_at))]
+pub fn count_of(limit: u16, bytes: &[u8]) -> Result<(u16, &[u8]), WireError>
+    ensures reads { Gives (λ x. (x.0, x.1.now)) result (count_at limit bytes.now) }
+    ensures few { IfOk result (λ x. x.0 ≤ limit) }
+{
+    let (count, rest) = u16_at(bytes)?;
+    if count > limit {
+        return Err(WireError::Count);
+    }
+    Ok((count, rest))
+}
+
+/// Whether the report is asked for.
+#[tactic(auto, unfolding(crate::specs::Reading::marks_at))]
+pub fn marks_of(bytes: &[u8]) -> Result<(bool, &[u8]), WireError>
+    ensures { Gives (λ x. (x.0, x.1.now)) result (marks_at bytes.now) }
+{
+    let (marks, rest) = u8_at(bytes)?;
+    if marks > 1 {
+        return Err(WireError::Marks);
+    }
+    Ok((marks == 1, rest))
+}
+
+/// The bytes after the kind, which is to be this one.
+#[tactic(auto, unfolding(crate::specs::Reading::kind_at))]
+pub fn after_kind(kind: u8, bytes: &[u8]) -> Result<&[u8], WireError>
+    ensures { Gives (λ x. x.now) result (kind_at kind bytes.now) }
+{
+    let (found, rest) = u8_at(bytes)?;
+    if found != kind {
+        return Err(WireError::Kind);
+    }
+    Ok(rest)
+}
+
+/// A key, whose bytes are copied here and nowhere else.
+#[tactic(auto, unfolding(crate::specs::Reading::key_at))]
+pub fn key_of(alloc: Global, bytes: &[u8]) -> Result<(Key, &[u8]), WireError>
+    ensures { Gives (λ x. (x.0, x.1.now)) result (key_at bytes.now) }
+{
+    let (length, rest) = u16_at(bytes)?;
+    let length = length as usize;
+    if length > MAX_KEY_LENGTH {
+        return Err(WireError::KeyLength);
+    }
+    if rest.len() < length {
+        return Err(WireError::Cut);
+    }
+    let (key, rest) = rest.split_at(length);
+    Ok((Key::new(Vec::from_slice(alloc, key)?), rest))
+}
+
+/// The body of the frame at the front.
+#[tactic(auto, unfolding(crate::specs::Reading::body_at))]
+pub fn body_of(bytes: &[u8]) -> Result<&[u8], WireError>
+    ensures reads { Gives (λ x. x.now) result (body_at bytes.now) }
+    ensures length { IfOk result (λ body. length body.now ≡ big_number 4 bytes.now) }
+{
+    if bytes.len() < 4 {
+        return Err(WireError::Short);
+    }
+    let length = BigEndian::read_u32(bytes) as usize;
+    if length > MAX_BODY_LENGTH {
+        return Err(WireError::Long);
+    }
+    if bytes.len() < 4 + length {
+        return Err(WireError::Short);
+    }
+    Ok(&bytes[4..4 + length])
+}

@@ -1,0 +1,170 @@
+//! Tests of `decode_batch`.
+
+use super::*;
+
+/// The batch at the front of these bytes, and how many of them it takes.
+fn decoded(alloc: Global, text: &str) -> Result<(String, usize), Fail> {
+    let bytes = bytes_of(alloc, text)?;
+    let (batch, used) = decode_batch(alloc, &bytes)?;
+    Ok((show_batch(alloc, &batch)?, used))
+}
+
+#[test]
+fn decoder_always_memory(rt: HostRuntime) -> Result<(), Fail> {
+    for (text, batch, length) in [
+        (EMPTY_BATCH, EMPTY_BATCH_SHOWN, 31),
+        (ONE_WRITE, ONE_WRITE_SHOWN, 50),
+    ] {
+        let (shown, used) = decoded(rt.alloc(), text)?;
+        assert_eq!(rt; shown.as_str(), batch);
+        assert_eq!(rt; used, length, "of {text}");
+    }
+    Ok(())
+}
+
+#[test]
+fn frames_that_are_read(rt: HostRuntime) -> Result<(), Fail> {
+    for (text, batch, length) in [
+        // begin and end are one key
+        (
+            "0000002e 01 0000000000000000 0000000000000064 ffffffffffffffff 0001 \
+             0000000000000000 00 0000 0001 0001 62 0001 62",
+            "0>100 received -1; @0 W[62,62)",
+            50,
+        ),
+        // bytes follow the frame
+        (
+            "0000001b 01 ffffffffffffffff 0000000000000000 ffffffffffffffff 0000 00",
+            EMPTY_BATCH_SHOWN,
+            31,
+        ),
+        (
+            "0000001b 01 ffffffffffffffff 0000000000000000 ffffffffffffffff 0000 ffffffffffff",
+            EMPTY_BATCH_SHOWN,
+            31,
+        ),
+    ] {
+        let (shown, used) = decoded(rt.alloc(), text)?;
+        assert_eq!(rt; shown.as_str(), batch);
+        assert_eq!(rt; used, length, "of {text}");
+    }
+    Ok(())
+}
+
+#[test]
+fn refusals_of_decode_batch(rt: HostRuntime) -> Result<(), Fail> {
+    for (text, fault) in [
+        ("", WireError::Short),
+        ("000000", WireError::Short),
+        ("00400001", WireError::Long),
+        ("00400000", WireError::Short),
+        ("00000000", WireError::Cut),
+        ("00000001 02", WireError::Kind),
+        (
+            "0000001b 01 ffffffffffffffff 0000000000000000 ffffffffffffffff 00",
+            WireError::Short,
+        ),
+        (
+            "0000001a 01 ffffffffffffffff 0000000000000000 ffffffffffffffff 00",
+            WireError::Cut,
+        ),
+        (
+            "0000001c 01 ffffffffffffffff 0000000000000000 ffffffffffffffff 0000 00",
+            WireError::Trailing,
+        ),
+        (
+            "0000001b 01 fffffffffffffffe 0000000000000000 ffffffffffffffff 0000",
+            WireError::Version,
+        ),
+        (
+            "0000001b 01 ffffffffffffffff ffffffffffffffff ffffffffffffffff 0000",
+            WireError::Version,
+        ),
+        (
+            "0000001b 01 0000000000000000 0000000000000000 ffffffffffffffff 0000",
+            WireError::Version,
+        ),
+        (
+            "0000001b 01 ffffffffffffffff 0000000000000000 0000000000000000 0000",
+            WireError::Version,
+        ),
+        (
+            "0000001b 01 ffffffffffffffff 0000000000000000 ffffffffffffffff 1001",
+            WireError::Count,
+        ),
+        (
+            "0000001b 01 ffffffffffffffff 0000000000000000 ffffffffffffffff 0001",
+            WireError::Cut,
+        ),
+        (
+            "0000002e 01 0000000000000000 0000000000000064 ffffffffffffffff 0001 \
+             0000000000000000 02 0000 0001 0001 61 0001 62",
+            WireError::Marks,
+        ),
+        (
+            "0000002e 01 0000000000000000 0000000000000064 ffffffffffffffff 0001 \
+             0000000000000000 00 0401 0001 0001 61 0001 62",
+            WireError::Count,
+        ),
+        (
+            "0000002e 01 0000000000000000 0000000000000064 ffffffffffffffff 0001 \
+             0000000000000000 00 0000 0001 2712 61 0001 62",
+            WireError::KeyLength,
+        ),
+        (
+            "0000002e 01 0000000000000000 0000000000000064 ffffffffffffffff 0001 \
+             0000000000000000 00 0000 0001 2711 61 0001 62",
+            WireError::Cut,
+        ),
+        (
+            "0000002e 01 0000000000000000 0000000000000064 ffffffffffffffff 0001 \
+             0000000000000000 00 0000 0001 0001 62 0001 61",
+            WireError::Inverted,
+        ),
+        (
+            "0000002e 01 0000000000000000 0000000000000064 ffffffffffffffff 0001 \
+             0000000000000000 00 0000 0001 0001 61 0002 62",
+            WireError::Cut,
+        ),
+        (
+            "0000002d 01 0000000000000000 0000000000000064 ffffffffffffffff 0001 \
+             0000000000000000 00 0000 0001 0001 61 0000",
+            WireError::Inverted,
+        ),
+    ] {
+        let bytes = bytes_of(rt.alloc(), text)?;
+        let refusal = decode_batch(rt.alloc(), &bytes).err();
+        assert_eq!(rt; refusal, Some(fault), "of {text}");
+    }
+    Ok(())
+}
+
+/// A frame with one write, from the empty key to a key of so many bytes.
+fn frame_to_key(alloc: Global, length: u16) -> Result<Vec<u8>, Fail> {
+    let body_length = 44 + u32::from(length);
+    let text = format!(in alloc;
+        "{body_length:08x} 01 0000000000000000 0000000000000064 ffffffffffffffff 0001 \
+         0000000000000000 00 0000 0001 0000 {length:04x}"
+    )?;
+    let mut bytes = bytes_of(alloc, text.as_str())?;
+    for _ in 0..length {
+        bytes.push(b'a')?;
+    }
+    Ok(bytes)
+}
+
+#[test]
+fn longest_key(rt: HostRuntime) -> Result<(), Fail> {
+    let bytes = frame_to_key(rt.alloc(), 10_001)?;
+    let (batch, used) = decode_batch(rt.alloc(), &bytes)?;
+    assert_eq!(rt; used, bytes.len());
+    for txn in batch.txns.as_slice() {
+        for range in txn.writes.as_slice() {
+            assert_eq!(rt; range.end.as_bytes().len(), 10_001);
+        }
+    }
+    let bytes = frame_to_key(rt.alloc(), 10_002)?;
+    let refusal = decode_batch(rt.alloc(), &bytes).err();
+    assert_eq!(rt; refusal, Some(WireError::KeyLength));
+    Ok(())
+}

@@ -1,0 +1,50 @@
+ghost use Rattle.std.specs.Prelude.{◌≡◌, ◌≤◌, IfOk, vec_len, map};
+ghost use Rattle.wire.specs.Fields.{txn_fields};
+ghost use Rattle.wire.specs.Reading.{Gives, txn_at, many_at};
+
+use crate::error::WireError;
+use crate::field::{count_of, i64_at, marks_of};
+use crate::range::ranges_of;
+use keyspace::{MAX_RANGES, Sequence, Txn};
+use std::alloc::Global;
+
+/// The fewest bytes that a transaction takes.
+const MIN_TXN_LENGTH: usize = 13;
+
+#[tactic(auto, unfolding(crate::specs::Reading::txn_at, crate::specs::Reading::version_at))]
+fn txn_of(alloc: Global, bytes: &[u8]) -> Result<(Txn, &[u8]), WireError>
+    ensures { Gives (λ x. (txn_fields x.0, x.1.now)) result (txn_at bytes.now) }
+{
+    let (snapshot, rest) = i64_at(bytes)?;
+    if snapshot < 0 {
+        return Err(WireError::Version);
+    }
+    let (marked, rest) = marks_of(rest)?;
+    let (read_count, rest) = count_of(MAX_RANGES as u16, rest)?;
+    let (write_count, rest) = count_of(MAX_RANGES as u16, rest)?;
+    let (reads, rest) = ranges_of(alloc, read_count, rest)?;
+    let (writes, rest) = ranges_of(alloc, write_count, rest)?;
+    let txn = Txn::new(
+        snapshot,
+        marked,
+        Sequence::new(reads),
+        Sequence::new(writes),
+    );
+    Ok((txn, rest))
+}
+
+/// So many transactions, one after the other. Room is taken for no more than the bytes can hold.
+pub fn txns_of(alloc: Global, count: u16, bytes: &[u8]) -> Result<(Vec<Txn>, &[u8]), WireError>
+    ensures reads { Gives (λ x. (map txn_fields x.0.items, x.1.now)) result (many_at txn_at count bytes.now) }
+    ensures count { IfOk result (λ x. vec_len x.0 ≡ count) }
+{
+    let room = (count as usize).min(bytes.len() / MIN_TXN_LENGTH);
+    let mut txns = Vec::with_capacity(alloc, room)?;
+    let mut rest = bytes;
+    for _ in 0..count {
+        let (txn, after) = txn_of(alloc, rest)?;
+        txns.push(txn)?;
+        rest = after;
+    }
+    Ok((txns, rest))
+}
