@@ -1,0 +1,9 @@
+pub mod Lists
+pub mod Scanning
+pub mod JudgedAll
+pub mod Admitting
+pub mod Owed
+pub mod OneOrder
+pub mod Ordered
+pub mod Known
+pub mod Numbered

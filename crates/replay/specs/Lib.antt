@@ -1,0 +1,3 @@
+pub mod Scan
+pub mod Core
+pub mod Lines

@@ -1,0 +1,54 @@
+//! The program `replay`: reads a recorded file of batch frames, resolves the batches in order and prints the verdicts.
+//!
+//! `scan` judges a batch against a plain list of all committed writes, `admission` takes batches along the chain of
+//! versions, `lines` prints, `replay` does all that follows the opening of the file, and `words` reads the command line.
+#![tactic(auto)]
+
+mod admission;
+mod lines;
+mod replay;
+mod scan;
+mod words;
+
+use replay::{Status, replay_over};
+use std::fs::File;
+use std::io::Write;
+use std::process::ExitCode;
+use std::{env, io};
+
+// The words of the command line, without the program's name.
+fn read_command_line(rt: &(impl std::rt::Env + AllocGlobal)) -> io::Result<Vec<String>> {
+    Ok(env::args(rt)?.skip(1).collect(rt.alloc())?)
+}
+
+fn fail<W: Write>(error: &mut W, line: &str) -> Status {
+    let _ = write!(error, "{line}\n");
+    Status::Failed
+}
+
+fn run(rt: &HostRuntime) -> Status {
+    let mut error = rt.stderr();
+    let words = match read_command_line(rt) {
+        Ok(words) => words,
+        Err(cause) if cause.kind() == io::ErrorKind::OutOfMemory => {
+            return fail(&mut error, "replay: start 1 Memory");
+        }
+        // a word that is no text, and so names no file that could be opened
+        Err(_) => return fail(&mut error, "replay: proxy 0: cannot open"),
+    };
+    let Some(name) = words::file_of(&words) else {
+        let _ = write!(error, "{}\n", words::USAGE);
+        return Status::Usage;
+    };
+    let Ok(mut file) = File::open(rt, name) else {
+        return fail(&mut error, "replay: proxy 0: cannot open");
+    };
+    replay_over(rt.alloc(), &mut file, &mut rt.stdout(), &mut error)
+}
+
+fn main(rt: HostRuntime) -> ExitCode {
+    ExitCode::from(run(&rt) as u8)
+}
+
+#[cfg(test)]
+mod tests;

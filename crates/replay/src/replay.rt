@@ -1,0 +1,145 @@
+//! All that follows the opening of the file: reading its frames, resolving their batches, and printing.
+
+ghost use Rattle.std.specs.Prelude.{◌≢◌};
+
+use crate::admission::{Core, Stop};
+use crate::lines::{PrintError, print_answers};
+use keyspace::Answer;
+use std::alloc::Global;
+use std::io;
+use std::io::{Read, Write};
+use wire::{WireError, decode_batch};
+
+/// The one proxy of this program.
+const PROXY: usize = 0;
+
+/// How the program ends.
+#[derive(Clone, Copy, Debug, PartialEq, Eq)]
+pub enum Status {
+    /// All was read, resolved and printed.
+    Done = 0,
+    /// A line on standard error says what failed, or a write failed.
+    Failed = 1,
+    /// The command line was refused.
+    Usage = 2,
+}
+
+/// What the frames of a file left: the answers in the order received, and what came in between.
+#[derive(Debug, Drop)]
+struct Outcome {
+    answers: Vec<Answer>,
+    // the file's fault
+    fault: Option<WireError>,
+    // an answer could not be kept
+    lost: bool,
+    stop: Option<Stop>,
+}
+
+impl Outcome {
+    fn new(alloc: Global) -> Self {
+        Outcome {
+            answers: Vec::new(alloc),
+            fault: None,
+            lost: false,
+            stop: None,
+        }
+    }
+
+    // Keeps an answer. Once one could not be kept, later ones are dropped too.
+    fn keep(&mut self, answer: Answer) {
+        if !self.lost {
+            self.lost = self.answers.push(answer).is_err();
+        }
+    }
+}
+
+fn read_all<R: Read>(alloc: Global, reader: &mut R) -> Result<Vec<u8>, WireError> {
+    let mut bytes = Vec::new(alloc);
+    match reader.read_to_end(&mut bytes) {
+        Ok(_) => Ok(bytes),
+        Err(error) if error.kind() == io::ErrorKind::OutOfMemory => Err(WireError::Memory),
+        Err(_) => Err(WireError::Read),
+    }
+}
+
+// Takes the batches of the frames in order, up to the first fault or stop.
+fn take_frames(alloc: Global, core: &mut Core, bytes: &[u8], outcome: &mut Outcome) {
+    let mut rest = bytes;
+    while !rest.is_empty() {
+        let (batch, used) = match decode_batch(alloc, rest) {
+            Ok(decoded) => decoded,
+            Err(fault) => {
+                outcome.fault = Some(fault);
+                return;
+            }
+        };
+        rest = &rest[used..];
+        if let Err(stop) = core.admit(PROXY, batch) {
+            outcome.stop = Some(stop);
+            return;
+        }
+        if let Some(answer) = core.give(PROXY) {
+            outcome.keep(answer);
+        }
+    }
+}
+
+fn print_faults<W: Write>(error: &mut W, outcome: &Outcome) -> io::Result<()> {
+    if let Some(fault) = &outcome.fault {
+        write!(error, "replay: proxy {PROXY}: wire {fault}\n")?;
+    }
+    if outcome.lost {
+        write!(error, "replay: proxy {PROXY}: memory\n")?;
+    }
+    if let Some(stop) = &outcome.stop {
+        write!(error, "replay: stop {stop}\n")?;
+    }
+    Ok(())
+}
+
+/// Reads the whole file, resolves its batches in order and prints an answer a line, sorted, to `out` and what failed to
+/// `error`. After a fault of the file the lines of the frames before it still stand.
+pub fn replay_over<R: Read, O: Write, E: Write>(
+    alloc: Global,
+    reader: &mut R,
+    out: &mut O,
+    error: &mut E,
+) -> Status
+    ensures ends { result ≢ Status.Usage }
+{
+    let mut core = match Core::new(alloc) {
+        Ok(core) => core,
+        Err(stop) => {
+            let _ = write!(error, "replay: start {stop}\n");
+            return Status::Failed;
+        }
+    };
+    let mut outcome = Outcome::new(alloc);
+    match read_all(alloc, reader) {
+        Ok(bytes) => take_frames(alloc, &mut core, &bytes, &mut outcome),
+        Err(fault) => outcome.fault = Some(fault),
+    }
+    finish(alloc, out, error, outcome)
+}
+
+// Prints what is left of a run, and tells how the program ends.
+fn finish<O: Write, E: Write>(
+    alloc: Global,
+    out: &mut O,
+    error: &mut E,
+    mut outcome: Outcome,
+) -> Status
+    ensures ends { result ≢ Status.Usage }
+{
+    let answers = std::mem::replace(&mut outcome.answers, Vec::new(alloc));
+    let printed = print_answers(alloc, out, &mut [answers]);
+    if let Err(PrintError::Memory(_)) = printed {
+        outcome.lost = true;
+    }
+    let clean = outcome.fault.is_none() && !outcome.lost && outcome.stop.is_none();
+    if print_faults(error, &outcome).is_ok() && printed.is_ok() && clean {
+        Status::Done
+    } else {
+        Status::Failed
+    }
+}
