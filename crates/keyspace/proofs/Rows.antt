@@ -217,3 +217,45 @@ held_overtaken = refl
 -- what is still held at the end is told so
 held_at_the_end : answered (empty_from 0 (negsuc 0) 0 refl refl ∷ empty_from 0 (pos 900) 1000 refl refl ∷ Finish ∷ []) 0 ≡ Replied (pos 0) [] ∷ Held (pos 1000) ∷ []
 held_at_the_end = refl
+
+abbrev bc : Range
+bc = range b (letter 99) refl
+
+touching_ranges_do_not_meet : after_first (sent (pos 0) 100 (txn 0 false [] (bc ∷ []) refl refl ∷ []) refl refl refl ∷ sent (pos 100) 200 (read_a 0 ∷ []) refl refl refl ∷ [])
+    ≡ Replied (pos 0) [] ∷ Replied (pos 100) (committed ∷ []) ∷ Replied (pos 200) (committed ∷ []) ∷ []
+touching_ranges_do_not_meet = refl
+
+-- reads [a, b) and writes it
+abbrev read_and_write_a : Txn
+read_and_write_a = txn 0 false (range a b refl ∷ []) (range a b refl ∷ []) refl refl
+
+repeat_answered_again : after_first (sent (pos 0) 100 (read_and_write_a ∷ []) refl refl refl ∷ sent (pos 0) 100 (read_and_write_a ∷ []) refl refl refl ∷ [])
+    ≡ Replied (pos 0) [] ∷ Replied (pos 100) (committed ∷ []) ∷ Replied (pos 100) (committed ∷ []) ∷ []
+repeat_answered_again = refl
+
+-- the second batch says that the reply of the first was received
+repeat_after_given_up : after_first (sent (pos 0) 100 (write_a ∷ []) refl refl refl ∷ Take 0 (batch (pos 100) 200 (pos 100) [] refl refl refl refl refl) ∷ sent (pos 0) 100 (write_a ∷ []) refl refl refl ∷ [])
+    ≡ Replied (pos 0) [] ∷ Replied (pos 100) (committed ∷ []) ∷ Replied (pos 200) [] ∷ Never (pos 100) ∷ []
+repeat_after_given_up = refl
+
+abbrev repeated_by_another : List Step
+repeated_by_another = empty_from 0 (negsuc 0) 0 refl refl ∷ empty_from 1 (pos 0) 100 refl refl ∷ empty_from 0 (pos 0) 100 refl refl ∷ []
+
+repeat_by_another_proxy : answered repeated_by_another 0 ≡ Replied (pos 0) [] ∷ Never (pos 100) ∷ []
+repeat_by_another_proxy = refl
+
+repeat_by_another_proxy_of_the_other : answered repeated_by_another 1 ≡ Replied (pos 100) [] ∷ []
+repeat_by_another_proxy_of_the_other = refl
+
+held_repeat_answered_twice : answered (empty_from 0 (negsuc 0) 0 refl refl ∷ empty_from 0 (pos 100) 200 refl refl ∷ empty_from 0 (pos 100) 200 refl refl ∷ empty_from 0 (pos 0) 100 refl refl ∷ []) 0
+    ≡ Replied (pos 0) [] ∷ Replied (pos 100) [] ∷ Replied (pos 200) [] ∷ Replied (pos 200) [] ∷ []
+held_repeat_answered_twice = refl
+
+off_chain_and_held : answered (empty_from 0 (negsuc 0) 0 refl refl ∷ empty_from 0 (pos 0) 100 refl refl ∷ empty_from 0 (pos 100) 200 refl refl ∷ empty_from 0 (pos 150) 300 refl refl ∷ empty_from 0 (pos 900) 1000 refl refl ∷ Finish ∷ []) 0
+    ≡ Replied (pos 0) [] ∷ Replied (pos 100) [] ∷ Replied (pos 200) [] ∷ Never (pos 300) ∷ Held (pos 1000) ∷ []
+off_chain_and_held = refl
+
+batch_place_skips_empty_range : after_first (sent (pos 0) 100 (txn 0 false [] (range a (letter 99) refl ∷ range (letter 101) (letter 103) refl ∷ []) refl refl
+    ∷ txn 0 true (range (letter 99) (letter 101) refl ∷ range b b refl ∷ range (letter 102) (letter 104) refl ∷ []) [] refl refl ∷ []) refl refl refl ∷ [])
+    ≡ Replied (pos 0) [] ∷ Replied (pos 100) (committed ∷ conflict (2 ∷ []) ∷ []) ∷ []
+batch_place_skips_empty_range = refl

@@ -1,5 +1,5 @@
 -- After each step no held batch is due.
-use Rattle.std.proofs.Common.{◌≡◌, ℕ, zero, suc, ◌≤◌, true, false, cond, List, [], ◌∷◌, length, refl, ap, arith}
+use Rattle.std.proofs.Common.{◌≡◌, ℕ, zero, suc, ◌≤◌, true, false, cond, List, [], ◌∷◌, length, refl, ap, arith, ◌++◌, subst}
 use Rattle.std.specs.Prelude.{ℤ, ◌<ℤ◌, ◌≤ℤ◌, int_lt, int_le, Option, Some, None, All}
 use Rattle.std.specs.List.{AllByRecursion}
 use Rattle.std.proofs.lemmas.Int.{ints}
@@ -8,6 +8,7 @@ use Rattle.keyspace.specs.declared.batch.Batch.{Batch}
 use Rattle.keyspace.specs.Processed.{version_of}
 use Rattle.keyspace.specs.Found.{found}
 use Rattle.keyspace.specs.Leaving.{Held, first_or, least_first, if_due, next_due}
+use Rattle.keyspace.specs.Laws.{Leaves, NextDueLeaves}
 use Rattle.keyspace.specs.Run.{State, start, Step, Take, Finish, hold, answer, process, place, leave, leave_then, step, run_from, run}
 
 -- each has at least this previous version
@@ -108,3 +109,58 @@ run_from_quiet window (x ∷ log) s q = run_from_quiet window log (step window x
 
 pub run_quiet : (window : ℤ) (log : List Step) → All (λ h. version_of (run window log).processed <ℤ h.1.previous) (run window log).held
 run_quiet window log = All-from_recursion (λ (h : Held). version_of (run window log).processed <ℤ h.1.previous) (run window log).held (run_from_quiet window log start tt)
+
+-- each has a greater previous version
+abbrev AllAbove : ℤ → List Held → Type 0
+AllAbove least hs = AllByRecursion (λ (h : Held). least <ℤ h.1.previous) hs
+
+-- where the one that goes first stands
+abbrev IsSplit : List Held → Option (Held × List Held) → Type 0
+IsSplit hs None = Unit {0}
+IsSplit hs (Some l) = (before : List Held) × (after : List Held) × (hs ≡ before ++ l.0 ∷ after) × (l.1 ≡ before ++ after) × AllAbove l.0.1.previous before × AllFrom l.0.1.previous after
+
+less_than : (a b : ℤ) → int_lt a b ≡ true → a <ℤ b
+less_than a b h = grind (arith, ints)
+
+first_or_split : (h : Held) (hs : List Held) (l : Option (Held × List Held)) → IsLeast hs l → IsSplit hs l → IsSplit (h ∷ hs) (first_or h hs l)
+first_or_split h hs None e s = ([], hs, refl, refl, tt, rw e tt)
+first_or_split h hs (Some l) k s =
+    elim (int_lt l.0.1.previous h.1.previous) as (λ b. int_lt l.0.1.previous h.1.previous ≡ b → IsSplit (h ∷ hs) (cond b (Some (l.0, h ∷ l.1)) (Some (h, hs)))) [
+      | true ↦ λ e. (h ∷ s.0, s.1, ap (λ xs. h ∷ xs) s.2, ap (λ xs. h ∷ xs) s.3, (less_than l.0.1.previous h.1.previous e, s.4), s.5)
+      | false ↦ λ e. ([], hs, refl, refl, tt, all_from_less h.1.previous l.0.1.previous hs (not_less l.0.1.previous h.1.previous e) k.1)
+    ] refl
+
+least_first_split : (hs : List Held) → IsSplit hs (least_first hs)
+least_first_split [] = tt
+least_first_split (h ∷ hs) = first_or_split h hs (least_first hs) (least_first_least hs) (least_first_split hs)
+
+at_most : (a b : ℤ) → int_le a b ≡ true → a ≤ℤ b
+at_most a b h = grind (arith, ints)
+
+leaves_from : (version : ℤ) (hs : List Held) (l : Option (Held × List Held)) → IsSplit hs l → (leaver : Held) (others : List Held) → if_due version l ≡ Some (leaver, others) → Leaves version hs leaver others
+leaves_from version hs None s leaver others e = cc
+leaves_from version hs (Some l) s leaver others e =
+    elim (int_le l.0.1.previous version) as (λ b. int_le l.0.1.previous version ≡ b → cond b (Some l) None ≡ Some (leaver, others) → Leaves version hs leaver others) [
+      | true ↦ λ t f.
+          let found : l ≡ (leaver, others) = cc in
+          subst (λ (x : Held × List Held). Leaves version hs x.0 x.1) found (record {
+            before = s.0;
+            after = s.1;
+            held_is = s.2;
+            others_are = s.3;
+            first = All-from_recursion (λ (h : Held). l.0.1.previous <ℤ h.1.previous) s.0 s.4;
+            least = All-from_recursion (λ (h : Held). l.0.1.previous ≤ℤ h.1.previous) s.1 s.5;
+            due = at_most l.0.1.previous version t;
+          })
+      | false ↦ λ t f. cc
+    ] refl e
+
+wait_at_none : (version : ℤ) (hs : List Held) (l : Option (Held × List Held)) → IsNext version hs l → l ≡ None → AllWait version hs
+wait_at_none version hs None n e = n
+wait_at_none version hs (Some l) n e = cc
+
+pub next_due_leaves : NextDueLeaves
+next_due_leaves = record {
+  some = λ version hs leaver others e. leaves_from version hs (least_first hs) (least_first_split hs) leaver others e;
+  none = λ version hs e. All-from_recursion (λ (h : Held). version <ℤ h.1.previous) hs (wait_at_none version hs (next_due version hs) (next_due_next version hs) e);
+}

@@ -1,4 +1,5 @@
--- Keys and their order.
+-- Keys and their order. Source: the order of `StringRef`, FoundationDB 7.1, byte by byte, a proper prefix first. That a key
+-- of a range may have 10,001 bytes is this project's own.
 use Rattle.std.specs.Prelude.{ℕ, ◌<◌, ◌≤◌, List, length, Bool, not, IsTrue, All}
 use Rattle.std.specs.Ordering.{nat_cmp, is_lt}
 use Rattle.std.specs.Cmp.Lexicographic.{slice_cmp}

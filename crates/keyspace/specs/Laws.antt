@@ -1,5 +1,5 @@
 -- What holds of the definitions, whatever the batches are.
-use Rattle.std.specs.Prelude.{◌≡◌, ℤ, ◌<ℤ◌, ◌↔◌, List, All}
+use Rattle.std.specs.Prelude.{◌≡◌, ℤ, ◌<ℤ◌, ◌≤ℤ◌, ◌↔◌, List, ◌∷◌, ◌++◌, Some, None, All}
 use Rattle.keyspace.specs.declared.range.Range.{Range}
 use Rattle.keyspace.specs.declared.batch.Batch.{Batch}
 use Rattle.keyspace.specs.declared.reply.Reply.{Reply}
@@ -10,6 +10,7 @@ use Rattle.keyspace.specs.Writes.{Write}
 use Rattle.keyspace.specs.Judged.{Judged}
 use Rattle.keyspace.specs.Judge.{judge}
 use Rattle.keyspace.specs.Chain.{IsChain}
+use Rattle.keyspace.specs.Leaving.{Held, next_due}
 use Rattle.keyspace.specs.Run.{Step, run}
 
 -- some key lies in both exactly if neither is empty and each begins before the other ends
@@ -27,6 +28,22 @@ OnlyJudgeIsRight = (window : ℤ) (ws : List Write) (b : Batch) (r : Reply) → 
 -- what a run processes, in order, is a chain
 abbrev pub RunsAreChains : Type 0
 RunsAreChains = (window : ℤ) (log : List Step) → IsChain window (run window log).processed
+
+-- The one that leaves is due. Of those held, none before it and none after it has a lesser previous version, and none
+-- before it an equal one; the others stay, in their order.
+pub record Leaves (version : ℤ) (held : List Held) (leaver : Held) (others : List Held) : Type 0 where
+  pub before : List Held
+  pub after : List Held
+  pub held_is : held ≡ before ++ leaver ∷ after
+  pub others_are : others ≡ before ++ after
+  pub first : All (λ h. leaver.1.previous <ℤ h.1.previous) before
+  pub least : All (λ h. leaver.1.previous ≤ℤ h.1.previous) after
+  pub due : leaver.1.previous ≤ℤ version
+
+-- `next_due` tells the one that leaves, and none only where all wait for a version to come
+pub record NextDueLeaves : Type 0 where
+  pub some : (version : ℤ) (held : List Held) (leaver : Held) (others : List Held) → next_due version held ≡ Some (leaver, others) → Leaves version held leaver others
+  pub none : (version : ℤ) (held : List Held) → next_due version held ≡ None → All (λ h. version <ℤ h.1.previous) held
 
 -- after each step all that is held still waits for a version to come: enough turns were made
 abbrev pub NothingHeldIsDue : Type 0

@@ -1,4 +1,5 @@
--- Places of read ranges in their transaction.
+-- Places of read ranges in their transaction, from 0. Source: `conflictingKeyRangeMap` of `ResolveTransactionBatchReply`,
+-- FoundationDB 7.1; their order and their limit are this project's own.
 use Rattle.std.specs.Prelude.{ℕ, ◌<◌, List, All}
 use Rattle.std.specs.List.Sorted.{IsStrictlyIncreasing}
 

@@ -3,7 +3,7 @@ use Rattle.std.specs.Prelude.{◌≡◌, ℕ, List}
 use Rattle.keyspace.specs.Key.{IsBytes, IsBefore, IsAtMost}
 use Rattle.keyspace.specs.declared.range.Range.{Range}
 
--- no key lies in it
+-- its ends are one, and so no key lies in it
 abbrev pub IsEmpty : Range → Type 0
 IsEmpty range = range.begin ≡ range.end
 

@@ -1,6 +1,7 @@
 use crate::reply::Reply;
 
-/// What a proxy gets for a batch.
+/// What a proxy gets for a batch. FoundationDB 7.1 has the first alone, and never answers in place of the others; those are
+/// this project's own.
 #[derive(Debug, Drop)]
 pub enum Answer {
     /// The reply to the batch.

@@ -3,7 +3,7 @@ ghost use Rattle.std.specs.Prelude.{◌≡◌, ◌≤◌, ◌≤ℤ◌, ◌<ℤ�
 use crate::sequence::Sequence;
 use crate::txn::Txn;
 
-/// The most transactions of a batch.
+/// The most transactions of a batch: this project's own limit.
 pub const MAX_TXNS: usize = 4_096;
 
 /// What a commit proxy asks at once: `ResolveTransactionBatchRequest` of FoundationDB 7.1.
@@ -26,6 +26,7 @@ pub struct Batch {
 }
 
 impl Batch {
+    /// A batch of transactions in the order in which they are to be judged.
     pub fn new(previous: i64, version: i64, received: i64, txns: Sequence<Txn>) -> Self
         requires previous_from { negsuc 0 ≤ℤ previous }
         requires rises { previous <ℤ version }

@@ -12,8 +12,8 @@ use std::alloc::{AllocError, Global};
 use std::cmp::Ordering;
 use std::marker::Model;
 
-/// The greatest length of a key of a range, in bytes. A key of the database has at most 10,000, and the key right
-/// after a longest one has one more.
+/// The greatest length of a key of a range, in bytes. A FoundationDB key has at most 10,000, and the key right after a
+/// longest one has one more; that a range's key may have it is this project's own limit.
 pub const MAX_KEY_LENGTH: usize = 10_001;
 
 /// A byte string, at most [`MAX_KEY_LENGTH`] long. Keys are compared byte by byte, and a proper prefix comes first.
@@ -34,6 +34,7 @@ impl Model for Key {
 }
 
 impl Key {
+    /// The key of these bytes, which it owns from then on.
     pub fn new(bytes: Vec<u8>) -> Self
         requires { vec_len bytes ≤ MAX_KEY_LENGTH }
         ensures { result ≡ bytes.items }
@@ -41,6 +42,7 @@ impl Key {
         Key { bytes }
     }
 
+    /// Its bytes, lent: at most [`MAX_KEY_LENGTH`].
     pub fn as_bytes(&self) -> &[u8]
         ensures bytes { result.now ≡ self.now }
         ensures is_key { IsKey self.now }

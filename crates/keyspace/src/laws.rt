@@ -1,7 +1,7 @@
 //! What holds of the definitions, each as the contract of a function that does nothing.
 
 ghost use Rattle.keyspace.specs.declared.range.Range.{Range};
-ghost use Rattle.keyspace.specs.Laws.{MeetByEnds, JudgeIsRight, OnlyJudgeIsRight, RunsAreChains, NothingHeldIsDue};
+ghost use Rattle.keyspace.specs.Laws.{MeetByEnds, JudgeIsRight, OnlyJudgeIsRight, RunsAreChains, NextDueLeaves, NothingHeldIsDue};
 
 /// Meeting by a common key is what code that compares the ends of two ranges computes.
 pub fn meeting()
@@ -17,6 +17,11 @@ pub fn one_reply()
 /// What the reference resolver processes is a chain, whatever steps it makes.
 pub fn runs_are_chains()
     ensures { RunsAreChains }
+{}
+
+/// Held batches leave by the least previous version, among equals by arrival.
+pub fn leaving()
+    ensures { NextDueLeaves }
 {}
 
 /// The reference resolver holds no batch that it could process or answer.

@@ -21,7 +21,8 @@ pub use reply::{Entry, Places, Reply, Verdict};
 pub use sequence::Sequence;
 pub use txn::{MAX_RANGES, Txn};
 
-/// How many versions back the resolver remembers committed writes.
+/// How many versions back the resolver remembers committed writes: `MAX_WRITE_TRANSACTION_LIFE_VERSIONS` of FoundationDB
+/// 7.1, about five seconds of commit versions.
 pub const WINDOW: i64 = 5_000_000;
 
 #[cfg(test)]

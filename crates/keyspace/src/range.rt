@@ -18,6 +18,7 @@ impl Range {
     ghost use Rattle.keyspace.specs.Range.{Holds, Meets, IsEmpty};
     ghost use Rattle.keyspace.specs.Judge.{ranges_meet};
 
+    /// The range from `begin` on, below `end`: `KeyRangeRef` of FoundationDB 7.1.
     pub fn new(begin: Key, end: Key) -> Self
         requires { IsAtMost begin end }
         ensures begin { result.begin ≡ begin }

@@ -1,4 +1,5 @@
 ghost use Rattle.std.specs.Prelude.{◌≡◌, ◌≢◌, ◌≤◌, ◌≤ℤ◌, [], length, pos, IfOk, vec_len};
+ghost use Rattle.keyspace.specs.declared.batch.TheConstants.{MAX_TXNS};
 ghost use Rattle.keyspace.specs.Places.{ArePlaces};
 ghost use Rattle.keyspace.specs.declared.reply.Verdict.{Verdict};
 ghost use Rattle.keyspace.specs.declared.reply.Verdict.TheVariants.{Conflict};
@@ -10,8 +11,11 @@ use std::marker::Model;
 /// What becomes of a transaction: `ConflictBatch::TransactionCommitResult` of FoundationDB 7.1.
 #[derive(Clone, Copy, Debug, PartialEq, Eq, Hash)]
 pub enum Verdict {
+    /// A read range meets a write that the transaction didn't see.
     Conflict,
+    /// The transaction read, at a snapshot before all that is remembered.
     TooOld,
+    /// Its writes count for those after it.
     Committed,
 }
 
@@ -33,6 +37,7 @@ impl Model for Places {
 }
 
 impl Places {
+    /// These places. That they rise and are below 1,024 is this project's own form of a report.
     pub fn new(items: Vec<u16>) -> Self
         requires { ArePlaces items.items }
         ensures { result ≡ items.items }
@@ -40,6 +45,7 @@ impl Places {
         Places { items }
     }
 
+    /// The places, lent: strictly rising, each below 1,024.
     pub fn as_slice(&self) -> &[u16]
         ensures places { result.now ≡ self.now }
         ensures limits { ArePlaces self.now }
@@ -47,6 +53,7 @@ impl Places {
         &self.items
     }
 
+    /// The places, in the vector that they were made of.
     pub fn into_vec(self) -> Vec<u16>
         ensures { result.items ≡ self }
     {
@@ -64,6 +71,7 @@ pub struct Entry {
 }
 
 impl Entry {
+    /// The entry of a transaction. Places stand beside `Conflict` alone.
     pub fn new(verdict: Verdict, places: Places) -> Self
         requires { verdict ≢ Verdict.Conflict → places ≡ [] }
         ensures verdict { result.verdict ≡ verdict }
@@ -96,9 +104,10 @@ pub struct Reply {
 }
 
 impl Reply {
+    /// The reply to the batch of this version, an entry a transaction.
     pub fn new(version: i64, entries: Sequence<Entry>) -> Self
         requires natural { pos 0 ≤ℤ version }
-        requires few { length entries ≤ 4096 }
+        requires few { length entries ≤ MAX_TXNS }
         ensures version { result.version ≡ version }
         ensures entries { result.entries ≡ entries }
     {

@@ -3,7 +3,7 @@ ghost use Rattle.std.specs.Prelude.{◌≡◌, ◌≤◌, ◌≤ℤ◌, pos, len
 use crate::range::Range;
 use crate::sequence::Sequence;
 
-/// The most read ranges, and the most write ranges, of a transaction.
+/// The most read ranges, and the most write ranges, of a transaction: this project's own limit.
 pub const MAX_RANGES: usize = 1_024;
 
 /// A transaction to be judged: `CommitTransactionRef` of FoundationDB 7.1, without its mutations.
@@ -23,6 +23,7 @@ pub struct Txn {
 }
 
 impl Txn {
+    /// A transaction of ranges in the order sent.
     pub fn new(snapshot: i64, marked: bool, reads: Sequence<Range>, writes: Sequence<Range>) -> Self
         requires natural { pos 0 ≤ℤ snapshot }
         requires few_reads { length reads ≤ MAX_RANGES }

@@ -1,6 +1,6 @@
 -- Answers that are owed, each with its proxy: what is left to each when one is handed out.
-use Rattle.std.proofs.Common.{◌≡◌, ◌≢◌, ℕ, zero, suc, ◌+◌, Bool, true, false, cond, List, [], ◌∷◌, refl, sym, ◌∙◌, ap, subst, get_or, arith, zero-add}
-use Rattle.std.specs.Prelude.{Some, ◌==◌, map, filter}
+use Rattle.std.proofs.Common.{◌<◌, length, ◌≡◌, ◌≢◌, ℕ, zero, suc, ◌+◌, Bool, true, false, cond, List, [], ◌∷◌, refl, sym, ◌∙◌, ap, subst, get_or, arith, zero-add}
+use Rattle.std.specs.Prelude.{None, Some, ◌==◌, map, filter}
 use Rattle.std.specs.List.{position_from, remove}
 use Rattle.keyspace.specs.declared.answer.Answer.{Answer}
 use Rattle.keyspace.specs.Run.{answers_to}
@@ -38,3 +38,16 @@ others_keep proxy other (x ∷ xs) (suc i) h n =
       | true ↦ ap (λ as'. x.1 ∷ as') more
       | false ↦ more
     ]
+
+pub first_below : {X : Type 0} (test : X → Bool) (xs : List X) (i : ℕ) → IsFirst test xs i → i < length xs
+first_below test [] i h = elim h [ ]
+first_below test (x ∷ xs) zero h = omega arith
+first_below test (x ∷ xs) (suc i) h = omega (arith, first_below test xs i h.1)
+
+-- where nothing is owed to the proxy
+pub none_owed : (proxy n : ℕ) (owed : List (ℕ × Answer)) → position_from (λ o. o.0 == proxy) n owed ≡ None → answers_to proxy owed ≡ []
+none_owed proxy n [] e = refl
+none_owed proxy n (x ∷ xs) e = elim (x.0 == proxy) as (λ b. cond b (Some n) (position_from (λ (o : ℕ × Answer). o.0 == proxy) (n + 1) xs) ≡ None → map (λ (a : ℕ × Answer). a.1) (cond b (x ∷ filter (λ a. a.0 == proxy) xs) (filter (λ a. a.0 == proxy) xs)) ≡ []) [
+  | true ↦ λ f. cc
+  | false ↦ λ f. none_owed proxy (n + 1) xs f
+] e

@@ -26,13 +26,15 @@ pub record StandsFor (core : CoreState) (ps : List Processed) : Type 0 where
   pub version : core.version ≡ version_of ps
   pub written : core.written ≡ writes ps
 
--- How the core answers a batch of a proxy and what it keeps then, by the batch's previous version: at the core's version it
--- is judged, above it is told `Held` and below `Never`.
-abbrev pub Admits : CoreState → ℕ → Batch → Answer → CoreState → Type 0
-Admits old proxy b (told.Reply r) new = (b.previous ≡ old.version) × JudgedButPlaces WINDOW old.written b r
-    × (new ≡ record old { written = old.written ++ writes_of b r; version = b.version; owed = old.owed ++ (proxy, told.Reply r) ∷ [] })
-Admits old proxy b (told.Held version) new = (old.version <ℤ b.previous) × (version ≡ b.version) × (new ≡ record old { owed = old.owed ++ (proxy, told.Held version) ∷ [] })
-Admits old proxy b (told.Never version) new = (b.previous <ℤ old.version) × (version ≡ b.version) × (new ≡ record old { owed = old.owed ++ (proxy, told.Never version) ∷ [] })
+-- How a batch is answered, and what is kept then, by the batch's previous version: at the core's version it is judged, above
+-- it is told `Held` and below `Never`.
+abbrev pub IsAnswered : List Write → ℤ → Batch → Answer → List Write → ℤ → Type 0
+IsAnswered written version b (told.Reply r) written' version' =
+    (b.previous ≡ version) × JudgedButPlaces WINDOW written b r × (written' ≡ written ++ writes_of b r) × (version' ≡ b.version)
+IsAnswered written version b (told.Held told_version) written' version' =
+    (version <ℤ b.previous) × (told_version ≡ b.version) × (written' ≡ written) × (version' ≡ version)
+IsAnswered written version b (told.Never told_version) written' version' =
+    (b.previous <ℤ version) × (told_version ≡ b.version) × (written' ≡ written) × (version' ≡ version)
 
 -- what was processed, after a batch that was answered so
 abbrev pub processed_after : List Processed → ℕ → Batch → Answer → List Processed
@@ -40,6 +42,10 @@ processed_after ps proxy b (told.Reply r) = ps ++ record { proxy = proxy; batch 
 processed_after ps proxy b (told.Held version) = ps
 processed_after ps proxy b (told.Never version) = ps
 
--- a batch was answered, and what the core stood for has grown by it
-abbrev pub Answers : CoreState → ℕ → Batch → CoreState → Type 0
-Answers old proxy b new = (a : Answer) × Admits old proxy b a new × ((ps : List Processed) → StandsFor old ps → StandsFor new (processed_after ps proxy b a))
+-- a batch of the proxy was answered: the answer is owed last, and what the core stood for has grown by the batch
+pub record Answered (old : CoreState) (proxy : ℕ) (b : Batch) (new : CoreState) : Type 0 where
+  pub answer : Answer
+  pub right : IsAnswered old.written old.version b answer new.written new.version
+  pub owed : new.owed ≡ old.owed ++ (proxy, answer) ∷ []
+  pub goes_on : new.stop ≡ old.stop
+  pub stands : (ps : List Processed) → StandsFor old ps → StandsFor new (processed_after ps proxy b answer)

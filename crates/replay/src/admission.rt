@@ -1,10 +1,10 @@
 //! The resolver over values: admits one batch after another along the chain of versions, and hands out the answers.
 //! So far nothing is held and no reply is kept: a batch off the chain is answered at once and changes nothing.
 
-ghost use Rattle.std.specs.Prelude.{◌≡◌, ◌≢◌, ◌++◌, ◌==◌, ℕ, negsuc, [], ◌∷◌, Some, None, Ok, Err, OnOk, OnErr, IfOk, IfErr, IfSome, option_to_list, length};
+ghost use Rattle.std.specs.Prelude.{◌≡◌, ◌≢◌, ◌++◌, ◌==◌, ℕ, IfNone, negsuc, [], ◌∷◌, Some, None, Ok, Err, OnOk, OnErr, IfOk, IfErr, IfSome, option_to_list, length};
 ghost use Rattle.std.specs.List.{position_from};
 ghost use Rattle.keyspace.specs.Run.{answers_to};
-ghost use Rattle.replay.specs.Core.{Answers};
+ghost use Rattle.replay.specs.Core.{StandsFor, IsAnswered, Answered};
 
 use crate::scan::{ConflictSet, SetStop};
 use keyspace::{Answer, Batch, WINDOW};
@@ -39,6 +39,22 @@ fn oldest_of(owed: &VecDeque<(usize, Answer)>, proxy: usize) -> Option<usize>
     owed.iter().position(|owed| owed.0 == proxy)
 }
 
+// Answers a batch by its previous version, and processes it where that is the version.
+fn answer_to(set: &mut ConflictSet, version: &mut i64, batch: &Batch) -> Result<Answer, Stop>
+    ensures ok { IfOk result (λ a. IsAnswered set.old.written version.old batch.now a set.new.written version.new) }
+    ensures err { OnErr result ((set.new.written ≡ set.old.written) × (version.new ≡ version.old)) }
+{
+    if batch.previous > *version {
+        return Ok(Answer::Held(batch.version));
+    }
+    if batch.previous < *version {
+        return Ok(Answer::Never(batch.version));
+    }
+    let reply = set.resolve(batch)?;
+    *version = batch.version;
+    Ok(Answer::Reply(reply))
+}
+
 /// The conflict set, the version of the batch processed last, and the answers that are owed, each with its proxy.
 #[derive(Debug, Drop)]
 pub struct Core {
@@ -58,7 +74,8 @@ impl Model for Core {
 
 impl Core {
     pub fn new(alloc: Global) -> Result<Self, Stop>
-        ensures { IfOk result (λ core. core ≡ record { written = []; version = negsuc 0; owed = []; stop = None }) }
+        ensures empty { IfOk result (λ core. core ≡ record { written = []; version = negsuc 0; owed = []; stop = None }) }
+        ensures stands { IfOk result (λ core. StandsFor core []) }
     {
         Ok(Core {
             set: ConflictSet::new(alloc)?,
@@ -71,45 +88,33 @@ impl Core {
     /// Takes a batch of a proxy and owes the proxy its answer: the reply where the batch is the next on the chain,
     /// `Held` where its previous version is still to come, `Never` where it has passed. After a stop nothing changes.
     pub fn admit(&mut self, proxy: usize, batch: Batch) -> Result<(), Stop>
-        ensures answered { OnOk result (Answers self.old proxy batch self.new) }
-        ensures stops { IfErr result (λ stop. self.new.stop ≡ Some stop) }
-        ensures stopped { IfSome self.old.stop (λ stop. (result ≡ Err stop) × (self.new ≡ self.old)) }
-        ensures kept { OnErr result (self.new.owed ≡ self.old.owed) }
+        ensures answered { OnOk result (Answered self.old proxy batch self.new) }
+        ensures stops { IfErr result (λ stop. self.new ≡ record self.old { stop = Some stop }) }
+        ensures stopped { IfSome self.old.stop (λ stop. result ≡ Err stop) }
     {
         if let Some(stop) = self.stop {
             return Err(stop);
         }
-        if batch.previous > self.version {
-            return self.owe(proxy, Answer::Held(batch.version));
-        }
-        if batch.previous < self.version {
-            return self.owe(proxy, Answer::Never(batch.version));
-        }
-        let reply = match self.set.resolve(&batch) {
-            Ok(reply) => reply,
-            Err(stop) => {
-                self.stop = Some(Stop::from(stop));
-                return Err(Stop::from(stop));
-            }
-        };
-        self.version = batch.version;
-        self.owe(proxy, Answer::Reply(reply))
-    }
-
-    // Adds an answer behind those that are owed.
-    fn owe(&mut self, proxy: usize, answer: Answer) -> Result<(), Stop>
-        ensures ok { OnOk result (self.new ≡ record self.old { owed = self.old.owed ++ (proxy, answer) ∷ [] }) }
-        ensures err { IfErr result (λ stop. self.new ≡ record self.old { stop = Some stop }) }
-    {
-        if self.owed.push_back((proxy, answer)).is_err() {
+        // The room for the answer first, so that a batch that was processed is answered.
+        if self.owed.reserve(1).is_err() {
             self.stop = Some(Stop::Memory);
             return Err(Stop::Memory);
         }
-        Ok(())
+        match answer_to(&mut self.set, &mut self.version, &batch) {
+            Ok(answer) => {
+                self.owed.push_back_reserved((proxy, answer));
+                Ok(())
+            }
+            Err(stop) => {
+                self.stop = Some(stop);
+                Err(stop)
+            }
+        }
     }
 
     /// Hands out the oldest answer that is owed to the proxy.
     pub fn give(&mut self, proxy: usize) -> Option<Answer>
+        ensures none { IfNone result (answers_to proxy self.old.owed ≡ []) }
         ensures given { answers_to proxy self.old.owed ≡ option_to_list result ++ answers_to proxy self.new.owed }
         ensures others { (other : ℕ) → other ≢ proxy → answers_to other self.new.owed ≡ answers_to other self.old.owed }
         ensures kept { self.new ≡ record self.old { owed = self.new.owed } }

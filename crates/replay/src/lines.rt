@@ -1,6 +1,6 @@
 //! The printed text: a line for each answer, in order.
 
-ghost use Rattle.std.specs.Prelude.{◌≡◌, map, vec_items, OnOk, OnErr};
+ghost use Rattle.std.specs.Prelude.{◌≡◌, ◌<◌, ℕ, map, length, vec_items, OnOk, OnErr};
 ghost use Rattle.std.specs.Io.KnownBytes.{Appends};
 ghost use Rattle.replay.specs.Lines.{version_of_answer, conflict_word, entry_word, words, outcome, line, in_order, lines_of_proxy, lines};
 
@@ -18,8 +18,10 @@ pub enum PrintError {
     Write,
 }
 
-/// Prints a line for each answer, by proxy, then version, then the order received. The answers of a proxy are at its
-/// place. They are put in order where they stand.
+/// Prints a line for each answer, by proxy, then version, then the order received. `answers` holds those of each proxy
+/// at its number, as received; they are put in order where they stand.
+///
+/// After an error some of the text may have been written, and some of the proxies may have their answers in order.
 pub fn print_answers<W: Write>(
     alloc: Global,
     out: &mut W,
@@ -27,6 +29,9 @@ pub fn print_answers<W: Write>(
 ) -> Result<(), PrintError>
     ensures lines { OnOk result (Appends (W.contents out.old) (W.contents out.new)
         (lines (map vec_items answers.old))) }
+    ensures sorted { OnOk result (map vec_items answers.new ≡ map in_order (map vec_items answers.old)) }
+    ensures memory { (proxy : ℕ) → result ≡ Err (PrintError.Memory proxy) →
+        proxy < length answers.old }
 {
     for (proxy, received) in answers.iter_mut().enumerate() {
         print_proxy(alloc, out, proxy, received)?;
@@ -40,16 +45,19 @@ fn print_proxy<W: Write>(
     proxy: usize,
     answers: &mut [Answer],
 ) -> Result<(), PrintError>
-    ensures lines { OnOk result (Appends (W.contents out.old) (W.contents out.new) (lines_of_proxy (proxy, answers.old))) }
+    ensures lines { OnOk result (Appends (W.contents out.old) (W.contents out.new)
+        (lines_of_proxy (proxy, answers.old))) }
+    ensures sorted { OnOk result (answers.new ≡ in_order answers.old) }
+    ensures memory { (number : ℕ) → result ≡ Err (PrintError.Memory number) → number ≡ proxy }
 {
-    put_in_order(alloc, answers).map_err(|_| PrintError::Memory(proxy))?;
+    sort_by_version(alloc, answers).map_err(|_| PrintError::Memory(proxy))?;
     for answer in &*answers {
         print_line(out, proxy, answer).map_err(|_| PrintError::Write)?;
     }
     Ok(())
 }
 
-fn put_in_order(alloc: Global, answers: &mut [Answer]) -> Result<(), AllocError>
+fn sort_by_version(alloc: Global, answers: &mut [Answer]) -> Result<(), AllocError>
     ensures ok { OnOk result (answers.new ≡ in_order answers.old) }
     ensures err { OnErr result (answers.new ≡ answers.old) }
 {
@@ -66,7 +74,8 @@ fn version(answer: &Answer) -> i64
 }
 
 fn print_line<W: Write>(out: &mut W, proxy: usize, answer: &Answer) -> io::Result<()>
-    ensures { OnOk result (Appends (W.contents out.old) (W.contents out.new) (line proxy answer.now)) }
+    ensures { OnOk result (Appends (W.contents out.old) (W.contents out.new)
+        (line proxy answer.now)) }
 {
     let version = version(answer);
     write!(out, "{proxy} {version} ")?;
@@ -75,7 +84,8 @@ fn print_line<W: Write>(out: &mut W, proxy: usize, answer: &Answer) -> io::Resul
 }
 
 fn print_outcome<W: Write>(out: &mut W, answer: &Answer) -> io::Result<()>
-    ensures { OnOk result (Appends (W.contents out.old) (W.contents out.new) (outcome answer.now)) }
+    ensures { OnOk result (Appends (W.contents out.old) (W.contents out.new)
+        (outcome answer.now)) }
 {
     match answer {
         Answer::Reply(reply) => print_words(out, reply.entries.as_slice()),
@@ -85,7 +95,8 @@ fn print_outcome<W: Write>(out: &mut W, answer: &Answer) -> io::Result<()>
 }
 
 fn print_words<W: Write>(out: &mut W, entries: &[Entry]) -> io::Result<()>
-    ensures { OnOk result (Appends (W.contents out.old) (W.contents out.new) (words entries.now)) }
+    ensures { OnOk result (Appends (W.contents out.old) (W.contents out.new)
+        (words entries.now)) }
 {
     let Some((first, rest)) = entries.split_first() else {
         return out.write_all(b"empty");
@@ -99,7 +110,8 @@ fn print_words<W: Write>(out: &mut W, entries: &[Entry]) -> io::Result<()>
 }
 
 fn print_word<W: Write>(out: &mut W, entry: &Entry) -> io::Result<()>
-    ensures { OnOk result (Appends (W.contents out.old) (W.contents out.new) (entry_word entry.now)) }
+    ensures { OnOk result (Appends (W.contents out.old) (W.contents out.new)
+        (entry_word entry.now)) }
 {
     match entry.verdict {
         Verdict::Committed => out.write_all(b"committed"),
@@ -109,7 +121,8 @@ fn print_word<W: Write>(out: &mut W, entry: &Entry) -> io::Result<()>
 }
 
 fn print_conflict<W: Write>(out: &mut W, places: &[u16]) -> io::Result<()>
-    ensures { OnOk result (Appends (W.contents out.old) (W.contents out.new) (conflict_word places.now)) }
+    ensures { OnOk result (Appends (W.contents out.old) (W.contents out.new)
+        (conflict_word places.now)) }
 {
     let Some((first, rest)) = places.split_first() else {
         return out.write_all(b"conflict");

@@ -12,9 +12,10 @@ mod words;
 
 use replay::{Status, replay_over};
 use std::fs::File;
-use std::io::Write;
+use std::io::{BufReader, Write};
 use std::process::ExitCode;
 use std::{env, io};
+use wire::StdSource;
 
 // The words of the command line, without the program's name.
 fn read_command_line(rt: &(impl std::rt::Env + AllocGlobal)) -> io::Result<Vec<String>> {
@@ -40,10 +41,14 @@ fn run(rt: &HostRuntime) -> Status {
         let _ = write!(error, "{}\n", words::USAGE);
         return Status::Usage;
     };
-    let Ok(mut file) = File::open(rt, name) else {
+    let Ok(file) = File::open(rt, name) else {
         return fail(&mut error, "replay: proxy 0: cannot open");
     };
-    replay_over(rt.alloc(), &mut file, &mut rt.stdout(), &mut error)
+    let Ok(reader) = BufReader::new(rt.alloc(), file) else {
+        return fail(&mut error, "replay: start 1 Memory");
+    };
+    let source = StdSource::new(reader);
+    replay_over(rt.alloc(), source, &mut rt.stdout(), &mut error)
 }
 
 fn main(rt: HostRuntime) -> ExitCode {

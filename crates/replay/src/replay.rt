@@ -7,8 +7,8 @@ use crate::lines::{PrintError, print_answers};
 use keyspace::Answer;
 use std::alloc::Global;
 use std::io;
-use std::io::{Read, Write};
-use wire::{WireError, decode_batch};
+use std::io::Write;
+use wire::{Frames, Source, WireError, read_frames};
 
 /// The one proxy of this program.
 const PROXY: usize = 0;
@@ -53,27 +53,17 @@ impl Outcome {
     }
 }
 
-fn read_all<R: Read>(alloc: Global, reader: &mut R) -> Result<Vec<u8>, WireError> {
-    let mut bytes = Vec::new(alloc);
-    match reader.read_to_end(&mut bytes) {
-        Ok(_) => Ok(bytes),
-        Err(error) if error.kind() == io::ErrorKind::OutOfMemory => Err(WireError::Memory),
-        Err(_) => Err(WireError::Read),
-    }
-}
-
-// Takes the batches of the frames in order, up to the first fault or stop.
-fn take_frames(alloc: Global, core: &mut Core, bytes: &[u8], outcome: &mut Outcome) {
-    let mut rest = bytes;
-    while !rest.is_empty() {
-        let (batch, used) = match decode_batch(alloc, rest) {
-            Ok(decoded) => decoded,
+// Takes the batches of the frames in order, up to their end, the first fault or a stop.
+fn take_frames<R: Source>(frames: &mut Frames<R>, core: &mut Core, outcome: &mut Outcome) {
+    for _ in 0..u64::MAX {
+        let batch = match frames.next() {
+            Ok(Some(batch)) => batch,
+            Ok(None) => return,
             Err(fault) => {
                 outcome.fault = Some(fault);
                 return;
             }
         };
-        rest = &rest[used..];
         if let Err(stop) = core.admit(PROXY, batch) {
             outcome.stop = Some(stop);
             return;
@@ -97,11 +87,11 @@ fn print_faults<W: Write>(error: &mut W, outcome: &Outcome) -> io::Result<()> {
     Ok(())
 }
 
-/// Reads the whole file, resolves its batches in order and prints an answer a line, sorted, to `out` and what failed to
-/// `error`. After a fault of the file the lines of the frames before it still stand.
-pub fn replay_over<R: Read, O: Write, E: Write>(
+/// Reads frame after frame, resolves their batches in order and prints an answer a line, sorted, to `out` and what failed
+/// to `error`. After a fault of the file, a failed read too, the lines of the frames before it still stand.
+pub fn replay_over<R: Source + Drop, O: Write, E: Write>(
     alloc: Global,
-    reader: &mut R,
+    reader: R,
     out: &mut O,
     error: &mut E,
 ) -> Status
@@ -115,10 +105,7 @@ pub fn replay_over<R: Read, O: Write, E: Write>(
         }
     };
     let mut outcome = Outcome::new(alloc);
-    match read_all(alloc, reader) {
-        Ok(bytes) => take_frames(alloc, &mut core, &bytes, &mut outcome),
-        Err(fault) => outcome.fault = Some(fault),
-    }
+    take_frames(&mut read_frames(alloc, reader), &mut core, &mut outcome);
     finish(alloc, out, error, outcome)
 }
 

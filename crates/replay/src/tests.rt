@@ -6,6 +6,7 @@ use std::io;
 use std::io::{Cursor, Read, Write};
 use std::process::Abort;
 use std::test::Fail;
+use wire::StdSource;
 
 type Range<'a> = (&'a [u8], &'a [u8]);
 
@@ -79,7 +80,12 @@ fn push_batch(file: &mut Vec<u8>, previous: i64, version: i64, txns: &[Txn]) -> 
 fn outcome_of(alloc: Global, file: &[u8]) -> (Status, Vec<u8>, Vec<u8>) {
     let mut out = Vec::new(alloc);
     let mut error = Vec::new(alloc);
-    let status = replay_over(alloc, &mut Cursor::new(file), &mut out, &mut error);
+    let status = replay_over(
+        alloc,
+        StdSource::new(Cursor::new(file)),
+        &mut out,
+        &mut error,
+    );
     (status, out, error)
 }
 
@@ -240,7 +246,7 @@ impl Read for Unreadable {
 fn unreadable_file(rt: HostRuntime) {
     let mut out = Vec::new(rt.alloc());
     let mut error = Vec::new(rt.alloc());
-    let status = replay_over(rt.alloc(), &mut Unreadable, &mut out, &mut error);
+    let status = replay_over(rt.alloc(), StdSource::new(Unreadable), &mut out, &mut error);
     assert!(rt; out.is_empty());
     assert_eq!(rt;
         error.as_slice(),
@@ -268,7 +274,12 @@ fn unwritable_output(rt: HostRuntime) -> Result<(), Fail> {
     let mut file = Vec::new(rt.alloc());
     push_batch(&mut file, -1, 0, &[])?;
     let mut error = Vec::new(rt.alloc());
-    let status = replay_over(rt.alloc(), &mut Cursor::new(&file), &mut Full, &mut error);
+    let status = replay_over(
+        rt.alloc(),
+        StdSource::new(Cursor::new(file.as_slice())),
+        &mut Full,
+        &mut error,
+    );
     assert!(rt; error.is_empty());
     assert_eq!(rt; status, Status::Failed);
     Ok(())

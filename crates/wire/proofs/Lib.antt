@@ -3,3 +3,12 @@ pub mod Steps
 pub mod Taken
 pub mod Parts
 pub mod Batches
+pub mod Again
+pub mod PlaceLists
+pub mod Replies
+pub mod Fields
+pub mod OneSpelling
+pub mod Held
+pub mod Known
+pub mod FrameLengths
+pub mod NextFrames

@@ -21,13 +21,13 @@ use Rattle.wire.proofs.Taken.{AreBytes, AreBytes-take, AreBytes-drop, Takes, Tak
 are_all : (bytes : List ℕ) → AreBytes bytes → IsBytes bytes
 are_all bytes fits k d lt = rw (get_or_default bytes k d 0 lt) (fits k)
 
-at_most : (a b : ℤ) → int_le a b ≡ true → a ≤ℤ b
+pub at_most : (a b : ℤ) → int_le a b ≡ true → a ≤ℤ b
 at_most a b h = grind (arith, ints)
 
-below : (a b : ℤ) → int_lt a b ≡ true → a <ℤ b
+pub below : (a b : ℤ) → int_lt a b ≡ true → a <ℤ b
 below a b h = grind (arith, ints)
 
-count_takes : (limit : ℕ) (bytes : List ℕ) (x : ℕ × List ℕ) → AreBytes bytes → count_at limit bytes ≡ Ok x → Takes bytes (big_bytes 2 x.0) x.1 × (x.0 ≤ limit)
+pub count_takes : (limit : ℕ) (bytes : List ℕ) (x : ℕ × List ℕ) → AreBytes bytes → count_at limit bytes ≡ Ok x → Takes bytes (big_bytes 2 x.0) x.1 × (x.0 ≤ limit)
 unfolding count_at
 count_takes limit bytes x fits e =
     let b = bind_ok (number_at 2 bytes) (λ n. cond (leb n.0 limit) (Ok n) (Err Count)) x e in
@@ -49,7 +49,7 @@ marks_take bytes x fits e =
     let same = marks_same b.0.0 (ltb-false _ _ g.0) in
     subst (λ (p : Bool × List ℕ). Takes bytes (marks_text p.0) p.1) (ok_is (eqb b.0.0 1, b.0.1) x g.1) (subst (λ (text : List ℕ). Takes bytes text b.0.1) same t.0)
 
-kind_takes : (kind : ℕ) (bytes rest : List ℕ) → AreBytes bytes → kind_at kind bytes ≡ Ok rest → Takes bytes (big_bytes 1 kind) rest
+pub kind_takes : (kind : ℕ) (bytes rest : List ℕ) → AreBytes bytes → kind_at kind bytes ≡ Ok rest → Takes bytes (big_bytes 1 kind) rest
 unfolding kind_at
 kind_takes kind bytes rest fits e =
     let b = bind_ok (number_at 1 bytes) (λ n. cond (eqb n.0 kind) (Ok n.1) (Err Kind)) rest e in
@@ -130,7 +130,9 @@ txn_takes bytes x fits e =
 
 -- what must hold of the three versions of a batch
 record HeaderHolds (previous version received : ℤ) : Type 0 where
+  previous_fits : FitsSigned w64 previous
   version_fits : FitsSigned w64 version
+  received_fits : FitsSigned w64 received
   previous_from : int_le (negsuc 0) previous ≡ true
   natural : int_le (pos 0) version ≡ true
   rises : int_lt previous version ≡ true
@@ -150,7 +152,7 @@ header_takes bytes x fits e =
     let version = version_takes (λ v. int_le (pos 0) v && int_lt b_previous.0.0 v) b_previous.0.1 b_version.0 previous.0.rest_fits b_version.1 in
     let received = version_takes (λ v. int_le (negsuc 0) v && int_lt v b_version.0.0) b_version.0.1 b_received.0 version.0.rest_fits b_received.1 in
     let whole : Takes bytes (header_text b_previous.0.0 b_version.0.0 b_received.0.0) b_received.0.1 = Takes-then kind (Takes-then previous.0 (Takes-then version.0 received.0)) in
-    let holds : HeaderHolds b_previous.0.0 b_version.0.0 b_received.0.0 = record { version_fits = version.1; previous_from = previous.2; natural = and_left _ _ version.2; rises = and_right _ _ version.2; received_from = and_left _ _ received.2; received_before = and_right _ _ received.2 } in
+    let holds : HeaderHolds b_previous.0.0 b_version.0.0 b_received.0.0 = record { previous_fits = previous.1; version_fits = version.1; received_fits = received.1; previous_from = previous.2; natural = and_left _ _ version.2; rises = and_right _ _ version.2; received_from = and_left _ _ received.2; received_before = and_right _ _ received.2 } in
     subst (λ (p : (ℤ × ℤ × ℤ) × List ℕ). Takes bytes (header_text p.0.0 p.0.1 p.0.2) p.1 × HeaderHolds p.0.0 p.0.1 p.0.2) (ok_is made x b_received.2) (whole, holds)
 
 pub batch_takes : (bytes : List ℕ) (x : BatchFields × List ℕ) → AreBytes bytes → batch_at bytes ≡ Ok x → Takes bytes (batch_body x.0) x.1 × BatchHolds x.0
@@ -167,7 +169,9 @@ batch_takes bytes x fits e =
     let whole : Takes bytes (batch_body made.0) made.1 = Takes-then header.0 listed in
     let h = header.1 in
     let holds : BatchHolds made.0 = record {
+      previous_fits = h.previous_fits;
       version_fits = h.version_fits;
+      received_fits = h.received_fits;
       previous = at_most _ _ h.previous_from;
       version = at_most _ _ h.natural;
       rises = below _ _ h.rises;

@@ -3,9 +3,11 @@ use Rattle.std.specs.Prelude.{◌≡◌, ◌≢◌, ℕ, ◌+◌, zero, suc, ℤ
 use Rattle.std.specs.Int.{w64, cast_signed}
 use Rattle.byteorder.specs.Endian.{big_number}
 use Rattle.keyspace.specs.Key.{is_before}
+use Rattle.keyspace.specs.declared.reply.Verdict.{Verdict}
+use Rattle.keyspace.specs.declared.reply.Verdict.TheVariants.{Conflict, TooOld, Committed}
 use Rattle.wire.specs.declared.error.WireError.{WireError}
 use Rattle.wire.specs.declared.error.WireError.TheVariants.{Short, Long, Kind, Trailing, Version, Marks, Count, KeyLength, Inverted, Cut, Memory, Read}
-use Rattle.wire.specs.Fields.{RangeFields, TxnFields, BatchFields}
+use Rattle.wire.specs.Fields.{RangeFields, TxnFields, BatchFields, EntryFields, ReplyFields}
 
 infixl 10 ◌>>=◌
 abbrev pub ◌>>=◌ : {A B : Type 0} → Result A WireError → (A → Result B WireError) → Result B WireError
@@ -98,6 +100,54 @@ batch_at bytes = do
   txns ← many_at txn_at count.0 count.1
   Ok (record { previous = header.0.0; version = header.0.1; received = header.0.2; txns = txns.0 }, txns.1)
 
+-- the verdict of a byte
+abbrev pub verdict_of : ℕ → Result Verdict WireError
+verdict_of zero = Ok Conflict
+verdict_of (suc zero) = Ok TooOld
+verdict_of (suc (suc zero)) = Ok Committed
+verdict_of (suc (suc (suc n))) = Err Kind
+
+unfoldable pub verdict_at : List ℕ → Result (Verdict × List ℕ) WireError
+verdict_at bytes = do
+  n ← number_at 1 bytes
+  verdict ← verdict_of n.0
+  Ok (verdict, n.1)
+
+-- as many places as may stand in the report of this verdict
+abbrev pub most_places : Verdict → ℕ
+most_places Conflict = 1024
+most_places TooOld = 0
+most_places Committed = 0
+
+-- a place that isn't below the least that may stand here
+unfoldable pub place_at : ℕ → List ℕ → Result (ℕ × List ℕ) WireError
+place_at least bytes = do
+  n ← number_at 2 bytes
+  if nat_le least n.0 && nat_lt n.0 1024 then Ok n else Err Marks
+
+-- as many places, each above the one before it
+unfoldable pub places_at : ℕ → ℕ → List ℕ → Result (List ℕ × List ℕ) WireError
+places_at least zero bytes = Ok ([], bytes)
+places_at least (suc n) bytes = do
+  first ← place_at least bytes
+  others ← places_at (first.0 + 1) n first.1
+  Ok (first.0 ∷ others.0, others.1)
+
+unfoldable pub entry_at : List ℕ → Result (EntryFields × List ℕ) WireError
+entry_at bytes = do
+  verdict ← verdict_at bytes
+  count ← count_at (most_places verdict.0) verdict.1
+  places ← places_at 0 count.0 count.1
+  Ok (record { verdict = verdict.0; places = places.0 }, places.1)
+
+unfoldable pub reply_at : List ℕ → Result (ReplyFields × List ℕ) WireError
+reply_at bytes = do
+  rest ← kind_at 2 bytes
+  version ← version_at (λ v. int_le (pos 0) v) rest
+  count ← count_at 4096 version.1
+  entries ← many_at entry_at count.0 count.1
+  Ok (record { version = version.0; entries = entries.0 }, entries.1)
+
 -- the body of the frame at the front
 unfoldable pub body_at : List ℕ → Result (List ℕ) WireError
 body_at bytes =
@@ -116,6 +166,12 @@ read_batch bytes = do
   body ← body_at bytes
   all_of (batch_at body)
 
+-- what the frame of a reply at the front says
+unfoldable pub read_reply : List ℕ → Result ReplyFields WireError
+read_reply bytes = do
+  body ← body_at bytes
+  all_of (reply_at body)
+
 abbrev pub refusal : {A : Type 0} → Result A WireError → Option WireError
 refusal (Ok x) = None
 refusal (Err e) = Some e
@@ -123,3 +179,7 @@ refusal (Err e) = Some e
 -- the first fault of the frame of a batch at the front, or none
 abbrev pub batch_fault : List ℕ → Option WireError
 batch_fault bytes = refusal (read_batch bytes)
+
+-- the first fault of the frame of a reply at the front, or none
+abbrev pub reply_fault : List ℕ → Option WireError
+reply_fault bytes = refusal (read_reply bytes)

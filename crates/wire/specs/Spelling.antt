@@ -1,13 +1,17 @@
 -- How each value is spelled: a text is the joining of its fields' texts. The format is the project's own. Every number
 -- is big-endian; versions and snapshots are two's complement in eight bytes.
-use Rattle.std.specs.Prelude.{◌≡◌, ℕ, ℤ, pos, negsuc, ◌≤◌, ◌≤ℤ◌, ◌<ℤ◌, Bool, List, [], ◌∷◌, ◌++◌, length, if◌then◌else◌}
+use Rattle.std.specs.Prelude.{◌≡◌, ◌≢◌, ℕ, ℤ, pos, negsuc, ◌≤◌, ◌≤ℤ◌, ◌<ℤ◌, Bool, List, [], ◌∷◌, ◌++◌, length, if◌then◌else◌}
 use Rattle.std.specs.List.{flat_map, AllByRecursion}
 use Rattle.std.specs.Int.{w64, cast_unsigned}
 use Rattle.std.specs.Int.RustNames.{FitsSigned}
 use Rattle.byteorder.specs.Endian.{big_bytes}
 use Rattle.keyspace.specs.Key.{IsKey, IsAtMost}
+use Rattle.keyspace.specs.Places.{ArePlaces}
 use Rattle.keyspace.specs.declared.batch.Batch.{Batch}
-use Rattle.wire.specs.Fields.{RangeFields, TxnFields, BatchFields, batch_fields}
+use Rattle.keyspace.specs.declared.reply.Verdict.{Verdict}
+use Rattle.keyspace.specs.declared.reply.Verdict.TheVariants.{Conflict, TooOld, Committed}
+use Rattle.keyspace.specs.declared.reply.Reply.{Reply}
+use Rattle.wire.specs.Fields.{RangeFields, TxnFields, BatchFields, batch_fields, EntryFields, ReplyFields, reply_fields}
 
 abbrev pub signed_text : ℤ → List ℕ
 signed_text n = big_bytes 8 (cast_unsigned w64 n)
@@ -35,6 +39,20 @@ unfoldable pub batch_body : BatchFields → List ℕ
 batch_body batch =
     header_text batch.previous batch.version batch.received ++ (big_bytes 2 (length batch.txns) ++ flat_map txn_text batch.txns)
 
+abbrev pub verdict_text : Verdict → List ℕ
+verdict_text Conflict = 0 ∷ []
+verdict_text TooOld = 1 ∷ []
+verdict_text Committed = 2 ∷ []
+
+abbrev pub places_text : List ℕ → List ℕ
+places_text places = flat_map (λ place. big_bytes 2 place) places
+
+unfoldable pub entry_text : EntryFields → List ℕ
+entry_text entry = verdict_text entry.verdict ++ (big_bytes 2 (length entry.places) ++ places_text entry.places)
+
+unfoldable pub reply_body : ReplyFields → List ℕ
+reply_body reply = (2 ∷ []) ++ (signed_text reply.version ++ (big_bytes 2 (length reply.entries) ++ flat_map entry_text reply.entries))
+
 -- a body behind its length
 abbrev pub frame : List ℕ → List ℕ
 frame body = big_bytes 4 (length body) ++ body
@@ -54,7 +72,9 @@ pub record TxnHolds (txn : TxnFields) : Type 0 where
   pub writes : AllByRecursion RangeHolds txn.writes
 
 pub record BatchHolds (batch : BatchFields) : Type 0 where
+  pub previous_fits : FitsSigned w64 batch.previous
   pub version_fits : FitsSigned w64 batch.version
+  pub received_fits : FitsSigned w64 batch.received
   pub previous : negsuc 0 ≤ℤ batch.previous
   pub version : pos 0 ≤ℤ batch.version
   pub rises : batch.previous <ℤ batch.version
@@ -62,6 +82,17 @@ pub record BatchHolds (batch : BatchFields) : Type 0 where
   pub received_before : batch.received <ℤ batch.version
   pub few : length batch.txns ≤ 4096
   pub txns : AllByRecursion TxnHolds batch.txns
+
+pub record EntryHolds (entry : EntryFields) : Type 0 where
+  pub few : length entry.places ≤ 1024
+  pub only_conflict : entry.verdict ≢ Conflict → entry.places ≡ []
+  pub places : ArePlaces entry.places
+
+pub record ReplyHolds (reply : ReplyFields) : Type 0 where
+  pub version_fits : FitsSigned w64 reply.version
+  pub version : pos 0 ≤ℤ reply.version
+  pub few : length reply.entries ≤ 4096
+  pub entries : AllByRecursion EntryHolds reply.entries
 
 -- the longest body of a frame, in bytes, is 4,194,304
 abbrev pub IsShort : List ℕ → Type 0
@@ -72,3 +103,9 @@ pub record SpellsBatch (bytes : List ℕ) (batch : Batch) : Type 0 where
   pub text : bytes ≡ frame (batch_body (batch_fields batch))
   pub holds : BatchHolds (batch_fields batch)
   pub short : IsShort (batch_body (batch_fields batch))
+
+-- the bytes are the frame of the reply, all of them
+pub record SpellsReply (bytes : List ℕ) (reply : Reply) : Type 0 where
+  pub text : bytes ≡ frame (reply_body (reply_fields reply))
+  pub holds : ReplyHolds (reply_fields reply)
+  pub short : IsShort (reply_body (reply_fields reply))

@@ -48,8 +48,9 @@ fn batch_of(alloc: Global, bytes: &[u8]) -> Result<(Batch, &[u8]), WireError>
     Ok((batch, rest))
 }
 
+/// As [`decode_batch`], for the layers of this crate.
 #[tactic(auto, unfolding(crate::specs::Reading::read_batch))]
-fn read_frame(alloc: Global, bytes: &[u8]) -> Result<(Batch, usize), WireError>
+pub fn read_frame(alloc: Global, bytes: &[u8]) -> Result<(Batch, usize), WireError>
     ensures reads { Gives (λ x. batch_fields x.0) result (read_batch bytes.now) }
     ensures used { IfOk result (λ x. x.1 ≡ 4 + big_number 4 bytes.now) }
 {

@@ -1,6 +1,7 @@
 ghost use Rattle.std.specs.Prelude.{◌≡◌};
-ghost use Rattle.wire.specs.declared.error.WireError.TheVariants.{Memory};
+ghost use Rattle.wire.specs.declared.error.WireError.TheVariants.{Memory, Read};
 
+use crate::source::Failed;
 use std::alloc::{AllocError, AllocFailed};
 use thiserror::Error;
 
@@ -59,5 +60,13 @@ impl<T: Drop> From<AllocFailed<T>> for WireError {
 
     fn from(_e: AllocFailed<T>) -> WireError {
         WireError::Memory
+    }
+}
+
+impl From<Failed> for WireError {
+    ghost from_gives = { λ _ e. e ≡ Read };
+
+    fn from(_e: Failed) -> WireError {
+        WireError::Read
     }
 }

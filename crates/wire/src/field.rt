@@ -12,7 +12,7 @@ use std::alloc::Global;
 /// The longest body of a frame, in bytes.
 pub const MAX_BODY_LENGTH: usize = 4_194_304;
 
-fn u8_at(bytes: &[u8]) -> Result<(u8, &[u8]), WireError>
+pub fn u8_at(bytes: &[u8]) -> Result<(u8, &[u8]), WireError>
     ensures { Gives (λ x. (x.0, x.1.now)) result (number_at 1 bytes.now) }
 {
     match bytes {
@@ -21,7 +21,7 @@ fn u8_at(bytes: &[u8]) -> Result<(u8, &[u8]), WireError>
     }
 }
 
-fn u16_at(bytes: &[u8]) -> Result<(u16, &[u8]), WireError>
+pub fn u16_at(bytes: &[u8]) -> Result<(u16, &[u8]), WireError>
     ensures { Gives (λ x. (x.0, x.1.now)) result (number_at 2 bytes.now) }
 {
     if bytes.len() < 2 {

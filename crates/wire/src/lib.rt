@@ -1,18 +1,35 @@
-//! Batches and replies as frames of bytes.
+//! Batches and replies as frames of bytes, and back.
 //!
-//! `specs/` says how each value is spelled and which fault of a frame is the first. The crates above use
-//! [`decode_batch`], which reads exactly the frames that spell a batch and names the first fault of any other.
+//! `specs/` holds what has to be believed, to be read in this order: `Fields` (what a frame says), `Spelling` (how each
+//! value is spelled, and what must hold of it), `Reading` (the fault that reading meets first) and, for a stream of
+//! frames, `Source`, `NextFrame` and `Frames`. Of these the code keeps nothing but a place in the bytes.
+//!
+//! The layers above use [`decode_batch`] and [`decode_reply`], which read exactly the frames that spell a value and
+//! name the first fault of any other; [`encode_batch`] and [`encode_reply`], which write them; and [`Frames`], the
+//! batches of a reader one after the other, however it cuts its bytes.
 #![tactic(auto)]
 
 mod batch;
+mod encode;
 mod error;
 mod field;
+mod fill;
+mod frames;
+pub mod laws;
+mod length;
+mod put;
 mod range;
+mod reply;
+mod source;
 mod txn;
 
 pub use batch::decode_batch;
+pub use encode::{encode_batch, encode_reply};
 pub use error::WireError;
 pub use field::MAX_BODY_LENGTH;
+pub use frames::{Frames, read_frames};
+pub use reply::decode_reply;
+pub use source::{Failed, Source, StdSource};
 
 #[cfg(test)]
 mod tests;

@@ -1,11 +1,13 @@
 //! The vectors and the tables of refusals. Blanks stand between the fields of a text and aren't part of the bytes.
 
 use super::*;
-use keyspace::{Batch, Range};
+use keyspace::{Batch, Range, Reply, Verdict};
 use std::alloc::Global;
 use std::test::Fail;
 
 mod batches;
+mod frames;
+mod replies;
 
 /// `-1>0`, received -1, no transactions.
 const EMPTY_BATCH: &str = "0000001b 01 ffffffffffffffff 0000000000000000 ffffffffffffffff 0000";
@@ -13,6 +15,15 @@ const EMPTY_BATCH: &str = "0000001b 01 ffffffffffffffff 0000000000000000 fffffff
 /// `0>100`, received -1, one transaction with snapshot 0, no mark, no reads and the write [a,b).
 const ONE_WRITE: &str = "0000002e 01 0000000000000000 0000000000000064 ffffffffffffffff 0001 \
      0000000000000000 00 0000 0001 0001 61 0001 62";
+
+/// Version 0, no entries. It answers [`EMPTY_BATCH`].
+const EMPTY_REPLY: &str = "0000000b 02 0000000000000000 0000";
+
+/// Version 100, committed, and conflict with place 0.
+const COMMITTED_AND_CONFLICT: &str = "00000013 02 0000000000000064 0002 02 0000 00 0001 0000";
+
+/// Version 100, one entry committed. It answers [`ONE_WRITE`].
+const ONE_COMMITTED: &str = "0000000e 02 0000000000000064 0001 02 0000";
 
 const EMPTY_BATCH_SHOWN: &str = "-1>0 received -1";
 
@@ -53,5 +64,49 @@ fn show_range(alloc: Global, text: &mut String, kind: &str, range: &Range) -> Re
     let begin = hex::encode(alloc, range.begin.as_bytes())?;
     let end = hex::encode(alloc, range.end.as_bytes())?;
     write!(text, "{kind}[{begin},{end})")?;
+    Ok(())
+}
+
+/// A reply as text: its version, then each verdict with its places.
+fn show_reply(alloc: Global, reply: &Reply) -> Result<String, Fail> {
+    let version = reply.version;
+    let mut text = format!(in alloc; "{version}")?;
+    for entry in reply.entries.as_slice() {
+        text.push_str(match entry.verdict {
+            Verdict::Conflict => " conflict",
+            Verdict::TooOld => " tooold",
+            Verdict::Committed => " committed",
+        })?;
+        for place in entry.places.as_slice() {
+            write!(text, ":{place}")?;
+        }
+    }
+    Ok(text)
+}
+
+#[test]
+fn decoder_always_memory(rt: HostRuntime) -> Result<(), Fail> {
+    let alloc = rt.alloc();
+    for (text, value, length) in [
+        (EMPTY_BATCH, EMPTY_BATCH_SHOWN, 31),
+        (ONE_WRITE, ONE_WRITE_SHOWN, 50),
+    ] {
+        let bytes = bytes_of(alloc, text)?;
+        let (batch, used) = decode_batch(alloc, &bytes)?;
+        assert_eq!(rt; show_batch(alloc, &batch)?.as_str(), value);
+        assert_eq!(rt; used, length, "of {text}");
+        assert_eq!(rt; encode_batch(alloc, &batch)?.as_slice(), bytes.as_slice());
+    }
+    for (text, value, length) in [
+        (EMPTY_REPLY, "0", 15),
+        (COMMITTED_AND_CONFLICT, "100 committed conflict:0", 23),
+        (ONE_COMMITTED, "100 committed", 18),
+    ] {
+        let bytes = bytes_of(alloc, text)?;
+        let (reply, used) = decode_reply(alloc, &bytes)?;
+        assert_eq!(rt; show_reply(alloc, &reply)?.as_str(), value);
+        assert_eq!(rt; used, length, "of {text}");
+        assert_eq!(rt; encode_reply(alloc, &reply)?.as_slice(), bytes.as_slice());
+    }
     Ok(())
 }

@@ -73,6 +73,22 @@ fn by_proxy_then_version_then_order_received(rt: HostRuntime) -> Result<(), Fail
     Ok(())
 }
 
+// Beyond 20 answers the sort takes memory.
+#[test]
+fn forty_answers_of_one_proxy(rt: HostRuntime) -> Result<(), Fail> {
+    let alloc = rt.alloc();
+    let mut received = Vec::new(alloc);
+    let mut text = Vec::new(alloc);
+    for place in 0..40u16 {
+        received.push(Answer::Held(i64::from(place * 7 % 40)))?;
+        write!(&mut text, "0 {place} held\n")?;
+    }
+    let mut out = Vec::new(alloc);
+    print_answers(alloc, &mut out, &mut [received])?;
+    assert_eq!(rt; out.as_slice(), text.as_slice());
+    Ok(())
+}
+
 /// A writer that takes this many bytes and then fails.
 #[derive(Drop)]
 struct Failing {

@@ -1,25 +1,14 @@
-//! Tests of `decode_batch`.
+//! Tests of `decode_batch` and `encode_batch`.
 
 use super::*;
+use keyspace::{Key, Sequence, Txn};
+use std::process::Abort;
 
 /// The batch at the front of these bytes, and how many of them it takes.
 fn decoded(alloc: Global, text: &str) -> Result<(String, usize), Fail> {
     let bytes = bytes_of(alloc, text)?;
     let (batch, used) = decode_batch(alloc, &bytes)?;
     Ok((show_batch(alloc, &batch)?, used))
-}
-
-#[test]
-fn decoder_always_memory(rt: HostRuntime) -> Result<(), Fail> {
-    for (text, batch, length) in [
-        (EMPTY_BATCH, EMPTY_BATCH_SHOWN, 31),
-        (ONE_WRITE, ONE_WRITE_SHOWN, 50),
-    ] {
-        let (shown, used) = decoded(rt.alloc(), text)?;
-        assert_eq!(rt; shown.as_str(), batch);
-        assert_eq!(rt; used, length, "of {text}");
-    }
-    Ok(())
 }
 
 #[test]
@@ -166,5 +155,37 @@ fn longest_key(rt: HostRuntime) -> Result<(), Fail> {
     let bytes = frame_to_key(rt.alloc(), 10_002)?;
     let refusal = decode_batch(rt.alloc(), &bytes).err();
     assert_eq!(rt; refusal, Some(WireError::KeyLength));
+    Ok(())
+}
+
+/// A batch with so many writes, each from a longest key to itself.
+fn batch_of_longest_keys(rt: &impl Abort, alloc: Global, count: usize) -> Result<Batch, Fail> {
+    let mut writes = Vec::new(alloc);
+    for _ in 0..count {
+        let begin = Key::new(vec![in alloc; 0; 10_001]?);
+        let end = begin.copy(alloc)?;
+        writes.push(Range::new(begin, end))?;
+    }
+    assert!(rt; writes.len() <= 1_024);
+    let txn = Txn::new(
+        0,
+        false,
+        Sequence::new(Vec::new(alloc)),
+        Sequence::new(writes),
+    );
+    let txns = vec![in alloc; txn]?;
+    Ok(Batch::new(-1, 0, -1, Sequence::new(txns)))
+}
+
+#[test]
+fn too_long_a_batch(rt: HostRuntime) -> Result<(), Fail> {
+    let alloc = rt.alloc();
+    // 40 bytes, and 20,006 for each write: at most 4,194,304 up to 209 writes
+    let batch = batch_of_longest_keys(&rt, alloc, 209)?;
+    let bytes = encode_batch(alloc, &batch)?;
+    assert_eq!(rt; bytes.len(), 4 + 40 + 209 * 20_006);
+    assert_eq!(rt; decode_batch(alloc, &bytes)?.1, bytes.len());
+    let batch = batch_of_longest_keys(&rt, alloc, 210)?;
+    assert_eq!(rt; encode_batch(alloc, &batch).err(), Some(WireError::Long));
     Ok(())
 }

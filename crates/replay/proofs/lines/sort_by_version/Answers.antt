@@ -1,7 +1,7 @@
 use Rattle.std.proofs.Common.{rules}
 use Rattle.std.proofs.lemmas.Result.{on_ok_weaker}
 use Rattle.replay.proofs.Ordered.{in_order-from_sort_by_key}
-use Rattle.replay.proofs.lines.put_in_order.Goals as goal
+use Rattle.replay.proofs.lines.sort_by_version.Goals as goal
 
 pub returns-clause-ok : goal.returns-clause-ok
 returns-clause-ok c =

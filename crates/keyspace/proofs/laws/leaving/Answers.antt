@@ -1,0 +1,5 @@
+use Rattle.keyspace.proofs.Waiting.{next_due_leaves}
+use Rattle.keyspace.proofs.laws.leaving.Goals as goal
+
+pub returns : goal.returns
+returns c = next_due_leaves

@@ -1,0 +1,8 @@
+use Rattle.std.proofs.Common.{◌≡◌, ◌≤◌, ◌*◌, length, map, take}
+use Rattle.std.specs.List.{flat_map}
+use Rattle.wire.specs.Fields.{txn_fields}
+use Rattle.wire.specs.Spelling.{txn_text}
+use Rattle.wire.proofs.length.txns_length.Given as goal
+
+abbrev pub invariant-loop-txn : goal.invariant-loop-txn
+invariant-loop-txn l = (l.total ≡ length (flat_map txn_text (map txn_fields (take l.txn-index l.txns)))) × (l.total ≤ 40972301 * l.txn-index)

@@ -1,0 +1,8 @@
+use Rattle.std.proofs.Common.{◌≡◌, ◌++◌, map, take}
+use Rattle.std.specs.List.{flat_map}
+use Rattle.wire.specs.Fields.{range_fields}
+use Rattle.wire.specs.Spelling.{range_text}
+use Rattle.wire.proofs.put.put_ranges.Given as goal
+
+abbrev pub invariant-loop-range : goal.invariant-loop-range
+invariant-loop-range l = l.out.items ≡ l.fn.out.items ++ flat_map range_text (map range_fields (take l.range-index l.ranges))

@@ -1,0 +1,23 @@
+use Rattle.std.proofs.Common.{append_assoc, rules, SFits, w64}
+use Rattle.std.proofs.lemmas.List.{length-map}
+use Rattle.std.proofs.lemmas.Int.{to_z-of_z}
+use Rattle.wire.specs.Spelling.{txn_text}
+use Rattle.wire.proofs.put.put_txn.Goals as goal
+
+pub returns-clause-text : goal.returns-clause-text
+unfolding txn_text
+returns-clause-text c =
+    let fits : SFits w64 c.args.txn.now.snapshot = search rules in
+    rw (
+      c.in_ok-put_ranges-2.ensures,
+      c.as_slice-2.ensures,
+      c.in_ok-put_ranges.ensures,
+      c.as_slice.ensures,
+      c.in_ok-put_u16-2.ensures,
+      c.in_ok-put_u16.ensures,
+      c.in_ok-put_marks.ensures,
+      c.in_ok-put_i64.ensures.text,
+      to_z-of_z w64 c.args.txn.now.snapshot fits,
+      c.len.ensures,
+      c.len-2.ensures,
+    ) (simp (append_assoc, length-map))

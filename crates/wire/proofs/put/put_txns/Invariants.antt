@@ -1,0 +1,12 @@
+use Rattle.std.proofs.Common.{◌≡◌, ◌++◌, map, take}
+use Rattle.std.specs.Int.{w64}
+use Rattle.std.specs.Int.RustNames.{FitsSigned}
+use Rattle.std.specs.List.{All, flat_map}
+use Rattle.wire.specs.Fields.{txn_fields}
+use Rattle.wire.specs.Spelling.{txn_text}
+use Rattle.wire.proofs.put.put_txns.Given as goal
+
+abbrev pub invariant-loop-txn : goal.invariant-loop-txn
+invariant-loop-txn l =
+    (l.out.items ≡ l.fn.out.items ++ flat_map txn_text (map txn_fields (take l.txn-index l.txns)))
+    × All (λ txn. FitsSigned w64 txn.snapshot) (take l.txn-index l.txns)

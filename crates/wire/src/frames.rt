@@ -1,0 +1,83 @@
+ghost use Rattle.std.specs.Prelude.{◌≡◌, ◌≢◌, ◌<◌, ◌↔◌, IfOk, IfErr, IfSome, IfNone, OnOk, IsSome, IsErrOf, Some, None};
+ghost use Rattle.std.specs.Io.KnownBytes.{IsAtEnd};
+ghost use Rattle.wire.specs.NextFrame.{TakesFrame, IsFaultOf};
+ghost use Rattle.wire.specs.Frames.{frames_reader, refusal_of};
+
+use crate::batch::read_frame;
+use crate::error::WireError;
+use crate::fill::fill_frame;
+use crate::source::Source;
+use keyspace::Batch;
+use std::alloc::Global;
+
+/// The batches of an input that is frame after frame. No byte beyond the frame that is asked for is read.
+#[derive(Debug, Drop)]
+pub struct Frames<R> {
+    reader: R,
+    alloc: Global,
+    /// The bytes of the frame that was read last. Their memory serves the next.
+    buffer: Vec<u8>,
+    refusal: Option<WireError>,
+}
+
+/// The frames of a reader. A new `Frames` holds no bytes, and nothing is read yet.
+pub fn read_frames<R: Source>(alloc: Global, reader: R) -> Frames<R>
+    ensures reader { frames_reader result ≡ reader }
+    ensures fresh { refusal_of result ≡ None }
+{
+    Frames {
+        reader,
+        alloc,
+        buffer: Vec::new(alloc),
+        refusal: None,
+    }
+}
+
+fn read_next<R: Source>(
+    alloc: Global,
+    reader: &mut R,
+    buffer: &mut Vec<u8>,
+) -> Result<Option<Batch>, WireError>
+    ensures batch { IfOk result (λ found. IfSome found (TakesFrame (R.remaining reader.old) (R.remaining reader.new))) }
+    ensures end { IfOk result (λ found. IfNone found (IsAtEnd (R.remaining reader.old) × IsAtEnd (R.remaining reader.new))) }
+    ensures fault { IfErr result (λ e. e ≢ WireError.Memory → e ≢ WireError.Read → IfSome (R.remaining reader.old) (IsFaultOf e)) }
+    ensures ok { OnOk result (R.failures reader.new ≡ R.failures reader.old) }
+    ensures read { IfErr result (λ e. e ≡ WireError.Read → R.failures reader.old < R.failures reader.new) }
+    ensures others { IfErr result (λ e. e ≢ WireError.Read → R.failures reader.new ≡ R.failures reader.old) }
+{
+    fill_frame(reader, buffer)?;
+    if buffer.is_empty() {
+        return Ok(None);
+    }
+    let (batch, _) = read_frame(alloc, buffer)?;
+    Ok(Some(batch))
+}
+
+impl<R: Source> Frames<R> {
+    /// The next batch, or `None` where the input ends between two frames. After a refusal every later call answers the
+    /// same refusal, and nothing more is read; nothing of the refused frame is handed on.
+    pub fn next(&mut self) -> Result<Option<Batch>, WireError>
+        ensures batch { IfOk result (λ found. IfSome found (TakesFrame (R.remaining (frames_reader self.old)) (R.remaining (frames_reader self.new)))) }
+        ensures end { IfOk result (λ found. IfNone found (IsAtEnd (R.remaining (frames_reader self.old)) × IsAtEnd (R.remaining (frames_reader self.new)))) }
+
+        // But for want of memory and a failed read, the first refusal is the first fault of what is left.
+        ensures fault { refusal_of self.old ≡ None → IfErr result (λ e. e ≢ WireError.Memory → e ≢ WireError.Read → IfSome (R.remaining (frames_reader self.old)) (IsFaultOf e)) }
+        ensures read { refusal_of self.old ≡ None → (IsErrOf result WireError.Read ↔ (R.failures (frames_reader self.old) < R.failures (frames_reader self.new))) }
+
+        ensures refused { IfSome (refusal_of self.old) (λ e. result ≡ Err e) }
+        ensures rests { IsSome (refusal_of self.old) → frames_reader self.new ≡ frames_reader self.old }
+        ensures err { IfErr result (λ e. refusal_of self.new ≡ Some e) }
+        ensures ok { OnOk result (refusal_of self.new ≡ None) }
+    {
+        if let Some(refusal) = self.refusal {
+            return Err(refusal);
+        }
+        match read_next(self.alloc, &mut self.reader, &mut self.buffer) {
+            Ok(found) => Ok(found),
+            Err(refusal) => {
+                self.refusal = Some(refusal);
+                Err(refusal)
+            }
+        }
+    }
+}

@@ -1,0 +1,19 @@
+//! What holds of the definitions, each as the contract of a function that does nothing.
+
+ghost use Rattle.std.specs.Prelude.{◌≡◌, ◌++◌, ℕ, List, None};
+ghost use Rattle.keyspace.specs.declared.batch.Batch.{Batch as BatchValue};
+ghost use Rattle.keyspace.specs.declared.reply.Reply.{Reply as ReplyValue};
+ghost use Rattle.wire.specs.Spelling.{SpellsBatch, SpellsReply};
+ghost use Rattle.wire.specs.Reading.{batch_fault, reply_fault};
+
+/// A value has at most one spelling, a text spells at most one value, and no frame begins another. So what was encoded
+/// is decoded again, whatever follows it.
+pub fn one_spelling()
+    ensures batches { (x y s t : List ℕ) (a b : BatchValue) → SpellsBatch x a → SpellsBatch y b → x ++ s ≡ y ++ t → (x ≡ y) × (a ≡ b) }
+    ensures batch_text { (x y : List ℕ) (a : BatchValue) → SpellsBatch x a → SpellsBatch y a → x ≡ y }
+    ensures batch_read { (x s : List ℕ) (a : BatchValue) → SpellsBatch x a → batch_fault (x ++ s) ≡ None }
+
+    ensures replies { (x y s t : List ℕ) (a b : ReplyValue) → SpellsReply x a → SpellsReply y b → x ++ s ≡ y ++ t → (x ≡ y) × (a ≡ b) }
+    ensures reply_text { (x y : List ℕ) (a : ReplyValue) → SpellsReply x a → SpellsReply y a → x ≡ y }
+    ensures reply_read { (x s : List ℕ) (a : ReplyValue) → SpellsReply x a → reply_fault (x ++ s) ≡ None }
+{}

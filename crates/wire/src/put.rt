@@ -1,0 +1,134 @@
+//! Writing fields at the end of a text.
+
+ghost use Rattle.std.specs.Prelude.{◌≡◌, ◌++◌, OnOk, length, map};
+ghost use Rattle.std.specs.Int.{w64};
+ghost use Rattle.std.specs.Int.RustNames.{FitsSigned};
+ghost use Rattle.std.specs.List.{All, flat_map};
+ghost use Rattle.byteorder.specs.Endian.{big_bytes};
+ghost use Rattle.keyspace.specs.Places.{ArePlaces};
+ghost use Rattle.wire.specs.Fields.{range_fields, txn_fields, entry_fields};
+ghost use Rattle.wire.specs.Spelling.{signed_text, key_text, range_text, marks_text, txn_text, verdict_text, places_text, entry_text};
+
+use keyspace::{Entry, Key, Range, Txn, Verdict};
+use std::alloc::AllocError;
+
+pub fn put_u16(out: &mut Vec<u8>, number: u16) -> Result<(), AllocError>
+    ensures { OnOk result (out.new.items ≡ out.old.items ++ big_bytes 2 number) }
+{
+    out.extend_from_slice(&number.to_be_bytes())
+}
+
+pub fn put_u32(out: &mut Vec<u8>, number: u32) -> Result<(), AllocError>
+    ensures { OnOk result (out.new.items ≡ out.old.items ++ big_bytes 4 number) }
+{
+    out.extend_from_slice(&number.to_be_bytes())
+}
+
+/// A version or a snapshot.
+pub fn put_i64(out: &mut Vec<u8>, number: i64) -> Result<(), AllocError>
+    ensures text { OnOk result (out.new.items ≡ out.old.items ++ signed_text number) }
+    ensures fits { FitsSigned w64 number }
+{
+    out.extend_from_slice(&number.cast_unsigned().to_be_bytes())
+}
+
+fn put_marks(out: &mut Vec<u8>, marked: bool) -> Result<(), AllocError>
+    ensures { OnOk result (out.new.items ≡ out.old.items ++ marks_text marked) }
+{
+    if marked {
+        out.push(1)?;
+    } else {
+        out.push(0)?;
+    }
+    Ok(())
+}
+
+fn put_key(out: &mut Vec<u8>, key: &Key) -> Result<(), AllocError>
+    ensures { OnOk result (out.new.items ≡ out.old.items ++ key_text key.now) }
+{
+    let bytes = key.as_bytes();
+    put_u16(out, bytes.len() as u16)?;
+    out.extend_from_slice(bytes)
+}
+
+fn put_range(out: &mut Vec<u8>, range: &Range) -> Result<(), AllocError>
+    ensures { OnOk result (out.new.items ≡ out.old.items ++ range_text (range_fields range.now)) }
+{
+    put_key(out, &range.begin)?;
+    put_key(out, &range.end)
+}
+
+fn put_ranges(out: &mut Vec<u8>, ranges: &[Range]) -> Result<(), AllocError>
+    ensures { OnOk result (out.new.items ≡ out.old.items ++ flat_map range_text (map range_fields ranges.now)) }
+{
+    for range in ranges {
+        put_range(out, range)?;
+    }
+    Ok(())
+}
+
+#[tactic(auto, unfolding(crate::specs::Spelling::txn_text))]
+fn put_txn(out: &mut Vec<u8>, txn: &Txn) -> Result<(), AllocError>
+    ensures text { OnOk result (out.new.items ≡ out.old.items ++ txn_text (txn_fields txn.now)) }
+    ensures fits { FitsSigned w64 txn.now.snapshot }
+{
+    put_i64(out, txn.snapshot)?;
+    put_marks(out, txn.marked)?;
+    put_u16(out, txn.reads.len() as u16)?;
+    put_u16(out, txn.writes.len() as u16)?;
+    put_ranges(out, txn.reads.as_slice())?;
+    put_ranges(out, txn.writes.as_slice())?;
+    Ok(())
+}
+
+pub fn put_txns(out: &mut Vec<u8>, txns: &[Txn]) -> Result<(), AllocError>
+    ensures text { OnOk result (out.new.items ≡ out.old.items ++ flat_map txn_text (map txn_fields txns.now)) }
+    ensures fit { OnOk result (All (λ txn. FitsSigned w64 txn.snapshot) txns.now) }
+{
+    for txn in txns {
+        put_txn(out, txn)?;
+    }
+    Ok(())
+}
+
+fn put_places(out: &mut Vec<u8>, places: &[u16]) -> Result<(), AllocError>
+    ensures { OnOk result (out.new.items ≡ out.old.items ++ places_text places.now) }
+{
+    for place in places {
+        put_u16(out, *place)?;
+    }
+    Ok(())
+}
+
+fn put_verdict(out: &mut Vec<u8>, verdict: Verdict) -> Result<(), AllocError>
+    ensures { OnOk result (out.new.items ≡ out.old.items ++ verdict_text verdict) }
+{
+    match verdict {
+        Verdict::Conflict => out.push(0)?,
+        Verdict::TooOld => out.push(1)?,
+        Verdict::Committed => out.push(2)?,
+    }
+    Ok(())
+}
+
+#[tactic(auto, using(crate::proofs::PlaceLists::few_places), unfolding(crate::specs::Spelling::entry_text))]
+fn put_entry(out: &mut Vec<u8>, entry: &Entry) -> Result<(), AllocError>
+    ensures text { OnOk result (out.new.items ≡ out.old.items ++ entry_text (entry_fields entry.now)) }
+    ensures places { ArePlaces entry.now.places }
+{
+    let places = entry.places.as_slice();
+    put_verdict(out, entry.verdict)?;
+    put_u16(out, places.len() as u16)?;
+    put_places(out, places)?;
+    Ok(())
+}
+
+pub fn put_entries(out: &mut Vec<u8>, entries: &[Entry]) -> Result<(), AllocError>
+    ensures text { OnOk result (out.new.items ≡ out.old.items ++ flat_map entry_text (map entry_fields entries.now)) }
+    ensures places { OnOk result (All (λ entry. ArePlaces entry.places) entries.now) }
+{
+    for entry in entries {
+        put_entry(out, entry)?;
+    }
+    Ok(())
+}
