@@ -1,0 +1,39 @@
+-- What a step map is seen as.
+use Rattle.std.specs.Prelude.{ℕ, ℤ, pos, negsuc, List, [], ◌∷◌, length, Option, None, IfSome, ◌≤ℤ◌, ◌≢◌}
+use Rattle.keyspace.specs.Key.{IsKey}
+use Rattle.keyspace.specs.declared.range.Range.{Range}
+use Rattle.stepmap.specs.Boundary.{Boundary, AreBoundaries}
+
+-- a round of the sweep that is under way: the key at which it goes on, and the edge with which it began
+pub record Round : Type 0 where
+  pub place : List ℕ
+  pub edge : ℤ
+
+-- a step map
+pub record Steps : Type 0 where
+  -- in the order of their keys
+  pub boundaries : List Boundary
+  -- below it, the versions of the step function tell nothing
+  pub edge : ℤ
+  -- the lengths of the begins and ends of the ranges that may be written without taking memory, in order
+  pub ready : List (ℕ × ℕ)
+  pub round : Option Round
+
+-- the lengths of a range's begin and end
+abbrev pub lengths : Range → ℕ × ℕ
+lengths range = (length range.begin, length range.end)
+
+-- -1 everywhere
+abbrev pub new_map : Steps
+new_map = record { boundaries = record { key = []; version = negsuc 0 } ∷ []; edge = pos 0; ready = []; round = None }
+
+-- a round goes on at a key of some length, and began with an edge that isn't above the map's
+pub record IsRound (edge : ℤ) (round : Round) : Type 0 where
+  pub key : IsKey round.place
+  pub later : round.place ≢ []
+  pub began : round.edge ≤ℤ edge
+
+-- what holds of every step map
+pub record AreSteps (m : Steps) : Type 0 where
+  pub boundaries : AreBoundaries m.boundaries
+  pub round : IfSome m.round (IsRound m.edge)

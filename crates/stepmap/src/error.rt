@@ -1,0 +1,21 @@
+ghost use Rattle.std.specs.Prelude.{◌≡◌};
+ghost use Rattle.stepmap.specs.declared.error.StepError.TheVariants.{Memory};
+
+use std::alloc::AllocError;
+use thiserror::Error;
+
+/// Why a step map refuses a call.
+#[derive(Clone, Copy, Debug, PartialEq, Eq, Hash, Error)]
+pub enum StepError {
+    /// A growth was refused in that call.
+    #[error("1 Memory")]
+    Memory = 1,
+}
+
+impl From<AllocError> for StepError {
+    ghost from_gives = { λ _ e. e ≡ Memory };
+
+    fn from(_refused: AllocError) -> StepError {
+        StepError::Memory
+    }
+}

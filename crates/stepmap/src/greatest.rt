@@ -1,0 +1,33 @@
+ghost use Rattle.std.specs.Prelude.{◌≡◌, ℕ, ◌≤ℤ◌, List, fold, map};
+ghost use Rattle.std.specs.Int.{int_max};
+ghost use Rattle.keyspace.specs.Key.{IsBytes};
+ghost use Rattle.keyspace.specs.Range.{Holds, IsEmpty};
+ghost use Rattle.stepmap.specs.Boundary.{AreBoundaries, value_at};
+
+use crate::boundary::Boundary;
+use crate::places::{place_after, place_of};
+use keyspace::Range;
+
+/// The greatest version at a key of the range, which isn't empty.
+pub fn greatest_version(boundaries: &[Boundary], range: &Range) -> i64
+    requires boundaries { AreBoundaries boundaries.now }
+    requires filled { ¬ IsEmpty range.now }
+    ensures bound { (key : List ℕ) → Holds range.now key → value_at boundaries.now key ≤ℤ result }
+    ensures reached { (key : List ℕ) × IsBytes key × Holds range.now key × (value_at boundaries.now key ≡ result) }
+{
+    let from = place_after(boundaries, range.begin.as_bytes());
+    let to = place_of(boundaries, range.end.as_bytes());
+    let at_begin = boundaries[from - 1].version();
+    greatest_from(at_begin, &boundaries[from..to])
+}
+
+// The greatest of the version and those of the boundaries.
+fn greatest_from(version: i64, boundaries: &[Boundary]) -> i64
+    ensures { result ≡ fold int_max version (map (λ b. b.version) boundaries.now) }
+{
+    let mut greatest = version;
+    for boundary in boundaries {
+        greatest = greatest.max(boundary.version());
+    }
+    greatest
+}

@@ -1,0 +1,208 @@
+ghost use Rattle.std.specs.Prelude.{◌≡◌, ℕ, ◌+◌, ◌≤◌, ℤ, negsuc, ◌≤ℤ◌, ◌↔◌, List, [], length, map, slice_get, Some, None, IfOk, OnOk, OnErr};
+ghost use Rattle.keyspace.specs.Key.{IsBytes};
+ghost use Rattle.keyspace.specs.Range.{Holds, IsEmpty};
+ghost use Rattle.keyspace.specs.Writes.{Write};
+ghost use Rattle.stepmap.specs.Boundary.{value_at, AreUpTo};
+ghost use Rattle.stepmap.specs.StepMap.{lengths, new_map, AreSteps};
+ghost use Rattle.stepmap.specs.Writing.{AreApart, after_write};
+ghost use Rattle.stepmap.specs.Sweeping.{rest, round_edge, after_sweep};
+ghost use Rattle.stepmap.specs.Covers.{SameFrom, MapCovers, with_write};
+ghost use Rattle.stepmap.specs.Rooted.{Ends, Rooted};
+
+use crate::boundary::Boundary;
+use crate::error::StepError;
+use crate::greatest::greatest_version;
+use crate::places::{place_left, version_at};
+use crate::room::Room;
+use crate::thinning::thin;
+use crate::writing::write_range;
+use keyspace::{Key, MAX_KEY_LENGTH, Range};
+use std::alloc::{AllocError, Global};
+use std::collections::VecDeque;
+use std::marker::Model;
+
+/// How a sweep ended.
+#[derive(Clone, Copy, Debug, PartialEq, Eq, Hash)]
+pub enum SweepEnd {
+    /// With no boundary left to look at: the next sweep begins a round at the front.
+    Round,
+    /// With some left: the next sweep goes on at the first of these.
+    Stopped,
+}
+
+/// A step function from keys to versions, which remembers committed writes, and an edge: what it tells below the edge
+/// means nothing. Contracts see its boundaries in key order, the empty key first.
+#[derive(Debug, Drop)]
+pub struct StepMap {
+    alloc: Global,
+    boundaries: Vec<Boundary>,
+    edge: i64,
+    rooms: VecDeque<Room>,
+    place: Vec<u8>,
+    round: Option<i64>,
+}
+
+impl Model for StepMap {
+    ghost use Rattle.std.specs.Prelude.{vec_len, vec_capacity};
+    ghost use Rattle.stepmap.specs.StepMap.{Steps};
+    ghost use Rattle.stepmap.specs.Kept.{steps_of, HasRoom};
+
+    ghost Value = { Steps };
+
+    ghost view = { λ m. steps_of m.boundaries.items m.edge m.rooms.items m.place.items m.round };
+
+    ghost invariant = { λ m. HasRoom (steps_of m.boundaries.items m.edge m.rooms.items m.place.items m.round)
+        m.place.items (vec_len m.boundaries) (vec_capacity m.boundaries) (vec_capacity m.place) };
+}
+
+impl StepMap {
+    /// -1 everywhere, with the edge 0.
+    pub fn new(alloc: Global) -> Result<Self, StepError>
+        ensures map { IfOk result (λ map. map ≡ new_map) }
+        ensures everywhere { IfOk result (λ map. (key : List ℕ) → value_at map.boundaries key ≡ negsuc 0) }
+        ensures covers { IfOk result (λ map. MapCovers map []) }
+        ensures rooted { IfOk result (λ map. Rooted map []) }
+    {
+        let place = Vec::with_capacity(alloc, MAX_KEY_LENGTH)?;
+        let mut boundaries = Vec::with_capacity(alloc, 1)?;
+        let empty = Key::new(Vec::new(alloc));
+        boundaries.push(Boundary::new(empty, -1)).unwrap();
+        Ok(StepMap {
+            alloc,
+            boundaries,
+            edge: 0,
+            rooms: VecDeque::new(alloc),
+            place,
+            round: None,
+        })
+    }
+
+    /// The version at the key, which may be of any length.
+    pub fn at(&self, key: &[u8]) -> i64
+        ensures { result ≡ value_at self.now.boundaries key.now }
+    {
+        version_at(&self.boundaries, key)
+    }
+
+    /// The greatest version at a key of the range, or -1 where it is empty.
+    pub fn greatest_in(&self, range: &Range) -> i64
+        ensures empty { IsEmpty range.now → result ≡ negsuc 0 }
+        ensures bound { (key : List ℕ) → Holds range.now key → value_at self.now.boundaries key ≤ℤ result }
+        ensures reached { ¬ IsEmpty range.now
+            → (key : List ℕ) × IsBytes key × Holds range.now key × (value_at self.now.boundaries key ≡ result) }
+    {
+        if range.is_empty() {
+            return -1;
+        }
+        greatest_version(&self.boundaries, range)
+    }
+
+    /// How many boundaries there are, the empty key with them.
+    pub fn boundaries(&self) -> usize
+        ensures count { result ≡ length self.now.boundaries }
+        ensures steps { AreSteps self.now }
+    {
+        self.boundaries.len()
+    }
+
+    /// Takes all the memory that the writing of the ranges needs, in place of what was taken before. The ranges are those
+    /// to be written next, in order; they, or others whose ends have the same lengths, can then be written.
+    pub fn prepare(&mut self, ranges: &[Range]) -> Result<(), StepError>
+        requires { AreApart ranges.now }
+        ensures ok { OnOk result (self.new ≡ record self.old { ready = map lengths ranges.now }) }
+        ensures err { OnErr result (self.new ≡ record self.old { ready = [] }) }
+        ensures covers { (ws : List Write) → MapCovers self.old ws → MapCovers self.new ws }
+        ensures rooted { (ws : List Write) → Rooted self.old ws → Rooted self.new ws }
+    {
+        let made = make_rooms(&mut self.rooms, self.alloc, ranges);
+        let reserved = match made {
+            Ok(()) => self.boundaries.reserve(2 * ranges.len()),
+            Err(refused) => Err(refused),
+        };
+        if let Err(refused) = reserved {
+            self.rooms.clear();
+            return Err(StepError::from(refused));
+        }
+        Ok(())
+    }
+
+    /// The function takes the version on the range, and stays elsewhere. It takes no memory.
+    pub fn write(&mut self, range: &Range, version: i64)
+        requires filled { ¬ IsEmpty range.now }
+        requires ready { slice_get self.old.ready 0 ≡ Some (lengths range.now) }
+        requires newest { AreUpTo version self.old.boundaries }
+        requires late { self.old.edge ≤ℤ version }
+        ensures map { self.new ≡ after_write range.now version self.old }
+
+        ensures on_range { (key : List ℕ) → Holds range.now key → value_at self.new.boundaries key ≡ version }
+        ensures elsewhere { (key : List ℕ) → ¬ Holds range.now key
+            → value_at self.new.boundaries key ≡ value_at self.old.boundaries key }
+        ensures newest { AreUpTo version self.new.boundaries }
+        ensures covers { (ws : List Write)
+            → MapCovers self.old ws → MapCovers self.new (with_write ws range.now version) }
+
+        ensures rooted { (ws : List Write)
+            → Rooted self.old ws → Rooted self.new (with_write ws range.now version) }
+        ensures ends { (ws : List Write) (edge : ℤ) → edge ≤ℤ version
+            → Ends self.old.boundaries ws edge → Ends self.new.boundaries (with_write ws range.now version) edge }
+        ensures rest { rest self.new ≤ rest self.old + 2 }
+        ensures count { length self.new.boundaries ≤ length self.old.boundaries + 2 }
+    {
+        let room = self.rooms.pop_front().unwrap();
+        let (begin, end) = room.fill(range);
+        write_range(&mut self.boundaries, range, begin, end, version);
+    }
+
+    /// Makes the edge the one given.
+    pub fn raise(&mut self, edge: i64)
+        requires { self.old.edge ≤ℤ edge }
+        ensures map { self.new ≡ record self.old { edge = edge } }
+        ensures covers { (ws : List Write) → MapCovers self.old ws → MapCovers self.new ws }
+        ensures rooted { (ws : List Write) → Rooted self.old ws → Rooted self.new ws }
+    {
+        self.edge = edge;
+    }
+
+    /// Looks at the next `count` boundaries, or at those that are left of the round, and takes away what tells nothing at or
+    /// above the edge. It takes no memory.
+    pub fn sweep(&mut self, count: usize) -> SweepEnd
+        ensures map { self.new ≡ after_sweep count self.old }
+        ensures round { (result ≡ SweepEnd.Round) ↔ (rest self.old ≤ count) }
+
+        ensures same { SameFrom self.old.edge (value_at self.old.boundaries) (value_at self.new.boundaries) }
+        ensures newest { (version : ℤ) → AreUpTo version self.old.boundaries → AreUpTo version self.new.boundaries }
+        ensures covers { (ws : List Write) → MapCovers self.old ws → MapCovers self.new ws }
+
+        ensures rooted { (ws : List Write) → Rooted self.old ws → Rooted self.new ws }
+        ensures ends { result ≡ SweepEnd.Round → (ws : List Write) → Rooted self.old ws
+            → Ends self.new.boundaries ws (round_edge self.old.edge self.old.round) }
+        ensures front { result ≡ SweepEnd.Round → self.new.round ≡ None }
+        ensures fewer { result ≡ SweepEnd.Stopped → rest self.new + count ≡ rest self.old }
+    {
+        let from = place_left(&self.boundaries, &self.place);
+        let to = from + count.min(self.boundaries.len() - from);
+        let began = self.round.unwrap_or(self.edge);
+        let next = thin(&mut self.boundaries, from, to, self.edge);
+        self.place.clear();
+        if next == self.boundaries.len() {
+            self.round = None;
+            return SweepEnd::Round;
+        }
+        self.place
+            .extend_from_slice(self.boundaries[next].key())
+            .unwrap();
+        self.round = Some(began);
+        SweepEnd::Stopped
+    }
+}
+
+// Room for the begins and ends of the ranges, in order, in place of what there is.
+fn make_rooms(rooms: &mut VecDeque<Room>, alloc: Global, ranges: &[Range]) -> Result<(), AllocError>
+    ensures { OnOk result (rooms.new.items ≡ map lengths ranges.now) }
+{
+    rooms.clear();
+    for range in ranges {
+        rooms.push_back(Room::new(alloc, range)?)?;
+    }
+    Ok(())
+}

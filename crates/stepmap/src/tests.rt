@@ -1,0 +1,188 @@
+//! The worked rows, and a refusal of each allocation in turn.
+ghost use Rattle.std.specs.Prelude.{◌≡◌, ◌≤◌, ℤ, ◌≤ℤ◌, pos, length, IfOk, OnOk};
+ghost use Rattle.keyspace.specs.Key.{IsBefore, IsAtMost};
+ghost use Rattle.stepmap.specs.Boundary.{AreUpTo};
+
+use crate::{StepError, StepMap, SweepEnd};
+use keyspace::{Key, Range};
+use std::alloc::Global;
+use std::process::Abort;
+use std::test::Fail;
+
+fn key(alloc: Global, bytes: &[u8]) -> Result<Key, StepError>
+    requires { length bytes.now ≤ 10001 }
+    ensures { IfOk result (λ key. key ≡ bytes.now) }
+{
+    Ok(Key::new(Vec::from_slice(alloc, bytes)?))
+}
+
+fn range(alloc: Global, begin: &[u8], end: &[u8]) -> Result<Range, StepError>
+    requires begin { length begin.now ≤ 10001 }
+    requires end { length end.now ≤ 10001 }
+    requires ordered { IsAtMost begin.now end.now }
+    ensures begin { IfOk result (λ range. range.begin ≡ begin.now) }
+    ensures end { IfOk result (λ range. range.end ≡ end.now) }
+{
+    let begin = key(alloc, begin)?;
+    let end = key(alloc, end)?;
+    Ok(Range::new(begin, end))
+}
+
+// Prepares for one range and writes it. A refused `prepare` leaves the map as it was, and the next one succeeds.
+fn put(
+    rt: &impl Abort,
+    map: &mut StepMap,
+    range: Range,
+    version: i64,
+    before: &[(&[u8], i64)],
+) -> Result<(), StepError>
+    requires filled { IsBefore range.begin range.end }
+    requires newest { AreUpTo version map.old.boundaries }
+    requires late { map.old.edge ≤ℤ version }
+    ensures newest { OnOk result ((later : ℤ) → version ≤ℤ later → AreUpTo later map.new.boundaries) }
+    ensures edge { OnOk result (map.new.edge ≡ map.old.edge) }
+{
+    let ranges = [range];
+    if map.prepare(&ranges).is_err() {
+        assert_at(rt, map, before);
+        map.prepare(&ranges)?;
+    }
+    map.write(&ranges[0], version);
+    Ok(())
+}
+
+// [a,d) written at 100, then [b,c) at 200.
+fn two_writes(rt: &impl Abort, alloc: Global) -> Result<StepMap, StepError>
+    ensures newest { IfOk result (λ map. (later : ℤ) → pos 200 ≤ℤ later → AreUpTo later map.boundaries) }
+    ensures edge { IfOk result (λ map. map.edge ≡ pos 0) }
+{
+    let a_to_d = range(alloc, b"a", b"d")?;
+    let b_to_c = range(alloc, b"b", b"c")?;
+    let mut map = StepMap::new(alloc)?;
+    put(
+        rt,
+        &mut map,
+        a_to_d,
+        100,
+        &[(b"", -1), (b"a", -1), (b"d", -1)],
+    )?;
+    put(
+        rt,
+        &mut map,
+        b_to_c,
+        200,
+        &[(b"", -1), (b"a", 100), (b"b", 100), (b"c", 100), (b"d", -1)],
+    )?;
+    Ok(map)
+}
+
+// The versions at keys.
+fn assert_at(rt: &impl Abort, map: &StepMap, rows: &[(&[u8], i64)]) {
+    for (key, version) in rows {
+        assert_eq!(rt; map.at(key), *version, "at {key:?}");
+    }
+}
+
+#[test]
+fn step_map_overwrite_and_sweep(rt: HostRuntime) -> Result<(), Fail> {
+    let mut map = two_writes(&rt, rt.alloc())?;
+    assert_eq!(rt; map.boundaries(), 5);
+    assert_at(
+        &rt,
+        &map,
+        &[(b"", -1), (b"a", 100), (b"b", 200), (b"c", 100), (b"d", -1)],
+    );
+
+    map.raise(150);
+    assert_eq!(rt; map.sweep(4), SweepEnd::Round);
+    assert_eq!(rt; map.boundaries(), 3);
+    assert_at(
+        &rt,
+        &map,
+        &[(b"", -1), (b"a", -1), (b"b", 200), (b"c", 100), (b"d", 100)],
+    );
+
+    map.raise(201);
+    assert_eq!(rt; map.sweep(4), SweepEnd::Round);
+    assert_eq!(rt; map.boundaries(), 1);
+    Ok(())
+}
+
+#[test]
+fn paced_sweep_rounds(rt: HostRuntime) -> Result<(), Fail> {
+    let mut map = two_writes(&rt, rt.alloc())?;
+    map.raise(150);
+    for (count, end, boundaries) in [
+        (2, SweepEnd::Stopped, 4),
+        (1, SweepEnd::Stopped, 4),
+        (1, SweepEnd::Round, 3),
+        (5, SweepEnd::Round, 3),
+    ] {
+        assert_eq!(rt; map.sweep(count), end);
+        assert_eq!(rt; map.boundaries(), boundaries);
+    }
+    assert_at(
+        &rt,
+        &map,
+        &[(b"", -1), (b"a", -1), (b"b", 200), (b"c", 100), (b"d", 100)],
+    );
+    Ok(())
+}
+
+#[test]
+fn paced_sweep_after_write(rt: HostRuntime) -> Result<(), Fail> {
+    let mut map = two_writes(&rt, rt.alloc())?;
+    map.raise(150);
+    assert_eq!(rt; map.sweep(2), SweepEnd::Stopped);
+    put(
+        &rt,
+        &mut map,
+        range(rt.alloc(), b"bb", b"e")?,
+        300,
+        &[(b"b", 200), (b"c", 100)],
+    )?;
+    assert_eq!(rt; map.boundaries(), 4);
+    assert_at(
+        &rt,
+        &map,
+        &[
+            (b"", -1),
+            (b"b", 200),
+            (b"bb", 300),
+            (b"d", 300),
+            (b"e", -1),
+        ],
+    );
+    assert_eq!(rt; map.sweep(1), SweepEnd::Round);
+    assert_eq!(rt; map.boundaries(), 4);
+    Ok(())
+}
+
+#[test]
+fn greatest_versions(rt: HostRuntime) -> Result<(), Fail> {
+    let alloc = rt.alloc();
+    let map = two_writes(&rt, alloc)?;
+    assert_eq!(rt; map.greatest_in(&range(alloc, b"a", b"b")?), 100);
+    assert_eq!(rt; map.greatest_in(&range(alloc, b"a", b"bb")?), 200);
+    assert_eq!(rt; map.greatest_in(&range(alloc, b"bb", b"c")?), 200);
+    assert_eq!(rt; map.greatest_in(&range(alloc, b"c", b"z")?), 100);
+    assert_eq!(rt; map.greatest_in(&range(alloc, b"", b"a")?), -1);
+    assert_eq!(rt; map.greatest_in(&range(alloc, b"b", b"b")?), -1);
+    Ok(())
+}
+
+// Holds whichever allocation is refused: `new` succeeds at the next try, and `put` looks at the map after a refused `prepare`.
+#[test]
+fn refused_memory_changes_nothing(rt: HostRuntime) -> Result<(), Fail> {
+    let map = match two_writes(&rt, rt.alloc()) {
+        Ok(map) => map,
+        Err(StepError::Memory) => two_writes(&rt, rt.alloc())?,
+    };
+    assert_eq!(rt; map.boundaries(), 5);
+    assert_at(
+        &rt,
+        &map,
+        &[(b"", -1), (b"a", 100), (b"b", 200), (b"c", 100), (b"d", -1)],
+    );
+    Ok(())
+}
