@@ -12,3 +12,4 @@ pub mod Held
 pub mod Known
 pub mod FrameLengths
 pub mod NextFrames
+pub mod Fitting

@@ -1,5 +1,5 @@
 use Rattle.std.proofs.Common.{◌∙◌, sym}
-use Rattle.wire.proofs.OneSpelling.{one_batch, no_batch_fault, one_reply, no_reply_fault}
+use Rattle.wire.proofs.OneSpelling.{one_batch, no_batch_fault, one_reply, no_reply_fault, kinds_apart}
 use Rattle.wire.proofs.laws.one_spelling.Goals as goal
 
 pub returns : goal.returns
@@ -10,4 +10,5 @@ returns c = record {
   replies = one_reply;
   reply_text = λ x y a p q. p.text ∙ sym q.text;
   reply_read = no_reply_fault;
+  kinds = kinds_apart;
 }

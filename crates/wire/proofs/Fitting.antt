@@ -1,0 +1,159 @@
+-- The reply to a batch that fits a frame fits one too.
+use Rattle.std.proofs.Common.{◌≡◌, ℕ, ◌+◌, ◌*◌, ◌≤◌, ℤ, Bool, true, false, cond, List, [], ◌∷◌, ◌++◌, length, take, map, refl, sym, subst, arith}
+use Rattle.std.specs.List.{flat_map}
+use Rattle.std.specs.Int.{w64, cast_unsigned}
+use Rattle.std.proofs.lemmas.List.{length-append}
+use Rattle.byteorder.specs.Endian.{big_bytes}
+use Rattle.byteorder.specs.Numbers.{length-bytes_high_first}
+use Rattle.keyspace.specs.declared.range.Range.{Range}
+use Rattle.keyspace.specs.declared.txn.Txn.{Txn}
+use Rattle.keyspace.specs.declared.batch.Batch.{Batch}
+use Rattle.keyspace.specs.declared.reply.Entry.{Entry}
+use Rattle.keyspace.specs.declared.reply.Reply.{Reply}
+use Rattle.keyspace.specs.declared.reply.Verdict.{Verdict}
+use Rattle.keyspace.specs.declared.reply.Verdict.TheVariants.{Conflict, TooOld, Committed}
+use Rattle.keyspace.specs.Writes.{Write, counted}
+use Rattle.keyspace.specs.Judged.{Judged, edge}
+use Rattle.keyspace.specs.Judge.{is_too_old, is_in_conflict, is_hit, meets_earlier, places_from, hits_or_first, report, without_places, in_conflict_at, judge_txn, judge_txns}
+use Rattle.keyspace.proofs.Judging.{only_judge}
+use Rattle.wire.specs.Fields.{EntryFields, range_fields, txn_fields, entry_fields, batch_fields, reply_fields}
+use Rattle.wire.specs.Spelling.{key_text, range_text, txn_text, batch_body, entry_text, verdict_text, places_text, reply_body, signed_text, marks_text, header_text, IsShort}
+
+places_few : (i : ℕ) (test : Range → Bool) (ranges : List Range) → length (places_from i test ranges) ≤ length ranges
+places_few i test [] = omega arith
+places_few i test (r ∷ rs) =
+    let more = places_few (i + 1) test rs in
+    elim (test r) as (λ b. length (cond b (i ∷ places_from (i + 1) test rs) (places_from (i + 1) test rs)) ≤ length (r ∷ rs)) [ true ↦ omega (arith, more) | false ↦ omega (arith, more) ]
+
+take_one_few : (xs : List ℕ) → length (take 1 xs) ≤ length xs
+take_one_few [] = omega arith
+take_one_few (x ∷ xs) = omega arith
+
+hits_or_first_few : (hits met : List ℕ) (n : ℕ) → length hits ≤ n → length met ≤ n → length (hits_or_first hits met) ≤ n
+hits_or_first_few [] met n h m = omega (arith, take_one_few met)
+hits_or_first_few (x ∷ xs) met n h m = h
+
+-- no more places than read ranges
+report_few : (ws : List Write) (earlier : List Range) (t : Txn) → length (report ws earlier t) ≤ length t.reads
+report_few ws earlier t =
+    elim t.marked as (λ b. length (cond b (hits_or_first (places_from 0 (is_hit ws t) t.reads) (places_from 0 (meets_earlier earlier) t.reads)) []) ≤ length t.reads) [
+      | true ↦ hits_or_first_few (places_from 0 (is_hit ws t) t.reads) (places_from 0 (meets_earlier earlier) t.reads) (length t.reads) (places_few 0 (is_hit ws t) t.reads) (places_few 0 (meets_earlier earlier) t.reads)
+      | false ↦ omega arith
+    ]
+
+entry_few : (edge : ℤ) (ws : List Write) (earlier : List Range) (t : Txn) → length (judge_txn edge ws earlier t).places ≤ length t.reads
+entry_few edge ws earlier t =
+    elim (is_too_old edge t) as (λ old. let e : Entry = cond old (without_places TooOld) (cond (is_in_conflict ws earlier t) (in_conflict_at (report ws earlier t)) (without_places Committed)) in length e.places ≤ length t.reads) [
+      | true ↦ omega arith
+      | false ↦ elim (is_in_conflict ws earlier t) as (λ met. let e : Entry = cond met (in_conflict_at (report ws earlier t)) (without_places Committed) in length e.places ≤ length t.reads) [
+        | true ↦ report_few ws earlier t
+        | false ↦ omega arith
+      ]
+    ]
+
+places_length : (places : List ℕ) → length (places_text places) ≡ 2 * length places
+places_length [] = refl
+places_length (p ∷ ps) = omega (arith, length-append (big_bytes 2 p) (places_text ps), length-bytes_high_first 2 p, places_length ps)
+
+verdict_length : (v : Verdict) → length (verdict_text v) ≡ 1
+verdict_length Conflict = refl
+verdict_length TooOld = refl
+verdict_length Committed = refl
+
+entry_length : (e : EntryFields) → length (entry_text e) ≡ 3 + 2 * length e.places
+unfolding entry_text
+entry_length e =
+    let count = big_bytes 2 (length e.places) in
+    omega (
+      arith,
+      length-append (verdict_text e.verdict) (count ++ places_text e.places),
+      length-append count (places_text e.places),
+      length-bytes_high_first 2 (length e.places),
+      verdict_length e.verdict,
+      places_length e.places,
+    )
+
+key_least : (key : List ℕ) → 2 ≤ length (key_text key)
+key_least key = omega (arith, length-append (big_bytes 2 (length key)) key, length-bytes_high_first 2 (length key))
+
+ranges_least : (ranges : List Range) → 4 * length ranges ≤ length (flat_map range_text (map range_fields ranges))
+ranges_least [] = omega arith
+ranges_least (r ∷ rs) =
+    omega (
+      arith,
+      length-append (range_text (range_fields r)) (flat_map range_text (map range_fields rs)),
+      length-append (key_text r.begin) (key_text r.end),
+      key_least r.begin,
+      key_least r.end,
+      ranges_least rs,
+    )
+
+signed_length : (z : ℤ) → length (signed_text z) ≡ 8
+signed_length z = length-bytes_high_first 8 (cast_unsigned w64 z)
+
+txn_least : (t : Txn) → 3 + 2 * length t.reads ≤ length (txn_text (txn_fields t))
+unfolding txn_text
+txn_least t =
+    let f = txn_fields t in
+    let reads = flat_map range_text f.reads in
+    let writes = flat_map range_text f.writes in
+    let read_count = big_bytes 2 (length f.reads) in
+    let write_count = big_bytes 2 (length f.writes) in
+    omega (
+      arith,
+      length-append (signed_text t.snapshot) (marks_text t.marked ++ (read_count ++ (write_count ++ (reads ++ writes)))),
+      length-append (marks_text t.marked) (read_count ++ (write_count ++ (reads ++ writes))),
+      length-append read_count (write_count ++ (reads ++ writes)),
+      length-append write_count (reads ++ writes),
+      length-append reads writes,
+      signed_length t.snapshot,
+      ranges_least t.reads,
+    )
+
+entries_fit : (edge : ℤ) (ws : List Write) (earlier : List Range) (ts : List Txn) →
+    length (flat_map entry_text (map entry_fields (judge_txns edge ws earlier ts))) ≤ length (flat_map txn_text (map txn_fields ts))
+entries_fit edge ws earlier [] = omega arith
+entries_fit edge ws earlier (t ∷ ts) =
+    let e = judge_txn edge ws earlier t in
+    let after = earlier ++ counted e.verdict t.writes in
+    omega (
+      arith,
+      length-append (entry_text (entry_fields e)) (flat_map entry_text (map entry_fields (judge_txns edge ws after ts))),
+      length-append (txn_text (txn_fields t)) (flat_map txn_text (map txn_fields ts)),
+      entry_length (entry_fields e),
+      entry_few edge ws earlier t,
+      txn_least t,
+      entries_fit edge ws after ts,
+    )
+
+body_fits : (b : Batch) (r : Reply) → length (flat_map entry_text (map entry_fields r.entries)) ≤ length (flat_map txn_text (map txn_fields b.txns)) → length (reply_body (reply_fields r)) ≤ length (batch_body (batch_fields b))
+unfolding reply_body batch_body
+body_fits b r h =
+    let entries = flat_map entry_text (map entry_fields r.entries) in
+    let txns = flat_map txn_text (map txn_fields b.txns) in
+    let entry_count = big_bytes 2 (length (map entry_fields r.entries)) in
+    let txn_count = big_bytes 2 (length (map txn_fields b.txns)) in
+    let header = header_text b.previous b.version b.received in
+    omega (
+      arith,
+      length-append (signed_text r.version) (entry_count ++ entries),
+      length-append entry_count entries,
+      length-append header (txn_count ++ txns),
+      length-append txn_count txns,
+      length-append (signed_text b.previous) (signed_text b.version ++ signed_text b.received),
+      length-append (signed_text b.version) (signed_text b.received),
+      length-bytes_high_first 2 (length (map entry_fields r.entries)),
+      length-bytes_high_first 2 (length (map txn_fields b.txns)),
+      signed_length r.version,
+      signed_length b.previous,
+      signed_length b.version,
+      signed_length b.received,
+      h,
+    )
+
+pub reply_fits : (window : ℤ) (ws : List Write) (b : Batch) (r : Reply) → Judged window ws b r → IsShort (batch_body (batch_fields b)) → IsShort (reply_body (reply_fields r))
+reply_fits window ws b r judged short =
+    let same = only_judge window ws b r judged in
+    let fits : length (flat_map entry_text (map entry_fields r.entries)) ≤ length (flat_map txn_text (map txn_fields b.txns)) =
+    subst (λ (x : Reply). length (flat_map entry_text (map entry_fields x.entries)) ≤ length (flat_map txn_text (map txn_fields b.txns))) (sym same) (entries_fit (edge window b) ws [] b.txns) in
+    omega (arith, body_fits b r fits)
