@@ -12,7 +12,7 @@ mod words;
 
 use replay::{Status, replay_over};
 use std::fs::File;
-use std::io::{BufReader, Write};
+use std::io::{BufReader, BufWriter, Write};
 use std::process::ExitCode;
 use std::{env, io};
 use wire::StdSource;
@@ -47,8 +47,14 @@ fn run(rt: &HostRuntime) -> Status {
     let Ok(reader) = BufReader::new(rt.alloc(), file) else {
         return fail(&mut error, "replay: start 1 Memory");
     };
-    let source = StdSource::new(reader);
-    replay_over(rt.alloc(), source, &mut rt.stdout(), &mut error)
+    let Ok(mut out) = BufWriter::new(rt.alloc(), rt.stdout()) else {
+        return fail(&mut error, "replay: start 1 Memory");
+    };
+    let status = replay_over(rt.alloc(), StdSource::new(reader), &mut out, &mut error);
+    if out.flush().is_err() {
+        return Status::Failed;
+    }
+    status
 }
 
 fn main(rt: HostRuntime) -> ExitCode {
