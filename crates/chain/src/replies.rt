@@ -1,4 +1,4 @@
-ghost use Rattle.std.specs.Prelude.{◌≡◌, ◌≤ℤ◌, ℕ, ℤ, ◌&&◌, ◌==◌, not, int_le, if◌then◌else◌, option_copied, IfNone, IfSome, IsSome, IsTrue, IsOkUnless, OnErr, OnOk};
+ghost use Rattle.std.specs.Prelude.{◌≡◌, ℕ, ℤ, ◌&&◌, ◌==◌, not, int_le, if◌then◌else◌, option_copied, IfNone, IfSome, IsSome, IsTrue, IsOkUnless, OnErr, OnOk};
 ghost use Rattle.std.specs.Ordering.{int_eq};
 ghost use Rattle.std.specs.BTreeMap as tree;
 ghost use Rattle.std.specs.FinMap as map;

@@ -1,13 +1,13 @@
 //! The resolver over values: admits one batch after another along the chain of versions, and hands out the answers.
 //! So far nothing is held and no reply is kept: a batch off the chain is answered at once and changes nothing.
 
-ghost use Rattle.std.specs.Prelude.{◌≡◌, ◌≢◌, ◌++◌, ◌==◌, ℕ, IfNone, negsuc, [], ◌∷◌, Some, None, Ok, Err, OnOk, OnErr, IfOk, IfErr, IfSome, option_to_list, length};
+ghost use Rattle.std.specs.Prelude.{◌≡◌, ◌≢◌, ◌++◌, ◌==◌, ℕ, IfNone, negsuc, [], Some, None, Ok, Err, OnOk, OnErr, IfOk, IfErr, IfSome, option_to_list, length};
 ghost use Rattle.std.specs.List.{position_from};
 ghost use Rattle.keyspace.specs.Run.{answers_to};
 ghost use Rattle.replay.specs.Core.{StandsFor, IsAnswered, Answered};
 
 use crate::scan::{ConflictSet, SetStop};
-use keyspace::{Answer, Batch, WINDOW};
+use keyspace::{Answer, Batch};
 use std::alloc::Global;
 use std::collections::VecDeque;
 use std::marker::Model;
