@@ -11,11 +11,11 @@ use Rattle.keyspace.specs.Range.{Holds, IsEmpty}
 use Rattle.keyspace.specs.declared.range.Range.{Range}
 use Rattle.keyspace.proofs.KeyOrder.{at_most_before, at_most_trans, before_at_most_same, at_most_itself, not_before_itself}
 use Rattle.stepmap.specs.Boundary.{Boundary, AreBoundaries, RiseFrom, value_at, value_from, last_version, below, from_on}
-use Rattle.stepmap.specs.Places.{up_to, after}
+use Rattle.stepmap.specs.Indexes.{up_to, after}
 use Rattle.stepmap.proofs.Order.{Rising, rising_from, rising_in_order, rising_filter, rise_above, not_before_if}
 use Rattle.stepmap.proofs.Values.{FirstAfter, first_after_all, value_after, value_front, value_back, value_has}
 use Rattle.stepmap.proofs.WritingValues.{begins_before_end}
-use Rattle.stepmap.proofs.Replacing.{filter_shorter, place_is}
+use Rattle.stepmap.proofs.Replacing.{filter_shorter, index_is}
 
 -- the value at a boundary's own key is its version
 pub value_own : (v : ℤ) (bs : List Boundary) (k : ℕ) (d : Boundary) → Rising bs → k < length bs → value_from v bs (get_or bs k d).key ≡ (get_or bs k d).version
@@ -56,8 +56,8 @@ module _ (range : Range) (filled : ¬ IsEmpty range) (bs : List Boundary) (h : A
   pub inside_ordered : from ≤ to
   inside_ordered =
       let l = begins_before_end range filled in
-      let a = place_is bs (up_to range.begin bs) from i.from_in i.front in
-      let b = place_is bs (below range.end bs) to i.to_in i.sooner in
+      let a = index_is bs (up_to range.begin bs) from i.from_in i.front in
+      let b = index_is bs (below range.end bs) to i.to_in i.sooner in
       let c = filter_shorter (λ b. not (is_before range.begin b.key)) (λ b. is_before b.key range.end) (λ b h. at_most_before b.key range.begin range.end h l) bs in
       omega arith
 

@@ -8,7 +8,7 @@ use Rattle.keyspace.specs.declared.range.Range.{Range}
 use Rattle.stepmap.specs.Boundary.{Boundary, value_at, AreUpTo}
 use Rattle.stepmap.specs.StepMap.{Steps, AreSteps, IsRound}
 use Rattle.stepmap.specs.Writing.{after_write}
-use Rattle.stepmap.specs.Sweeping.{place_of, rest, round_edge, after_sweep}
+use Rattle.stepmap.specs.Sweeping.{cursor_of, rest, round_edge, after_sweep}
 use Rattle.stepmap.specs.Covers.{SameFrom, Covers}
 use Rattle.stepmap.specs.Rooted.{Ends, Rooted}
 use Rattle.stepmap.proofs.Order.{rising_in_order}
@@ -63,7 +63,7 @@ sweep_keeps count old h new e =
     subst (SweepKeeps count old) (sym e) (record {
       steps = swept_steps count old h;
       same = same;
-      newest = λ version a. swept_has old.edge (place_of old.round) count (λ b. b.version ≤ℤ version) old.boundaries a;
+      newest = λ version a. swept_has old.edge (cursor_of old.round) count (λ b. b.version ≤ℤ version) old.boundaries a;
       covers = λ ws. covers_same (value_at old.boundaries) (value_at (after_sweep count old).boundaries) ws old.edge same;
       rooted = swept_map_rooted count old h;
       ends = swept_ends count old h;

@@ -12,7 +12,7 @@ pub mod Looking
 pub mod Sweeps
 pub mod SweptMap
 pub mod WrittenMap
-pub mod PlacesFound
+pub mod IndexFound
 pub mod Compacting
 pub mod Replacing
 pub mod GreatestFound

@@ -71,7 +71,7 @@ pub rise_join : (k : List ℕ) (xs : List Boundary) (y : Boundary) (ys : List Bo
 rise_join k [] y ys r l a s = (l, s)
 rise_join k (x ∷ xs) y ys r l a s = (r.0, rise_join x.key xs y ys r.1 (All-head (λ x. IsBefore x.key y.key) x xs a) (All-tail (λ x. IsBefore x.key y.key) x xs a) s)
 
--- what rises in the place of the last part keeps the whole rising
+-- what rises where the last part did keeps the whole rising
 pub rise_swap : (k : List ℕ) (xs ys zs : List Boundary) → RiseFrom k (xs ++ ys) → ((j : List ℕ) → RiseFrom j ys → RiseFrom j zs) → RiseFrom k (xs ++ zs)
 rise_swap k [] ys zs r f = f k r
 rise_swap k (x ∷ xs) ys zs r f = (r.0, rise_swap x.key xs ys zs r.1 f)

@@ -38,7 +38,7 @@ module _ (p q : Boundary → Bool) (other : (b : Boundary) → q b ≡ not (p b)
   partitioned (b ∷ bs) r (suc i) zero d le lt h = absurd (omega arith)
   partitioned (b ∷ bs) r (suc i) (suc j) d le lt h = partitioned bs (rising_from b.key bs r) i j d (omega arith) (omega arith) h
 
-  -- the place between the two parts
+  -- the index between the two parts
   pub parted_at : (bs : List Boundary) (i : ℕ) → i ≤ length bs → IsPartitionPoint (λ b. p b ≡ true) (λ b. p b ≡ false) bs i → (take i bs ≡ filter p bs) × (drop i bs ≡ filter q bs)
   parted_at [] zero le h = (refl, refl)
   parted_at [] (suc i) le h = (refl, refl)

@@ -44,14 +44,14 @@ filter_shorter p q f (b ∷ bs) =
       | inr n ↦ elim (true_or_false (q b)) [ inl t ↦ rw (n, t) (omega arith) | inr m ↦ rw (n, m) ih ]
     ]
 
-pub place_is : (xs ys : List Boundary) (i : ℕ) → i ≤ length xs → take i xs ≡ ys → i ≡ length ys
-place_is xs ys i le e = sym (length-take-le i xs le) ∙ ap length e
+pub index_is : (xs ys : List Boundary) (i : ℕ) → i ≤ length xs → take i xs ≡ ys → i ≡ length ys
+index_is xs ys i le e = sym (length-take-le i xs le) ∙ ap length e
 
 pub begin_first : (range : Range) → ¬ IsEmpty range → (bs : List Boundary) (i j : ℕ) → i ≤ length bs → j ≤ length bs → take i bs ≡ below range.begin bs → take j bs ≡ below range.end bs → i ≤ j
 begin_first range filled bs i j le le' e f =
     let l = begins_before_end range filled in
-    let a = place_is bs (below range.begin bs) i le e in
-    let b = place_is bs (below range.end bs) j le' f in
+    let a = index_is bs (below range.begin bs) i le e in
+    let b = index_is bs (below range.end bs) j le' f in
     let c = filter_shorter (λ b. is_before b.key range.begin) (λ b. is_before b.key range.end) (λ b h. before_trans b.key range.begin range.end h l) bs in
     omega arith
 

@@ -11,7 +11,7 @@ use Rattle.keyspace.proofs.Booleans.{true_or_false, not_both_ways}
 use Rattle.stepmap.specs.Boundary.{Boundary, AreBoundaries, AreUpTo, value_at, below}
 use Rattle.stepmap.specs.StepMap.{Round, Steps, IsRound, AreSteps}
 use Rattle.stepmap.specs.Writing.{written, after_write}
-use Rattle.stepmap.specs.Sweeping.{place_of, is_left, rest}
+use Rattle.stepmap.specs.Sweeping.{cursor_of, is_left, rest}
 use Rattle.stepmap.specs.Covers.{Covers}
 use Rattle.stepmap.specs.Rooted.{IsEndOf, Ends, Rooted}
 use Rattle.stepmap.proofs.Order.{rising_in_order}
@@ -76,10 +76,10 @@ module _ (range : Range) (filled : ¬ IsEmpty range) (v : ℤ) (m : Steps) (h : 
       (value_in range filled v m.boundaries rising) (value_elsewhere range filled v m.boundaries rising)
       (λ key. value_has (λ x. x ≤ℤ v) (negsuc 0) m.boundaries key version_low top) covers
 
-  passed_stays : (ws : List Write) (r : Round) → IsRound m.edge r → Ends (below r.place m.boundaries) ws r.edge → Ends (below r.place (written range v m.boundaries)) (ws ++ record { range = range; version = v } ∷ []) r.edge
+  passed_stays : (ws : List Write) (r : Round) → IsRound m.edge r → Ends (below r.cursor m.boundaries) ws r.edge → Ends (below r.cursor (written range v m.boundaries)) (ws ++ record { range = range; version = v } ∷ []) r.edge
   passed_stays ws r is ends =
       let ws' = ws ++ record { range = range; version = v } ∷ [] in
-      let p : Boundary → Bool = λ b. is_before b.key r.place in
+      let p : Boundary → Bool = λ b. is_before b.key r.cursor in
       let P : Boundary → Type 0 = λ b. b.key ≢ [] → IsEndOf ws r.edge b.key in
       let Q : Boundary → Type 0 = λ b. b.key ≢ [] → IsEndOf ws' r.edge b.key in
       let began : r.edge ≤ℤ m.edge = is.began in
@@ -93,8 +93,8 @@ module _ (range : Range) (filled : ¬ IsEmpty range) (v : ℤ) (m : Steps) (h : 
       let ws' = ws ++ record { range = range; version = v } ∷ [] in
       record {
         each = written_rooted range filled v ws m.edge m.boundaries (rising_in_order m.boundaries h.boundaries.in_order) top version_low r.each;
-        passed = if_some_both m.round (IsRound m.edge) (λ r. Ends (below r.place m.boundaries) ws r.edge) (λ r. Ends (below r.place (written range v m.boundaries)) ws' r.edge) (passed_stays ws) h.round r.passed;
+        passed = if_some_both m.round (IsRound m.edge) (λ r. Ends (below r.cursor m.boundaries) ws r.edge) (λ r. Ends (below r.cursor (written range v m.boundaries)) ws' r.edge) (passed_stays ws) h.round r.passed;
       }
 
   pub written_rest : rest (after_write range v m) ≤ rest m + 2
-  written_rest = written_count (is_left (place_of m.round)) range filled v m.boundaries
+  written_rest = written_count (is_left (cursor_of m.round)) range filled v m.boundaries

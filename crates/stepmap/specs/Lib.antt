@@ -5,5 +5,5 @@ pub mod Writing
 pub mod Sweeping
 pub mod Covers
 pub mod Rooted
-pub mod Places
+pub mod Indexes
 pub mod Kept

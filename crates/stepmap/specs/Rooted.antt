@@ -24,4 +24,4 @@ AreRooted ws edge before (b ∷ bs) =
 pub record Rooted (m : Steps) (ws : List Write) : Type 0 where
   pub each : AreRooted ws m.edge (negsuc 0) m.boundaries
   -- what the round under way has passed is written at or above the edge with which it began
-  pub passed : IfSome m.round (λ round. Ends (below round.place m.boundaries) ws round.edge)
+  pub passed : IfSome m.round (λ round. Ends (below round.cursor m.boundaries) ws round.edge)

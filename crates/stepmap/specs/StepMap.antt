@@ -6,7 +6,7 @@ use Rattle.stepmap.specs.Boundary.{Boundary, AreBoundaries}
 
 -- a round of the sweep that is under way: the key at which it goes on, and the edge with which it began
 pub record Round : Type 0 where
-  pub place : List ℕ
+  pub cursor : List ℕ
   pub edge : ℤ
 
 -- a step map
@@ -29,8 +29,8 @@ new_map = record { boundaries = record { key = []; version = negsuc 0 } ∷ []; 
 
 -- a round goes on at a key of some length, and began with an edge that isn't above the map's
 pub record IsRound (edge : ℤ) (round : Round) : Type 0 where
-  pub key : IsKey round.place
-  pub later : round.place ≢ []
+  pub key : IsKey round.cursor
+  pub later : round.cursor ≢ []
   pub began : round.edge ≤ℤ edge
 
 -- what holds of every step map

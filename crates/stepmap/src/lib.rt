@@ -11,7 +11,7 @@
 mod boundary;
 mod error;
 mod greatest;
-mod places;
+mod indexes;
 mod room;
 mod step_map;
 mod thinning;

@@ -5,7 +5,7 @@ use keyspace::{Key, Range};
 use std::alloc::{AllocError, Global};
 use std::marker::Model;
 
-/// Room for the bytes of a range's begin and end, which a contract sees as their two lengths.
+// Room for the bytes of a range's begin and end, which a contract sees as their two lengths.
 #[derive(Debug, Drop)]
 pub struct Room {
     begin: Vec<u8>,
@@ -23,17 +23,18 @@ impl Model for Room {
 }
 
 impl Room {
+    // Takes memory for the bytes of the range's begin and end.
     pub fn new(alloc: Global, range: &Range) -> Result<Self, AllocError>
-        ensures { IfOk result (λ room. room ≡ lengths range.now) }
+        ensures lengths { IfOk result (λ room. room ≡ lengths range.now) }
     {
         let begin = Vec::with_capacity(alloc, range.begin.as_bytes().len())?;
         let end = Vec::with_capacity(alloc, range.end.as_bytes().len())?;
         Ok(Room { begin, end })
     }
 
-    /// The range's begin and end, with bytes of their own. It takes no memory.
+    // Returns the range's begin and end, with bytes of their own. It takes no memory.
     pub fn fill(self, range: &Range) -> (Key, Key)
-        requires { self ≡ lengths range.now }
+        requires lengths { self ≡ lengths range.now }
         ensures begin { result.0 ≡ range.now.begin }
         ensures end { result.1 ≡ range.now.end }
     {

@@ -12,7 +12,7 @@ ghost use Rattle.stepmap.specs.Rooted.{Ends, Rooted};
 use crate::boundary::Boundary;
 use crate::error::StepError;
 use crate::greatest::greatest_version;
-use crate::places::{place_left, version_at};
+use crate::indexes::{index_left, version_at};
 use crate::room::Room;
 use crate::thinning::thin;
 use crate::writing::write_range;
@@ -24,21 +24,21 @@ use std::marker::Model;
 /// How a sweep ended.
 #[derive(Clone, Copy, Debug, PartialEq, Eq, Hash)]
 pub enum SweepEnd {
-    /// With no boundary left to look at: the next sweep begins a round at the front.
+    /// No boundary is left to look at: the next sweep begins a round at the front.
     Round,
-    /// With some left: the next sweep goes on at the first of these.
+    /// Some are left: the next sweep goes on at the first of these.
     Stopped,
 }
 
-/// A step function from keys to versions, which remembers committed writes, and an edge: what it tells below the edge
-/// means nothing. Contracts see its boundaries in key order, the empty key first.
+/// A step function from keys to versions, which remembers committed writes, with an edge: a version below the edge tells
+/// nothing. Contracts see its boundaries in key order, the empty key first.
 #[derive(Debug, Drop)]
 pub struct StepMap {
     alloc: Global,
     boundaries: Vec<Boundary>,
     edge: i64,
     rooms: VecDeque<Room>,
-    place: Vec<u8>,
+    cursor: Vec<u8>,
     round: Option<i64>,
 }
 
@@ -49,21 +49,21 @@ impl Model for StepMap {
 
     ghost Value = { Steps };
 
-    ghost view = { λ m. steps_of m.boundaries.items m.edge m.rooms.items m.place.items m.round };
+    ghost view = { λ m. steps_of m.boundaries.items m.edge m.rooms.items m.cursor.items m.round };
 
-    ghost invariant = { λ m. HasRoom (steps_of m.boundaries.items m.edge m.rooms.items m.place.items m.round)
-        m.place.items (vec_len m.boundaries) (vec_capacity m.boundaries) (vec_capacity m.place) };
+    ghost invariant = { λ m. HasRoom (steps_of m.boundaries.items m.edge m.rooms.items m.cursor.items m.round)
+        m.cursor.items (vec_len m.boundaries) (vec_capacity m.boundaries) (vec_capacity m.cursor) };
 }
 
 impl StepMap {
-    /// -1 everywhere, with the edge 0.
+    /// Makes the function that is -1 everywhere, with the edge 0.
     pub fn new(alloc: Global) -> Result<Self, StepError>
         ensures map { IfOk result (λ map. map ≡ new_map) }
         ensures everywhere { IfOk result (λ map. (key : List ℕ) → value_at map.boundaries key ≡ negsuc 0) }
         ensures covers { IfOk result (λ map. MapCovers map []) }
         ensures rooted { IfOk result (λ map. Rooted map []) }
     {
-        let place = Vec::with_capacity(alloc, MAX_KEY_LENGTH)?;
+        let cursor = Vec::with_capacity(alloc, MAX_KEY_LENGTH)?;
         let mut boundaries = Vec::with_capacity(alloc, 1)?;
         let empty = Key::new(Vec::new(alloc));
         boundaries.push(Boundary::new(empty, -1)).unwrap();
@@ -72,19 +72,19 @@ impl StepMap {
             boundaries,
             edge: 0,
             rooms: VecDeque::new(alloc),
-            place,
+            cursor,
             round: None,
         })
     }
 
-    /// The version at the key, which may be of any length.
+    /// Returns the version at the key, which may be of any length.
     pub fn at(&self, key: &[u8]) -> i64
-        ensures { result ≡ value_at self.now.boundaries key.now }
+        ensures value { result ≡ value_at self.now.boundaries key.now }
     {
         version_at(&self.boundaries, key)
     }
 
-    /// The greatest version at a key of the range, or -1 where it is empty.
+    /// Returns the greatest version at a key of the range, or -1 if it is empty.
     pub fn greatest_in(&self, range: &Range) -> i64
         ensures empty { IsEmpty range.now → result ≡ negsuc 0 }
         ensures bound { (key : List ℕ) → Holds range.now key → value_at self.now.boundaries key ≤ℤ result }
@@ -97,7 +97,7 @@ impl StepMap {
         greatest_version(&self.boundaries, range)
     }
 
-    /// How many boundaries there are, the empty key with them.
+    /// Returns the number of boundaries, that at the empty key included.
     pub fn boundaries(&self) -> usize
         ensures count { result ≡ length self.now.boundaries }
         ensures steps { AreSteps self.now }
@@ -108,7 +108,7 @@ impl StepMap {
     /// Takes all the memory that the writing of the ranges needs, in place of what was taken before. The ranges are those
     /// to be written next, in order; they, or others whose ends have the same lengths, can then be written.
     pub fn prepare(&mut self, ranges: &[Range]) -> Result<(), StepError>
-        requires { AreApart ranges.now }
+        requires apart { AreApart ranges.now }
         ensures ok { OnOk result (self.new ≡ record self.old { ready = map lengths ranges.now }) }
         ensures err { OnErr result (self.new ≡ record self.old { ready = [] }) }
         ensures covers { (ws : List Write) → MapCovers self.old ws → MapCovers self.new ws }
@@ -126,21 +126,19 @@ impl StepMap {
         Ok(())
     }
 
-    /// The function takes the version on the range, and stays elsewhere. It takes no memory.
+    /// Sets the version on the range; elsewhere the function stays as it is. It takes no memory.
     pub fn write(&mut self, range: &Range, version: i64)
         requires filled { ¬ IsEmpty range.now }
         requires ready { slice_get self.old.ready 0 ≡ Some (lengths range.now) }
         requires newest { AreUpTo version self.old.boundaries }
         requires late { self.old.edge ≤ℤ version }
         ensures map { self.new ≡ after_write range.now version self.old }
-
         ensures on_range { (key : List ℕ) → Holds range.now key → value_at self.new.boundaries key ≡ version }
         ensures elsewhere { (key : List ℕ) → ¬ Holds range.now key
             → value_at self.new.boundaries key ≡ value_at self.old.boundaries key }
         ensures newest { AreUpTo version self.new.boundaries }
         ensures covers { (ws : List Write)
             → MapCovers self.old ws → MapCovers self.new (with_write ws range.now version) }
-
         ensures rooted { (ws : List Write)
             → Rooted self.old ws → Rooted self.new (with_write ws range.now version) }
         ensures ends { (ws : List Write) (edge : ℤ) → edge ≤ℤ version
@@ -153,9 +151,9 @@ impl StepMap {
         write_range(&mut self.boundaries, range, begin, end, version);
     }
 
-    /// Makes the edge the one given.
+    /// Raises the edge to this one. Nothing else changes.
     pub fn raise(&mut self, edge: i64)
-        requires { self.old.edge ≤ℤ edge }
+        requires late { self.old.edge ≤ℤ edge }
         ensures map { self.new ≡ record self.old { edge = edge } }
         ensures covers { (ws : List Write) → MapCovers self.old ws → MapCovers self.new ws }
         ensures rooted { (ws : List Write) → Rooted self.old ws → Rooted self.new ws }
@@ -163,32 +161,30 @@ impl StepMap {
         self.edge = edge;
     }
 
-    /// Looks at the next `count` boundaries, or at those that are left of the round, and takes away what tells nothing at or
-    /// above the edge. It takes no memory.
+    /// Looks at the next `count` boundaries of the round, or at all that are left, and removes those that tell nothing at
+    /// or above the edge. It takes no memory.
     pub fn sweep(&mut self, count: usize) -> SweepEnd
         ensures map { self.new ≡ after_sweep count self.old }
         ensures round { (result ≡ SweepEnd.Round) ↔ (rest self.old ≤ count) }
-
         ensures same { SameFrom self.old.edge (value_at self.old.boundaries) (value_at self.new.boundaries) }
         ensures newest { (version : ℤ) → AreUpTo version self.old.boundaries → AreUpTo version self.new.boundaries }
         ensures covers { (ws : List Write) → MapCovers self.old ws → MapCovers self.new ws }
-
         ensures rooted { (ws : List Write) → Rooted self.old ws → Rooted self.new ws }
         ensures ends { result ≡ SweepEnd.Round → (ws : List Write) → Rooted self.old ws
             → Ends self.new.boundaries ws (round_edge self.old.edge self.old.round) }
         ensures front { result ≡ SweepEnd.Round → self.new.round ≡ None }
         ensures fewer { result ≡ SweepEnd.Stopped → rest self.new + count ≡ rest self.old }
     {
-        let from = place_left(&self.boundaries, &self.place);
+        let from = index_left(&self.boundaries, &self.cursor);
         let to = from + count.min(self.boundaries.len() - from);
         let began = self.round.unwrap_or(self.edge);
         let next = thin(&mut self.boundaries, from, to, self.edge);
-        self.place.clear();
+        self.cursor.clear();
         if next == self.boundaries.len() {
             self.round = None;
             return SweepEnd::Round;
         }
-        self.place
+        self.cursor
             .extend_from_slice(self.boundaries[next].key())
             .unwrap();
         self.round = Some(began);
@@ -196,9 +192,9 @@ impl StepMap {
     }
 }
 
-// Room for the begins and ends of the ranges, in order, in place of what there is.
+// Replaces what there is by room for the begins and ends of the ranges, in order.
 fn make_rooms(rooms: &mut VecDeque<Room>, alloc: Global, ranges: &[Range]) -> Result<(), AllocError>
-    ensures { OnOk result (rooms.new.items ≡ map lengths ranges.now) }
+    ensures lengths { OnOk result (rooms.new.items ≡ map lengths ranges.now) }
 {
     rooms.clear();
     for range in ranges {

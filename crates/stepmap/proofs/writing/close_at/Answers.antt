@@ -25,7 +25,7 @@ returns-clause-items c =
     let at = c.args.at in
     let key = c.args.key in
     let b : Boundary = record { key = key; version = c.args.version } in
-    let new_is : c.new.result ≡ b = c.new.ensures ∙ ap (λ v. record { key = key; version = v }) (to_z-of_z w64 c.args.version c.ranges.version) in
+    let new_is : c.new.result ≡ b = c.new.ensures.boundary ∙ ap (λ v. record { key = key; version = v }) (to_z-of_z w64 c.args.version c.ranges.version) in
     let items : c.insert.new.self.items ≡ insert xs at b = rw c.unwrap.ensures at c.insert.ensures.items ∙ ap (insert xs at) new_is in
     let closed : insert xs at b ≡ take at xs ++ closed_at key c.args.version (drop at xs) = elim c.else-at-len.branch [
       | else-at-len-via-then-at-len+else-is_le w ↦

@@ -4,7 +4,7 @@ use Rattle.std.proofs.lemmas.Int.{to_z-of_z}
 use mir.Syntax.{w64}
 use mir.Val.{SFits, to_z, of_z}
 use Rattle.stepmap.specs.StepMap.{Steps, AreSteps}
-use Rattle.stepmap.specs.Sweeping.{place_of, round_edge, rest, after_sweep, passed_to, left_from}
+use Rattle.stepmap.specs.Sweeping.{cursor_of, round_edge, rest, after_sweep, passed_to, left_from}
 use Rattle.stepmap.specs.Kept.{round_of}
 use Rattle.stepmap.proofs.Laws.{sweep_keeps}
 use Rattle.stepmap.proofs.Passing.{IsPass, ended_map, ended_rest, stopped_map, stopped_rest, began_is}
@@ -13,23 +13,23 @@ use Rattle.stepmap.proofs.step_map.StepMap.sweep.Goals.{After-len-2, After-unwra
 
 -- the map before, as the fields say
 old : (c : After-len-2) → Steps
-old c = record { boundaries = c.self.inside.boundaries.items; edge = c.self.inside.edge; ready = c.self.inside.rooms.items; round = round_of c.self.inside.place.items c.self.inside.round }
+old c = record { boundaries = c.self.inside.boundaries.items; edge = c.self.inside.edge; ready = c.self.inside.rooms.items; round = round_of c.self.inside.cursor.items c.self.inside.round }
 
 edge_is : (c : After-len-2) → to_z w64 (of_z w64 c.self.inside.edge) ≡ c.self.inside.edge
 edge_is c = let fits : SFits w64 c.self.inside.edge = search rules in to_z-of_z w64 c.self.inside.edge fits
 
-pass : (c : After-len-2) → IsPass (old c).edge (place_of (old c).round) c.args.count (old c).boundaries c.thin-next.new.boundaries.items c.place_left-from.result (c.place_left-from.result + c.min.result) c.thin-next.result
+pass : (c : After-len-2) → IsPass (old c).edge (cursor_of (old c).round) c.args.count (old c).boundaries c.thin-next.new.boundaries.items c.index_left-from.result (c.index_left-from.result + c.min.result) c.thin-next.result
 unfolding old
 pass c =
     let bs = c.self.inside.boundaries.items in
     record {
-      from_in = rw c.deref.ensures.value at c.place_left-from.ensures.bound;
-      before = (rw (c.deref.ensures.value, c.deref-2.ensures.value) at c.place_left-from.ensures.before) ∙ ap (λ p. passed_to p bs) (sym c.self.invariant.at_place);
-      left = (rw (c.deref.ensures.value, c.deref-2.ensures.value) at c.place_left-from.ensures.rest) ∙ ap (λ p. left_from p bs) (sym c.self.invariant.at_place);
+      from_in = rw c.deref.ensures.value at c.index_left-from.ensures.bound;
+      before = (rw (c.deref.ensures.value, c.deref-2.ensures.value) at c.index_left-from.ensures.before) ∙ ap (λ p. passed_to p bs) (sym c.self.invariant.at_cursor);
+      left = (rw (c.deref.ensures.value, c.deref-2.ensures.value) at c.index_left-from.ensures.rest) ∙ ap (λ p. left_from p bs) (sym c.self.invariant.at_cursor);
       to_is = omega (arith, c.min.ensures, c.len.ensures, c.self.inside.boundaries.ok.0);
       items = rw (edge_is c) at c.thin-next.ensures.items;
       unseen = c.thin-next.ensures.unseen;
-      next_in = omega (arith, c.thin-next.ensures.place, c.thin-next.new.boundaries.ok.0);
+      next_in = omega (arith, c.thin-next.ensures.next, c.thin-next.new.boundaries.ok.0);
     }
 
 -- where the round has ended
@@ -41,37 +41,37 @@ ended_few c e = ended_rest (old c) c.args.count c.thin-next.new.boundaries.items
 
 -- where it has stopped
 stop_in : (c : After-unwrap) → c.thin-next.result < length c.thin-next.new.boundaries.items
-stop_in c = let le = c.thin-next.ensures.place in let ne = c.if-next-len.false in omega (arith, c.len-2.ensures, c.thin-next.new.boundaries.ok.0)
+stop_in c = let le = c.thin-next.ensures.next in let ne = c.if-next-len.false in omega (arith, c.len-2.ensures, c.thin-next.new.boundaries.ok.0)
 
-place_is : (c : After-unwrap) → c.extend_from_slice.new.self.items ≡ c.index.result.now.key
-place_is c = (rw c.unwrap.ensures at c.extend_from_slice.ensures.items) ∙ ap (λ xs. xs ++ c.key.result.now) c.clear.ensures.items ∙ c.key.ensures.bytes
+cursor_is : (c : After-unwrap) → c.extend_from_slice.new.self.items ≡ c.index.result.now.key
+cursor_is c = (rw c.unwrap.ensures at c.extend_from_slice.ensures.items) ∙ ap (λ xs. xs ++ c.key.result.now) c.clear.ensures.items ∙ c.key.ensures.bytes
 
-began : (c : After-unwrap) → to_z w64 (of_z w64 c.unwrap_or-began.result) ≡ round_edge c.self.inside.edge (round_of c.self.inside.place.items c.self.inside.round)
+began : (c : After-unwrap) → to_z w64 (of_z w64 c.unwrap_or-began.result) ≡ round_edge c.self.inside.edge (round_of c.self.inside.cursor.items c.self.inside.round)
 began c =
     let fits : SFits w64 c.unwrap_or-began.result = search rules in
     let fits_edge : SFits w64 c.self.inside.edge = search rules in
-    to_z-of_z w64 c.unwrap_or-began.result fits ∙ c.unwrap_or-began.ensures ∙ ap (unwrap_or c.self.inside.round) (to_z-of_z w64 c.self.inside.edge fits_edge) ∙ began_is c.self.inside.edge c.self.inside.place.items c.self.inside.round
+    to_z-of_z w64 c.unwrap_or-began.result fits ∙ c.unwrap_or-began.ensures ∙ ap (unwrap_or c.self.inside.round) (to_z-of_z w64 c.self.inside.edge fits_edge) ∙ began_is c.self.inside.edge c.self.inside.cursor.items c.self.inside.round
 
 stopped : (c : After-unwrap) → Steps
 stopped c = record {
   boundaries = c.thin-next.new.boundaries.items;
   edge = c.self.inside.edge;
   ready = c.self.inside.rooms.items;
-  round = Some (record { place = c.extend_from_slice.new.self.items; edge = to_z w64 (of_z w64 c.unwrap_or-began.result) });
+  round = Some (record { cursor = c.extend_from_slice.new.self.items; edge = to_z w64 (of_z w64 c.unwrap_or-began.result) });
 }
 
 before : (c : After-unwrap) → Steps
-before c = record { boundaries = c.self.inside.boundaries.items; edge = c.self.inside.edge; ready = c.self.inside.rooms.items; round = round_of c.self.inside.place.items c.self.inside.round }
+before c = record { boundaries = c.self.inside.boundaries.items; edge = c.self.inside.edge; ready = c.self.inside.rooms.items; round = round_of c.self.inside.cursor.items c.self.inside.round }
 
-stopped_is : (c : After-unwrap) → (at : IsPass (before c).edge (place_of (before c).round) c.args.count (before c).boundaries c.thin-next.new.boundaries.items c.place_left-from.result (c.place_left-from.result + c.min.result) c.thin-next.result) → stopped c ≡ after_sweep c.args.count (before c)
+stopped_is : (c : After-unwrap) → (at : IsPass (before c).edge (cursor_of (before c).round) c.args.count (before c).boundaries c.thin-next.new.boundaries.items c.index_left-from.result (c.index_left-from.result + c.min.result) c.thin-next.result) → stopped c ≡ after_sweep c.args.count (before c)
 unfolding stopped before
 stopped_is c at =
-    ap (λ (p : List ℕ). record (stopped c) { round = Some (record { place = p; edge = to_z w64 (of_z w64 c.unwrap_or-began.result) }) }) (place_is c)
-    ∙ ap (λ (e : ℤ). record (stopped c) { round = Some (record { place = c.index.result.now.key; edge = e }) }) (began c)
+    ap (λ (p : List ℕ). record (stopped c) { round = Some (record { cursor = p; edge = to_z w64 (of_z w64 c.unwrap_or-began.result) }) }) (cursor_is c)
+    ∙ ap (λ (e : ℤ). record (stopped c) { round = Some (record { cursor = c.index.result.now.key; edge = e }) }) (began c)
     ∙ stopped_map (before c) c.args.count c.thin-next.new.boundaries.items _ _ c.thin-next.result at c.index.result.now (stop_in c) c.index.ensures
 
 pub index-requires : goal.index-requires
-index-requires c = let le = c.thin-next.ensures.place in let ne = c.if-next-len.false in omega (arith, c.len-2.ensures)
+index-requires c = let le = c.thin-next.ensures.next in let ne = c.if-next-len.false in omega (arith, c.len-2.ensures)
 
 pub invariant_of-self : goal.invariant_of-self
 unfolding old
@@ -81,7 +81,7 @@ invariant_of-self c =
       steps = (sweep_keeps c.args.count (old at) c.self.invariant.steps _ (ended_is at c.if-next-len.true)).steps;
       boundaries = omega (arith, c.self.invariant.boundaries, c.thin-next.ensures.len, c.thin-next.ensures.capacity);
       any_key = omega (arith, c.self.invariant.any_key, c.clear.ensures.capacity);
-      at_place = sym c.clear.ensures.items;
+      at_cursor = sym c.clear.ensures.items;
     }
 
 pub invariant_of-self-2 : goal.invariant_of-self-2
@@ -93,7 +93,7 @@ invariant_of-self-2 c =
       steps = (sweep_keeps c.args.count (before at) c.self.invariant.steps _ (stopped_is at pass)).steps;
       boundaries = omega (arith, c.self.invariant.boundaries, c.thin-next.ensures.len, c.thin-next.ensures.capacity);
       any_key = omega (arith, c.self.invariant.any_key, c.clear.ensures.capacity, c.extend_from_slice.ensures.capacity);
-      at_place = refl;
+      at_cursor = refl;
     }
 
 pub returns-then-next-len : goal.returns-then-next-len

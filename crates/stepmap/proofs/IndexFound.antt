@@ -7,14 +7,14 @@ use Rattle.std.proofs.lemmas.List.Elements.{filter_passes, All-weaker, All-head}
 use Rattle.keyspace.specs.Key.{is_before}
 use Rattle.keyspace.proofs.KeyOrder.{before_at_most, before_at_most_same}
 use Rattle.stepmap.specs.Boundary.{Boundary, AreInOrder, last_version, value_at}
-use Rattle.stepmap.specs.Places.{up_to, after}
+use Rattle.stepmap.specs.Indexes.{up_to, after}
 use Rattle.stepmap.proofs.Order.{not_before_empty, not_before_if}
 use Rattle.stepmap.proofs.Looking.{not_not}
 use Rattle.stepmap.proofs.Parting.{FallsAlongKeys, parted_at}
 use Rattle.stepmap.proofs.Values.{FirstAfter, value_back, value_after}
 
--- what is said of the place between two parts of which the first has the empty key
-pub record IsPlace (p q : Boundary → Bool) (bs : List Boundary) (i : ℕ) : Type 0 where
+-- what is said of the index between two parts of which the first has the empty key
+pub record IsBetween (p q : Boundary → Bool) (bs : List Boundary) (i : ℕ) : Type 0 where
   pub filled : 0 < i
   pub before : take i bs ≡ filter p bs
   pub rest : drop i bs ≡ filter q bs
@@ -24,8 +24,8 @@ filled_by p [] i o first e = absurd o
 filled_by p (b ∷ bs) zero o first e = let t = first b o.0 in let k : [] ≡ b ∷ filter p bs = rw t at e in cc
 filled_by p (b ∷ bs) (suc i) o first e = omega arith
 
-pub place_between : (p q : Boundary → Bool) → ((b : Boundary) → q b ≡ not (p b)) → FallsAlongKeys p → ((b : Boundary) → b.key ≡ [] → p b ≡ true) → (bs : List Boundary) (i : ℕ) → AreInOrder bs → i ≤ length bs → IsPartitionPoint (λ b. p b ≡ true) (λ b. p b ≡ false) bs i → IsPlace p q bs i
-place_between p q other falls first bs i o le point =
+pub index_between : (p q : Boundary → Bool) → ((b : Boundary) → q b ≡ not (p b)) → FallsAlongKeys p → ((b : Boundary) → b.key ≡ [] → p b ≡ true) → (bs : List Boundary) (i : ℕ) → AreInOrder bs → i ≤ length bs → IsPartitionPoint (λ b. p b ≡ true) (λ b. p b ≡ false) bs i → IsBetween p q bs i
+index_between p q other falls first bs i o le point =
     let parts = parted_at p q other falls bs i le point in
     record { filled = filled_by p bs i o first parts.0; before = parts.0; rest = parts.1 }
 
