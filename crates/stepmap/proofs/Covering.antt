@@ -1,37 +1,14 @@
 -- What keeps a step function standing for its writes.
-use Rattle.std.proofs.Common.{◌≡◌, ℕ, ◌-◌, ◌<◌, List, [], ◌∷◌, ◌++◌, length, get_or, refl, sym, ◌∙◌, ap, subst, inl, inr, ◌⊎◌, arith, length-append}
+use Rattle.std.proofs.Common.{◌≡◌, ℕ, List, [], ◌∷◌, ◌++◌, sym, subst, inl, inr, ◌⊎◌, arith}
 use Rattle.std.specs.Prelude.{ℤ, ◌≤ℤ◌, ◌<ℤ◌, Any}
-use Rattle.std.proofs.lemmas.Bool.{cases_lt}
 use Rattle.std.proofs.lemmas.Int.{ints}
 use Rattle.std.proofs.lemmas.List.Quantifiers.{Any-push}
-use Rattle.std.proofs.lemmas.List.{get_or_append_left, get_or-append_right}
 use Rattle.keyspace.specs.Range.{Holds}
 use Rattle.keyspace.specs.Writes.{Write}
 use Rattle.keyspace.specs.declared.range.Range.{Range}
 use Rattle.keyspace.proofs.KeyOrder.{before_or_at_most, not_both}
 use Rattle.stepmap.specs.Covers.{SameFrom, Covers}
-
-pub Any-weaker : {X : Type 0} (P Q : X → Type 0) → ((x : X) → P x → Q x) → (xs : List X) → Any P xs → Any Q xs
-Any-weaker P Q f xs a = (a.0, a.1, a.2, a.3, f a.1 a.4)
-
--- one more at the end
-pub Any-longer : {X : Type 0} (P : X → Type 0) (xs : List X) (y : X) → Any P xs → Any P (xs ++ y ∷ [])
-Any-longer P xs y a =
-    let lt : a.0 < length xs = a.2 in
-    (a.0, a.1, omega (arith, length-append xs (y ∷ [])), get_or_append_left xs (y ∷ []) a.1 a.0 lt ∙ a.3, a.4)
-
-pub Any-push_cases : {X : Type 0} (P : X → Type 0) (xs : List X) (y : X) → Any P (xs ++ y ∷ []) → Any P xs ⊎ P y
-Any-push_cases P xs y a =
-    let k = a.0 in
-    let x = a.1 in
-    let lt : k < length (xs ++ y ∷ []) = a.2 in
-    elim (cases_lt k (length xs)) [
-      | inl l ↦ inl (k, x, l, sym (get_or_append_left xs (y ∷ []) x k l) ∙ a.3, a.4)
-      | inr g ↦
-          let e : k - length xs ≡ 0 = omega (arith, length-append xs (y ∷ [])) in
-          let is : y ≡ x = sym (ap (λ i. get_or (y ∷ []) i x) e) ∙ (sym (get_or-append_right xs (y ∷ []) (length xs) k x refl g) ∙ a.3) in
-          inr (subst P (sym is) a.4)
-    ]
+use Rattle.stepmap.proofs.SomeElement.{Any-longer, Any-push_cases}
 
 pub covers_same : (f g : List ℕ → ℤ) (ws : List Write) (edge : ℤ) → SameFrom edge f g → Covers f ws edge → Covers g ws edge
 covers_same f g ws edge same covers key bytes s le =

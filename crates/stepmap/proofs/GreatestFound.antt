@@ -1,8 +1,8 @@
 -- The greatest value in a range.
-use Rattle.std.proofs.Common.{◌≡◌, ℕ, zero, suc, ◌+◌, ◌-◌, ◌<◌, ◌≤◌, true, false, not, List, [], ◌∷◌, ◌++◌, length, get_or, take, drop, map, fold, sym, ◌∙◌, ap, subst, inl, inr, arith, take-append-drop}
-use Rattle.std.specs.Prelude.{ℤ, negsuc, ◌≤ℤ◌, All, slice_range}
+use Rattle.std.proofs.Common.{◌≡◌, ℕ, zero, suc, ◌+◌, ◌-◌, ◌<◌, ◌≤◌, true, false, not, List, [], ◌∷◌, ◌++◌, length, get_or, take, drop, map, fold, sym, ◌∙◌, ap, subst, inl, inr, ◌⊎◌, arith, take-append-drop}
+use Rattle.std.specs.Prelude.{ℤ, negsuc, ◌≤ℤ◌, ◌<ℤ◌, All, Any, slice_range}
 use Rattle.std.specs.Int.{int_max}
-use Rattle.std.proofs.lemmas.Int.{fold-int_max_bounds, fold-int_max_reached}
+use Rattle.std.proofs.lemmas.Int.{ints, fold-int_max_bounds, fold-int_max_reached}
 use Rattle.std.proofs.lemmas.List.{drop-take, get_or-map, length-map}
 use Rattle.std.proofs.lemmas.List.Folds.{drop_split}
 use Rattle.std.proofs.lemmas.List.Elements.{All-head, All-tail, All-cons, All-nil, All-take, All-drop, filter_passes, All-weaker}
@@ -10,11 +10,13 @@ use Rattle.keyspace.specs.Key.{IsBytes, IsKey, is_before, IsBefore}
 use Rattle.keyspace.specs.Range.{Holds, IsEmpty}
 use Rattle.keyspace.specs.declared.range.Range.{Range}
 use Rattle.keyspace.proofs.KeyOrder.{at_most_before, at_most_trans, before_at_most_same, at_most_itself, not_before_itself}
+use Rattle.keyspace.proofs.Booleans.{true_or_false}
 use Rattle.stepmap.specs.Boundary.{Boundary, AreBoundaries, RiseFrom, value_at, value_from, last_version, below, from_on}
 use Rattle.stepmap.specs.Indexes.{up_to, after}
 use Rattle.stepmap.proofs.Order.{Rising, rising_from, rising_in_order, rising_filter, rise_above, not_before_if}
 use Rattle.stepmap.proofs.Values.{FirstAfter, first_after_all, value_after, value_front, value_back, value_has}
 use Rattle.stepmap.proofs.WritingValues.{begins_before_end}
+use Rattle.stepmap.proofs.SomeElement.{Any-first, Any-later}
 use Rattle.stepmap.proofs.Replacing.{filter_shorter, index_is}
 
 -- the value at a boundary's own key is its version
@@ -42,6 +44,20 @@ take_rising (suc n) (b ∷ bs) r = take_rise n b.key bs r
     take_rise zero k bs r = tt
     take_rise (suc n) k [] r = tt
     take_rise (suc n) k (b ∷ bs) r = (r.0, take_rise n b.key bs r.1)
+
+-- a value above a number is the one before, or that of some boundary
+value_some : (s v : ℤ) (bs : List Boundary) (key : List ℕ) → s <ℤ value_from v bs key → (s <ℤ v) ⊎ Any (λ b. s <ℤ b.version) bs
+value_some s v [] key l = inl l
+value_some s v (b ∷ bs) key l =
+    elim (true_or_false (is_before key b.key)) [
+      | inl t ↦ let k : s <ℤ v = rw t at l in inl k
+      | inr f ↦
+          let k : s <ℤ value_from b.version bs key = rw f at l in
+          elim (value_some s b.version bs key k) [
+            | inl own ↦ inr (Any-first (λ b. s <ℤ b.version) b bs own)
+            | inr a ↦ inr (Any-later (λ b. s <ℤ b.version) b bs a)
+          ]
+    ]
 
 -- where the search for the greatest value looks: after the range's begin and before its end
 pub record IsInside (range : Range) (bs : List Boundary) (from to : ℕ) : Type 0 where
@@ -117,3 +133,31 @@ module _ (range : Range) (filled : ¬ IsEmpty range) (bs : List Boundary) (h : A
         first_of : (ys : List Boundary) → All (λ b. IsBefore range.begin b.key) ys → FirstAfter range.begin ys
         first_of [] a = tt
         first_of (y ∷ ys) a = All-head (λ b. IsBefore range.begin b.key) y ys a
+
+  -- the function is above the number at the range's begin, or at some boundary inside, or nowhere in the range
+  module _ (v s : ℤ) (first : v ≡ last_version (negsuc 0) (take from bs)) where
+    pub above_at_begin : s <ℤ v → (key : List ℕ) × IsBytes key × Holds range key × (s <ℤ value_at bs key)
+    above_at_begin l =
+        let held : Holds range range.begin = (at_most_itself range.begin, begins_before_end range filled) in
+        let is : value_at bs range.begin ≡ v = value_inside range.begin held ∙ value_after (last_version (negsuc 0) (take from bs)) (slice_range bs from to) range.begin (first_after (slice_range bs from to) inside_later) ∙ sym first in
+        (range.begin, range.begin_is_key.bytes, held, subst (λ (x : ℤ). s <ℤ x) (sym is) l)
+      where
+        first_after : (ys : List Boundary) → All (λ b. IsBefore range.begin b.key) ys → FirstAfter range.begin ys
+        first_after [] a = tt
+        first_after (y ∷ ys) a = All-head (λ b. IsBefore range.begin b.key) y ys a
+
+    pub above_inside : Any (λ b. s <ℤ b.version) (slice_range bs from to) → (key : List ℕ) × IsBytes key × Holds range key × (s <ℤ value_at bs key)
+    above_inside a =
+        let ys = slice_range bs from to in
+        let k = a.0 in
+        let b = get_or ys k a.1 in
+        let lt : k < length ys = a.2 in
+        let held : Holds range b.key = (before_at_most_same range.begin b.key (inside_later k a.1 lt), inside_sooner k a.1 lt) in
+        let is : value_at bs b.key ≡ b.version = value_inside b.key held ∙ value_own (last_version (negsuc 0) (take from bs)) ys k a.1 inside_rising lt in
+        let own : b.version ≡ a.1.version = ap (λ (x : Boundary). x.version) a.3 in
+        (b.key, (inside_keys k a.1 lt).bytes, held, subst (λ (x : ℤ). s <ℤ x) (sym (is ∙ own)) a.4)
+
+    pub above_found : (key : List ℕ) × IsBytes key × Holds range key × (s <ℤ value_at bs key) → v ≤ℤ s → Any (λ b. s <ℤ b.version) (slice_range bs from to)
+    above_found a le =
+        let above = subst (λ (x : ℤ). s <ℤ x) (value_inside a.0 a.2 ∙ ap (λ x. value_from x (slice_range bs from to) a.0) (sym first)) a.3 in
+        elim (value_some s v (slice_range bs from to) a.0 above) [ inl l ↦ absurd (omega (arith, ints)) | inr b ↦ b ]

@@ -4,6 +4,7 @@ pub mod Values
 pub mod WritingValues
 pub mod WritingOrder
 pub mod Counting
+pub mod SomeElement
 pub mod Covering
 pub mod Rooting
 pub mod WritingRooted
@@ -17,4 +18,7 @@ pub mod Compacting
 pub mod Replacing
 pub mod GreatestFound
 pub mod Laws
+pub mod Rounds
+pub mod FewBoundaries
+pub mod Preparing
 pub mod Passing

@@ -1,5 +1,5 @@
 -- A whole sweep of a step map.
-use Rattle.std.proofs.Common.{◌≡◌, ◌≢◌, ℕ, not, List, [], ◌∷◌, ◌++◌, take, drop, refl, sym, ◌∙◌, ap, subst, inl, append_assoc, take-append-drop}
+use Rattle.std.proofs.Common.{◌≡◌, ◌≢◌, ℕ, not, List, [], ◌∷◌, ◌++◌, take, drop, refl, sym, ◌∙◌, ap, subst, inl, append_assoc, take-append-drop, length, ◌≤◌, arith, length-append}
 use Rattle.std.specs.Prelude.{ℤ, negsuc, ◌≤ℤ◌, All}
 use Rattle.std.proofs.lemmas.List.Elements.{All-append, All-cons, All-filter, All-take, All-drop}
 use Rattle.keyspace.specs.Key.{IsBefore}
@@ -9,7 +9,7 @@ use Rattle.stepmap.specs.Sweeping.{thinned, is_left, left_from, passed_to, swept
 use Rattle.stepmap.specs.Rooted.{IsEndOf, Ends, AreRooted}
 use Rattle.stepmap.proofs.Order.{rising_in_order, rising_from, rise_filter, rise_swap, rise_middle}
 use Rattle.stepmap.proofs.Rooting.{rooted_front, rooted_back, rooted_join}
-use Rattle.stepmap.proofs.Thinned.{SameOrBelow, thinned_has, thinned_rises, thinned_values, values_after, thinned_rooted, thinned_ends}
+use Rattle.stepmap.proofs.Thinned.{SameOrBelow, thinned_has, thinned_rises, thinned_values, values_after, thinned_rooted, thinned_ends, thinned_shorter}
 use Rattle.stepmap.proofs.Looking.{parted_left, empty_passed, ends_passed}
 
 module _ (edge : ℤ) (cursor : List ℕ) (count : ℕ) where
@@ -35,6 +35,12 @@ module _ (edge : ℤ) (cursor : List ℕ) (count : ℕ) where
       All-append P (passed_to cursor bs) (thinned edge (last_passed bs) (looked bs) ++ unseen bs) (All-filter (λ b. not (is_left cursor b)) P bs a)
       (All-append P (thinned edge (last_passed bs) (looked bs)) (unseen bs)
       (thinned_has P edge (last_passed bs) (looked bs) (All-take P count (left_from cursor bs) left)) (All-drop P count (left_from cursor bs) left))
+
+  -- it only removes
+  pub swept_shorter : (bs : List Boundary) → AreInOrder bs → length (new_of bs) ≤ length bs
+  swept_shorter bs o =
+      let fewer = thinned_shorter edge (last_passed bs) (looked bs) in
+      simp length-append (omega (arith, fewer, simp length-append at (ap length (in_parts bs o))))
 
   -- the parts after the empty key
   rise_parts : (b : Boundary) (bs : List Boundary) → AreInOrder (b ∷ bs) → RiseFrom b.key (passed_to cursor bs ++ (looked bs ++ unseen bs))

@@ -14,7 +14,7 @@ use Rattle.stepmap.proofs.Order.{not_empty_if_after}
 use Rattle.stepmap.proofs.WritingOrder.{below_empty}
 use Rattle.stepmap.proofs.Thinned.{same_above}
 use Rattle.stepmap.proofs.Looking.{below_middle, left_middle}
-use Rattle.stepmap.proofs.Sweeps.{swept_has, swept_in_order, swept_values, swept_rooted, passed_now_ends, stands}
+use Rattle.stepmap.proofs.Sweeps.{swept_has, swept_shorter, swept_in_order, swept_values, swept_rooted, passed_now_ends, stands}
 
 -- the edge with which the round began isn't above the map's
 pub round_edge_low : (edge : ℤ) (round : Option Round) → IfSome round (IsRound edge) → round_edge edge round ≤ℤ edge
@@ -47,7 +47,15 @@ module _ (count : ℕ) (m : Steps) (h : AreSteps m) where
           versions = swept_has m.edge (cursor_of m.round) count (λ b. negsuc 0 ≤ℤ b.version) m.boundaries h.boundaries.versions;
         };
         round = round_for (drop count (left_from (cursor_of m.round) m.boundaries)) refl;
+        within = (let shorter = swept_shorter m.edge (cursor_of m.round) count m.boundaries h.boundaries.in_order in omega (arith, h.within));
+        limit = h.limit;
       }
+
+  pub swept_count : length (after_sweep count m).boundaries ≤ length m.boundaries
+  swept_count = swept_shorter m.edge (cursor_of m.round) count m.boundaries h.boundaries.in_order
+
+  pub swept_ends_stay : (ws : List Write) (e : ℤ) → Ends m.boundaries ws e → Ends (after_sweep count m).boundaries ws e
+  swept_ends_stay ws e ends = swept_has m.edge (cursor_of m.round) count (λ b. b.key ≢ [] → IsEndOf ws e b.key) m.boundaries ends
 
   pub swept_same : SameFrom m.edge (value_at m.boundaries) (value_at (after_sweep count m).boundaries)
   swept_same key bytes s le = same_above m.edge _ _ (swept_values m.edge (cursor_of m.round) count m.boundaries key h.boundaries.in_order) s le

@@ -1,5 +1,5 @@
 -- What a sweep keeps of the boundaries that it comes by.
-use Rattle.std.proofs.Common.{◌≡◌, ◌≢◌, ℕ, Bool, true, false, ◌&&◌, List, [], ◌∷◌, ◌++◌, refl, sym, subst, inl, inr, ◌⊎◌, arith}
+use Rattle.std.proofs.Common.{◌≡◌, ◌≢◌, ℕ, Bool, true, false, ◌&&◌, List, [], ◌∷◌, ◌++◌, refl, sym, subst, inl, inr, ◌⊎◌, ◌≤◌, length, arith}
 use Rattle.std.specs.Prelude.{ℤ, ◌≤ℤ◌, ◌<ℤ◌, ◌↔◌, int_lt, All}
 use Rattle.std.specs.Int.{int_max}
 use Rattle.std.proofs.lemmas.Int.{ints, clamps}
@@ -26,10 +26,10 @@ below_too : (edge a b : ℤ) → SameOrBelow edge a b → a <ℤ edge → b <ℤ
 below_too edge a b (inl e) l = subst (λ x. x <ℤ edge) e l
 below_too edge a b (inr (x, y)) l = y
 
-lt_from_test : (a b : ℤ) → int_lt a b ≡ true → a <ℤ b
+pub lt_from_test : (a b : ℤ) → int_lt a b ≡ true → a <ℤ b
 lt_from_test a b h = grind (arith, ints)
 
-le_from_test : (a b : ℤ) → int_lt a b ≡ false → b ≤ℤ a
+pub le_from_test : (a b : ℤ) → int_lt a b ≡ false → b ≤ℤ a
 le_from_test a b h = grind (arith, ints)
 
 -- whether a boundary goes
@@ -53,6 +53,12 @@ thinned_has P edge before [] a = All-nil P
 thinned_has P edge before (b ∷ bs) a =
     let ih = thinned_has P edge b.version bs (All-tail P b bs a) in
     elim (true_or_false (goes edge before b)) [ inl t ↦ rw t ih | inr f ↦ rw f (All-cons P b (thinned edge b.version bs) (All-head P b bs a) ih) ]
+
+pub thinned_shorter : (edge before : ℤ) (bs : List Boundary) → length (thinned edge before bs) ≤ length bs
+thinned_shorter edge before [] = omega arith
+thinned_shorter edge before (b ∷ bs) =
+    let ih = thinned_shorter edge b.version bs in
+    elim (true_or_false (goes edge before b)) [ inl t ↦ rw t (omega arith) | inr f ↦ rw f (omega arith) ]
 
 pub thinned_rises : (edge before : ℤ) (k : List ℕ) (bs cs : List Boundary) → RiseFrom k (bs ++ cs) → RiseFrom k (thinned edge before bs ++ cs)
 thinned_rises edge before k [] cs r = r

@@ -1,5 +1,5 @@
 -- What holds of a step map after a range was written.
-use Rattle.std.proofs.Common.{◌≡◌, ◌≢◌, ◌+◌, ◌≤◌, Bool, true, List, [], ◌∷◌, ◌++◌, filter, inl, inr, arith}
+use Rattle.std.proofs.Common.{◌≡◌, ◌≢◌, ◌+◌, ◌<◌, ◌≤◌, Bool, true, List, [], ◌∷◌, ◌++◌, length, filter, inl, inr, arith, length-drop}
 use Rattle.std.specs.Prelude.{ℤ, negsuc, ◌≤ℤ◌, All, Option, Some, None, IfSome}
 use Rattle.std.proofs.lemmas.Int.{ints}
 use Rattle.std.proofs.lemmas.List.Elements.{All-head, All-tail, All-cons, All-nil, All-weaker}
@@ -18,7 +18,7 @@ use Rattle.stepmap.proofs.Order.{rising_in_order}
 use Rattle.stepmap.proofs.Values.{value_has}
 use Rattle.stepmap.proofs.WritingValues.{value_in, value_elsewhere, written_has}
 use Rattle.stepmap.proofs.WritingOrder.{written_boundaries}
-use Rattle.stepmap.proofs.Counting.{written_count}
+use Rattle.stepmap.proofs.Counting.{written_count, written_length}
 use Rattle.stepmap.proofs.Covering.{covers_write}
 use Rattle.stepmap.proofs.Rooting.{end_longer}
 use Rattle.stepmap.proofs.WritingRooted.{written_rooted, begin_is_end, end_is_end}
@@ -62,8 +62,15 @@ module _ (range : Range) (filled : ¬ IsEmpty range) (v : ℤ) (m : Steps) (h : 
   pub version_low : negsuc 0 ≤ℤ v
   version_low = low_from m.boundaries h.boundaries top
 
-  pub written_steps : AreSteps (after_write range v m)
-  written_steps = record { boundaries = written_boundaries range filled v m.boundaries version_low h.boundaries; round = h.round }
+  pub written_steps : 0 < length m.ready → AreSteps (after_write range v m)
+  written_steps lt =
+      let count = written_length range filled v m.boundaries in
+      record {
+        boundaries = written_boundaries range filled v m.boundaries version_low h.boundaries;
+        round = h.round;
+        within = omega (arith, h.within, length-drop 1 m.ready);
+        limit = h.limit;
+      }
 
   pub written_up_to : AreUpTo v (after_write range v m).boundaries
   written_up_to =

@@ -3,7 +3,9 @@ pub mod Boundary
 pub mod StepMap
 pub mod Writing
 pub mod Sweeping
+pub mod Limit
 pub mod Covers
 pub mod Rooted
+pub mod Counting
 pub mod Indexes
 pub mod Kept

@@ -1,4 +1,4 @@
-ghost use Rattle.std.specs.Prelude.{◌≡◌, ℕ, ◌≤ℤ◌, List, fold, map};
+ghost use Rattle.std.specs.Prelude.{◌≡◌, ℕ, ◌≤ℤ◌, ◌<ℤ◌, ◌↔◌, List, fold, map, Any, IsTrue};
 ghost use Rattle.std.specs.Int.{int_max};
 ghost use Rattle.keyspace.specs.Key.{IsBytes};
 ghost use Rattle.keyspace.specs.Range.{Holds, IsEmpty};
@@ -31,4 +31,26 @@ fn greatest_from(version: i64, boundaries: &[Boundary]) -> i64
         greatest = greatest.max(boundary.version());
     }
     greatest
+}
+
+// Returns whether the version at some key of the range, which isn't empty, is above this one.
+pub fn is_above(boundaries: &[Boundary], range: &Range, version: i64) -> bool
+    requires boundaries { AreBoundaries boundaries.now }
+    requires filled { ¬ IsEmpty range.now }
+    ensures above { IsTrue result ↔ ((key : List ℕ) × IsBytes key × Holds range.now key
+        × (version <ℤ value_at boundaries.now key)) }
+{
+    let from = index_after(boundaries, range.begin.as_bytes());
+    let to = index_of(boundaries, range.end.as_bytes());
+    let at_begin = boundaries[from - 1].version();
+    at_begin > version || any_above(&boundaries[from..to], version)
+}
+
+// Returns whether the version of some of the boundaries is above this one.
+fn any_above(boundaries: &[Boundary], version: i64) -> bool
+    ensures above { IsTrue result ↔ Any (λ b. version <ℤ b.version) boundaries.now }
+{
+    boundaries
+        .iter()
+        .any(|boundary| boundary.version() > version)
 }

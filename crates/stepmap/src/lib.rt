@@ -18,7 +18,7 @@ mod thinning;
 mod writing;
 
 pub use error::StepError;
-pub use step_map::{StepMap, SweepEnd};
+pub use step_map::{MAX_LIMIT, StepMap, SweepEnd};
 
 #[cfg(test)]
 mod tests;

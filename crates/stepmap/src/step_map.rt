@@ -1,4 +1,4 @@
-ghost use Rattle.std.specs.Prelude.{◌≡◌, ℕ, ◌+◌, ◌≤◌, ℤ, negsuc, ◌≤ℤ◌, ◌↔◌, List, [], length, map, slice_get, Some, None, IfOk, OnOk, OnErr};
+ghost use Rattle.std.specs.Prelude.{◌≡◌, ℕ, ◌+◌, ◌*◌, ◌≤◌, ◌<◌, nat_le, ℤ, negsuc, ◌≤ℤ◌, ◌↔◌, List, [], length, map, slice_get, Some, None, Err, IfOk, OnOk, OnErr, IfErr, IsTrue};
 ghost use Rattle.keyspace.specs.Key.{IsBytes};
 ghost use Rattle.keyspace.specs.Range.{Holds, IsEmpty};
 ghost use Rattle.keyspace.specs.Writes.{Write};
@@ -6,12 +6,14 @@ ghost use Rattle.stepmap.specs.Boundary.{value_at, AreUpTo};
 ghost use Rattle.stepmap.specs.StepMap.{lengths, new_map, AreSteps};
 ghost use Rattle.stepmap.specs.Writing.{AreApart, after_write};
 ghost use Rattle.stepmap.specs.Sweeping.{rest, round_edge, after_sweep};
-ghost use Rattle.stepmap.specs.Covers.{SameFrom, MapCovers, with_write};
+ghost use Rattle.stepmap.specs.Limit.{HasRoomFor, after_round, made_room, prepared};
+ghost use Rattle.stepmap.specs.Covers.{SameFrom, MapCovers, IsAbove, with_write};
 ghost use Rattle.stepmap.specs.Rooted.{Ends, Rooted};
+ghost use Rattle.stepmap.specs.Counting.{live_count};
 
 use crate::boundary::Boundary;
 use crate::error::StepError;
-use crate::greatest::greatest_version;
+use crate::greatest::{greatest_version, is_above};
 use crate::indexes::{index_left, version_at};
 use crate::room::Room;
 use crate::thinning::thin;
@@ -20,6 +22,9 @@ use keyspace::{Key, MAX_KEY_LENGTH, Range};
 use std::alloc::{AllocError, Global};
 use std::collections::VecDeque;
 use std::marker::Model;
+
+/// The greatest limit on the boundaries of a step map: this project's own.
+pub const MAX_LIMIT: usize = 16_777_216;
 
 /// How a sweep ended.
 #[derive(Clone, Copy, Debug, PartialEq, Eq, Hash)]
@@ -40,28 +45,33 @@ pub struct StepMap {
     rooms: VecDeque<Room>,
     cursor: Vec<u8>,
     round: Option<i64>,
+    limit: usize,
 }
 
 impl Model for StepMap {
     ghost use Rattle.std.specs.Prelude.{vec_len, vec_capacity};
     ghost use Rattle.stepmap.specs.StepMap.{Steps};
-    ghost use Rattle.stepmap.specs.Kept.{steps_of, HasRoom};
+    ghost use Rattle.stepmap.specs.Kept.{steps_of, IsKept};
 
     ghost Value = { Steps };
 
-    ghost view = { λ m. steps_of m.boundaries.items m.edge m.rooms.items m.cursor.items m.round };
+    ghost view = { λ m. steps_of m.boundaries.items m.edge m.rooms.items m.cursor.items m.round m.limit };
 
-    ghost invariant = { λ m. HasRoom (steps_of m.boundaries.items m.edge m.rooms.items m.cursor.items m.round)
+    ghost invariant = { λ m. IsKept
+        (steps_of m.boundaries.items m.edge m.rooms.items m.cursor.items m.round m.limit)
         m.cursor.items (vec_len m.boundaries) (vec_capacity m.boundaries) (vec_capacity m.cursor) };
 }
 
 impl StepMap {
-    /// Makes the function that is -1 everywhere, with the edge 0.
-    pub fn new(alloc: Global) -> Result<Self, StepError>
-        ensures map { IfOk result (λ map. map ≡ new_map) }
+    /// Makes the function that is -1 everywhere, with the edge 0. There will be at most `limit` boundaries.
+    pub fn new(alloc: Global, limit: usize) -> Result<Self, StepError>
+        requires least { 1 ≤ limit }
+        requires most { limit ≤ MAX_LIMIT }
+        ensures map { IfOk result (λ map. map ≡ new_map limit) }
         ensures everywhere { IfOk result (λ map. (key : List ℕ) → value_at map.boundaries key ≡ negsuc 0) }
         ensures covers { IfOk result (λ map. MapCovers map []) }
         ensures rooted { IfOk result (λ map. Rooted map []) }
+        ensures err { IfErr result (λ error. error ≡ StepError.Memory) }
     {
         let cursor = Vec::with_capacity(alloc, MAX_KEY_LENGTH)?;
         let mut boundaries = Vec::with_capacity(alloc, 1)?;
@@ -74,6 +84,7 @@ impl StepMap {
             rooms: VecDeque::new(alloc),
             cursor,
             round: None,
+            limit,
         })
     }
 
@@ -97,6 +108,13 @@ impl StepMap {
         greatest_version(&self.boundaries, range)
     }
 
+    /// Returns whether the version at some key of the range is above this one; false if the range is empty.
+    pub fn exceeds(&self, range: &Range, version: i64) -> bool
+        ensures above { IsTrue result ↔ IsAbove self.now range.now version }
+    {
+        !range.is_empty() && is_above(&self.boundaries, range, version)
+    }
+
     /// Returns the number of boundaries, that at the empty key included.
     pub fn boundaries(&self) -> usize
         ensures count { result ≡ length self.now.boundaries }
@@ -106,23 +124,31 @@ impl StepMap {
     }
 
     /// Takes all the memory that the writing of the ranges needs, in place of what was taken before. The ranges are those
-    /// to be written next, in order; they, or others whose ends have the same lengths, can then be written.
+    /// to be written next, in order; they, or others whose ends have the same lengths, can then be written. Where the
+    /// boundaries, and two for each range, exceed the limit, it sweeps a whole round first.
+    ///
+    /// Answers `Full` where they still exceed it, before any memory is taken. After a refusal no range is ready.
     pub fn prepare(&mut self, ranges: &[Range]) -> Result<(), StepError>
         requires apart { AreApart ranges.now }
-        ensures ok { OnOk result (self.new ≡ record self.old { ready = map lengths ranges.now }) }
-        ensures err { OnErr result (self.new ≡ record self.old { ready = [] }) }
+        ensures ok { OnOk result (self.new ≡ prepared ranges.now self.old) }
+        ensures err { OnErr result (self.new ≡ record (prepared ranges.now self.old) { ready = [] }) }
+        ensures full { (result ≡ Err StepError.Full)
+            ↔ ¬ HasRoomFor (length ranges.now) (made_room (length ranges.now) self.old) }
+        ensures same { SameFrom self.old.edge (value_at self.old.boundaries) (value_at self.new.boundaries) }
+        ensures newest { (version : ℤ) → AreUpTo version self.old.boundaries → AreUpTo version self.new.boundaries }
         ensures covers { (ws : List Write) → MapCovers self.old ws → MapCovers self.new ws }
         ensures rooted { (ws : List Write) → Rooted self.old ws → Rooted self.new ws }
+        ensures ends { ¬ HasRoomFor (length ranges.now) self.old → (ws : List Write) → Rooted self.old ws
+            → Ends self.new.boundaries ws self.old.edge }
+        ensures bound { result ≡ Err StepError.Full → (ws : List Write) → Rooted self.old ws
+            → self.old.limit < 1 + 2 * (live_count self.old.edge ws + length ranges.now) }
     {
-        let made = make_rooms(&mut self.rooms, self.alloc, ranges);
-        let reserved = match made {
-            Ok(()) => self.boundaries.reserve(2 * ranges.len()),
-            Err(refused) => Err(refused),
-        };
-        if let Err(refused) = reserved {
+        self.make_room(ranges.len());
+        if !self.has_room_for(ranges.len()) {
             self.rooms.clear();
-            return Err(StepError::from(refused));
+            return Err(StepError::Full);
         }
+        self.reserve(ranges)?;
         Ok(())
     }
 
@@ -172,8 +198,11 @@ impl StepMap {
         ensures rooted { (ws : List Write) → Rooted self.old ws → Rooted self.new ws }
         ensures ends { result ≡ SweepEnd.Round → (ws : List Write) → Rooted self.old ws
             → Ends self.new.boundaries ws (round_edge self.old.edge self.old.round) }
+        ensures ends_stay { (ws : List Write) (edge : ℤ)
+            → Ends self.old.boundaries ws edge → Ends self.new.boundaries ws edge }
         ensures front { result ≡ SweepEnd.Round → self.new.round ≡ None }
         ensures fewer { result ≡ SweepEnd.Stopped → rest self.new + count ≡ rest self.old }
+        ensures count { length self.new.boundaries ≤ length self.old.boundaries }
     {
         let from = index_left(&self.boundaries, &self.cursor);
         let to = from + count.min(self.boundaries.len() - from);
@@ -189,6 +218,51 @@ impl StepMap {
             .unwrap();
         self.round = Some(began);
         SweepEnd::Stopped
+    }
+
+    // Returns whether the boundaries, and two for each of so many ranges, are within the limit.
+    fn has_room_for(&self, ranges: usize) -> bool
+        ensures room { result ≡ nat_le (length self.now.boundaries + 2 * ranges) self.now.limit }
+        ensures steps { AreSteps self.now }
+    {
+        ranges <= (self.limit - self.boundaries.len()) / 2
+    }
+
+    // Sweeps a whole round, unless there is room for so many ranges.
+    fn make_room(&mut self, ranges: usize)
+        ensures map { self.new ≡ made_room ranges self.old }
+        ensures steps { AreSteps self.old }
+    {
+        if !self.has_room_for(ranges) {
+            self.sweep_round();
+        }
+    }
+
+    // Sweeps a whole round from the front, wherever the cursor is; the next sweep begins at the front.
+    fn sweep_round(&mut self)
+        ensures map { self.new ≡ after_round self.old }
+    {
+        self.round = None;
+        self.cursor.clear();
+        let count = self.boundaries.len();
+        self.sweep(count);
+    }
+
+    // Takes the memory that the writing of the ranges needs, in place of what was taken before.
+    fn reserve(&mut self, ranges: &[Range]) -> Result<(), AllocError>
+        requires room { HasRoomFor (length ranges.now) self.old }
+        ensures ok { OnOk result (self.new ≡ record self.old { ready = map lengths ranges.now }) }
+        ensures err { OnErr result (self.new ≡ record self.old { ready = [] }) }
+    {
+        let made = make_rooms(&mut self.rooms, self.alloc, ranges);
+        let reserved = match made {
+            Ok(()) => self.boundaries.reserve(2 * ranges.len()),
+            Err(refused) => Err(refused),
+        };
+        if reserved.is_err() {
+            self.rooms.clear();
+        }
+        reserved
     }
 }
 

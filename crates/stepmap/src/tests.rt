@@ -3,7 +3,7 @@ ghost use Rattle.std.specs.Prelude.{◌≡◌, ◌≤◌, ℤ, ◌≤ℤ◌, pos
 ghost use Rattle.keyspace.specs.Key.{IsBefore, IsAtMost};
 ghost use Rattle.stepmap.specs.Boundary.{AreUpTo};
 
-use crate::{StepError, StepMap, SweepEnd};
+use crate::{MAX_LIMIT, StepError, StepMap, SweepEnd};
 use keyspace::{Key, Range};
 use std::alloc::Global;
 use std::process::Abort;
@@ -58,7 +58,7 @@ fn two_writes(rt: &impl Abort, alloc: Global) -> Result<StepMap, StepError>
 {
     let a_to_d = range(alloc, b"a", b"d")?;
     let b_to_c = range(alloc, b"b", b"c")?;
-    let mut map = StepMap::new(alloc)?;
+    let mut map = StepMap::new(alloc, MAX_LIMIT)?;
     put(
         rt,
         &mut map,

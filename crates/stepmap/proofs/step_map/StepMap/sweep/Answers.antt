@@ -13,7 +13,13 @@ use Rattle.stepmap.proofs.step_map.StepMap.sweep.Goals.{After-len-2, After-unwra
 
 -- the map before, as the fields say
 old : (c : After-len-2) → Steps
-old c = record { boundaries = c.self.inside.boundaries.items; edge = c.self.inside.edge; ready = c.self.inside.rooms.items; round = round_of c.self.inside.cursor.items c.self.inside.round }
+old c = record {
+  boundaries = c.self.inside.boundaries.items;
+  edge = c.self.inside.edge;
+  ready = c.self.inside.rooms.items;
+  round = round_of c.self.inside.cursor.items c.self.inside.round;
+  limit = c.self.inside.limit;
+}
 
 edge_is : (c : After-len-2) → to_z w64 (of_z w64 c.self.inside.edge) ≡ c.self.inside.edge
 edge_is c = let fits : SFits w64 c.self.inside.edge = search rules in to_z-of_z w64 c.self.inside.edge fits
@@ -58,10 +64,17 @@ stopped c = record {
   edge = c.self.inside.edge;
   ready = c.self.inside.rooms.items;
   round = Some (record { cursor = c.extend_from_slice.new.self.items; edge = to_z w64 (of_z w64 c.unwrap_or-began.result) });
+  limit = c.self.inside.limit;
 }
 
 before : (c : After-unwrap) → Steps
-before c = record { boundaries = c.self.inside.boundaries.items; edge = c.self.inside.edge; ready = c.self.inside.rooms.items; round = round_of c.self.inside.cursor.items c.self.inside.round }
+before c = record {
+  boundaries = c.self.inside.boundaries.items;
+  edge = c.self.inside.edge;
+  ready = c.self.inside.rooms.items;
+  round = round_of c.self.inside.cursor.items c.self.inside.round;
+  limit = c.self.inside.limit;
+}
 
 stopped_is : (c : After-unwrap) → (at : IsPass (before c).edge (cursor_of (before c).round) c.args.count (before c).boundaries c.thin-next.new.boundaries.items c.index_left-from.result (c.index_left-from.result + c.min.result) c.thin-next.result) → stopped c ≡ after_sweep c.args.count (before c)
 unfolding stopped before
@@ -113,6 +126,8 @@ returns-then-next-len c =
       ends = λ _. keeps.ends few;
       front = λ _. refl;
       fewer = λ other. cc;
+      ends_stay = keeps.ends_stay;
+      count = keeps.no_more;
     }
 
 pub returns : goal.returns
@@ -133,4 +148,6 @@ returns c =
       ends = λ other. cc;
       front = λ other. cc;
       fewer = λ _. keeps.fewer more;
+      ends_stay = keeps.ends_stay;
+      count = keeps.no_more;
     }
