@@ -17,7 +17,7 @@ returns-clause-text c =
     rw (
       c.in_ok-put_txns.ensures.text,
       c.as_slice.ensures,
-      c.in_ok-put_u16.ensures,
+      c.in_ok-put_u16.ensures.text,
       c.in_ok-put_i64-3.ensures.text,
       c.in_ok-put_i64-2.ensures.text,
       c.in_ok-put_i64.ensures.text,

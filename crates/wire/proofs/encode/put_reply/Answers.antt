@@ -15,7 +15,7 @@ returns-clause-text c =
     rw (
       c.in_ok-put_entries.ensures.text,
       c.as_slice.ensures,
-      c.in_ok-put_u16.ensures,
+      c.in_ok-put_u16.ensures.text,
       c.in_ok-put_i64.ensures.text,
       c.in_ok-push.ensures.items,
       to_z-of_z w64 c.args.reply.now.version fits,
