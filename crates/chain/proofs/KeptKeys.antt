@@ -1,5 +1,35 @@
 -- What is kept at each key: in a `BTreeMap`, and in the finite map of its entries.
-use Rattle.std.proofs.Common.{◌≡◌, ℕ, ℤ, ◌≤ℤ◌, pos, Bool, true, false, cond, not, ◌&&◌, ◌==◌, int_le, List, [], ◌∷◌, Option, Some, None, IsTrue, IfSome, option_copied, Bor, if◌then◌else◌, refl, sym, ap, ◌∙◌, arith}
+use Rattle.std.proofs.Common.{
+  ◌≡◌,
+  ℕ,
+  ℤ,
+  ◌≤ℤ◌,
+  pos,
+  Bool,
+  true,
+  false,
+  cond,
+  not,
+  ◌&&◌,
+  ◌==◌,
+  int_le,
+  List,
+  [],
+  ◌∷◌,
+  Option,
+  Some,
+  None,
+  IsTrue,
+  IfSome,
+  option_copied,
+  Bor,
+  if◌then◌else◌,
+  refl,
+  sym,
+  ap,
+  ◌∙◌,
+  arith,
+}
 use Rattle.std.specs.declared.ops.Bound.TheVariants.{Included}
 use Rattle.std.specs.Ordering.{nat_cmp, int_cmp, int_eq, is_gt}
 use Rattle.std.specs.Cmp.{IsTotalOrder, eq_by_cmp_equiv, nat_cmp_total, int_cmp_total}
@@ -8,7 +38,13 @@ use Rattle.std.specs.BTreeMap.{BTreeMap, is_at}
 use Rattle.std.specs.BTreeMap.Range.{IsInRange}
 use Rattle.std.specs.FinMap as map
 use Rattle.std.specs.Map.{lookup}
-use Rattle.std.proofs.lemmas.Bool.Decides.{Decides-and, Decides-eqb, Decides-int_eq, same_from_decides, nat_tests}
+use Rattle.std.proofs.lemmas.Bool.Decides.{
+  Decides-and,
+  Decides-eqb,
+  Decides-int_eq,
+  same_from_decides,
+  nat_tests,
+}
 use Rattle.std.proofs.lemmas.Cmp.{on_total, then_total}
 use Rattle.std.proofs.lemmas.Int.{ints}
 use Rattle.std.proofs.lemmas.Map.Lookups.{CmpEqualImpliesEq, exact_pairs, exact_unsigned, exact_signed}
@@ -36,18 +72,22 @@ pub get-map_of : (m : BTreeMap (ℕ × ℤ) Reply) (q : ℕ × ℤ) → map.get 
 get-map_of m q = map.get-from_entries keys_total m.entries q ∙ find_key m.entries q
 
 -- a version that a call was given as bits
-pub at_version : (m n : BTreeMap (ℕ × ℤ) Reply) (proxy : ℕ) (version given : ℤ) (x : Option Reply) → given ≡ version
+pub at_version : (m n : BTreeMap (ℕ × ℤ) Reply) (proxy : ℕ) (version given : ℤ) (x : Option Reply)
+    → given ≡ version
     → ((q : ℕ × ℤ) → tree.get key_cmp n q ≡ cond (is_at (key_cmp (proxy, given)) q) x (tree.get key_cmp m q))
     → (q : ℕ × ℤ) → tree.get key_cmp n q ≡ cond (is_at (key_cmp (proxy, version)) q) x (tree.get key_cmp m q)
-at_version m n proxy version given x same h q = h q ∙ ap (λ v. cond (is_at (key_cmp (proxy, v)) q) x (tree.get key_cmp m q)) same
+at_version m n proxy version given x same h q =
+    h q ∙ ap (λ v. cond (is_at (key_cmp (proxy, v)) q) x (tree.get key_cmp m q)) same
 
 -- a reply that is put into the tree is put into the map
 pub map_of-put : (m n : BTreeMap (ℕ × ℤ) Reply) (s : ℕ × ℤ) (r : Reply)
     → ((q : ℕ × ℤ) → tree.get key_cmp n q ≡ cond (is_at (key_cmp s) q) (Some r) (tree.get key_cmp m q))
     → map_of n ≡ map.insert (map_of m) s r
 map_of-put m n s r h = map.same_map keys_total keys_exact _ _ (λ q.
-    get-map_of n q ∙ h q ∙ ap (λ b. cond b (Some r) (tree.get key_cmp m q)) ((eq_by_cmp_equiv keys_total).symm s q)
-    ∙ sym (map.get-insert keys_total (map_of m) s r q ∙ ap (cond (is_at (key_cmp q) s) (Some r)) (get-map_of m q)))
+    get-map_of n q ∙ h q
+    ∙ ap (λ b. cond b (Some r) (tree.get key_cmp m q)) ((eq_by_cmp_equiv keys_total).symm s q)
+    ∙ sym (map.get-insert keys_total (map_of m) s r q
+    ∙ ap (cond (is_at (key_cmp q) s) (Some r)) (get-map_of m q)))
 
 cond-not : (b : Bool) (o : Option Reply) → cond b None o ≡ cond (not b) o None
 cond-not true o = refl
@@ -58,21 +98,24 @@ pub map_of-dropped : (m n : BTreeMap (ℕ × ℤ) Reply) (proxy : ℕ) (version 
     → ((q : ℕ × ℤ) → tree.get key_cmp n q ≡ (if is_up_to proxy version q then None else tree.get key_cmp m q))
     → map_of n ≡ map.retain_keys (map_of m) (λ key. not (is_up_to proxy version key))
 map_of-dropped m n proxy version h = map.same_map keys_total keys_exact _ _ (λ q.
-    get-map_of n q ∙ h q ∙ ap (cond (is_up_to proxy version q) None) (sym (get-map_of m q)) ∙ cond-not (is_up_to proxy version q) (map.get (map_of m) q)
+    get-map_of n q ∙ h q ∙ ap (cond (is_up_to proxy version q) None) (sym (get-map_of m q))
+    ∙ cond-not (is_up_to proxy version q) (map.get (map_of m) q)
     ∙ sym (map.get-retain_keys (map_of m) (λ key. not (is_up_to proxy version key)) q
     (λ x same. ap (λ key. not (is_up_to proxy version key)) (sym (keys_exact q x same)))))
 
 -- a key is the one of this proxy and this version exactly if both are
 pub is_at-pair : (a p : ℕ) (b v : ℤ) → is_at (key_cmp (a, b)) (p, v) ≡ ((a == p) && int_eq b v)
 is_at-pair a p b v = same_from_decides _ _ (
-  λ h. let same : (a, b) ≡ (p, v) = tells_apart keys_exact (a, b) (p, v) h in (ap (λ q. q.0) same, ap (λ q. q.1) same),
+  λ h. let same : (a, b) ≡ (p, v) = tells_apart keys_exact (a, b) (p, v) h in
+      (ap (λ q. q.0) same, ap (λ q. q.1) same),
   λ same. rw (same.0, same.1) ((eq_by_cmp_equiv keys_total).refl (p, v)),
 )
     (Decides-and (a == p) (int_eq b v) (Decides-eqb a p) (Decides-int_eq b v))
 
 -- each reply stands at its own version after one was put at its own
 pub IsFiled-put : (m n : BTreeMap (ℕ × ℤ) Reply) (s : ℕ × ℤ) (r : Reply) → r.version ≡ s.1
-    → ((q : ℕ × ℤ) → tree.get key_cmp n q ≡ cond (is_at (key_cmp s) q) (Some r) (tree.get key_cmp m q)) → IsFiled m → IsFiled n
+    → ((q : ℕ × ℤ) → tree.get key_cmp n q ≡ cond (is_at (key_cmp s) q) (Some r) (tree.get key_cmp m q))
+    → IsFiled m → IsFiled n
 IsFiled-put m n s r own h filed q x is = go (is_at (key_cmp s) q) refl
   where
     go : (b : Bool) → is_at (key_cmp s) q ≡ b → x.version ≡ q.1
@@ -85,7 +128,8 @@ IsFiled-put m n s r own h filed q x is = go (is_at (key_cmp s) q) refl
 
 -- and after some were dropped
 pub IsFiled-dropped : (m n : BTreeMap (ℕ × ℤ) Reply) (dropped : ℕ × ℤ → Bool)
-    → ((q : ℕ × ℤ) → tree.get key_cmp n q ≡ cond (dropped q) None (tree.get key_cmp m q)) → IsFiled m → IsFiled n
+    → ((q : ℕ × ℤ) → tree.get key_cmp n q ≡ cond (dropped q) None (tree.get key_cmp m q)) → IsFiled m
+    → IsFiled n
 IsFiled-dropped m n dropped h filed q x is = go (dropped q) refl
   where
     go : (b : Bool) → dropped q ≡ b → x.version ≡ q.1
@@ -108,7 +152,8 @@ none_up_to m low high same negative filed none q up_to = go (tree.get key_cmp m 
     its = sym ((Decides-eqb high.0 q.0).0 (and_left (high.0 == q.0) (int_le q.1 high.1) up_to))
 
     within : q.1 ≤ℤ high.1
-    within = let h : int_le q.1 high.1 ≡ true = and_right (high.0 == q.0) (int_le q.1 high.1) up_to in grind (arith, ints)
+    within = let h : int_le q.1 high.1 ≡ true = and_right (high.0 == q.0) (int_le q.1 high.1) up_to in
+        grind (arith, ints)
 
     go : (o : Option Reply) → tree.get key_cmp m q ≡ o → tree.get key_cmp m q ≡ None
     go None e = e
@@ -118,9 +163,11 @@ none_up_to m low high same negative filed none q up_to = go (tree.get key_cmp m 
         none q (le_key low q (same ∙ sym its) (omega (arith, ints)), le_key q high its within)
 
 -- a key up to the version is not one beyond it
-pub apart_from_up_to : (proxy : ℕ) (version : ℤ) (s q : ℕ × ℤ) → IsTrue (is_up_to proxy version s) → is_up_to proxy version q ≡ false → is_at (key_cmp s) q ≡ false
+pub apart_from_up_to : (proxy : ℕ) (version : ℤ) (s q : ℕ × ℤ) → IsTrue (is_up_to proxy version s)
+    → is_up_to proxy version q ≡ false → is_at (key_cmp s) q ≡ false
 apart_from_up_to proxy version s q up_to beyond = false_unless _ (λ h.
-    not_both_ways (is_up_to proxy version q) (ap (is_up_to proxy version) (sym (tells_apart keys_exact s q h)) ∙ up_to) beyond)
+    not_both_ways (is_up_to proxy version q) (ap (is_up_to proxy version) (sym (tells_apart keys_exact s q h))
+    ∙ up_to) beyond)
 
 -- what a look-up finds stands at its own version
 pub found_own : (m : BTreeMap (ℕ × ℤ) Reply) (proxy : ℕ) (version : ℤ) (o : Option (Bor Reply)) → IsFiled m

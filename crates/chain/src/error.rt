@@ -1,12 +1,12 @@
 use thiserror::Error;
 
-/// Why something was not stored. What was stored before stays as it was.
+/// Why a batch or a reply is not stored. What was stored before stays as it was.
 #[derive(Clone, Copy, Debug, PartialEq, Eq, Hash, Error)]
 pub enum ChainError {
-    /// The allocator had no memory for it.
+    /// Memory was refused.
     #[error("1 Memory")]
     Memory,
-    /// As many batches are held as may be.
+    /// The gate already holds [`MAX_HELD`](crate::MAX_HELD) batches.
     #[error("2 GateFull")]
     GateFull,
 }

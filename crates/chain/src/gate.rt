@@ -8,11 +8,11 @@ use std::alloc::Global;
 use std::collections::VecDeque;
 use std::marker::Model;
 
-/// The most batches that are held at once.
+/// The greatest number of batches that a gate holds, this project's own limit.
 pub const MAX_HELD: usize = 1_024;
 
-/// The batches that wait for their previous version, each with the proxy that sent it, in order of arrival: at most
-/// [`MAX_HELD`]. In `Resolver.actor.cpp` of FoundationDB 7.1 such a batch waits for the resolver's version to rise.
+/// The batches that wait for their previous version, at most [`MAX_HELD`], each with the proxy that sent it, in order of
+/// arrival. In `Resolver.actor.cpp` of FoundationDB 7.1 such a batch waits for the resolver's version to rise.
 #[derive(Debug, Drop)]
 pub struct Gate {
     held: VecDeque<(usize, Batch)>,
@@ -21,25 +21,26 @@ pub struct Gate {
 impl Model for Gate {
     ghost use Rattle.std.specs.Prelude.{List, ◌≤◌, length};
     ghost use Rattle.keyspace.specs.Leaving.{Held};
+    ghost use Rattle.chain.specs.declared.gate.TheConstants.{MAX_HELD};
 
     ghost Value = { List Held };
 
     ghost view = { λ g. g.held.items };
 
-    ghost invariant = { λ g. length g.held.items ≤ 1024 };
+    ghost invariant = { λ g. length g.held.items ≤ MAX_HELD };
 }
 
 impl Gate {
-    /// An empty gate. It takes no memory.
+    /// Creates an empty gate, without taking memory.
     pub fn new(alloc: Global) -> Self
-        ensures { result ≡ [] }
+        ensures empty { result ≡ [] }
     {
         Gate {
             held: VecDeque::new(alloc),
         }
     }
 
-    /// How many batches are held, at most [`MAX_HELD`].
+    /// Returns the number of batches held, at most [`MAX_HELD`].
     pub fn held(&self) -> usize
         ensures count { result ≡ length self.now }
         ensures limit { length self.now ≤ MAX_HELD }
@@ -47,8 +48,10 @@ impl Gate {
         self.held.len()
     }
 
-    /// Holds the batch, which arrived last. A refusal hands it back: `GateFull` where [`MAX_HELD`] are held, `Memory` where
-    /// it found none.
+    /// Holds the batch as the latest arrival.
+    ///
+    /// An error hands the batch back and leaves the gate as it was: `GateFull` if the gate already holds [`MAX_HELD`]
+    /// batches, `Memory` if memory is refused.
     pub fn hold(&mut self, proxy: usize, batch: Batch) -> Result<(), (ChainError, Batch)>
         ensures ok { OnOk result (self.new ≡ self.old ++ (proxy, batch) ∷ []) }
 
@@ -66,8 +69,9 @@ impl Gate {
         }
     }
 
-    /// Takes out the batch that leaves next at this version: of those whose previous version is at most the version the
-    /// one with the least, among equals the earliest arrival. `None` where none is due. This order is the project's own.
+    /// Removes and returns the batch that leaves next at this version, or returns `None` if none is due. Of the batches
+    /// whose previous version is at most `version`, the one with the least leaves first, among equals the earliest
+    /// arrival. This order is the project's own.
     pub fn next_for(&mut self, version: i64) -> Option<(usize, Batch)>
         ensures next { next_due version self.old ≡ option_map (λ h. (h, self.new)) result }
         ensures unchanged { IfNone result (self.new ≡ self.old) }
@@ -76,14 +80,14 @@ impl Gate {
         ensures due { IfSome result (λ h. h.1.previous ≤ℤ version) }
         ensures fewer { IfSome result (λ _. length self.old ≡ length self.new + 1) }
     {
-        let place = place_of_least(&self.held)?;
-        if version < self.held[place].1.previous {
+        let index = index_of_least(&self.held)?;
+        if version < self.held[index].1.previous {
             return None;
         }
-        self.held.remove(place)
+        self.held.remove(index)
     }
 
-    /// Takes out the earliest arrival, whatever its previous version.
+    /// Removes and returns the earliest arrival, whatever its previous version, or returns `None` if the gate is empty.
     pub fn first(&mut self) -> Option<(usize, Batch)>
         ensures first { IfSome result (λ h. self.old ≡ h ∷ self.new) }
         ensures none { IfNone result (self.old ≡ []) }
@@ -93,8 +97,8 @@ impl Gate {
     }
 }
 
-/// Where the batch with the least previous version stands, the earliest among equals.
-fn place_of_least(held: &VecDeque<(usize, Batch)>) -> Option<usize>
+// Returns the index of the batch with the least previous version, the earliest among equals.
+fn index_of_least(held: &VecDeque<(usize, Batch)>) -> Option<usize>
     ensures none { IfNone result (least_first held.now.items ≡ None) }
     ensures inside { IfSome result (λ i. i < length held.now.items) }
     ensures least { IfSome result (λ i. (d : Held)
@@ -104,9 +108,9 @@ fn place_of_least(held: &VecDeque<(usize, Batch)>) -> Option<usize>
         return None;
     }
     let mut least = 0;
-    for place in 1..held.len() {
-        if held[place].1.previous < held[least].1.previous {
-            least = place;
+    for index in 1..held.len() {
+        if held[index].1.previous < held[least].1.previous {
+            least = index;
         }
     }
     Some(least)

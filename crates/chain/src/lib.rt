@@ -1,9 +1,9 @@
 //! The two stores of the version chain: batches that wait for their previous version, and replies that may be asked for
 //! again.
 //!
-//! Contracts see a [`Gate`] as the list of the batches that it holds, each with its proxy, in order of arrival, and
-//! [`Replies`] as a finite map from proxy and version to the reply kept for them. Neither knows which batch may be
-//! processed, nor what a reply says: the layer above decides that, and owns the resolver's version.
+//! The layer above may use the contracts of [`Gate`], which see it as the list of the batches held, each with its proxy,
+//! in order of arrival, and those of [`Replies`], which see a finite map from proxy and version to a reply. Neither knows
+//! which batch may be processed, nor what a reply says: the layer above decides that, and owns the resolver's version.
 #![tactic(auto)]
 
 mod error;

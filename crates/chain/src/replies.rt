@@ -11,7 +11,7 @@ use std::collections::BTreeMap;
 use std::marker::Model;
 
 /// The replies that a proxy may ask for again, by proxy and version: `outstandingBatches` of each proxy in
-/// `Resolver.actor.cpp` of FoundationDB 7.1. When they are given up is this project's own.
+/// `Resolver.actor.cpp` of FoundationDB 7.1. When a reply is given up is this project's own rule.
 #[derive(Debug, Drop)]
 pub struct Replies {
     kept: BTreeMap<(usize, i64), Reply>,
@@ -33,7 +33,7 @@ impl Model for Replies {
 }
 
 impl Replies {
-    /// No replies. It takes no memory.
+    /// Creates an empty store, without taking memory.
     pub fn new(alloc: Global) -> Self
         ensures empty { result ≡ map.empty }
         ensures none { (p : ℕ) (v : ℤ) → reply_of result p v ≡ None }
@@ -43,9 +43,11 @@ impl Replies {
         }
     }
 
-    /// Keeps the proxy's reply under the reply's version, beside those kept before. The only refusal is `Memory`.
+    /// Keeps the reply for the proxy, under the reply's version. The proxy has no reply of that version yet.
+    ///
+    /// The only error is `Memory`, after which the store is as it was.
     pub fn put(&mut self, proxy: usize, reply: Reply) -> Result<(), ChainError>
-        requires { reply_of self.old proxy reply.version ≡ None }
+        requires absent { reply_of self.old proxy reply.version ≡ None }
         ensures ok { OnOk result (self.new ≡ map.insert self.old (proxy, reply.version) reply) }
         ensures kept { OnOk result ((p : ℕ) (v : ℤ) → reply_of self.new p v
             ≡ (if (proxy == p) && int_eq reply.version v then Some reply else reply_of self.old p v)) }
@@ -58,8 +60,8 @@ impl Replies {
         }
     }
 
-    /// Gives up the proxy's replies up to this version, itself included, and no others. It takes no memory, and the time
-    /// that it takes goes by the number of replies that it drops.
+    /// Removes the proxy's replies up to this version, inclusive. Takes no memory, and time in proportion to the replies
+    /// that it removes.
     pub fn forget_to(&mut self, proxy: usize, version: i64)
         ensures forgotten { self.new ≡ map.retain_keys self.old (λ key. not (is_up_to proxy version key)) }
         ensures kept { (p : ℕ) (v : ℤ) → reply_of self.new p v
@@ -68,7 +70,7 @@ impl Replies {
         drop_up_to(&mut self.kept, proxy, version);
     }
 
-    /// The reply kept of the proxy for the version, if one is.
+    /// Returns the proxy's reply of this version, or `None` if none is kept.
     pub fn find(&self, proxy: usize, version: i64) -> Option<&Reply>
         ensures reply { option_copied result ≡ reply_of self.now proxy version }
         ensures own_version { IfSome result (λ reply. reply.now.version ≡ version) }
@@ -77,10 +79,10 @@ impl Replies {
     }
 }
 
-/// Drops what is kept of the proxy up to the version.
+// Removes the proxy's replies up to the version.
 fn drop_up_to(kept: &mut BTreeMap<(usize, i64), Reply>, proxy: usize, version: i64)
-    requires { IsFiled kept.old }
-    ensures { (key : ℕ × ℤ) → tree.get key_cmp kept.new key
+    requires filed { IsFiled kept.old }
+    ensures dropped { (key : ℕ × ℤ) → tree.get key_cmp kept.new key
         ≡ (if is_up_to proxy version key then None else tree.get key_cmp kept.old key) }
 {
     while let Some(key) = least_up_to(kept, proxy, version) {
@@ -88,13 +90,13 @@ fn drop_up_to(kept: &mut BTreeMap<(usize, i64), Reply>, proxy: usize, version: i
     }
 }
 
-/// The least version up to this one for which a reply of the proxy is kept, with the proxy.
+// Returns the proxy with the least version, up to this one, for which a reply of the proxy is kept.
 fn least_up_to(
     kept: &BTreeMap<(usize, i64), Reply>,
     proxy: usize,
     version: i64,
 ) -> Option<(usize, i64)>
-    requires { IsFiled kept.now }
+    requires filed { IsFiled kept.now }
     ensures up_to { IfSome result (λ key. IsTrue (is_up_to proxy version key)) }
     ensures kept { IfSome result (λ key. IsSome (tree.get key_cmp kept.now key)) }
     ensures none { IfNone result ((key : ℕ × ℤ)

@@ -6,7 +6,7 @@ use std::alloc::Global;
 use std::process::Abort;
 use std::test::Fail;
 
-/// A batch without transactions, from a proxy that has received nothing.
+// A batch without transactions, from a proxy that has received nothing.
 fn batch(alloc: Global, previous: i64, version: i64) -> Batch
     requires from { negsuc 0 ≤ℤ previous }
     requires rises { previous <ℤ version }
@@ -14,15 +14,15 @@ fn batch(alloc: Global, previous: i64, version: i64) -> Batch
     Batch::new(previous, version, -1, Sequence::new(Vec::new(alloc)))
 }
 
-/// The reply to a batch without transactions.
+// The reply to a batch without transactions.
 fn reply(alloc: Global, version: i64) -> Reply
-    requires { pos 0 ≤ℤ version }
-    ensures { result.version ≡ version }
+    requires natural { pos 0 ≤ℤ version }
+    ensures version { result.version ≡ version }
 {
     Reply::new(version, Sequence::new(Vec::new(alloc)))
 }
 
-/// The proxy and the version of a batch that left, or -1.
+// The proxy and the version of a batch that left, or -1.
 fn left(leaving: Option<(usize, Batch)>) -> (usize, i64) {
     leaving.map_or((0, -1), |held| (held.0, held.1.version))
 }
@@ -90,7 +90,7 @@ fn full_gate_hands_the_batch_back(rt: HostRuntime) -> Result<(), Fail> {
     Ok(())
 }
 
-/// The version of the reply that is kept, or -1.
+// The version of the reply that is kept, or -1.
 fn kept(replies: &Replies, proxy: usize, version: i64) -> i64 {
     replies
         .find(proxy, version)
@@ -129,7 +129,7 @@ fn refusals_print_their_numbers(rt: HostRuntime) -> Result<(), Fail> {
     Ok(())
 }
 
-/// Holds the batch, in a second try where the first is refused memory.
+// Holds the batch, in a second try where the first is refused memory.
 fn hold_at_last(rt: &impl Abort, gate: &mut Gate, proxy: usize, batch: Batch) {
     let held = gate.held();
     let version = batch.version;
@@ -142,9 +142,9 @@ fn hold_at_last(rt: &impl Abort, gate: &mut Gate, proxy: usize, batch: Batch) {
     assert!(rt; gate.hold(proxy, back).is_ok());
 }
 
-/// Keeps the reply of this version, in a second try where the first is refused memory.
+// Keeps the reply of this version, in a second try where the first is refused memory.
 fn put_at_last(rt: &impl Abort, alloc: Global, replies: &mut Replies, version: i64)
-    requires { pos 0 ≤ℤ version }
+    requires natural { pos 0 ≤ℤ version }
 {
     if replies.find(0, version).is_some() {
         return;
@@ -157,7 +157,7 @@ fn put_at_last(rt: &impl Abort, alloc: Global, replies: &mut Replies, version: i
     assert!(rt; replies.put(0, reply(alloc, version)).is_ok());
 }
 
-/// Its outcome is the same whichever one growth is refused.
+// Its outcome is the same whichever one growth is refused.
 #[test]
 fn one_growth_refused(rt: HostRuntime) {
     let mut gate = Gate::new(rt.alloc());

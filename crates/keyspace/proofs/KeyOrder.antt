@@ -32,21 +32,30 @@ cmp_same a b e = slice_cmp-IsAntisymmetric nat_cmp-IsAntisymmetric a b e
 pub before_trans : (a b c : List ℕ) → IsBefore a b → IsBefore b c → IsBefore a c
 before_trans a b c h k = ap is_lt (nat_list_cmp_total.trans a b c (is_lt-less _ h) (is_lt-less _ k))
 
-before_or_same_by : (o r : Ordering) → r ≡ ordering_reverse o → not (is_lt r) ≡ true → (is_lt o ≡ true) ⊎ (o ≡ Equal)
+before_or_same_by : (o r : Ordering) → r ≡ ordering_reverse o → not (is_lt r) ≡ true
+    → (is_lt o ≡ true) ⊎ (o ≡ Equal)
 before_or_same_by Less r e h = inl refl
 before_or_same_by Equal r e h = inr refl
-before_or_same_by Greater r e h = let k : not (is_lt Less) ≡ true = subst (λ o. not (is_lt o) ≡ true) e h in cc
+before_or_same_by Greater r e h = let k : not (is_lt Less) ≡ true = subst (λ o. not (is_lt o) ≡ true) e h in
+    cc
 
 -- a key that isn't after another comes before it or is it
 pub before_or_same : (a b : List ℕ) → IsAtMost a b → IsBefore a b ⊎ (a ≡ b)
 before_or_same a b h =
-    elim (before_or_same_by (key_cmp a b) (key_cmp b a) (nat_list_cmp_total.antisymm b a) h) [ inl k ↦ inl k | inr e ↦ inr (cmp_same a b e) ]
+    elim (before_or_same_by (key_cmp a b) (key_cmp b a)
+    (nat_list_cmp_total.antisymm b a) h) [ inl k ↦ inl k | inr e ↦ inr (cmp_same a b e) ]
 
 pub at_most_before : (a b c : List ℕ) → IsAtMost a b → IsBefore b c → IsBefore a c
-at_most_before a b c h k = elim (before_or_same a b h) [ inl l ↦ before_trans a b c l k | inr e ↦ subst (λ x. IsBefore x c) (sym e) k ]
+at_most_before a b c h k =
+    elim (before_or_same a b h) [
+      | inl l ↦ before_trans a b c l k
+      | inr e ↦ subst (λ x. IsBefore x c)
+          (sym e) k
+    ]
 
 pub before_at_most : (a b c : List ℕ) → IsBefore a b → IsAtMost b c → IsBefore a c
-before_at_most a b c h k = elim (before_or_same b c k) [ inl l ↦ before_trans a b c h l | inr e ↦ subst (λ x. IsBefore a x) e h ]
+before_at_most a b c h k =
+    elim (before_or_same b c k) [ inl l ↦ before_trans a b c h l | inr e ↦ subst (λ x. IsBefore a x) e h ]
 
 pub not_before_itself : (a : List ℕ) → is_before a a ≡ false
 not_before_itself a = ap is_lt (tied_itself nat_list_cmp_total a)
@@ -56,7 +65,8 @@ at_most_itself a = ap not (not_before_itself a)
 
 -- one of two keys comes before the other, or isn't after it
 pub before_or_at_most : (a b : List ℕ) → IsBefore a b ⊎ IsAtMost b a
-before_or_at_most a b = elim (is_before a b) as (λ v. is_before a b ≡ v → IsBefore a b ⊎ IsAtMost b a) [ true ↦ λ e. inl e | false ↦ λ e. inr (ap not e) ] refl
+before_or_at_most a b = elim (is_before a b) as (λ v. is_before a b ≡ v
+    → IsBefore a b ⊎ IsAtMost b a) [ true ↦ λ e. inl e | false ↦ λ e. inr (ap not e) ] refl
 
 before_at_most_by : (b : Bool) → b ≡ true → not b ≡ true → ⊥
 before_at_most_by true h k = cc
@@ -70,10 +80,20 @@ false_is_true e = cc
 
 -- a key that comes before another isn't after it
 pub before_at_most_same : (a b : List ℕ) → IsBefore a b → IsAtMost a b
-before_at_most_same a b h = elim (before_or_at_most b a) [ inl k ↦ absurd (false_is_true (sym (not_before_itself a) ∙ before_trans a b a h k)) | inr k ↦ k ]
+before_at_most_same a b h =
+    elim (before_or_at_most b a) [
+      | inl k ↦ absurd
+          (false_is_true (sym (not_before_itself a) ∙ before_trans a b a h k))
+      | inr k ↦ k
+    ]
 
 pub at_most_trans : (a b c : List ℕ) → IsAtMost a b → IsAtMost b c → IsAtMost a c
-at_most_trans a b c h k = elim (before_or_same a b h) [ inl l ↦ before_at_most_same a c (before_at_most a b c l k) | inr e ↦ subst (λ x. IsAtMost x c) (sym e) k ]
+at_most_trans a b c h k =
+    elim (before_or_same a b h) [
+      | inl l ↦ before_at_most_same a c (before_at_most a b c l k)
+      | inr e ↦ subst
+          (λ x. IsAtMost x c) (sym e) k
+    ]
 
 pub at_most_antisym : (a b : List ℕ) → IsAtMost a b → IsAtMost b a → a ≡ b
 at_most_antisym a b h k = elim (before_or_same a b h) [ inl l ↦ absurd (not_both a b l k) | inr e ↦ e ]

@@ -1,4 +1,5 @@
 pub mod Booleans
+pub mod Limits
 pub mod KeyOrder
 pub mod Meeting
 pub mod Rising
@@ -6,4 +7,4 @@ pub mod Scans
 pub mod Judging
 pub mod Chaining
 pub mod Waiting
-pub mod Rows
+pub mod Answered

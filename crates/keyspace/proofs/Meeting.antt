@@ -2,12 +2,18 @@
 use Rattle.std.proofs.Common.{◌≡◌, ◌&&◌, inl, inr, subst}
 use Rattle.std.specs.Prelude.{IsTrue}
 use Rattle.keyspace.specs.Key.{is_before, IsBefore, IsAtMost}
-use Rattle.keyspace.specs.Range.{Meets}
-use Rattle.keyspace.specs.Judge.{ranges_meet}
+use Rattle.keyspace.specs.Range.{Meets, ranges_meet}
 use Rattle.keyspace.specs.declared.range.Range.{Range}
 use Rattle.keyspace.specs.Laws.{MeetByEnds}
 use Rattle.keyspace.proofs.Booleans.{and_left, and_right, and_both}
-use Rattle.keyspace.proofs.KeyOrder.{at_most_before, before_or_at_most, at_most_itself, before_at_most_same, before_or_same, not_both}
+use Rattle.keyspace.proofs.KeyOrder.{
+  at_most_before,
+  before_or_at_most,
+  at_most_itself,
+  before_at_most_same,
+  before_or_same,
+  not_both,
+}
 
 -- what the test looks at
 pub record Overlap (a b : Range) : Type 0 where
@@ -24,7 +30,12 @@ overlap_from a b h =
     let w = is_before b.begin a.end in
     let xyz = and_left (x && y && z) w h in
     let xy = and_left (x && y) z xyz in
-    record { first = and_left x y xy; second = and_right x y xy; from_first = and_right (x && y) z xyz; from_second = and_right (x && y && z) w h }
+    record {
+      first = and_left x y xy;
+      second = and_right x y xy;
+      from_first = and_right (x && y) z xyz;
+      from_second = and_right (x && y && z) w h;
+    }
 
 overlap_to : (a b : Range) → Overlap a b → IsTrue (ranges_meet a b)
 overlap_to a b o =
@@ -39,7 +50,12 @@ pub meets_from_test : (a b : Range) → IsTrue (ranges_meet a b) → Meets a b
 meets_from_test a b h =
     let o = overlap_from a b h in
     elim (before_or_at_most a.begin b.begin) [
-      | inl later ↦ (b.begin, b.begin_is_key.bytes, (before_at_most_same a.begin b.begin later, o.from_second), (at_most_itself b.begin, o.second))
+      | inl later ↦ (
+        b.begin,
+        b.begin_is_key.bytes,
+        (before_at_most_same a.begin b.begin later, o.from_second),
+        (at_most_itself b.begin, o.second),
+      )
       | inr later ↦ (a.begin, a.begin_is_key.bytes, (at_most_itself a.begin, o.first), (later, o.from_first))
     ]
 
@@ -60,6 +76,13 @@ not_empty a h e = not_both a.begin a.end h (subst (λ key. IsAtMost key a.begin)
 -- the same in words: neither is empty
 pub meets_by_ends : (a b : Range) → MeetByEnds a b
 meets_by_ends a b = (
-  λ m. let o = overlap_from a b (test_from_meets a b m) in (not_empty a o.first, not_empty b o.second, o.from_first, o.from_second),
-  λ h. meets_from_test a b (overlap_to a b (record { first = before_unless_empty a h.0; second = before_unless_empty b h.1; from_first = h.2; from_second = h.3 })),
+  λ m. let o = overlap_from a b (test_from_meets a b m) in
+      (not_empty a o.first, not_empty b o.second, o.from_first, o.from_second),
+  λ h. meets_from_test a b (overlap_to a b (record {
+    first = before_unless_empty a h.0;
+    second =
+        before_unless_empty b h.1;
+    from_first = h.2;
+    from_second = h.3;
+  })),
 )

@@ -7,14 +7,16 @@ use Rattle.keyspace.specs.Processed.{Processed, version_of}
 use Rattle.keyspace.specs.Writes.{Write, writes}
 use Rattle.keyspace.specs.Judged.{Judged}
 
--- p goes on where those before it ended, and its reply is right after what they wrote
-pub record Continues (IsRight : List Write → Batch → Reply → Type 0) (before : List Processed) (p : Processed) : Type 0 where
+-- p continues the version of those before it, and its reply is right after what they wrote
+pub record Continues (IsRight : List Write → Batch → Reply → Type 0) (before : List Processed) (p : Processed)
+    : Type 0 where
   pub previous : p.batch.previous ≡ version_of before
   pub judged : IsRight (writes before) p.batch p.reply
 
 -- each of them continues those before it
 abbrev pub IsChainBy : (List Write → Batch → Reply → Type 0) → List Processed → Type 0
-IsChainBy IsRight ps = (before : List Processed) (p : Processed) (after : List Processed) → ps ≡ before ++ p ∷ after → Continues IsRight before p
+IsChainBy IsRight ps = (before : List Processed) (p : Processed) (after : List Processed)
+    → ps ≡ before ++ p ∷ after → Continues IsRight before p
 
 -- each has the one reply that a scan of all that was committed before gives
 abbrev pub IsChain : ℤ → List Processed → Type 0

@@ -3,15 +3,16 @@
 use Rattle.std.specs.Prelude.{ℕ, ◌<◌, ◌≤◌, List, length, Bool, not, IsTrue, All}
 use Rattle.std.specs.Ordering.{nat_cmp, is_lt}
 use Rattle.std.specs.Cmp.Lexicographic.{slice_cmp}
+use Rattle.keyspace.specs.declared.key.TheConstants.{MAX_KEY_LENGTH}
 
 -- each element is a byte
 abbrev pub IsBytes : List ℕ → Type 0
 IsBytes key = All (λ byte. byte < 256) key
 
--- a byte string that is short enough for a key of a range: a longest key of the database, and one byte more
+-- A byte string that a range may begin or end with: at most a byte longer than the longest key of the database.
 pub record IsKey (key : List ℕ) : Type 0 where
   pub bytes : IsBytes key
-  pub short : length key ≤ 10001
+  pub short : length key ≤ MAX_KEY_LENGTH
 
 -- whether a comes before b: byte by byte, and a proper prefix comes first
 abbrev pub is_before : List ℕ → List ℕ → Bool

@@ -1,5 +1,23 @@
 -- What holds of the definitions, whatever the batches are.
-use Rattle.std.specs.Prelude.{◌≡◌, ℤ, ◌<ℤ◌, ◌≤ℤ◌, ◌↔◌, List, ◌∷◌, ◌++◌, Some, None, All}
+use Rattle.std.specs.Prelude.{
+  ◌≡◌,
+  ℕ,
+  ◌+◌,
+  ◌==◌,
+  ℤ,
+  ◌<ℤ◌,
+  ◌≤ℤ◌,
+  ◌↔◌,
+  List,
+  [],
+  ◌∷◌,
+  ◌++◌,
+  length,
+  filter,
+  Some,
+  None,
+  All,
+}
 use Rattle.keyspace.specs.declared.range.Range.{Range}
 use Rattle.keyspace.specs.declared.batch.Batch.{Batch}
 use Rattle.keyspace.specs.declared.reply.Reply.{Reply}
@@ -11,9 +29,9 @@ use Rattle.keyspace.specs.Judged.{Judged}
 use Rattle.keyspace.specs.Judge.{judge}
 use Rattle.keyspace.specs.Chain.{IsChain}
 use Rattle.keyspace.specs.Leaving.{Held, next_due}
-use Rattle.keyspace.specs.Run.{Step, run}
+use Rattle.keyspace.specs.Run.{Step, Finish, run, answers, part}
 
--- some key lies in both exactly if neither is empty and each begins before the other ends
+-- two ranges overlap exactly if neither is empty and each begins before the other ends
 abbrev pub MeetByEnds : Range → Range → Type 0
 MeetByEnds a b = Meets a b ↔ (¬ IsEmpty a × ¬ IsEmpty b × IsBefore a.begin b.end × IsBefore b.begin a.end)
 
@@ -23,7 +41,8 @@ JudgeIsRight = (window : ℤ) (ws : List Write) (b : Batch) → Judged window ws
 
 -- and no other reply is
 abbrev pub OnlyJudgeIsRight : Type 0
-OnlyJudgeIsRight = (window : ℤ) (ws : List Write) (b : Batch) (r : Reply) → Judged window ws b r → r ≡ judge window ws b
+OnlyJudgeIsRight = (window : ℤ) (ws : List Write) (b : Batch) (r : Reply) → Judged window ws b r
+    → r ≡ judge window ws b
 
 -- what a run processes, in order, is a chain
 abbrev pub RunsAreChains : Type 0
@@ -42,9 +61,26 @@ pub record Leaves (version : ℤ) (held : List Held) (leaver : Held) (others : L
 
 -- `next_due` tells the one that leaves, and none only where all wait for a version to come
 pub record NextDueLeaves : Type 0 where
-  pub some : (version : ℤ) (held : List Held) (leaver : Held) (others : List Held) → next_due version held ≡ Some (leaver, others) → Leaves version held leaver others
-  pub none : (version : ℤ) (held : List Held) → next_due version held ≡ None → All (λ h. version <ℤ h.1.previous) held
+  pub some : (version : ℤ) (held : List Held) (leaver : Held) (others : List Held)
+      → next_due version held ≡ Some (leaver, others) → Leaves version held leaver others
+  pub none : (version : ℤ) (held : List Held) → next_due version held ≡ None
+      → All (λ h. version <ℤ h.1.previous) held
 
 -- after each step all that is held still waits for a version to come: enough turns were made
 abbrev pub NothingHeldIsDue : Type 0
-NothingHeldIsDue = (window : ℤ) (log : List Step) → All (λ h. version_of (run window log).processed <ℤ h.1.previous) (run window log).held
+NothingHeldIsDue = (window : ℤ) (log : List Step)
+    → All (λ h. version_of (run window log).processed <ℤ h.1.previous) (run window log).held
+
+-- the batches of the proxy among those held
+abbrev pub held_of : ℕ → List Held → List Held
+held_of proxy held = filter (λ h. h.0 == proxy) held
+
+-- in every run each proxy has been answered once for each batch taken from it, but for its batches that are held
+abbrev pub EachBatchIsAnswered : Type 0
+EachBatchIsAnswered = (window : ℤ) (log : List Step) (proxy : ℕ)
+    → length (answers window log proxy) + length (held_of proxy (run window log).held)
+    ≡ length (part log proxy)
+
+-- after `Finish` none is held
+abbrev pub NoneIsHeldAfterFinish : Type 0
+NoneIsHeldAfterFinish = (window : ℤ) (log : List Step) → (run window (log ++ Finish ∷ [])).held ≡ []

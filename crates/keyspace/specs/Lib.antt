@@ -7,7 +7,9 @@ pub mod Writes
 pub mod Judged
 pub mod Judge
 pub mod Chain
+pub mod Answer
 pub mod Found
 pub mod Leaving
 pub mod Run
 pub mod Laws
+pub mod Rows

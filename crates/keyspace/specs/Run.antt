@@ -1,6 +1,24 @@
 -- The reference resolver. Source: `Resolver.actor.cpp`, FoundationDB 7.1; the order of leaving, and the answers `Never` and
 -- `Held`, are this project's own.
-use Rattle.std.specs.Prelude.{ℕ, zero, suc, ℤ, ◌==◌, int_lt, if◌then◌else◌, List, [], ◌∷◌, ◌++◌, length, map, filter, Option, Some, None}
+use Rattle.std.specs.Prelude.{
+  ℕ,
+  zero,
+  suc,
+  ℤ,
+  ◌==◌,
+  int_lt,
+  if◌then◌else◌,
+  List,
+  [],
+  ◌∷◌,
+  ◌++◌,
+  length,
+  map,
+  filter,
+  Option,
+  Some,
+  None,
+}
 use Rattle.keyspace.specs.declared.batch.Batch.{Batch}
 use Rattle.keyspace.specs.declared.answer.Answer.{Answer}
 use Rattle.keyspace.specs.declared.answer.Answer.TheVariants as told
@@ -36,32 +54,36 @@ hold proxy b s = record s { held = s.held ++ (proxy, b) ∷ [] }
 abbrev pub process : ℤ → ℕ → Batch → State → State
 process window proxy b s =
     let reply = judge window (writes s.processed) b in
-    answer proxy (told.Reply reply) (record s { processed = s.processed ++ record { proxy = proxy; batch = b; reply = reply } ∷ [] })
+    answer proxy (told.Reply reply)
+    (record s { processed = s.processed ++ record { proxy = proxy; batch = b; reply = reply } ∷ [] })
 
 -- by the batch's previous version: above the version it is held, below it is a repeat, else it is processed
-abbrev pub place : ℤ → ℕ → Batch → State → State
-place window proxy b s =
+abbrev pub admit : ℤ → ℕ → Batch → State → State
+admit window proxy b s =
     if int_lt (version_of s.processed) b.previous then hold proxy b s
-    else (if int_lt b.previous (version_of s.processed) then answer proxy (found s.processed proxy b.version) s
+    else (if int_lt b.previous (version_of s.processed)
+    then answer proxy (found s.processed proxy b.version) s
     else process window proxy b s)
 
--- where a batch is due, it leaves and is placed, and the others go on
+-- where a batch is due, it leaves and is admitted anew, and the others go on
 abbrev pub leave_then : (State → State) → ℤ → State → Option (Held × List Held) → State
 leave_then go_on window s None = s
-leave_then go_on window s (Some l) = go_on (place window l.0.0 l.0.1 (record s { held = l.1 }))
+leave_then go_on window s (Some l) = go_on (admit window l.0.0 l.0.1 (record s { held = l.1 }))
 
 -- Held batches leave one at a time, the choice made anew each time, until none is due. With each there is one fewer held,
 -- so as many turns as batches are held are enough.
 abbrev pub leave : ℕ → ℤ → State → State
 leave zero window s = s
-leave (suc turns) window s = leave_then (leave turns window) window s (next_due (version_of s.processed) s.held)
+leave (suc turns) window s =
+    leave_then (leave turns window) window s (next_due (version_of s.processed) s.held)
 
 abbrev pub leave_all : ℤ → State → State
 leave_all window s = leave (length s.held) window s
 
 abbrev pub step : ℤ → Step → State → State
-step window (Take proxy b) s = leave_all window (place window proxy b s)
-step window Finish s = record s { held = []; answered = s.answered ++ map (λ h. (h.0, told.Held h.1.version)) s.held }
+step window (Take proxy b) s = leave_all window (admit window proxy b s)
+step window Finish s =
+    record s { held = []; answered = s.answered ++ map (λ h. (h.0, told.Held h.1.version)) s.held }
 
 abbrev pub run_from : ℤ → List Step → State → State
 run_from window [] s = s

@@ -15,7 +15,19 @@ pub record Write : Type 0 where
   pub range : Range
   pub version : ℤ
 
--- what counts of a transaction's writes under this verdict: those of a committed one, and no other
+-- the writes, and this one after them
+abbrev pub with_write : List Write → Range → ℤ → List Write
+with_write ws range version = ws ++ record { range = range; version = version } ∷ []
+
+-- ranges that are written at one version
+abbrev pub at_version : ℤ → List Range → List Write
+at_version version ranges = map (λ range. record { range = range; version = version }) ranges
+
+-- the ranges of writes
+abbrev pub ranges_of : List Write → List Range
+ranges_of ws = map (λ w. w.range) ws
+
+-- what counts of a transaction's write ranges under this verdict: those of a committed transaction, and no other
 abbrev pub counted : Verdict → List Range → List Range
 counted Committed writes = writes
 counted TooOld writes = []
@@ -29,12 +41,12 @@ committed (t ∷ ts) [] = []
 
 -- the same of a batch and its reply, each at the batch's version
 abbrev pub writes_of : Batch → Reply → List Write
-writes_of b r = map (λ range. record { range = range; version = b.version }) (committed b.txns r.entries)
+writes_of b r = at_version b.version (committed b.txns r.entries)
 
 -- all writes committed so far
 abbrev pub writes : List Processed → List Write
 writes ps = flat_map (λ p. writes_of p.batch p.reply) ps
 
--- the write ranges of the transactions before place j that the reply calls committed
+-- the write ranges of the transactions before index j that the reply calls committed
 abbrev pub earlier : Batch → Reply → ℕ → List Range
 earlier b r j = committed (take j b.txns) (take j r.entries)

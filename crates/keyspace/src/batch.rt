@@ -1,19 +1,20 @@
 ghost use Rattle.std.specs.Prelude.{◌≡◌, ◌≤◌, ◌≤ℤ◌, ◌<ℤ◌, pos, negsuc, length};
+ghost use Rattle.keyspace.specs.declared.batch.TheConstants.{MAX_TXNS};
 
 use crate::sequence::Sequence;
 use crate::txn::Txn;
 
-/// The most transactions of a batch: this project's own limit.
+/// The greatest number of transactions in a batch, this project's own limit.
 pub const MAX_TXNS: usize = 4_096;
 
-/// What a commit proxy asks at once: `ResolveTransactionBatchRequest` of FoundationDB 7.1.
+/// A batch of transactions from one commit proxy: `ResolveTransactionBatchRequest` of FoundationDB 7.1.
 #[derive(Debug, Drop)]
 pub struct Batch {
-    /// The version of the batch before it on the chain, -1 or more and below `version`.
+    /// The version of the previous batch on the chain, -1 or more and below `version`.
     pub previous: i64,
     /// The commit version of all its transactions, 0 or more.
     pub version: i64,
-    /// The proxy's last received version, -1 or more and below `version`: it needs no reply up to there again.
+    /// The proxy's last received version, -1 or more and below `version`. Replies up to this version have arrived.
     pub received: i64,
     /// The transactions, at most [`MAX_TXNS`], in the order in which they are judged.
     pub txns: Sequence<Txn>,
@@ -22,11 +23,11 @@ pub struct Batch {
     ghost rises: { previous <ℤ version },
     ghost received_from: { negsuc 0 ≤ℤ received },
     ghost received_before: { received <ℤ version },
-    ghost few: { length txns ≤ 4096 },
+    ghost few: { length txns ≤ MAX_TXNS },
 }
 
 impl Batch {
-    /// A batch of transactions in the order in which they are to be judged.
+    /// Creates a batch of transactions, in the order in which they are to be judged.
     pub fn new(previous: i64, version: i64, received: i64, txns: Sequence<Txn>) -> Self
         requires previous_from { negsuc 0 ≤ℤ previous }
         requires rises { previous <ℤ version }

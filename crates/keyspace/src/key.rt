@@ -12,11 +12,11 @@ use std::alloc::{AllocError, Global};
 use std::cmp::Ordering;
 use std::marker::Model;
 
-/// The greatest length of a key of a range, in bytes. A FoundationDB key has at most 10,000, and the key right after a
-/// longest one has one more; that a range's key may have it is this project's own limit.
+/// The greatest length of a range's begin or end, in bytes. A FoundationDB key has at most 10,000 bytes, and the key right
+/// after a longest one has one more. That a range may end with such a key is this project's own limit.
 pub const MAX_KEY_LENGTH: usize = 10_001;
 
-/// A byte string, at most [`MAX_KEY_LENGTH`] long. Keys are compared byte by byte, and a proper prefix comes first.
+/// A byte string of at most [`MAX_KEY_LENGTH`] bytes. Keys are compared byte by byte; a proper prefix comes first.
 #[derive(Debug, Drop)]
 pub struct Key {
     bytes: Vec<u8>,
@@ -34,15 +34,15 @@ impl Model for Key {
 }
 
 impl Key {
-    /// The key of these bytes, which it owns from then on.
+    /// Creates a key of these bytes, without copying them.
     pub fn new(bytes: Vec<u8>) -> Self
-        requires { vec_len bytes ≤ MAX_KEY_LENGTH }
-        ensures { result ≡ bytes.items }
+        requires short { vec_len bytes ≤ MAX_KEY_LENGTH }
+        ensures bytes { result ≡ bytes.items }
     {
         Key { bytes }
     }
 
-    /// Its bytes, lent: at most [`MAX_KEY_LENGTH`].
+    /// Returns the bytes of the key, at most [`MAX_KEY_LENGTH`].
     pub fn as_bytes(&self) -> &[u8]
         ensures bytes { result.now ≡ self.now }
         ensures is_key { IsKey self.now }
@@ -50,9 +50,9 @@ impl Key {
         &self.bytes
     }
 
-    /// An equal key with bytes of its own.
+    /// Copies the key, or returns an error if memory is refused.
     pub fn copy(&self, alloc: Global) -> Result<Self, AllocError>
-        ensures { IfOk result (λ key. key ≡ self.now) }
+        ensures equal { IfOk result (λ key. key ≡ self.now) }
     {
         Ok(Key {
             bytes: Vec::from_slice(alloc, &self.bytes)?,

@@ -1,30 +1,43 @@
-//! What holds of the definitions, each as the contract of a function that does nothing.
+//! Laws about the reference definitions. Each is the contract of a function with an empty body.
 
 ghost use Rattle.keyspace.specs.declared.range.Range.{Range};
-ghost use Rattle.keyspace.specs.Laws.{MeetByEnds, JudgeIsRight, OnlyJudgeIsRight, RunsAreChains, NextDueLeaves, NothingHeldIsDue};
+ghost use Rattle.keyspace.specs.Laws.{MeetByEnds, JudgeIsRight, OnlyJudgeIsRight, RunsAreChains, NextDueLeaves};
+ghost use Rattle.keyspace.specs.Laws.{NothingHeldIsDue, EachBatchIsAnswered, NoneIsHeldAfterFinish};
+ghost use Rattle.keyspace.specs.Rows.{Limits, WorkedRows};
 
-/// Meeting by a common key is what code that compares the ends of two ranges computes.
+/// Two ranges overlap exactly if neither is empty and each begins before the other ends.
 pub fn meeting()
-    ensures { (a b : Range) → MeetByEnds a b }
+    ensures by_ends { (a b : Range) → MeetByEnds a b }
 {}
 
-/// For each list of writes and each batch there is exactly one reply that is right, the one of the plain scan.
+/// For each list of writes and each batch exactly one reply is right: that of the plain scan.
 pub fn one_reply()
     ensures right { JudgeIsRight }
     ensures only { OnlyJudgeIsRight }
 {}
 
-/// What the reference resolver processes is a chain, whatever steps it makes.
+/// The reference resolver processes a chain, whatever the log.
 pub fn runs_are_chains()
-    ensures { RunsAreChains }
+    ensures chain { RunsAreChains }
 {}
 
 /// Held batches leave by the least previous version, among equals by arrival.
 pub fn leaving()
-    ensures { NextDueLeaves }
+    ensures next_due { NextDueLeaves }
 {}
 
 /// The reference resolver holds no batch that it could process or answer.
 pub fn nothing_held_is_due()
-    ensures { NothingHeldIsDue }
+    ensures waits { NothingHeldIsDue }
+{}
+
+/// The reference resolver answers each batch once, and the held ones at `Finish` at the latest.
+pub fn each_batch_is_answered()
+    ensures once { EachBatchIsAnswered }
+    ensures none_held { NoneIsHeldAfterFinish }
+{}
+
+/// The worked examples, computed on the definitions.
+pub fn worked_rows()
+    ensures rows { (limits : Limits) × WorkedRows limits }
 {}

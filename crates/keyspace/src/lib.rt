@@ -1,7 +1,8 @@
-//! Keys, ranges, transactions, batches and replies as plain data whose types keep their limits.
+//! Keys, ranges, transactions, batches and replies as plain data. Each type keeps its limits.
 //!
-//! `specs/` holds the reference definitions: all that has to be believed about verdicts and about the chain of
-//! versions, in the order in which one reads them aloud. The crates above cite them in their contracts.
+//! `specs/` holds the reference definitions, in reading order: all that has to be believed about verdicts and about the
+//! chain of versions. The contracts of the crates above cite them. A crate above may use the contracts of the types here
+//! and the laws of [`laws`].
 #![tactic(auto)]
 
 mod answer;
@@ -21,9 +22,11 @@ pub use reply::{Entry, Places, Reply, Verdict};
 pub use sequence::Sequence;
 pub use txn::{MAX_RANGES, Txn};
 
-/// How many versions back the resolver remembers committed writes: `MAX_WRITE_TRANSACTION_LIFE_VERSIONS` of FoundationDB
-/// 7.1, about five seconds of commit versions.
+/// The default window, in versions: how far back the resolver remembers committed writes. It is
+/// `MAX_WRITE_TRANSACTION_LIFE_VERSIONS` of FoundationDB 7.1, about five seconds of commit versions.
 pub const WINDOW: i64 = 5_000_000;
+
+const _: () = prove!(WINDOW == 5_000_000);
 
 #[cfg(test)]
 mod tests;

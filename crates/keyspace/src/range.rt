@@ -4,7 +4,7 @@ ghost use Rattle.keyspace.specs.Key.{IsKey, IsAtMost};
 use crate::key::Key;
 use std::alloc::{AllocError, Global};
 
-/// The keys from `begin` on that are below `end`, which isn't after `end`. Where the two are equal, no key.
+/// The half-open range `[begin, end)`; empty if the two are equal. `begin` isn't after `end`.
 #[derive(Debug, Drop)]
 pub struct Range {
     pub begin: Key,
@@ -15,12 +15,11 @@ pub struct Range {
 }
 
 impl Range {
-    ghost use Rattle.keyspace.specs.Range.{Holds, Meets, IsEmpty};
-    ghost use Rattle.keyspace.specs.Judge.{ranges_meet};
+    ghost use Rattle.keyspace.specs.Range.{Holds, Meets, IsEmpty, ranges_meet};
 
-    /// The range from `begin` on, below `end`: `KeyRangeRef` of FoundationDB 7.1.
+    /// Creates the half-open range `[begin, end)`: `KeyRangeRef` of FoundationDB 7.1.
     pub fn new(begin: Key, end: Key) -> Self
-        requires { IsAtMost begin end }
+        requires ordered { IsAtMost begin end }
         ensures begin { result.begin ≡ begin }
         ensures end { result.end ≡ end }
     {
@@ -29,21 +28,21 @@ impl Range {
         Range { begin, end }
     }
 
-    /// Whether no key lies in the range.
+    /// Returns `true` if the range holds no key.
     pub fn is_empty(&self) -> bool
-        ensures { IsTrue result ↔ IsEmpty self.now }
+        ensures empty { IsTrue result ↔ IsEmpty self.now }
     {
         self.begin == self.end
     }
 
-    /// Whether a key lies in the range. The key may be of any length.
+    /// Returns `true` if the range holds the key, which may be of any length.
     pub fn holds(&self, key: &[u8]) -> bool
-        ensures { IsTrue result ↔ Holds self.now key.now }
+        ensures holds { IsTrue result ↔ Holds self.now key.now }
     {
         self.begin.as_bytes().cmp(key).is_le() && key.cmp(self.end.as_bytes()).is_lt()
     }
 
-    /// Whether some key lies in both ranges. An empty range meets none.
+    /// Returns `true` if the ranges overlap, which is to say that both hold some key. An empty range overlaps none.
     pub fn meets(&self, other: &Range) -> bool
         ensures meets { IsTrue result ↔ Meets self.now other.now }
         ensures by_ends { result ≡ ranges_meet self.now other.now }
@@ -54,9 +53,9 @@ impl Range {
             && other.begin < self.end
     }
 
-    /// An equal range with bytes of its own.
+    /// Copies the range, or returns an error if memory is refused.
     pub fn copy(&self, alloc: Global) -> Result<Self, AllocError>
-        ensures { IfOk result (λ range. range ≡ self.now) }
+        ensures equal { IfOk result (λ range. range ≡ self.now) }
     {
         let begin = self.begin.copy(alloc)?;
         let end = self.end.copy(alloc)?;

@@ -1,4 +1,4 @@
-ghost use Rattle.std.specs.Prelude.{◌≡◌, ◌≢◌, ◌≤◌, ◌≤ℤ◌, [], length, pos, IfOk, vec_len};
+ghost use Rattle.std.specs.Prelude.{◌≡◌, ◌≢◌, ◌≤◌, ◌≤ℤ◌, [], length, pos, IfOk};
 ghost use Rattle.keyspace.specs.declared.batch.TheConstants.{MAX_TXNS};
 ghost use Rattle.keyspace.specs.Places.{ArePlaces};
 ghost use Rattle.keyspace.specs.declared.reply.Verdict.{Verdict};
@@ -8,18 +8,19 @@ use crate::sequence::Sequence;
 use std::alloc::{AllocError, Global};
 use std::marker::Model;
 
-/// What becomes of a transaction: `ConflictBatch::TransactionCommitResult` of FoundationDB 7.1.
+/// The verdict on a transaction: `ConflictBatch::TransactionCommitResult` of FoundationDB 7.1.
 #[derive(Clone, Copy, Debug, PartialEq, Eq, Hash)]
 pub enum Verdict {
-    /// A read range meets a write that the transaction didn't see.
+    /// A read range overlaps a write that the transaction's snapshot doesn't include.
     Conflict,
-    /// The transaction read, at a snapshot before all that is remembered.
+    /// The transaction has a read range, and its snapshot is older than the window.
     TooOld,
-    /// Its writes count for those after it.
+    /// The transaction may commit. Its writes count for the transactions after it.
     Committed,
 }
 
-/// Places of read ranges in their transaction, from 0: strictly rising, each below 1,024.
+/// The places of a report: indices of read ranges in their transaction, strictly increasing, each below
+/// [`MAX_RANGES`](crate::MAX_RANGES).
 #[derive(Debug, Drop)]
 pub struct Places {
     items: Vec<u16>,
@@ -37,15 +38,15 @@ impl Model for Places {
 }
 
 impl Places {
-    /// These places. That they rise and are below 1,024 is this project's own form of a report.
+    /// Creates a list of places, without copying them. That they increase is this project's own form of a report.
     pub fn new(items: Vec<u16>) -> Self
-        requires { ArePlaces items.items }
-        ensures { result ≡ items.items }
+        requires places { ArePlaces items.items }
+        ensures places { result ≡ items.items }
     {
         Places { items }
     }
 
-    /// The places, lent: strictly rising, each below 1,024.
+    /// Returns the places as a slice.
     pub fn as_slice(&self) -> &[u16]
         ensures places { result.now ≡ self.now }
         ensures limits { ArePlaces self.now }
@@ -53,36 +54,36 @@ impl Places {
         &self.items
     }
 
-    /// The places, in the vector that they were made of.
+    /// Returns the vector of the places, without copying them.
     pub fn into_vec(self) -> Vec<u16>
-        ensures { result.items ≡ self }
+        ensures items { result.items ≡ self }
     {
         self.items
     }
 }
 
-/// The verdict of one transaction, and its report.
+/// The verdict on one transaction, and its report.
 #[derive(Debug, Drop)]
 pub struct Entry {
     pub verdict: Verdict,
-    /// The places of the report; none unless the verdict is `Conflict`.
+    /// The places of the report. Empty unless the verdict is `Conflict`.
     pub places: Places,
     ghost only_conflict: { verdict ≢ Conflict → places ≡ [] },
 }
 
 impl Entry {
-    /// The entry of a transaction. Places stand beside `Conflict` alone.
+    /// Creates the entry of a transaction. Only `Conflict` may have places.
     pub fn new(verdict: Verdict, places: Places) -> Self
-        requires { verdict ≢ Verdict.Conflict → places ≡ [] }
+        requires only_conflict { verdict ≢ Verdict.Conflict → places ≡ [] }
         ensures verdict { result.verdict ≡ verdict }
         ensures places { result.places ≡ places }
     {
         Entry { verdict, places }
     }
 
-    /// An equal entry with places of its own.
+    /// Copies the entry, or returns an error if memory is refused.
     pub fn copy(&self, alloc: Global) -> Result<Self, AllocError>
-        ensures { IfOk result (λ entry. entry ≡ self.now) }
+        ensures equal { IfOk result (λ entry. entry ≡ self.now) }
     {
         let items = Vec::from_slice(alloc, self.places.as_slice())?;
         Ok(Entry {
@@ -92,19 +93,19 @@ impl Entry {
     }
 }
 
-/// The answer to a batch: `ResolveTransactionBatchReply` of FoundationDB 7.1.
+/// The reply to a batch: `ResolveTransactionBatchReply` of FoundationDB 7.1.
 #[derive(Debug, Drop)]
 pub struct Reply {
     /// The version of the batch, 0 or more.
     pub version: i64,
-    /// One entry a transaction, in the order of the batch; at most 4,096.
+    /// One entry a transaction, in the order of the batch; at most [`MAX_TXNS`](crate::MAX_TXNS).
     pub entries: Sequence<Entry>,
     ghost natural: { pos 0 ≤ℤ version },
-    ghost few: { length entries ≤ 4096 },
+    ghost few: { length entries ≤ MAX_TXNS },
 }
 
 impl Reply {
-    /// The reply to the batch of this version, an entry a transaction.
+    /// Creates the reply to the batch of this version, with one entry a transaction.
     pub fn new(version: i64, entries: Sequence<Entry>) -> Self
         requires natural { pos 0 ≤ℤ version }
         requires few { length entries ≤ MAX_TXNS }
@@ -114,9 +115,9 @@ impl Reply {
         Reply { version, entries }
     }
 
-    /// An equal reply with memory of its own.
+    /// Copies the reply, or returns an error if memory is refused.
     pub fn copy(&self, alloc: Global) -> Result<Self, AllocError>
-        ensures { IfOk result (λ reply. reply ≡ self.now) }
+        ensures equal { IfOk result (λ reply. reply ≡ self.now) }
     {
         let mut entries = Vec::with_capacity(alloc, self.entries.len())?;
         for entry in self.entries.as_slice() {

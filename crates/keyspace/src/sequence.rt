@@ -2,8 +2,8 @@ ghost use Rattle.std.specs.Prelude.{◌≡◌, ◌↔◌, [], IsTrue, length};
 
 use std::marker::Model;
 
-/// Items in order, which contracts see as their list. It is made from a `Vec` and gives it back, and takes no
-/// memory for either.
+/// A sequence of items, which contracts see as a list. It is created from a `Vec` and converts back into one, without
+/// copying the items.
 #[derive(Debug, Drop)]
 pub struct Sequence<T> {
     items: Vec<T>,
@@ -18,37 +18,37 @@ impl<T> Model for Sequence<T> {
 }
 
 impl<T> Sequence<T> {
-    /// The items of a vector, in its order.
+    /// Creates a sequence of the vector's items, in their order.
     pub fn new(items: Vec<T>) -> Self
-        ensures { result ≡ items.items }
+        ensures items { result ≡ items.items }
     {
         Sequence { items }
     }
 
-    /// The items, lent.
+    /// Returns the items as a slice.
     pub fn as_slice(&self) -> &[T]
-        ensures { result.now ≡ self.now }
+        ensures items { result.now ≡ self.now }
     {
         &self.items
     }
 
-    /// The items, in the vector that they were made of.
+    /// Returns the vector of the items.
     pub fn into_vec(self) -> Vec<T>
-        ensures { result.items ≡ self }
+        ensures items { result.items ≡ self }
     {
         self.items
     }
 
-    /// How many items there are.
+    /// Returns the number of items.
     pub fn len(&self) -> usize
-        ensures { result ≡ length self.now }
+        ensures count { result ≡ length self.now }
     {
         self.items.len()
     }
 
-    /// Whether there is none.
+    /// Returns `true` if there are no items.
     pub fn is_empty(&self) -> bool
-        ensures { IsTrue result ↔ (self.now ≡ []) }
+        ensures empty { IsTrue result ↔ (self.now ≡ []) }
     {
         self.items.is_empty()
     }

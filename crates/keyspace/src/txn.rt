@@ -1,29 +1,30 @@
 ghost use Rattle.std.specs.Prelude.{◌≡◌, ◌≤◌, ◌≤ℤ◌, pos, length};
+ghost use Rattle.keyspace.specs.declared.txn.TheConstants.{MAX_RANGES};
 
 use crate::range::Range;
 use crate::sequence::Sequence;
 
-/// The most read ranges, and the most write ranges, of a transaction: this project's own limit.
+/// The greatest number of read ranges of a transaction, and of write ranges: this project's own limit.
 pub const MAX_RANGES: usize = 1_024;
 
 /// A transaction to be judged: `CommitTransactionRef` of FoundationDB 7.1, without its mutations.
 #[derive(Debug, Drop)]
 pub struct Txn {
-    /// The version that the transaction read at, 0 or more.
+    /// The read version of the transaction, 0 or more.
     pub snapshot: i64,
-    /// Whether the reply is to tell the places of the read ranges in conflict.
+    /// Whether the transaction asks for the places of its read ranges in conflict.
     pub marked: bool,
     /// The read conflict ranges, at most [`MAX_RANGES`], in the order sent.
     pub reads: Sequence<Range>,
     /// The write conflict ranges, at most [`MAX_RANGES`], in the order sent.
     pub writes: Sequence<Range>,
     ghost natural: { pos 0 ≤ℤ snapshot },
-    ghost few_reads: { length reads ≤ 1024 },
-    ghost few_writes: { length writes ≤ 1024 },
+    ghost few_reads: { length reads ≤ MAX_RANGES },
+    ghost few_writes: { length writes ≤ MAX_RANGES },
 }
 
 impl Txn {
-    /// A transaction of ranges in the order sent.
+    /// Creates a transaction, with its ranges in the order sent.
     pub fn new(snapshot: i64, marked: bool, reads: Sequence<Range>, writes: Sequence<Range>) -> Self
         requires natural { pos 0 ≤ℤ snapshot }
         requires few_reads { length reads ≤ MAX_RANGES }

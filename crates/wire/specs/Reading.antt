@@ -2,11 +2,15 @@
 use Rattle.std.specs.Prelude.{◌≡◌, ◌≢◌, ℕ, ◌+◌, zero, suc, ℤ, pos, negsuc, Bool, ◌&&◌, List, [], ◌∷◌, length, take, drop, Option, Some, None, Result, Ok, Err, nat_lt, nat_le, int_lt, int_le, ◌==◌, if◌then◌else◌}
 use Rattle.std.specs.Int.{w64, cast_signed}
 use Rattle.byteorder.specs.Endian.{big_number}
+use Rattle.keyspace.specs.declared.key.TheConstants.{MAX_KEY_LENGTH}
+use Rattle.keyspace.specs.declared.txn.TheConstants.{MAX_RANGES}
+use Rattle.keyspace.specs.declared.batch.TheConstants.{MAX_TXNS}
 use Rattle.keyspace.specs.Key.{is_before}
 use Rattle.keyspace.specs.declared.reply.Verdict.{Verdict}
 use Rattle.keyspace.specs.declared.reply.Verdict.TheVariants.{Conflict, TooOld, Committed}
 use Rattle.wire.specs.declared.error.WireError.{WireError}
 use Rattle.wire.specs.declared.error.WireError.TheVariants.{Short, Long, Kind, Trailing, Version, Marks, Count, KeyLength, Inverted, Cut, Memory, Read}
+use Rattle.wire.specs.declared.field.TheConstants.{MAX_BODY_LENGTH}
 use Rattle.wire.specs.Fields.{RangeFields, TxnFields, BatchFields, EntryFields, ReplyFields}
 
 infixl 10 ◌>>=◌
@@ -53,7 +57,7 @@ marks_at bytes = do
 unfoldable pub key_at : List ℕ → Result (List ℕ × List ℕ) WireError
 key_at bytes = do
   n ← number_at 2 bytes
-  if nat_lt 10001 n.0 then Err KeyLength else if nat_lt (length n.1) n.0 then Err Cut else Ok (take n.0 n.1, drop n.0 n.1)
+  if nat_lt MAX_KEY_LENGTH n.0 then Err KeyLength else if nat_lt (length n.1) n.0 then Err Cut else Ok (take n.0 n.1, drop n.0 n.1)
 
 unfoldable pub range_at : List ℕ → Result (RangeFields × List ℕ) WireError
 range_at bytes = do
@@ -73,8 +77,8 @@ unfoldable pub txn_at : List ℕ → Result (TxnFields × List ℕ) WireError
 txn_at bytes = do
   snapshot ← version_at (λ v. int_le (pos 0) v) bytes
   marked ← marks_at snapshot.1
-  read_count ← count_at 1024 marked.1
-  write_count ← count_at 1024 read_count.1
+  read_count ← count_at MAX_RANGES marked.1
+  write_count ← count_at MAX_RANGES read_count.1
   reads ← many_at range_at read_count.0 write_count.1
   writes ← many_at range_at write_count.0 reads.1
   Ok (record { snapshot = snapshot.0; marked = marked.0; reads = reads.0; writes = writes.0 }, writes.1)
@@ -96,7 +100,7 @@ header_at bytes = do
 unfoldable pub batch_at : List ℕ → Result (BatchFields × List ℕ) WireError
 batch_at bytes = do
   header ← header_at bytes
-  count ← count_at 4096 header.1
+  count ← count_at MAX_TXNS header.1
   txns ← many_at txn_at count.0 count.1
   Ok (record { previous = header.0.0; version = header.0.1; received = header.0.2; txns = txns.0 }, txns.1)
 
@@ -115,7 +119,7 @@ verdict_at bytes = do
 
 -- as many places as may stand in the report of this verdict
 abbrev pub most_places : Verdict → ℕ
-most_places Conflict = 1024
+most_places Conflict = MAX_RANGES
 most_places TooOld = 0
 most_places Committed = 0
 
@@ -123,7 +127,7 @@ most_places Committed = 0
 unfoldable pub place_at : ℕ → List ℕ → Result (ℕ × List ℕ) WireError
 place_at least bytes = do
   n ← number_at 2 bytes
-  if nat_le least n.0 && nat_lt n.0 1024 then Ok n else Err Marks
+  if nat_le least n.0 && nat_lt n.0 MAX_RANGES then Ok n else Err Marks
 
 -- as many places, each above the one before it
 unfoldable pub places_at : ℕ → ℕ → List ℕ → Result (List ℕ × List ℕ) WireError
@@ -144,7 +148,7 @@ unfoldable pub reply_at : List ℕ → Result (ReplyFields × List ℕ) WireErro
 reply_at bytes = do
   rest ← kind_at 2 bytes
   version ← version_at (λ v. int_le (pos 0) v) rest
-  count ← count_at 4096 version.1
+  count ← count_at MAX_TXNS version.1
   entries ← many_at entry_at count.0 count.1
   Ok (record { version = version.0; entries = entries.0 }, entries.1)
 
@@ -152,7 +156,7 @@ reply_at bytes = do
 unfoldable pub body_at : List ℕ → Result (List ℕ) WireError
 body_at bytes =
     if nat_lt (length bytes) 4 then Err Short
-    else if nat_lt 4194304 (big_number 4 bytes) then Err Long
+    else if nat_lt MAX_BODY_LENGTH (big_number 4 bytes) then Err Long
     else if nat_lt (length bytes) (4 + big_number 4 bytes) then Err Short
     else Ok (take (big_number 4 bytes) (drop 4 bytes))
 

@@ -5,12 +5,15 @@ use Rattle.std.specs.List.{flat_map, AllByRecursion}
 use Rattle.std.specs.Int.{w64, cast_unsigned}
 use Rattle.std.specs.Int.RustNames.{FitsSigned}
 use Rattle.byteorder.specs.Endian.{big_bytes}
+use Rattle.keyspace.specs.declared.txn.TheConstants.{MAX_RANGES}
+use Rattle.keyspace.specs.declared.batch.TheConstants.{MAX_TXNS}
 use Rattle.keyspace.specs.Key.{IsKey, IsAtMost}
 use Rattle.keyspace.specs.Places.{ArePlaces}
 use Rattle.keyspace.specs.declared.batch.Batch.{Batch}
 use Rattle.keyspace.specs.declared.reply.Verdict.{Verdict}
 use Rattle.keyspace.specs.declared.reply.Verdict.TheVariants.{Conflict, TooOld, Committed}
 use Rattle.keyspace.specs.declared.reply.Reply.{Reply}
+use Rattle.wire.specs.declared.field.TheConstants.{MAX_BODY_LENGTH}
 use Rattle.wire.specs.Fields.{RangeFields, TxnFields, BatchFields, batch_fields, EntryFields, ReplyFields, reply_fields}
 
 abbrev pub signed_text : ℤ → List ℕ
@@ -66,8 +69,8 @@ pub record RangeHolds (range : RangeFields) : Type 0 where
 pub record TxnHolds (txn : TxnFields) : Type 0 where
   pub snapshot_fits : FitsSigned w64 txn.snapshot
   pub snapshot : pos 0 ≤ℤ txn.snapshot
-  pub few_reads : length txn.reads ≤ 1024
-  pub few_writes : length txn.writes ≤ 1024
+  pub few_reads : length txn.reads ≤ MAX_RANGES
+  pub few_writes : length txn.writes ≤ MAX_RANGES
   pub reads : AllByRecursion RangeHolds txn.reads
   pub writes : AllByRecursion RangeHolds txn.writes
 
@@ -80,23 +83,23 @@ pub record BatchHolds (batch : BatchFields) : Type 0 where
   pub rises : batch.previous <ℤ batch.version
   pub received : negsuc 0 ≤ℤ batch.received
   pub received_before : batch.received <ℤ batch.version
-  pub few : length batch.txns ≤ 4096
+  pub few : length batch.txns ≤ MAX_TXNS
   pub txns : AllByRecursion TxnHolds batch.txns
 
 pub record EntryHolds (entry : EntryFields) : Type 0 where
-  pub few : length entry.places ≤ 1024
+  pub few : length entry.places ≤ MAX_RANGES
   pub only_conflict : entry.verdict ≢ Conflict → entry.places ≡ []
   pub places : ArePlaces entry.places
 
 pub record ReplyHolds (reply : ReplyFields) : Type 0 where
   pub version_fits : FitsSigned w64 reply.version
   pub version : pos 0 ≤ℤ reply.version
-  pub few : length reply.entries ≤ 4096
+  pub few : length reply.entries ≤ MAX_TXNS
   pub entries : AllByRecursion EntryHolds reply.entries
 
--- the longest body of a frame, in bytes, is 4,194,304
+-- the longest body of a frame
 abbrev pub IsShort : List ℕ → Type 0
-IsShort body = length body ≤ 4194304
+IsShort body = length body ≤ MAX_BODY_LENGTH
 
 -- the bytes are the frame of the batch, all of them
 pub record SpellsBatch (bytes : List ℕ) (batch : Batch) : Type 0 where

@@ -12,7 +12,7 @@ use std::alloc::Global;
 
 const KIND: u8 = 1;
 
-/// The previous version, the version and the last received version, and the bytes after them.
+// Reads the previous version, the version and the last received version.
 #[tactic(auto, unfolding(crate::specs::Reading::header_at, crate::specs::Reading::version_at))]
 fn header_of(bytes: &[u8]) -> Result<((i64, i64, i64), &[u8]), WireError>
     ensures reads { Gives (λ x. (x.0, x.1.now)) result (header_at bytes.now) }
@@ -39,7 +39,7 @@ fn header_of(bytes: &[u8]) -> Result<((i64, i64, i64), &[u8]), WireError>
 
 #[tactic(auto, unfolding(crate::specs::Reading::batch_at))]
 fn batch_of(alloc: Global, bytes: &[u8]) -> Result<(Batch, &[u8]), WireError>
-    ensures { Gives (λ x. (batch_fields x.0, x.1.now)) result (batch_at bytes.now) }
+    ensures reads { Gives (λ x. (batch_fields x.0, x.1.now)) result (batch_at bytes.now) }
 {
     let ((previous, version, received), rest) = header_of(bytes)?;
     let (count, rest) = count_of(MAX_TXNS as u16, rest)?;
@@ -48,7 +48,7 @@ fn batch_of(alloc: Global, bytes: &[u8]) -> Result<(Batch, &[u8]), WireError>
     Ok((batch, rest))
 }
 
-/// As [`decode_batch`], for the layers of this crate.
+/// As [`decode_batch`], for the modules of this crate.
 #[tactic(auto, unfolding(crate::specs::Reading::read_batch))]
 pub fn read_frame(alloc: Global, bytes: &[u8]) -> Result<(Batch, usize), WireError>
     ensures reads { Gives (λ x. batch_fields x.0) result (read_batch bytes.now) }
@@ -62,13 +62,12 @@ pub fn read_frame(alloc: Global, bytes: &[u8]) -> Result<(Batch, usize), WireErr
     Ok((batch, 4 + body.len()))
 }
 
-/// The batch that the one frame at the front spells, and the bytes that the frame takes. Whatever follows the frame
-/// doesn't matter. What is allocated for a frame is bounded by the frame's own bytes, whether it is refused or not.
+/// Decodes the frame at the front and returns its batch and its length in bytes. What follows the frame isn't looked
+/// at. A refusal other than `Memory` is the frame's first fault.
 pub fn decode_batch(alloc: Global, bytes: &[u8]) -> Result<(Batch, usize), WireError>
     ensures within { IfOk result (λ found. found.1 ≤ length bytes.now) }
     ensures spelled { IfOk result (λ found. SpellsBatch (take found.1 bytes.now) found.0) }
     ensures ok { OnOk result (batch_fault bytes.now ≡ None) }
-    // But for want of memory, a refusal is the first fault.
     ensures fault { IfErr result (λ e. e ≢ WireError.Memory → batch_fault bytes.now ≡ Some e) }
     ensures never_read { IfErr result (λ e. e ≢ WireError.Read) }
 {

@@ -1,4 +1,4 @@
-//! Values to frames. The length of a frame is known before it is written, so its memory is taken at once.
+//! Encodes values as frames. The length of a frame is known before it is written, so its memory is taken at once.
 
 ghost use Rattle.std.specs.Prelude.{◌≡◌, ◌⊎◌, ◌↔◌, ◌++◌, ◌<◌, ◌≤◌, length, OnOk, IfOk, IfErr, IsErrOf};
 ghost use Rattle.byteorder.specs.Endian.{big_bytes};
@@ -12,7 +12,7 @@ use crate::put::{put_entries, put_i64, put_txns, put_u16, put_u32};
 use keyspace::{Batch, Reply};
 use std::alloc::{AllocError, Global};
 
-/// The length of a body, with room for the body behind it.
+// Begins a frame with the length of its body, and takes memory for the body behind it.
 fn begin_frame(alloc: Global, length: usize) -> Result<Vec<u8>, WireError>
     ensures text { IfOk result (λ out. out.items ≡ big_bytes 4 length) }
     ensures short { OnOk result (length ≤ MAX_BODY_LENGTH) }
@@ -41,7 +41,7 @@ fn put_batch(out: &mut Vec<u8>, batch: &Batch) -> Result<(), AllocError>
     Ok(())
 }
 
-/// The frame that spells the batch. It is refused as `Long` exactly where its body exceeds [`MAX_BODY_LENGTH`].
+/// Encodes a batch as a frame. Returns `Long` exactly where its body exceeds [`MAX_BODY_LENGTH`].
 pub fn encode_batch(alloc: Global, batch: &Batch) -> Result<Vec<u8>, WireError>
     ensures spelled { IfOk result (λ bytes. SpellsBatch bytes.items batch.now) }
     ensures long { IsErrOf result WireError.Long ↔ (MAX_BODY_LENGTH < length (batch_body (batch_fields batch.now))) }
@@ -64,8 +64,8 @@ fn put_reply(out: &mut Vec<u8>, reply: &Reply) -> Result<(), AllocError>
     Ok(())
 }
 
-/// The frame that spells the reply. It is refused as `Long` exactly where its body exceeds [`MAX_BODY_LENGTH`]: never
-/// for the reply to a batch whose own frame is not.
+/// Encodes a reply as a frame. Returns `Long` exactly where its body exceeds [`MAX_BODY_LENGTH`]. The right reply to a
+/// batch that has a frame fits (`laws::reply_fits`).
 pub fn encode_reply(alloc: Global, reply: &Reply) -> Result<Vec<u8>, WireError>
     ensures spelled { IfOk result (λ bytes. SpellsReply bytes.items reply.now) }
     ensures long { IsErrOf result WireError.Long ↔ (MAX_BODY_LENGTH < length (reply_body (reply_fields reply.now))) }

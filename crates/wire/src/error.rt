@@ -5,8 +5,8 @@ use crate::source::Failed;
 use std::alloc::{AllocError, AllocFailed};
 use thiserror::Error;
 
-/// Why there is no value: the first fault of the bytes, or that memory ran out, or that the reader failed. Each has
-/// its number and its name as its text.
+/// Why there is no value: the first fault of the bytes, memory that ran out, or a reader that failed. The text of each
+/// is its number and its name, as `1 Short`.
 #[derive(Clone, Copy, Debug, PartialEq, Eq, Error)]
 pub enum WireError {
     /// The input ends inside a frame.
@@ -21,16 +21,16 @@ pub enum WireError {
     /// Bytes are left over in the body.
     #[error("4 Trailing")]
     Trailing = 4,
-    /// A version or a snapshot is against the limits.
+    /// A version or a snapshot is outside its limits.
     #[error("5 Version")]
     Version = 5,
     /// The byte of marks is above 1, or a place is too high or not above the place before it.
     #[error("6 Marks")]
     Marks = 6,
-    /// A count is above its limit, or places stand where the verdict isn't conflict.
+    /// A count is above its limit, or a verdict other than conflict has places.
     #[error("7 Count")]
     Count = 7,
-    /// A key is longer than a key of a range may be.
+    /// A key is longer than `MAX_KEY_LENGTH`.
     #[error("8 KeyLength")]
     KeyLength = 8,
     /// A range's begin is after its end.
@@ -39,10 +39,10 @@ pub enum WireError {
     /// The body ends inside a field.
     #[error("10 Cut")]
     Cut = 10,
-    /// A growth of memory was refused in the call.
+    /// A growth of memory was refused in this call.
     #[error("11 Memory")]
     Memory = 11,
-    /// The reader failed in the call.
+    /// The reader failed in this call.
     #[error("12 Read")]
     Read = 12,
 }

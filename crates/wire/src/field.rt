@@ -1,6 +1,6 @@
-//! The fields that all frames are made of. Each reader gives a value and the bytes after it.
+//! The fields that frames are made of. Each function reads one at the front and returns it with the bytes after it.
 
-ghost use Rattle.std.specs.Prelude.{◌≡◌, ◌≤◌, IfOk, length};
+ghost use Rattle.std.specs.Prelude.{◌≡◌, ◌⊎◌, ◌+◌, ◌*◌, ◌<◌, ◌≤◌, IfOk, length};
 ghost use Rattle.byteorder.specs.Endian.{big_number};
 ghost use Rattle.wire.specs.Reading.{Gives, number_at, signed_at, count_at, marks_at, kind_at, key_at, body_at};
 
@@ -12,8 +12,9 @@ use std::alloc::Global;
 /// The longest body of a frame, in bytes.
 pub const MAX_BODY_LENGTH: usize = 4_194_304;
 
+/// Reads a number of one byte.
 pub fn u8_at(bytes: &[u8]) -> Result<(u8, &[u8]), WireError>
-    ensures { Gives (λ x. (x.0, x.1.now)) result (number_at 1 bytes.now) }
+    ensures reads { Gives (λ x. (x.0, x.1.now)) result (number_at 1 bytes.now) }
 {
     match bytes {
         [] => Err(WireError::Cut),
@@ -21,8 +22,9 @@ pub fn u8_at(bytes: &[u8]) -> Result<(u8, &[u8]), WireError>
     }
 }
 
+/// Reads a number of two bytes.
 pub fn u16_at(bytes: &[u8]) -> Result<(u16, &[u8]), WireError>
-    ensures { Gives (λ x. (x.0, x.1.now)) result (number_at 2 bytes.now) }
+    ensures reads { Gives (λ x. (x.0, x.1.now)) result (number_at 2 bytes.now) }
 {
     if bytes.len() < 2 {
         return Err(WireError::Cut);
@@ -30,9 +32,9 @@ pub fn u16_at(bytes: &[u8]) -> Result<(u16, &[u8]), WireError>
     Ok((BigEndian::read_u16(bytes), &bytes[2..]))
 }
 
-/// A version or a snapshot, whatever its limits are.
+/// Reads a version or a snapshot, whatever its limits are.
 pub fn i64_at(bytes: &[u8]) -> Result<(i64, &[u8]), WireError>
-    ensures { Gives (λ x. (x.0, x.1.now)) result (signed_at bytes.now) }
+    ensures reads { Gives (λ x. (x.0, x.1.now)) result (signed_at bytes.now) }
 {
     if bytes.len() < 8 {
         return Err(WireError::Cut);
@@ -40,7 +42,7 @@ pub fn i64_at(bytes: &[u8]) -> Result<(i64, &[u8]), WireError>
     Ok((BigEndian::read_i64(bytes), &bytes[8..]))
 }
 
-/// A count of at most `limit` values.
+/// Reads a count of at most `limit`.
 #[tactic(auto, unfolding(crate::specs::Reading::count_at))]
 pub fn count_of(limit: u16, bytes: &[u8]) -> Result<(u16, &[u8]), WireError>
     ensures reads { Gives (λ x. (x.0, x.1.now)) result (count_at limit bytes.now) }
@@ -53,10 +55,10 @@ pub fn count_of(limit: u16, bytes: &[u8]) -> Result<(u16, &[u8]), WireError>
     Ok((count, rest))
 }
 
-/// Whether the report is asked for.
+/// Reads whether the report is asked for.
 #[tactic(auto, unfolding(crate::specs::Reading::marks_at))]
 pub fn marks_of(bytes: &[u8]) -> Result<(bool, &[u8]), WireError>
-    ensures { Gives (λ x. (x.0, x.1.now)) result (marks_at bytes.now) }
+    ensures reads { Gives (λ x. (x.0, x.1.now)) result (marks_at bytes.now) }
 {
     let (marks, rest) = u8_at(bytes)?;
     if marks > 1 {
@@ -65,10 +67,10 @@ pub fn marks_of(bytes: &[u8]) -> Result<(bool, &[u8]), WireError>
     Ok((marks == 1, rest))
 }
 
-/// The bytes after the kind, which is to be this one.
+/// Reads the kind, which has to be this one, and returns the bytes after it.
 #[tactic(auto, unfolding(crate::specs::Reading::kind_at))]
 pub fn after_kind(kind: u8, bytes: &[u8]) -> Result<&[u8], WireError>
-    ensures { Gives (λ x. x.now) result (kind_at kind bytes.now) }
+    ensures reads { Gives (λ x. x.now) result (kind_at kind bytes.now) }
 {
     let (found, rest) = u8_at(bytes)?;
     if found != kind {
@@ -77,10 +79,21 @@ pub fn after_kind(kind: u8, bytes: &[u8]) -> Result<&[u8], WireError>
     Ok(rest)
 }
 
-/// A key, whose bytes are copied here and nowhere else.
+/// Returns for how many of `count` values to take memory at once: no more than the bytes can hold, where each value
+/// takes at least `least` of them.
+pub fn room_for(count: u16, least: usize, bytes: &[u8]) -> usize
+    requires some { 0 < least }
+    ensures few { result ≤ count }
+    ensures held { result * least ≤ length bytes.now }
+    ensures most { (result ≡ count) ⊎ (length bytes.now < (result + 1) * least) }
+{
+    (count as usize).min(bytes.len() / least)
+}
+
+/// Reads a key. Its bytes are copied here and nowhere else.
 #[tactic(auto, unfolding(crate::specs::Reading::key_at))]
 pub fn key_of(alloc: Global, bytes: &[u8]) -> Result<(Key, &[u8]), WireError>
-    ensures { Gives (λ x. (x.0, x.1.now)) result (key_at bytes.now) }
+    ensures reads { Gives (λ x. (x.0, x.1.now)) result (key_at bytes.now) }
 {
     let (length, rest) = u16_at(bytes)?;
     let length = length as usize;
@@ -94,7 +107,7 @@ pub fn key_of(alloc: Global, bytes: &[u8]) -> Result<(Key, &[u8]), WireError>
     Ok((Key::new(Vec::from_slice(alloc, key)?), rest))
 }
 
-/// The body of the frame at the front.
+/// Returns the body of the frame at the front.
 #[tactic(auto, unfolding(crate::specs::Reading::body_at))]
 pub fn body_of(bytes: &[u8]) -> Result<&[u8], WireError>
     ensures reads { Gives (λ x. x.now) result (body_at bytes.now) }

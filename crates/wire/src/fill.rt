@@ -1,4 +1,4 @@
-//! Reading the bytes of one frame, and none beyond it.
+//! Reads the bytes of one frame, and none beyond it.
 
 ghost use Rattle.std.specs.Prelude.{◌≡◌, ◌≢◌, ◌<◌, ◌≤◌, ◌+◌, length, take, vec_len, IfOk, IfErr, OnOk};
 ghost use Rattle.std.specs.Io.KnownBytes.{Keeps, IsAtEnd, prepend_known};
@@ -9,17 +9,17 @@ use crate::field::MAX_BODY_LENGTH;
 use crate::source::Source;
 use byteorder::{BigEndian, ByteOrder};
 
-/// The most bytes that are asked of the reader at once. So a length that no body follows takes little memory.
+// The most bytes asked of the reader at once. So a length that no body follows takes little memory.
 const CHUNK_LENGTH: usize = 4_096;
 
-/// Reads once, and puts at most so many bytes at the end. Tells how many.
+// Reads once, appends at most `most` bytes to the buffer and returns how many.
 #[tactic(auto, using(crate::proofs::Known::prepended))]
 fn read_more<R: Source>(
     reader: &mut R,
     buffer: &mut Vec<u8>,
     most: usize,
 ) -> Result<usize, WireError>
-    requires { 0 < most }
+    requires some { 0 < most }
     ensures joined { OnOk result (Keeps (prepend_known buffer.old.items (R.remaining reader.old))
         (prepend_known buffer.new.items (R.remaining reader.new))) }
     ensures front { OnOk result (take (vec_len buffer.old) buffer.new.items ≡ buffer.old.items) }
@@ -37,10 +37,10 @@ fn read_more<R: Source>(
     Ok(count)
 }
 
-/// Reads until there are so many bytes, or the input ends.
+// Reads until the buffer holds `target` bytes or the input ends.
 #[tactic(auto, using(crate::proofs::Known::keeps_same, crate::proofs::Known::keeps_then))]
 fn fill<R: Source>(reader: &mut R, buffer: &mut Vec<u8>, target: usize) -> Result<(), WireError>
-    requires { vec_len buffer.old ≤ target }
+    requires room { vec_len buffer.old ≤ target }
     ensures joined { OnOk result (Keeps (prepend_known buffer.old.items (R.remaining reader.old))
         (prepend_known buffer.new.items (R.remaining reader.new))) }
     ensures front { OnOk result (take (vec_len buffer.old) buffer.new.items ≡ buffer.old.items) }
@@ -59,10 +59,10 @@ fn fill<R: Source>(reader: &mut R, buffer: &mut Vec<u8>, target: usize) -> Resul
     Ok(())
 }
 
-/// How many bytes of the frame at the front settle what it says.
+// Returns how many bytes of the frame at the front settle what it says.
 #[tactic(auto, unfolding(crate::specs::FrameLength::frame_length))]
 fn settled_by(front: &[u8]) -> usize
-    ensures { result ≡ frame_length front.now }
+    ensures exact { result ≡ frame_length front.now }
 {
     if front.len() < 4 {
         return 4;
@@ -74,7 +74,7 @@ fn settled_by(front: &[u8]) -> usize
     4 + length
 }
 
-/// Reads the bytes of the next frame, as many as settle what it says, or all that are left.
+/// Reads the bytes of the next frame into the buffer: as many as settle what it says, or all that are left.
 #[tactic(auto, using(crate::proofs::Known::prepended_none, crate::proofs::Known::keeps_then, crate::proofs::FrameLengths::same_length, crate::proofs::FrameLengths::at_least_four))]
 pub fn fill_frame<R: Source>(reader: &mut R, buffer: &mut Vec<u8>) -> Result<(), WireError>
     ensures joined { OnOk result (Keeps (R.remaining reader.old) (prepend_known buffer.new.items (R.remaining reader.new))) }

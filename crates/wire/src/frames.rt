@@ -10,17 +10,18 @@ use crate::source::Source;
 use keyspace::Batch;
 use std::alloc::Global;
 
-/// The batches of an input that is frame after frame. No byte beyond the frame that is asked for is read.
+/// Iterates over the batches of a reader, frame after frame. Reads no byte beyond the frame that is asked for.
 #[derive(Debug, Drop)]
 pub struct Frames<R> {
     reader: R,
     alloc: Global,
-    /// The bytes of the frame that was read last. Their memory serves the next.
+    // The bytes of the frame that was read last. Their memory serves the next.
     buffer: Vec<u8>,
+    // The refusal that ended the frames.
     refusal: Option<WireError>,
 }
 
-/// The frames of a reader. A new `Frames` holds no bytes, and nothing is read yet.
+/// Returns the frames of a reader. Reads nothing yet.
 pub fn read_frames<R: Source>(alloc: Global, reader: R) -> Frames<R>
     ensures reader { frames_reader result ≡ reader }
     ensures fresh { refusal_of result ≡ None }
@@ -33,6 +34,7 @@ pub fn read_frames<R: Source>(alloc: Global, reader: R) -> Frames<R>
     }
 }
 
+// Returns the batch of the next frame, or `None` at the end of the input.
 fn read_next<R: Source>(
     alloc: Global,
     reader: &mut R,
@@ -54,13 +56,13 @@ fn read_next<R: Source>(
 }
 
 impl<R: Source> Frames<R> {
-    /// The next batch, or `None` where the input ends between two frames. After a refusal every later call answers the
-    /// same refusal, and nothing more is read; nothing of the refused frame is handed on.
+    /// Returns the next batch, or `None` where the input ends between two frames. Returns `Read` only where the reader
+    /// failed in this call. After a refusal every later call returns the same refusal and reads nothing.
     pub fn next(&mut self) -> Result<Option<Batch>, WireError>
         ensures batch { IfOk result (λ found. IfSome found (TakesFrame (R.remaining (frames_reader self.old)) (R.remaining (frames_reader self.new)))) }
         ensures end { IfOk result (λ found. IfNone found (IsAtEnd (R.remaining (frames_reader self.old)) × IsAtEnd (R.remaining (frames_reader self.new)))) }
 
-        // But for want of memory and a failed read, the first refusal is the first fault of what is left.
+        // Where the reader tells its bytes, a first refusal other than `Memory` and `Read` is the first fault of those left.
         ensures fault { refusal_of self.old ≡ None → IfErr result (λ e. e ≢ WireError.Memory → e ≢ WireError.Read → IfSome (R.remaining (frames_reader self.old)) (IsFaultOf e)) }
         ensures read { refusal_of self.old ≡ None → (IsErrOf result WireError.Read ↔ (R.failures (frames_reader self.old) < R.failures (frames_reader self.new))) }
 
@@ -68,6 +70,7 @@ impl<R: Source> Frames<R> {
         ensures rests { IsSome (refusal_of self.old) → frames_reader self.new ≡ frames_reader self.old }
         ensures err { IfErr result (λ e. refusal_of self.new ≡ Some e) }
         ensures ok { OnOk result (refusal_of self.new ≡ None) }
+        ensures steady { OnOk result (R.failures (frames_reader self.new) ≡ R.failures (frames_reader self.old)) }
     {
         if let Some(refusal) = self.refusal {
             return Err(refusal);

@@ -1,4 +1,4 @@
-//! What holds of the definitions, each as the contract of a function that does nothing.
+//! Laws about the definitions, each the contract of a function that does nothing.
 
 ghost use Rattle.std.specs.Prelude.{◌≡◌, ◌≢◌, ◌++◌, ℤ, ℕ, List, None};
 ghost use Rattle.keyspace.specs.declared.batch.Batch.{Batch as BatchValue};
@@ -24,9 +24,9 @@ pub fn one_spelling()
     ensures kinds { (x y s t : List ℕ) (a : BatchValue) (r : ReplyValue) → SpellsBatch x a → SpellsReply y r → x ++ s ≢ y ++ t }
 {}
 
-/// The reply to a batch fits a frame where the batch does: it has no more entries than the batch has transactions and, for
-/// each, no more places than read ranges.
+/// The right reply to a batch that fits a frame fits one too: it has no more entries than the batch has transactions
+/// and, for each, no more places than read ranges.
 pub fn reply_fits()
-    ensures { (window : ℤ) (ws : List Write) (b : BatchValue) (r : ReplyValue) → Judged window ws b r
+    ensures fits { (window : ℤ) (ws : List Write) (b : BatchValue) (r : ReplyValue) → Judged window ws b r
         → IsShort (batch_body (batch_fields b)) → IsShort (reply_body (reply_fields r)) }
 {}

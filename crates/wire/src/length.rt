@@ -1,4 +1,4 @@
-//! How many bytes the text of a value has, known before any of it is written.
+//! The length of a value's text in bytes, known before any of it is written.
 
 ghost use Rattle.std.specs.Prelude.{◌≡◌, ◌≤◌, ◌*◌, length, map};
 ghost use Rattle.std.specs.List.{flat_map};
@@ -22,7 +22,7 @@ fn range_length(range: &Range) -> usize
 }
 
 fn ranges_length(ranges: &[Range]) -> usize
-    requires { length ranges.now ≤ MAX_RANGES }
+    requires few { length ranges.now ≤ MAX_RANGES }
     ensures exact { result ≡ length (flat_map range_text (map range_fields ranges.now)) }
     ensures bound { result ≤ 20006 * MAX_RANGES }
 {
@@ -42,7 +42,7 @@ fn txn_length(txn: &Txn) -> usize
 }
 
 fn txns_length(txns: &[Txn]) -> usize
-    requires { length txns.now ≤ MAX_TXNS }
+    requires few { length txns.now ≤ MAX_TXNS }
     ensures exact { result ≡ length (flat_map txn_text (map txn_fields txns.now)) }
     ensures bound { result ≤ 40972301 * MAX_TXNS }
 {
@@ -53,10 +53,10 @@ fn txns_length(txns: &[Txn]) -> usize
     total
 }
 
-/// The bytes of the body of a batch.
+/// Returns the length of the body of a batch, in bytes.
 #[tactic(auto, unfolding(crate::specs::Spelling::batch_body))]
 pub fn batch_length(batch: &Batch) -> usize
-    ensures { result ≡ length (batch_body (batch_fields batch.now)) }
+    ensures exact { result ≡ length (batch_body (batch_fields batch.now)) }
 {
     27 + txns_length(batch.txns.as_slice())
 }
@@ -70,7 +70,7 @@ fn entry_length(entry: &Entry) -> usize
 }
 
 fn entries_length(entries: &[Entry]) -> usize
-    requires { length entries.now ≤ MAX_TXNS }
+    requires few { length entries.now ≤ MAX_TXNS }
     ensures exact { result ≡ length (flat_map entry_text (map entry_fields entries.now)) }
     ensures bound { result ≤ 2051 * MAX_TXNS }
 {
@@ -81,10 +81,10 @@ fn entries_length(entries: &[Entry]) -> usize
     total
 }
 
-/// The bytes of the body of a reply.
+/// Returns the length of the body of a reply, in bytes.
 #[tactic(auto, unfolding(crate::specs::Spelling::reply_body))]
 pub fn reply_length(reply: &Reply) -> usize
-    ensures { result ≡ length (reply_body (reply_fields reply.now)) }
+    ensures exact { result ≡ length (reply_body (reply_fields reply.now)) }
 {
     11 + entries_length(reply.entries.as_slice())
 }

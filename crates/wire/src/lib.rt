@@ -2,11 +2,11 @@
 //!
 //! `specs/` holds what has to be believed, to be read in this order: `Fields` (what a frame says), `Spelling` (how each
 //! value is spelled, and what must hold of it), `Reading` (the fault that reading meets first) and, for a stream of
-//! frames, `Source`, `NextFrame` and `Frames`. Of these the code keeps nothing but a place in the bytes.
+//! frames, `Source`, `NextFrame` and `Frames`. Of these the code keeps nothing but a cursor in the bytes.
 //!
-//! The layers above use [`decode_batch`] and [`decode_reply`], which read exactly the frames that spell a value and
-//! name the first fault of any other; [`encode_batch`] and [`encode_reply`], which write them; and [`Frames`], the
-//! batches of a reader one after the other, however it cuts its bytes.
+//! The layers above use [`decode_batch`] and [`decode_reply`], which decode exactly the frames that spell a value and
+//! name the first fault of any other; [`encode_batch`] and [`encode_reply`], which encode them; and [`Frames`], which
+//! iterates over the batches of a reader, however it cuts its bytes.
 #![tactic(auto)]
 
 mod batch;

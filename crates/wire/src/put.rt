@@ -1,4 +1,4 @@
-//! Writing fields at the end of a text.
+//! Appends the text of a field to a text.
 
 ghost use Rattle.std.specs.Prelude.{◌≡◌, ◌++◌, OnOk, length, map};
 ghost use Rattle.std.specs.Int.{w64};
@@ -12,19 +12,21 @@ ghost use Rattle.wire.specs.Spelling.{signed_text, key_text, range_text, marks_t
 use keyspace::{Entry, Key, Range, Txn, Verdict};
 use std::alloc::AllocError;
 
+/// Appends a number of two bytes.
 pub fn put_u16(out: &mut Vec<u8>, number: u16) -> Result<(), AllocError>
-    ensures { OnOk result (out.new.items ≡ out.old.items ++ big_bytes 2 number) }
+    ensures text { OnOk result (out.new.items ≡ out.old.items ++ big_bytes 2 number) }
 {
     out.extend_from_slice(&number.to_be_bytes())
 }
 
+/// Appends a number of four bytes.
 pub fn put_u32(out: &mut Vec<u8>, number: u32) -> Result<(), AllocError>
-    ensures { OnOk result (out.new.items ≡ out.old.items ++ big_bytes 4 number) }
+    ensures text { OnOk result (out.new.items ≡ out.old.items ++ big_bytes 4 number) }
 {
     out.extend_from_slice(&number.to_be_bytes())
 }
 
-/// A version or a snapshot.
+/// Appends a version or a snapshot.
 pub fn put_i64(out: &mut Vec<u8>, number: i64) -> Result<(), AllocError>
     ensures text { OnOk result (out.new.items ≡ out.old.items ++ signed_text number) }
     ensures fits { FitsSigned w64 number }
@@ -33,7 +35,7 @@ pub fn put_i64(out: &mut Vec<u8>, number: i64) -> Result<(), AllocError>
 }
 
 fn put_marks(out: &mut Vec<u8>, marked: bool) -> Result<(), AllocError>
-    ensures { OnOk result (out.new.items ≡ out.old.items ++ marks_text marked) }
+    ensures text { OnOk result (out.new.items ≡ out.old.items ++ marks_text marked) }
 {
     if marked {
         out.push(1)?;
@@ -44,7 +46,7 @@ fn put_marks(out: &mut Vec<u8>, marked: bool) -> Result<(), AllocError>
 }
 
 fn put_key(out: &mut Vec<u8>, key: &Key) -> Result<(), AllocError>
-    ensures { OnOk result (out.new.items ≡ out.old.items ++ key_text key.now) }
+    ensures text { OnOk result (out.new.items ≡ out.old.items ++ key_text key.now) }
 {
     let bytes = key.as_bytes();
     put_u16(out, bytes.len() as u16)?;
@@ -52,14 +54,14 @@ fn put_key(out: &mut Vec<u8>, key: &Key) -> Result<(), AllocError>
 }
 
 fn put_range(out: &mut Vec<u8>, range: &Range) -> Result<(), AllocError>
-    ensures { OnOk result (out.new.items ≡ out.old.items ++ range_text (range_fields range.now)) }
+    ensures text { OnOk result (out.new.items ≡ out.old.items ++ range_text (range_fields range.now)) }
 {
     put_key(out, &range.begin)?;
     put_key(out, &range.end)
 }
 
 fn put_ranges(out: &mut Vec<u8>, ranges: &[Range]) -> Result<(), AllocError>
-    ensures { OnOk result (out.new.items ≡ out.old.items ++ flat_map range_text (map range_fields ranges.now)) }
+    ensures text { OnOk result (out.new.items ≡ out.old.items ++ flat_map range_text (map range_fields ranges.now)) }
 {
     for range in ranges {
         put_range(out, range)?;
@@ -92,7 +94,7 @@ pub fn put_txns(out: &mut Vec<u8>, txns: &[Txn]) -> Result<(), AllocError>
 }
 
 fn put_places(out: &mut Vec<u8>, places: &[u16]) -> Result<(), AllocError>
-    ensures { OnOk result (out.new.items ≡ out.old.items ++ places_text places.now) }
+    ensures text { OnOk result (out.new.items ≡ out.old.items ++ places_text places.now) }
 {
     for place in places {
         put_u16(out, *place)?;
@@ -101,7 +103,7 @@ fn put_places(out: &mut Vec<u8>, places: &[u16]) -> Result<(), AllocError>
 }
 
 fn put_verdict(out: &mut Vec<u8>, verdict: Verdict) -> Result<(), AllocError>
-    ensures { OnOk result (out.new.items ≡ out.old.items ++ verdict_text verdict) }
+    ensures text { OnOk result (out.new.items ≡ out.old.items ++ verdict_text verdict) }
 {
     match verdict {
         Verdict::Conflict => out.push(0)?,
@@ -123,6 +125,7 @@ fn put_entry(out: &mut Vec<u8>, entry: &Entry) -> Result<(), AllocError>
     Ok(())
 }
 
+/// Appends the entries of a reply.
 pub fn put_entries(out: &mut Vec<u8>, entries: &[Entry]) -> Result<(), AllocError>
     ensures text { OnOk result (out.new.items ≡ out.old.items ++ flat_map entry_text (map entry_fields entries.now)) }
     ensures places { OnOk result (All (λ entry. ArePlaces entry.places) entries.now) }

@@ -7,21 +7,21 @@ ghost use Rattle.wire.specs.Spelling.{SpellsReply};
 ghost use Rattle.wire.specs.Reading.{Gives, verdict_at, most_places, place_at, places_at, entry_at, many_at, reply_at, read_reply, reply_fault};
 
 use crate::error::WireError;
-use crate::field::{after_kind, body_of, count_of, i64_at, u8_at, u16_at};
+use crate::field::{after_kind, body_of, count_of, i64_at, room_for, u8_at, u16_at};
 use keyspace::{Entry, MAX_RANGES, MAX_TXNS, Places, Reply, Sequence, Verdict};
 use std::alloc::Global;
 
 const KIND: u8 = 2;
 
-/// The fewest bytes that an entry takes.
+// The fewest bytes that an entry takes.
 const MIN_ENTRY_LENGTH: usize = 3;
 
-/// The bytes that a place takes.
+// The bytes that a place takes.
 const PLACE_LENGTH: usize = 2;
 
 #[tactic(auto, unfolding(crate::specs::Reading::verdict_at))]
 fn verdict_of(bytes: &[u8]) -> Result<(Verdict, &[u8]), WireError>
-    ensures { Gives (λ x. (x.0, x.1.now)) result (verdict_at bytes.now) }
+    ensures reads { Gives (λ x. (x.0, x.1.now)) result (verdict_at bytes.now) }
 {
     let (code, rest) = u8_at(bytes)?;
     match code {
@@ -32,9 +32,9 @@ fn verdict_of(bytes: &[u8]) -> Result<(Verdict, &[u8]), WireError>
     }
 }
 
-/// How many places may stand in the report of this verdict.
+// Returns the most places that the report beside this verdict may have.
 fn max_places(verdict: Verdict) -> u16
-    ensures { result ≡ most_places verdict }
+    ensures most { result ≡ most_places verdict }
 {
     match verdict {
         Verdict::Conflict => MAX_RANGES as u16,
@@ -42,7 +42,7 @@ fn max_places(verdict: Verdict) -> u16
     }
 }
 
-/// A place that isn't below `least`.
+// Reads a place that is at least `least`.
 #[tactic(auto, unfolding(crate::specs::Reading::place_at))]
 fn place_of(least: u16, bytes: &[u8]) -> Result<(u16, &[u8]), WireError>
     ensures reads { Gives (λ x. (x.0, x.1.now)) result (place_at least bytes.now) }
@@ -55,13 +55,13 @@ fn place_of(least: u16, bytes: &[u8]) -> Result<(u16, &[u8]), WireError>
     Ok((place, rest))
 }
 
-/// So many places, each above the one before it. Room is taken for no more than the bytes can hold.
+// Reads `count` places, each above the one before it.
 fn places_of(alloc: Global, count: u16, bytes: &[u8]) -> Result<(Vec<u16>, &[u8]), WireError>
     ensures reads { Gives (λ x. (x.0.items, x.1.now)) result (places_at 0 count bytes.now) }
     ensures places { IfOk result (λ x. ArePlaces x.0.items) }
     ensures count { IfOk result (λ x. vec_len x.0 ≡ count) }
 {
-    let room = (count as usize).min(bytes.len() / PLACE_LENGTH);
+    let room = room_for(count, PLACE_LENGTH, bytes);
     let mut places = Vec::with_capacity(alloc, room)?;
     let mut rest = bytes;
     let mut least = 0;
@@ -76,7 +76,7 @@ fn places_of(alloc: Global, count: u16, bytes: &[u8]) -> Result<(Vec<u16>, &[u8]
 
 #[tactic(auto, unfolding(crate::specs::Reading::entry_at))]
 fn entry_of(alloc: Global, bytes: &[u8]) -> Result<(Entry, &[u8]), WireError>
-    ensures { Gives (λ x. (entry_fields x.0, x.1.now)) result (entry_at bytes.now) }
+    ensures reads { Gives (λ x. (entry_fields x.0, x.1.now)) result (entry_at bytes.now) }
 {
     let (verdict, rest) = verdict_of(bytes)?;
     let (count, rest) = count_of(max_places(verdict), rest)?;
@@ -84,12 +84,12 @@ fn entry_of(alloc: Global, bytes: &[u8]) -> Result<(Entry, &[u8]), WireError>
     Ok((Entry::new(verdict, Places::new(places)), rest))
 }
 
-/// So many entries, one after the other. Room is taken for no more than the bytes can hold.
+// Reads `count` entries.
 fn entries_of(alloc: Global, count: u16, bytes: &[u8]) -> Result<(Vec<Entry>, &[u8]), WireError>
     ensures reads { Gives (λ x. (map entry_fields x.0.items, x.1.now)) result (many_at entry_at count bytes.now) }
     ensures count { IfOk result (λ x. vec_len x.0 ≡ count) }
 {
-    let room = (count as usize).min(bytes.len() / MIN_ENTRY_LENGTH);
+    let room = room_for(count, MIN_ENTRY_LENGTH, bytes);
     let mut entries = Vec::with_capacity(alloc, room)?;
     let mut rest = bytes;
     for _ in 0..count {
@@ -102,7 +102,7 @@ fn entries_of(alloc: Global, count: u16, bytes: &[u8]) -> Result<(Vec<Entry>, &[
 
 #[tactic(auto, unfolding(crate::specs::Reading::reply_at, crate::specs::Reading::version_at))]
 fn reply_of(alloc: Global, bytes: &[u8]) -> Result<(Reply, &[u8]), WireError>
-    ensures { Gives (λ x. (reply_fields x.0, x.1.now)) result (reply_at bytes.now) }
+    ensures reads { Gives (λ x. (reply_fields x.0, x.1.now)) result (reply_at bytes.now) }
 {
     let rest = after_kind(KIND, bytes)?;
     let (version, rest) = i64_at(rest)?;
@@ -127,13 +127,12 @@ fn read_frame(alloc: Global, bytes: &[u8]) -> Result<(Reply, usize), WireError>
     Ok((reply, 4 + body.len()))
 }
 
-/// The reply that the one frame at the front spells, and the bytes that the frame takes. Whatever follows the frame
-/// doesn't matter. What is allocated for a frame is bounded by the frame's own bytes, whether it is refused or not.
+/// Decodes the frame at the front and returns its reply and its length in bytes. What follows the frame isn't looked
+/// at. A refusal other than `Memory` is the frame's first fault.
 pub fn decode_reply(alloc: Global, bytes: &[u8]) -> Result<(Reply, usize), WireError>
     ensures within { IfOk result (λ found. found.1 ≤ length bytes.now) }
     ensures spelled { IfOk result (λ found. SpellsReply (take found.1 bytes.now) found.0) }
     ensures ok { OnOk result (reply_fault bytes.now ≡ None) }
-    // But for want of memory, a refusal is the first fault.
     ensures fault { IfErr result (λ e. e ≢ WireError.Memory → reply_fault bytes.now ≡ Some e) }
     ensures never_read { IfErr result (λ e. e ≢ WireError.Read) }
 {

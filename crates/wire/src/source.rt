@@ -1,4 +1,4 @@
-//! Where frames are read from.
+//! The readers that frames come from.
 
 ghost use Rattle.std.specs.Prelude.{◌≡◌, ◌+◌, ◌<◌, ◌≤◌, ℕ, List, Option, length, take, IfOk, OnOk, OnErr};
 ghost use Rattle.std.specs.Io.KnownBytes.{Consumes, IsAtEnd};
@@ -6,7 +6,7 @@ ghost use Rattle.wire.specs.Source.{source_reader, source_failures, source_remai
 
 use std::io::{ErrorKind, Read};
 
-/// The reader failed.
+/// A reader failed.
 #[derive(Clone, Copy, Debug, PartialEq, Eq)]
 pub struct Failed;
 
@@ -18,8 +18,8 @@ pub trait Source {
     // How often it has failed.
     ghost failures: { Self → ℕ };
 
-    /// Reads into the front of the buffer and tells how many bytes it wrote. None are written into a buffer that isn't
-    /// empty only at the end.
+    /// Reads into the front of the buffer and returns how many bytes it wrote. Returns 0 for a non-empty buffer only at
+    /// the end of the input.
     fn read(&mut self, buffer: &mut [u8]) -> Result<usize, Failed>
         ensures bound { IfOk result (λ n. n ≤ length buffer.new) }
         ensures bytes { IfOk result (λ n. Consumes (remaining self.old) (remaining self.new) (take n buffer.new)) }
@@ -28,11 +28,11 @@ pub trait Source {
         ensures failed { OnErr result (failures self.new ≡ failures self.old + 1) };
 }
 
-/// The most times that one read is tried again after an interruption.
+// The most times that one read is tried again after an interruption.
 const MAX_RETRIES: u32 = 1_000;
 
-/// A [`Source`] of any reader of `std`. After an interruption it tries again, at most 1,000 times in one call.
-/// Its count of failures ends at the greatest `u64`: from then on it tells no bytes and gives none.
+/// A [`Source`] over any reader of `std`. After an interruption it tries again, at most 1,000 times in one call. Its
+/// count of failures stops at `u64::MAX`: from then on it tells no bytes and gives none.
 #[derive(Debug, Drop)]
 pub struct StdSource<R> {
     reader: R,
@@ -40,6 +40,7 @@ pub struct StdSource<R> {
 }
 
 impl<R> StdSource<R> {
+    /// Creates a source over the reader, which hasn't failed yet.
     pub fn new(reader: R) -> Self
         ensures reader { source_reader result ≡ reader }
         ensures failures { source_failures result ≡ 0 }

@@ -9,27 +9,27 @@ mod batches;
 mod frames;
 mod replies;
 
-/// `-1>0`, received -1, no transactions.
+// `-1>0`, received -1, no transactions.
 const EMPTY_BATCH: &str = "0000001b 01 ffffffffffffffff 0000000000000000 ffffffffffffffff 0000";
 
-/// `0>100`, received -1, one transaction with snapshot 0, no mark, no reads and the write [a,b).
+// `0>100`, received -1, one transaction with snapshot 0, no mark, no reads and the write [a,b).
 const ONE_WRITE: &str = "0000002e 01 0000000000000000 0000000000000064 ffffffffffffffff 0001 \
      0000000000000000 00 0000 0001 0001 61 0001 62";
 
-/// Version 0, no entries. It answers [`EMPTY_BATCH`].
+// Version 0, no entries. It answers [`EMPTY_BATCH`].
 const EMPTY_REPLY: &str = "0000000b 02 0000000000000000 0000";
 
-/// Version 100, committed, and conflict with place 0.
+// Version 100, committed, and conflict with place 0.
 const COMMITTED_AND_CONFLICT: &str = "00000013 02 0000000000000064 0002 02 0000 00 0001 0000";
 
-/// Version 100, one entry committed. It answers [`ONE_WRITE`].
+// Version 100, one entry committed. It answers [`ONE_WRITE`].
 const ONE_COMMITTED: &str = "0000000e 02 0000000000000064 0001 02 0000";
 
 const EMPTY_BATCH_SHOWN: &str = "-1>0 received -1";
 
 const ONE_WRITE_SHOWN: &str = "0>100 received -1; @0 W[61,62)";
 
-/// The bytes of a text in hexadecimal.
+// The bytes of a text in hexadecimal.
 fn bytes_of(alloc: Global, text: &str) -> Result<Vec<u8>, Fail> {
     let mut digits = Vec::new(alloc);
     for field in text.split_whitespace() {
@@ -38,7 +38,7 @@ fn bytes_of(alloc: Global, text: &str) -> Result<Vec<u8>, Fail> {
     Ok(hex::decode(alloc, digits.as_slice())?)
 }
 
-/// A batch as text: versions, then each transaction with its snapshot, its mark and its ranges in hexadecimal.
+// A batch as text: versions, then each transaction with its snapshot, its mark and its ranges in hexadecimal.
 fn show_batch(alloc: Global, batch: &Batch) -> Result<String, Fail> {
     let previous = batch.previous;
     let version = batch.version;
@@ -67,7 +67,7 @@ fn show_range(alloc: Global, text: &mut String, kind: &str, range: &Range) -> Re
     Ok(())
 }
 
-/// A reply as text: its version, then each verdict with its places.
+// A reply as text: its version, then each verdict with its places.
 fn show_reply(alloc: Global, reply: &Reply) -> Result<String, Fail> {
     let version = reply.version;
     let mut text = format!(in alloc; "{version}")?;
@@ -82,6 +82,28 @@ fn show_reply(alloc: Global, reply: &Reply) -> Result<String, Fail> {
         }
     }
     Ok(text)
+}
+
+#[test]
+fn texts_of_refusals(rt: HostRuntime) -> Result<(), Fail> {
+    for (refusal, text) in [
+        (WireError::Short, "1 Short"),
+        (WireError::Long, "2 Long"),
+        (WireError::Kind, "3 Kind"),
+        (WireError::Trailing, "4 Trailing"),
+        (WireError::Version, "5 Version"),
+        (WireError::Marks, "6 Marks"),
+        (WireError::Count, "7 Count"),
+        (WireError::KeyLength, "8 KeyLength"),
+        (WireError::Inverted, "9 Inverted"),
+        (WireError::Cut, "10 Cut"),
+        (WireError::Memory, "11 Memory"),
+        (WireError::Read, "12 Read"),
+    ] {
+        let shown = format!(in rt.alloc(); "{refusal}")?;
+        assert_eq!(rt; shown.as_str(), text);
+    }
+    Ok(())
 }
 
 #[test]

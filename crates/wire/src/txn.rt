@@ -3,17 +3,17 @@ ghost use Rattle.wire.specs.Fields.{txn_fields};
 ghost use Rattle.wire.specs.Reading.{Gives, txn_at, many_at};
 
 use crate::error::WireError;
-use crate::field::{count_of, i64_at, marks_of};
+use crate::field::{count_of, i64_at, marks_of, room_for};
 use crate::range::ranges_of;
 use keyspace::{MAX_RANGES, Sequence, Txn};
 use std::alloc::Global;
 
-/// The fewest bytes that a transaction takes.
+// The fewest bytes that a transaction takes.
 const MIN_TXN_LENGTH: usize = 13;
 
 #[tactic(auto, unfolding(crate::specs::Reading::txn_at, crate::specs::Reading::version_at))]
 fn txn_of(alloc: Global, bytes: &[u8]) -> Result<(Txn, &[u8]), WireError>
-    ensures { Gives (λ x. (txn_fields x.0, x.1.now)) result (txn_at bytes.now) }
+    ensures reads { Gives (λ x. (txn_fields x.0, x.1.now)) result (txn_at bytes.now) }
 {
     let (snapshot, rest) = i64_at(bytes)?;
     if snapshot < 0 {
@@ -33,12 +33,12 @@ fn txn_of(alloc: Global, bytes: &[u8]) -> Result<(Txn, &[u8]), WireError>
     Ok((txn, rest))
 }
 
-/// So many transactions, one after the other. Room is taken for no more than the bytes can hold.
+/// Reads `count` transactions.
 pub fn txns_of(alloc: Global, count: u16, bytes: &[u8]) -> Result<(Vec<Txn>, &[u8]), WireError>
     ensures reads { Gives (λ x. (map txn_fields x.0.items, x.1.now)) result (many_at txn_at count bytes.now) }
     ensures count { IfOk result (λ x. vec_len x.0 ≡ count) }
 {
-    let room = (count as usize).min(bytes.len() / MIN_TXN_LENGTH);
+    let room = room_for(count, MIN_TXN_LENGTH, bytes);
     let mut txns = Vec::with_capacity(alloc, room)?;
     let mut rest = bytes;
     for _ in 0..count {

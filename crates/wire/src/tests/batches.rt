@@ -4,7 +4,7 @@ use super::*;
 use keyspace::{Key, Sequence, Txn};
 use std::process::Abort;
 
-/// The batch at the front of these bytes, and how many of them it takes.
+// The batch at the front of these bytes, and how many of them it takes.
 fn decoded(alloc: Global, text: &str) -> Result<(String, usize), Fail> {
     let bytes = bytes_of(alloc, text)?;
     let (batch, used) = decode_batch(alloc, &bytes)?;
@@ -128,7 +128,7 @@ fn refusals_of_decode_batch(rt: HostRuntime) -> Result<(), Fail> {
     Ok(())
 }
 
-/// A frame with one write, from the empty key to a key of so many bytes.
+// A frame with one write, from the empty key to a key of so many bytes.
 fn frame_to_key(alloc: Global, length: u16) -> Result<Vec<u8>, Fail> {
     let body_length = 44 + u32::from(length);
     let text = format!(in alloc;
@@ -158,7 +158,7 @@ fn longest_key(rt: HostRuntime) -> Result<(), Fail> {
     Ok(())
 }
 
-/// A batch with so many writes, each from a longest key to itself.
+// A batch with so many writes, each from a longest key to itself.
 fn batch_of_longest_keys(rt: &impl Abort, alloc: Global, count: usize) -> Result<Batch, Fail> {
     let mut writes = Vec::new(alloc);
     for _ in 0..count {

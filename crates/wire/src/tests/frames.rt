@@ -5,8 +5,8 @@ use std::io;
 use std::io::{ErrorKind, Read};
 use std::process::Abort;
 
-/// A reader that gives at most `step` bytes a call. It is interrupted so many times before each call that gives some.
-/// At the end it fails where `fails` is set.
+// A reader that gives at most `step` bytes a call. It is interrupted so many times before each call that gives some.
+// At the end it fails where `fails` is set.
 #[derive(Drop)]
 struct Pieces<'a> {
     bytes: &'a [u8],
@@ -34,7 +34,7 @@ impl Read for Pieces<'_> {
     }
 }
 
-/// The next answer as text: the batch, `none`, or the number and the name of the refusal.
+// The next answer as text: the batch, `none`, or the number and the name of the refusal.
 fn next_shown<R: Source>(alloc: Global, frames: &mut Frames<R>) -> Result<String, Fail> {
     match frames.next() {
         Ok(Some(batch)) => show_batch(alloc, &batch),
@@ -43,7 +43,7 @@ fn next_shown<R: Source>(alloc: Global, frames: &mut Frames<R>) -> Result<String
     }
 }
 
-/// Whether the first three answers over these bytes are those.
+// Whether the first three answers over these bytes are those.
 fn expect(
     rt: &impl Abort,
     alloc: Global,
@@ -114,7 +114,7 @@ fn answers_of_frames(rt: HostRuntime) -> Result<(), Fail> {
     expect(&rt, rt.alloc(), &bytes, 100_000, true, &answers)
 }
 
-/// The frame of `-1>0`, then a length of 30 and 29 bytes.
+// The frame of `-1>0`, then a length of 30 and 29 bytes.
 #[test]
 fn short_second_frame(rt: HostRuntime) -> Result<(), Fail> {
     let mut bytes = bytes_of(rt.alloc(), EMPTY_BATCH)?;
@@ -167,7 +167,11 @@ fn reader_fails_everywhere(rt: HostRuntime) -> Result<(), Fail> {
 #[test]
 fn interruptions(rt: HostRuntime) -> Result<(), Fail> {
     let bytes = bytes_of(rt.alloc(), EMPTY_BATCH)?;
-    for (interruptions, answer) in [(1_000, EMPTY_BATCH_SHOWN), (1_001, "12 Read")] {
+    for (interruptions, answer) in [
+        (999, EMPTY_BATCH_SHOWN),
+        (1_000, EMPTY_BATCH_SHOWN),
+        (1_001, "12 Read"),
+    ] {
         let reader = Pieces {
             bytes: &bytes,
             step: 1,
@@ -178,6 +182,43 @@ fn interruptions(rt: HostRuntime) -> Result<(), Fail> {
         let mut frames = read_frames(rt.alloc(), StdSource::new(reader));
         let shown = next_shown(rt.alloc(), &mut frames)?;
         assert_eq!(rt; shown.as_str(), answer);
+    }
+    Ok(())
+}
+
+// A reader that fails at its first call, and then gives its bytes.
+#[derive(Drop)]
+struct FailsOnce<'a> {
+    bytes: &'a [u8],
+    failed: bool,
+}
+
+impl Read for FailsOnce<'_> {
+    fn read(&mut self, buffer: &mut [u8]) -> io::Result<usize> {
+        if !self.failed {
+            self.failed = true;
+            return Err(io::Error::from(ErrorKind::Other));
+        }
+        let count = buffer.len().min(self.bytes.len());
+        let (front, rest) = self.bytes.split_at(count);
+        buffer[..count].copy_from_slice(front);
+        self.bytes = rest;
+        Ok(count)
+    }
+}
+
+// Only an interruption is tried again.
+#[test]
+fn one_failure_is_enough(rt: HostRuntime) -> Result<(), Fail> {
+    let bytes = bytes_of(rt.alloc(), EMPTY_BATCH)?;
+    let reader = FailsOnce {
+        bytes: &bytes,
+        failed: false,
+    };
+    let mut frames = read_frames(rt.alloc(), StdSource::new(reader));
+    for _ in 0..2 {
+        let shown = next_shown(rt.alloc(), &mut frames)?;
+        assert_eq!(rt; shown.as_str(), "12 Read");
     }
     Ok(())
 }

@@ -7,7 +7,8 @@ use Rattle.chain.proofs.replies.drop_up_to.Given as goal
 abbrev pub invariant-loop-key : goal.invariant-loop-key
 invariant-loop-key l = record {
   filed : IsFiled l.kept;
-  others : (key : ℕ × ℤ) → is_up_to l.proxy l.version key ≡ false → tree.get key_cmp l.kept key ≡ tree.get key_cmp l.fn.kept key;
+  others : (key : ℕ × ℤ) → is_up_to l.proxy l.version key ≡ false
+      → tree.get key_cmp l.kept key ≡ tree.get key_cmp l.fn.kept key;
 }
 
 abbrev pub decreases-loop-key : goal.decreases-loop-key

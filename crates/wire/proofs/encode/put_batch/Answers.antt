@@ -16,8 +16,8 @@ returns-clause-text c =
     let fits_received : SFits w64 c.args.batch.now.received = search rules in
     rw (
       c.in_ok-put_txns.ensures.text,
-      c.as_slice.ensures,
-      c.in_ok-put_u16.ensures,
+      c.as_slice.ensures.items,
+      c.in_ok-put_u16.ensures.text,
       c.in_ok-put_i64-3.ensures.text,
       c.in_ok-put_i64-2.ensures.text,
       c.in_ok-put_i64.ensures.text,
@@ -25,10 +25,10 @@ returns-clause-text c =
       to_z-of_z w64 c.args.batch.now.previous fits_previous,
       to_z-of_z w64 c.args.batch.now.version fits_version,
       to_z-of_z w64 c.args.batch.now.received fits_received,
-      c.len.ensures,
+      c.len.ensures.count,
     ) (simp (append_assoc, length-map))
 
 pub returns-clause-holds : goal.returns-clause-holds
 returns-clause-holds c =
     batch_holds c.args.batch.now (search rules) (search rules) (search rules)
-    (subst (λ (txns : List Txn). All (λ txn. FitsSigned w64 txn.snapshot) txns) c.as_slice.ensures c.in_ok-put_txns.ensures.fit)
+    (subst (λ (txns : List Txn). All (λ txn. FitsSigned w64 txn.snapshot) txns) c.as_slice.ensures.items c.in_ok-put_txns.ensures.fit)

@@ -14,15 +14,15 @@ returns-clause-text c =
     let fits : SFits w64 c.args.reply.now.version = search rules in
     rw (
       c.in_ok-put_entries.ensures.text,
-      c.as_slice.ensures,
-      c.in_ok-put_u16.ensures,
+      c.as_slice.ensures.items,
+      c.in_ok-put_u16.ensures.text,
       c.in_ok-put_i64.ensures.text,
       c.in_ok-push.ensures.items,
       to_z-of_z w64 c.args.reply.now.version fits,
-      c.len.ensures,
+      c.len.ensures.count,
     ) (simp (append_assoc, length-map))
 
 pub returns-clause-holds : goal.returns-clause-holds
 returns-clause-holds c =
     reply_holds c.args.reply.now (search rules)
-    (subst (λ (entries : List Entry). All (λ entry. ArePlaces entry.places) entries) c.as_slice.ensures c.in_ok-put_entries.ensures.places)
+    (subst (λ (entries : List Entry). All (λ entry. ArePlaces entry.places) entries) c.as_slice.ensures.items c.in_ok-put_entries.ensures.places)

@@ -9,15 +9,15 @@ unfolding txn_text
 returns-clause-text c =
     let fits : SFits w64 c.args.txn.now.snapshot = search rules in
     rw (
-      c.in_ok-put_ranges-2.ensures,
-      c.as_slice-2.ensures,
-      c.in_ok-put_ranges.ensures,
-      c.as_slice.ensures,
-      c.in_ok-put_u16-2.ensures,
-      c.in_ok-put_u16.ensures,
-      c.in_ok-put_marks.ensures,
+      c.in_ok-put_ranges-2.ensures.text,
+      c.as_slice-2.ensures.items,
+      c.in_ok-put_ranges.ensures.text,
+      c.as_slice.ensures.items,
+      c.in_ok-put_u16-2.ensures.text,
+      c.in_ok-put_u16.ensures.text,
+      c.in_ok-put_marks.ensures.text,
       c.in_ok-put_i64.ensures.text,
       to_z-of_z w64 c.args.txn.now.snapshot fits,
-      c.len.ensures,
-      c.len-2.ensures,
+      c.len.ensures.count,
+      c.len-2.ensures.count,
     ) (simp (append_assoc, length-map))

@@ -1,5 +1,5 @@
 use Rattle.std.proofs.Common.{◌≡◌, ◌∙◌, sym, rules}
-use Rattle.keyspace.specs.Judge.{ranges_meet}
+use Rattle.keyspace.specs.Range.{ranges_meet}
 use Rattle.keyspace.proofs.Meeting.{meets_from_test, test_from_meets}
 use Rattle.keyspace.proofs.range.Range.meets.Goals as goal
 
