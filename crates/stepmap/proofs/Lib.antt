@@ -17,8 +17,11 @@ pub mod IndexFound
 pub mod Compacting
 pub mod Replacing
 pub mod GreatestFound
-pub mod Laws
+pub mod Changes
 pub mod Rounds
 pub mod FewBoundaries
 pub mod Preparing
+pub mod Telling
+pub mod UnitedWrites
+pub mod WritingInTurn
 pub mod Passing

@@ -9,7 +9,7 @@ use Rattle.stepmap.specs.Limit.{HasRoomFor, after_round, made_room}
 use Rattle.stepmap.specs.Covers.{SameFrom, Covers}
 use Rattle.stepmap.specs.Rooted.{Ends, Rooted}
 use Rattle.stepmap.specs.Counting.{live_count}
-use Rattle.stepmap.proofs.Laws.{SweepKeeps}
+use Rattle.stepmap.proofs.Changes.{SweepKeeps}
 use Rattle.stepmap.proofs.Rounds.{at_front, front_rooted, round_keeps, round_ends}
 use Rattle.stepmap.proofs.FewBoundaries.{few_boundaries}
 

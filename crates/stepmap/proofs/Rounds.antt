@@ -11,7 +11,7 @@ use Rattle.stepmap.specs.Limit.{thinned_all, after_round}
 use Rattle.stepmap.specs.Covers.{SameFrom, Covers}
 use Rattle.stepmap.specs.Rooted.{Ends, Rooted}
 use Rattle.stepmap.proofs.Order.{not_before_empty, rise_lower}
-use Rattle.stepmap.proofs.Laws.{SweepKeeps, sweep_keeps}
+use Rattle.stepmap.proofs.Changes.{SweepKeeps, sweep_keeps}
 
 later_left : (b : Boundary) → IsBefore [] b.key → is_left [] b ≡ true
 later_left b l = rw (l, not_before_empty b.key) refl

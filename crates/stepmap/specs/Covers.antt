@@ -1,5 +1,5 @@
 -- How a step function stands for the writes that it remembers.
-use Rattle.std.specs.Prelude.{ℕ, ℤ, ◌≤ℤ◌, ◌<ℤ◌, ◌↔◌, List, [], ◌∷◌, ◌++◌, Any}
+use Rattle.std.specs.Prelude.{ℕ, ℤ, ◌≤ℤ◌, ◌<ℤ◌, ◌↔◌, List, Any}
 use Rattle.keyspace.specs.Key.{IsBytes}
 use Rattle.keyspace.specs.Range.{Holds}
 use Rattle.keyspace.specs.Writes.{Write}
@@ -25,7 +25,3 @@ MapCovers m ws = Covers (value_at m.boundaries) ws m.edge
 -- the function is above the number at some key of the range
 abbrev pub IsAbove : Steps → Range → ℤ → Type 0
 IsAbove m range s = (key : List ℕ) × IsBytes key × Holds range key × (s <ℤ value_at m.boundaries key)
-
--- the writes, and this one after them
-abbrev pub with_write : List Write → Range → ℤ → List Write
-with_write ws range version = ws ++ record { range = range; version = version } ∷ []

@@ -7,5 +7,7 @@ pub mod Limit
 pub mod Covers
 pub mod Rooted
 pub mod Counting
+pub mod Uniting
+pub mod Laws
 pub mod Indexes
 pub mod Kept

@@ -12,6 +12,7 @@ mod boundary;
 mod error;
 mod greatest;
 mod indexes;
+pub mod laws;
 mod room;
 mod step_map;
 mod thinning;

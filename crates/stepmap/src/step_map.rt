@@ -1,13 +1,13 @@
 ghost use Rattle.std.specs.Prelude.{◌≡◌, ℕ, ◌+◌, ◌*◌, ◌≤◌, ◌<◌, nat_le, ℤ, negsuc, ◌≤ℤ◌, ◌↔◌, List, [], length, map, slice_get, Some, None, Err, IfOk, OnOk, OnErr, IfErr, IsTrue};
 ghost use Rattle.keyspace.specs.Key.{IsBytes};
 ghost use Rattle.keyspace.specs.Range.{Holds, IsEmpty};
-ghost use Rattle.keyspace.specs.Writes.{Write};
+ghost use Rattle.keyspace.specs.Writes.{Write, with_write};
 ghost use Rattle.stepmap.specs.Boundary.{value_at, AreUpTo};
 ghost use Rattle.stepmap.specs.StepMap.{lengths, new_map, AreSteps};
 ghost use Rattle.stepmap.specs.Writing.{AreApart, after_write};
 ghost use Rattle.stepmap.specs.Sweeping.{rest, round_edge, after_sweep};
 ghost use Rattle.stepmap.specs.Limit.{HasRoomFor, after_round, made_room, prepared};
-ghost use Rattle.stepmap.specs.Covers.{SameFrom, MapCovers, IsAbove, with_write};
+ghost use Rattle.stepmap.specs.Covers.{SameFrom, MapCovers, IsAbove};
 ghost use Rattle.stepmap.specs.Rooted.{Ends, Rooted};
 ghost use Rattle.stepmap.specs.Counting.{live_count};
 
@@ -69,6 +69,7 @@ impl StepMap {
         requires most { limit ≤ MAX_LIMIT }
         ensures map { IfOk result (λ map. map ≡ new_map limit) }
         ensures everywhere { IfOk result (λ map. (key : List ℕ) → value_at map.boundaries key ≡ negsuc 0) }
+        ensures newest { IfOk result (λ map. AreUpTo (negsuc 0) map.boundaries) }
         ensures covers { IfOk result (λ map. MapCovers map []) }
         ensures rooted { IfOk result (λ map. Rooted map []) }
         ensures err { IfErr result (λ error. error ≡ StepError.Memory) }
@@ -181,6 +182,7 @@ impl StepMap {
     pub fn raise(&mut self, edge: i64)
         requires late { self.old.edge ≤ℤ edge }
         ensures map { self.new ≡ record self.old { edge = edge } }
+        ensures newest { (version : ℤ) → AreUpTo version self.old.boundaries → AreUpTo version self.new.boundaries }
         ensures covers { (ws : List Write) → MapCovers self.old ws → MapCovers self.new ws }
         ensures rooted { (ws : List Write) → Rooted self.old ws → Rooted self.new ws }
     {

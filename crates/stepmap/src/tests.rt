@@ -4,21 +4,21 @@ ghost use Rattle.keyspace.specs.Key.{IsBefore, IsAtMost};
 ghost use Rattle.stepmap.specs.Boundary.{AreUpTo};
 
 use crate::{MAX_LIMIT, StepError, StepMap, SweepEnd};
-use keyspace::{Key, Range};
+use keyspace::{Key, MAX_KEY_LENGTH, Range};
 use std::alloc::Global;
 use std::process::Abort;
 use std::test::Fail;
 
 fn key(alloc: Global, bytes: &[u8]) -> Result<Key, StepError>
-    requires { length bytes.now ≤ 10001 }
-    ensures { IfOk result (λ key. key ≡ bytes.now) }
+    requires short { length bytes.now ≤ MAX_KEY_LENGTH }
+    ensures key { IfOk result (λ key. key ≡ bytes.now) }
 {
     Ok(Key::new(Vec::from_slice(alloc, bytes)?))
 }
 
 fn range(alloc: Global, begin: &[u8], end: &[u8]) -> Result<Range, StepError>
-    requires begin { length begin.now ≤ 10001 }
-    requires end { length end.now ≤ 10001 }
+    requires begin { length begin.now ≤ MAX_KEY_LENGTH }
+    requires end { length end.now ≤ MAX_KEY_LENGTH }
     requires ordered { IsAtMost begin.now end.now }
     ensures begin { IfOk result (λ range. range.begin ≡ begin.now) }
     ensures end { IfOk result (λ range. range.end ≡ end.now) }
@@ -50,7 +50,6 @@ fn put(
     map.write(&ranges[0], version);
     Ok(())
 }
-
 // [a,d) written at 100, then [b,c) at 200.
 fn two_writes(rt: &impl Abort, alloc: Global) -> Result<StepMap, StepError>
     ensures newest { IfOk result (λ map. (later : ℤ) → pos 200 ≤ℤ later → AreUpTo later map.boundaries) }

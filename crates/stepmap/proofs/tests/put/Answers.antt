@@ -2,7 +2,7 @@ use Rattle.std.proofs.Common.{arith}
 use Rattle.std.proofs.lemmas.Int.{ints}
 use mir.Syntax.{w64}
 use mir.Val.{to_z, of_z}
-use Rattle.stepmap.proofs.Laws.{up_to_later}
+use Rattle.stepmap.proofs.Changes.{up_to_later}
 use Rattle.stepmap.proofs.tests.put.Goals as goal
 
 pub returns-clause-newest : goal.returns-clause-newest

@@ -6,7 +6,7 @@ use mir.Val.{SFits, to_z, of_z}
 use Rattle.stepmap.specs.StepMap.{Steps, AreSteps}
 use Rattle.stepmap.specs.Sweeping.{cursor_of, round_edge, rest, after_sweep, passed_to, left_from}
 use Rattle.stepmap.specs.Kept.{round_of}
-use Rattle.stepmap.proofs.Laws.{sweep_keeps}
+use Rattle.stepmap.proofs.Changes.{sweep_keeps}
 use Rattle.stepmap.proofs.Passing.{IsPass, ended_map, ended_rest, stopped_map, stopped_rest, began_is}
 use Rattle.stepmap.proofs.step_map.StepMap.sweep.Goals as goal
 use Rattle.stepmap.proofs.step_map.StepMap.sweep.Goals.{After-len-2, After-unwrap}

@@ -6,7 +6,7 @@ use Rattle.stepmap.specs.Boundary.{Boundary}
 use Rattle.stepmap.specs.StepMap.{Steps, AreSteps, lengths}
 use Rattle.stepmap.specs.Writing.{written, after_write}
 use Rattle.stepmap.specs.Kept.{round_of}
-use Rattle.stepmap.proofs.Laws.{WriteKeeps, write_keeps}
+use Rattle.stepmap.proofs.Changes.{WriteKeeps, write_keeps}
 use Rattle.stepmap.proofs.step_map.StepMap.write.Goals as goal
 use Rattle.stepmap.proofs.step_map.StepMap.write.Goals.{After-write_range}
 
