@@ -10,7 +10,7 @@ use Rattle.stepmap.specs.Covers.{SameFrom, Covers}
 use Rattle.stepmap.specs.Rooted.{Ends, Rooted}
 use Rattle.stepmap.specs.Counting.{live_count}
 use Rattle.stepmap.proofs.Changes.{SweepKeeps}
-use Rattle.stepmap.proofs.Rounds.{at_front, front_rooted, round_keeps, round_ends}
+use Rattle.stepmap.proofs.Rounds.{front_rooted, round_keeps, round_ends}
 use Rattle.stepmap.proofs.FewBoundaries.{few_boundaries}
 
 pub record RoomKeeps (ranges : ℕ) (old new : Steps) : Type 0 where

@@ -6,7 +6,7 @@ use Rattle.keyspace.specs.Key.{is_before, IsBefore}
 use Rattle.keyspace.specs.Writes.{Write}
 use Rattle.stepmap.specs.Boundary.{Boundary, AreInOrder, RiseFrom, value_at, AreUpTo, last_version}
 use Rattle.stepmap.specs.StepMap.{Round, Steps, AreSteps}
-use Rattle.stepmap.specs.Sweeping.{thinned, is_left, left_from, passed_to, rest, round_at, swept, after_sweep}
+use Rattle.stepmap.specs.Sweeping.{thinned, is_left, left_from, passed_to, rest, round_at, swept, at_front, after_sweep}
 use Rattle.stepmap.specs.Limit.{thinned_all, after_round}
 use Rattle.stepmap.specs.Covers.{SameFrom, Covers}
 use Rattle.stepmap.specs.Rooted.{Ends, Rooted}
@@ -51,10 +51,6 @@ swept_all edge (b ∷ bs) o =
 
 none_left : (bs : List Boundary) → AreInOrder bs → length (left_from [] bs) ≤ length bs
 none_left bs o = omega (arith, ap length (front_left bs o), length-drop 1 bs)
-
--- the map at the front of a round
-abbrev pub at_front : Steps → Steps
-at_front m = record m { round = None }
 
 pub front_steps : (m : Steps) → AreSteps m → AreSteps (at_front m)
 front_steps m h = record { boundaries = h.boundaries; round = tt; within = h.within; limit = h.limit }

@@ -44,6 +44,10 @@ round_at edge (b ∷ bs) = Some (record { cursor = b.key; edge = edge })
 abbrev pub swept : ℤ → ℕ → List Boundary → List Boundary → List Boundary
 swept edge count passed left = passed ++ (thinned edge (last_version (negsuc 0) passed) (take count left) ++ drop count left)
 
+-- the step map with no round under way: the next sweep begins at the front
+abbrev pub at_front : Steps → Steps
+at_front m = record m { round = None }
+
 -- the step map after a sweep that looks at so many
 abbrev pub after_sweep : ℕ → Steps → Steps
 after_sweep count m =

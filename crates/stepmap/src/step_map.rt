@@ -5,7 +5,7 @@ ghost use Rattle.keyspace.specs.Writes.{Write, with_write};
 ghost use Rattle.stepmap.specs.Boundary.{value_at, AreUpTo};
 ghost use Rattle.stepmap.specs.StepMap.{lengths, new_map, AreSteps};
 ghost use Rattle.stepmap.specs.Writing.{AreApart, after_write};
-ghost use Rattle.stepmap.specs.Sweeping.{rest, round_edge, after_sweep};
+ghost use Rattle.stepmap.specs.Sweeping.{rest, round_edge, at_front, after_sweep};
 ghost use Rattle.stepmap.specs.Limit.{HasRoomFor, after_round, made_room, prepared};
 ghost use Rattle.stepmap.specs.Covers.{SameFrom, MapCovers, IsAbove};
 ghost use Rattle.stepmap.specs.Rooted.{Ends, Rooted};
@@ -244,10 +244,17 @@ impl StepMap {
     fn sweep_round(&mut self)
         ensures map { self.new ≡ after_round self.old }
     {
-        self.round = None;
-        self.cursor.clear();
+        self.end_round();
         let count = self.boundaries.len();
         self.sweep(count);
+    }
+
+    // Ends the round under way, if there is one: the next sweep begins at the front.
+    fn end_round(&mut self)
+        ensures map { self.new ≡ at_front self.old }
+    {
+        self.round = None;
+        self.cursor.clear();
     }
 
     // Takes the memory that the writing of the ranges needs, in place of what was taken before.
