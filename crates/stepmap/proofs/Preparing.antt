@@ -1,6 +1,6 @@
 -- What making room for ranges keeps.
 use Rattle.std.proofs.Common.{◌≡◌, ℕ, ◌+◌, ◌*◌, ◌≤◌, ◌<◌, Bool, true, false, cond, List, length, refl, sym, ◌∙◌, ap, subst, inl, inr, arith, tests}
-use Rattle.std.specs.Prelude.{ℤ, nat_le}
+use Rattle.std.specs.Prelude.{ℤ, nat_le, None}
 use Rattle.keyspace.specs.Writes.{Write}
 use Rattle.keyspace.proofs.Booleans.{true_or_false}
 use Rattle.stepmap.specs.Boundary.{AreBoundaries, value_at, AreUpTo}
@@ -21,6 +21,8 @@ pub record RoomKeeps (ranges : ℕ) (old new : Steps) : Type 0 where
   pub newest : (version : ℤ) → AreUpTo version old.boundaries → AreUpTo version new.boundaries
   pub covers : (ws : List Write) → Covers (value_at old.boundaries) ws old.edge → Covers (value_at new.boundaries) ws new.edge
   pub rooted : (ws : List Write) → Rooted old ws → Rooted new ws
+  pub untouched : HasRoomFor ranges old → new ≡ record old { ready = new.ready }
+  pub front : ¬ HasRoomFor ranges old → new.round ≡ None
   pub ends : ¬ HasRoomFor ranges old → (ws : List Write) → Rooted old ws → Ends new.boundaries ws old.edge
 
 fits : (n limit : ℕ) → nat_le n limit ≡ true → n ≤ limit
@@ -41,14 +43,16 @@ as_before ranges m h room = record {
   newest = λ version a. a;
   covers = λ ws covers. covers;
   rooted = λ ws r. r;
+  untouched = λ _. refl;
+  front = λ full. absurd (full room);
   ends = λ full. absurd (full room);
 }
 
 pub no_room_if : (ranges : ℕ) (m : Steps) → nat_le (length m.boundaries + 2 * ranges) m.limit ≡ false → ¬ HasRoomFor ranges m
 no_room_if ranges m h room = unfit (length m.boundaries + 2 * ranges) m.limit room h
 
-by_round : (ranges : ℕ) (m : Steps) → AreSteps m → RoomKeeps ranges m (after_round m)
-by_round ranges m h =
+by_round : (ranges : ℕ) (m : Steps) → AreSteps m → ¬ HasRoomFor ranges m → RoomKeeps ranges m (after_round m)
+by_round ranges m h none =
     let k = round_keeps m h in
     record {
       boundaries = k.steps.boundaries;
@@ -58,6 +62,8 @@ by_round ranges m h =
       newest = k.newest;
       covers = k.covers;
       rooted = λ ws r. k.rooted ws (front_rooted m ws r);
+      untouched = λ room. absurd (none room);
+      front = λ _. refl;
       ends = λ full ws r. round_ends m h ws r;
     }
 
@@ -65,7 +71,7 @@ pub room_keeps : (ranges : ℕ) (m : Steps) → AreSteps m → RoomKeeps ranges 
 room_keeps ranges m h =
     elim (true_or_false (nat_le (length m.boundaries + 2 * ranges) m.limit)) [
       | inl t ↦ rw t (as_before ranges m h (room_if ranges m t))
-      | inr f ↦ rw f (by_round ranges m h)
+      | inr f ↦ rw f (by_round ranges m h (no_room_if ranges m f))
     ]
 
 -- room that is there is there after making room
@@ -102,5 +108,7 @@ prepare_keeps ranges ready old h m new is made =
       newest = k.newest;
       covers = k.covers;
       rooted = λ ws r. (let rooted = k.rooted ws r in record { each = rooted.each; passed = rooted.passed });
+      untouched = λ room. ap (λ (m : Steps). record m { ready = ready }) (k.untouched room);
+      front = k.front;
       ends = k.ends;
     })

@@ -119,6 +119,7 @@ impl StepMap {
     /// Returns the number of boundaries, that at the empty key included.
     pub fn boundaries(&self) -> usize
         ensures count { result ≡ length self.now.boundaries }
+        ensures within { result ≤ self.now.limit }
         ensures steps { AreSteps self.now }
     {
         self.boundaries.len()
@@ -135,10 +136,16 @@ impl StepMap {
         ensures err { OnErr result (self.new ≡ record (prepared ranges.now self.old) { ready = [] }) }
         ensures full { (result ≡ Err StepError.Full)
             ↔ ¬ HasRoomFor (length ranges.now) (made_room (length ranges.now) self.old) }
+        ensures steps { AreSteps self.new }
+        ensures edge { self.new.edge ≡ self.old.edge }
+        ensures limit { self.new.limit ≡ self.old.limit }
         ensures same { SameFrom self.old.edge (value_at self.old.boundaries) (value_at self.new.boundaries) }
         ensures newest { (version : ℤ) → AreUpTo version self.old.boundaries → AreUpTo version self.new.boundaries }
         ensures covers { (ws : List Write) → MapCovers self.old ws → MapCovers self.new ws }
         ensures rooted { (ws : List Write) → Rooted self.old ws → Rooted self.new ws }
+        ensures untouched { HasRoomFor (length ranges.now) self.old
+            → self.new ≡ record self.old { ready = self.new.ready } }
+        ensures front { ¬ HasRoomFor (length ranges.now) self.old → self.new.round ≡ None }
         ensures ends { ¬ HasRoomFor (length ranges.now) self.old → (ws : List Write) → Rooted self.old ws
             → Ends self.new.boundaries ws self.old.edge }
         ensures bound { result ≡ Err StepError.Full → (ws : List Write) → Rooted self.old ws

@@ -25,6 +25,18 @@ returns-then-not-has_room_for-clause-covers c = (full (goal.at.returns-then-not-
 pub returns-then-not-has_room_for-clause-rooted : goal.returns-then-not-has_room_for-clause-rooted
 returns-then-not-has_room_for-clause-rooted c = (full (goal.at.returns-then-not-has_room_for-clause-rooted c).After-clear).rooted
 
+pub returns-then-not-has_room_for-clause-edge : goal.returns-then-not-has_room_for-clause-edge
+returns-then-not-has_room_for-clause-edge c = (full (goal.at.returns-then-not-has_room_for-clause-edge c).After-clear).edge
+
+pub returns-then-not-has_room_for-clause-limit : goal.returns-then-not-has_room_for-clause-limit
+returns-then-not-has_room_for-clause-limit c = (full (goal.at.returns-then-not-has_room_for-clause-limit c).After-clear).limit
+
+pub returns-then-not-has_room_for-clause-untouched : goal.returns-then-not-has_room_for-clause-untouched
+returns-then-not-has_room_for-clause-untouched c = (full (goal.at.returns-then-not-has_room_for-clause-untouched c).After-clear).untouched
+
+pub returns-then-not-has_room_for-clause-front : goal.returns-then-not-has_room_for-clause-front
+returns-then-not-has_room_for-clause-front c = (full (goal.at.returns-then-not-has_room_for-clause-front c).After-clear).front
+
 pub returns-then-not-has_room_for-clause-ends : goal.returns-then-not-has_room_for-clause-ends
 returns-then-not-has_room_for-clause-ends c = (full (goal.at.returns-then-not-has_room_for-clause-ends c).After-clear).ends
 
@@ -52,6 +64,18 @@ returns-in_err-reserve-clause-covers c = (refused (goal.at.returns-in_err-reserv
 pub returns-in_err-reserve-clause-rooted : goal.returns-in_err-reserve-clause-rooted
 returns-in_err-reserve-clause-rooted c = (refused (goal.at.returns-in_err-reserve-clause-rooted c).After-from_residual).rooted
 
+pub returns-in_err-reserve-clause-edge : goal.returns-in_err-reserve-clause-edge
+returns-in_err-reserve-clause-edge c = (refused (goal.at.returns-in_err-reserve-clause-edge c).After-from_residual).edge
+
+pub returns-in_err-reserve-clause-limit : goal.returns-in_err-reserve-clause-limit
+returns-in_err-reserve-clause-limit c = (refused (goal.at.returns-in_err-reserve-clause-limit c).After-from_residual).limit
+
+pub returns-in_err-reserve-clause-untouched : goal.returns-in_err-reserve-clause-untouched
+returns-in_err-reserve-clause-untouched c = (refused (goal.at.returns-in_err-reserve-clause-untouched c).After-from_residual).untouched
+
+pub returns-in_err-reserve-clause-front : goal.returns-in_err-reserve-clause-front
+returns-in_err-reserve-clause-front c = (refused (goal.at.returns-in_err-reserve-clause-front c).After-from_residual).front
+
 pub returns-in_err-reserve-clause-ends : goal.returns-in_err-reserve-clause-ends
 returns-in_err-reserve-clause-ends c = (refused (goal.at.returns-in_err-reserve-clause-ends c).After-from_residual).ends
 
@@ -70,6 +94,18 @@ returns-clause-covers c = (ready (goal.at.returns-clause-covers c).In_ok-reserve
 
 pub returns-clause-rooted : goal.returns-clause-rooted
 returns-clause-rooted c = (ready (goal.at.returns-clause-rooted c).In_ok-reserve).rooted
+
+pub returns-clause-edge : goal.returns-clause-edge
+returns-clause-edge c = (ready (goal.at.returns-clause-edge c).In_ok-reserve).edge
+
+pub returns-clause-limit : goal.returns-clause-limit
+returns-clause-limit c = (ready (goal.at.returns-clause-limit c).In_ok-reserve).limit
+
+pub returns-clause-untouched : goal.returns-clause-untouched
+returns-clause-untouched c = (ready (goal.at.returns-clause-untouched c).In_ok-reserve).untouched
+
+pub returns-clause-front : goal.returns-clause-front
+returns-clause-front c = (ready (goal.at.returns-clause-front c).In_ok-reserve).front
 
 pub returns-clause-ends : goal.returns-clause-ends
 returns-clause-ends c = (ready (goal.at.returns-clause-ends c).In_ok-reserve).ends
