@@ -1,5 +1,5 @@
 -- What making room for ranges keeps.
-use Rattle.std.proofs.Common.{◌≡◌, ℕ, ◌+◌, ◌*◌, ◌≤◌, ◌<◌, Bool, true, false, cond, List, length, refl, sym, ◌∙◌, ap, subst, inl, inr, arith, tests}
+use Rattle.std.proofs.Common.{◌≡◌, ℕ, ◌+◌, ◌*◌, ◌≤◌, ◌<◌, true, false, List, length, refl, sym, ◌∙◌, ap, subst, inl, inr, arith, tests}
 use Rattle.std.specs.Prelude.{ℤ, nat_le, None}
 use Rattle.keyspace.specs.Writes.{Write}
 use Rattle.keyspace.proofs.Booleans.{true_or_false}
@@ -9,7 +9,6 @@ use Rattle.stepmap.specs.Limit.{HasRoomFor, after_round, made_room}
 use Rattle.stepmap.specs.Covers.{SameFrom, Covers}
 use Rattle.stepmap.specs.Rooted.{Ends, Rooted}
 use Rattle.stepmap.specs.Counting.{live_count}
-use Rattle.stepmap.proofs.Changes.{SweepKeeps}
 use Rattle.stepmap.proofs.Rounds.{front_rooted, round_keeps, round_ends}
 use Rattle.stepmap.proofs.FewBoundaries.{few_boundaries}
 
@@ -19,7 +18,8 @@ pub record RoomKeeps (ranges : ℕ) (old new : Steps) : Type 0 where
   pub limit : new.limit ≡ old.limit
   pub same : SameFrom old.edge (value_at old.boundaries) (value_at new.boundaries)
   pub newest : (version : ℤ) → AreUpTo version old.boundaries → AreUpTo version new.boundaries
-  pub covers : (ws : List Write) → Covers (value_at old.boundaries) ws old.edge → Covers (value_at new.boundaries) ws new.edge
+  pub covers : (ws : List Write) → Covers (value_at old.boundaries) ws old.edge
+      → Covers (value_at new.boundaries) ws new.edge
   pub rooted : (ws : List Write) → Rooted old ws → Rooted new ws
   pub untouched : HasRoomFor ranges old → new ≡ record old { ready = new.ready }
   pub front : ¬ HasRoomFor ranges old → new.round ≡ None
@@ -31,7 +31,8 @@ fits n limit h = grind (arith, tests)
 unfit : (n limit : ℕ) → n ≤ limit → nat_le n limit ≡ false → ⊥
 unfit n limit le h = grind (arith, tests)
 
-pub room_if : (ranges : ℕ) (m : Steps) → nat_le (length m.boundaries + 2 * ranges) m.limit ≡ true → HasRoomFor ranges m
+pub room_if : (ranges : ℕ) (m : Steps) → nat_le (length m.boundaries + 2 * ranges) m.limit ≡ true
+    → HasRoomFor ranges m
 room_if ranges m h = fits (length m.boundaries + 2 * ranges) m.limit h
 
 as_before : (ranges : ℕ) (m : Steps) → AreSteps m → HasRoomFor ranges m → RoomKeeps ranges m m
@@ -48,7 +49,8 @@ as_before ranges m h room = record {
   ends = λ full. absurd (full room);
 }
 
-pub no_room_if : (ranges : ℕ) (m : Steps) → nat_le (length m.boundaries + 2 * ranges) m.limit ≡ false → ¬ HasRoomFor ranges m
+pub no_room_if : (ranges : ℕ) (m : Steps) → nat_le (length m.boundaries + 2 * ranges) m.limit ≡ false
+    → ¬ HasRoomFor ranges m
 no_room_if ranges m h room = unfit (length m.boundaries + 2 * ranges) m.limit room h
 
 by_round : (ranges : ℕ) (m : Steps) → AreSteps m → ¬ HasRoomFor ranges m → RoomKeeps ranges m (after_round m)
@@ -83,7 +85,8 @@ room_stays ranges m room =
     ]
 
 -- where there is no room even then, live writes are too many
-pub full_bound : (ranges : ℕ) (m : Steps) → AreSteps m → ¬ HasRoomFor ranges (made_room ranges m) → (ws : List Write) → Rooted m ws → m.limit < 1 + 2 * (live_count m.edge ws + ranges)
+pub full_bound : (ranges : ℕ) (m : Steps) → AreSteps m → ¬ HasRoomFor ranges (made_room ranges m)
+    → (ws : List Write) → Rooted m ws → m.limit < 1 + 2 * (live_count m.edge ws + ranges)
 full_bound ranges m h full ws r =
     let k = room_keeps ranges m h in
     let new = made_room ranges m in
@@ -97,7 +100,8 @@ full_bound ranges m h full ws r =
     not_within n limit h = omega arith
 
 -- what is ready doesn't matter for the rest
-pub prepare_keeps : (ranges : ℕ) (ready : List (ℕ × ℕ)) (old : Steps) → AreSteps old → (m new : Steps) → m ≡ made_room ranges old → new ≡ record m { ready = ready } → RoomKeeps ranges old new
+pub prepare_keeps : (ranges : ℕ) (ready : List (ℕ × ℕ)) (old : Steps) → AreSteps old → (m new : Steps)
+    → m ≡ made_room ranges old → new ≡ record m { ready = ready } → RoomKeeps ranges old new
 prepare_keeps ranges ready old h m new is made =
     let k = room_keeps ranges old h in
     subst (RoomKeeps ranges old) (sym (made ∙ ap (λ (m : Steps). record m { ready = ready }) is)) (record {

@@ -1,14 +1,13 @@
 -- A whole round of the sweep, from the front.
-use Rattle.std.proofs.Common.{◌≡◌, ◌≢◌, ℕ, ◌≤◌, Bool, true, false, not, ◌&&◌, List, [], ◌∷◌, ◌++◌, length, take, drop, filter, refl, sym, ◌∙◌, ap, subst, arith, append-nil, length-drop}
-use Rattle.std.specs.Prelude.{ℤ, negsuc, ◌≤ℤ◌, None, IfSome}
+use Rattle.std.proofs.Common.{◌≡◌, ◌≤◌, true, false, not, ◌&&◌, List, [], ◌∷◌, ◌++◌, length, drop, refl, sym, ◌∙◌, ap, subst, arith, append-nil, length-drop}
+use Rattle.std.specs.Prelude.{ℤ}
 use Rattle.std.proofs.lemmas.List.{take_all, drop_all}
 use Rattle.keyspace.specs.Key.{is_before, IsBefore}
 use Rattle.keyspace.specs.Writes.{Write}
-use Rattle.stepmap.specs.Boundary.{Boundary, AreInOrder, RiseFrom, value_at, AreUpTo, last_version}
-use Rattle.stepmap.specs.StepMap.{Round, Steps, AreSteps}
-use Rattle.stepmap.specs.Sweeping.{thinned, is_left, left_from, passed_to, rest, round_at, swept, at_front, after_sweep}
+use Rattle.stepmap.specs.Boundary.{Boundary, AreInOrder, RiseFrom}
+use Rattle.stepmap.specs.StepMap.{Steps, AreSteps}
+use Rattle.stepmap.specs.Sweeping.{thinned, is_left, left_from, passed_to, round_at, swept, at_front, after_sweep}
 use Rattle.stepmap.specs.Limit.{thinned_all, after_round}
-use Rattle.stepmap.specs.Covers.{SameFrom, Covers}
 use Rattle.stepmap.specs.Rooted.{Ends, Rooted}
 use Rattle.stepmap.proofs.Order.{not_before_empty, rise_lower}
 use Rattle.stepmap.proofs.Changes.{SweepKeeps, sweep_keeps}
@@ -29,16 +28,19 @@ front_left : (bs : List Boundary) → AreInOrder bs → left_from [] bs ≡ drop
 front_left [] o = absurd o
 front_left (b ∷ bs) o =
     let rises : RiseFrom [] bs = subst (λ k. RiseFrom k bs) o.0 o.1 in
-    let first : is_left [] b ≡ false = subst (λ k. (is_before [] k && not (is_before k [])) ≡ false) (sym o.0) refl in
+    let first : is_left [] b ≡ false =
+    subst (λ k. (is_before [] k && not (is_before k [])) ≡ false) (sym o.0) refl in
     rw first (all_left bs rises)
 
 front_passed : (b : Boundary) (bs : List Boundary) → AreInOrder (b ∷ bs) → passed_to [] (b ∷ bs) ≡ b ∷ []
 front_passed b bs o =
     let rises : RiseFrom [] bs = subst (λ k. RiseFrom k bs) o.0 o.1 in
-    let first : is_left [] b ≡ false = subst (λ k. (is_before [] k && not (is_before k [])) ≡ false) (sym o.0) refl in
+    let first : is_left [] b ≡ false =
+    subst (λ k. (is_before [] k && not (is_before k [])) ≡ false) (sym o.0) refl in
     rw first (ap (λ xs. b ∷ xs) (none_passed bs rises))
 
-swept_all : (edge : ℤ) (bs : List Boundary) → AreInOrder bs → swept edge (length bs) (passed_to [] bs) (left_from [] bs) ≡ thinned_all edge bs
+swept_all : (edge : ℤ) (bs : List Boundary) → AreInOrder bs
+    → swept edge (length bs) (passed_to [] bs) (left_from [] bs) ≡ thinned_all edge bs
 swept_all edge [] o = absurd o
 swept_all edge (b ∷ bs) o =
     let n = length (b ∷ bs) in
@@ -63,11 +65,19 @@ whole_round m h =
     let o = h.boundaries.in_order in
     let left = left_from [] m.boundaries in
     let n = length m.boundaries in
-    ap (λ (xs : List Boundary). record m { boundaries = xs; round = round_at m.edge (drop n left) }) (swept_all m.edge m.boundaries o)
-    ∙ ap (λ (ds : List Boundary). record m { boundaries = thinned_all m.edge m.boundaries; round = round_at m.edge ds }) (drop_all n left (none_left m.boundaries o))
+    ap (λ (xs : List Boundary). record m { boundaries = xs; round = round_at m.edge (drop n left) })
+    (swept_all m.edge m.boundaries o)
+    ∙ ap (λ (ds : List Boundary). record m {
+      boundaries = thinned_all m.edge m.boundaries;
+      round =
+          round_at m.edge ds;
+    }) (drop_all n left (none_left m.boundaries o))
 
 pub round_keeps : (m : Steps) → AreSteps m → SweepKeeps (length m.boundaries) (at_front m) (after_round m)
-round_keeps m h = sweep_keeps (length m.boundaries) (at_front m) (front_steps m h) (after_round m) (sym (whole_round m h))
+round_keeps m h =
+    sweep_keeps (length m.boundaries) (at_front m) (front_steps m h) (after_round m) (sym (whole_round m h))
 
-pub round_ends : (m : Steps) → AreSteps m → (ws : List Write) → Rooted m ws → Ends (after_round m).boundaries ws m.edge
-round_ends m h ws r = (round_keeps m h).ends (none_left m.boundaries h.boundaries.in_order) ws (front_rooted m ws r)
+pub round_ends : (m : Steps) → AreSteps m → (ws : List Write) → Rooted m ws
+    → Ends (after_round m).boundaries ws m.edge
+round_ends m h ws r =
+    (round_keeps m h).ends (none_left m.boundaries h.boundaries.in_order) ws (front_rooted m ws r)

@@ -1,5 +1,25 @@
 -- What holds of some element of a list, for lists in parts.
-use Rattle.std.proofs.Common.{◌≡◌, ℕ, zero, suc, ◌<◌, List, [], ◌∷◌, ◌++◌, length, get_or, map, refl, sym, subst, inl, inr, ◌⊎◌, arith}
+use Rattle.std.proofs.Common.{
+  ◌≡◌,
+  ℕ,
+  zero,
+  suc,
+  ◌<◌,
+  List,
+  [],
+  ◌∷◌,
+  ◌++◌,
+  length,
+  get_or,
+  map,
+  refl,
+  sym,
+  subst,
+  inl,
+  inr,
+  ◌⊎◌,
+  arith,
+}
 use Rattle.std.specs.Prelude.{Any}
 
 pub Any-weaker : {X : Type 0} (P Q : X → Type 0) → ((x : X) → P x → Q x) → (xs : List X) → Any P xs → Any Q xs
@@ -34,7 +54,11 @@ Any-parts P (x ∷ xs) ys a =
 pub Any-left : {X : Type 0} (P : X → Type 0) (xs ys : List X) → Any P xs → Any P (xs ++ ys)
 Any-left P [] ys a = absurd (Any-none P a)
 Any-left P (x ∷ xs) ys a =
-    elim (Any-cases P x xs a) [ inl p ↦ Any-first P x (xs ++ ys) p | inr b ↦ Any-later P x (xs ++ ys) (Any-left P xs ys b) ]
+    elim (Any-cases P x xs a) [
+      | inl p ↦ Any-first P x (xs ++ ys) p
+      | inr b ↦ Any-later P x (xs ++ ys)
+          (Any-left P xs ys b)
+    ]
 
 pub Any-right : {X : Type 0} (P : X → Type 0) (xs ys : List X) → Any P ys → Any P (xs ++ ys)
 Any-right P [] ys a = a
@@ -44,7 +68,8 @@ Any-right P (x ∷ xs) ys a = Any-later P x (xs ++ ys) (Any-right P xs ys a)
 pub Any-longer : {X : Type 0} (P : X → Type 0) (xs : List X) (y : X) → Any P xs → Any P (xs ++ y ∷ [])
 Any-longer P xs y a = Any-left P xs (y ∷ []) a
 
-pub Any-push_cases : {X : Type 0} (P : X → Type 0) (xs : List X) (y : X) → Any P (xs ++ y ∷ []) → Any P xs ⊎ P y
+pub Any-push_cases : {X : Type 0} (P : X → Type 0) (xs : List X) (y : X) → Any P (xs ++ y ∷ [])
+    → Any P xs ⊎ P y
 Any-push_cases P xs y a =
     elim (Any-parts P xs (y ∷ []) a) [
       | inl b ↦ inl b
@@ -52,12 +77,22 @@ Any-push_cases P xs y a =
     ]
 
 -- of the values of a function, and of what it is taken of
-pub Any-map : {X Y : Type 0} (f : X → Y) (P : Y → Type 0) (xs : List X) → Any (λ x. P (f x)) xs → Any P (map f xs)
+pub Any-map : {X Y : Type 0} (f : X → Y) (P : Y → Type 0) (xs : List X) → Any (λ x. P (f x)) xs
+    → Any P (map f xs)
 Any-map f P [] a = absurd (Any-none (λ x. P (f x)) a)
 Any-map f P (x ∷ xs) a =
-    elim (Any-cases (λ x. P (f x)) x xs a) [ inl p ↦ Any-first P (f x) (map f xs) p | inr b ↦ Any-later P (f x) (map f xs) (Any-map f P xs b) ]
+    elim (Any-cases (λ x. P (f x)) x xs a) [
+      | inl p ↦ Any-first P (f x) (map f xs) p
+      | inr b ↦ Any-later P
+          (f x) (map f xs) (Any-map f P xs b)
+    ]
 
-pub Any-unmap : {X Y : Type 0} (f : X → Y) (P : Y → Type 0) (xs : List X) → Any P (map f xs) → Any (λ x. P (f x)) xs
+pub Any-unmap : {X Y : Type 0} (f : X → Y) (P : Y → Type 0) (xs : List X) → Any P (map f xs)
+    → Any (λ x. P (f x)) xs
 Any-unmap f P [] a = absurd (Any-none P a)
 Any-unmap f P (x ∷ xs) a =
-    elim (Any-cases P (f x) (map f xs) a) [ inl p ↦ Any-first (λ x. P (f x)) x xs p | inr b ↦ Any-later (λ x. P (f x)) x xs (Any-unmap f P xs b) ]
+    elim (Any-cases P (f x) (map f xs) a) [
+      | inl p ↦ Any-first (λ x. P (f x)) x xs p
+      | inr b ↦ Any-later
+          (λ x. P (f x)) x xs (Any-unmap f P xs b)
+    ]

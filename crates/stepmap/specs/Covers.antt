@@ -16,7 +16,7 @@ SameFrom edge f g = (key : List ℕ) → IsBytes key → (s : ℤ) → edge ≤�
 abbrev pub Covers : (List ℕ → ℤ) → List Write → ℤ → Type 0
 Covers f ws edge =
     (key : List ℕ) → IsBytes key → (s : ℤ) → edge ≤ℤ s →
-        (s <ℤ f key) ↔ Any (λ w. Holds w.range key × (s <ℤ w.version)) ws
+    (s <ℤ f key) ↔ Any (λ w. Holds w.range key × (s <ℤ w.version)) ws
 
 -- a step map covers the writes at its edge
 abbrev pub MapCovers : Steps → List Write → Type 0

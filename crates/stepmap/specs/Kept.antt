@@ -20,7 +20,8 @@ steps_of bs edge ready cursor round limit = record {
   limit = limit;
 }
 
--- there is room for what is to come: of boundaries there are `len`, and room for so many; likewise for the bytes of the cursor
+-- there is room for what is to come: of boundaries there are `len`, and there is room for `room`; likewise for the
+-- bytes of the cursor
 pub record IsKept (m : Steps) (cursor : List ℕ) (len room cursor_room : ℕ) : Type 0 where
   pub steps : AreSteps m
   -- two for each range that may be written

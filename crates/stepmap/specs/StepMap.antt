@@ -1,5 +1,22 @@
 -- What a step map is seen as.
-use Rattle.std.specs.Prelude.{ℕ, ℤ, pos, negsuc, List, [], ◌∷◌, length, Option, None, IfSome, ◌+◌, ◌*◌, ◌≤◌, ◌≤ℤ◌, ◌≢◌}
+use Rattle.std.specs.Prelude.{
+  ℕ,
+  ℤ,
+  pos,
+  negsuc,
+  List,
+  [],
+  ◌∷◌,
+  length,
+  Option,
+  None,
+  IfSome,
+  ◌+◌,
+  ◌*◌,
+  ◌≤◌,
+  ◌≤ℤ◌,
+  ◌≢◌,
+}
 use Rattle.keyspace.specs.Key.{IsKey}
 use Rattle.keyspace.specs.declared.range.Range.{Range}
 use Rattle.stepmap.specs.declared.step_map.TheConstants.{MAX_LIMIT}

@@ -1,14 +1,36 @@
 -- The sweep takes away boundaries that tell nothing at or above the edge, some at a time. This project's own.
-use Rattle.std.specs.Prelude.{ℕ, ℤ, negsuc, not, ◌&&◌, int_lt, if◌then◌else◌, List, [], ◌∷◌, ◌++◌, length, take, drop, filter, Bool, Option, Some, None}
+use Rattle.std.specs.Prelude.{
+  ℕ,
+  ℤ,
+  negsuc,
+  not,
+  ◌&&◌,
+  int_lt,
+  if◌then◌else◌,
+  List,
+  [],
+  ◌∷◌,
+  ◌++◌,
+  length,
+  take,
+  drop,
+  filter,
+  Bool,
+  Option,
+  Some,
+  None,
+}
 use Rattle.keyspace.specs.Key.{is_before}
 use Rattle.stepmap.specs.Boundary.{Boundary, last_version}
 use Rattle.stepmap.specs.StepMap.{Round, Steps}
 
--- A boundary goes if its version and that of the boundary before it are both below the edge. The one before counts as it
--- stood when the sweep came by, also if it goes itself.
+-- A boundary goes if its version and that of the boundary before it are both below the edge. The one before counts
+-- as it stood when the sweep came by, also if it goes itself.
 abbrev pub thinned : ℤ → ℤ → List Boundary → List Boundary
 thinned edge before [] = []
-thinned edge before (b ∷ bs) = if int_lt before edge && int_lt b.version edge then thinned edge b.version bs else b ∷ thinned edge b.version bs
+thinned edge before (b ∷ bs) =
+    if int_lt before edge && int_lt b.version edge then thinned edge b.version bs
+    else b ∷ thinned edge b.version bs
 
 -- the key from which on the round under way has still to look, or the empty key where none is
 abbrev pub cursor_of : Option Round → List ℕ
@@ -42,7 +64,8 @@ round_at edge (b ∷ bs) = Some (record { cursor = b.key; edge = edge })
 
 -- of those passed and those left, what a sweep leaves that looks at so many
 abbrev pub swept : ℤ → ℕ → List Boundary → List Boundary → List Boundary
-swept edge count passed left = passed ++ (thinned edge (last_version (negsuc 0) passed) (take count left) ++ drop count left)
+swept edge count passed left =
+    passed ++ (thinned edge (last_version (negsuc 0) passed) (take count left) ++ drop count left)
 
 -- the step map with no round under way: the next sweep begins at the front
 abbrev pub at_front : Steps → Steps

@@ -1,27 +1,29 @@
-//! What holds of step maps whatever the calls, each as the contract of a function that does nothing. The layer above
-//! cites these, and needs no lemma of its own about boundaries.
+//! Laws of step maps and lists of writes, each the contract of a function that does nothing. The layer above cites
+//! these, and needs no lemma of its own about boundaries.
 
-ghost use Rattle.stepmap.specs.Laws.{TellsHits, GreatestTells, FewBoundaries, CountedAlong, UpToLater, ApartWriteInTurn, UnitingTells};
+ghost use Rattle.stepmap.specs.Laws.{TellsHits, GreatestTells};
+ghost use Rattle.stepmap.specs.Laws.{FewBoundaries, CountedAlong};
+ghost use Rattle.stepmap.specs.Laws.{ApartWriteInTurn, UpToLater, UnitingTells};
 
-/// What the function says of a range is what the writes say that meet it.
+/// The function exceeds a number in a range exactly if a write above that number overlaps the range.
 pub fn hits()
     ensures exceeds { TellsHits }
     ensures greatest { GreatestTells }
 {}
 
-/// Boundaries are few where writes are, and ranges to be written count along with those.
+/// There are at most two boundaries for each live write, and one. Ranges written at or above the edge count as live.
 pub fn counts()
     ensures few { FewBoundaries }
     ensures along { CountedAlong }
 {}
 
-/// Ranges that are made ready together may be written one after the other, and then all are written.
+/// Ranges that were prepared together may be written one after the other; then all of them are written.
 pub fn writing()
     ensures in_turn { ApartWriteInTurn }
     ensures later { UpToLater }
 {}
 
-/// United ranges written in place of others tell the same.
+/// What writes of united ranges tell, writes of the ranges that they unite would tell too.
 pub fn uniting()
     ensures tells { UnitingTells }
 {}

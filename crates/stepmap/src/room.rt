@@ -1,8 +1,9 @@
-ghost use Rattle.std.specs.Prelude.{◌≡◌, IfOk};
+ghost use Rattle.std.specs.Prelude.{◌≡◌, map, IfOk, OnOk};
 ghost use Rattle.stepmap.specs.StepMap.{lengths};
 
 use keyspace::{Key, Range};
 use std::alloc::{AllocError, Global};
+use std::collections::VecDeque;
 use std::marker::Model;
 
 // Room for the bytes of a range's begin and end, which a contract sees as their two lengths.
@@ -44,4 +45,19 @@ impl Room {
         end.extend_from_slice(range.end.as_bytes()).unwrap();
         (Key::new(begin), Key::new(end))
     }
+}
+
+// Replaces what there is by room for the begins and ends of the ranges, in order.
+pub fn make_rooms(
+    rooms: &mut VecDeque<Room>,
+    alloc: Global,
+    ranges: &[Range],
+) -> Result<(), AllocError>
+    ensures lengths { OnOk result (rooms.new.items ≡ map lengths ranges.now) }
+{
+    rooms.clear();
+    for range in ranges {
+        rooms.push_back(Room::new(alloc, range)?)?;
+    }
+    Ok(())
 }

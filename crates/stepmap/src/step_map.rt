@@ -1,4 +1,6 @@
-ghost use Rattle.std.specs.Prelude.{◌≡◌, ℕ, ◌+◌, ◌*◌, ◌≤◌, ◌<◌, nat_le, ℤ, negsuc, ◌≤ℤ◌, ◌↔◌, List, [], length, map, slice_get, Some, None, Err, IfOk, OnOk, OnErr, IfErr, IsTrue};
+ghost use Rattle.std.specs.Prelude.{◌≡◌, ℕ, ◌+◌, ◌*◌, ◌≤◌, ◌<◌, nat_le, ℤ, negsuc, ◌≤ℤ◌, ◌↔◌};
+ghost use Rattle.std.specs.Prelude.{List, [], length, map, slice_get, Some, None, Err};
+ghost use Rattle.std.specs.Prelude.{IfOk, OnOk, OnErr, IfErr, IsTrue};
 ghost use Rattle.keyspace.specs.Key.{IsBytes};
 ghost use Rattle.keyspace.specs.Range.{Holds, IsEmpty};
 ghost use Rattle.keyspace.specs.Writes.{Write, with_write};
@@ -15,7 +17,7 @@ use crate::boundary::Boundary;
 use crate::error::StepError;
 use crate::greatest::{greatest_version, is_above};
 use crate::indexes::{index_left, version_at};
-use crate::room::Room;
+use crate::room::{Room, make_rooms};
 use crate::thinning::thin;
 use crate::writing::write_range;
 use keyspace::{Key, MAX_KEY_LENGTH, Range};
@@ -35,8 +37,9 @@ pub enum SweepEnd {
     Stopped,
 }
 
-/// A step function from keys to versions, which remembers committed writes, with an edge: a version below the edge tells
-/// nothing. Contracts see its boundaries in key order, the empty key first.
+/// A step function from keys to versions, which remembers committed writes, with an edge: a version below the edge
+/// tells nothing. Contracts see its boundaries in key order, the empty key first; there are at most as many as the
+/// limit.
 #[derive(Debug, Drop)]
 pub struct StepMap {
     alloc: Global,
@@ -63,7 +66,7 @@ impl Model for StepMap {
 }
 
 impl StepMap {
-    /// Makes the function that is -1 everywhere, with the edge 0. There will be at most `limit` boundaries.
+    /// Makes the function that is -1 everywhere, with the edge 0 and a limit on boundaries.
     pub fn new(alloc: Global, limit: usize) -> Result<Self, StepError>
         requires least { 1 ≤ limit }
         requires most { limit ≤ MAX_LIMIT }
@@ -125,11 +128,12 @@ impl StepMap {
         self.boundaries.len()
     }
 
-    /// Takes all the memory that the writing of the ranges needs, in place of what was taken before. The ranges are those
-    /// to be written next, in order; they, or others whose ends have the same lengths, can then be written. Where the
-    /// boundaries, and two for each range, exceed the limit, it sweeps a whole round first.
+    /// Takes all the memory that writing the ranges needs, in place of what was taken before. The ranges are those to be
+    /// written next, in key order; they, or others whose ends have the same lengths, can then be written. Where the
+    /// boundaries, and two for each range, exceed the limit, it sweeps a whole round from the front first.
     ///
-    /// Answers `Full` where they still exceed it, before any memory is taken. After a refusal no range is ready.
+    /// Returns `Full` where they still exceed it, before any memory is taken, and `Memory` where a growth is refused.
+    /// After either no range is ready; the function says the same as before at and above the edge.
     pub fn prepare(&mut self, ranges: &[Range]) -> Result<(), StepError>
         requires apart { AreApart ranges.now }
         ensures ok { OnOk result (self.new ≡ prepared ranges.now self.old) }
@@ -140,7 +144,8 @@ impl StepMap {
         ensures edge { self.new.edge ≡ self.old.edge }
         ensures limit { self.new.limit ≡ self.old.limit }
         ensures same { SameFrom self.old.edge (value_at self.old.boundaries) (value_at self.new.boundaries) }
-        ensures newest { (version : ℤ) → AreUpTo version self.old.boundaries → AreUpTo version self.new.boundaries }
+        ensures newest { (version : ℤ)
+            → AreUpTo version self.old.boundaries → AreUpTo version self.new.boundaries }
         ensures covers { (ws : List Write) → MapCovers self.old ws → MapCovers self.new ws }
         ensures rooted { (ws : List Write) → Rooted self.old ws → Rooted self.new ws }
         ensures untouched { HasRoomFor (length ranges.now) self.old
@@ -160,7 +165,8 @@ impl StepMap {
         Ok(())
     }
 
-    /// Sets the version on the range; elsewhere the function stays as it is. It takes no memory.
+    /// Sets the version on the range; elsewhere the function stays as it is. The range is the next one prepared, or one
+    /// whose ends are as long. It takes no memory.
     pub fn write(&mut self, range: &Range, version: i64)
         requires filled { ¬ IsEmpty range.now }
         requires ready { slice_get self.old.ready 0 ≡ Some (lengths range.now) }
@@ -175,8 +181,8 @@ impl StepMap {
             → MapCovers self.old ws → MapCovers self.new (with_write ws range.now version) }
         ensures rooted { (ws : List Write)
             → Rooted self.old ws → Rooted self.new (with_write ws range.now version) }
-        ensures ends { (ws : List Write) (edge : ℤ) → edge ≤ℤ version
-            → Ends self.old.boundaries ws edge → Ends self.new.boundaries (with_write ws range.now version) edge }
+        ensures ends { (ws : List Write) (edge : ℤ) → edge ≤ℤ version → Ends self.old.boundaries ws edge
+            → Ends self.new.boundaries (with_write ws range.now version) edge }
         ensures rest { rest self.new ≤ rest self.old + 2 }
         ensures count { length self.new.boundaries ≤ length self.old.boundaries + 2 }
     {
@@ -185,24 +191,26 @@ impl StepMap {
         write_range(&mut self.boundaries, range, begin, end, version);
     }
 
-    /// Raises the edge to this one. Nothing else changes.
+    /// Raises the edge to this one. Nothing else changes. It takes no memory.
     pub fn raise(&mut self, edge: i64)
         requires late { self.old.edge ≤ℤ edge }
         ensures map { self.new ≡ record self.old { edge = edge } }
-        ensures newest { (version : ℤ) → AreUpTo version self.old.boundaries → AreUpTo version self.new.boundaries }
+        ensures newest { (version : ℤ)
+            → AreUpTo version self.old.boundaries → AreUpTo version self.new.boundaries }
         ensures covers { (ws : List Write) → MapCovers self.old ws → MapCovers self.new ws }
         ensures rooted { (ws : List Write) → Rooted self.old ws → Rooted self.new ws }
     {
         self.edge = edge;
     }
 
-    /// Looks at the next `count` boundaries of the round, or at all that are left, and removes those that tell nothing at
-    /// or above the edge. It takes no memory.
+    /// Looks at the next `count` boundaries of the round, or at all that are left, and removes those that tell nothing
+    /// at or above the edge. The boundary at the empty key is never looked at. It takes no memory.
     pub fn sweep(&mut self, count: usize) -> SweepEnd
         ensures map { self.new ≡ after_sweep count self.old }
         ensures round { (result ≡ SweepEnd.Round) ↔ (rest self.old ≤ count) }
         ensures same { SameFrom self.old.edge (value_at self.old.boundaries) (value_at self.new.boundaries) }
-        ensures newest { (version : ℤ) → AreUpTo version self.old.boundaries → AreUpTo version self.new.boundaries }
+        ensures newest { (version : ℤ)
+            → AreUpTo version self.old.boundaries → AreUpTo version self.new.boundaries }
         ensures covers { (ws : List Write) → MapCovers self.old ws → MapCovers self.new ws }
         ensures rooted { (ws : List Write) → Rooted self.old ws → Rooted self.new ws }
         ensures ends { result ≡ SweepEnd.Round → (ws : List Write) → Rooted self.old ws
@@ -280,15 +288,4 @@ impl StepMap {
         }
         reserved
     }
-}
-
-// Replaces what there is by room for the begins and ends of the ranges, in order.
-fn make_rooms(rooms: &mut VecDeque<Room>, alloc: Global, ranges: &[Range]) -> Result<(), AllocError>
-    ensures lengths { OnOk result (rooms.new.items ≡ map lengths ranges.now) }
-{
-    rooms.clear();
-    for range in ranges {
-        rooms.push_back(Room::new(alloc, range)?)?;
-    }
-    Ok(())
 }

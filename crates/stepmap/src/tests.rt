@@ -28,7 +28,7 @@ fn range(alloc: Global, begin: &[u8], end: &[u8]) -> Result<Range, StepError>
     Ok(Range::new(begin, end))
 }
 
-// Prepares for one range and writes it. Where memory is refused, the map is as before, and the next `prepare` succeeds.
+// Prepares for one range and writes it. Where memory is refused, the map is as before, and the next try succeeds.
 fn put(
     rt: &impl Abort,
     map: &mut StepMap,
@@ -161,7 +161,10 @@ fn paced_sweep_after_write(rt: HostRuntime) -> Result<(), Fail> {
 fn assert_greatest(rt: &impl Abort, map: &StepMap, range: Range, greatest: i64) {
     assert_eq!(rt; map.greatest_in(&range), greatest);
     assert!(rt; !map.exceeds(&range, greatest));
-    assert_eq!(rt; map.exceeds(&range, greatest.saturating_sub(1)), !range.is_empty());
+    assert_eq!(rt;
+        map.exceeds(&range, greatest.saturating_sub(1)),
+        !range.is_empty()
+    );
 }
 
 #[test]
@@ -204,8 +207,8 @@ fn refusals_print_their_numbers(rt: HostRuntime) -> Result<(), Fail> {
     Ok(())
 }
 
-// Written to pass whichever one growth of memory is refused: `new` then succeeds at the next try, and `put` looks at
-// the map after a refused `prepare`.
+// Its outcome is the same whichever one growth is refused: `new` succeeds at the next try, and `put` looks at the map
+// after a refused `prepare`.
 #[test]
 fn one_growth_refused(rt: HostRuntime) -> Result<(), Fail> {
     let map = match two_writes(&rt, rt.alloc()) {

@@ -5,16 +5,16 @@ ghost use Rattle.stepmap.specs.Sweeping.{thinned};
 use crate::boundary::Boundary;
 use crate::writing::remove_between;
 
-// Removes from `boundaries[from..to]` each boundary whose version and predecessor's version are below `edge`; returns
-// the index of the first one not looked at. Each boundary that stays is moved at most once.
+// Removes from `boundaries[from..to]` each boundary whose version and predecessor's version are below `edge`;
+// returns the index of the first one not looked at. Each boundary that stays is moved at most once.
 pub fn thin(boundaries: &mut Vec<Boundary>, from: usize, to: usize, edge: i64) -> usize
     requires filled { 0 < from }
     requires ordered { from ≤ to }
     requires within { to ≤ vec_len boundaries.old }
     ensures items { boundaries.new.items ≡ take from boundaries.old.items
         ++ (thinned edge (last_version (negsuc 0) (take from boundaries.old.items))
-                (slice_range boundaries.old.items from to)
-            ++ drop to boundaries.old.items) }
+        (slice_range boundaries.old.items from to)
+        ++ drop to boundaries.old.items) }
     ensures unseen { drop result boundaries.new.items ≡ drop to boundaries.old.items }
     ensures next { result ≤ vec_len boundaries.new }
     ensures len { vec_len boundaries.new ≤ vec_len boundaries.old }

@@ -34,7 +34,7 @@ pub fn close_at(boundaries: &mut Vec<Boundary>, at: usize, key: Key, version: i6
     boundaries.insert(at, Boundary::new(key, version)).unwrap();
 }
 
-// Writes the version on the range, whose two keys `begin` and `end` are, with bytes of their own. It takes no memory.
+// Writes the version on the range. `begin` and `end` are its two keys, with bytes of their own. It takes no memory.
 pub fn write_range(
     boundaries: &mut Vec<Boundary>,
     range: &Range,

@@ -18,6 +18,18 @@ returns c =
     let p = λ (b : Boundary). not (is_before key b.key) in
     let q = λ (b : Boundary). is_before key b.key in
     let other = λ (b : Boundary). not_not (is_before key b.key) in
-    let point = IsPartitionPoint-from_clause p bs _ c.partition_point.ensures.partitioned (partitioned p q other (up_to_falls key) bs (rising_in_order bs c.requires.in_order)) (λ a r q k. let said : r ≡ is_le (slice_cmp nat_cmp a.0.now.key key) = search rules in (said ∙ is_le-cmp a.0.now.key key, search rules)) in
-    let found = index_between p q other (up_to_falls key) (up_to_empty key) bs _ c.requires.in_order c.partition_point.ensures.bound point in
-    record { bound = c.partition_point.ensures.bound; filled = found.filled; before = found.before; rest = found.rest }
+    let point =
+    IsPartitionPoint-from_clause p bs _ c.partition_point.ensures.partitioned
+    (partitioned p q other (up_to_falls key) bs (rising_in_order bs c.requires.in_order))
+    (λ a r q k. let said : r ≡ is_le (slice_cmp nat_cmp a.0.now.key key) = search rules in
+    (said ∙ is_le-cmp a.0.now.key key, search rules)) in
+    let found =
+    index_between p q other (up_to_falls key)
+    (up_to_empty key) bs _ c.requires.in_order c.partition_point.ensures.bound point in
+    record {
+      bound = c.partition_point.ensures.bound;
+      filled = found.filled;
+      before = found.before;
+      rest =
+          found.rest;
+    }

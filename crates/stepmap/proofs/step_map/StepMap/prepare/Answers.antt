@@ -1,4 +1,4 @@
-use Rattle.std.proofs.Common.{◌≡◌, [], map, length, sym, ◌∙◌, ap, subst}
+use Rattle.std.proofs.Common.{[], map, length, sym, ◌∙◌, ap, subst}
 use Rattle.stepmap.specs.StepMap.{Steps, lengths}
 use Rattle.stepmap.specs.Limit.{HasRoomFor, made_room}
 use Rattle.stepmap.specs.Kept.{steps_of}
@@ -7,81 +7,112 @@ use Rattle.stepmap.proofs.step_map.StepMap.prepare.Goals as goal
 use Rattle.stepmap.proofs.step_map.StepMap.prepare.Goals.{After-clear, After-from_residual, In_ok-reserve}
 
 -- where there is no room
-full : (c : After-clear) → RoomKeeps (length c.args.ranges.now) c.args.self.now (steps_of c.self.inside.boundaries.items c.self.inside.edge c.clear.new.self.items c.self.inside.cursor.items c.self.inside.round c.self.inside.limit)
+full : (c : After-clear)
+    → RoomKeeps (length c.args.ranges.now) c.args.self.now
+    (steps_of c.self.inside.boundaries.items c.self.inside.edge c.clear.new.self.items
+    c.self.inside.cursor.items c.self.inside.round c.self.inside.limit)
 full c =
     let i = c.self.inside in
-    prepare_keeps (length c.args.ranges.now) c.clear.new.self.items c.args.self.now c.make_room.ensures.steps c.make_room.new.self _ c.make_room.ensures.map
+    prepare_keeps
+    (length c.args.ranges.now) c.clear.new.self.items c.args.self.now c.make_room.ensures.steps
+    c.make_room.new.self _ c.make_room.ensures.map
     (ap (λ (m : Steps). record m { ready = c.clear.new.self.items }) c.self.view_is)
 
 pub returns-then-not-has_room_for-clause-same : goal.returns-then-not-has_room_for-clause-same
-returns-then-not-has_room_for-clause-same c = (full (goal.at.returns-then-not-has_room_for-clause-same c).After-clear).same
+returns-then-not-has_room_for-clause-same c =
+    (full (goal.at.returns-then-not-has_room_for-clause-same c).After-clear).same
 
 pub returns-then-not-has_room_for-clause-newest : goal.returns-then-not-has_room_for-clause-newest
-returns-then-not-has_room_for-clause-newest c = (full (goal.at.returns-then-not-has_room_for-clause-newest c).After-clear).newest
+returns-then-not-has_room_for-clause-newest c =
+    (full (goal.at.returns-then-not-has_room_for-clause-newest c).After-clear).newest
 
 pub returns-then-not-has_room_for-clause-covers : goal.returns-then-not-has_room_for-clause-covers
-returns-then-not-has_room_for-clause-covers c = (full (goal.at.returns-then-not-has_room_for-clause-covers c).After-clear).covers
+returns-then-not-has_room_for-clause-covers c =
+    (full (goal.at.returns-then-not-has_room_for-clause-covers c).After-clear).covers
 
 pub returns-then-not-has_room_for-clause-rooted : goal.returns-then-not-has_room_for-clause-rooted
-returns-then-not-has_room_for-clause-rooted c = (full (goal.at.returns-then-not-has_room_for-clause-rooted c).After-clear).rooted
+returns-then-not-has_room_for-clause-rooted c =
+    (full (goal.at.returns-then-not-has_room_for-clause-rooted c).After-clear).rooted
 
 pub returns-then-not-has_room_for-clause-edge : goal.returns-then-not-has_room_for-clause-edge
-returns-then-not-has_room_for-clause-edge c = (full (goal.at.returns-then-not-has_room_for-clause-edge c).After-clear).edge
+returns-then-not-has_room_for-clause-edge c =
+    (full (goal.at.returns-then-not-has_room_for-clause-edge c).After-clear).edge
 
 pub returns-then-not-has_room_for-clause-limit : goal.returns-then-not-has_room_for-clause-limit
-returns-then-not-has_room_for-clause-limit c = (full (goal.at.returns-then-not-has_room_for-clause-limit c).After-clear).limit
+returns-then-not-has_room_for-clause-limit c =
+    (full (goal.at.returns-then-not-has_room_for-clause-limit c).After-clear).limit
 
 pub returns-then-not-has_room_for-clause-untouched : goal.returns-then-not-has_room_for-clause-untouched
-returns-then-not-has_room_for-clause-untouched c = (full (goal.at.returns-then-not-has_room_for-clause-untouched c).After-clear).untouched
+returns-then-not-has_room_for-clause-untouched c =
+    (full (goal.at.returns-then-not-has_room_for-clause-untouched c).After-clear).untouched
 
 pub returns-then-not-has_room_for-clause-front : goal.returns-then-not-has_room_for-clause-front
-returns-then-not-has_room_for-clause-front c = (full (goal.at.returns-then-not-has_room_for-clause-front c).After-clear).front
+returns-then-not-has_room_for-clause-front c =
+    (full (goal.at.returns-then-not-has_room_for-clause-front c).After-clear).front
 
 pub returns-then-not-has_room_for-clause-ends : goal.returns-then-not-has_room_for-clause-ends
-returns-then-not-has_room_for-clause-ends c = (full (goal.at.returns-then-not-has_room_for-clause-ends c).After-clear).ends
+returns-then-not-has_room_for-clause-ends c =
+    (full (goal.at.returns-then-not-has_room_for-clause-ends c).After-clear).ends
 
 pub returns-then-not-has_room_for-clause-bound : goal.returns-then-not-has_room_for-clause-bound
 returns-then-not-has_room_for-clause-bound c =
     let old = c.args.self.now in
     let n = length c.args.ranges.now in
     let test = sym c.has_room_for.ensures.room ∙ c.if-not-has_room_for.true in
-    let none : ¬ HasRoomFor n (made_room n old) = subst (λ (m : Steps). ¬ HasRoomFor n m) c.make_room.ensures.map (no_room_if n c.make_room.new.self test) in
+    let none : ¬ HasRoomFor n (made_room n old) =
+    subst (λ (m : Steps). ¬ HasRoomFor n m) c.make_room.ensures.map
+    (no_room_if n c.make_room.new.self test) in
     λ _ ws r. full_bound n old c.make_room.ensures.steps none ws r
 
 -- where memory was refused
 refused : (c : After-from_residual) → RoomKeeps (length c.args.ranges.now) c.args.self.now c.reserve.new.self
-refused c = prepare_keeps (length c.args.ranges.now) [] c.args.self.now c.make_room.ensures.steps c.make_room.new.self c.reserve.new.self c.make_room.ensures.map c.in_err-reserve.ensures.err
+refused c =
+    prepare_keeps
+    (length c.args.ranges.now) [] c.args.self.now c.make_room.ensures.steps c.make_room.new.self
+    c.reserve.new.self c.make_room.ensures.map c.in_err-reserve.ensures.err
 
 pub returns-in_err-reserve-clause-same : goal.returns-in_err-reserve-clause-same
-returns-in_err-reserve-clause-same c = (refused (goal.at.returns-in_err-reserve-clause-same c).After-from_residual).same
+returns-in_err-reserve-clause-same c =
+    (refused (goal.at.returns-in_err-reserve-clause-same c).After-from_residual).same
 
 pub returns-in_err-reserve-clause-newest : goal.returns-in_err-reserve-clause-newest
-returns-in_err-reserve-clause-newest c = (refused (goal.at.returns-in_err-reserve-clause-newest c).After-from_residual).newest
+returns-in_err-reserve-clause-newest c =
+    (refused (goal.at.returns-in_err-reserve-clause-newest c).After-from_residual).newest
 
 pub returns-in_err-reserve-clause-covers : goal.returns-in_err-reserve-clause-covers
-returns-in_err-reserve-clause-covers c = (refused (goal.at.returns-in_err-reserve-clause-covers c).After-from_residual).covers
+returns-in_err-reserve-clause-covers c =
+    (refused (goal.at.returns-in_err-reserve-clause-covers c).After-from_residual).covers
 
 pub returns-in_err-reserve-clause-rooted : goal.returns-in_err-reserve-clause-rooted
-returns-in_err-reserve-clause-rooted c = (refused (goal.at.returns-in_err-reserve-clause-rooted c).After-from_residual).rooted
+returns-in_err-reserve-clause-rooted c =
+    (refused (goal.at.returns-in_err-reserve-clause-rooted c).After-from_residual).rooted
 
 pub returns-in_err-reserve-clause-edge : goal.returns-in_err-reserve-clause-edge
-returns-in_err-reserve-clause-edge c = (refused (goal.at.returns-in_err-reserve-clause-edge c).After-from_residual).edge
+returns-in_err-reserve-clause-edge c =
+    (refused (goal.at.returns-in_err-reserve-clause-edge c).After-from_residual).edge
 
 pub returns-in_err-reserve-clause-limit : goal.returns-in_err-reserve-clause-limit
-returns-in_err-reserve-clause-limit c = (refused (goal.at.returns-in_err-reserve-clause-limit c).After-from_residual).limit
+returns-in_err-reserve-clause-limit c =
+    (refused (goal.at.returns-in_err-reserve-clause-limit c).After-from_residual).limit
 
 pub returns-in_err-reserve-clause-untouched : goal.returns-in_err-reserve-clause-untouched
-returns-in_err-reserve-clause-untouched c = (refused (goal.at.returns-in_err-reserve-clause-untouched c).After-from_residual).untouched
+returns-in_err-reserve-clause-untouched c =
+    (refused (goal.at.returns-in_err-reserve-clause-untouched c).After-from_residual).untouched
 
 pub returns-in_err-reserve-clause-front : goal.returns-in_err-reserve-clause-front
-returns-in_err-reserve-clause-front c = (refused (goal.at.returns-in_err-reserve-clause-front c).After-from_residual).front
+returns-in_err-reserve-clause-front c =
+    (refused (goal.at.returns-in_err-reserve-clause-front c).After-from_residual).front
 
 pub returns-in_err-reserve-clause-ends : goal.returns-in_err-reserve-clause-ends
-returns-in_err-reserve-clause-ends c = (refused (goal.at.returns-in_err-reserve-clause-ends c).After-from_residual).ends
+returns-in_err-reserve-clause-ends c =
+    (refused (goal.at.returns-in_err-reserve-clause-ends c).After-from_residual).ends
 
 -- where all is ready
 ready : (c : In_ok-reserve) → RoomKeeps (length c.args.ranges.now) c.args.self.now c.reserve.new.self
-ready c = prepare_keeps (length c.args.ranges.now) (map lengths c.args.ranges.now) c.args.self.now c.make_room.ensures.steps c.make_room.new.self c.reserve.new.self c.make_room.ensures.map c.in_ok-reserve.ensures.ok
+ready c =
+    prepare_keeps (length c.args.ranges.now)
+    (map lengths c.args.ranges.now) c.args.self.now c.make_room.ensures.steps c.make_room.new.self
+    c.reserve.new.self c.make_room.ensures.map c.in_ok-reserve.ensures.ok
 
 pub returns-clause-same : goal.returns-clause-same
 returns-clause-same c = (ready (goal.at.returns-clause-same c).In_ok-reserve).same
