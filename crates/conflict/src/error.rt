@@ -1,0 +1,24 @@
+ghost use Rattle.std.specs.Prelude.{◌≡◌};
+ghost use Rattle.conflict.specs.declared.error.SetStop.TheVariants.{Memory};
+
+use std::alloc::AllocError;
+use thiserror::Error;
+
+/// Why a conflict set resolves no more batches.
+#[derive(Clone, Copy, Debug, PartialEq, Eq, Hash, Error)]
+pub enum SetStop {
+    /// Memory was refused.
+    #[error("1 Memory")]
+    Memory = 1,
+    /// The boundaries that a batch needs exceed the limit.
+    #[error("2 ArenaFull")]
+    ArenaFull = 2,
+}
+
+impl From<AllocError> for SetStop {
+    ghost from_gives = { λ _ e. e ≡ Memory };
+
+    fn from(_refused: AllocError) -> SetStop {
+        SetStop::Memory
+    }
+}

@@ -1,0 +1,6 @@
+//! Verdicts and reports of a batch, over the step map that remembers committed writes.
+#![tactic(auto)]
+
+mod error;
+
+pub use error::SetStop;
