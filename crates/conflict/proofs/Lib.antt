@@ -1,0 +1,3 @@
+pub mod GapsWords
+pub mod GapsFound
+pub mod GapsMarks

@@ -2,5 +2,6 @@
 #![tactic(auto)]
 
 mod error;
+pub mod gaps;
 
 pub use error::SetStop;
