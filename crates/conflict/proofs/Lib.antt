@@ -1,3 +1,5 @@
 pub mod GapsWords
 pub mod GapsFound
 pub mod GapsMarks
+pub mod InBatch
+pub mod Hits

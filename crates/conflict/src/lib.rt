@@ -2,6 +2,7 @@
 #![tactic(auto)]
 
 mod error;
+pub mod history;
 pub mod gaps;
 
 pub use error::SetStop;
