@@ -3,3 +3,8 @@ pub mod GapsFound
 pub mod GapsMarks
 pub mod InBatch
 pub mod Hits
+pub mod Ranks
+pub mod RanksFound
+pub mod RanksDistinct
+pub mod RanksGathered
+pub mod RanksPushed

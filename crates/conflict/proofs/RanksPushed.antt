@@ -1,0 +1,75 @@
+-- One more range, or one more transaction, whose ends are pushed.
+use Rattle.std.proofs.Common.{
+  ◌≡◌,
+  ◌↔◌,
+  ℕ,
+  suc,
+  ◌+◌,
+  ◌<◌,
+  Bool,
+  true,
+  false,
+  List,
+  [],
+  ◌∷◌,
+  ◌++◌,
+  length,
+  get_or,
+  drop,
+  sym,
+  ◌∙◌,
+  ap,
+  subst,
+  append_assoc,
+  append-nil,
+  add-one,
+}
+use Rattle.std.specs.Prelude.{IsTrue}
+use Rattle.std.proofs.Math.Seq.{drop-cons}
+use Rattle.keyspace.specs.Range.{IsEmpty}
+use Rattle.keyspace.specs.declared.range.Range.{Range}
+use Rattle.keyspace.proofs.KeyOrder.{not_before_itself}
+use Rattle.stepmap.specs.Counting.{is_filled}
+use Rattle.conflict.specs.declared.ends.Kind.{Kind}
+use Rattle.conflict.specs.declared.ends.Side.TheVariants as side
+use Rattle.conflict.specs.declared.ends.End.{End}
+use Rattle.conflict.specs.Gathering.{ends_at, ends_from}
+use Rattle.conflict.proofs.Ranks.{before_unless_empty}
+
+-- an element in the middle
+pub taken : {X : Type 0} (xs : List X) (i : ℕ) (x : X) → i < length xs → x ≡ get_or xs i x
+    → drop i xs ≡ x ∷ drop (i + 1) xs
+taken xs i x lt e = rw (add-one i) (drop-cons xs i x lt ∙ ap (λ y. y ∷ drop (suc i) xs) (sym e))
+
+-- more are pushed, and as many fewer are left
+moved : {X : Type 0} (done new first rest whole : List X) → new ≡ done ++ first
+    → done ++ (first ++ rest) ≡ whole → new ++ rest ≡ whole
+moved done new first rest whole e h = ap (λ xs. xs ++ rest) e ∙ append_assoc done first rest ∙ h
+
+pub range_pushed : (kind : Kind) (txn i : ℕ) (ranges : List Range) (r : Range) (done new whole : List End)
+    → i < length ranges → r ≡ get_or ranges i r → new ≡ done ++ ends_at kind txn i r
+    → done ++ ends_from kind txn i (drop i ranges) ≡ whole
+    → new ++ ends_from kind txn (i + 1) (drop (i + 1) ranges) ≡ whole
+range_pushed kind txn i ranges r done new whole lt e is h =
+    let k : done ++ (ends_at kind txn i r ++ ends_from kind txn (i + 1) (drop (i + 1) ranges)) ≡ whole =
+    subst (λ rs. done ++ ends_from kind txn i rs ≡ whole) (taken ranges i r lt e) h in
+    moved done new (ends_at kind txn i r) (ends_from kind txn (i + 1) (drop (i + 1) ranges)) whole is k
+
+-- what a test for emptiness tells
+pub filled_if_not : (r : Range) (empty : Bool) → IsTrue empty ↔ IsEmpty r → empty ≡ false → is_filled r ≡ true
+filled_if_not r empty says f = before_unless_empty r (λ e. let t : empty ≡ true = says.1 e in
+    let b : true ≡ false = sym t ∙ f in cc)
+
+pub empty_if : (r : Range) → IsEmpty r → is_filled r ≡ false
+empty_if r e = rw e (not_before_itself r.end)
+
+-- the two ends of a range that isn't empty, one pushed after the other
+pub both_pushed : (kind : Kind) (txn i : ℕ) (r : Range) (done first new : List End) → is_filled r ≡ true
+    → first ≡ done ++ record { txn = txn; range = i; kind = kind; side = side.Begin } ∷ []
+    → new ≡ first ++ record { txn = txn; range = i; kind = kind; side = side.End } ∷ []
+    → new ≡ done ++ ends_at kind txn i r
+both_pushed kind txn i r done first new f e g = rw (f, g, e) (append_assoc done _ _)
+
+pub none_pushed : (kind : Kind) (txn i : ℕ) (r : Range) (done new : List End) → is_filled r ≡ false
+    → new ≡ done → new ≡ done ++ ends_at kind txn i r
+none_pushed kind txn i r done new f e = rw (f, e) (sym (append-nil done))
