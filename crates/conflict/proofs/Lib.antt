@@ -8,3 +8,6 @@ pub mod RanksFound
 pub mod RanksDistinct
 pub mod RanksGathered
 pub mod RanksPushed
+pub mod UnionMerging
+pub mod UnionSteps
+pub mod UnionReordered

@@ -6,5 +6,6 @@ mod error;
 pub mod laws;
 pub mod history;
 pub mod gaps;
+pub mod union;
 
 pub use error::SetStop;
