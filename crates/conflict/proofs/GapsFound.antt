@@ -35,7 +35,8 @@ filled_by_bit word bit set zero =
 
 -- one word, under a mask
 pub any_of_mask : (words : List ℕ) (word mask : ℕ) → bit_and (get_or words word 0) mask < 2 ^ 64
-    → IsTrue (not (eqb (bit_and (get_or words word 0) mask) 0)) ↔ ((bit : ℕ) × IsInWord word mask bit × HasBit words bit)
+    → IsTrue (not (eqb (bit_and (get_or words word 0) mask) 0))
+    ↔ ((bit : ℕ) × IsInWord word mask bit × HasBit words bit)
 unfolding HasBit
 any_of_mask words word mask fits = (
   λ filled.
@@ -53,7 +54,8 @@ any_of_mask words word mask fits = (
   λ found.
       let bit : ℕ = found.0 % 64 in
       let here : bit_at (get_or words word 0) bit ≡ 1 = rw found.1.0 at found.2 in
-      (not_eqb _ 0).1 (filled_by_bit _ bit (bit_at_and (get_or words word 0) mask bit ∙ rw (here, found.1.1) refl)),
+      let both = bit_at_and (get_or words word 0) mask bit ∙ rw (here, found.1.1) refl in
+      (not_eqb _ 0).1 (filled_by_bit _ bit both),
 )
 
 -- whole words
@@ -63,7 +65,7 @@ pub any_of_words : (words : List ℕ) (first last : ℕ) → first ≤ last → 
     ↔ ((bit : ℕ) × IsInRun first last (bit / 64) × HasBit words bit)
 unfolding HasBit
 any_of_words words first last ordered within fits =
-    let long : length (slice_range words first last) ≡ last - first = length-between words first last within in (
+    let long = length-between words first last within in (
       λ found.
           let index : ℕ = found.0 in
           let word : ℕ = found.1 in
@@ -71,7 +73,8 @@ any_of_words words first last ordered within fits =
           let same : get_or words (first + index) 0 ≡ word =
           sym (get_or_default_zero words (first + index) word (omega arith))
           ∙ sym (get_or-between words first last index word (omega arith)) ∙ found.3 in
-          let set = bit_of_filled (get_or words (first + index) 0) (fits (first + index)) (λ zero. found.4 (sym same ∙ zero)) in
+          let filled : get_or words (first + index) 0 ≢ 0 = λ zero. found.4 (sym same ∙ zero) in
+          let set = bit_of_filled (get_or words (first + index) 0) (fits (first + index)) filled in
           let bit : ℕ = set.0 in
           let number : (64 * (first + index) + bit) / 64 ≡ first + index = omega arith in
           let rest : (64 * (first + index) + bit) % 64 ≡ bit = omega arith in (
@@ -111,7 +114,8 @@ pub last_of_run : (words : List ℕ) (from to head tail : ℕ) → from ≤ to �
     → ((bit : ℕ) → bit < 64 → (bit_at tail bit ≡ 1) ↔ IsInRun 0 (to % 64) bit)
     → (((bit : ℕ) × IsInWord (from / 64) head bit × HasBit words bit) → ⊥)
     → (((bit : ℕ) × IsInRun (from / 64 + 1) (to / 64) (bit / 64) × HasBit words bit) → ⊥)
-    → ((bit : ℕ) × IsInWord (to / 64) tail bit × HasBit words bit) ↔ ((bit : ℕ) × IsInRun from to bit × HasBit words bit)
+    → ((bit : ℕ) × IsInWord (to / 64) tail bit × HasBit words bit)
+    ↔ ((bit : ℕ) × IsInRun from to bit × HasBit words bit)
 last_of_run words from to head tail ordered apart heads tails none_first none_between = (
   λ found.
       let bit : ℕ = found.0 in

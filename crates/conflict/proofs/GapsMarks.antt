@@ -1,5 +1,5 @@
 -- Marks of gaps, read off the bits of words.
-use Rattle.std.proofs.Common.{◌≡◌, ℕ, ◌/◌, ◌%◌, ◌<◌, ◌≤◌, true, false, ◌↔◌, ◌⊎◌, List, [], length, get_or, replicate, refl, sym, ◌∙◌, inl, inr, arith, eq-eqb, eqb-true}
+use Rattle.std.proofs.Common.{◌≡◌, ℕ, ◌/◌, ◌%◌, ◌<◌, ◌≤◌, Bool, true, false, ◌↔◌, ◌⊎◌, List, [], length, get_or, replicate, refl, sym, ◌∙◌, inl, inr, arith, eq-eqb, eqb-true}
 use Rattle.std.proofs.lemmas.Bool.{cases_lt}
 use Rattle.std.proofs.lemmas.List.{get_or-replicate, get_or_past, length-replicate}
 use Rattle.std.proofs.lemmas.List.FromFn.{length-map-range_with_len, get_or-map-range_with_len}
@@ -12,6 +12,11 @@ pub length-marks_of : (count : ℕ) (words : List ℕ) → length (marks_of coun
 unfolding marks_of
 length-marks_of count words =
     length-map-range_with_len (λ gap. bit_at (get_or words (gap / 64) 0) (gap % 64) == 1) 0 count
+
+-- a set's count is the length of its marks
+pub count_of : (count : ℕ) (words : List ℕ) (marks : List Bool) → marks_of count words ≡ marks
+    → length marks ≡ count
+count_of count words marks seen = rw (← seen) (length-marks_of count words)
 
 pub marks_of-zero : (words : List ℕ) → marks_of 0 words ≡ []
 unfolding marks_of
@@ -32,7 +37,8 @@ IsMarked-marks_of count words gap =
           )
       | inr above ↦ (
         λ marked.
-            let none = get_or_past (marks_of count words) gap false (omega (arith, length-marks_of count words)) in
+            let long = length-marks_of count words in
+            let none = get_or_past (marks_of count words) gap false (omega arith) in
             absurd (let contrary : false ≡ true = sym none ∙ marked in cc),
         λ has. absurd (omega (arith, has.0)),
       )

@@ -63,15 +63,18 @@ max_is_one x y small small' = (
 
 -- after a mask is added to one word
 pub HasBit-set_or : (words : List ℕ) (word mask bit : ℕ) → word < length words
-    → HasBit (set words word (bit_or (get_or words word 0) mask)) bit ↔ (HasBit words bit ⊎ IsInWord word mask bit)
+    → HasBit (set words word (bit_or (get_or words word 0) mask)) bit
+    ↔ (HasBit words bit ⊎ IsInWord word mask bit)
 unfolding HasBit
 HasBit-set_or words word mask bit within =
     let joined : ℕ = bit_or (get_or words word 0) mask in
+    let old_bit : ℕ = bit_at (get_or words (bit / 64) 0) (bit % 64) in
+    let mask_bit : ℕ = bit_at mask (bit % 64) in
     elim (cases_eq (bit / 64) word) [
       | inl same ↦
-          let at : bit_at (get_or (set words word joined) (bit / 64) 0) (bit % 64) ≡ max (bit_at (get_or words (bit / 64) 0) (bit % 64)) (bit_at mask (bit % 64)) =
+          let at : bit_at (get_or (set words word joined) (bit / 64) 0) (bit % 64) ≡ max old_bit mask_bit =
           rw (same, get_or-set_same words word joined 0 within) (bit_at_or _ mask (bit % 64)) in
-          let cases = max_is_one (bit_at (get_or words (bit / 64) 0) (bit % 64)) (bit_at mask (bit % 64)) (bit_at-lt _ _) (bit_at-lt _ _) in (
+          let cases = max_is_one old_bit mask_bit (bit_at-lt _ _) (bit_at-lt _ _) in (
             λ has. elim (cases.0 (omega arith)) [ inl old ↦ inl old | inr new ↦ inr (same, new) ],
             λ either. at ∙ cases.1 (elim either [ inl old ↦ inl old | inr new ↦ inr new.1 ]),
           )
@@ -90,10 +93,11 @@ unfolding HasBit
 HasBit-put_mid words ones first last bit ordered within filled =
     let new : List ℕ = put_mid first (last - first) words ones in
     let outside : get_or new (bit / 64) 0 ≡ get_or words (bit / 64) 0 → (IsInRun first last (bit / 64) → ⊥)
-    → (bit_at (get_or new (bit / 64) 0) (bit % 64) ≡ 1) ↔ ((bit_at (get_or words (bit / 64) 0) (bit % 64) ≡ 1) ⊎ IsInRun first last (bit / 64)) =
-    λ same out. (
-      λ has. inl (sym (ap (λ w. bit_at w (bit % 64)) same) ∙ has),
-      λ either. elim either [ inl old ↦ ap (λ w. bit_at w (bit % 64)) same ∙ old | inr in_run ↦ absurd (out in_run) ],
+    → HasBit new bit ↔ (HasBit words bit ⊎ IsInRun first last (bit / 64)) =
+    λ same out.
+    let at = ap (λ w. bit_at w (bit % 64)) same in (
+      λ has. inl (sym at ∙ has),
+      λ either. elim either [ inl old ↦ at ∙ old | inr in_run ↦ absurd (out in_run) ],
     ) in
     elim (cases_lt (bit / 64) first) [
       | inl before ↦ outside (rw filled (search (rules, places))) (λ in_run. omega arith)

@@ -2,6 +2,8 @@
 ghost use Rattle.std.specs.Prelude.{◌≡◌, ◌↔◌, ◌⊎◌, ℕ, ◌≤◌, [], length, IsTrue, OnErr, OnOk};
 ghost use Rattle.conflict.specs.Gaps.{IsInRun, IsMarked, SomeMarked};
 
+#[cfg(test)]
+mod tests;
 mod words;
 
 use self::words::{any_in_run, set_run};
@@ -30,7 +32,7 @@ impl Model for Gaps {
 impl Gaps {
     /// Creates a set of gaps with a count of 0, without taking memory.
     pub fn new(alloc: Global) -> Self
-        ensures { result ≡ [] }
+        ensures empty { result ≡ [] }
     {
         Gaps {
             words: Vec::new(alloc),

@@ -5,8 +5,8 @@ ghost use Rattle.conflict.specs.Gaps.{HasBit, IsInRun, IsInWord};
 
 // The bits of a word from `low` on.
 fn ones_from(low: usize) -> u64
-    requires { low < 64 }
-    ensures { (bit : ℕ) → bit < 64 → (bit_at result bit ≡ 1) ↔ (low ≤ bit) }
+    requires low { low < 64 }
+    ensures bits { (bit : ℕ) → bit < 64 → (bit_at result bit ≡ 1) ↔ (low ≤ bit) }
 {
     u64::MAX << low
 }
@@ -15,15 +15,15 @@ fn ones_from(low: usize) -> u64
 fn ones_between(low: usize, high: usize) -> u64
     requires low { low < 64 }
     requires high { high < 64 }
-    ensures { (bit : ℕ) → bit < 64 → (bit_at result bit ≡ 1) ↔ IsInRun low high bit }
+    ensures bits { (bit : ℕ) → bit < 64 → (bit_at result bit ≡ 1) ↔ IsInRun low high bit }
 {
     ones_from(low) & !ones_from(high)
 }
 
 // Sets the bits of the mask in one word.
 fn set_in_word(words: &mut [u64], word: usize, mask: u64)
-    requires { word < length words.old }
-    ensures { (bit : ℕ) → HasBit words.new bit ↔ (HasBit words.old bit ⊎ IsInWord word mask bit) }
+    requires within { word < length words.old }
+    ensures set { (bit : ℕ) → HasBit words.new bit ↔ (HasBit words.old bit ⊎ IsInWord word mask bit) }
 {
     words[word] |= mask;
 }
@@ -32,7 +32,7 @@ fn set_in_word(words: &mut [u64], word: usize, mask: u64)
 fn set_words(words: &mut [u64], first: usize, last: usize)
     requires ordered { first ≤ last }
     requires within { last ≤ length words.old }
-    ensures { (bit : ℕ) → HasBit words.new bit ↔ (HasBit words.old bit ⊎ IsInRun first last (bit / 64)) }
+    ensures set { (bit : ℕ) → HasBit words.new bit ↔ (HasBit words.old bit ⊎ IsInRun first last (bit / 64)) }
 {
     words[first..last].fill(u64::MAX);
 }
@@ -41,7 +41,7 @@ fn set_words(words: &mut [u64], first: usize, last: usize)
 pub fn set_run(words: &mut [u64], from: usize, to: usize)
     requires ordered { from ≤ to }
     requires within { to < 64 * length words.old }
-    ensures { (bit : ℕ) → HasBit words.new bit ↔ (HasBit words.old bit ⊎ IsInRun from to bit) }
+    ensures set { (bit : ℕ) → HasBit words.new bit ↔ (HasBit words.old bit ⊎ IsInRun from to bit) }
 {
     let (first, last) = (from / 64, to / 64);
     if first == last {
@@ -55,8 +55,8 @@ pub fn set_run(words: &mut [u64], from: usize, to: usize)
 
 // Returns `true` if one word has a bit of the mask.
 fn any_in_word(words: &[u64], word: usize, mask: u64) -> bool
-    requires { word < length words.now }
-    ensures { IsTrue result ↔ ((bit : ℕ) × IsInWord word mask bit × HasBit words.now bit) }
+    requires within { word < length words.now }
+    ensures found { IsTrue result ↔ ((bit : ℕ) × IsInWord word mask bit × HasBit words.now bit) }
 {
     words[word] & mask != 0
 }
@@ -65,7 +65,7 @@ fn any_in_word(words: &[u64], word: usize, mask: u64) -> bool
 fn any_in_words(words: &[u64], first: usize, last: usize) -> bool
     requires ordered { first ≤ last }
     requires within { last ≤ length words.now }
-    ensures { IsTrue result ↔ ((bit : ℕ) × IsInRun first last (bit / 64) × HasBit words.now bit) }
+    ensures found { IsTrue result ↔ ((bit : ℕ) × IsInRun first last (bit / 64) × HasBit words.now bit) }
 {
     words[first..last].iter().any(|word| *word != 0)
 }
@@ -74,7 +74,7 @@ fn any_in_words(words: &[u64], first: usize, last: usize) -> bool
 pub fn any_in_run(words: &[u64], from: usize, to: usize) -> bool
     requires ordered { from ≤ to }
     requires within { to < 64 * length words.now }
-    ensures { IsTrue result ↔ ((bit : ℕ) × IsInRun from to bit × HasBit words.now bit) }
+    ensures found { IsTrue result ↔ ((bit : ℕ) × IsInRun from to bit × HasBit words.now bit) }
 {
     let (first, last) = (from / 64, to / 64);
     if first == last {

@@ -11,6 +11,8 @@ returns-clause-count c = length-marks_of c.args.count c.resize.new.self.items
 
 pub returns-clause-unmarked : goal.returns-clause-unmarked
 returns-clause-unmarked c = λ gap marked.
-    let zeros : c.resize.new.self.items ≡ replicate (c.args.count / 64 + 1) 0 = c.in_ok-resize.ensures.items ∙ rw (c.clear.ensures.items, c.clear.ensures.len) (grind (arith, common_steps)) in
+    let zeros : c.resize.new.self.items ≡ replicate (c.args.count / 64 + 1) 0 =
+    c.in_ok-resize.ensures.items
+    ∙ rw (c.clear.ensures.items, c.clear.ensures.len) (grind (arith, common_steps)) in
     let has = ((IsMarked-marks_of c.args.count c.resize.new.self.items gap).0 marked).1 in
     HasBit-replicate (c.args.count / 64 + 1) gap (rw zeros at has)

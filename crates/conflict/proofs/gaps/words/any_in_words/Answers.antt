@@ -6,6 +6,8 @@ use Rattle.conflict.proofs.gaps.words.any_in_words.Goals as goal
 pub returns : goal.returns
 returns c =
     let words = c.args.words.now in
-    let said : IsTrue c.any.result ↔ Any (λ word. word ≢ 0) (slice_range words c.args.first c.args.last) = search rules in
-    let found = any_of_words words c.args.first c.args.last c.requires.ordered c.requires.within (λ word. search (rules, c.type_inv.words)) in
-    (λ told. found.0 (said.0 told), λ bit. said.1 (found.1 bit))
+    let part = slice_range words c.args.first c.args.last in
+    let said : IsTrue c.any.result ↔ Any (λ word. word ≢ 0) part = search rules in
+    let found = any_of_words words c.args.first c.args.last c.requires.ordered c.requires.within
+    (λ word. search (rules, c.type_inv.words)) in
+    record { found = (λ told. found.0 (said.0 told), λ bit. said.1 (found.1 bit)) }

@@ -3,6 +3,8 @@ use Rattle.conflict.proofs.GapsWords.{bit_at-and_not}
 use Rattle.conflict.proofs.gaps.words.ones_between.Goals as goal
 
 pub returns : goal.returns
-returns c = λ bit small.
-    bit_at-and_not c.ones_from.result c.ones_from-2.result c.args.low c.args.high bit (search rules) small
-    (c.ones_from.ensures bit small) (c.ones_from-2.ensures bit small)
+returns c = record {
+  bits = λ bit small.
+      bit_at-and_not c.ones_from.result c.ones_from-2.result c.args.low c.args.high bit (search rules) small
+      (c.ones_from.ensures.bits bit small) (c.ones_from-2.ensures.bits bit small);
+}

@@ -2,4 +2,4 @@ use Rattle.conflict.proofs.GapsWords.{bit_at-shl_ones}
 use Rattle.conflict.proofs.gaps.words.ones_from.Goals as goal
 
 pub returns : goal.returns
-returns c = λ bit small. bit_at-shl_ones c.args.low bit c.requires small
+returns c = record { bits = λ bit small. bit_at-shl_ones c.args.low bit c.requires.low small }
