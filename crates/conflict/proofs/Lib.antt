@@ -11,3 +11,4 @@ pub mod RanksPushed
 pub mod UnionMerging
 pub mod UnionSteps
 pub mod UnionReordered
+pub mod RanksOpen

@@ -178,3 +178,6 @@ fn sort_distinct(ends: &mut Vec<End>, txns: &[Txn])
     ends.sort_unstable_by(|a, b| key_of(txns, a).cmp(key_of(txns, b)));
     ends.dedup_by(|a, b| key_of(txns, a) == key_of(txns, b));
 }
+
+#[cfg(test)]
+mod tests;

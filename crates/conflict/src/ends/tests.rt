@@ -1,0 +1,223 @@
+//! A batch by hand, and random batches compared with a plain count.
+ghost use Rattle.std.specs.Prelude.{◌<◌};
+ghost use Rattle.conflict.specs.Ranks.{AreRising};
+ghost use Rattle.conflict.specs.Gathered.{keys_of};
+
+use super::*;
+use keyspace::{Key, MAX_KEY_LENGTH, MAX_RANGES, MAX_TXNS, Places, Sequence};
+use std::alloc::Global;
+use std::process::Abort;
+use std::test::Fail;
+
+fn key(alloc: Global, bytes: &[u8]) -> Result<Key, Fail> {
+    let bytes = Vec::from_slice(alloc, bytes)?;
+    if bytes.len() > MAX_KEY_LENGTH {
+        return Err("a key that is too long")?;
+    }
+    Ok(Key::new(bytes))
+}
+
+fn range(begin: Key, end: Key) -> Result<Range, Fail> {
+    if end < begin {
+        return Err("a range that ends before it begins")?;
+    }
+    Ok(Range::new(begin, end))
+}
+
+fn ranges(alloc: Global, ends: &[(&[u8], &[u8])]) -> Result<Vec<Range>, Fail> {
+    let mut ranges = Vec::new(alloc);
+    for (begin, end) in ends {
+        ranges.push(range(key(alloc, begin)?, key(alloc, end)?)?)?;
+    }
+    Ok(ranges)
+}
+
+fn txn(reads: Vec<Range>, writes: Vec<Range>) -> Result<Txn, Fail> {
+    if reads.len() > MAX_RANGES || writes.len() > MAX_RANGES {
+        return Err("too many ranges")?;
+    }
+    Ok(Txn::new(0, false, Sequence::new(reads), Sequence::new(writes)))
+}
+
+fn batch(txns: Vec<Txn>) -> Result<Batch, Fail> {
+    if txns.len() > MAX_TXNS {
+        return Err("too many transactions")?;
+    }
+    Ok(Batch::new(-1, 0, -1, Sequence::new(txns)))
+}
+
+fn entry(alloc: Global, verdict: Verdict) -> Entry {
+    Entry::new(verdict, Places::new(Vec::new(alloc)))
+}
+
+#[test]
+fn runs_of_a_batch(rt: HostRuntime) -> Result<(), Fail> {
+    let alloc = rt.alloc();
+    let reads = ranges(alloc, &[(b"b", b"d"), (b"m", b"m")])?;
+    let first = txn(reads, ranges(alloc, &[(b"a", b"c")])?)?;
+    let refused = txn(Vec::new(alloc), ranges(alloc, &[(b"aa", b"y")])?)?;
+    let last = txn(
+        ranges(alloc, &[(b"c", b"d")])?,
+        ranges(alloc, &[(b"", b"a")])?,
+    )?;
+    let batch = batch(vec![in alloc; first, refused, last]?)?;
+    let [first, refused, last] = batch.txns.as_slice() else {
+        return Err("three transactions")?;
+    };
+    let entries = [
+        entry(alloc, Verdict::Committed),
+        entry(alloc, Verdict::Conflict),
+        entry(alloc, Verdict::Committed),
+    ];
+    let mut ends = Ends::new(alloc);
+    assert_eq!(rt; ends.count(), 0);
+    ends.gather(&batch, &entries)?;
+    // The empty key, a, b, c, d.
+    assert_eq!(rt; ends.count(), 5);
+    let [b_to_d, empty] = first.reads.as_slice() else {
+        return Err("two reads")?;
+    };
+    assert_eq!(rt; ends.run_of(&batch, b_to_d), (2, 4));
+    assert_eq!(rt; ends.run_of(&batch, empty), (5, 5));
+    let wanted = [(first, (1, 3)), (refused, (2, 5)), (last, (0, 1))];
+    for (txn, run) in wanted {
+        for range in txn.writes.as_slice() {
+            assert_eq!(rt; ends.run_of(&batch, range), run);
+        }
+    }
+    Ok(())
+}
+
+// Numbers that look random, by a linear congruence.
+#[derive(Drop)]
+struct Random {
+    state: u64,
+}
+
+impl Random {
+    fn below(&mut self, bound: u64) -> u64
+        requires positive { 0 < bound }
+        ensures below { result < bound }
+    {
+        self.state = self
+            .state
+            .wrapping_mul(6_364_136_223_846_793_005)
+            .wrapping_add(1_442_695_040_888_963_407);
+        (self.state >> 33) % bound
+    }
+
+    fn key(&mut self, alloc: Global) -> Result<Key, Fail> {
+        let mut bytes = Vec::new(alloc);
+        for _ in 0..self.below(4) {
+            bytes.push(self.below(256) as u8 & 0x83)?;
+        }
+        key(alloc, &bytes)
+    }
+
+    fn ranges(&mut self, alloc: Global) -> Result<Vec<Range>, Fail> {
+        let mut ranges = Vec::new(alloc);
+        for _ in 0..self.below(4) {
+            let begin = self.key(alloc)?;
+            let end = self.key(alloc)?;
+            let range = if end < begin {
+                range(end, begin)?
+            } else {
+                range(begin, end)?
+            };
+            ranges.push(range)?;
+        }
+        Ok(ranges)
+    }
+
+    fn batch(&mut self, alloc: Global) -> Result<Batch, Fail> {
+        let mut txns = Vec::new(alloc);
+        for _ in 0..self.below(6) {
+            txns.push(txn(self.ranges(alloc)?, self.ranges(alloc)?)?)?;
+        }
+        batch(txns)
+    }
+
+    fn verdict(&mut self) -> Verdict {
+        match self.below(5) {
+            0 => Verdict::Conflict,
+            1 => Verdict::TooOld,
+            _ => Verdict::Committed,
+        }
+    }
+}
+
+// Adds the key, unless it is there.
+fn add<'a>(keys: &mut Vec<&'a [u8]>, key: &'a [u8]) -> Result<(), AllocError> {
+    if !keys.iter().any(|other| *other == key) {
+        keys.push(key)?;
+    }
+    Ok(())
+}
+
+// Returns the ranges of the transactions that may commit.
+fn open<'a>(
+    alloc: Global,
+    batch: &'a Batch,
+    entries: &[Entry],
+) -> Result<Vec<&'a Range>, AllocError> {
+    let mut open = Vec::new(alloc);
+    for (txn, entry) in batch.txns.as_slice().iter().zip(entries) {
+        if entry.verdict == Verdict::Committed {
+            for range in txn.reads.as_slice() {
+                open.push(range)?;
+            }
+            for range in txn.writes.as_slice() {
+                open.push(range)?;
+            }
+        }
+    }
+    Ok(open)
+}
+
+// Compares the runs of the ranges with a plain count, and overlaps of runs with those of ranges.
+fn compare(rt: &impl Abort, ends: &Ends, batch: &Batch, open: &[&Range], keys: &[&[u8]])
+    requires rising { AreRising (keys_of batch.now.txns ends.now) }
+{
+    assert_eq!(rt; ends.count(), keys.len());
+    for range in open {
+        let (from, to) = ends.run_of(batch, range);
+        let rank = |end: &Key| keys
+            .iter()
+            .filter(|key| (**key).cmp(end.as_bytes()).is_lt())
+            .count();
+        assert_eq!(rt; (from, to), (rank(&range.begin), rank(&range.end)));
+        for other in open {
+            let (other_from, other_to) = ends.run_of(batch, other);
+            let common = from.max(other_from) < to.min(other_to);
+            assert_eq!(rt; common, range.meets(other));
+        }
+    }
+}
+
+#[test]
+fn runs_of_random_batches(rt: HostRuntime) -> Result<(), Fail> {
+    let alloc = rt.alloc();
+    let mut random = Random { state: 1 };
+    let mut ends = Ends::new(alloc);
+    for _ in 0..400u32 {
+        let batch = random.batch(alloc)?;
+        let mut entries = Vec::new(alloc);
+        for _ in 0..batch.txns.len() {
+            entries.push(entry(alloc, random.verdict()))?;
+        }
+        if entries.len() != batch.txns.len() {
+            return Err("one entry a transaction")?;
+        }
+        ends.gather(&batch, &entries)?;
+        let open = open(alloc, &batch, &entries)?;
+        let mut keys = Vec::new(alloc);
+        for range in &open {
+            if !range.is_empty() {
+                add(&mut keys, range.begin.as_bytes())?;
+                add(&mut keys, range.end.as_bytes())?;
+            }
+        }
+        compare(&rt, &ends, &batch, &open, &keys);
+    }
+    Ok(())
+}
