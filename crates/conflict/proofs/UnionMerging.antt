@@ -1,12 +1,41 @@
 -- Ranges, sorted by begin, are merged one after the other.
-use Rattle.std.proofs.Common.{◌≡◌, ℕ, ◌+◌, ◌≤◌, List, [], ◌∷◌, ◌++◌, length, Bool, cond, refl, sym, subst, ap, inl, inr, ◌⊎◌, arith, length-append}
+use Rattle.std.proofs.Common.{
+  ◌≡◌,
+  ℕ,
+  ◌+◌,
+  ◌≤◌,
+  List,
+  [],
+  ◌∷◌,
+  ◌++◌,
+  length,
+  Bool,
+  cond,
+  refl,
+  sym,
+  subst,
+  ap,
+  inl,
+  inr,
+  ◌⊎◌,
+  arith,
+  length-append,
+}
 use Rattle.std.specs.Prelude.{All, Any, ◌↔◌}
 use Rattle.std.proofs.lemmas.List.Elements.{All-head, All-tail, All-nil, All-push, All-weaker}
 use Rattle.std.proofs.lemmas.List.Sums.{sum_by-append}
 use Rattle.keyspace.specs.Key.{IsBytes, IsBefore, IsAtMost}
 use Rattle.keyspace.specs.Range.{Holds, IsEmpty}
 use Rattle.keyspace.specs.declared.range.Range.{Range}
-use Rattle.keyspace.proofs.KeyOrder.{before_trans, before_at_most, before_or_at_most, not_both, at_most_trans, at_most_itself}
+use Rattle.keyspace.proofs.KeyOrder.{
+  before_at_most_same,
+  before_trans,
+  before_at_most,
+  before_or_at_most,
+  not_both,
+  at_most_trans,
+  at_most_itself,
+}
 use Rattle.stepmap.specs.Writing.{AreApart}
 use Rattle.stepmap.specs.Counting.{is_filled, filled_count}
 use Rattle.stepmap.specs.Uniting.{IsEndIn, Unites}
@@ -23,6 +52,11 @@ pub record Merging (done : List Range) (begin end : List ℕ) (seen : List Range
   pub begins_there : IsEndIn seen begin
   pub ends_there : IsEndIn seen end
   pub few : length done + 1 ≤ filled_count seen
+
+-- the one under way begins at or before its end
+pub ordered : {done : List Range} {begin end : List ℕ} {seen : List Range} → Merging done begin end seen
+    → IsAtMost begin end
+ordered {done} {begin} {end} m = before_at_most_same begin end m.filled
 
 abbrev IsEndOf : List ℕ → Range → Type 0
 IsEndOf key r = ¬ IsEmpty r × ((r.begin ≡ key) ⊎ (r.end ≡ key))
@@ -91,7 +125,7 @@ module _ (done seen : List Range) (r : Range) (filled : IsBefore r.begin r.end) 
     few = let c = count_longer seen r filled in let f = u.few in omega (arith, c, f);
   }
 
-  -- the range begins at or before the end of the one under way, which then ends with the later of the two ends
+  -- the range begins at or before the end of the one under way, which then ends with the later of the two
   pub lengthened : (begin end later : List ℕ) → Merging done begin end seen → IsAtMost begin r.begin
       → IsAtMost r.begin end → IsAtMost end later → IsAtMost r.end later
       → (later ≡ end) ⊎ (later ≡ r.end) → Merging done begin later (seen ++ r ∷ [])
@@ -106,9 +140,9 @@ module _ (done seen : List Range) (r : Range) (filled : IsBefore r.begin r.end) 
       ],
       λ a. elim (Any-push_cases (λ r. Holds r key) seen r a) [
         | inl b ↦ elim ((m.holds key bytes).1 b) [
-            | inl d ↦ inl d
-            | inr h ↦ inr (h.0, before_at_most key end later h.1 old)
-          ]
+          | inl d ↦ inl d
+          | inr h ↦ inr (h.0, before_at_most key end later h.1 old)
+        ]
         | inr h ↦ inr (at_most_trans begin r.begin key from h.0, before_at_most key r.end later h.1 new)
       ],
     );
@@ -123,7 +157,8 @@ module _ (done seen : List Range) (r : Range) (filled : IsBefore r.begin r.end) 
     where
       there : (key : List ℕ) → IsBytes key → IsAtMost begin key → IsBefore key later
           → IsBefore key end ⊎ IsAtMost end key → Any (λ r. Holds r key) (seen ++ r ∷ [])
-      there key bytes low high (inl h) = Any-longer (λ r. Holds r key) seen r ((m.holds key bytes).0 (inr (low, h)))
+      there key bytes low high (inl h) =
+          Any-longer (λ r. Holds r key) seen r ((m.holds key bytes).0 (inr (low, h)))
       there key bytes low high (inr h) =
           elim which [
             | inl e ↦ absurd (not_both key end (subst (IsBefore key) e high) h)
@@ -145,7 +180,8 @@ module _ (done seen : List Range) (u : Range) where
         | inr h ↦ Any-right (λ d. Holds d key) done (u ∷ []) (Any-first (λ d. Holds d key) u [] h)
       ],
     );
-    ends = All-push (λ d. IsEndIn seen d.begin × IsEndIn seen d.end) done u m.ends (m.begins_there, m.ends_there);
+    ends = All-push (λ d. IsEndIn seen d.begin × IsEndIn seen d.end)
+        done u m.ends (m.begins_there, m.ends_there);
     few = let l = length-append done (u ∷ []) in let f = m.few in omega (arith, l, f);
   }
 

@@ -1,5 +1,29 @@
 -- What unites the ranges that aren't empty, in some order, unites all of them.
-use Rattle.std.proofs.Common.{◌≡◌, ◌+◌, ◌≤◌, Bool, true, false, not, cond, List, [], ◌∷◌, map, length, filter, refl, sym, subst, ap, inl, inr, ◌⊎◌, arith, ◌∙◌}
+use Rattle.std.proofs.Common.{
+  ◌≡◌,
+  ◌+◌,
+  ◌≤◌,
+  Bool,
+  true,
+  false,
+  not,
+  cond,
+  List,
+  [],
+  ◌∷◌,
+  map,
+  length,
+  filter,
+  refl,
+  sym,
+  subst,
+  ap,
+  inl,
+  inr,
+  ◌⊎◌,
+  arith,
+  ◌∙◌,
+}
 use Rattle.std.specs.Prelude.{Any, ◌↔◌, IsTrue}
 use Rattle.std.specs.List.Sorted.{IsPermutation}
 use Rattle.std.proofs.lemmas.List.Elements.{All-weaker}
@@ -15,7 +39,8 @@ use Rattle.stepmap.specs.Uniting.{IsEndIn, Unites}
 use Rattle.stepmap.proofs.SomeElement.{Any-first, Any-later, Any-cases}
 
 Any-permutation : {X : Type 0} (P : X → Type 0) (xs ys : List X) → IsPermutation xs ys → Any P xs → Any P ys
-Any-permutation P xs ys p a = let c = Contains-permutation xs ys a.1 p (a.0, a.2, a.3) in (c.0, a.1, c.1, c.2, a.4)
+Any-permutation P xs ys p a =
+    let c = Contains-permutation xs ys a.1 p (a.0, a.2, a.3) in (c.0, a.1, c.1, c.2, a.4)
 
 module _ {X : Type 0} (p : X → Bool) (P : X → Type 0) where
   Any-cond : (t : Bool) (x : X) (xs : List X) → Any P (cond t (x ∷ xs) xs) → Any P (x ∷ xs)
@@ -47,7 +72,8 @@ module _ {X : Type 0} (p : X → Bool) (P : X → Type 0) where
       ]
 
 module _ {X Y : Type 0} (f : X → Y) (p : Y → Bool) where
-  map_cond : (t : Bool) (x : X) (xs : List X) → map f (cond t (x ∷ xs) xs) ≡ cond t (f x ∷ map f xs) (map f xs)
+  map_cond : (t : Bool) (x : X) (xs : List X)
+      → map f (cond t (x ∷ xs) xs) ≡ cond t (f x ∷ map f xs) (map f xs)
   map_cond true x xs = refl
   map_cond false x xs = refl
 
@@ -89,10 +115,12 @@ filled_test false r h = sym (filled_unless_empty r (λ e. false_is_true (h.1 e))
 module _ (ranges sorted : List Range) (same : IsPermutation (filter is_filled ranges) sorted) where
   to_all : (P : Range → Type 0) → Any P sorted → Any P ranges
   to_all P a = Any-unfilter is_filled P ranges
-      (Any-permutation P sorted (filter is_filled ranges) (IsPermutation-sym (filter is_filled ranges) sorted same) a)
+      (Any-permutation P sorted (filter is_filled ranges)
+      (IsPermutation-sym (filter is_filled ranges) sorted same) a)
 
   to_sorted : (P : Range → Type 0) → ((r : Range) → P r → is_filled r ≡ true) → Any P ranges → Any P sorted
-  to_sorted P kept a = Any-permutation P (filter is_filled ranges) sorted same (Any-filter is_filled P kept ranges a)
+  to_sorted P kept a =
+      Any-permutation P (filter is_filled ranges) sorted same (Any-filter is_filled P kept ranges a)
 
   count_sorted : filled_count sorted ≡ filled_count ranges
   count_sorted = sum_by-IsPermutation (λ r. cond (is_filled r) 1 0) (filter is_filled ranges) sorted same

@@ -1,5 +1,28 @@
 -- The steps of a merge along a list of ranges that are lent.
-use Rattle.std.proofs.Common.{◌≡◌, ℕ, suc, ◌+◌, ◌<◌, ◌≤◌, List, [], ◌∷◌, ◌++◌, length, get_or, map, take, sym, subst, ap, ◌⊎◌, arith, ◌∙◌, add-one, Bor}
+use Rattle.std.proofs.Common.{
+  ◌≡◌,
+  ℕ,
+  suc,
+  ◌+◌,
+  ◌<◌,
+  ◌≤◌,
+  List,
+  [],
+  ◌∷◌,
+  ◌++◌,
+  length,
+  get_or,
+  map,
+  take,
+  sym,
+  subst,
+  ap,
+  ◌⊎◌,
+  arith,
+  ◌∙◌,
+  add-one,
+  Bor,
+}
 use Rattle.std.specs.Prelude.{All}
 use Rattle.std.specs.List.{AllAdjacentBelow}
 use Rattle.std.proofs.Math.Seq.{take-suc, take_all}
@@ -117,7 +140,8 @@ module _ {ranges rest : List (Bor Range)} {first : Bor Range} (s : Sorted ranges
       -- what begins at or before the range begins at or before the one after it
       pub up_to_next : IsUpTo begin rest (i + 1)
       up_to_next lt d =
-          at_most_trans begin r.now.begin (now (get_or rest (i + 1) d)).begin up_to_this (next_up_to_next lt d)
+          at_most_trans begin r.now.begin (now (get_or rest (i + 1) d)).begin
+          up_to_this (next_up_to_next lt d)
 
       -- the range begins at or before the end of the one under way
       pub next_lengthens : {done : List Range} (end later : List ℕ)

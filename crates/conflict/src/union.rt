@@ -6,9 +6,12 @@ ghost use Rattle.stepmap.specs.Uniting.{Unites};
 use keyspace::{Key, Range};
 use std::alloc::{AllocError, Global};
 
+#[cfg(test)]
+mod tests;
+
 /// Returns ranges, sorted and apart, that hold the same keys as these ones, or an error if memory is refused.
-/// Ranges that overlap or touch are united, and empty ones are left out. No key is copied but the two of each united
-/// range.
+/// Ranges that overlap or touch are united, and empty ones are left out. Only the two keys of each united range
+/// are copied.
 pub fn unite(alloc: Global, mut ranges: Vec<&Range>) -> Result<Vec<Range>, AllocError>
     ensures unites { IfOk result (λ united. Unites united.items (map (λ r. r.now) ranges.entry.items)) }
 {
@@ -20,7 +23,8 @@ pub fn unite(alloc: Global, mut ranges: Vec<&Range>) -> Result<Vec<Range>, Alloc
 // Unites ranges that aren't empty, sorted by their begins, in one pass.
 fn merge(alloc: Global, sorted: &[&Range]) -> Result<Vec<Range>, AllocError>
     requires filled { All (λ r. IsBefore r.now.begin r.now.end) sorted.now }
-    requires sorted { AllAdjacentBelow (λ r s. IsAtMost r.now.begin s.now.begin) sorted.now (length sorted.now) }
+    requires sorted { AllAdjacentBelow (λ r s. IsAtMost r.now.begin s.now.begin) sorted.now
+        (length sorted.now) }
     ensures unites { IfOk result (λ united. Unites united.items (map (λ r. r.now) sorted.now)) }
 {
     let Some((first, rest)) = sorted.split_first() else {
