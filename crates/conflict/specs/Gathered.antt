@@ -1,4 +1,4 @@
--- The ends of the ranges of a batch, each named by where it stands in the batch. This project's own.
+-- The ends of the ranges of a batch, each named by indices into the batch. This project's own.
 use Rattle.std.specs.Prelude.{ℕ, List, [], ◌∷◌, ◌++◌, map, Option, Some, None, slice_get, Contains}
 use Rattle.keyspace.specs.Range.{IsEmpty}
 use Rattle.keyspace.specs.Writes.{counted}

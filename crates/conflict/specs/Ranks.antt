@@ -13,7 +13,7 @@ AreRising keys = AllPairs IsBefore keys
 abbrev pub rank : List (List ℕ) → List ℕ → ℕ
 rank keys key = count_by (λ k. is_before k key) keys
 
--- The run of gaps that the range covers: from the rank of its begin on, below the rank of its end. Gap i lies before
+-- The run of gaps that the range covers: from the rank of its begin on, below the rank of its end. Gap i begins at
 -- the key at index i.
 abbrev pub run : List (List ℕ) → Range → ℕ × ℕ
 run keys range = (rank keys range.begin, rank keys range.end)
