@@ -314,7 +314,7 @@ module _ (ws : List Write) (earlier : List Range) (t : Txn) where
       (same_report e.verdict e.places (judge_txn edge ws earlier t).places (report_from e r)
       (subst (λ w. Report w (judge_txn edge ws earlier t).places) (sym same) (report_judged edge)))
 
--- what the entry at each place has to be, where ranges of others count before those of these transactions
+-- what the entry at each index has to be, where ranges of others count before those of these transactions
 abbrev pub Entries : ℤ → List Write → List Range → List Txn → List Entry → Type 0
 Entries edge ws before ts es = (j : ℕ) (t : Txn) (e : Entry) → slice_get ts j ≡ Some t
     → slice_get es j ≡ Some e →

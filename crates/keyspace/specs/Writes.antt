@@ -29,9 +29,9 @@ ranges_of ws = map (λ w. w.range) ws
 
 -- what counts of a transaction's write ranges under this verdict: those of a committed transaction, and no other
 abbrev pub counted : Verdict → List Range → List Range
-counted Committed writes = writes
-counted TooOld writes = []
-counted Conflict writes = []
+counted Committed ranges = ranges
+counted TooOld ranges = []
+counted Conflict ranges = []
 
 -- the write ranges of the transactions whose entries say committed, in order
 abbrev pub committed : List Txn → List Entry → List Range

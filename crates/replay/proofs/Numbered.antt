@@ -1,37 +1,90 @@
--- A list that is gone through from its front: the text of the pieces in front is written, and they are changed in place.
-use Rattle.std.specs.Prelude.{◌≡◌, ℕ, suc, ◌+◌, ◌<◌, List, [], ◌∷◌, ◌++◌, map, length, take, drop, slice_index_or as get_or, slice_set as set}
-use Rattle.std.proofs.Common.{sym, ap, ◌∙◌, append_assoc, add-one, arith}
-use Rattle.std.proofs.Math.Seq.{drop-cons}
-use Rattle.std.proofs.lemmas.List.{drop-set-lt, take_more_set, map-append}
+-- Lists of lists whose front is changed piece by piece, and the text of pieces with their numbers.
+use Rattle.std.specs.Prelude.{
+  ◌≡◌,
+  ℕ,
+  zero,
+  suc,
+  ◌+◌,
+  ◌<◌,
+  List,
+  [],
+  ◌∷◌,
+  ◌++◌,
+  map,
+  length,
+  take,
+  drop,
+  slice_index_or as get_or,
+  slice_set as set,
+}
+use Rattle.std.proofs.Common.{refl, sym, ap, ◌∙◌, append_assoc, append-nil, add-one, add-zero, arith}
+use Rattle.std.proofs.Math.Seq.{map-set_same}
+use Rattle.std.proofs.lemmas.List.{map-set, get_or-map, length-map}
 use Rattle.std.specs.List.{flat_map, enumerate_from}
 
-module _ {X Y : Type 0} (view : X → Y) (text_of : ℕ × Y → List ℕ) where
-  -- the text of what is left from i on
-  abbrev pub text_from : ℕ → List X → List ℕ
-  text_from i xs = flat_map text_of (enumerate_from i (map view (drop i xs)))
+module _ {Y : Type 0} (change : Y → Y) where
+  -- the first i are changed, and the others are as they were
+  abbrev pub changed_to : ℕ → List Y → List Y
+  changed_to i ys = map change (take i ys) ++ drop i ys
 
-  text_from-next : (xs : List X) (i : ℕ) (x : X) → i < length xs → x ≡ get_or xs i x → text_from i xs ≡ text_of (i, view x) ++ text_from (i + 1) xs
-  text_from-next xs i x inside is =
-      ap (λ l. flat_map text_of (enumerate_from i (map view l))) (drop-cons xs i x inside ∙ ap (λ y. y ∷ drop (suc i) xs) (sym is) ∙ ap (λ n. x ∷ drop n xs) (sym (add-one i)))
+  length-changed_to : (i : ℕ) (ys : List Y) → length (changed_to i ys) ≡ length ys
+  length-changed_to zero ys = refl
+  length-changed_to (suc i) [] = refl
+  length-changed_to (suc i) (y ∷ ys) = ap suc (length-changed_to i ys)
 
-  pub text_from-more : (whole text : List ℕ) (xs : List X) (i : ℕ) (x y : X) → i < length xs → x ≡ get_or xs i x → text ++ text_from i xs ≡ whole → (text ++ text_of (i, view x)) ++ text_from (i + 1) (set xs i y) ≡ whole
-  text_from-more whole text xs i x y inside is so_far =
-      ap (λ l. (text ++ text_of (i, view x)) ++ flat_map text_of (enumerate_from (i + 1) (map view l))) (drop-set-lt (i + 1) xs i y (omega arith))
-      ∙ append_assoc text _ _ ∙ ap (λ l. text ++ l) (sym (text_from-next xs i x inside is)) ∙ so_far
+  get-changed_to : (ys : List Y) (i : ℕ) (d : Y) → i < length ys
+      → get_or (changed_to i ys) i d ≡ get_or ys i d
+  get-changed_to [] i d inside = absurd (omega arith)
+  get-changed_to (y ∷ ys) zero d inside = refl
+  get-changed_to (y ∷ ys) (suc i) d inside = get-changed_to ys i d (omega arith)
+
+  set-changed_to : (ys : List Y) (i : ℕ) (d : Y) → i < length ys
+      → set (changed_to i ys) i (change (get_or ys i d)) ≡ changed_to (suc i) ys
+  set-changed_to [] i d inside = absurd (omega arith)
+  set-changed_to (y ∷ ys) zero d inside = refl
+  set-changed_to (y ∷ ys) (suc i) d inside = ap (λ l. change y ∷ l) (set-changed_to ys i d (omega arith))
 
 module _ {X Y : Type 0} (view : X → Y) (change : Y → Y) where
-  -- the first i of xs are seen changed, and the others are seen as they are
-  abbrev pub changed_to : ℕ → List X → List Y
-  changed_to i xs = map view (take i xs) ++ map change (map view (drop i xs))
-
-  pub changed_to-more : (whole : List Y) (xs : List X) (i : ℕ) (x y : X) → i < length xs → x ≡ get_or xs i x → view y ≡ change (view x) → changed_to i xs ≡ whole → changed_to (i + 1) (set xs i y) ≡ whole
+  -- the next piece is changed
+  pub changed_to-more : (whole : List Y) (xs : List X) (i : ℕ) (x y : X) → i < length xs → x ≡ get_or xs i x
+      → view y ≡ change (view x) → map view xs ≡ changed_to change i whole
+      → map view (set xs i y) ≡ changed_to change (i + 1) whole
   changed_to-more whole xs i x y inside is changes so_far =
-      let rest = map change (map view (drop (i + 1) xs)) in
-      let next : map change (map view (drop i xs)) ≡ change (view x) ∷ rest =
-      ap (λ l. map change (map view l)) (drop-cons xs i x inside ∙ ap (λ z. z ∷ drop (suc i) xs) (sym is) ∙ ap (λ n. x ∷ drop n xs) (sym (add-one i))) in
-      ap (λ l. map view (take (i + 1) (set xs i y)) ++ map change (map view l)) (drop-set-lt (i + 1) xs i y (omega arith))
-      ∙ ap (λ l. map view l ++ rest) (take_more_set xs i y inside)
-      ∙ ap (λ l. l ++ rest) (map-append view (take i xs) (y ∷ []))
-      ∙ append_assoc (map view (take i xs)) (view y ∷ []) rest
-      ∙ ap (λ z. map view (take i xs) ++ z ∷ rest) changes
-      ∙ ap (λ l. map view (take i xs) ++ l) (sym next) ∙ so_far
+      let long : length xs ≡ length whole =
+      sym (length-map xs view) ∙ ap length so_far ∙ length-changed_to change i whole in
+      let inside_whole : i < length whole = omega arith in
+      let found : view x ≡ get_or whole i (view x) =
+      ap view is ∙ sym (get_or-map view xs i x (view x) inside)
+      ∙ ap (λ l. get_or l i (view x)) so_far ∙ get-changed_to change whole i (view x) inside_whole in
+      map-set view xs i y
+      ∙ ap (λ v. set (map view xs) i v) (changes ∙ ap change found)
+      ∙ ap (λ l. set l i (change (get_or whole i (view x)))) so_far
+      ∙ set-changed_to change whole i (view x) inside_whole
+      ∙ ap (λ n. changed_to change n whole) (sym (add-one i))
+
+  -- the piece is as it was
+  pub changed_to-same : (whole : List Y) (xs : List X) (i : ℕ) (x y : X) → x ≡ get_or xs i x → view y ≡ view x
+      → map view xs ≡ changed_to change i whole → map view (set xs i y) ≡ changed_to change i whole
+  changed_to-same whole xs i x y is same so_far = map-set_same view xs i y x (same ∙ ap view is) ∙ so_far
+
+module _ {X Y : Type 0} (view : X → Y) (text_of : ℕ × Y → List ℕ) where
+  -- the text of pieces that are numbered from n on
+  abbrev pub text_from : ℕ → List X → List ℕ
+  text_from n xs = flat_map text_of (enumerate_from n (map view xs))
+
+  text-more : (n : ℕ) (xs : List X) (i : ℕ) (x : X) → i < length xs → x ≡ get_or xs i x
+      → text_from n (take (suc i) xs) ≡ text_from n (take i xs) ++ text_of (n + i, view x)
+  text-more n [] i x inside is = absurd (omega arith)
+  text-more n (y ∷ ys) zero x inside is =
+      append-nil (text_of (n, view y)) ∙ ap (λ (z : X). text_of (n, view z)) (sym is)
+      ∙ ap (λ m. text_of (m, view x)) (sym (add-zero n))
+  text-more n (y ∷ ys) (suc i) x inside is =
+      ap (λ l. text_of (n, view y) ++ l) (text-more (n + 1) ys i x (omega arith) is)
+      ∙ sym (append_assoc (text_of (n, view y)) _ _)
+      ∙ ap (λ m. text_from n (take (suc i) (y ∷ ys)) ++ text_of (m, view x)) (omega arith)
+
+  pub text_from-more : (xs : List X) (i : ℕ) (x : X) → i < length xs → x ≡ get_or xs i x
+      → text_from 0 (take (i + 1) xs) ≡ text_from 0 (take i xs) ++ text_of (i, view x)
+  text_from-more xs i x inside is =
+      ap (λ n. text_from 0 (take n xs)) (add-one i) ∙ text-more 0 xs i x inside is
+      ∙ ap (λ m. text_from 0 (take i xs) ++ text_of (m, view x)) (omega arith)

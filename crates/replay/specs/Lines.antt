@@ -1,18 +1,13 @@
 -- The printed text of answers: this project's own format, one line an answer.
-use Rattle.std.specs.Prelude.{ℕ, ℤ, int_lt, if◌then◌else◌, List, [], ◌∷◌, ◌++◌, codes, fold}
+use Rattle.std.specs.Prelude.{ℕ, int_lt, if◌then◌else◌, List, [], ◌∷◌, ◌++◌, codes, fold, map, take, drop}
 use Rattle.std.specs.List.{flat_map, join_by, enumerate_from}
 use Rattle.std.specs.Fmt.{decimal, signed_decimal}
 use Rattle.keyspace.specs.declared.answer.Answer.{Answer}
 use Rattle.keyspace.specs.declared.answer.Answer.TheVariants.{Reply, Never, Held}
+use Rattle.keyspace.specs.Answer.{version_of_answer}
 use Rattle.keyspace.specs.declared.reply.Entry.{Entry}
 use Rattle.keyspace.specs.declared.reply.Verdict.{Verdict}
 use Rattle.keyspace.specs.declared.reply.Verdict.TheVariants.{Conflict, TooOld, Committed}
-
--- the version of the batch that is answered
-abbrev pub version_of_answer : Answer → ℤ
-version_of_answer (Reply reply) = reply.version
-version_of_answer (Never version) = version
-version_of_answer (Held version) = version
 
 -- a conflict, with the places of its report where it has any
 abbrev pub conflict_word : List ℕ → List ℕ
@@ -42,21 +37,32 @@ outcome (Held version) = codes "held"
 
 -- the line of an answer to this proxy
 abbrev pub line : ℕ → Answer → List ℕ
-line proxy answer = decimal proxy ++ codes " " ++ signed_decimal (version_of_answer answer) ++ codes " " ++ outcome answer ++ codes "\n"
+line proxy answer = decimal proxy ++ codes " " ++ signed_decimal (version_of_answer answer) ++ codes " "
+    ++ outcome answer ++ codes "\n"
 
 -- an answer put behind those of its version and of lesser ones
 abbrev pub put_in_order : List Answer → Answer → List Answer
 put_in_order [] answer = answer ∷ []
-put_in_order (first ∷ rest) answer = if int_lt (version_of_answer answer) (version_of_answer first) then answer ∷ first ∷ rest else first ∷ put_in_order rest answer
+put_in_order (first ∷ rest) answer =
+    if int_lt (version_of_answer answer) (version_of_answer first) then answer ∷ first ∷ rest else first
+    ∷ put_in_order rest answer
 
 -- by version, and those of one version in the order received
 abbrev pub in_order : List Answer → List Answer
 in_order received = fold put_in_order [] received
 
--- the lines of a proxy, given its number and its answers as received
-abbrev pub lines_of_proxy : ℕ × List Answer → List ℕ
-lines_of_proxy proxy = flat_map (line proxy.0) (in_order proxy.1)
+-- the answers of each proxy, in order up to this proxy, and from it on as received
+abbrev pub sorted_to : ℕ → List (List Answer) → List (List Answer)
+sorted_to proxy received = map in_order (take proxy received) ++ drop proxy received
 
--- the whole text, given each proxy's answers as received; a proxy's number is its place
+-- the lines of a proxy, given its number and its answers in order
+abbrev pub lines_of_proxy : ℕ × List Answer → List ℕ
+lines_of_proxy proxy = flat_map (line proxy.0) proxy.1
+
+-- the text of answers that are in order, given those of each proxy
+abbrev pub lines_in_order : List (List Answer) → List ℕ
+lines_in_order answers = flat_map lines_of_proxy (enumerate_from 0 answers)
+
+-- the whole text, given each proxy's answers as received; a proxy's number is its index
 abbrev pub lines : List (List Answer) → List ℕ
-lines received = flat_map lines_of_proxy (enumerate_from 0 received)
+lines received = lines_in_order (map in_order received)

@@ -8,19 +8,12 @@ use Rattle.keyspace.specs.declared.reply.Reply.{Reply}
 use Rattle.replay.specs.declared.scan.SetStop.{SetStop}
 use Rattle.keyspace.specs.Writes.{Write}
 use Rattle.keyspace.specs.Judged.{Judged}
-use Rattle.keyspace.specs.Judge.{ranges_meet, without_places}
-
--- the ranges of writes
-abbrev pub ranges_of : List Write → List Range
-ranges_of ws = map (λ w. w.range) ws
+use Rattle.keyspace.specs.Range.{ranges_meet}
+use Rattle.keyspace.specs.Judge.{without_places}
 
 -- whether the range meets one of the writes
 abbrev pub meets_write : List Write → Range → Bool
 meets_write ws range = list_any (λ w. ranges_meet range w.range) ws
-
--- ranges that are written at one version
-abbrev pub at_version : ℤ → List Range → List Write
-at_version version ranges = map (λ range. record { range = range; version = version }) ranges
 
 -- entries with their verdicts and no places
 abbrev pub silent : List Entry → List Entry

@@ -16,6 +16,7 @@ use thiserror::Error;
 /// Why the resolver takes no more batches.
 #[derive(Clone, Copy, Debug, PartialEq, Eq, Error)]
 pub enum Stop {
+    /// Memory was refused.
     #[error("1 Memory")]
     Memory,
 }
@@ -32,16 +33,17 @@ impl From<SetStop> for Stop {
     }
 }
 
-// The place of the oldest answer that is owed to the proxy.
+// Returns the index of the oldest answer owed to the proxy.
 fn oldest_of(owed: &VecDeque<(usize, Answer)>, proxy: usize) -> Option<usize>
-    ensures { result ≡ position_from (λ o. o.0 == proxy) 0 owed.now.items }
+    ensures oldest { result ≡ position_from (λ o. o.0 == proxy) 0 owed.now.items }
 {
     owed.iter().position(|owed| owed.0 == proxy)
 }
 
-// Answers a batch by its previous version, and processes it where that is the version.
+// Answers a batch by its previous version, and processes it if that is the version.
 fn answer_to(set: &mut ConflictSet, version: &mut i64, batch: &Batch) -> Result<Answer, Stop>
-    ensures ok { IfOk result (λ a. IsAnswered set.old.written version.old batch.now a set.new.written version.new) }
+    ensures ok { IfOk result (λ a.
+        IsAnswered set.old.written version.old batch.now a set.new.written version.new) }
     ensures err { OnErr result ((set.new.written ≡ set.old.written) × (version.new ≡ version.old)) }
 {
     if batch.previous > *version {
@@ -55,7 +57,8 @@ fn answer_to(set: &mut ConflictSet, version: &mut i64, batch: &Batch) -> Result<
     Ok(Answer::Reply(reply))
 }
 
-/// The conflict set, the version of the batch processed last, and the answers that are owed, each with its proxy.
+/// The resolver over values: the conflict set, the version of the batch processed last, and the answers owed, each with
+/// its proxy.
 #[derive(Debug, Drop)]
 pub struct Core {
     set: ConflictSet,
@@ -73,8 +76,10 @@ impl Model for Core {
 }
 
 impl Core {
+    /// Creates a core that has processed nothing.
     pub fn new(alloc: Global) -> Result<Self, Stop>
-        ensures empty { IfOk result (λ core. core ≡ record { written = []; version = negsuc 0; owed = []; stop = None }) }
+        ensures empty { IfOk result (λ core. core
+            ≡ record { written = []; version = negsuc 0; owed = []; stop = None }) }
         ensures stands { IfOk result (λ core. StandsFor core []) }
     {
         Ok(Core {
@@ -85,8 +90,10 @@ impl Core {
         })
     }
 
-    /// Takes a batch of a proxy and owes the proxy its answer: the reply where the batch is the next on the chain,
-    /// `Held` where its previous version is still to come, `Never` where it has passed. After a stop nothing changes.
+    /// Takes a batch of a proxy and owes the proxy its answer: the reply if the batch is the next on the chain, `Held` if
+    /// its previous version is still to come, `Never` if it has passed.
+    ///
+    /// After an error the batch has changed nothing, and every later call returns the same error.
     pub fn admit(&mut self, proxy: usize, batch: Batch) -> Result<(), Stop>
         ensures answered { OnOk result (Answered self.old proxy batch self.new) }
         ensures stops { IfErr result (λ stop. self.new ≡ record self.old { stop = Some stop }) }
@@ -95,7 +102,7 @@ impl Core {
         if let Some(stop) = self.stop {
             return Err(stop);
         }
-        // The room for the answer first, so that a batch that was processed is answered.
+        // Room for the answer first, so that a batch that is processed is answered.
         if self.owed.reserve(1).is_err() {
             self.stop = Some(Stop::Memory);
             return Err(Stop::Memory);
@@ -112,21 +119,23 @@ impl Core {
         }
     }
 
-    /// Hands out the oldest answer that is owed to the proxy.
+    /// Removes and returns the oldest answer owed to the proxy, or returns `None` if none is owed.
     pub fn give(&mut self, proxy: usize) -> Option<Answer>
         ensures none { IfNone result (answers_to proxy self.old.owed ≡ []) }
-        ensures given { answers_to proxy self.old.owed ≡ option_to_list result ++ answers_to proxy self.new.owed }
-        ensures others { (other : ℕ) → other ≢ proxy → answers_to other self.new.owed ≡ answers_to other self.old.owed }
+        ensures given { answers_to proxy self.old.owed
+            ≡ option_to_list result ++ answers_to proxy self.new.owed }
+        ensures others { (other : ℕ) → other ≢ proxy
+            → answers_to other self.new.owed ≡ answers_to other self.old.owed }
         ensures kept { self.new ≡ record self.old { owed = self.new.owed } }
     {
-        let place = oldest_of(&self.owed, proxy)?;
-        let (_, answer) = self.owed.remove(place)?;
+        let index = oldest_of(&self.owed, proxy)?;
+        let (_, answer) = self.owed.remove(index)?;
         Some(answer)
     }
 
-    /// How many answers are owed.
+    /// Returns the number of answers owed to all proxies.
     pub fn owed(&self) -> usize
-        ensures { result ≡ length self.now.owed }
+        ensures count { result ≡ length self.now.owed }
     {
         self.owed.len()
     }

@@ -1,7 +1,7 @@
-//! The program `replay`: reads a recorded file of batch frames, resolves the batches in order and prints the verdicts.
+//! The program `replay` reads a recorded file of batch frames, resolves the batches in order and prints the verdicts.
 //!
-//! `scan` judges a batch against a plain list of all committed writes, `admission` takes batches along the chain of
-//! versions, `lines` prints, `replay` does all that follows the opening of the file, and `words` reads the command line.
+//! `words` reads the command line, `replay` does all that follows the opening of the file, `admission` takes batches along
+//! the chain of versions, `scan` judges a batch against a plain list of all committed writes, and `lines` prints.
 #![tactic(auto)]
 
 mod admission;
@@ -17,7 +17,8 @@ use std::process::ExitCode;
 use std::{env, io};
 use wire::StdSource;
 
-// The words of the command line, without the program's name.
+// Returns the words of the command line without the program's name. A word that isn't UTF-8 is an error: the toolchain
+// opens files by text names alone.
 fn read_command_line(rt: &(impl std::rt::Env + AllocGlobal)) -> io::Result<Vec<String>> {
     Ok(env::args(rt)?.skip(1).collect(rt.alloc())?)
 }
@@ -34,7 +35,7 @@ fn run(rt: &HostRuntime) -> Status {
         Err(cause) if cause.kind() == io::ErrorKind::OutOfMemory => {
             return fail(&mut error, "replay: start 1 Memory");
         }
-        // a word that is no text, and so names no file that could be opened
+        // A word isn't UTF-8, so no file of that name can be opened.
         Err(_) => return fail(&mut error, "replay: proxy 0: cannot open"),
     };
     let Some(name) = words::file_of(&words) else {

@@ -1,4 +1,4 @@
-//! All that follows the opening of the file: reading its frames, resolving their batches, and printing.
+//! All that follows the opening of the file: its frames are read, their batches resolved, the answers printed.
 
 ghost use Rattle.std.specs.Prelude.{◌≢◌};
 
@@ -10,7 +10,7 @@ use std::io;
 use std::io::Write;
 use wire::{Frames, Source, WireError, read_frames};
 
-/// The one proxy of this program.
+// The one proxy of this program.
 const PROXY: usize = 0;
 
 /// How the program ends.
@@ -24,7 +24,7 @@ pub enum Status {
     Usage = 2,
 }
 
-/// What the frames of a file left: the answers in the order received, and what came in between.
+// What the frames of a file give: the answers in the order received, and why they ended early.
 #[derive(Debug, Drop)]
 struct Outcome {
     answers: Vec<Answer>,
@@ -45,7 +45,7 @@ impl Outcome {
         }
     }
 
-    // Keeps an answer. Once one could not be kept, later ones are dropped too.
+    // Keeps an answer. Once one can't be kept, later ones are dropped too.
     fn keep(&mut self, answer: Answer) {
         if !self.lost {
             self.lost = self.answers.push(answer).is_err();
@@ -87,8 +87,8 @@ fn print_faults<W: Write>(error: &mut W, outcome: &Outcome) -> io::Result<()> {
     Ok(())
 }
 
-/// Reads frame after frame, resolves their batches in order and prints an answer a line, sorted, to `out` and what failed
-/// to `error`. After a fault of the file, a failed read too, the lines of the frames before it still stand.
+/// Reads frame after frame and resolves their batches in order. Prints one line an answer to `out`, sorted, and one line a
+/// failure to `error`. After a fault of the file, a failed read included, the lines of the frames before it still stand.
 pub fn replay_over<R: Source + Drop, O: Write, E: Write>(
     alloc: Global,
     reader: R,
@@ -109,7 +109,7 @@ pub fn replay_over<R: Source + Drop, O: Write, E: Write>(
     finish(alloc, out, error, outcome)
 }
 
-// Prints what is left of a run, and tells how the program ends.
+// Prints the answers and the failures, and returns how the program ends.
 fn finish<O: Write, E: Write>(
     alloc: Global,
     out: &mut O,

@@ -1,23 +1,24 @@
-//! The conflict set as a plain list of all committed writes, which every read range is held against.
+//! The conflict set as a plain list of all committed writes, which is scanned for every read range.
 
 ghost use Rattle.std.specs.Prelude.{◌≡◌, ◌++◌, ◌||◌, [], Some, None, Err, OnOk, IfOk, IfErr, IfSome};
 ghost use Rattle.std.specs.List.{list_any};
 ghost use Rattle.keyspace.specs.Judged.{edge};
 ghost use Rattle.keyspace.specs.Judge.{is_too_old, is_hit, judge_txn, judge_txns};
-ghost use Rattle.keyspace.specs.Writes.{writes_of, counted, committed};
-ghost use Rattle.replay.specs.Scan.{ranges_of, meets_write, at_version, silent, JudgedButPlaces};
+ghost use Rattle.keyspace.specs.Writes.{writes_of, counted, committed, ranges_of, at_version};
+ghost use Rattle.replay.specs.Scan.{meets_write, silent, JudgedButPlaces};
 
 use keyspace::{Batch, Entry, Places, Range, Reply, Sequence, Txn, Verdict, WINDOW};
 use std::alloc::{AllocError, Global};
 use std::marker::Model;
 
-/// Why the set answers no more.
+/// Why a set answers no more batches.
 #[derive(Clone, Copy, Debug, PartialEq, Eq)]
 pub enum SetStop {
+    /// Memory was refused.
     Memory,
 }
 
-/// A committed write, at the version of its batch.
+// A committed write, at the version of its batch.
 #[derive(Debug, Drop)]
 struct Written {
     range: Range,
@@ -33,38 +34,39 @@ impl Model for Written {
 }
 
 fn is_written_above(written: &[Written], txn: &Txn, range: &Range) -> bool
-    ensures { result ≡ is_hit written.now txn.now range.now }
+    ensures hit { result ≡ is_hit written.now txn.now range.now }
 {
     written.iter().any(|write| range.meets(&write.range) && txn.snapshot < write.version)
 }
 
 fn meets_any(written: &[Written], range: &Range) -> bool
-    ensures { result ≡ meets_write written.now range.now }
+    ensures meets { result ≡ meets_write written.now range.now }
 {
     written.iter().any(|write| range.meets(&write.range))
 }
 
 fn edge_of(batch: &Batch) -> i64
-    ensures { result ≡ edge WINDOW batch.now }
+    ensures edge { result ≡ edge WINDOW batch.now }
 {
     (batch.version - WINDOW).max(0)
 }
 
 fn is_old(batch: &Batch, txn: &Txn) -> bool
-    ensures { result ≡ is_too_old (edge WINDOW batch.now) txn.now }
+    ensures too_old { result ≡ is_too_old (edge WINDOW batch.now) txn.now }
 {
     !txn.reads.is_empty() && txn.snapshot < edge_of(batch)
 }
 
 fn is_conflicting(history: &[Written], earlier: &[Written], txn: &Txn) -> bool
-    ensures { result ≡ list_any (λ range. is_hit history.now txn.now range || meets_write earlier.now range) txn.now.reads }
+    ensures conflict { result ≡ list_any (λ range. is_hit history.now txn.now range || meets_write earlier.now range)
+        txn.now.reads }
 {
     txn.reads.as_slice().iter().any(|range| is_written_above(history, txn, range)
         || meets_any(earlier, range))
 }
 
 fn verdict_of(batch: &Batch, history: &[Written], earlier: &[Written], txn: &Txn) -> Verdict
-    ensures { result ≡ (judge_txn (edge WINDOW batch.now) history.now (ranges_of earlier.now) txn.now).verdict }
+    ensures verdict { result ≡ (judge_txn (edge WINDOW batch.now) history.now (ranges_of earlier.now) txn.now).verdict }
 {
     if is_old(batch, txn) {
         Verdict::TooOld
@@ -77,7 +79,7 @@ fn verdict_of(batch: &Batch, history: &[Written], earlier: &[Written], txn: &Txn
 
 // Adds what the transaction writes, at the batch's version and with bytes of its own.
 fn add_writes(written: &mut Vec<Written>, batch: &Batch, txn: &Txn) -> Result<(), AllocError>
-    ensures { OnOk result (written.new.items ≡ written.old.items ++ at_version batch.now.version txn.now.writes) }
+    ensures written { OnOk result (written.new.items ≡ written.old.items ++ at_version batch.now.version txn.now.writes) }
 {
     let alloc = *written.allocator();
     for range in txn.writes.as_slice() {
@@ -95,7 +97,8 @@ fn add_counted(
     txn: &Txn,
     verdict: Verdict,
 ) -> Result<(), AllocError>
-    ensures { OnOk result (written.new.items ≡ written.old.items ++ at_version batch.now.version (counted verdict txn.now.writes)) }
+    ensures counted { OnOk result (written.new.items
+        ≡ written.old.items ++ at_version batch.now.version (counted verdict txn.now.writes)) }
 {
     if verdict == Verdict::Committed {
         add_writes(written, batch, txn)?;
@@ -109,8 +112,10 @@ fn judge_all(
     history: &[Written],
     batch: &Batch,
 ) -> Result<(Vec<Entry>, Vec<Written>), AllocError>
-    ensures entries { IfOk result (λ r. r.0.items ≡ silent (judge_txns (edge WINDOW batch.now) history.now [] batch.now.txns)) }
-    ensures written { IfOk result (λ r. r.1.items ≡ at_version batch.now.version (committed batch.now.txns (judge_txns (edge WINDOW batch.now) history.now [] batch.now.txns))) }
+    ensures entries { IfOk result (λ r. r.0.items
+        ≡ silent (judge_txns (edge WINDOW batch.now) history.now [] batch.now.txns)) }
+    ensures written { IfOk result (λ r. r.1.items ≡ at_version batch.now.version
+        (committed batch.now.txns (judge_txns (edge WINDOW batch.now) history.now [] batch.now.txns))) }
 {
     let mut entries = Vec::with_capacity(alloc, batch.txns.len())?;
     let mut earlier = Vec::new(alloc);
@@ -136,7 +141,7 @@ fn judge_batch(
     Ok((reply, written))
 }
 
-/// All committed writes, held against every read range.
+/// All committed writes. Each read range is compared with each of them.
 #[derive(Debug, Drop)]
 pub struct ConflictSet {
     written: Vec<Written>,
@@ -152,8 +157,10 @@ impl Model for ConflictSet {
 }
 
 impl ConflictSet {
+    /// Creates a set without writes.
     pub fn new(alloc: Global) -> Result<Self, SetStop>
-        ensures { IfOk result (λ set. (set.written ≡ []) × (set.stop ≡ None)) }
+        ensures empty { IfOk result (λ set. set.written ≡ []) }
+        ensures open { IfOk result (λ set. set.stop ≡ None) }
     {
         Ok(ConflictSet {
             written: Vec::new(alloc),
@@ -161,7 +168,9 @@ impl ConflictSet {
         })
     }
 
-    /// Judges a batch after all writes of the batches before it. Once it was refused, so is every later call.
+    /// Judges a batch after all writes of the batches before it, and adds the writes that it commits.
+    ///
+    /// After an error nothing is added, and every later call returns the same error.
     pub fn resolve(&mut self, batch: &Batch) -> Result<Reply, SetStop>
         ensures judged { IfOk result (λ r. JudgedButPlaces WINDOW self.old.written batch.now r) }
         ensures written { IfOk result (λ r. self.new.written ≡ self.old.written ++ writes_of batch.now r) }

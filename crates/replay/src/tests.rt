@@ -1,5 +1,6 @@
 //! The worked rows, over memory.
 
+use crate::admission::Stop;
 use crate::replay::{Status, replay_over};
 use std::alloc::Global;
 use std::io;
@@ -14,7 +15,7 @@ const A_TO_B: Range = (b"a", b"b");
 
 const X_TO_Y: Range = (b"x", b"y");
 
-/// A transaction without a mark.
+// A transaction without a mark.
 #[derive(Drop)]
 struct Txn<'a> {
     snapshot: i64,
@@ -54,7 +55,7 @@ fn push_ranges(out: &mut Vec<u8>, ranges: &[Range]) -> Result<(), Fail> {
     Ok(())
 }
 
-/// Adds the frame of a batch of proxy 0 that has received nothing yet.
+// Adds the frame of a batch of proxy 0 that has received nothing yet.
 fn push_batch(file: &mut Vec<u8>, previous: i64, version: i64, txns: &[Txn]) -> Result<(), Fail> {
     let mut body = Vec::new(*file.allocator());
     body.push(1)?;
@@ -76,7 +77,7 @@ fn push_batch(file: &mut Vec<u8>, previous: i64, version: i64, txns: &[Txn]) -> 
     Ok(())
 }
 
-/// What a file gives: the status, standard output and standard error.
+// What a file gives: the status, standard output and standard error.
 fn outcome_of(alloc: Global, file: &[u8]) -> (Status, Vec<u8>, Vec<u8>) {
     let mut out = Vec::new(alloc);
     let mut error = Vec::new(alloc);
@@ -89,7 +90,7 @@ fn outcome_of(alloc: Global, file: &[u8]) -> (Status, Vec<u8>, Vec<u8>) {
     (status, out, error)
 }
 
-/// A file that begins with the empty batch of version 0, whose line comes first.
+// A file that begins with the empty batch of version 0, whose line comes first.
 #[derive(Drop)]
 struct Row {
     file: Vec<u8>,
@@ -232,7 +233,7 @@ fn short_second_frame(rt: HostRuntime) -> Result<(), Fail> {
     Ok(())
 }
 
-/// A file that can't be read, as a folder.
+// A file that can't be read, as a folder.
 #[derive(Drop)]
 struct Unreadable;
 
@@ -255,7 +256,7 @@ fn unreadable_file(rt: HostRuntime) {
     assert_eq!(rt; status, Status::Failed);
 }
 
-/// A writer that takes nothing.
+// A writer that takes nothing.
 #[derive(Drop)]
 struct Full;
 
@@ -282,5 +283,14 @@ fn unwritable_output(rt: HostRuntime) -> Result<(), Fail> {
     );
     assert!(rt; error.is_empty());
     assert_eq!(rt; status, Status::Failed);
+    Ok(())
+}
+
+#[test]
+fn texts_of_stops(rt: HostRuntime) -> Result<(), Fail> {
+    let table = [(Stop::Memory, "1 Memory")];
+    for (stop, text) in table {
+        assert_eq!(rt; stop.to_string(rt.alloc())?.as_str(), text);
+    }
     Ok(())
 }

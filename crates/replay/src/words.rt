@@ -1,11 +1,11 @@
-//! The command line: the name of one file.
+//! The command line, which is the name of one file.
 
 ghost use Rattle.std.specs.Prelude.{◌≡◌, ◌↔◌, length, IsSome, IfSome, slice_get, Some};
 
-/// What is told of a command line that isn't one file.
+/// The text for a command line that isn't one word.
 pub const USAGE: &str = "replay: usage: replay FILE";
 
-/// The one word that there is, the file's name.
+/// Returns the file's name if the command line has exactly one word.
 pub fn file_of(words: &[String]) -> Option<&String>
     ensures one { IsSome result ↔ (length words.now ≡ 1) }
     ensures file { IfSome result (λ file. slice_get words.now 0 ≡ Some file.now) }

@@ -89,7 +89,7 @@ fn forty_answers_of_one_proxy(rt: HostRuntime) -> Result<(), Fail> {
     Ok(())
 }
 
-/// A writer that takes this many bytes and then fails.
+// A writer that takes this many bytes and then fails.
 #[derive(Drop)]
 struct Failing {
     room: usize,

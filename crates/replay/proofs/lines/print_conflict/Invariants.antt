@@ -5,4 +5,6 @@ use Rattle.std.specs.Io.KnownBytes.{Appends}
 use Rattle.replay.proofs.lines.print_conflict.Given as goal
 
 abbrev pub invariant-loop-place : goal.invariant-loop-place
-invariant-loop-place g l = Appends (g.W.Write.contents l.initial.out) (g.W.Write.contents l.out) (flat_map (λ (place : ℕ). codes "," ++ decimal place) (take l.place-index l.rest))
+invariant-loop-place g l =
+    Appends (g.W.Write.contents l.initial.out) (g.W.Write.contents l.out)
+    (flat_map (λ (place : ℕ). codes "," ++ decimal place) (take l.place-index l.rest))

@@ -5,4 +5,5 @@ use Rattle.replay.specs.Lines.{line}
 use Rattle.replay.proofs.lines.print_proxy.Given as goal
 
 abbrev pub invariant-loop-answer : goal.invariant-loop-answer
-invariant-loop-answer g l = Appends (g.W.Write.contents l.initial.out) (g.W.Write.contents l.out) (flat_map (line l.proxy) (take l.answer-index l.answer-items))
+invariant-loop-answer g l = Appends (g.W.Write.contents l.initial.out) (g.W.Write.contents l.out)
+    (flat_map (line l.proxy) (take l.answer-index l.answers))

@@ -6,4 +6,6 @@ use Rattle.replay.specs.Lines.{entry_word}
 use Rattle.replay.proofs.lines.print_words.Given as goal
 
 abbrev pub invariant-loop-entry : goal.invariant-loop-entry
-invariant-loop-entry g l = Appends (g.W.Write.contents l.initial.out) (g.W.Write.contents l.out) (flat_map (λ (entry : Entry). codes " " ++ entry_word entry) (take l.entry-index l.rest))
+invariant-loop-entry g l =
+    Appends (g.W.Write.contents l.initial.out) (g.W.Write.contents l.out)
+    (flat_map (λ (entry : Entry). codes " " ++ entry_word entry) (take l.entry-index l.rest))
