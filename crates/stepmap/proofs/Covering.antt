@@ -1,45 +1,24 @@
 -- What keeps a step function standing for its writes.
-use Rattle.std.proofs.Common.{◌≡◌, ℕ, ◌-◌, ◌<◌, List, [], ◌∷◌, ◌++◌, length, get_or, refl, sym, ◌∙◌, ap, subst, inl, inr, ◌⊎◌, arith, length-append}
-use Rattle.std.specs.Prelude.{ℤ, ◌≤ℤ◌, ◌<ℤ◌, Any}
-use Rattle.std.proofs.lemmas.Bool.{cases_lt}
+use Rattle.std.proofs.Common.{◌≡◌, ℕ, List, [], ◌∷◌, ◌++◌, sym, subst, inl, inr, ◌⊎◌, arith}
+use Rattle.std.specs.Prelude.{ℤ, ◌≤ℤ◌, ◌<ℤ◌}
 use Rattle.std.proofs.lemmas.Int.{ints}
 use Rattle.std.proofs.lemmas.List.Quantifiers.{Any-push}
-use Rattle.std.proofs.lemmas.List.{get_or_append_left, get_or-append_right}
 use Rattle.keyspace.specs.Range.{Holds}
 use Rattle.keyspace.specs.Writes.{Write}
 use Rattle.keyspace.specs.declared.range.Range.{Range}
 use Rattle.keyspace.proofs.KeyOrder.{before_or_at_most, not_both}
 use Rattle.stepmap.specs.Covers.{SameFrom, Covers}
+use Rattle.stepmap.proofs.SomeElement.{Any-longer, Any-push_cases}
 
-pub Any-weaker : {X : Type 0} (P Q : X → Type 0) → ((x : X) → P x → Q x) → (xs : List X) → Any P xs → Any Q xs
-Any-weaker P Q f xs a = (a.0, a.1, a.2, a.3, f a.1 a.4)
-
--- one more at the end
-pub Any-longer : {X : Type 0} (P : X → Type 0) (xs : List X) (y : X) → Any P xs → Any P (xs ++ y ∷ [])
-Any-longer P xs y a =
-    let lt : a.0 < length xs = a.2 in
-    (a.0, a.1, omega (arith, length-append xs (y ∷ [])), get_or_append_left xs (y ∷ []) a.1 a.0 lt ∙ a.3, a.4)
-
-pub Any-push_cases : {X : Type 0} (P : X → Type 0) (xs : List X) (y : X) → Any P (xs ++ y ∷ []) → Any P xs ⊎ P y
-Any-push_cases P xs y a =
-    let k = a.0 in
-    let x = a.1 in
-    let lt : k < length (xs ++ y ∷ []) = a.2 in
-    elim (cases_lt k (length xs)) [
-      | inl l ↦ inl (k, x, l, sym (get_or_append_left xs (y ∷ []) x k l) ∙ a.3, a.4)
-      | inr g ↦
-          let e : k - length xs ≡ 0 = omega (arith, length-append xs (y ∷ [])) in
-          let is : y ≡ x = sym (ap (λ i. get_or (y ∷ []) i x) e) ∙ (sym (get_or-append_right xs (y ∷ []) (length xs) k x refl g) ∙ a.3) in
-          inr (subst P (sym is) a.4)
-    ]
-
-pub covers_same : (f g : List ℕ → ℤ) (ws : List Write) (edge : ℤ) → SameFrom edge f g → Covers f ws edge → Covers g ws edge
+pub covers_same : (f g : List ℕ → ℤ) (ws : List Write) (edge : ℤ) → SameFrom edge f g → Covers f ws edge
+    → Covers g ws edge
 covers_same f g ws edge same covers key bytes s le =
     let c = covers key bytes s le in
     let d = same key bytes s le in
     (λ h. c.0 (d.1 h), λ a. d.0 (c.1 a))
 
-pub covers_raise : (f : List ℕ → ℤ) (ws : List Write) (edge later : ℤ) → edge ≤ℤ later → Covers f ws edge → Covers f ws later
+pub covers_raise : (f : List ℕ → ℤ) (ws : List Write) (edge later : ℤ) → edge ≤ℤ later → Covers f ws edge
+    → Covers f ws later
 covers_raise f ws edge later le covers key bytes s h = covers key bytes s (omega (arith, ints))
 
 pub same_raise : (f g : List ℕ → ℤ) (edge later : ℤ) → edge ≤ℤ later → SameFrom edge f g → SameFrom later f g
@@ -50,11 +29,20 @@ pub holds_or_not : (range : Range) (key : List ℕ) → Holds range key ⊎ (¬ 
 holds_or_not range key =
     elim (before_or_at_most key range.begin) [
       | inl l ↦ inr (λ h. not_both key range.begin l h.0)
-      | inr begun ↦ elim (before_or_at_most key range.end) [ inl l ↦ inl (begun, l) | inr g ↦ inr (λ h. not_both key range.end h.1 g) ]
+      | inr begun ↦ elim (before_or_at_most key range.end) [
+        | inl l ↦ inl (
+          begun,
+          l,
+        )
+        | inr g ↦ inr (λ h. not_both key range.end h.1 g)
+      ]
     ]
 
 -- f took the version on the range, stays elsewhere, and was nowhere above the version
-pub covers_write : (f g : List ℕ → ℤ) (ws : List Write) (edge : ℤ) (w : Write) → ((key : List ℕ) → Holds w.range key → g key ≡ w.version) → ((key : List ℕ) → ¬ Holds w.range key → g key ≡ f key) → ((key : List ℕ) → f key ≤ℤ w.version) → Covers f ws edge → Covers g (ws ++ w ∷ []) edge
+pub covers_write : (f g : List ℕ → ℤ) (ws : List Write) (edge : ℤ) (w : Write)
+    → ((key : List ℕ) → Holds w.range key → g key ≡ w.version)
+    → ((key : List ℕ) → ¬ Holds w.range key → g key ≡ f key) → ((key : List ℕ) → f key ≤ℤ w.version)
+    → Covers f ws edge → Covers g (ws ++ w ∷ []) edge
 covers_write f g ws edge w on off top covers key bytes s le =
     let P : Write → Type 0 = λ w. Holds w.range key × (s <ℤ w.version) in
     let c = covers key bytes s le in
@@ -63,11 +51,17 @@ covers_write f g ws edge w on off top covers key bytes s le =
           let e : g key ≡ w.version = on key held in
           let t : f key ≤ℤ w.version = top key in (
             λ h. Any-push P ws w (held, subst (λ (x : ℤ). s <ℤ x) e h),
-            λ a. subst (λ (x : ℤ). s <ℤ x) (sym e) (elim (Any-push_cases P ws w a) [ inl b ↦ (let l : s <ℤ f key = c.1 b in omega (arith, ints)) | inr b ↦ b.1 ]),
+            λ a. subst (λ (x : ℤ). s <ℤ x) (sym e)
+                (elim (Any-push_cases P ws w a) [
+                  | inl b ↦ (let l : s <ℤ f key = c.1 b in
+                      omega (arith, ints))
+                  | inr b ↦ b.1
+                ]),
           )
       | inr free ↦
           let e : g key ≡ f key = off key free in (
             λ h. Any-longer P ws w (c.0 (subst (λ (x : ℤ). s <ℤ x) e h)),
-            λ a. subst (λ (x : ℤ). s <ℤ x) (sym e) (elim (Any-push_cases P ws w a) [ inl b ↦ c.1 b | inr b ↦ absurd (free b.0) ]),
+            λ a. subst (λ (x : ℤ). s <ℤ x) (sym e)
+                (elim (Any-push_cases P ws w a) [ inl b ↦ c.1 b | inr b ↦ absurd (free b.0) ]),
           )
     ]

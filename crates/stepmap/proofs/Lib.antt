@@ -4,6 +4,7 @@ pub mod Values
 pub mod WritingValues
 pub mod WritingOrder
 pub mod Counting
+pub mod SomeElement
 pub mod Covering
 pub mod Rooting
 pub mod WritingRooted
@@ -12,9 +13,15 @@ pub mod Looking
 pub mod Sweeps
 pub mod SweptMap
 pub mod WrittenMap
-pub mod PlacesFound
+pub mod IndexFound
 pub mod Compacting
 pub mod Replacing
 pub mod GreatestFound
-pub mod Laws
+pub mod Changes
+pub mod Rounds
+pub mod FewBoundaries
+pub mod Preparing
+pub mod Telling
+pub mod UnitedWrites
+pub mod WritingInTurn
 pub mod Passing

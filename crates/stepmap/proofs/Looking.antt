@@ -1,11 +1,39 @@
 -- The part that a sweep has still to look at.
-use Rattle.std.proofs.Common.{◌≡◌, ◌≢◌, ℕ, Bool, true, false, not, cond, List, [], ◌∷◌, ◌++◌, filter, refl, sym, ◌∙◌, ap, subst, inl, inr}
+use Rattle.std.proofs.Common.{
+  ◌≡◌,
+  ◌≢◌,
+  ℕ,
+  Bool,
+  true,
+  false,
+  not,
+  cond,
+  List,
+  [],
+  ◌∷◌,
+  ◌++◌,
+  filter,
+  refl,
+  sym,
+  ◌∙◌,
+  ap,
+  subst,
+  inl,
+  inr,
+}
 use Rattle.std.specs.Prelude.{ℤ, All}
 use Rattle.std.proofs.lemmas.List.Elements.{All-head, All-tail, All-cons, All-nil, filter-append}
 use Rattle.keyspace.specs.Key.{is_before, IsBefore}
 use Rattle.keyspace.specs.Writes.{Write}
 use Rattle.keyspace.proofs.KeyOrder.{before_trans, at_most_before, before_at_most_same, not_before_itself}
-use Rattle.keyspace.proofs.Booleans.{true_or_false, and_left, and_right, and_both, false_unless, not_both_ways}
+use Rattle.keyspace.proofs.Booleans.{
+  true_or_false,
+  and_left,
+  and_right,
+  and_both,
+  false_unless,
+  not_both_ways,
+}
 use Rattle.stepmap.specs.Boundary.{Boundary, RiseFrom, below}
 use Rattle.stepmap.specs.Sweeping.{is_left, left_from, passed_to}
 use Rattle.stepmap.specs.Rooted.{IsEndOf, Ends}
@@ -16,66 +44,100 @@ pub not_not : (t : Bool) → t ≡ not (not t)
 not_not true = refl
 not_not false = refl
 
-pub left_later : (place : List ℕ) (b c : Boundary) → IsBefore b.key c.key → is_left place b ≡ true → is_left place c ≡ true
-left_later place b c l h =
-    and_both (is_before [] c.key) (not (is_before c.key place))
-    (before_trans [] b.key c.key (and_left (is_before [] b.key) (not (is_before b.key place)) h) l)
-    (before_at_most_same place c.key (at_most_before place b.key c.key (and_right (is_before [] b.key) (not (is_before b.key place)) h) l))
+pub left_later : (cursor : List ℕ) (b c : Boundary) → IsBefore b.key c.key → is_left cursor b ≡ true
+    → is_left cursor c ≡ true
+left_later cursor b c l h =
+    and_both (is_before [] c.key) (not (is_before c.key cursor))
+    (before_trans [] b.key c.key (and_left (is_before [] b.key) (not (is_before b.key cursor)) h) l)
+    (before_at_most_same cursor c.key
+    (at_most_before cursor b.key c.key
+    (and_right (is_before [] b.key) (not (is_before b.key cursor)) h) l))
 
-pub passed_falls : (place : List ℕ) → FallsAlongKeys (λ b. not (is_left place b))
-passed_falls place b c l h = ap not (false_unless (is_left place b) (λ k. not_both_ways (not (is_left place c)) h (ap not (left_later place b c l k))))
+pub passed_falls : (cursor : List ℕ) → FallsAlongKeys (λ b. not (is_left cursor b))
+passed_falls cursor b c l h =
+    ap not (false_unless (is_left cursor b)
+    (λ k. not_both_ways (not (is_left cursor c)) h (ap not (left_later cursor b c l k))))
 
-pub parted_left : (place : List ℕ) (bs : List Boundary) → Rising bs → bs ≡ passed_to place bs ++ left_from place bs
-parted_left place bs r = parted (λ b. not (is_left place b)) (is_left place) (λ b. not_not (is_left place b)) (passed_falls place) bs r
+pub parted_left : (cursor : List ℕ) (bs : List Boundary) → Rising bs
+    → bs ≡ passed_to cursor bs ++ left_from cursor bs
+parted_left cursor bs r =
+    parted (λ b. not (is_left cursor b)) (is_left cursor) (λ b. not_not (is_left cursor b))
+    (passed_falls cursor) bs r
 
 -- the empty key counts as passed
-pub empty_passed : (place : List ℕ) (b : Boundary) → b.key ≡ [] → is_left place b ≡ false
-empty_passed place b e =
+pub empty_passed : (cursor : List ℕ) (b : Boundary) → b.key ≡ [] → is_left cursor b ≡ false
+empty_passed cursor b e =
     let f : is_before [] b.key ≡ false = subst (λ k. is_before [] k ≡ false) (sym e) (not_before_empty []) in
     rw f refl
 
 pub filter_yes : (p : Boundary → Bool) (bs : List Boundary) → All (λ b. p b ≡ true) bs → filter p bs ≡ bs
 filter_yes p [] a = refl
-filter_yes p (b ∷ bs) a = let t = All-head (λ b. p b ≡ true) b bs a in rw t (ap (λ xs. b ∷ xs) (filter_yes p bs (All-tail (λ b. p b ≡ true) b bs a)))
+filter_yes p (b ∷ bs) a = let t = All-head (λ b. p b ≡ true) b bs a in
+    rw t (ap (λ xs. b ∷ xs) (filter_yes p bs (All-tail (λ b. p b ≡ true) b bs a)))
 
 pub filter_no : (p : Boundary → Bool) (bs : List Boundary) → All (λ b. p b ≡ false) bs → filter p bs ≡ []
 filter_no p [] a = refl
-filter_no p (b ∷ bs) a = let f = All-head (λ b. p b ≡ false) b bs a in rw f (filter_no p bs (All-tail (λ b. p b ≡ false) b bs a))
+filter_no p (b ∷ bs) a = let f = All-head (λ b. p b ≡ false) b bs a in
+    rw f (filter_no p bs (All-tail (λ b. p b ≡ false) b bs a))
 
-map_all : (P Q : Boundary → Type 0) → ((b : Boundary) → P b → Q b) → (bs : List Boundary) → All P bs → All Q bs
+map_all : (P Q : Boundary → Type 0) → ((b : Boundary) → P b → Q b) → (bs : List Boundary) → All P bs
+    → All Q bs
 map_all P Q f bs a k d lt = f _ (a k d lt)
 
 -- what comes before a boundary, and what is left from its key on
-module _ (c : Boundary) (xs cs : List Boundary) (before : All (λ x. IsBefore x.key c.key) xs) (after : RiseFrom c.key cs) where
+module _ (c : Boundary) (xs cs : List Boundary) (before : All (λ x. IsBefore x.key c.key) xs)
+    (after : RiseFrom c.key cs) where
   pub below_middle : below c.key (xs ++ c ∷ cs) ≡ xs ++ []
   below_middle =
       let p : Boundary → Bool = λ b. is_before b.key c.key in
-      let none = filter_no p cs (map_all (λ b. IsBefore c.key b.key) (λ b. p b ≡ false) (λ b l. not_before_if c.key b.key (before_at_most_same c.key b.key l)) cs (rise_above c.key cs after)) in
-      filter-append p xs (c ∷ cs) ∙ rw (not_before_itself c.key, none) (ap (λ ys. ys ++ []) (filter_yes p xs before))
+      let none =
+      filter_no p cs (map_all (λ b. IsBefore c.key b.key) (λ b. p b ≡ false)
+      (λ b l. not_before_if c.key b.key (before_at_most_same c.key b.key l)) cs
+      (rise_above c.key cs after)) in
+      filter-append p xs (c ∷ cs)
+      ∙ rw (not_before_itself c.key, none) (ap (λ ys. ys ++ []) (filter_yes p xs before))
 
   pub left_middle : IsBefore [] c.key → left_from c.key (xs ++ c ∷ cs) ≡ c ∷ cs
   left_middle filled =
       let p : Boundary → Bool = is_left c.key in
-      let here : p c ≡ true = and_both (is_before [] c.key) (not (is_before c.key c.key)) filled (ap not (not_before_itself c.key)) in
-      let none = filter_no p xs (map_all (λ b. IsBefore b.key c.key) (λ b. p b ≡ false) (λ b l. false_unless (p b) (λ h. not_both_ways _ l (not_before_if c.key b.key (and_right (is_before [] b.key) (not (is_before b.key c.key)) h)))) xs before) in
-      let all = filter_yes p cs (map_all (λ b. IsBefore c.key b.key) (λ b. p b ≡ true) (λ b l. left_later c.key c b l here) cs (rise_above c.key cs after)) in
+      let here : p c ≡ true =
+      and_both (is_before [] c.key) (not (is_before c.key c.key)) filled
+      (ap not (not_before_itself c.key)) in
+      let none =
+      filter_no p xs (map_all (λ b. IsBefore b.key c.key) (λ b. p b ≡ false)
+      (λ b l. false_unless (p b)
+      (λ h. not_both_ways _ l
+      (not_before_if c.key b.key (and_right (is_before [] b.key) (not (is_before b.key c.key)) h)))) xs
+      before) in
+      let all =
+      filter_yes p cs (map_all (λ b. IsBefore c.key b.key) (λ b. p b ≡ true)
+      (λ b l. left_later c.key c b l here) cs (rise_above c.key cs after)) in
       filter-append p xs (c ∷ cs) ∙ rw (none, here) (ap (λ ys. c ∷ ys) all)
 
--- what was passed comes before the place, but for the empty key
-pub ends_passed : (ws : List Write) (e : ℤ) (place : List ℕ) (bs : List Boundary) → Ends (below place bs) ws e → Ends (passed_to place bs) ws e
-ends_passed ws e place [] h = All-nil (λ b. b.key ≢ [] → IsEndOf ws e b.key)
-ends_passed ws e place (b ∷ bs) h =
+-- what was passed comes before the cursor, but for the empty key
+pub ends_passed : (ws : List Write) (e : ℤ) (cursor : List ℕ) (bs : List Boundary)
+    → Ends (below cursor bs) ws e → Ends (passed_to cursor bs) ws e
+ends_passed ws e cursor [] h = All-nil (λ b. b.key ≢ [] → IsEndOf ws e b.key)
+ends_passed ws e cursor (b ∷ bs) h =
     let P : Boundary → Type 0 = λ b. b.key ≢ [] → IsEndOf ws e b.key in
-    elim (true_or_false (is_before b.key place)) [
+    elim (true_or_false (is_before b.key cursor)) [
       | inl t ↦
-          let k : All P (b ∷ below place bs) = subst (λ v. All P (cond v (b ∷ below place bs) (below place bs))) t h in
-          let f : is_left place b ≡ false = false_unless (is_left place b) (λ l. not_both_ways _ t (not_before_if place b.key (and_right (is_before [] b.key) (not (is_before b.key place)) l))) in
-          rw f (All-cons P b (passed_to place bs) (All-head P b (below place bs) k) (ends_passed ws e place bs (All-tail P b (below place bs) k)))
+          let k : All P (b ∷ below cursor bs) =
+          subst (λ v. All P (cond v (b ∷ below cursor bs) (below cursor bs))) t h in
+          let f : is_left cursor b ≡ false =
+          false_unless (is_left cursor b)
+          (λ l. not_both_ways _ t
+          (not_before_if cursor b.key (and_right (is_before [] b.key) (not (is_before b.key cursor)) l)))
+          in
+          rw f (All-cons P b (passed_to cursor bs) (All-head P b (below cursor bs) k)
+          (ends_passed ws e cursor bs (All-tail P b (below cursor bs) k)))
       | inr f ↦
-          let k : All P (below place bs) = subst (λ v. All P (cond v (b ∷ below place bs) (below place bs))) f h in
-          let ih = ends_passed ws e place bs k in
+          let k : All P (below cursor bs) =
+          subst (λ v. All P (cond v (b ∷ below cursor bs) (below cursor bs))) f h in
+          let ih = ends_passed ws e cursor bs k in
           elim (true_or_false (is_before [] b.key)) [
             | inl t ↦ rw (t, f) ih
-            | inr g ↦ rw g (All-cons P b (passed_to place bs) (λ n. absurd (n (empty_unless_after b.key g))) ih)
+            | inr g ↦ rw g
+                (All-cons P b (passed_to cursor bs) (λ n. absurd (n (empty_unless_after b.key g))) ih)
           ]
     ]

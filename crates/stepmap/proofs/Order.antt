@@ -1,5 +1,23 @@
 -- Boundaries whose keys rise.
-use Rattle.std.proofs.Common.{◌≡◌, ◌≢◌, ℕ, Bool, true, false, not, cond, List, [], ◌∷◌, ◌++◌, filter, refl, sym, ap, subst}
+use Rattle.std.proofs.Common.{
+  ◌≡◌,
+  ◌≢◌,
+  ℕ,
+  Bool,
+  true,
+  false,
+  not,
+  cond,
+  List,
+  [],
+  ◌∷◌,
+  ◌++◌,
+  filter,
+  refl,
+  sym,
+  ap,
+  subst,
+}
 use Rattle.std.specs.Prelude.{All}
 use Rattle.std.proofs.lemmas.List.Elements.{All-head, All-tail, All-cons, All-nil}
 use Rattle.keyspace.specs.Key.{is_before, IsBefore, IsAtMost}
@@ -21,7 +39,8 @@ after_unless_empty [] h = absurd (h refl)
 after_unless_empty (x ∷ xs) h = refl
 
 pub not_empty_if_after : (key j : List ℕ) → IsBefore j key → key ≢ []
-not_empty_if_after key j h e = not_both_ways _ h (subst (λ k. is_before j k ≡ false) (sym e) (not_before_empty j))
+not_empty_if_after key j h e =
+    not_both_ways _ h (subst (λ k. is_before j k ≡ false) (sym e) (not_before_empty j))
 
 pub at_most_if : (a b : List ℕ) → is_before b a ≡ false → IsAtMost a b
 at_most_if a b h = ap not h
@@ -49,13 +68,16 @@ rise_lower j k (b ∷ bs) l r = (before_trans j k b.key l r.0, r.1)
 -- all of them come after the key
 pub rise_above : (k : List ℕ) (bs : List Boundary) → RiseFrom k bs → All (λ b. IsBefore k b.key) bs
 rise_above k [] r = All-nil (λ b. IsBefore k b.key)
-rise_above k (b ∷ bs) r = All-cons (λ c. IsBefore k c.key) b bs r.0 (rise_above k bs (rise_lower k b.key bs r.0 r.1))
+rise_above k (b ∷ bs) r =
+    All-cons (λ c. IsBefore k c.key) b bs r.0 (rise_above k bs (rise_lower k b.key bs r.0 r.1))
 
-rise_cond : (t : Bool) (k : List ℕ) (b : Boundary) (bs : List Boundary) → IsBefore k b.key → RiseFrom b.key bs → RiseFrom k (cond t (b ∷ bs) bs)
+rise_cond : (t : Bool) (k : List ℕ) (b : Boundary) (bs : List Boundary) → IsBefore k b.key → RiseFrom b.key bs
+    → RiseFrom k (cond t (b ∷ bs) bs)
 rise_cond true k b bs l r = (l, r)
 rise_cond false k b bs l r = rise_lower k b.key bs l r
 
-pub rise_filter : (p : Boundary → Bool) (k : List ℕ) (bs : List Boundary) → RiseFrom k bs → RiseFrom k (filter p bs)
+pub rise_filter : (p : Boundary → Bool) (k : List ℕ) (bs : List Boundary) → RiseFrom k bs
+    → RiseFrom k (filter p bs)
 rise_filter p k [] r = tt
 rise_filter p k (b ∷ bs) r = rise_cond (p b) k b (filter p bs) r.0 (rise_filter p b.key bs r.1)
 
@@ -67,12 +89,18 @@ pub rising_filter : (p : Boundary → Bool) (bs : List Boundary) → Rising bs �
 rising_filter p [] r = tt
 rising_filter p (b ∷ bs) r = rising_cond (p b) b (filter p bs) (rise_filter p b.key bs r)
 
-pub rise_join : (k : List ℕ) (xs : List Boundary) (y : Boundary) (ys : List Boundary) → RiseFrom k xs → IsBefore k y.key → All (λ x. IsBefore x.key y.key) xs → RiseFrom y.key ys → RiseFrom k (xs ++ y ∷ ys)
+pub rise_join : (k : List ℕ) (xs : List Boundary) (y : Boundary) (ys : List Boundary) → RiseFrom k xs
+    → IsBefore k y.key → All (λ x. IsBefore x.key y.key) xs → RiseFrom y.key ys → RiseFrom k (xs ++ y ∷ ys)
 rise_join k [] y ys r l a s = (l, s)
-rise_join k (x ∷ xs) y ys r l a s = (r.0, rise_join x.key xs y ys r.1 (All-head (λ x. IsBefore x.key y.key) x xs a) (All-tail (λ x. IsBefore x.key y.key) x xs a) s)
+rise_join k (x ∷ xs) y ys r l a s = (
+  r.0,
+  rise_join x.key xs y ys r.1 (All-head (λ x. IsBefore x.key y.key) x xs a)
+      (All-tail (λ x. IsBefore x.key y.key) x xs a) s,
+)
 
--- what rises in the place of the last part keeps the whole rising
-pub rise_swap : (k : List ℕ) (xs ys zs : List Boundary) → RiseFrom k (xs ++ ys) → ((j : List ℕ) → RiseFrom j ys → RiseFrom j zs) → RiseFrom k (xs ++ zs)
+-- what rises where the last part did keeps the whole rising
+pub rise_swap : (k : List ℕ) (xs ys zs : List Boundary) → RiseFrom k (xs ++ ys)
+    → ((j : List ℕ) → RiseFrom j ys → RiseFrom j zs) → RiseFrom k (xs ++ zs)
 rise_swap k [] ys zs r f = f k r
 rise_swap k (x ∷ xs) ys zs r f = (r.0, rise_swap x.key xs ys zs r.1 f)
 
@@ -82,8 +110,14 @@ pub record IsMiddle (k : List ℕ) (xs : List Boundary) (y : Boundary) (ys : Lis
   pub before : All (λ x. IsBefore x.key y.key) xs
   pub after : RiseFrom y.key ys
 
-pub rise_middle : (k : List ℕ) (xs : List Boundary) (y : Boundary) (ys : List Boundary) → RiseFrom k (xs ++ y ∷ ys) → IsMiddle k xs y ys
+pub rise_middle : (k : List ℕ) (xs : List Boundary) (y : Boundary) (ys : List Boundary)
+    → RiseFrom k (xs ++ y ∷ ys) → IsMiddle k xs y ys
 rise_middle k [] y ys r = record { first = r.0; before = All-nil (λ x. IsBefore x.key y.key); after = r.1 }
 rise_middle k (x ∷ xs) y ys r =
     let m = rise_middle x.key xs y ys r.1 in
-    record { first = before_trans k x.key y.key r.0 m.first; before = All-cons (λ x. IsBefore x.key y.key) x xs m.first m.before; after = m.after }
+    record {
+      first = before_trans k x.key y.key r.0 m.first;
+      before =
+          All-cons (λ x. IsBefore x.key y.key) x xs m.first m.before;
+      after = m.after;
+    }

@@ -1,5 +1,5 @@
 -- How a step function stands for the writes that it remembers.
-use Rattle.std.specs.Prelude.{ℕ, ℤ, ◌≤ℤ◌, ◌<ℤ◌, ◌↔◌, List, [], ◌∷◌, ◌++◌, Any}
+use Rattle.std.specs.Prelude.{ℕ, ℤ, ◌≤ℤ◌, ◌<ℤ◌, ◌↔◌, List, Any}
 use Rattle.keyspace.specs.Key.{IsBytes}
 use Rattle.keyspace.specs.Range.{Holds}
 use Rattle.keyspace.specs.Writes.{Write}
@@ -11,15 +11,17 @@ use Rattle.stepmap.specs.StepMap.{Steps}
 abbrev pub SameFrom : ℤ → (List ℕ → ℤ) → (List ℕ → ℤ) → Type 0
 SameFrom edge f g = (key : List ℕ) → IsBytes key → (s : ℤ) → edge ≤ℤ s → (s <ℤ f key) ↔ (s <ℤ g key)
 
--- For every key and every number s at or above the edge, f is above s exactly if some write holds the key at a version
--- above s.
+-- For every key and every number s at or above the edge, f is above s exactly if some write holds the key at a
+-- version above s.
 abbrev pub Covers : (List ℕ → ℤ) → List Write → ℤ → Type 0
-Covers f ws edge = (key : List ℕ) → IsBytes key → (s : ℤ) → edge ≤ℤ s → (s <ℤ f key) ↔ Any (λ w. Holds w.range key × (s <ℤ w.version)) ws
+Covers f ws edge =
+    (key : List ℕ) → IsBytes key → (s : ℤ) → edge ≤ℤ s →
+    (s <ℤ f key) ↔ Any (λ w. Holds w.range key × (s <ℤ w.version)) ws
 
 -- a step map covers the writes at its edge
 abbrev pub MapCovers : Steps → List Write → Type 0
 MapCovers m ws = Covers (value_at m.boundaries) ws m.edge
 
--- the writes, and this one after them
-abbrev pub with_write : List Write → Range → ℤ → List Write
-with_write ws range version = ws ++ record { range = range; version = version } ∷ []
+-- the function is above the number at some key of the range
+abbrev pub IsAbove : Steps → Range → ℤ → Type 0
+IsAbove m range s = (key : List ℕ) × IsBytes key × Holds range key × (s <ℤ value_at m.boundaries key)

@@ -3,7 +3,11 @@ pub mod Boundary
 pub mod StepMap
 pub mod Writing
 pub mod Sweeping
+pub mod Limit
 pub mod Covers
 pub mod Rooted
-pub mod Places
+pub mod Counting
+pub mod Uniting
+pub mod Laws
+pub mod Indexes
 pub mod Kept

@@ -8,20 +8,22 @@ use Rattle.stepmap.specs.StepMap.{Steps}
 
 -- the key is the begin or the end of some non-empty range written at or above the version
 abbrev pub IsEndOf : List Write → ℤ → List ℕ → Type 0
-IsEndOf ws version key = Any (λ w. ¬ IsEmpty w.range × ((w.range.begin ≡ key) ⊎ (w.range.end ≡ key)) × (version ≤ℤ w.version)) ws
+IsEndOf ws version key =
+    Any (λ w. ¬ IsEmpty w.range × ((w.range.begin ≡ key) ⊎ (w.range.end ≡ key)) × (version ≤ℤ w.version)) ws
 
 -- every boundary but the empty key is the begin or the end of a range written at or above the edge
 abbrev pub Ends : List Boundary → List Write → ℤ → Type 0
 Ends bs ws edge = All (λ b. b.key ≢ [] → IsEndOf ws edge b.key) bs
 
--- Every boundary but the empty key is the begin or the end of a range written at its version or that of the boundary
--- before it, whichever is greater, or above, if that is at or above the edge.
+-- Every boundary but the empty key is the begin or the end of a range written at its version or that of the
+-- boundary before it, whichever is greater, or above, if that is at or above the edge.
 abbrev pub AreRooted : List Write → ℤ → ℤ → List Boundary → Type 0
 AreRooted ws edge before [] = Unit {0}
 AreRooted ws edge before (b ∷ bs) =
-    (b.key ≢ [] → edge ≤ℤ int_max before b.version → IsEndOf ws (int_max before b.version) b.key) × AreRooted ws edge b.version bs
+    (b.key ≢ [] → edge ≤ℤ int_max before b.version → IsEndOf ws (int_max before b.version) b.key)
+    × AreRooted ws edge b.version bs
 
 pub record Rooted (m : Steps) (ws : List Write) : Type 0 where
   pub each : AreRooted ws m.edge (negsuc 0) m.boundaries
   -- what the round under way has passed is written at or above the edge with which it began
-  pub passed : IfSome m.round (λ round. Ends (below round.place m.boundaries) ws round.edge)
+  pub passed : IfSome m.round (λ round. Ends (below round.cursor m.boundaries) ws round.edge)

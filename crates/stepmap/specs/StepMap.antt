@@ -1,12 +1,30 @@
 -- What a step map is seen as.
-use Rattle.std.specs.Prelude.{ℕ, ℤ, pos, negsuc, List, [], ◌∷◌, length, Option, None, IfSome, ◌≤ℤ◌, ◌≢◌}
+use Rattle.std.specs.Prelude.{
+  ℕ,
+  ℤ,
+  pos,
+  negsuc,
+  List,
+  [],
+  ◌∷◌,
+  length,
+  Option,
+  None,
+  IfSome,
+  ◌+◌,
+  ◌*◌,
+  ◌≤◌,
+  ◌≤ℤ◌,
+  ◌≢◌,
+}
 use Rattle.keyspace.specs.Key.{IsKey}
 use Rattle.keyspace.specs.declared.range.Range.{Range}
+use Rattle.stepmap.specs.declared.step_map.TheConstants.{MAX_LIMIT}
 use Rattle.stepmap.specs.Boundary.{Boundary, AreBoundaries}
 
 -- a round of the sweep that is under way: the key at which it goes on, and the edge with which it began
 pub record Round : Type 0 where
-  pub place : List ℕ
+  pub cursor : List ℕ
   pub edge : ℤ
 
 -- a step map
@@ -18,22 +36,33 @@ pub record Steps : Type 0 where
   -- the lengths of the begins and ends of the ranges that may be written without taking memory, in order
   pub ready : List (ℕ × ℕ)
   pub round : Option Round
+  -- how many boundaries there may be
+  pub limit : ℕ
 
 -- the lengths of a range's begin and end
 abbrev pub lengths : Range → ℕ × ℕ
 lengths range = (length range.begin, length range.end)
 
 -- -1 everywhere
-abbrev pub new_map : Steps
-new_map = record { boundaries = record { key = []; version = negsuc 0 } ∷ []; edge = pos 0; ready = []; round = None }
+abbrev pub new_map : ℕ → Steps
+new_map limit = record {
+  boundaries = record { key = []; version = negsuc 0 } ∷ [];
+  edge = pos 0;
+  ready = [];
+  round = None;
+  limit = limit;
+}
 
 -- a round goes on at a key of some length, and began with an edge that isn't above the map's
 pub record IsRound (edge : ℤ) (round : Round) : Type 0 where
-  pub key : IsKey round.place
-  pub later : round.place ≢ []
+  pub key : IsKey round.cursor
+  pub later : round.cursor ≢ []
   pub began : round.edge ≤ℤ edge
 
 -- what holds of every step map
 pub record AreSteps (m : Steps) : Type 0 where
   pub boundaries : AreBoundaries m.boundaries
   pub round : IfSome m.round (IsRound m.edge)
+  -- the boundaries, and two for each range that is ready, are within the limit
+  pub within : length m.boundaries + 2 * length m.ready ≤ m.limit
+  pub limit : m.limit ≤ MAX_LIMIT

@@ -11,16 +11,27 @@ AreApart [] = Unit {0}
 AreApart (r ∷ []) = IsBefore r.begin r.end
 AreApart (r ∷ s ∷ rs) = IsBefore r.begin r.end × IsBefore r.end s.begin × AreApart (s ∷ rs)
 
--- the boundaries, none before the key, with one at the key itself, which has this version unless it was there already
+-- the boundaries, none before the key, with one at the key itself, which has this version unless it was there
+-- already
 abbrev pub closed_at : List ℕ → ℤ → List Boundary → List Boundary
 closed_at key version [] = record { key = key; version = version } ∷ []
-closed_at key version (b ∷ bs) = if is_before key b.key then record { key = key; version = version } ∷ b ∷ bs else b ∷ bs
+closed_at key version (b ∷ bs) =
+    if is_before key b.key then record { key = key; version = version } ∷ b ∷ bs
+    else b ∷ bs
 
 -- the boundaries after the range was written at the version
 abbrev pub written : Range → ℤ → List Boundary → List Boundary
 written range version bs =
-    below range.begin bs ++ record { key = range.begin; version = version } ∷ closed_at range.end (value_at bs range.end) (from_on range.end bs)
+    below range.begin bs
+    ++ record {
+      key = range.begin;
+      version =
+          version;
+    } ∷ closed_at range.end (value_at bs range.end) (from_on range.end bs)
 
 -- the step map after that; one pair of lengths is used up
 abbrev pub after_write : Range → ℤ → Steps → Steps
-after_write range version m = record m { boundaries = written range version m.boundaries; ready = drop 1 m.ready }
+after_write range version m = record m {
+  boundaries = written range version m.boundaries;
+  ready = drop 1 m.ready;
+}

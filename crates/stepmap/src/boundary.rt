@@ -4,7 +4,7 @@ ghost use Rattle.keyspace.specs.Key.{IsKey};
 use keyspace::Key;
 use std::marker::Model;
 
-/// Where a step function takes a version: from the key on, up to the next boundary.
+// A key from which on, up to the next boundary, a step function has this version.
 #[derive(Debug, Drop)]
 pub struct Boundary {
     key: Key,
@@ -20,12 +20,14 @@ impl Model for Boundary {
 }
 
 impl Boundary {
+    // Makes the boundary at the key, from which on the version holds.
     pub fn new(key: Key, version: i64) -> Self
-        ensures { result ≡ record { key = key; version = version } }
+        ensures boundary { result ≡ record { key = key; version = version } }
     {
         Boundary { key, version }
     }
 
+    // Returns the bytes of the key.
     pub fn key(&self) -> &[u8]
         ensures bytes { result.now ≡ self.now.key }
         ensures is_key { IsKey self.now.key }
@@ -33,8 +35,9 @@ impl Boundary {
         self.key.as_bytes()
     }
 
+    // Returns the version that holds from the key on.
     pub fn version(&self) -> i64
-        ensures { result ≡ self.now.version }
+        ensures version { result ≡ self.now.version }
     {
         self.version
     }

@@ -10,6 +10,9 @@ pub enum StepError {
     /// A growth was refused in that call.
     #[error("1 Memory")]
     Memory = 1,
+    /// The ranges don't fit within the limit on boundaries, although a whole round was swept in that call.
+    #[error("2 Full")]
+    Full = 2,
 }
 
 impl From<AllocError> for StepError {

@@ -1,24 +1,27 @@
 //! The step function from keys to versions that remembers committed writes.
 //!
-//! A conflict set asks it for the greatest version at the keys of a read range, and writes into it the ranges that a
-//! batch commits. It keeps boundaries, each with the version from its key on up to the next one. The edge says from where
-//! on versions matter; a sweep, some boundaries at a time, takes away those that tell nothing at or above it.
+//! A conflict set asks whether it exceeds a snapshot at some key of a read range, and writes into it the ranges that
+//! a batch commits. It keeps boundaries, each with the version from its key on, up to the next one. Below the edge a
+//! version tells nothing; a sweep, some boundaries at a time, removes those that tell nothing at or above it. There
+//! are never more boundaries than the limit: what would not fit is refused before it is written.
 //!
-//! The layer above may use the contracts of [`StepMap`], which see it as the list of its boundaries, its edge, the lengths
-//! that it is ready for and the round of the sweep under way. How the boundaries are kept shows nowhere.
+//! The layer above may use the contracts of [`StepMap`], which see it as the list of its boundaries, its edge, its
+//! limit, the lengths that it is ready for and the round of the sweep under way, and the laws of [`laws`], which tie
+//! these to lists of writes. How the boundaries are kept shows nowhere.
 #![tactic(auto)]
 
 mod boundary;
 mod error;
 mod greatest;
-mod places;
+mod indexes;
+pub mod laws;
 mod room;
 mod step_map;
 mod thinning;
 mod writing;
 
 pub use error::StepError;
-pub use step_map::{StepMap, SweepEnd};
+pub use step_map::{MAX_LIMIT, StepMap, SweepEnd};
 
 #[cfg(test)]
 mod tests;

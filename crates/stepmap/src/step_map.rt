@@ -1,19 +1,23 @@
-ghost use Rattle.std.specs.Prelude.{◌≡◌, ℕ, ◌+◌, ◌≤◌, ℤ, negsuc, ◌≤ℤ◌, ◌↔◌, List, [], length, map, slice_get, Some, None, IfOk, OnOk, OnErr};
+ghost use Rattle.std.specs.Prelude.{◌≡◌, ℕ, ◌+◌, ◌*◌, ◌≤◌, ◌<◌, nat_le, ℤ, negsuc, ◌≤ℤ◌, ◌↔◌};
+ghost use Rattle.std.specs.Prelude.{List, [], length, map, slice_get, Some, None, Err};
+ghost use Rattle.std.specs.Prelude.{IfOk, OnOk, OnErr, IfErr, IsTrue};
 ghost use Rattle.keyspace.specs.Key.{IsBytes};
 ghost use Rattle.keyspace.specs.Range.{Holds, IsEmpty};
-ghost use Rattle.keyspace.specs.Writes.{Write};
+ghost use Rattle.keyspace.specs.Writes.{Write, with_write};
 ghost use Rattle.stepmap.specs.Boundary.{value_at, AreUpTo};
 ghost use Rattle.stepmap.specs.StepMap.{lengths, new_map, AreSteps};
 ghost use Rattle.stepmap.specs.Writing.{AreApart, after_write};
-ghost use Rattle.stepmap.specs.Sweeping.{rest, round_edge, after_sweep};
-ghost use Rattle.stepmap.specs.Covers.{SameFrom, MapCovers, with_write};
+ghost use Rattle.stepmap.specs.Sweeping.{rest, round_edge, at_front, after_sweep};
+ghost use Rattle.stepmap.specs.Limit.{HasRoomFor, after_round, made_room, prepared};
+ghost use Rattle.stepmap.specs.Covers.{SameFrom, MapCovers, IsAbove};
 ghost use Rattle.stepmap.specs.Rooted.{Ends, Rooted};
+ghost use Rattle.stepmap.specs.Counting.{live_count};
 
 use crate::boundary::Boundary;
 use crate::error::StepError;
-use crate::greatest::greatest_version;
-use crate::places::{place_left, version_at};
-use crate::room::Room;
+use crate::greatest::{greatest_version, is_above};
+use crate::indexes::{index_left, version_at};
+use crate::room::{Room, make_rooms};
 use crate::thinning::thin;
 use crate::writing::write_range;
 use keyspace::{Key, MAX_KEY_LENGTH, Range};
@@ -21,49 +25,59 @@ use std::alloc::{AllocError, Global};
 use std::collections::VecDeque;
 use std::marker::Model;
 
+/// The greatest limit on the boundaries of a step map: this project's own.
+pub const MAX_LIMIT: usize = 16_777_216;
+
 /// How a sweep ended.
 #[derive(Clone, Copy, Debug, PartialEq, Eq, Hash)]
 pub enum SweepEnd {
-    /// With no boundary left to look at: the next sweep begins a round at the front.
+    /// No boundary is left to look at: the next sweep begins a round at the front.
     Round,
-    /// With some left: the next sweep goes on at the first of these.
+    /// Some are left: the next sweep goes on at the first of these.
     Stopped,
 }
 
-/// A step function from keys to versions, which remembers committed writes, and an edge: what it tells below the edge
-/// means nothing. Contracts see its boundaries in key order, the empty key first.
+/// A step function from keys to versions, which remembers committed writes, with an edge: a version below the edge
+/// tells nothing. Contracts see its boundaries in key order, the empty key first; there are at most as many as the
+/// limit.
 #[derive(Debug, Drop)]
 pub struct StepMap {
     alloc: Global,
     boundaries: Vec<Boundary>,
     edge: i64,
     rooms: VecDeque<Room>,
-    place: Vec<u8>,
+    cursor: Vec<u8>,
     round: Option<i64>,
+    limit: usize,
 }
 
 impl Model for StepMap {
     ghost use Rattle.std.specs.Prelude.{vec_len, vec_capacity};
     ghost use Rattle.stepmap.specs.StepMap.{Steps};
-    ghost use Rattle.stepmap.specs.Kept.{steps_of, HasRoom};
+    ghost use Rattle.stepmap.specs.Kept.{steps_of, IsKept};
 
     ghost Value = { Steps };
 
-    ghost view = { λ m. steps_of m.boundaries.items m.edge m.rooms.items m.place.items m.round };
+    ghost view = { λ m. steps_of m.boundaries.items m.edge m.rooms.items m.cursor.items m.round m.limit };
 
-    ghost invariant = { λ m. HasRoom (steps_of m.boundaries.items m.edge m.rooms.items m.place.items m.round)
-        m.place.items (vec_len m.boundaries) (vec_capacity m.boundaries) (vec_capacity m.place) };
+    ghost invariant = { λ m. IsKept
+        (steps_of m.boundaries.items m.edge m.rooms.items m.cursor.items m.round m.limit)
+        m.cursor.items (vec_len m.boundaries) (vec_capacity m.boundaries) (vec_capacity m.cursor) };
 }
 
 impl StepMap {
-    /// -1 everywhere, with the edge 0.
-    pub fn new(alloc: Global) -> Result<Self, StepError>
-        ensures map { IfOk result (λ map. map ≡ new_map) }
+    /// Makes the function that is -1 everywhere, with the edge 0 and a limit on boundaries.
+    pub fn new(alloc: Global, limit: usize) -> Result<Self, StepError>
+        requires least { 1 ≤ limit }
+        requires most { limit ≤ MAX_LIMIT }
+        ensures map { IfOk result (λ map. map ≡ new_map limit) }
         ensures everywhere { IfOk result (λ map. (key : List ℕ) → value_at map.boundaries key ≡ negsuc 0) }
+        ensures newest { IfOk result (λ map. AreUpTo (negsuc 0) map.boundaries) }
         ensures covers { IfOk result (λ map. MapCovers map []) }
         ensures rooted { IfOk result (λ map. Rooted map []) }
+        ensures err { IfErr result (λ error. error ≡ StepError.Memory) }
     {
-        let place = Vec::with_capacity(alloc, MAX_KEY_LENGTH)?;
+        let cursor = Vec::with_capacity(alloc, MAX_KEY_LENGTH)?;
         let mut boundaries = Vec::with_capacity(alloc, 1)?;
         let empty = Key::new(Vec::new(alloc));
         boundaries.push(Boundary::new(empty, -1)).unwrap();
@@ -72,19 +86,20 @@ impl StepMap {
             boundaries,
             edge: 0,
             rooms: VecDeque::new(alloc),
-            place,
+            cursor,
             round: None,
+            limit,
         })
     }
 
-    /// The version at the key, which may be of any length.
+    /// Returns the version at the key, which may be of any length.
     pub fn at(&self, key: &[u8]) -> i64
-        ensures { result ≡ value_at self.now.boundaries key.now }
+        ensures value { result ≡ value_at self.now.boundaries key.now }
     {
         version_at(&self.boundaries, key)
     }
 
-    /// The greatest version at a key of the range, or -1 where it is empty.
+    /// Returns the greatest version at a key of the range, or -1 if it is empty.
     pub fn greatest_in(&self, range: &Range) -> i64
         ensures empty { IsEmpty range.now → result ≡ negsuc 0 }
         ensures bound { (key : List ℕ) → Holds range.now key → value_at self.now.boundaries key ≤ℤ result }
@@ -97,54 +112,77 @@ impl StepMap {
         greatest_version(&self.boundaries, range)
     }
 
-    /// How many boundaries there are, the empty key with them.
+    /// Returns whether the version at some key of the range is above this one; false if the range is empty.
+    pub fn exceeds(&self, range: &Range, version: i64) -> bool
+        ensures above { IsTrue result ↔ IsAbove self.now range.now version }
+    {
+        !range.is_empty() && is_above(&self.boundaries, range, version)
+    }
+
+    /// Returns the number of boundaries, that at the empty key included.
     pub fn boundaries(&self) -> usize
         ensures count { result ≡ length self.now.boundaries }
+        ensures within { result ≤ self.now.limit }
         ensures steps { AreSteps self.now }
     {
         self.boundaries.len()
     }
 
-    /// Takes all the memory that the writing of the ranges needs, in place of what was taken before. The ranges are those
-    /// to be written next, in order; they, or others whose ends have the same lengths, can then be written.
+    /// Takes all the memory that writing the ranges needs, in place of what was taken before. The ranges are those to be
+    /// written next, in key order; they, or others whose ends have the same lengths, can then be written. Where the
+    /// boundaries, and two for each range, exceed the limit, it sweeps a whole round from the front first.
+    ///
+    /// Returns `Full` where they still exceed it, before any memory is taken, and `Memory` where a growth is refused.
+    /// After either no range is ready; the function says the same as before at and above the edge.
     pub fn prepare(&mut self, ranges: &[Range]) -> Result<(), StepError>
-        requires { AreApart ranges.now }
-        ensures ok { OnOk result (self.new ≡ record self.old { ready = map lengths ranges.now }) }
-        ensures err { OnErr result (self.new ≡ record self.old { ready = [] }) }
+        requires apart { AreApart ranges.now }
+        ensures ok { OnOk result (self.new ≡ prepared ranges.now self.old) }
+        ensures err { OnErr result (self.new ≡ record (prepared ranges.now self.old) { ready = [] }) }
+        ensures full { (result ≡ Err StepError.Full)
+            ↔ ¬ HasRoomFor (length ranges.now) (made_room (length ranges.now) self.old) }
+        ensures steps { AreSteps self.new }
+        ensures edge { self.new.edge ≡ self.old.edge }
+        ensures limit { self.new.limit ≡ self.old.limit }
+        ensures same { SameFrom self.old.edge (value_at self.old.boundaries) (value_at self.new.boundaries) }
+        ensures newest { (version : ℤ)
+            → AreUpTo version self.old.boundaries → AreUpTo version self.new.boundaries }
         ensures covers { (ws : List Write) → MapCovers self.old ws → MapCovers self.new ws }
         ensures rooted { (ws : List Write) → Rooted self.old ws → Rooted self.new ws }
+        ensures untouched { HasRoomFor (length ranges.now) self.old
+            → self.new ≡ record self.old { ready = self.new.ready } }
+        ensures front { ¬ HasRoomFor (length ranges.now) self.old → self.new.round ≡ None }
+        ensures ends { ¬ HasRoomFor (length ranges.now) self.old → (ws : List Write) → Rooted self.old ws
+            → Ends self.new.boundaries ws self.old.edge }
+        ensures bound { result ≡ Err StepError.Full → (ws : List Write) → Rooted self.old ws
+            → self.old.limit < 1 + 2 * (live_count self.old.edge ws + length ranges.now) }
     {
-        let made = make_rooms(&mut self.rooms, self.alloc, ranges);
-        let reserved = match made {
-            Ok(()) => self.boundaries.reserve(2 * ranges.len()),
-            Err(refused) => Err(refused),
-        };
-        if let Err(refused) = reserved {
+        self.make_room(ranges.len());
+        if !self.has_room_for(ranges.len()) {
             self.rooms.clear();
-            return Err(StepError::from(refused));
+            return Err(StepError::Full);
         }
+        self.reserve(ranges)?;
         Ok(())
     }
 
-    /// The function takes the version on the range, and stays elsewhere. It takes no memory.
+    /// Sets the version on the range; elsewhere the function stays as it is. The range is the next one prepared, or one
+    /// whose ends are as long. It takes no memory.
     pub fn write(&mut self, range: &Range, version: i64)
         requires filled { ¬ IsEmpty range.now }
         requires ready { slice_get self.old.ready 0 ≡ Some (lengths range.now) }
         requires newest { AreUpTo version self.old.boundaries }
         requires late { self.old.edge ≤ℤ version }
         ensures map { self.new ≡ after_write range.now version self.old }
-
         ensures on_range { (key : List ℕ) → Holds range.now key → value_at self.new.boundaries key ≡ version }
         ensures elsewhere { (key : List ℕ) → ¬ Holds range.now key
             → value_at self.new.boundaries key ≡ value_at self.old.boundaries key }
         ensures newest { AreUpTo version self.new.boundaries }
         ensures covers { (ws : List Write)
             → MapCovers self.old ws → MapCovers self.new (with_write ws range.now version) }
-
         ensures rooted { (ws : List Write)
             → Rooted self.old ws → Rooted self.new (with_write ws range.now version) }
-        ensures ends { (ws : List Write) (edge : ℤ) → edge ≤ℤ version
-            → Ends self.old.boundaries ws edge → Ends self.new.boundaries (with_write ws range.now version) edge }
+        ensures ends { (ws : List Write) (edge : ℤ) → edge ≤ℤ version → Ends self.old.boundaries ws edge
+            → Ends self.new.boundaries (with_write ws range.now version) edge }
         ensures rest { rest self.new ≤ rest self.old + 2 }
         ensures count { length self.new.boundaries ≤ length self.old.boundaries + 2 }
     {
@@ -153,56 +191,101 @@ impl StepMap {
         write_range(&mut self.boundaries, range, begin, end, version);
     }
 
-    /// Makes the edge the one given.
+    /// Raises the edge to this one. Nothing else changes. It takes no memory.
     pub fn raise(&mut self, edge: i64)
-        requires { self.old.edge ≤ℤ edge }
+        requires late { self.old.edge ≤ℤ edge }
         ensures map { self.new ≡ record self.old { edge = edge } }
+        ensures newest { (version : ℤ)
+            → AreUpTo version self.old.boundaries → AreUpTo version self.new.boundaries }
         ensures covers { (ws : List Write) → MapCovers self.old ws → MapCovers self.new ws }
         ensures rooted { (ws : List Write) → Rooted self.old ws → Rooted self.new ws }
     {
         self.edge = edge;
     }
 
-    /// Looks at the next `count` boundaries, or at those that are left of the round, and takes away what tells nothing at or
-    /// above the edge. It takes no memory.
+    /// Looks at the next `count` boundaries of the round, or at all that are left, and removes those that tell nothing
+    /// at or above the edge. The boundary at the empty key is never looked at. It takes no memory.
     pub fn sweep(&mut self, count: usize) -> SweepEnd
         ensures map { self.new ≡ after_sweep count self.old }
         ensures round { (result ≡ SweepEnd.Round) ↔ (rest self.old ≤ count) }
-
         ensures same { SameFrom self.old.edge (value_at self.old.boundaries) (value_at self.new.boundaries) }
-        ensures newest { (version : ℤ) → AreUpTo version self.old.boundaries → AreUpTo version self.new.boundaries }
+        ensures newest { (version : ℤ)
+            → AreUpTo version self.old.boundaries → AreUpTo version self.new.boundaries }
         ensures covers { (ws : List Write) → MapCovers self.old ws → MapCovers self.new ws }
-
         ensures rooted { (ws : List Write) → Rooted self.old ws → Rooted self.new ws }
         ensures ends { result ≡ SweepEnd.Round → (ws : List Write) → Rooted self.old ws
             → Ends self.new.boundaries ws (round_edge self.old.edge self.old.round) }
+        ensures ends_stay { (ws : List Write) (edge : ℤ)
+            → Ends self.old.boundaries ws edge → Ends self.new.boundaries ws edge }
         ensures front { result ≡ SweepEnd.Round → self.new.round ≡ None }
         ensures fewer { result ≡ SweepEnd.Stopped → rest self.new + count ≡ rest self.old }
+        ensures count { length self.new.boundaries ≤ length self.old.boundaries }
     {
-        let from = place_left(&self.boundaries, &self.place);
+        let from = index_left(&self.boundaries, &self.cursor);
         let to = from + count.min(self.boundaries.len() - from);
         let began = self.round.unwrap_or(self.edge);
         let next = thin(&mut self.boundaries, from, to, self.edge);
-        self.place.clear();
+        self.cursor.clear();
         if next == self.boundaries.len() {
             self.round = None;
             return SweepEnd::Round;
         }
-        self.place
+        self.cursor
             .extend_from_slice(self.boundaries[next].key())
             .unwrap();
         self.round = Some(began);
         SweepEnd::Stopped
     }
-}
 
-// Room for the begins and ends of the ranges, in order, in place of what there is.
-fn make_rooms(rooms: &mut VecDeque<Room>, alloc: Global, ranges: &[Range]) -> Result<(), AllocError>
-    ensures { OnOk result (rooms.new.items ≡ map lengths ranges.now) }
-{
-    rooms.clear();
-    for range in ranges {
-        rooms.push_back(Room::new(alloc, range)?)?;
+    // Returns whether the boundaries, and two for each of so many ranges, are within the limit.
+    fn has_room_for(&self, ranges: usize) -> bool
+        ensures room { result ≡ nat_le (length self.now.boundaries + 2 * ranges) self.now.limit }
+        ensures steps { AreSteps self.now }
+    {
+        ranges <= (self.limit - self.boundaries.len()) / 2
     }
-    Ok(())
+
+    // Sweeps a whole round, unless there is room for so many ranges.
+    fn make_room(&mut self, ranges: usize)
+        ensures map { self.new ≡ made_room ranges self.old }
+        ensures steps { AreSteps self.old }
+    {
+        if !self.has_room_for(ranges) {
+            self.sweep_round();
+        }
+    }
+
+    // Sweeps a whole round from the front, wherever the cursor is; the next sweep begins at the front.
+    fn sweep_round(&mut self)
+        ensures map { self.new ≡ after_round self.old }
+    {
+        self.end_round();
+        let count = self.boundaries.len();
+        self.sweep(count);
+    }
+
+    // Ends the round under way, if there is one: the next sweep begins at the front.
+    fn end_round(&mut self)
+        ensures map { self.new ≡ at_front self.old }
+    {
+        self.round = None;
+        self.cursor.clear();
+    }
+
+    // Takes the memory that the writing of the ranges needs, in place of what was taken before.
+    fn reserve(&mut self, ranges: &[Range]) -> Result<(), AllocError>
+        requires room { HasRoomFor (length ranges.now) self.old }
+        ensures ok { OnOk result (self.new ≡ record self.old { ready = map lengths ranges.now }) }
+        ensures err { OnErr result (self.new ≡ record self.old { ready = [] }) }
+    {
+        let made = make_rooms(&mut self.rooms, self.alloc, ranges);
+        let reserved = match made {
+            Ok(()) => self.boundaries.reserve(2 * ranges.len()),
+            Err(refused) => Err(refused),
+        };
+        if reserved.is_err() {
+            self.rooms.clear();
+        }
+        reserved
+    }
 }

@@ -3,22 +3,22 @@ ghost use Rattle.std.specs.Prelude.{◌≡◌, ◌≤◌, ℤ, ◌≤ℤ◌, pos
 ghost use Rattle.keyspace.specs.Key.{IsBefore, IsAtMost};
 ghost use Rattle.stepmap.specs.Boundary.{AreUpTo};
 
-use crate::{StepError, StepMap, SweepEnd};
-use keyspace::{Key, Range};
+use crate::{MAX_LIMIT, StepError, StepMap, SweepEnd};
+use keyspace::{Key, MAX_KEY_LENGTH, Range};
 use std::alloc::Global;
 use std::process::Abort;
 use std::test::Fail;
 
 fn key(alloc: Global, bytes: &[u8]) -> Result<Key, StepError>
-    requires { length bytes.now ≤ 10001 }
-    ensures { IfOk result (λ key. key ≡ bytes.now) }
+    requires short { length bytes.now ≤ MAX_KEY_LENGTH }
+    ensures key { IfOk result (λ key. key ≡ bytes.now) }
 {
     Ok(Key::new(Vec::from_slice(alloc, bytes)?))
 }
 
 fn range(alloc: Global, begin: &[u8], end: &[u8]) -> Result<Range, StepError>
-    requires begin { length begin.now ≤ 10001 }
-    requires end { length end.now ≤ 10001 }
+    requires begin { length begin.now ≤ MAX_KEY_LENGTH }
+    requires end { length end.now ≤ MAX_KEY_LENGTH }
     requires ordered { IsAtMost begin.now end.now }
     ensures begin { IfOk result (λ range. range.begin ≡ begin.now) }
     ensures end { IfOk result (λ range. range.end ≡ end.now) }
@@ -28,7 +28,7 @@ fn range(alloc: Global, begin: &[u8], end: &[u8]) -> Result<Range, StepError>
     Ok(Range::new(begin, end))
 }
 
-// Prepares for one range and writes it. A refused `prepare` leaves the map as it was, and the next one succeeds.
+// Prepares for one range and writes it. Where memory is refused, the map is as before, and the next try succeeds.
 fn put(
     rt: &impl Abort,
     map: &mut StepMap,
@@ -50,7 +50,6 @@ fn put(
     map.write(&ranges[0], version);
     Ok(())
 }
-
 // [a,d) written at 100, then [b,c) at 200.
 fn two_writes(rt: &impl Abort, alloc: Global) -> Result<StepMap, StepError>
     ensures newest { IfOk result (λ map. (later : ℤ) → pos 200 ≤ℤ later → AreUpTo later map.boundaries) }
@@ -58,7 +57,7 @@ fn two_writes(rt: &impl Abort, alloc: Global) -> Result<StepMap, StepError>
 {
     let a_to_d = range(alloc, b"a", b"d")?;
     let b_to_c = range(alloc, b"b", b"c")?;
-    let mut map = StepMap::new(alloc)?;
+    let mut map = StepMap::new(alloc, MAX_LIMIT)?;
     put(
         rt,
         &mut map,
@@ -158,25 +157,63 @@ fn paced_sweep_after_write(rt: HostRuntime) -> Result<(), Fail> {
     Ok(())
 }
 
+// The greatest version in the range is this one, and no greater one.
+fn assert_greatest(rt: &impl Abort, map: &StepMap, range: Range, greatest: i64) {
+    assert_eq!(rt; map.greatest_in(&range), greatest);
+    assert!(rt; !map.exceeds(&range, greatest));
+    assert_eq!(rt;
+        map.exceeds(&range, greatest.saturating_sub(1)),
+        !range.is_empty()
+    );
+}
+
 #[test]
 fn greatest_versions(rt: HostRuntime) -> Result<(), Fail> {
     let alloc = rt.alloc();
     let map = two_writes(&rt, alloc)?;
-    assert_eq!(rt; map.greatest_in(&range(alloc, b"a", b"b")?), 100);
-    assert_eq!(rt; map.greatest_in(&range(alloc, b"a", b"bb")?), 200);
-    assert_eq!(rt; map.greatest_in(&range(alloc, b"bb", b"c")?), 200);
-    assert_eq!(rt; map.greatest_in(&range(alloc, b"c", b"z")?), 100);
-    assert_eq!(rt; map.greatest_in(&range(alloc, b"", b"a")?), -1);
-    assert_eq!(rt; map.greatest_in(&range(alloc, b"b", b"b")?), -1);
+    assert_greatest(&rt, &map, range(alloc, b"a", b"b")?, 100);
+    assert_greatest(&rt, &map, range(alloc, b"a", b"bb")?, 200);
+    assert_greatest(&rt, &map, range(alloc, b"bb", b"c")?, 200);
+    assert_greatest(&rt, &map, range(alloc, b"c", b"z")?, 100);
+    assert_greatest(&rt, &map, range(alloc, b"", b"a")?, -1);
+    assert_greatest(&rt, &map, range(alloc, b"b", b"b")?, -1);
     Ok(())
 }
 
-// Holds whichever allocation is refused: `new` succeeds at the next try, and `put` looks at the map after a refused `prepare`.
 #[test]
-fn refused_memory_changes_nothing(rt: HostRuntime) -> Result<(), Fail> {
+fn limit_three_step_map(rt: HostRuntime) -> Result<(), Fail> {
+    let alloc = rt.alloc();
+    let first = [range(alloc, b"a", b"b")?];
+    let second = [range(alloc, b"c", b"d")?];
+    let mut map = StepMap::new(alloc, 3)?;
+    map.prepare(&first)?;
+    map.write(&first[0], 100);
+    assert_eq!(rt; map.prepare(&second), Err(StepError::Full));
+    assert_eq!(rt; map.boundaries(), 3);
+    assert_eq!(rt; map.at(b"a"), 100);
+
+    map.raise(101);
+    map.prepare(&second)?;
+    assert_eq!(rt; map.boundaries(), 1);
+    Ok(())
+}
+
+#[test]
+fn refusals_print_their_numbers(rt: HostRuntime) -> Result<(), Fail> {
+    for (refusal, text) in [(StepError::Memory, "1 Memory"), (StepError::Full, "2 Full")] {
+        let printed = format!(in rt.alloc(); "{refusal}")?;
+        assert_eq!(rt; printed.as_str(), text);
+    }
+    Ok(())
+}
+
+// Its outcome is the same whichever one growth is refused: `new` succeeds at the next try, and `put` looks at the map
+// after a refused `prepare`.
+#[test]
+fn one_growth_refused(rt: HostRuntime) -> Result<(), Fail> {
     let map = match two_writes(&rt, rt.alloc()) {
         Ok(map) => map,
-        Err(StepError::Memory) => two_writes(&rt, rt.alloc())?,
+        Err(_refused) => two_writes(&rt, rt.alloc())?,
     };
     assert_eq!(rt; map.boundaries(), 5);
     assert_at(

@@ -5,15 +5,18 @@ ghost use Rattle.stepmap.specs.Sweeping.{thinned};
 use crate::boundary::Boundary;
 use crate::writing::remove_between;
 
-/// Looks at the boundaries from place `from` on before place `to`, and takes those away whose version, and that of the one
-/// before, is below the edge. It answers the place of the first that it hasn't looked at. Each boundary that stays is moved at most once.
+// Removes from `boundaries[from..to]` each boundary whose version and predecessor's version are below `edge`;
+// returns the index of the first one not looked at. Each boundary that stays is moved at most once.
 pub fn thin(boundaries: &mut Vec<Boundary>, from: usize, to: usize, edge: i64) -> usize
     requires filled { 0 < from }
     requires ordered { from ≤ to }
     requires within { to ≤ vec_len boundaries.old }
-    ensures items { boundaries.new.items ≡ take from boundaries.old.items ++ (thinned edge (last_version (negsuc 0) (take from boundaries.old.items)) (slice_range boundaries.old.items from to) ++ drop to boundaries.old.items) }
+    ensures items { boundaries.new.items ≡ take from boundaries.old.items
+        ++ (thinned edge (last_version (negsuc 0) (take from boundaries.old.items))
+        (slice_range boundaries.old.items from to)
+        ++ drop to boundaries.old.items) }
     ensures unseen { drop result boundaries.new.items ≡ drop to boundaries.old.items }
-    ensures place { result ≤ vec_len boundaries.new }
+    ensures next { result ≤ vec_len boundaries.new }
     ensures len { vec_len boundaries.new ≤ vec_len boundaries.old }
     ensures capacity { vec_capacity boundaries.new ≡ vec_capacity boundaries.old }
 {

@@ -1,14 +1,14 @@
-//! A range is written into a list of boundaries.
+//! Writes a range into a list of boundaries.
 ghost use Rattle.std.specs.Prelude.{◌≡◌, ◌+◌, ◌<◌, ◌≤◌, ◌++◌, take, drop, vec_len, vec_capacity};
 ghost use Rattle.keyspace.specs.Range.{IsEmpty};
 ghost use Rattle.stepmap.specs.Boundary.{AreInOrder};
 ghost use Rattle.stepmap.specs.Writing.{closed_at, written};
 
 use crate::boundary::Boundary;
-use crate::places::place_of;
+use crate::indexes::index_of;
 use keyspace::{Key, Range};
 
-/// Takes the boundaries from place `from` on before place `to` away.
+// Removes `boundaries[from..to]`.
 pub fn remove_between(boundaries: &mut Vec<Boundary>, from: usize, to: usize)
     requires ordered { from ≤ to }
     requires within { to ≤ vec_len boundaries.old }
@@ -19,11 +19,12 @@ pub fn remove_between(boundaries: &mut Vec<Boundary>, from: usize, to: usize)
     boundaries.drain(from..to);
 }
 
-/// Puts a boundary of this version at the key, where the boundaries from place `at` on begin after it.
+// Inserts a boundary of this key and version at index `at`, unless `boundaries[at]` is at the key or before it.
 pub fn close_at(boundaries: &mut Vec<Boundary>, at: usize, key: Key, version: i64)
     requires within { at ≤ vec_len boundaries.old }
     requires room { vec_len boundaries.old < vec_capacity boundaries.old }
-    ensures items { boundaries.new.items ≡ take at boundaries.old.items ++ closed_at key version (drop at boundaries.old.items) }
+    ensures items { boundaries.new.items
+        ≡ take at boundaries.old.items ++ closed_at key version (drop at boundaries.old.items) }
     ensures len { vec_len boundaries.new ≤ vec_len boundaries.old + 1 }
     ensures capacity { vec_capacity boundaries.old ≤ vec_capacity boundaries.new }
 {
@@ -33,7 +34,7 @@ pub fn close_at(boundaries: &mut Vec<Boundary>, at: usize, key: Key, version: i6
     boundaries.insert(at, Boundary::new(key, version)).unwrap();
 }
 
-/// Writes the version on the range. `begin` and `end` are its two keys, with bytes of their own. It takes no memory.
+// Writes the version on the range. `begin` and `end` are its two keys, with bytes of their own. It takes no memory.
 pub fn write_range(
     boundaries: &mut Vec<Boundary>,
     range: &Range,
@@ -49,8 +50,8 @@ pub fn write_range(
     ensures items { boundaries.new.items ≡ written range.now version boundaries.old.items }
     ensures capacity { vec_capacity boundaries.old ≤ vec_capacity boundaries.new }
 {
-    let from = place_of(boundaries, range.begin.as_bytes());
-    let to = place_of(boundaries, range.end.as_bytes());
+    let from = index_of(boundaries, range.begin.as_bytes());
+    let to = index_of(boundaries, range.end.as_bytes());
     let at_end = boundaries[to - 1].version();
     remove_between(boundaries, from, to);
     close_at(boundaries, from, end, at_end);

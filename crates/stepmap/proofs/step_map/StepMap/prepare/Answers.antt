@@ -1,27 +1,142 @@
-use Rattle.std.proofs.Common.{◌≡◌, [], map, subst, rules}
-use Rattle.stepmap.specs.StepMap.{Steps, AreSteps, lengths}
-use Rattle.stepmap.specs.Kept.{round_of}
-use Rattle.stepmap.proofs.Laws.{RaiseKeeps, ready_keeps}
+use Rattle.std.proofs.Common.{[], map, length, sym, ◌∙◌, ap, subst}
+use Rattle.stepmap.specs.StepMap.{Steps, lengths}
+use Rattle.stepmap.specs.Limit.{HasRoomFor, made_room}
+use Rattle.stepmap.specs.Kept.{steps_of}
+use Rattle.stepmap.proofs.Preparing.{RoomKeeps, prepare_keeps, no_room_if, full_bound}
 use Rattle.stepmap.proofs.step_map.StepMap.prepare.Goals as goal
-use Rattle.stepmap.proofs.step_map.StepMap.prepare.Goals.{After-from, In_default}
+use Rattle.stepmap.proofs.step_map.StepMap.prepare.Goals.{After-clear, After-from_residual, In_ok-reserve}
 
-refused : (c : After-from) → RaiseKeeps c.args.self.now (record { boundaries = c.match-made.self-inside.boundaries.items; edge = c.match-made.self-inside.edge; ready = c.clear.new.self.items; round = round_of c.match-made.self-inside.place.items c.match-made.self-inside.round })
-refused c =
+-- where there is no room
+full : (c : After-clear)
+    → RoomKeeps (length c.args.ranges.now) c.args.self.now
+    (steps_of c.self.inside.boundaries.items c.self.inside.edge c.clear.new.self.items
+    c.self.inside.cursor.items c.self.inside.round c.self.inside.limit)
+full c =
+    let i = c.self.inside in
+    prepare_keeps
+    (length c.args.ranges.now) c.clear.new.self.items c.args.self.now c.make_room.ensures.steps
+    c.make_room.new.self _ c.make_room.ensures.map
+    (ap (λ (m : Steps). record m { ready = c.clear.new.self.items }) c.self.view_is)
+
+pub returns-then-not-has_room_for-clause-same : goal.returns-then-not-has_room_for-clause-same
+returns-then-not-has_room_for-clause-same c =
+    (full (goal.at.returns-then-not-has_room_for-clause-same c).After-clear).same
+
+pub returns-then-not-has_room_for-clause-newest : goal.returns-then-not-has_room_for-clause-newest
+returns-then-not-has_room_for-clause-newest c =
+    (full (goal.at.returns-then-not-has_room_for-clause-newest c).After-clear).newest
+
+pub returns-then-not-has_room_for-clause-covers : goal.returns-then-not-has_room_for-clause-covers
+returns-then-not-has_room_for-clause-covers c =
+    (full (goal.at.returns-then-not-has_room_for-clause-covers c).After-clear).covers
+
+pub returns-then-not-has_room_for-clause-rooted : goal.returns-then-not-has_room_for-clause-rooted
+returns-then-not-has_room_for-clause-rooted c =
+    (full (goal.at.returns-then-not-has_room_for-clause-rooted c).After-clear).rooted
+
+pub returns-then-not-has_room_for-clause-edge : goal.returns-then-not-has_room_for-clause-edge
+returns-then-not-has_room_for-clause-edge c =
+    (full (goal.at.returns-then-not-has_room_for-clause-edge c).After-clear).edge
+
+pub returns-then-not-has_room_for-clause-limit : goal.returns-then-not-has_room_for-clause-limit
+returns-then-not-has_room_for-clause-limit c =
+    (full (goal.at.returns-then-not-has_room_for-clause-limit c).After-clear).limit
+
+pub returns-then-not-has_room_for-clause-untouched : goal.returns-then-not-has_room_for-clause-untouched
+returns-then-not-has_room_for-clause-untouched c =
+    (full (goal.at.returns-then-not-has_room_for-clause-untouched c).After-clear).untouched
+
+pub returns-then-not-has_room_for-clause-front : goal.returns-then-not-has_room_for-clause-front
+returns-then-not-has_room_for-clause-front c =
+    (full (goal.at.returns-then-not-has_room_for-clause-front c).After-clear).front
+
+pub returns-then-not-has_room_for-clause-ends : goal.returns-then-not-has_room_for-clause-ends
+returns-then-not-has_room_for-clause-ends c =
+    (full (goal.at.returns-then-not-has_room_for-clause-ends c).After-clear).ends
+
+pub returns-then-not-has_room_for-clause-bound : goal.returns-then-not-has_room_for-clause-bound
+returns-then-not-has_room_for-clause-bound c =
     let old = c.args.self.now in
-    let new : Steps = record { boundaries = c.match-made.self-inside.boundaries.items; edge = c.match-made.self-inside.edge; ready = c.clear.new.self.items; round = round_of c.match-made.self-inside.place.items c.match-made.self-inside.round } in
-    let is : new ≡ record old { ready = [] } = search rules in
-    ready_keeps [] old (subst AreSteps c.self.view_is c.self.invariant.steps) new is
+    let n = length c.args.ranges.now in
+    let test = sym c.has_room_for.ensures.room ∙ c.if-not-has_room_for.true in
+    let none : ¬ HasRoomFor n (made_room n old) =
+    subst (λ (m : Steps). ¬ HasRoomFor n m) c.make_room.ensures.map
+    (no_room_if n c.make_room.new.self test) in
+    λ _ ws r. full_bound n old c.make_room.ensures.steps none ws r
 
-pub returns-in-Err-reserved-clause-covers : goal.returns-in-Err-reserved-clause-covers
-returns-in-Err-reserved-clause-covers c = (refused (goal.at.returns-in-Err-reserved-clause-covers c).After-from).covers
+-- where memory was refused
+refused : (c : After-from_residual) → RoomKeeps (length c.args.ranges.now) c.args.self.now c.reserve.new.self
+refused c =
+    prepare_keeps
+    (length c.args.ranges.now) [] c.args.self.now c.make_room.ensures.steps c.make_room.new.self
+    c.reserve.new.self c.make_room.ensures.map c.in_err-reserve.ensures.err
 
-pub returns-in-Err-reserved-clause-rooted : goal.returns-in-Err-reserved-clause-rooted
-returns-in-Err-reserved-clause-rooted c = (refused (goal.at.returns-in-Err-reserved-clause-rooted c).After-from).rooted
+pub returns-in_err-reserve-clause-same : goal.returns-in_err-reserve-clause-same
+returns-in_err-reserve-clause-same c =
+    (refused (goal.at.returns-in_err-reserve-clause-same c).After-from_residual).same
+
+pub returns-in_err-reserve-clause-newest : goal.returns-in_err-reserve-clause-newest
+returns-in_err-reserve-clause-newest c =
+    (refused (goal.at.returns-in_err-reserve-clause-newest c).After-from_residual).newest
+
+pub returns-in_err-reserve-clause-covers : goal.returns-in_err-reserve-clause-covers
+returns-in_err-reserve-clause-covers c =
+    (refused (goal.at.returns-in_err-reserve-clause-covers c).After-from_residual).covers
+
+pub returns-in_err-reserve-clause-rooted : goal.returns-in_err-reserve-clause-rooted
+returns-in_err-reserve-clause-rooted c =
+    (refused (goal.at.returns-in_err-reserve-clause-rooted c).After-from_residual).rooted
+
+pub returns-in_err-reserve-clause-edge : goal.returns-in_err-reserve-clause-edge
+returns-in_err-reserve-clause-edge c =
+    (refused (goal.at.returns-in_err-reserve-clause-edge c).After-from_residual).edge
+
+pub returns-in_err-reserve-clause-limit : goal.returns-in_err-reserve-clause-limit
+returns-in_err-reserve-clause-limit c =
+    (refused (goal.at.returns-in_err-reserve-clause-limit c).After-from_residual).limit
+
+pub returns-in_err-reserve-clause-untouched : goal.returns-in_err-reserve-clause-untouched
+returns-in_err-reserve-clause-untouched c =
+    (refused (goal.at.returns-in_err-reserve-clause-untouched c).After-from_residual).untouched
+
+pub returns-in_err-reserve-clause-front : goal.returns-in_err-reserve-clause-front
+returns-in_err-reserve-clause-front c =
+    (refused (goal.at.returns-in_err-reserve-clause-front c).After-from_residual).front
+
+pub returns-in_err-reserve-clause-ends : goal.returns-in_err-reserve-clause-ends
+returns-in_err-reserve-clause-ends c =
+    (refused (goal.at.returns-in_err-reserve-clause-ends c).After-from_residual).ends
+
+-- where all is ready
+ready : (c : In_ok-reserve) → RoomKeeps (length c.args.ranges.now) c.args.self.now c.reserve.new.self
+ready c =
+    prepare_keeps (length c.args.ranges.now)
+    (map lengths c.args.ranges.now) c.args.self.now c.make_room.ensures.steps c.make_room.new.self
+    c.reserve.new.self c.make_room.ensures.map c.in_ok-reserve.ensures.ok
+
+pub returns-clause-same : goal.returns-clause-same
+returns-clause-same c = (ready (goal.at.returns-clause-same c).In_ok-reserve).same
+
+pub returns-clause-newest : goal.returns-clause-newest
+returns-clause-newest c = (ready (goal.at.returns-clause-newest c).In_ok-reserve).newest
+
+pub returns-clause-covers : goal.returns-clause-covers
+returns-clause-covers c = (ready (goal.at.returns-clause-covers c).In_ok-reserve).covers
 
 pub returns-clause-rooted : goal.returns-clause-rooted
-returns-clause-rooted c =
-    let old = c.args.self.now in
-    let inside = c.match-made.self-inside in
-    let new : Steps = record { boundaries = inside.boundaries.items; edge = inside.edge; ready = inside.rooms.items; round = round_of inside.place.items inside.round } in
-    let is : new ≡ record old { ready = map lengths c.args.ranges.now } = search rules in
-    (ready_keeps (map lengths c.args.ranges.now) old (subst AreSteps c.self.view_is c.self.invariant.steps) new is).rooted
+returns-clause-rooted c = (ready (goal.at.returns-clause-rooted c).In_ok-reserve).rooted
+
+pub returns-clause-edge : goal.returns-clause-edge
+returns-clause-edge c = (ready (goal.at.returns-clause-edge c).In_ok-reserve).edge
+
+pub returns-clause-limit : goal.returns-clause-limit
+returns-clause-limit c = (ready (goal.at.returns-clause-limit c).In_ok-reserve).limit
+
+pub returns-clause-untouched : goal.returns-clause-untouched
+returns-clause-untouched c = (ready (goal.at.returns-clause-untouched c).In_ok-reserve).untouched
+
+pub returns-clause-front : goal.returns-clause-front
+returns-clause-front c = (ready (goal.at.returns-clause-front c).In_ok-reserve).front
+
+pub returns-clause-ends : goal.returns-clause-ends
+returns-clause-ends c = (ready (goal.at.returns-clause-ends c).In_ok-reserve).ends

@@ -8,8 +8,8 @@ use Rattle.stepmap.specs.Boundary.{Boundary}
 use Rattle.stepmap.proofs.Order.{rising_in_order}
 use Rattle.stepmap.proofs.Parting.{partitioned}
 use Rattle.stepmap.proofs.Looking.{not_not}
-use Rattle.stepmap.proofs.PlacesFound.{place_between, up_to_falls, up_to_empty}
-use Rattle.stepmap.proofs.places.place_after.Goals as goal
+use Rattle.stepmap.proofs.IndexFound.{index_between, up_to_falls, up_to_empty}
+use Rattle.stepmap.proofs.indexes.index_after.Goals as goal
 
 pub returns : goal.returns
 returns c =
@@ -18,6 +18,18 @@ returns c =
     let p = λ (b : Boundary). not (is_before key b.key) in
     let q = λ (b : Boundary). is_before key b.key in
     let other = λ (b : Boundary). not_not (is_before key b.key) in
-    let point = IsPartitionPoint-from_clause p bs _ c.partition_point.ensures.partitioned (partitioned p q other (up_to_falls key) bs (rising_in_order bs c.requires)) (λ a r q k. let said : r ≡ is_le (slice_cmp nat_cmp a.0.now.key key) = search rules in (said ∙ is_le-cmp a.0.now.key key, search rules)) in
-    let place = place_between p q other (up_to_falls key) (up_to_empty key) bs _ c.requires c.partition_point.ensures.bound point in
-    record { bound = c.partition_point.ensures.bound; filled = place.filled; before = place.before; rest = place.rest }
+    let point =
+    IsPartitionPoint-from_clause p bs _ c.partition_point.ensures.partitioned
+    (partitioned p q other (up_to_falls key) bs (rising_in_order bs c.requires.in_order))
+    (λ a r q k. let said : r ≡ is_le (slice_cmp nat_cmp a.0.now.key key) = search rules in
+    (said ∙ is_le-cmp a.0.now.key key, search rules)) in
+    let found =
+    index_between p q other (up_to_falls key)
+    (up_to_empty key) bs _ c.requires.in_order c.partition_point.ensures.bound point in
+    record {
+      bound = c.partition_point.ensures.bound;
+      filled = found.filled;
+      before = found.before;
+      rest =
+          found.rest;
+    }

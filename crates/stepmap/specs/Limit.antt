@@ -1,0 +1,27 @@
+-- How a step map stays within its limit. This project's own.
+use Rattle.std.specs.Prelude.{ℕ, ℤ, ◌+◌, ◌*◌, ◌≤◌, nat_le, if◌then◌else◌, List, [], ◌∷◌, length, map, None}
+use Rattle.keyspace.specs.declared.range.Range.{Range}
+use Rattle.stepmap.specs.Boundary.{Boundary}
+use Rattle.stepmap.specs.StepMap.{Steps, lengths}
+use Rattle.stepmap.specs.Sweeping.{thinned}
+
+-- so many ranges can be written: the boundaries, and two for each range, are within the limit
+abbrev pub HasRoomFor : ℕ → Steps → Type 0
+HasRoomFor ranges m = length m.boundaries + 2 * ranges ≤ m.limit
+
+-- what a sweep leaves that looks at every boundary but the empty key
+abbrev pub thinned_all : ℤ → List Boundary → List Boundary
+thinned_all edge [] = []
+thinned_all edge (b ∷ bs) = b ∷ thinned edge b.version bs
+
+-- the step map after a whole round of the sweep, from the front
+abbrev pub after_round : Steps → Steps
+after_round m = record m { boundaries = thinned_all m.edge m.boundaries; round = None }
+
+-- the step map after room was made for so many ranges: by a whole round, unless there is room for them already
+abbrev pub made_room : ℕ → Steps → Steps
+made_room ranges m = if nat_le (length m.boundaries + 2 * ranges) m.limit then m else after_round m
+
+-- the step map after that, with these ranges ready to be written
+abbrev pub prepared : List Range → Steps → Steps
+prepared ranges m = record (made_room (length ranges) m) { ready = map lengths ranges }
