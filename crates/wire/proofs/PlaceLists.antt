@@ -121,7 +121,8 @@ unfolding places_at
 ends e least front count i bytes total lt refused so_far =
     let k : count - i ≡ suc (count - (i + 1)) = omega arith in (
       refused.0,
-      λ not_memory. let h = refused.1 not_memory in
+      refused.1,
+      λ not_memory. let h = refused.2 not_memory in
           let step : with_front front (places_at least (count - i) bytes) ≡ Err e = rw (k, h) refl in
           sym so_far ∙ step,
     )

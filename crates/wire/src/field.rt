@@ -90,14 +90,16 @@ pub fn room_for(count: u16, least: usize, bytes: &[u8]) -> usize
     (count as usize).min(bytes.len() / least)
 }
 
-/// Reads a key. Its bytes are copied here and nowhere else.
+/// Reads a key of at most `limit` bytes. Its bytes are copied here and nowhere else.
 #[tactic(auto, unfolding(crate::specs::Reading::key_at))]
-pub fn key_of(alloc: Global, bytes: &[u8]) -> Result<(Key, &[u8]), WireError>
-    ensures reads { Gives (λ x. (x.0, x.1.now)) result (key_at bytes.now) }
+pub fn key_of(alloc: Global, limit: usize, bytes: &[u8]) -> Result<(Key, &[u8]), WireError>
+    requires limit { limit ≤ MAX_KEY_LENGTH }
+    ensures reads { Gives (λ x. (x.0, x.1.now)) result (key_at limit bytes.now) }
+    ensures short { IfOk result (λ x. length x.0 ≤ limit) }
 {
     let (length, rest) = u16_at(bytes)?;
     let length = length as usize;
-    if length > MAX_KEY_LENGTH {
+    if length > limit {
         return Err(WireError::KeyLength);
     }
     if rest.len() < length {

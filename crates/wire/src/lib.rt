@@ -20,16 +20,23 @@ mod length;
 mod put;
 mod range;
 mod reply;
+mod single;
+mod sink;
 mod source;
 mod txn;
+mod upgrading;
+mod version;
 
 pub use batch::decode_batch;
-pub use encode::{encode_batch, encode_reply};
+pub use encode::{encode_batch, encode_batch_1, encode_reply};
 pub use error::WireError;
 pub use field::MAX_BODY_LENGTH;
 pub use frames::{Frames, read_frames};
 pub use reply::decode_reply;
+pub use sink::{Sink, StdSink, write_all};
 pub use source::{Failed, Source, StdSource};
+pub use upgrading::upgrade;
+pub use version::WireVersion;
 
 #[cfg(test)]
 mod tests;

@@ -135,6 +135,7 @@ pub fn decode_reply(alloc: Global, bytes: &[u8]) -> Result<(Reply, usize), WireE
     ensures ok { OnOk result (reply_fault bytes.now ≡ None) }
     ensures fault { IfErr result (λ e. e ≢ WireError.Memory → reply_fault bytes.now ≡ Some e) }
     ensures never_read { IfErr result (λ e. e ≢ WireError.Read) }
+    ensures never_write { IfErr result (λ e. e ≢ WireError.Write) }
 {
     read_frame(alloc, bytes)
 }

@@ -6,7 +6,7 @@ ghost use Rattle.wire.specs.Source.{source_reader, source_failures, source_remai
 
 use std::io::{ErrorKind, Read};
 
-/// A reader failed.
+/// A reader or a writer failed.
 #[derive(Clone, Copy, Debug, PartialEq, Eq)]
 pub struct Failed;
 
@@ -28,8 +28,8 @@ pub trait Source {
         ensures failed { OnErr result (failures self.new ≡ failures self.old + 1) };
 }
 
-// The most times that one read is tried again after an interruption.
-const MAX_RETRIES: u32 = 1_000;
+/// The most times that one read or write is tried again after an interruption.
+pub const MAX_RETRIES: u32 = 1_000;
 
 /// A [`Source`] over any reader of `std`. After an interruption it tries again, at most 1,000 times in one call. Its
 /// count of failures stops at `u64::MAX`: from then on it tells no bytes and gives none.

@@ -22,6 +22,7 @@ returns-clause-text c =
       c.in_ok-put_i64-2.ensures.text,
       c.in_ok-put_i64.ensures.text,
       c.in_ok-push.ensures.items,
+      c.kind_of.ensures.exact,
       to_z-of_z w64 c.args.batch.now.previous fits_previous,
       to_z-of_z w64 c.args.batch.now.version fits_version,
       to_z-of_z w64 c.args.batch.now.received fits_received,
