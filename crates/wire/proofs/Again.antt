@@ -21,10 +21,12 @@ use Rattle.wire.proofs.Loop.{Reading}
 use Rattle.wire.proofs.Singles.{single_is}
 use Rattle.wire.proofs.Parts.{rest_text, versioned_body, VersionedHolds}
 
-pub number_again : (n x : ℕ) (rest : List ℕ) → x < 256 ^ n → number_at n (big_bytes n x ++ rest) ≡ Ok (x, rest)
+pub number_again : (n x : ℕ) (rest : List ℕ) → x < 256 ^ n
+    → number_at n (big_bytes n x ++ rest) ≡ Ok (x, rest)
 number_again n x rest small =
     let len : length (big_bytes n x) ≡ n = length-bytes_high_first n x in
-    let long : ltb (length (big_bytes n x ++ rest)) n ≡ false = le-ltb _ _ (omega (arith, length-append (big_bytes n x) rest)) in
+    let long : ltb (length (big_bytes n x ++ rest)) n ≡ false =
+    le-ltb _ _ (omega (arith, length-append (big_bytes n x) rest)) in
     rw (long, big_number-reads_back n x rest small, drop_at (big_bytes n x) rest n len) refl
 
 signed_again : (z : ℤ) (rest : List ℕ) → FitsSigned w64 z → signed_at (signed_text z ++ rest) ≡ Ok (z, rest)
@@ -33,11 +35,13 @@ signed_again z rest fits =
     let small : cast_unsigned w64 z < 256 ^ 8 = bits.fits in
     rw (number_again 8 (cast_unsigned w64 z) rest small, to_z-of_z w64 z fits) refl
 
-pub version_again : (holds : ℤ → Bool) (z : ℤ) (rest : List ℕ) → FitsSigned w64 z → holds z ≡ true → version_at holds (signed_text z ++ rest) ≡ Ok (z, rest)
+pub version_again : (holds : ℤ → Bool) (z : ℤ) (rest : List ℕ) → FitsSigned w64 z → holds z ≡ true
+    → version_at holds (signed_text z ++ rest) ≡ Ok (z, rest)
 unfolding version_at
 version_again holds z rest fits test = rw (signed_again z rest fits, test) refl
 
-pub count_again : (limit n : ℕ) (rest : List ℕ) → n ≤ limit → limit < 256 ^ 2 → count_at limit (big_bytes 2 n ++ rest) ≡ Ok (n, rest)
+pub count_again : (limit n : ℕ) (rest : List ℕ) → n ≤ limit → limit < 256 ^ 2
+    → count_at limit (big_bytes 2 n ++ rest) ≡ Ok (n, rest)
 unfolding count_at
 count_again limit n rest few low =
     let test : leb n limit ≡ true = le-leb n limit few in
@@ -59,9 +63,16 @@ key_again limit key rest short most =
     let n = length key in
     let low : ltb limit n ≡ false = le-ltb _ _ short in
     let there : ltb (length (key ++ rest)) n ≡ false = le-ltb _ _ (omega (arith, length-append key rest)) in
-    let regrouped : key_text key ++ rest ≡ big_bytes 2 n ++ (key ++ rest) = append_assoc (big_bytes 2 n) key rest in
+    let regrouped : key_text key ++ rest ≡ big_bytes 2 n ++ (key ++ rest) =
+    append_assoc (big_bytes 2 n) key rest in
     ap (key_at limit) regrouped
-    ∙ rw (number_again 2 n (key ++ rest) (omega arith), low, there, take_at key rest n refl, drop_at key rest n refl) refl
+    ∙ rw (
+      number_again 2 n (key ++ rest) (omega arith),
+      low,
+      there,
+      take_at key rest n refl,
+      drop_at key rest n refl,
+    ) refl
 
 abbrev read_as : RangeFields → List ℕ → Reading RangeFields
 read_as range rest = Ok (range, rest)
@@ -74,7 +85,8 @@ not_false : (b : Bool) → not b ≡ true → b ≡ false
 not_false true h = cc
 not_false false h = refl
 
-ends_again : (range : RangeFields) (rest : List ℕ) → RangeHolds range → ends_at (ends_text range ++ rest) ≡ Ok (range, rest)
+ends_again : (range : RangeFields) (rest : List ℕ) → RangeHolds range
+    → ends_at (ends_text range ++ rest) ≡ Ok (range, rest)
 unfolding ends_at
 ends_again range rest holds =
     let regrouped : ends_text range ++ rest ≡ key_text range.begin ++ (key_text range.end ++ rest) =
@@ -88,12 +100,14 @@ ends_again range rest holds =
     ) refl
 
 -- a form, and the text that stands behind it
-form_again : (form : ℕ) (text rest : List ℕ) → form < 256 → formed_at ((form ∷ text) ++ rest) ≡ form_at form (text ++ rest)
+form_again : (form : ℕ) (text rest : List ℕ) → form < 256
+    → formed_at ((form ∷ text) ++ rest) ≡ form_at form (text ++ rest)
 unfolding formed_at
 form_again form text rest small =
     let byte : big_bytes 1 form ≡ form ∷ [] = ap (λ (x : ℕ). x ∷ []) (omega arith) in
     let read : number_at 1 (form ∷ (text ++ rest)) ≡ Ok (form, text ++ rest) =
-    ap (λ (x : List ℕ). number_at 1 (x ++ (text ++ rest))) (sym byte) ∙ number_again 1 form (text ++ rest) small in
+    ap (λ (x : List ℕ). number_at 1 (x ++ (text ++ rest))) (sym byte)
+    ∙ number_again 1 form (text ++ rest) small in
     rw read refl
 
 single_again : (range : RangeFields) (rest : List ℕ) → RangeHolds range → is_single_key range ≡ true
@@ -133,13 +147,21 @@ range_again Two range rest holds = formed_again range rest holds
 abbrev pub ReadsAgain : {A : Type 0} → (List ℕ → Reading A) → (A → List ℕ) → (A → Type 0) → Type 0
 ReadsAgain {A} one text Holds = (a : A) (rest : List ℕ) → Holds a → one (text a ++ rest) ≡ Ok (a, rest)
 
-pub many_again : {A : Type 0} (one : List ℕ → Reading A) (text : A → List ℕ) (Holds : A → Type 0) → ReadsAgain one text Holds
-    → (all : List A) (rest : List ℕ) → AllByRecursion Holds all → many_at one (length all) (flat_map text all ++ rest) ≡ Ok (all, rest)
+pub many_again : {A : Type 0} (one : List ℕ → Reading A) (text : A → List ℕ) (Holds : A → Type 0)
+    → ReadsAgain one text Holds
+    → (all : List A) (rest : List ℕ) → AllByRecursion Holds all
+    → many_at one (length all) (flat_map text all ++ rest) ≡ Ok (all, rest)
 unfolding many_at
 many_again one text Holds each [] rest holds = refl
 many_again {A} one text Holds each (a ∷ all) rest holds =
-    let regrouped : flat_map text (a ∷ all) ++ rest ≡ text a ++ (flat_map text all ++ rest) = ap (λ (x : List ℕ). x ++ rest) (flat_map-cons text a all) ∙ append_assoc (text a) (flat_map text all) rest in
-    ap (many_at one (suc (length all))) regrouped ∙ rw (each a (flat_map text all ++ rest) holds.0, many_again one text Holds each all rest holds.1) refl
+    let regrouped : flat_map text (a ∷ all) ++ rest ≡ text a ++ (flat_map text all ++ rest) =
+    ap (λ (x : List ℕ). x ++ rest) (flat_map-cons text a all)
+    ∙ append_assoc (text a) (flat_map text all) rest in
+    ap (many_at one (suc (length all))) regrouped
+    ∙ rw (
+      each a (flat_map text all ++ rest) holds.0,
+      many_again one text Holds each all rest holds.1,
+    ) refl
 
 pub at_least : (a b : ℤ) → a ≤ℤ b → int_le a b ≡ true
 at_least a b h = grind (arith, ints)
@@ -167,7 +189,8 @@ txn_again version txn rest holds =
     let regrouped : txn_text version txn ++ rest ≡ snapshot ++ after_snapshot = simp append_assoc in
     ap (txn_at version) regrouped
     ∙ rw (
-      version_again (λ v. int_le (pos 0) v) txn.snapshot after_snapshot holds.snapshot_fits (at_least _ _ holds.snapshot),
+      version_again (λ v. int_le (pos 0) v) txn.snapshot after_snapshot holds.snapshot_fits
+          (at_least _ _ holds.snapshot),
       marks_again txn.marked after_marks,
       count_again 1024 (length txn.reads) after_read_count holds.few_reads (omega arith),
       count_again 1024 (length txn.writes) after_write_count holds.few_writes (omega arith),
@@ -195,7 +218,8 @@ header_again batch rest holds =
           holds.received_fits (and_both _ _ (at_least _ _ holds.received) (under _ _ holds.received_before)),
     ) refl
 
-kind_found : (version : WireVersion) (rest : List ℕ) → batch_kind_at ((batch_kind version ∷ []) ++ rest) ≡ Ok (version, rest)
+kind_found : (version : WireVersion) (rest : List ℕ)
+    → batch_kind_at ((batch_kind version ∷ []) ++ rest) ≡ Ok (version, rest)
 unfolding batch_kind_at
 kind_found One rest = rw (number_again 1 1 rest (omega arith)) refl
 kind_found Two rest = rw (number_again 1 3 rest (omega arith)) refl
@@ -208,7 +232,8 @@ fields_again version batch rest holds =
     let count = big_bytes 2 (length batch.txns) in
     let txns = flat_map (txn_text version) batch.txns in
     let regrouped : rest_text version batch ++ rest ≡ header ++ (count ++ (txns ++ rest)) =
-    append_assoc header (count ++ txns) rest ∙ ap (λ (x : List ℕ). header ++ x) (append_assoc count txns rest) in
+    append_assoc header (count ++ txns) rest ∙ ap (λ (x : List ℕ). header ++ x)
+    (append_assoc count txns rest) in
     ap (fields_at version) regrouped
     ∙ rw (
       header_again batch (count ++ (txns ++ rest)) holds,
@@ -228,24 +253,30 @@ unfolding body_at
 body_again body rest short =
     let n = length body in
     let small : n < 256 ^ 4 = omega arith in
-    let regrouped : frame body ++ rest ≡ big_bytes 4 n ++ (body ++ rest) = append_assoc (big_bytes 4 n) body rest in
-    let number : big_number 4 (big_bytes 4 n ++ (body ++ rest)) ≡ n = big_number-reads_back 4 n (body ++ rest) small in
-    let len : length (big_bytes 4 n ++ (body ++ rest)) ≡ 4 + (n + length rest) = length-append (big_bytes 4 n) (body ++ rest) ∙ ap (λ (l : ℕ). 4 + l) (length-append body rest) in
+    let regrouped : frame body ++ rest ≡ big_bytes 4 n ++ (body ++ rest) =
+    append_assoc (big_bytes 4 n) body rest in
+    let number : big_number 4 (big_bytes 4 n ++ (body ++ rest)) ≡ n =
+    big_number-reads_back 4 n (body ++ rest) small in
+    let len : length (big_bytes 4 n ++ (body ++ rest)) ≡ 4 + (n + length rest) =
+    length-append (big_bytes 4 n) (body ++ rest) ∙ ap (λ (l : ℕ). 4 + l) (length-append body rest) in
     let there : ltb (length (big_bytes 4 n ++ (body ++ rest))) 4 ≡ false = le-ltb _ _ (omega arith) in
     let low : ltb 4194304 n ≡ false = le-ltb _ _ short in
     let whole : ltb (length (big_bytes 4 n ++ (body ++ rest))) (4 + n) ≡ false = le-ltb _ _ (omega arith) in
-    let after : drop 4 (big_bytes 4 n ++ (body ++ rest)) ≡ body ++ rest = drop_at (big_bytes 4 n) (body ++ rest) 4 refl in
+    let after : drop 4 (big_bytes 4 n ++ (body ++ rest)) ≡ body ++ rest =
+    drop_at (big_bytes 4 n) (body ++ rest) 4 refl in
     ap body_at regrouped ∙ rw (there, number, low, whole, after, take_at body rest n refl) refl
 
 -- a body that is the text of a value is read as that value
-pub all_again : {A : Type 0} (one : List ℕ → Reading A) (text : A → List ℕ) (Holds : A → Type 0) → ReadsAgain one text Holds
+pub all_again : {A : Type 0} (one : List ℕ → Reading A) (text : A → List ℕ) (Holds : A → Type 0)
+    → ReadsAgain one text Holds
     → (a : A) → Holds a → all_of (one (text a)) ≡ Ok a
 all_again {A} one text Holds each a holds =
     let read : one (text a) ≡ Ok (a, []) = ap one (sym (append-nil (text a))) ∙ each a [] holds in
     rw read refl
 
 pub batch_frame_again : (version : WireVersion) (batch : BatchFields) (rest : List ℕ) → BatchHolds batch
-    → IsShort (batch_body version batch) → read_batch (frame (batch_body version batch) ++ rest) ≡ Ok (version, batch)
+    → IsShort (batch_body version batch) → read_batch (frame (batch_body version batch) ++ rest) ≡ Ok
+    (version, batch)
 unfolding read_batch
 batch_frame_again version batch rest holds short =
     rw (

@@ -21,41 +21,58 @@ use Rattle.wire.specs.declared.version.WireVersion.TheVariants.{One, Two}
 use Rattle.wire.specs.Fields.{RangeFields, EntryFields, range_fields, txn_fields, entry_fields, batch_fields, reply_fields}
 use Rattle.wire.specs.Spelling.{key_text, ends_text, is_single_key, formed_text, range_text, txn_text, batch_body, entry_text, verdict_text, places_text, reply_body, signed_text, marks_text, header_text, IsShort}
 
-places_few : (i : ℕ) (test : Range → Bool) (ranges : List Range) → length (places_from i test ranges) ≤ length ranges
+places_few : (i : ℕ) (test : Range → Bool) (ranges : List Range)
+    → length (places_from i test ranges) ≤ length ranges
 places_few i test [] = omega arith
 places_few i test (r ∷ rs) =
     let more = places_few (i + 1) test rs in
-    elim (test r) as (λ b. length (cond b (i ∷ places_from (i + 1) test rs) (places_from (i + 1) test rs)) ≤ length (r ∷ rs)) [ true ↦ omega (arith, more) | false ↦ omega (arith, more) ]
+    elim (test r) as (λ b. length (cond b (i ∷ places_from (i + 1) test rs) (places_from (i + 1) test rs))
+    ≤ length (r ∷ rs)) [ true ↦ omega (arith, more) | false ↦ omega (arith, more) ]
 
 take_one_few : (xs : List ℕ) → length (take 1 xs) ≤ length xs
 take_one_few [] = omega arith
 take_one_few (x ∷ xs) = omega arith
 
-hits_or_first_few : (hits met : List ℕ) (n : ℕ) → length hits ≤ n → length met ≤ n → length (hits_or_first hits met) ≤ n
+hits_or_first_few : (hits met : List ℕ) (n : ℕ) → length hits ≤ n → length met ≤ n
+    → length (hits_or_first hits met) ≤ n
 hits_or_first_few [] met n h m = omega (arith, take_one_few met)
 hits_or_first_few (x ∷ xs) met n h m = h
 
 -- no more places than read ranges
-report_few : (ws : List Write) (earlier : List Range) (t : Txn) → length (report ws earlier t) ≤ length t.reads
+report_few : (ws : List Write) (earlier : List Range) (t : Txn)
+    → length (report ws earlier t) ≤ length t.reads
 report_few ws earlier t =
-    elim t.marked as (λ b. length (cond b (hits_or_first (places_from 0 (is_hit ws t) t.reads) (places_from 0 (meets_earlier earlier) t.reads)) []) ≤ length t.reads) [
-      | true ↦ hits_or_first_few (places_from 0 (is_hit ws t) t.reads) (places_from 0 (meets_earlier earlier) t.reads) (length t.reads) (places_few 0 (is_hit ws t) t.reads) (places_few 0 (meets_earlier earlier) t.reads)
+    elim t.marked as (λ b. length (cond b (hits_or_first (places_from 0 (is_hit ws t) t.reads)
+    (places_from 0 (meets_earlier earlier) t.reads)) []) ≤ length t.reads) [
+      | true ↦ hits_or_first_few (places_from 0 (is_hit ws t) t.reads)
+          (places_from 0 (meets_earlier earlier) t.reads) (length t.reads)
+          (places_few 0 (is_hit ws t) t.reads) (places_few 0 (meets_earlier earlier) t.reads)
       | false ↦ omega arith
     ]
 
-entry_few : (edge : ℤ) (ws : List Write) (earlier : List Range) (t : Txn) → length (judge_txn edge ws earlier t).places ≤ length t.reads
+entry_few : (edge : ℤ) (ws : List Write) (earlier : List Range) (t : Txn)
+    → length (judge_txn edge ws earlier t).places ≤ length t.reads
 entry_few edge ws earlier t =
-    elim (is_too_old edge t) as (λ old. let e : Entry = cond old (without_places TooOld) (cond (is_in_conflict ws earlier t) (in_conflict_at (report ws earlier t)) (without_places Committed)) in length e.places ≤ length t.reads) [
+    elim (is_too_old edge t) as (λ old. let e : Entry = cond old (without_places TooOld)
+    (cond (is_in_conflict ws earlier t) (in_conflict_at (report ws earlier t))
+    (without_places Committed)) in length e.places ≤ length t.reads) [
       | true ↦ omega arith
-      | false ↦ elim (is_in_conflict ws earlier t) as (λ met. let e : Entry = cond met (in_conflict_at (report ws earlier t)) (without_places Committed) in length e.places ≤ length t.reads) [
-        | true ↦ report_few ws earlier t
-        | false ↦ omega arith
-      ]
+      | false ↦ elim (is_in_conflict ws earlier t) as
+          (λ met. let e : Entry = cond met (in_conflict_at (report ws earlier t))
+          (without_places Committed) in length e.places ≤ length t.reads) [
+            | true ↦ report_few ws earlier t
+            | false ↦ omega arith
+          ]
     ]
 
 places_length : (places : List ℕ) → length (places_text places) ≡ 2 * length places
 places_length [] = refl
-places_length (p ∷ ps) = omega (arith, length-append (big_bytes 2 p) (places_text ps), length-bytes_high_first 2 p, places_length ps)
+places_length (p ∷ ps) = omega (
+  arith,
+  length-append (big_bytes 2 p) (places_text ps),
+  length-bytes_high_first 2 p,
+  places_length ps,
+)
 
 verdict_length : (v : Verdict) → length (verdict_text v) ≡ 1
 verdict_length Conflict = refl
@@ -76,7 +93,11 @@ entry_length e =
     )
 
 key_least : (key : List ℕ) → 2 ≤ length (key_text key)
-key_least key = omega (arith, length-append (big_bytes 2 (length key)) key, length-bytes_high_first 2 (length key))
+key_least key = omega (
+  arith,
+  length-append (big_bytes 2 (length key)) key,
+  length-bytes_high_first 2 (length key),
+)
 
 ends_least : (range : RangeFields) → 4 ≤ length (ends_text range)
 ends_least range =
@@ -90,7 +111,8 @@ ends_least range =
 formed_least : (range : RangeFields) → 3 ≤ length (formed_text range)
 unfolding formed_text
 formed_least range =
-    elim (is_single_key range) as (λ b. 3 ≤ length (cond b (1 ∷ key_text range.begin) (0 ∷ ends_text range))) [
+    elim (is_single_key range) as (λ b. 3 ≤ length
+    (cond b (1 ∷ key_text range.begin) (0 ∷ ends_text range))) [
       | true ↦ omega (arith, key_least range.begin)
       | false ↦ omega (arith, ends_least range)
     ]
@@ -123,7 +145,8 @@ txn_least v t =
     let write_count = big_bytes 2 (length f.writes) in
     omega (
       arith,
-      length-append (signed_text t.snapshot) (marks_text t.marked ++ (read_count ++ (write_count ++ (reads ++ writes)))),
+      length-append (signed_text t.snapshot) (marks_text t.marked
+          ++ (read_count ++ (write_count ++ (reads ++ writes)))),
       length-append (marks_text t.marked) (read_count ++ (write_count ++ (reads ++ writes))),
       length-append read_count (write_count ++ (reads ++ writes)),
       length-append write_count (reads ++ writes),
@@ -141,7 +164,8 @@ entries_fit v edge ws before (t ∷ ts) =
     let after = before ++ counted e.verdict t.writes in
     omega (
       arith,
-      length-append (entry_text (entry_fields e)) (flat_map entry_text (map entry_fields (judge_txns edge ws after ts))),
+      length-append (entry_text (entry_fields e))
+          (flat_map entry_text (map entry_fields (judge_txns edge ws after ts))),
       length-append (txn_text v (txn_fields t)) (flat_map (txn_text v) (map txn_fields ts)),
       entry_length (entry_fields e),
       entry_few edge ws before t,
@@ -150,7 +174,8 @@ entries_fit v edge ws before (t ∷ ts) =
     )
 
 body_fits : (v : WireVersion) (b : Batch) (r : Reply)
-    → length (flat_map entry_text (map entry_fields r.entries)) ≤ length (flat_map (txn_text v) (map txn_fields b.txns))
+    → length (flat_map entry_text (map entry_fields r.entries)) ≤ length
+    (flat_map (txn_text v) (map txn_fields b.txns))
     → length (reply_body (reply_fields r)) ≤ length (batch_body v (batch_fields b))
 unfolding reply_body batch_body
 body_fits v b r h =
@@ -176,12 +201,14 @@ body_fits v b r h =
       h,
     )
 
-pub reply_fits : (v : WireVersion) (window : ℤ) (ws : List Write) (b : Batch) (r : Reply) → Judged window ws b r
+pub reply_fits : (v : WireVersion) (window : ℤ) (ws : List Write) (b : Batch) (r : Reply)
+    → Judged window ws b r
     → IsShort (batch_body v (batch_fields b)) → IsShort (reply_body (reply_fields r))
 reply_fits v window ws b r judged short =
     let same = only_judge window ws b r judged in
     let fits : length (flat_map entry_text (map entry_fields r.entries))
     ≤ length (flat_map (txn_text v) (map txn_fields b.txns)) =
     subst (λ (x : Reply). length (flat_map entry_text (map entry_fields x.entries))
-    ≤ length (flat_map (txn_text v) (map txn_fields b.txns))) (sym same) (entries_fit v (edge window b) ws [] b.txns) in
+    ≤ length (flat_map (txn_text v) (map txn_fields b.txns))) (sym same)
+    (entries_fit v (edge window b) ws [] b.txns) in
     omega (arith, body_fits v b r fits)

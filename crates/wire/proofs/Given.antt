@@ -9,7 +9,8 @@ pub appends_none : (a : Option (List ℕ)) → Appends a a []
 appends_none None = tt
 appends_none (Some xs) = sym (append-nil xs)
 
-pub appends_then : (a b c : Option (List ℕ)) (bs cs : List ℕ) → Appends a b bs → Appends b c cs → Appends a c (bs ++ cs)
+pub appends_then : (a b c : Option (List ℕ)) (bs cs : List ℕ) → Appends a b bs → Appends b c cs
+    → Appends a c (bs ++ cs)
 appends_then None b c bs cs h k = tt
 appends_then (Some xs) None c bs cs h k = absurd h
 appends_then (Some xs) (Some ys) None bs cs h k = absurd k
@@ -41,7 +42,8 @@ told_keeps false false a None e h = tt
 told_keeps false false a (Some ys) e h = h
 
 -- one write more of a longer slice
-pub written_more : (a b c : Option (List ℕ)) (bytes : List ℕ) (written n : ℕ) → Appends a b (take written bytes)
+pub written_more : (a b c : Option (List ℕ)) (bytes : List ℕ) (written n : ℕ)
+    → Appends a b (take written bytes)
     → Appends b c (take n (drop written bytes)) → Appends a c (take (written + n) bytes)
 written_more a b c bytes written n h k =
     rw (take-add written n bytes) (appends_then a b c (take written bytes) (take n (drop written bytes)) h k)

@@ -76,7 +76,8 @@ new_frames_more : (batches : List Batch) (batch : Batch)
     → new_frames (batches ++ batch ∷ []) ≡ new_frames batches ++ new_frame batch
 new_frames_more batches batch =
     flat_map-append new_frame batches (batch ∷ [])
-    ∙ ap (λ (x : List ℕ). new_frames batches ++ x) (flat_map-cons new_frame batch [] ∙ append-nil (new_frame batch))
+    ∙ ap (λ (x : List ℕ). new_frames batches ++ x) (flat_map-cons new_frame batch []
+    ∙ append-nil (new_frame batch))
 
 pub one_more : (left now next before after later : Option (List ℕ)) (count : ℕ) (batch : Batch)
     → SoFar left now before after count → TakesFrame now next batch → Appends after later (new_frame batch)
@@ -100,12 +101,14 @@ all_frames (Some xs) (Some ys) bytes batches frames taken end =
     subst (λ (x : List ℕ). AreFrames x batches) whole frames
 
 begin_with : (left now : Option (List ℕ)) (bytes : List ℕ) (batches : List Batch) (Then : List ℕ → Type 0)
-    → AreFrames bytes batches → Consumes left now bytes → IfSome now Then → IfSome left (BeginWithFrames batches Then)
+    → AreFrames bytes batches → Consumes left now bytes → IfSome now Then
+    → IfSome left (BeginWithFrames batches Then)
 begin_with None now bytes batches Then frames taken after = tt
 begin_with (Some xs) None bytes batches Then frames taken after = absurd taken
 begin_with (Some xs) (Some ys) bytes batches Then frames taken after = (bytes, ys, taken, frames, after)
 
-pub ends : (left now before after : Option (List ℕ)) (count : ℕ) → SoFar left now before after count → IsAtEnd now
+pub ends : (left now before after : Option (List ℕ)) (count : ℕ) → SoFar left now before after count
+    → IsAtEnd now
     → Upgrades left before after count
 ends left now before after count so_far end = record {
   batches = so_far.batches;
@@ -114,7 +117,8 @@ ends left now before after count so_far end = record {
   written = so_far.written;
 }
 
-pub stops : (left now before after : Option (List ℕ)) (count : ℕ) (e : WireError) → SoFar left now before after count
+pub stops : (left now before after : Option (List ℕ)) (count : ℕ) (e : WireError)
+    → SoFar left now before after count
     → IfSome now (ComesFrom e) → StopsAt left before after e
 stops left now before after count e so_far comes = record {
   batches = so_far.batches;
@@ -140,7 +144,8 @@ break_here before after (Some zs) whole new written part =
 -- the sink gives up within the frame of one batch more
 pub breaks : (left now next before after later : Option (List ℕ)) (count : ℕ) (batch : Batch)
     → SoFar left now before after count → TakesFrame now next batch
-    → IfSome later (λ _. (bytes rest : List ℕ) × (new_frame batch ≡ bytes ++ rest) × Appends after later bytes)
+    → IfSome later (λ _. (bytes rest : List ℕ) × (new_frame batch ≡ bytes ++ rest)
+    × Appends after later bytes)
     → BreaksOff left before later
 breaks left now next before after later count batch so_far takes part = record {
   batches = so_far.batches ++ batch ∷ [];

@@ -18,7 +18,8 @@ use Rattle.wire.proofs.Batches.{batch_is_spelled}
 use Rattle.wire.proofs.FrameLengths.{at_most_whole, same_read}
 use Rattle.wire.proofs.Known.{held_consumes}
 
-pub takes_frame : (old new : Option (List ℕ)) (held : List ℕ) (version : WireVersion) (batch : Batch) → AreBytes held
+pub takes_frame : (old new : Option (List ℕ)) (held : List ℕ) (version : WireVersion) (batch : Batch)
+    → AreBytes held
     → Keeps old (prepend_known held new) → length held ≤ frame_length held
     → read_batch held ≡ Ok (version, batch_fields batch) → TakesFrame old new batch
 takes_frame old new held version batch fits joined within read =
@@ -34,8 +35,10 @@ not_nil : (held rest : List ℕ) → held ≢ [] → held ++ rest ≢ []
 not_nil [] rest some e = some refl
 not_nil (b ∷ held) rest some e = cc
 
-pub is_fault : (e : WireError) (old new : Option (List ℕ)) (held : List ℕ) → Keeps old (prepend_known held new)
-    → held ≢ [] → (length held < frame_length held → IsAtEnd new) → read_batch held ≡ Err e → IfSome old (IsFaultOf e)
+pub is_fault : (e : WireError) (old new : Option (List ℕ)) (held : List ℕ)
+    → Keeps old (prepend_known held new)
+    → held ≢ [] → (length held < frame_length held → IsAtEnd new) → read_batch held ≡ Err e
+    → IfSome old (IsFaultOf e)
 is_fault e None new held joined some end read = tt
 is_fault e (Some xs) None held joined some end read = absurd joined
 is_fault e (Some xs) (Some ys) held joined some end read =
@@ -43,4 +46,8 @@ is_fault e (Some xs) (Some ys) held joined some end read =
     subst (λ (bytes : List ℕ). IsFaultOf e bytes) joined (not_nil held ys some, read_again)
 
 pub each_byte : (bytes : List ℕ) → ((i d : ℕ) → i < length bytes → get_or bytes i d < 256) → AreBytes bytes
-each_byte bytes small i = elim (cases_lt i (length bytes)) [ inl lt ↦ small i 0 lt | inr le ↦ rw (get_or_past bytes i 0 le) (omega arith) ]
+each_byte bytes small i = elim (cases_lt i (length bytes)) [
+  | inl lt ↦ small i 0 lt
+  | inr le ↦ rw
+      (get_or_past bytes i 0 le) (omega arith)
+]

@@ -23,21 +23,29 @@ pub one_batch : (v w : WireVersion) (x y s t : List ℕ) (a b : Batch) → Spell
     → x ++ s ≡ y ++ t → (v ≡ w) × (x ≡ y) × (a ≡ b)
 one_batch v w x y s t a b p q e =
     let both : (v, batch_fields a) ≡ (w, batch_fields b) =
-    ok_is (v, batch_fields a) (w, batch_fields b) (sym (batch_reads v x s a p) ∙ ap read_batch e ∙ batch_reads w y t b q) in
+    ok_is (v, batch_fields a) (w, batch_fields b) (sym (batch_reads v x s a p) ∙ ap read_batch e
+    ∙ batch_reads w y t b q) in
     let version = ap (λ (r : WireVersion × BatchFields). r.0) both in
     let fields = ap (λ (r : WireVersion × BatchFields). r.1) both in
-    let text = p.text ∙ ap (λ (r : WireVersion × BatchFields). frame (batch_body r.0 r.1)) both ∙ sym q.text in
+    let text = p.text ∙ ap (λ (r : WireVersion × BatchFields). frame (batch_body r.0 r.1)) both
+    ∙ sym q.text in
     (version, text, same_batch a b fields)
 
-pub no_batch_fault : (v : WireVersion) (x s : List ℕ) (a : Batch) → SpellsBatch v x a → batch_fault (x ++ s) ≡ None
+pub no_batch_fault : (v : WireVersion) (x s : List ℕ) (a : Batch) → SpellsBatch v x a
+    → batch_fault (x ++ s) ≡ None
 no_batch_fault v x s a p = ap refusal (batch_reads v x s a p)
 
-reply_reads : (bytes rest : List ℕ) (reply : Reply) → SpellsReply bytes reply → read_reply (bytes ++ rest) ≡ Ok (reply_fields reply)
-reply_reads bytes rest reply s = ap (λ (x : List ℕ). read_reply (x ++ rest)) s.text ∙ reply_frame_again (reply_fields reply) rest s.holds s.short
+reply_reads : (bytes rest : List ℕ) (reply : Reply) → SpellsReply bytes reply
+    → read_reply (bytes ++ rest) ≡ Ok (reply_fields reply)
+reply_reads bytes rest reply s = ap (λ (x : List ℕ). read_reply (x ++ rest)) s.text
+    ∙ reply_frame_again (reply_fields reply) rest s.holds s.short
 
-pub one_reply : (x y s t : List ℕ) (a b : Reply) → SpellsReply x a → SpellsReply y b → x ++ s ≡ y ++ t → (x ≡ y) × (a ≡ b)
+pub one_reply : (x y s t : List ℕ) (a b : Reply) → SpellsReply x a → SpellsReply y b → x ++ s ≡ y ++ t
+    → (x ≡ y) × (a ≡ b)
 one_reply x y s t a b p q e =
-    let fields : reply_fields a ≡ reply_fields b = ok_is (reply_fields a) (reply_fields b) (sym (reply_reads x s a p) ∙ ap read_reply e ∙ reply_reads y t b q) in
+    let fields : reply_fields a ≡ reply_fields b =
+    ok_is (reply_fields a) (reply_fields b) (sym (reply_reads x s a p) ∙ ap read_reply e
+    ∙ reply_reads y t b q) in
     (p.text ∙ ap (λ (f : ReplyFields). frame (reply_body f)) fields ∙ sym q.text, same_reply a b fields)
 
 pub no_reply_fault : (x s : List ℕ) (a : Reply) → SpellsReply x a → reply_fault (x ++ s) ≡ None
@@ -56,7 +64,8 @@ kinds_differ One m n p q e = omega arith
 kinds_differ Two m n p q e = omega arith
 
 -- the bodies of a batch and of a reply differ in their first byte
-pub kinds_apart : (v : WireVersion) (x y s t : List ℕ) (a : Batch) (r : Reply) → SpellsBatch v x a → SpellsReply y r
+pub kinds_apart : (v : WireVersion) (x y s t : List ℕ) (a : Batch) (r : Reply) → SpellsBatch v x a
+    → SpellsReply y r
     → x ++ s ≡ y ++ t → ⊥
 kinds_apart v x y s t a r p q e =
     let batch = batch_body v (batch_fields a) in

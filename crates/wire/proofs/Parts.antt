@@ -33,29 +33,36 @@ at_most a b h = grind (arith, ints)
 pub below : (a b : ℤ) → int_lt a b ≡ true → a <ℤ b
 below a b h = grind (arith, ints)
 
-pub count_takes : (limit : ℕ) (bytes : List ℕ) (x : ℕ × List ℕ) → AreBytes bytes → count_at limit bytes ≡ Ok x → Takes bytes (big_bytes 2 x.0) x.1 × (x.0 ≤ limit)
+pub count_takes : (limit : ℕ) (bytes : List ℕ) (x : ℕ × List ℕ) → AreBytes bytes → count_at limit bytes ≡ Ok x
+    → Takes bytes (big_bytes 2 x.0) x.1 × (x.0 ≤ limit)
 unfolding count_at
 count_takes limit bytes x fits e =
     let b = bind_ok (number_at 2 bytes) (λ n. cond (leb n.0 limit) (Ok n) (Err Count)) x e in
     let g = passed (leb b.0.0 limit) Count (Ok b.0) x b.2 in
     let t = number_takes 2 back_2 bytes b.0.0 b.0.1 fits b.1 in
-    subst (λ (p : ℕ × List ℕ). Takes bytes (big_bytes 2 p.0) p.1 × (p.0 ≤ limit)) (ok_is b.0 x g.1) (t.0, leb-true _ _ g.0)
+    subst (λ (p : ℕ × List ℕ). Takes bytes (big_bytes 2 p.0) p.1 × (p.0 ≤ limit)) (ok_is b.0 x g.1) (
+      t.0,
+      leb-true _ _ g.0,
+    )
 
 marks_same : (n : ℕ) → n ≤ 1 → big_bytes 1 n ≡ marks_text (eqb n 1)
 marks_same zero h = refl
 marks_same (suc zero) h = refl
 marks_same (suc (suc n)) h = absurd (omega arith)
 
-marks_take : (bytes : List ℕ) (x : Bool × List ℕ) → AreBytes bytes → marks_at bytes ≡ Ok x → Takes bytes (marks_text x.0) x.1
+marks_take : (bytes : List ℕ) (x : Bool × List ℕ) → AreBytes bytes → marks_at bytes ≡ Ok x
+    → Takes bytes (marks_text x.0) x.1
 unfolding marks_at
 marks_take bytes x fits e =
     let b = bind_ok (number_at 1 bytes) (λ n. cond (ltb 1 n.0) (Err Marks) (Ok (eqb n.0 1, n.1))) x e in
     let g = passed_over (ltb 1 b.0.0) Marks (Ok (eqb b.0.0 1, b.0.1)) x b.2 in
     let t = number_takes 1 back_1 bytes b.0.0 b.0.1 fits b.1 in
     let same = marks_same b.0.0 (ltb-false _ _ g.0) in
-    subst (λ (p : Bool × List ℕ). Takes bytes (marks_text p.0) p.1) (ok_is (eqb b.0.0 1, b.0.1) x g.1) (subst (λ (text : List ℕ). Takes bytes text b.0.1) same t.0)
+    subst (λ (p : Bool × List ℕ). Takes bytes (marks_text p.0) p.1) (ok_is (eqb b.0.0 1, b.0.1) x g.1)
+    (subst (λ (text : List ℕ). Takes bytes text b.0.1) same t.0)
 
-pub kind_takes : (kind : ℕ) (bytes rest : List ℕ) → AreBytes bytes → kind_at kind bytes ≡ Ok rest → Takes bytes (big_bytes 1 kind) rest
+pub kind_takes : (kind : ℕ) (bytes rest : List ℕ) → AreBytes bytes → kind_at kind bytes ≡ Ok rest
+    → Takes bytes (big_bytes 1 kind) rest
 unfolding kind_at
 kind_takes kind bytes rest fits e =
     let b = bind_ok (number_at 1 bytes) (λ n. cond (eqb n.0 kind) (Ok n.1) (Err Kind)) rest e in
@@ -103,7 +110,8 @@ key_takes limit bytes x low fits e =
       rest_fits = AreBytes-drop n.0 n.1 t.0.rest_fits;
     } in
     let whole : Takes bytes (key_text (take n.0 n.1)) (drop n.0 n.1) =
-    subst (λ (k : ℕ). Takes bytes (big_bytes 2 k ++ take n.0 n.1) (drop n.0 n.1)) (sym len) (Takes-then t.0 second) in
+    subst (λ (k : ℕ). Takes bytes (big_bytes 2 k ++ take n.0 n.1) (drop n.0 n.1)) (sym len)
+    (Takes-then t.0 second) in
     let is_key : IsKey (take n.0 n.1) = record {
       bytes = are_all (take n.0 n.1) (AreBytes-take n.0 n.1 t.0.rest_fits);
       short = omega arith;
@@ -129,7 +137,8 @@ ends_take bytes x fits e =
     (ok_is made x g.1) (Takes-then t.0 u.0, holds)
 
 -- what follows a form, read as the form tells, is spelled behind that form
-form_takes : (form : ℕ) (bytes : List ℕ) (x : RangeFields × List ℕ) → AreBytes bytes → form_at form bytes ≡ Ok x
+form_takes : (form : ℕ) (bytes : List ℕ) (x : RangeFields × List ℕ) → AreBytes bytes
+    → form_at form bytes ≡ Ok x
     → (text : List ℕ) × Takes bytes text x.1 × (formed_text x.0 ≡ form ∷ text) × RangeHolds x.0
 unfolding form_at formed_text
 form_takes zero bytes x fits e =
@@ -137,7 +146,8 @@ form_takes zero bytes x fits e =
     let g = passed_over (is_single_key b.0.0) Spelling (Ok b.0) x b.2 in
     let t = ends_take bytes b.0 fits b.1 in
     let spelled : formed_text b.0.0 ≡ 0 ∷ ends_text b.0.0 = rw g.0 refl in
-    subst (λ (p : RangeFields × List ℕ). (text : List ℕ) × Takes bytes text p.1 × (formed_text p.0 ≡ 0 ∷ text) × RangeHolds p.0)
+    subst (λ (p : RangeFields × List ℕ). (text : List ℕ) × Takes bytes text p.1 × (formed_text p.0 ≡ 0 ∷ text)
+    × RangeHolds p.0)
     (ok_is b.0 x g.1) (ends_text b.0.0, t.0, spelled, t.1)
 form_takes (suc zero) bytes x fits e =
     let b = bind_ok (key_at 10000 bytes) (λ key. Ok (single_key key.0, key.1)) x e in
@@ -151,7 +161,8 @@ form_takes (suc zero) bytes x fits e =
       end = end_is_key key t.1.0 t.1.1;
       ordered = at_most_end key;
     } in
-    subst (λ (p : RangeFields × List ℕ). (text : List ℕ) × Takes bytes text p.1 × (formed_text p.0 ≡ 1 ∷ text) × RangeHolds p.0)
+    subst (λ (p : RangeFields × List ℕ). (text : List ℕ) × Takes bytes text p.1 × (formed_text p.0 ≡ 1 ∷ text)
+    × RangeHolds p.0)
     (ok_is made x b.2) (key_text key, t.0, spelled, holds)
 form_takes (suc (suc n)) bytes x fits e = absurd cc
 
@@ -174,20 +185,30 @@ range_takes Two bytes x fits e = formed_takes bytes x fits e
 
 -- as each value is spelled where it is read, so are many of them
 abbrev pub TakesEach : {A : Type 0} → (List ℕ → Reading A) → (A → List ℕ) → (A → Type 0) → Type 0
-TakesEach {A} one text Holds = (bytes : List ℕ) (x : A × List ℕ) → AreBytes bytes → one bytes ≡ Ok x → Takes bytes (text x.0) x.1 × Holds x.0
+TakesEach {A} one text Holds = (bytes : List ℕ) (x : A × List ℕ) → AreBytes bytes → one bytes ≡ Ok x
+    → Takes bytes (text x.0) x.1 × Holds x.0
 
-pub many_take : {A : Type 0} (one : List ℕ → Reading A) (text : A → List ℕ) (Holds : A → Type 0) → TakesEach one text Holds
-    → (n : ℕ) (bytes : List ℕ) (x : List A × List ℕ) → AreBytes bytes → many_at one n bytes ≡ Ok x → Takes bytes (flat_map text x.0) x.1 × (length x.0 ≡ n) × AllByRecursion Holds x.0
+pub many_take : {A : Type 0} (one : List ℕ → Reading A) (text : A → List ℕ) (Holds : A → Type 0)
+    → TakesEach one text Holds
+    → (n : ℕ) (bytes : List ℕ) (x : List A × List ℕ) → AreBytes bytes → many_at one n bytes ≡ Ok x
+    → Takes bytes (flat_map text x.0) x.1 × (length x.0 ≡ n) × AllByRecursion Holds x.0
 unfolding many_at
 many_take {A} one text Holds each zero bytes x fits e =
-    subst (λ (p : List A × List ℕ). Takes bytes (flat_map text p.0) p.1 × (length p.0 ≡ 0) × AllByRecursion Holds p.0) (ok_is ([], bytes) x e) (record { parts = refl; rest_fits = fits }, refl, tt)
+    subst (λ (p : List A × List ℕ). Takes bytes (flat_map text p.0) p.1 × (length p.0 ≡ 0)
+    × AllByRecursion Holds p.0) (ok_is ([], bytes) x e) (
+      record { parts = refl; rest_fits = fits },
+      refl,
+      tt,
+    )
 many_take {A} one text Holds each (suc n) bytes x fits e =
-    let a = bind_ok (one bytes) (λ first. many_at one n first.1 >>= λ others. Ok (first.0 ∷ others.0, others.1)) x e in
+    let a = bind_ok (one bytes) (λ first. many_at one n first.1
+    >>= λ others. Ok (first.0 ∷ others.0, others.1)) x e in
     let b = bind_ok (many_at one n a.0.1) (λ others. Ok (a.0.0 ∷ others.0, others.1)) x a.2 in
     let first = each bytes a.0 fits a.1 in
     let second = many_take one text Holds each n a.0.1 b.0 first.0.rest_fits b.1 in
     let made : List A × List ℕ = (a.0.0 ∷ b.0.0, b.0.1) in
-    subst (λ (p : List A × List ℕ). Takes bytes (flat_map text p.0) p.1 × (length p.0 ≡ suc n) × AllByRecursion Holds p.0) (ok_is made x b.2)
+    subst (λ (p : List A × List ℕ). Takes bytes (flat_map text p.0) p.1 × (length p.0 ≡ suc n)
+    × AllByRecursion Holds p.0) (ok_is made x b.2)
     (rw flat_map-cons (Takes-then first.0 second.0), ap suc second.1, (first.1, second.2))
 
 pub txn_takes : (version : WireVersion) (bytes : List ℕ) (x : TxnFields × List ℕ) → AreBytes bytes
@@ -199,37 +220,86 @@ txn_takes version bytes x fits e =
     let b_snapshot = bind_ok (version_at (λ v. int_le (pos 0) v) bytes) (λ snapshot. marks_at snapshot.1
     >>= λ marked. count_at 1024 marked.1 >>= λ read_count. count_at 1024 read_count.1
     >>= λ write_count. many_at one read_count.0 write_count.1 >>= λ reads. many_at one write_count.0 reads.1
-    >>= λ writes. Ok (record { snapshot = snapshot.0; marked = marked.0; reads = reads.0; writes = writes.0 }, writes.1)) x e in
+    >>= λ writes. Ok (
+      record { snapshot = snapshot.0; marked = marked.0; reads = reads.0; writes = writes.0 },
+      writes.1,
+    )) x e in
     let snapshot_is = b_snapshot.0.0 in
     let b_marked = bind_ok (marks_at b_snapshot.0.1) (λ marked. count_at 1024 marked.1
     >>= λ read_count. count_at 1024 read_count.1 >>= λ write_count. many_at one read_count.0 write_count.1
     >>= λ reads. many_at one write_count.0 reads.1
-    >>= λ writes. Ok (record { snapshot = snapshot_is; marked = marked.0; reads = reads.0; writes = writes.0 }, writes.1))
+    >>= λ writes. Ok (
+      record {
+        snapshot = snapshot_is;
+        marked = marked.0;
+        reads = reads.0;
+        writes = writes.0;
+      },
+      writes.1,
+    ))
     x b_snapshot.2 in
     let marked_is = b_marked.0.0 in
     let b_read_count = bind_ok (count_at 1024 b_marked.0.1) (λ read_count. count_at 1024 read_count.1
     >>= λ write_count. many_at one read_count.0 write_count.1 >>= λ reads. many_at one write_count.0 reads.1
-    >>= λ writes. Ok (record { snapshot = snapshot_is; marked = marked_is; reads = reads.0; writes = writes.0 }, writes.1))
+    >>= λ writes. Ok (
+      record {
+        snapshot = snapshot_is;
+        marked = marked_is;
+        reads = reads.0;
+        writes = writes.0;
+      },
+      writes.1,
+    ))
     x b_marked.2 in
-    let b_write_count = bind_ok (count_at 1024 b_read_count.0.1) (λ write_count. many_at one b_read_count.0.0 write_count.1
+    let b_write_count = bind_ok (count_at 1024 b_read_count.0.1)
+    (λ write_count. many_at one b_read_count.0.0 write_count.1
     >>= λ reads. many_at one write_count.0 reads.1
-    >>= λ writes. Ok (record { snapshot = snapshot_is; marked = marked_is; reads = reads.0; writes = writes.0 }, writes.1))
+    >>= λ writes. Ok (
+      record {
+        snapshot = snapshot_is;
+        marked = marked_is;
+        reads = reads.0;
+        writes = writes.0;
+      },
+      writes.1,
+    ))
     x b_read_count.2 in
-    let b_reads = bind_ok (many_at one b_read_count.0.0 b_write_count.0.1) (λ reads. many_at one b_write_count.0.0 reads.1
-    >>= λ writes. Ok (record { snapshot = snapshot_is; marked = marked_is; reads = reads.0; writes = writes.0 }, writes.1))
+    let b_reads = bind_ok (many_at one b_read_count.0.0 b_write_count.0.1)
+    (λ reads. many_at one b_write_count.0.0 reads.1
+    >>= λ writes. Ok (
+      record {
+        snapshot = snapshot_is;
+        marked = marked_is;
+        reads = reads.0;
+        writes = writes.0;
+      },
+      writes.1,
+    ))
     x b_write_count.2 in
     let reads_are = b_reads.0.0 in
     let b_writes = bind_ok (many_at one b_write_count.0.0 b_reads.0.1)
-    (λ writes. Ok (record { snapshot = snapshot_is; marked = marked_is; reads = reads_are; writes = writes.0 }, writes.1))
+    (λ writes. Ok (
+      record {
+        snapshot = snapshot_is;
+        marked = marked_is;
+        reads = reads_are;
+        writes = writes.0;
+      },
+      writes.1,
+    ))
     x b_reads.2 in
     let writes_are = b_writes.0.0 in
-    let made : TxnFields × List ℕ =
-    (record { snapshot = snapshot_is; marked = marked_is; reads = reads_are; writes = writes_are }, b_writes.0.1) in
+    let made : TxnFields × List ℕ = (
+      record { snapshot = snapshot_is; marked = marked_is; reads = reads_are; writes = writes_are },
+      b_writes.0.1,
+    ) in
     let snapshot = version_takes (λ v. int_le (pos 0) v) bytes b_snapshot.0 fits b_snapshot.1 in
     let marked = marks_take b_snapshot.0.1 b_marked.0 snapshot.0.rest_fits b_marked.1 in
     let read_count = count_takes 1024 b_marked.0.1 b_read_count.0 marked.rest_fits b_read_count.1 in
-    let write_count = count_takes 1024 b_read_count.0.1 b_write_count.0 read_count.0.rest_fits b_write_count.1 in
-    let reads = many_take one text RangeHolds (range_takes version) b_read_count.0.0 b_write_count.0.1 b_reads.0
+    let write_count = count_takes 1024 b_read_count.0.1 b_write_count.0 read_count.0.rest_fits
+    b_write_count.1 in
+    let reads = many_take one text RangeHolds (range_takes version) b_read_count.0.0 b_write_count.0.1
+    b_reads.0
     write_count.0.rest_fits b_reads.1 in
     let writes = many_take one text RangeHolds (range_takes version) b_write_count.0.0 b_reads.0.1 b_writes.0
     reads.0.rest_fits b_writes.1 in
@@ -237,9 +307,11 @@ txn_takes version bytes x fits e =
     let ranges_text = flat_map text reads_are ++ flat_map text writes_are in
     let second : Takes b_read_count.0.1 (big_bytes 2 (length writes_are) ++ ranges_text) b_writes.0.1 =
     rw writes.1 (Takes-then write_count.0 ranges) in
-    let first : Takes b_marked.0.1 (big_bytes 2 (length reads_are) ++ (big_bytes 2 (length writes_are) ++ ranges_text)) b_writes.0.1 =
+    let first : Takes b_marked.0.1 (big_bytes 2
+    (length reads_are) ++ (big_bytes 2 (length writes_are) ++ ranges_text)) b_writes.0.1 =
     rw reads.1 (Takes-then read_count.0 second) in
-    let whole : Takes bytes (txn_text version made.0) made.1 = Takes-then snapshot.0 (Takes-then marked first) in
+    let whole : Takes bytes (txn_text version made.0) made.1 =
+    Takes-then snapshot.0 (Takes-then marked first) in
     let holds : TxnHolds made.0 = record {
       snapshot_fits = snapshot.1;
       snapshot = at_most _ _ snapshot.2;
@@ -273,7 +345,8 @@ header_takes bytes x fits e =
     >>= λ version. version_at (before version.0) version.1
     >>= λ received. Ok ((previous.0, version.0, received.0), received.1)) x e in
     let p = b_previous.0.0 in
-    let b_version = bind_ok (version_at (above p) b_previous.0.1) (λ version. version_at (before version.0) version.1
+    let b_version = bind_ok (version_at (above p) b_previous.0.1)
+    (λ version. version_at (before version.0) version.1
     >>= λ received. Ok ((p, version.0, received.0), received.1)) x b_previous.2 in
     let v = b_version.0.0 in
     let b_received = bind_ok (version_at (before v) b_version.0.1)
@@ -295,7 +368,8 @@ header_takes bytes x fits e =
       received_from = and_left _ _ received.2;
       received_before = and_right _ _ received.2;
     } in
-    subst (λ (y : (ℤ × ℤ × ℤ) × List ℕ). Takes bytes (header_text y.0.0 y.0.1 y.0.2) y.1 × HeaderHolds y.0.0 y.0.1 y.0.2)
+    subst (λ (y : (ℤ × ℤ × ℤ) × List ℕ). Takes bytes (header_text y.0.0 y.0.1 y.0.2) y.1
+    × HeaderHolds y.0.0 y.0.1 y.0.2)
     (ok_is made x b_received.2) (whole, holds)
 
 -- what follows the kind of a batch
@@ -310,21 +384,49 @@ unfolding fields_at
 fields_take version bytes x fits e =
     let one = txn_at version in
     let text = txn_text version in
-    let b_header = bind_ok (header_at bytes) (λ header. count_at 4096 header.1 >>= λ count. many_at one count.0 count.1
-    >>= λ txns. Ok (record { previous = header.0.0; version = header.0.1; received = header.0.2; txns = txns.0 }, txns.1)) x e in
+    let b_header = bind_ok (header_at bytes) (λ header. count_at 4096 header.1
+    >>= λ count. many_at one count.0 count.1
+    >>= λ txns. Ok (
+      record {
+        previous = header.0.0;
+        version = header.0.1;
+        received = header.0.2;
+        txns = txns.0;
+      },
+      txns.1,
+    )) x e in
     let header_is = b_header.0.0 in
     let b_count = bind_ok (count_at 4096 b_header.0.1) (λ count. many_at one count.0 count.1
-    >>= λ txns. Ok (record { previous = header_is.0; version = header_is.1; received = header_is.2; txns = txns.0 }, txns.1))
+    >>= λ txns. Ok (
+      record {
+        previous = header_is.0;
+        version = header_is.1;
+        received = header_is.2;
+        txns = txns.0;
+      },
+      txns.1,
+    ))
     x b_header.2 in
     let b_txns = bind_ok (many_at one b_count.0.0 b_count.0.1)
-    (λ txns. Ok (record { previous = header_is.0; version = header_is.1; received = header_is.2; txns = txns.0 }, txns.1))
+    (λ txns. Ok (
+      record {
+        previous = header_is.0;
+        version = header_is.1;
+        received = header_is.2;
+        txns = txns.0;
+      },
+      txns.1,
+    ))
     x b_count.2 in
     let txns_are = b_txns.0.0 in
-    let made : BatchFields × List ℕ =
-    (record { previous = header_is.0; version = header_is.1; received = header_is.2; txns = txns_are }, b_txns.0.1) in
+    let made : BatchFields × List ℕ = (
+      record { previous = header_is.0; version = header_is.1; received = header_is.2; txns = txns_are },
+      b_txns.0.1,
+    ) in
     let header = header_takes bytes b_header.0 fits b_header.1 in
     let count = count_takes 4096 b_header.0.1 b_count.0 header.0.rest_fits b_count.1 in
-    let txns = many_take one text TxnHolds (txn_takes version) b_count.0.0 b_count.0.1 b_txns.0 count.0.rest_fits b_txns.1 in
+    let txns = many_take one text TxnHolds (txn_takes version) b_count.0.0 b_count.0.1 b_txns.0
+    count.0.rest_fits b_txns.1 in
     let listed : Takes b_header.0.1 (big_bytes 2 (length txns_are) ++ flat_map text txns_are) b_txns.0.1 =
     rw txns.1 (Takes-then count.0 txns.0) in
     let whole : Takes bytes (rest_text version made.0) made.1 = Takes-then header.0 listed in
@@ -344,7 +446,8 @@ fields_take version bytes x fits e =
     subst (λ (p : BatchFields × List ℕ). Takes bytes (rest_text version p.0) p.1 × BatchHolds p.0)
     (ok_is made x b_txns.2) (whole, holds)
 
-version_spelled : (kind : ℕ) (version : WireVersion) → version_of_kind kind ≡ Ok version → kind ≡ batch_kind version
+version_spelled : (kind : ℕ) (version : WireVersion) → version_of_kind kind ≡ Ok version
+    → kind ≡ batch_kind version
 version_spelled kind version e =
     elim (eqb_tells kind 1) [
       | inl one ↦ let found : version_of_kind kind ≡ Ok One = rw one.0 refl in
@@ -387,5 +490,6 @@ batch_takes bytes x fits e =
     let fields = fields_take b.0.0 b.0.1 d.0 kind.rest_fits d.1 in
     let made : (WireVersion × BatchFields) × List ℕ = ((b.0.0, d.0.0), d.0.1) in
     let whole : Takes bytes (batch_body b.0.0 d.0.0) d.0.1 = Takes-then kind fields.0 in
-    subst (λ (p : (WireVersion × BatchFields) × List ℕ). Takes bytes (versioned_body p.0) p.1 × VersionedHolds p.0)
+    subst (λ (p : (WireVersion × BatchFields) × List ℕ). Takes bytes (versioned_body p.0) p.1
+    × VersionedHolds p.0)
     (ok_is made x d.2) (whole, fields.1)

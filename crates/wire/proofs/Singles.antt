@@ -40,7 +40,8 @@ parts_decide begin front last = (
 single_by_parts : (begin end front : List ℕ) (last : ℕ) → end ≡ front ++ last ∷ []
     → (eqb last 0 && bytes_eq front begin) ≡ bytes_eq end (begin ++ 0 ∷ [])
 single_by_parts begin end front last e =
-    rw e (one_answer _ _ (parts_decide begin front last) (bytes_eq-Decides (front ++ last ∷ []) (begin ++ 0 ∷ [])))
+    rw e (one_answer _ _ (parts_decide begin front last)
+    (bytes_eq-Decides (front ++ last ∷ []) (begin ++ 0 ∷ [])))
 
 pub single_if_zero : (begin end front : List ℕ) (last : ℕ) → end ≡ front ++ last ∷ [] → last ≡ 0
     → bytes_eq front begin ≡ bytes_eq end (begin ++ 0 ∷ [])
@@ -63,7 +64,8 @@ empty_not_single begin (y ∷ end) h = absurd (omega arith)
 
 pub single_is : (range : RangeFields) → is_single_key range ≡ true → single_key range.begin ≡ range
 single_is range test =
-    let end : range.end ≡ range.begin ++ 0 ∷ [] = (bytes_eq-Decides range.end (range.begin ++ 0 ∷ [])).0 test in
+    let end : range.end ≡ range.begin ++ 0 ∷ [] =
+    (bytes_eq-Decides range.end (range.begin ++ 0 ∷ [])).0 test in
     ap (λ (x : List ℕ). let made : RangeFields = record { begin = range.begin; end = x } in made) (sym end)
 
 pub single_found : (key : List ℕ) → is_single_key (single_key key) ≡ true

@@ -22,7 +22,7 @@ abbrev pub ◌>>=◌ : {A B : Type 0} → Result A WireError → (A → Result B
 (Ok x) >>= f = f x
 (Err e) >>= f = Err e
 
--- What may be answered in place of a value: the first fault, or that memory ran out, and never a failed read or write.
+-- What may be answered in place of a value: the first fault, or that memory ran out. Never a failed read or write.
 abbrev pub Refuses : {Y : Type 0} → WireError → Result Y WireError → Type 0
 Refuses e read = (e ≢ Read) × (e ≢ Write) × (e ≢ Memory → read ≡ Err e)
 

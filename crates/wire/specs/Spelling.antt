@@ -78,7 +78,8 @@ abbrev pub places_text : List ℕ → List ℕ
 places_text places = flat_map (λ place. big_bytes 2 place) places
 
 unfoldable pub entry_text : EntryFields → List ℕ
-entry_text entry = verdict_text entry.verdict ++ (big_bytes 2 (length entry.places) ++ places_text entry.places)
+entry_text entry =
+    verdict_text entry.verdict ++ (big_bytes 2 (length entry.places) ++ places_text entry.places)
 
 unfoldable pub reply_body : ReplyFields → List ℕ
 reply_body reply =

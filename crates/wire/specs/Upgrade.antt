@@ -26,7 +26,8 @@ AreFrames bytes (batch ∷ batches) =
 
 -- the frames of these batches stand at the front, and then come bytes of this kind
 abbrev pub BeginWithFrames : List Batch → (List ℕ → Type 0) → List ℕ → Type 0
-BeginWithFrames batches Then bytes = (front rest : List ℕ) × (bytes ≡ front ++ rest) × AreFrames front batches × Then rest
+BeginWithFrames batches Then bytes =
+    (front rest : List ℕ) × (bytes ≡ front ++ rest) × AreFrames front batches × Then rest
 
 -- the next frame is that of a batch that doesn't fit a frame of wire version 2
 abbrev pub OutgrowsFrame : List ℕ → Type 0
@@ -38,21 +39,23 @@ OutgrowsFrame bytes =
 abbrev pub ComesFrom : WireError → List ℕ → Type 0
 ComesFrom e bytes = e ≢ Memory → e ≢ Read → IsFaultOf e bytes ⊎ ((e ≡ Long) × OutgrowsFrame bytes)
 
--- All that was left is the frames of so many batches; their new frames were written.
+-- What was left is the frames of so many batches, and nothing else. Their new frames were written.
 pub record Upgrades (left before after : Option (List ℕ)) (count : ℕ) : Type 0 where
   pub batches : List Batch
   pub counted : length batches ≡ count
   pub read : IfSome left (λ bytes. AreFrames bytes batches)
   pub written : Appends before after (new_frames batches)
 
--- The frames of some batches stand at the front, and then comes what is refused; the new frames of those were written.
+-- The frames of some batches stand at the front, and then what is refused. The new frames of those batches were written.
 pub record StopsAt (left before after : Option (List ℕ)) (e : WireError) : Type 0 where
   pub batches : List Batch
   pub read : IfSome left (BeginWithFrames batches (ComesFrom e))
   pub written : Appends before after (new_frames batches)
 
--- The frames of some batches stand at the front; a beginning of the new frames of those was written, where it is told.
+-- The frames of some batches stand at the front. Where the sink still tells what it was given, that grew by a beginning
+-- of the new frames of those batches.
 pub record BreaksOff (left before after : Option (List ℕ)) : Type 0 where
   pub batches : List Batch
   pub read : IfSome left (BeginWithFrames batches (λ _. Unit {0}))
-  pub written : IfSome after (λ _. (bytes rest : List ℕ) × (new_frames batches ≡ bytes ++ rest) × Appends before after bytes)
+  pub written : IfSome after (λ _. (bytes rest : List ℕ)
+      × (new_frames batches ≡ bytes ++ rest) × Appends before after bytes)

@@ -84,8 +84,8 @@ pub fn read_frame(alloc: Global, bytes: &[u8]) -> Result<(WireVersion, Batch, us
     Ok((version, batch, 4 + body.len()))
 }
 
-/// Decodes the frame at the front, of either wire version, and returns its batch and its length in bytes. What follows
-/// the frame isn't looked at. A refusal other than `Memory` is the frame's first fault.
+/// Decodes the frame at the front, of either wire version, and returns its batch and its length in bytes.
+/// What follows the frame isn't looked at. A refusal other than `Memory` is the frame's first fault.
 pub fn decode_batch(alloc: Global, bytes: &[u8]) -> Result<(Batch, usize), WireError>
     ensures within { IfOk result (λ found. found.1 ≤ length bytes.now) }
     ensures spelled { IfOk result (λ found.

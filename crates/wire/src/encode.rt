@@ -1,4 +1,5 @@
-//! Encodes values as frames. The length of a frame is known before it is written, so its memory is taken at once.
+//! Encodes values as frames. The length of a frame is known before it is written, so its memory is taken at
+//! once.
 
 ghost use Rattle.std.specs.Prelude.{◌≡◌, ◌⊎◌, ◌↔◌, ◌++◌, ◌<◌, ◌≤◌, length, OnOk, IfOk, IfErr, IsErrOf};
 ghost use Rattle.byteorder.specs.Endian.{big_bytes};
@@ -30,7 +31,8 @@ fn begin_frame(alloc: Global, length: usize) -> Result<Vec<u8>, WireError>
 
 #[tactic(auto, unfolding(crate::specs::Spelling::batch_body))]
 fn put_batch(out: &mut Vec<u8>, version: WireVersion, batch: &Batch) -> Result<(), AllocError>
-    ensures text { OnOk result (out.new.items ≡ out.old.items ++ batch_body version (batch_fields batch.now)) }
+    ensures text { OnOk result
+        (out.new.items ≡ out.old.items ++ batch_body version (batch_fields batch.now)) }
     ensures holds { OnOk result (BatchHolds (batch_fields batch.now)) }
 {
     out.push(kind_of(version))?;
@@ -42,6 +44,7 @@ fn put_batch(out: &mut Vec<u8>, version: WireVersion, batch: &Batch) -> Result<(
     Ok(())
 }
 
+// Encodes a batch as a frame of this wire version.
 fn encode_in(alloc: Global, version: WireVersion, batch: &Batch) -> Result<Vec<u8>, WireError>
     ensures spelled { IfOk result (λ bytes. SpellsBatch version bytes.items batch.now) }
     ensures long { IsErrOf result WireError.Long ↔
@@ -53,7 +56,8 @@ fn encode_in(alloc: Global, version: WireVersion, batch: &Batch) -> Result<Vec<u
     Ok(out)
 }
 
-/// Encodes a batch as a frame of wire version 2. Returns `Long` exactly where its body exceeds [`MAX_BODY_LENGTH`].
+/// Encodes a batch as a frame of wire version 2. Returns `Long` exactly where its body exceeds
+/// [`MAX_BODY_LENGTH`].
 pub fn encode_batch(alloc: Global, batch: &Batch) -> Result<Vec<u8>, WireError>
     ensures spelled { IfOk result (λ bytes. SpellsBatch WireVersion.Two bytes.items batch.now) }
     ensures long { IsErrOf result WireError.Long ↔
@@ -63,7 +67,8 @@ pub fn encode_batch(alloc: Global, batch: &Batch) -> Result<Vec<u8>, WireError>
     encode_in(alloc, WireVersion::Two, batch)
 }
 
-/// Encodes a batch as a frame of wire version 1. Returns `Long` exactly where its body exceeds [`MAX_BODY_LENGTH`].
+/// Encodes a batch as a frame of wire version 1. Returns `Long` exactly where its body exceeds
+/// [`MAX_BODY_LENGTH`].
 pub fn encode_batch_1(alloc: Global, batch: &Batch) -> Result<Vec<u8>, WireError>
     ensures spelled { IfOk result (λ bytes. SpellsBatch WireVersion.One bytes.items batch.now) }
     ensures long { IsErrOf result WireError.Long ↔
@@ -85,8 +90,8 @@ fn put_reply(out: &mut Vec<u8>, reply: &Reply) -> Result<(), AllocError>
     Ok(())
 }
 
-/// Encodes a reply as a frame. Returns `Long` exactly where its body exceeds [`MAX_BODY_LENGTH`]. The right reply to a
-/// batch that has a frame fits (`laws::reply_fits`).
+/// Encodes a reply as a frame. Returns `Long` exactly where its body exceeds [`MAX_BODY_LENGTH`]. The right
+/// reply to a batch that has a frame fits (`laws::reply_fits`).
 pub fn encode_reply(alloc: Global, reply: &Reply) -> Result<Vec<u8>, WireError>
     ensures spelled { IfOk result (λ bytes. SpellsReply bytes.items reply.now) }
     ensures long { IsErrOf result WireError.Long ↔

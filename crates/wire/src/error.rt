@@ -5,8 +5,8 @@ use crate::source::Failed;
 use std::alloc::{AllocError, AllocFailed};
 use thiserror::Error;
 
-/// Why there is no value: the first fault of the bytes, memory that ran out, or a reader or a writer that failed. The
-/// text of each is its number and its name, as `1 Short`.
+/// Why there is no value: the first fault of the bytes, memory that ran out, or a reader or a writer that
+/// failed. The text of each is its number and its name, as `1 Short`.
 #[derive(Clone, Copy, Debug, PartialEq, Eq, Error)]
 pub enum WireError {
     /// The input ends inside a frame.

@@ -1,4 +1,5 @@
-//! The fields that frames are made of. Each function reads one at the front and returns it with the bytes after it.
+//! The fields that frames are made of. Each function reads one at the front and returns it with the bytes
+//! after it.
 
 ghost use Rattle.std.specs.Prelude.{◌≡◌, ◌⊎◌, ◌+◌, ◌*◌, ◌<◌, ◌≤◌, IfOk, length};
 ghost use Rattle.byteorder.specs.Endian.{big_number};
@@ -79,8 +80,8 @@ pub fn after_kind(kind: u8, bytes: &[u8]) -> Result<&[u8], WireError>
     Ok(rest)
 }
 
-/// Returns for how many of `count` values to take memory at once: no more than the bytes can hold, where each value
-/// takes at least `least` of them.
+/// Returns for how many of `count` values to take memory at once: no more than the bytes can hold, where each
+/// value takes at least `least` of them.
 pub fn room_for(count: u16, least: usize, bytes: &[u8]) -> usize
     requires some { 0 < least }
     ensures few { result ≤ count }

@@ -76,7 +76,8 @@ fn put_formed(out: &mut Vec<u8>, range: &Range) -> Result<(), AllocError>
 }
 
 fn put_range(out: &mut Vec<u8>, version: WireVersion, range: &Range) -> Result<(), AllocError>
-    ensures text { OnOk result (out.new.items ≡ out.old.items ++ range_text version (range_fields range.now)) }
+    ensures text { OnOk result
+        (out.new.items ≡ out.old.items ++ range_text version (range_fields range.now)) }
 {
     match version {
         WireVersion::One => put_ends(out, range),

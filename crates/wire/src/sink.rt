@@ -15,7 +15,8 @@ pub trait Sink {
     // How often it has failed.
     ghost failures: { Self → ℕ };
 
-    /// Writes a beginning of the bytes and returns how many it took. Takes none of a non-empty slice only where it fails.
+    /// Writes a beginning of the bytes and returns how many it took. Takes none of a non-empty slice only
+    /// where it fails.
     fn write(&mut self, bytes: &[u8]) -> Result<usize, Failed>
         ensures bound { IfOk result (λ n. n ≤ length bytes.now) }
         ensures some { IfOk result (λ n. 0 < length bytes.now → 0 < n) }
@@ -25,7 +26,8 @@ pub trait Sink {
         ensures failed { OnErr result (failures self.new ≡ failures self.old + 1) };
 }
 
-/// Writes all of the bytes, in as many calls as it takes. After a failure the sink was given a beginning of them.
+/// Writes all of the bytes, in as many calls as it takes. After a failure the sink was given a beginning of
+/// them.
 pub fn write_all<W: Sink>(writer: &mut W, bytes: &[u8]) -> Result<(), Failed>
     ensures whole { OnOk result (Appends (W.given writer.old) (W.given writer.new) bytes.now) }
     ensures beginning { OnErr result (IfSome (W.given writer.new) (λ _.
@@ -40,9 +42,9 @@ pub fn write_all<W: Sink>(writer: &mut W, bytes: &[u8]) -> Result<(), Failed>
     Ok(())
 }
 
-/// A [`Sink`] over any writer of `std`. After an interruption it tries again, at most 1,000 times in one call. A writer
-/// that takes none of a non-empty slice has failed. Its count of failures stops at `u64::MAX`: from then on it tells no
-/// bytes and passes none on.
+/// A [`Sink`] over any writer of `std`. After an interruption it tries again, at most 1,000 times in one
+/// call. A writer that takes none of a non-empty slice has failed. Its count of failures stops at `u64::MAX`:
+/// from then on it tells no bytes and passes none on.
 #[derive(Debug, Drop)]
 pub struct StdSink<W> {
     writer: W,

@@ -1,4 +1,5 @@
-//! The vectors and the tables of refusals. Blanks stand between the fields of a text and aren't part of the bytes.
+//! The vectors and the tables of refusals. Blanks stand between the fields of a text and aren't part of the
+//! bytes.
 
 use super::*;
 use keyspace::{Batch, Range, Reply, Verdict};

@@ -34,10 +34,12 @@ fn upgrade_next<R: Source, W: Sink>(
         × Appends (W.given writer.old) (W.given writer.new) bytes)) }
     ensures read_ok { OnOk result (R.failures reader.new ≡ R.failures reader.old) }
     ensures read { IfErr result (λ e. e ≡ WireError.Read → R.failures reader.old < R.failures reader.new) }
-    ensures no_read { IfErr result (λ e. e ≢ WireError.Read → R.failures reader.new ≡ R.failures reader.old) }
+    ensures no_read { IfErr result (λ e. e ≢ WireError.Read
+        → R.failures reader.new ≡ R.failures reader.old) }
     ensures write_ok { OnOk result (W.failures writer.new ≡ W.failures writer.old) }
     ensures write { IfErr result (λ e. e ≡ WireError.Write → W.failures writer.old < W.failures writer.new) }
-    ensures no_write { IfErr result (λ e. e ≢ WireError.Write → W.failures writer.new ≡ W.failures writer.old) }
+    ensures no_write { IfErr result (λ e. e ≢ WireError.Write
+        → W.failures writer.new ≡ W.failures writer.old) }
 {
     let Some(batch) = read_next(alloc, reader, buffer)? else {
         return Ok(false);
@@ -49,12 +51,12 @@ fn upgrade_next<R: Source, W: Sink>(
     }
 }
 
-/// Reads batches of either wire version to the end of the input, writes each as a frame of version 2, and returns how
-/// many there were. Takes memory for one frame at a time.
+/// Reads batches of either wire version to the end of the input, writes each as a frame of version 2, and
+/// returns how many there were. Takes memory for one frame at a time.
 ///
-/// Is refused as [`Frames::next`](crate::Frames::next) and [`encode_batch`] are, and returns `Write` only where the
-/// writer failed in this call. After any other refusal the frames of the batches before it are written whole. After
-/// `Write` a beginning of the new frames is.
+/// Is refused as [`Frames::next`](crate::Frames::next) and [`encode_batch`] are, and returns `Write` only
+/// where the writer failed in this call. After any other refusal the frames of the batches before it are
+/// written whole. After `Write` a beginning of the new frames is.
 pub fn upgrade<R: Source, W: Sink>(
     alloc: Global,
     reader: &mut R,
@@ -78,6 +80,6 @@ pub fn upgrade<R: Source, W: Sink>(
             return Ok(count);
         }
     }
-    // No input holds so many frames, and the count of one more would not fit.
+    // The count of one frame more wouldn't fit. No input is so long.
     Err(WireError::Memory)
 }

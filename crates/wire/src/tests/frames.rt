@@ -5,8 +5,8 @@ use std::io;
 use std::io::{ErrorKind, Read};
 use std::process::Abort;
 
-// A reader that gives at most `step` bytes a call. It is interrupted so many times before each call that gives some.
-// At the end it fails where `fails` is set.
+// A reader that gives at most `step` bytes a call. It is interrupted so many times before each call that
+// gives some. At the end it fails where `fails` is set.
 #[derive(Drop)]
 struct Pieces<'a> {
     bytes: &'a [u8],

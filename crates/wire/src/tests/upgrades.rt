@@ -13,8 +13,8 @@ enum End {
     TakesNothing,
 }
 
-// A writer that takes at most `step` bytes a call and `room` bytes in all. It is interrupted so many times before each
-// call that takes some.
+// A writer that takes at most `step` bytes a call and `room` bytes in all. It is interrupted so many times
+// before each call that takes some.
 #[derive(Drop)]
 struct Paper {
     bytes: Vec<u8>,
@@ -147,7 +147,8 @@ fn upgraded_up_to_a_fault(rt: HostRuntime) -> Result<(), Fail> {
     Ok(())
 }
 
-// A batch whose body is as long as may be in version 1: each of its 210 writes takes one byte more in version 2.
+// A batch whose body is as long as may be in version 1: each of its 210 writes takes one byte more in version
+// 2.
 fn longest_batch(rt: &impl Abort, alloc: Global) -> Result<Batch, Fail> {
     let mut writes = Vec::new(alloc);
     for index in 0..210 {

@@ -32,4 +32,5 @@ returns-clause-text c =
 pub returns-clause-holds : goal.returns-clause-holds
 returns-clause-holds c =
     batch_holds c.args.batch.now (search rules) (search rules) (search rules)
-    (subst (λ (txns : List Txn). All (λ txn. FitsSigned w64 txn.snapshot) txns) c.as_slice.ensures.items c.in_ok-put_txns.ensures.fit)
+    (subst (λ (txns : List Txn). All (λ txn. FitsSigned w64 txn.snapshot) txns) c.as_slice.ensures.items
+    c.in_ok-put_txns.ensures.fit)

@@ -14,7 +14,8 @@ loop-written-preserved g c =
     let given = g.W.Sink.given in
     let asked : take (length bytes - written) (drop written bytes) ≡ drop written bytes =
     take_all (length bytes - written) (drop written bytes) (omega (arith, length-drop written bytes)) in
-    let taken = subst (λ (rest : List ℕ). Appends (given c.loop-written.writer) (given c.write.new.self) (take count rest))
+    let taken = subst (λ (rest : List ℕ). Appends (given c.loop-written.writer) (given c.write.new.self)
+    (take count rest))
     asked c.in_ok-written.ensures.bytes in
     let grown = written_more (given c.args.writer.now) (given c.loop-written.writer) (given c.write.new.self)
     bytes written count c.loop-written.invariant.1 taken in

@@ -40,7 +40,8 @@ loop-count-preserved g c =
     let after = g.W.Sink.given c.loop-count.writer in
     let later = g.W.Sink.given c.upgrade_next.new.writer in
     let frame = c.in_ok-upgrade_next.ensures.frame c.if-not-branch.false in (
-      one_more left now next before after later c.loop-count.count frame.0 c.loop-count.invariant.0 frame.1 frame.2,
+      one_more left now next before after later c.loop-count.count frame.0 c.loop-count.invariant.0 frame.1
+          frame.2,
       c.in_ok-upgrade_next.ensures.read_ok ∙ c.loop-count.invariant.1,
       c.in_ok-upgrade_next.ensures.write_ok ∙ c.loop-count.invariant.2,
     )

@@ -14,7 +14,8 @@ returns-in_err-frame-clause-refused g c =
     let old = g.R.Source.remaining c.args.reader.now in
     let new = g.R.Source.remaining c.read_next.new.reader in
     let batch = c.in-Some.batch in
-    let takes = subst (λ (found : Option Batch). IfSome found (TakesFrame old new)) c.in-Some.is c.in_ok-batch.ensures.batch in
+    let takes = subst (λ (found : Option Batch). IfSome found
+    (TakesFrame old new)) c.in-Some.is c.in_ok-batch.ensures.batch in
     rw (p.1, p.2)
     (λ not_write. (
       outgrows old new batch c.in_err-frame.field-0.0 takes c.in_err-frame.ensures.err
@@ -27,8 +28,10 @@ returns-in-Ok-clause-frame g c more =
     let old = g.R.Source.remaining c.args.reader.now in
     let new = g.R.Source.remaining c.read_next.new.reader in
     let batch = c.in-Some.batch in
-    let takes = subst (λ (found : Option Batch). IfSome found (TakesFrame old new)) c.in-Some.is c.in_ok-batch.ensures.batch in
-    let text : c.deref.result.now ≡ new_frame batch = c.deref.ensures.value ∙ c.in_ok-frame.ensures.spelled.text in
+    let takes = subst (λ (found : Option Batch). IfSome found
+    (TakesFrame old new)) c.in-Some.is c.in_ok-batch.ensures.batch in
+    let text : c.deref.result.now ≡ new_frame batch =
+    c.deref.ensures.value ∙ c.in_ok-frame.ensures.spelled.text in
     let before = g.W.Sink.given c.args.writer.now in
     let after = g.W.Sink.given c.write_all.new.writer in
     (batch, takes, subst (λ (bytes : List ℕ). Appends before after bytes) text c.in-Ok.ensures.whole)
@@ -38,12 +41,15 @@ returns-clause-broken_off g c is_write =
     let old = g.R.Source.remaining c.args.reader.now in
     let new = g.R.Source.remaining c.read_next.new.reader in
     let batch = c.in-Some.batch in
-    let takes = subst (λ (found : Option Batch). IfSome found (TakesFrame old new)) c.in-Some.is c.in_ok-batch.ensures.batch in
-    let text : c.deref.result.now ≡ new_frame batch = c.deref.ensures.value ∙ c.in_ok-frame.ensures.spelled.text in
+    let takes = subst (λ (found : Option Batch). IfSome found
+    (TakesFrame old new)) c.in-Some.is c.in_ok-batch.ensures.batch in
+    let text : c.deref.result.now ≡ new_frame batch =
+    c.deref.ensures.value ∙ c.in_ok-frame.ensures.spelled.text in
     let before = g.W.Sink.given c.args.writer.now in
     let after = g.W.Sink.given c.write_all.new.writer in
     let part = begun before after c.deref.result.now c.in-Err.ensures.beginning in (
       batch,
       takes,
-      subst (λ (whole : List ℕ). IfSome after (λ _. (bytes rest : List ℕ) × (whole ≡ bytes ++ rest) × Appends before after bytes)) text part,
+      subst (λ (whole : List ℕ). IfSome after (λ _. (bytes rest : List ℕ) × (whole ≡ bytes ++ rest)
+          × Appends before after bytes)) text part,
     )
