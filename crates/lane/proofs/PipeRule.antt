@@ -1,9 +1,9 @@
 -- Each call on a pipe's queue keeps the pipe's rule.
-use Rattle.std.proofs.Common.{◌≡◌, ◌≢◌, ℕ, ◌+◌, ◌^◌, zero, suc, ◌<◌, ◌≤◌, true, false, true≢false, List, [], ◌∷◌, ◌++◌, length, set, sym, refl, ap, ◌∙◌, subst, ⊎_elim, append_assoc, length-append, lit≤, arith}
+use Rattle.std.proofs.Common.{◌≡◌, ◌≢◌, ℕ, ◌^◌, zero, suc, ◌<◌, ◌≤◌, true, false, true≢false, List, [], ◌∷◌, ◌++◌, length, set, sym, refl, ap, ◌∙◌, subst, ⊎_elim, append_assoc, length-append, lit≤, arith}
 use mathlib.Core.Option.{some, some-injective, some-ne-none}
 use lib.ListN.{get_elem?}
 use Rattle.crossbeam_queue.specs.Fifo.{Pushes, Pops, Forks, Merges, Learns}
-use Rattle.crossbeam_queue.proofs.Lists.{at_set, at_snoc, at_last}
+use Rattle.crossbeam_queue.proofs.Lists.{at_set, at_snoc}
 use Rattle.lane.specs.declared.pipe.rule.Known.{Known}
 use Rattle.lane.specs.Lane.{IsBeginning}
 use Rattle.lane.specs.Pipe.{Fits, InOrder, at_first, nothing, for_writer, for_reader, together}

@@ -1,7 +1,7 @@
 -- A pipe: a queue with one writer and one reader. What is seen of its ends, and the rule that its queue keeps.
 use mathlib.Core.Option.{some}
 use lib.ListN.{get_elem?}
-use Rattle.std.specs.Prelude.{◌≡◌, ℕ, ◌+◌, ◌^◌, ◌≤◌, Bool, true, false, List, [], ◌++◌, length}
+use Rattle.std.specs.Prelude.{◌≡◌, ℕ, ◌+◌, ◌^◌, ◌≤◌, true, false, List, [], ◌++◌, length}
 use Rattle.atomic_table.specs.Seated.{TableId}
 use Rattle.lane.specs.declared.pipe.rule.Known.{Known}
 
