@@ -6,7 +6,7 @@ use Rattle.atomic_table.specs.Seated.{TableId}
 abbrev pub IsBeginning : {T : Type 0} → List T → List T → Type 0
 IsBeginning {T} xs ys = (rest : List T) × (ys ≡ xs ++ rest)
 
--- which lane an end is of
+-- Which lane an end is of. A caller only ever compares two of them: what one is made of belongs to the representation
 pub record LaneId : Type 0 where
   pub items : TableId
   pub close : TableId

@@ -13,7 +13,8 @@ pub const MAX_CAPACITY: usize = 1_024;
 
 /// Makes a lane that holds at most `capacity` items, and returns its two ends, each of which may go to a thread of its own.
 pub fn lane<T: Drop>(alloc: Global, capacity: usize) -> Result<(Port<T>, Intake<T>), LaneError>
-    requires { (0 < capacity) × (capacity ≤ MAX_CAPACITY) }
+    requires some { 0 < capacity }
+    requires limit { capacity ≤ MAX_CAPACITY }
     ensures same_lane { IfOk result (λ ends. SameLane ends.0 ends.1) }
     ensures port { IfOk result (λ ends. ends.0 ≡ new_port ends.0.lane capacity) }
     ensures intake { IfOk result (λ ends. ends.1 ≡ new_intake ends.0.lane capacity) }
@@ -23,9 +24,9 @@ pub fn lane<T: Drop>(alloc: Global, capacity: usize) -> Result<(Port<T>, Intake<
     Ok((Port::new(sends, closes), Intake::new(takes, ends)))
 }
 
-/// Whether all that was sent on the lane is taken. Each end may look at the other.
+/// Returns whether all that was sent on the lane is taken. Each end may look at the other.
 pub fn agree<T, R: Wait>(rt: &R, port: &mut Port<T>, intake: &mut Intake<T>) -> bool
-    requires { SameLane port.old intake.old }
+    requires same_lane { SameLane port.old intake.old }
     ensures lane_before { Lane port.old intake.old }
     ensures lane { Lane port.new intake.new }
     ensures port { PortGoesOn port.old port.new }

@@ -53,7 +53,7 @@ impl<T> Intake<T> {
     pub(crate) fn new(items: Reader<T>, close: Reader<u64>) -> Self
         requires items { items ≡ new_reader items.queue items.capacity }
         requires close { close ≡ new_reader close.queue 1 }
-        ensures { result ≡ new_intake record { items = items.queue; close = close.queue } items.capacity }
+        ensures intake { result ≡ new_intake record { items = items.queue; close = close.queue } items.capacity }
     {
         Intake {
             items,
@@ -94,7 +94,7 @@ impl<T> Intake<T> {
 
     /// Takes the next item with the port of the same lane at hand: `Empty` or `End` only where all that was sent is taken.
     pub fn take_beside<R: Wait>(&mut self, rt: &R, port: &mut Port<T>) -> Taken<T>
-        requires { SameLane port.old self.old }
+        requires same_lane { SameLane port.old self.old }
         ensures lane_before { Lane port.old self.old }
         ensures lane { Lane port.new self.new }
         ensures port { PortGoesOn port.old port.new }
@@ -123,7 +123,7 @@ impl<T> Intake<T> {
 
     /// Changes nothing.
     pub(crate) fn meet<R: Wait>(&mut self, rt: &R, port: &mut Port<T>)
-        requires { SameLane port.old self.old }
+        requires same_lane { SameLane port.old self.old }
         ensures lane { Lane port.old self.old }
         ensures intake { self.new ≡ self.old }
         ensures port { port.new ≡ port.old }
@@ -142,7 +142,7 @@ impl<T> Intake<T> {
 
     // The next item that the lane holds.
     fn next<R: Wait>(&mut self, rt: &R) -> Option<T>
-        requires { self.old.seen_close ≡ false }
+        requires open { self.old.seen_close ≡ false }
         ensures intake { IntakeGoesOn self.old self.new }
         ensures item { IfSome result (λ x. self.new.taken ≡ self.old.taken ++ x ∷ []) }
         ensures none { IfNone result (self.new ≡ record self.old { looks = self.old.looks + 1 }) }
@@ -155,7 +155,7 @@ impl<T> Intake<T> {
 
     // Whether the port has closed the lane.
     fn finds_close<R: Wait>(&mut self, rt: &R) -> bool
-        requires { self.old.seen_close ≡ false }
+        requires open { self.old.seen_close ≡ false }
         ensures close { self.new ≡ record self.old { seen_close = self.new.seen_close } }
         ensures none { result ≡ false → self.new.seen_close ≡ false }
     {

@@ -13,12 +13,12 @@ pub(crate) use reader::Reader;
 use rule::{Queue, Roles};
 pub(crate) use writer::Writer;
 
-/// The two ends of a new pipe of this many places.
+/// Makes a pipe that holds at most `capacity` items, and returns its two ends.
 pub(crate) fn pipe<T: Drop>(
     alloc: Global,
     capacity: usize,
 ) -> Result<(Writer<T>, Reader<T>), AllocError>
-    requires { 0 < capacity }
+    requires some { 0 < capacity }
     ensures writer { IfOk result (λ ends. ends.0 ≡ new_writer ends.0.queue capacity) }
     ensures reader { IfOk result (λ ends. ends.1 ≡ new_reader ends.0.queue capacity) }
 {

@@ -26,7 +26,7 @@ pub enum Refused<T> {
 #[derive(Drop)]
 pub struct Port<T> {
     pub(crate) items: Writer<T>,
-    // It has one place, and carries the number of items sent.
+    // It has room for one number, and carries that of the items sent.
     pub(crate) close: Writer<u64>,
     pub(crate) sent: u64,
     pub(crate) closed: bool,
@@ -55,7 +55,7 @@ impl<T> Port<T> {
     pub(crate) fn new(items: Writer<T>, close: Writer<u64>) -> Self
         requires items { items ≡ new_writer items.queue items.capacity }
         requires close { close ≡ new_writer close.queue 1 }
-        ensures { result ≡ new_port record { items = items.queue; close = close.queue } items.capacity }
+        ensures port { result ≡ new_port record { items = items.queue; close = close.queue } items.capacity }
     {
         Port {
             items,

@@ -57,7 +57,7 @@ fn ends_agree_once_all_is_taken(rt: HostRuntime) -> Result<(), Fail> {
 
 /// Sends the item once the lane takes it. Another refusal is left to the intake to find.
 fn send_at_last<R: Wait>(rt: &R, port: &mut Port<u32>, item: u32)
-    ensures { (port.new.lane ≡ port.old.lane) × (port.new.capacity ≡ port.old.capacity) }
+    ensures same_lane { (port.new.lane ≡ port.old.lane) × (port.new.capacity ≡ port.old.capacity) }
 {
     for _ in rt.forever() {
         match port.send(rt, item) {
@@ -69,7 +69,7 @@ fn send_at_last<R: Wait>(rt: &R, port: &mut Port<u32>, item: u32)
 
 /// The next item, or `None` at the end of the lane.
 fn next<R: Wait>(rt: &R, intake: &mut Intake<u32>) -> Option<u32>
-    ensures { (intake.new.lane ≡ intake.old.lane) × (intake.new.capacity ≡ intake.old.capacity) }
+    ensures same_lane { (intake.new.lane ≡ intake.old.lane) × (intake.new.capacity ≡ intake.old.capacity) }
 {
     for _ in rt.forever() {
         match intake.take(rt) {
@@ -83,7 +83,7 @@ fn next<R: Wait>(rt: &R, intake: &mut Intake<u32>) -> Option<u32>
 
 /// Sends the numbers below 100,000 and closes the lane.
 fn send_all<R: Wait>(rt: &R, mut port: Port<u32>) -> Port<u32>
-    ensures { (result.lane ≡ port.lane) × (result.capacity ≡ port.capacity) }
+    ensures same_lane { (result.lane ≡ port.lane) × (result.capacity ≡ port.capacity) }
 {
     for number in 0..100_000 {
         send_at_last(rt, &mut port, number);
@@ -94,7 +94,7 @@ fn send_all<R: Wait>(rt: &R, mut port: Port<u32>) -> Port<u32>
 
 /// Whether the numbers below 100,000 come in order, and then the end of the lane.
 fn take_all<R: Wait>(rt: &R, mut intake: Intake<u32>) -> (Intake<u32>, bool)
-    ensures { (result.0.lane ≡ intake.lane) × (result.0.capacity ≡ intake.capacity) }
+    ensures same_lane { (result.0.lane ≡ intake.lane) × (result.0.capacity ≡ intake.capacity) }
 {
     let mut in_order = true;
     for number in 0..100_000 {
@@ -110,16 +110,17 @@ fn carries<R: Threads + Wait + Sync>(
     alloc: Global,
     capacity: usize,
 ) -> Result<bool, LaneError>
-    requires { (0 < capacity) × (capacity ≤ MAX_CAPACITY) }
+    requires some { 0 < capacity }
+    requires limit { capacity ≤ MAX_CAPACITY }
 {
     let (port, intake) = lane(alloc, capacity)?;
     let (mut port, (mut intake, in_order)) = thread::join(
         rt,
         move || -> Port<u32>
-            ensures { (result.lane ≡ port.lane) × (result.capacity ≡ port.capacity) }
+            ensures same_lane { (result.lane ≡ port.lane) × (result.capacity ≡ port.capacity) }
         { send_all(rt, port) },
         move || -> (Intake<u32>, bool)
-            ensures { (result.0.lane ≡ intake.lane) × (result.0.capacity ≡ intake.capacity) }
+            ensures same_lane { (result.0.lane ≡ intake.lane) × (result.0.capacity ≡ intake.capacity) }
         { take_all(rt, intake) },
     );
     Ok(in_order && agree(rt, &mut port, &mut intake))

@@ -39,7 +39,7 @@ impl<T> Reader<T> {
     pub(super) fn new(queue: Arc<Queue<T>, Global>, pass: Knows<T>) -> Self
         requires queue { IsPassOf (arc_value queue) pass }
         requires pass { view pass ≡ for_reader at_first }
-        ensures { result ≡ new_reader (arc_value queue).table.shared.table_id (ruled_capacity (arc_value queue)) }
+        ensures reader { result ≡ new_reader (arc_value queue).table.shared.table_id (ruled_capacity (arc_value queue)) }
     {
         Reader { queue, pass }
     }
@@ -59,7 +59,7 @@ impl<T> Reader<T> {
 
     /// Changes nothing: what was popped is a beginning of what was pushed, and the pipe holds the rest.
     pub(crate) fn meet<R: Wait>(&mut self, rt: &R, writer: &mut Writer<T>)
-        requires { writer.old.queue ≡ self.old.queue }
+        requires same_queue { writer.old.queue ≡ self.old.queue }
         ensures reader { self.new ≡ self.old }
         ensures writer { writer.new ≡ writer.old }
         ensures in_order { IsBeginning self.old.popped writer.old.pushed }
@@ -73,7 +73,7 @@ impl<T> Reader<T> {
 
     /// Takes out the item at the front of the pipe, or `None` where all that was pushed has been popped.
     pub(crate) fn pop_beside<R: Wait>(&mut self, rt: &R, writer: &mut Writer<T>) -> Option<T>
-        requires { writer.old.queue ≡ self.old.queue }
+        requires same_queue { writer.old.queue ≡ self.old.queue }
         ensures writer { writer.new ≡ writer.old }
         ensures popped { IfSome result (λ x. self.new ≡ record self.old { popped = self.old.popped ++ x ∷ [] }) }
         ensures next { IfSome result (λ x. IsBeginning (self.old.popped ++ x ∷ []) writer.old.pushed) }
