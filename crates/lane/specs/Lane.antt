@@ -6,7 +6,8 @@ use Rattle.atomic_table.specs.Seated.{TableId}
 abbrev pub IsBeginning : {T : Type 0} → List T → List T → Type 0
 IsBeginning {T} xs ys = (rest : List T) × (ys ≡ xs ++ rest)
 
--- Which lane an end is of. A caller only ever compares two of them: what one is made of belongs to the representation
+-- Which lane an end is of. A caller only ever compares two of them: what one is made of belongs to the
+-- representation
 pub record LaneId : Type 0 where
   pub items : TableId
   pub close : TableId
@@ -57,10 +58,12 @@ module _ {T : Type 0} where
 
   -- the ends of a new lane: nothing was sent, taken or seen
   abbrev pub new_port : LaneId → ℕ → PortView T
-  new_port lane capacity = record { lane = lane; capacity = capacity; sent = []; closed = false; seen_taken = 0; looks = 0 }
+  new_port lane capacity =
+      record { lane = lane; capacity = capacity; sent = []; closed = false; seen_taken = 0; looks = 0 }
 
   abbrev pub new_intake : LaneId → ℕ → IntakeView T
-  new_intake lane capacity = record { lane = lane; capacity = capacity; taken = []; seen_sent = 0; seen_close = false; looks = 0 }
+  new_intake lane capacity =
+      record { lane = lane; capacity = capacity; taken = []; seen_sent = 0; seen_close = false; looks = 0 }
 
   -- the same port later: what it has seen, and how often it looked, doesn't fall
   pub record PortGoesOn (old new : PortView T) : Type 0 where

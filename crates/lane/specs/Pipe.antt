@@ -1,7 +1,7 @@
 -- A pipe: a queue with one writer and one reader. What is seen of its ends, and the rule that its queue keeps.
 use mathlib.Core.Option.{some}
 use lib.ListN.{get_elem?}
-use Rattle.std.specs.Prelude.{◌≡◌, ℕ, ◌+◌, ◌^◌, ◌≤◌, true, false, List, [], ◌++◌, length}
+use Rattle.std.specs.Prelude.{◌≡◌, ℕ, ◌+◌, ◌^◌, ◌≤◌, true, false, List, [], ◌∷◌, ◌++◌, length}
 use Rattle.atomic_table.specs.Seated.{TableId}
 use Rattle.lane.specs.declared.pipe.rule.Known.{Known}
 
@@ -25,14 +25,23 @@ pub record Read (T : Type 0) : Type 0 where
 
 module _ {T : Type 0} where
   abbrev pub new_writer : TableId → ℕ → Written T
-  new_writer queue capacity = record { queue = queue; capacity = capacity; pushed = []; seen_popped = 0; looks = 0 }
+  new_writer queue capacity =
+      record { queue = queue; capacity = capacity; pushed = []; seen_popped = 0; looks = 0 }
 
   abbrev pub new_reader : TableId → ℕ → Read T
   new_reader queue capacity = record { queue = queue; capacity = capacity; popped = []; looks = 0 }
 
   -- a pass that knows nothing
   abbrev pub nothing : Known T
-  nothing = record { writes = false; reads = false; pushed = []; popped = []; pushed_at_look = 0; refused = 0; missed = 0 }
+  nothing = record {
+    writes = false;
+    reads = false;
+    pushed = [];
+    popped = [];
+    pushed_at_look = 0;
+    refused = 0;
+    missed = 0;
+  }
 
   -- the pass of a new queue, which may both push and pop
   abbrev pub at_first : Known T
@@ -49,7 +58,14 @@ module _ {T : Type 0} where
   abbrev pub together : Known T → Known T → Known T
   together v w = record v { reads = true; popped = w.popped; missed = w.missed }
 
-  -- a push was refused, and a pop found nothing
+  -- the item was pushed, or popped
+  abbrev pub after_push : Known T → T → Known T
+  after_push v x = record v { pushed = v.pushed ++ x ∷ [] }
+
+  abbrev pub after_pop : Known T → T → Known T
+  after_pop v x = record v { popped = v.popped ++ x ∷ [] }
+
+  -- a push was refused, or a pop found nothing
   abbrev pub after_refusal : Known T → Known T
   after_refusal v = record v { pushed_at_look = length v.pushed; refused = v.refused + 1 }
 
@@ -69,4 +85,5 @@ module _ {T : Type 0} where
     pub popped : List T
     pub order : pushed ≡ popped ++ items
     pub few : length pushed ≤ 2 ^ 62
-    pub each : (pass : ℕ) (v : Known T) → get_elem? views pass ≡ some v → Fits writer reader pushed popped pass v
+    pub each : (pass : ℕ) (v : Known T) → get_elem? views pass ≡ some v
+        → Fits writer reader pushed popped pass v

@@ -22,7 +22,8 @@ module _ {T : Type 0} where
   IfEnd Empty P = Unit {0}
   IfEnd End P = P
 
-  -- the answer where these items were sent and not taken: the first of them, else `End` where the port has closed
+  -- the answer where these items were sent and not taken: the first of them, or else `End` where the port has
+  -- closed
   abbrev pub next_of : List T → Bool → Taken T
   next_of (x ∷ rest) closed = Item x
   next_of [] true = End

@@ -11,7 +11,8 @@ use std::sync::Wait;
 /// The largest capacity of a lane.
 pub const MAX_CAPACITY: usize = 1_024;
 
-/// Makes a lane that holds at most `capacity` items, and returns its two ends, each of which may go to a thread of its own.
+/// Makes a lane that holds at most `capacity` items, and returns its two ends. Each may go to a thread of its
+/// own.
 pub fn lane<T: Drop>(alloc: Global, capacity: usize) -> Result<(Port<T>, Intake<T>), LaneError>
     requires some { 0 < capacity }
     requires limit { capacity ≤ MAX_CAPACITY }

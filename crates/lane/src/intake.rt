@@ -1,4 +1,5 @@
-ghost use Rattle.std.specs.Prelude.{◌≡◌, ◌<◌, ◌+◌, [], ◌∷◌, ◌++◌, false, length, drop, IfSome, IfNone};
+ghost use Rattle.std.specs.Prelude.{◌≡◌, ◌<◌, ◌+◌, [], ◌∷◌, ◌++◌, false, length, drop};
+ghost use Rattle.std.specs.Prelude.{IfSome, IfNone};
 ghost use Rattle.lane.specs.Lane.{Lane, SameLane, PortGoesOn, IntakeGoesOn, HasEnded, new_intake};
 ghost use Rattle.lane.specs.Pipe.{new_reader};
 ghost use Rattle.lane.specs.Taken.{items_of, next_of, IfEmpty, IfEnd};
@@ -53,7 +54,8 @@ impl<T> Intake<T> {
     pub(crate) fn new(items: Reader<T>, close: Reader<u64>) -> Self
         requires items { items ≡ new_reader items.queue items.capacity }
         requires close { close ≡ new_reader close.queue 1 }
-        ensures intake { result ≡ new_intake record { items = items.queue; close = close.queue } items.capacity }
+        ensures intake { result ≡ new_intake record { items = items.queue; close = close.queue }
+            items.capacity }
     {
         Intake {
             items,
@@ -63,7 +65,8 @@ impl<T> Intake<T> {
         }
     }
 
-    /// Takes the next item, in the order sent. After `End` the answer is always `End`.
+    /// Takes the next item, in the order sent, or tells that the lane is empty or at its end. After `End` the
+    /// answer is always `End`.
     pub fn take<R: Wait>(&mut self, rt: &R) -> Taken<T>
         ensures intake { IntakeGoesOn self.old self.new }
         ensures taken { self.new.taken ≡ self.old.taken ++ items_of result }
@@ -92,7 +95,8 @@ impl<T> Intake<T> {
         }
     }
 
-    /// Takes the next item with the port of the same lane at hand: `Empty` or `End` only where all that was sent is taken.
+    /// Takes the next item, with the port of the same lane at hand: the answer is `Empty` or `End` only where all
+    /// that was sent is taken.
     pub fn take_beside<R: Wait>(&mut self, rt: &R, port: &mut Port<T>) -> Taken<T>
         requires same_lane { SameLane port.old self.old }
         ensures lane_before { Lane port.old self.old }
@@ -121,7 +125,7 @@ impl<T> Intake<T> {
         }
     }
 
-    /// Changes nothing.
+    /// Shows *Lane* of the two ends. It changes nothing.
     pub(crate) fn meet<R: Wait>(&mut self, rt: &R, port: &mut Port<T>)
         requires same_lane { SameLane port.old self.old }
         ensures lane { Lane port.old self.old }

@@ -1,4 +1,5 @@
-ghost use Rattle.std.specs.Prelude.{◌≡◌, ◌+◌, ◌<◌, ◌≤◌, ◌↔◌, true, false, [], ◌∷◌, ◌++◌, length, Err, IsOk, OnOk, OnErr, IfErr};
+ghost use Rattle.std.specs.Prelude.{◌≡◌, ◌+◌, ◌<◌, ◌≤◌, ◌↔◌, true, false, [], ◌∷◌, ◌++◌, length};
+ghost use Rattle.std.specs.Prelude.{Err, IsOk, OnOk, OnErr, IfErr};
 ghost use Rattle.lane.specs.Lane.{PortGoesOn, new_port};
 ghost use Rattle.lane.specs.Pipe.{new_writer};
 ghost use Rattle.lane.specs.Refused.{item_of};
@@ -33,7 +34,7 @@ pub struct Port<T> {
 }
 
 impl<T> Model for Port<T> {
-    ghost use Rattle.std.specs.Prelude.{◌≡◌, ◌^◌, ◌<◌, ◌≤◌, if◌then◌else◌, [], ◌∷◌, length};
+    ghost use Rattle.std.specs.Prelude.{◌≡◌, ◌^◌, ◌≤◌, if◌then◌else◌, [], ◌∷◌, length};
     ghost use Rattle.lane.specs.Lane.{PortView};
 
     ghost Value = { PortView T };
@@ -55,7 +56,8 @@ impl<T> Port<T> {
     pub(crate) fn new(items: Writer<T>, close: Writer<u64>) -> Self
         requires items { items ≡ new_writer items.queue items.capacity }
         requires close { close ≡ new_writer close.queue 1 }
-        ensures port { result ≡ new_port record { items = items.queue; close = close.queue } items.capacity }
+        ensures port { result ≡ new_port record { items = items.queue; close = close.queue }
+            items.capacity }
     {
         Port {
             items,
@@ -65,8 +67,9 @@ impl<T> Port<T> {
         }
     }
 
-    /// Sends the item. A refusal hands it back: `Closed` after [`Port::close`], else `Worn` after [`MAX_SENT`] items, else
-    /// `Full` where the intake, looked at anew in that call, has taken none of the last `capacity` items sent.
+    /// Sends the item. A refusal hands it back: `Closed` after [`Port::close`], else `Worn` after [`MAX_SENT`]
+    /// items, else `Full` where the port, looking anew in that call, has seen none of the last `capacity` items
+    /// taken.
     pub fn send<R: Wait>(&mut self, rt: &R, item: T) -> Result<(), Refused<T>>
         ensures port { PortGoesOn self.old self.new }
         ensures sent { OnOk result (self.new.sent ≡ self.old.sent ++ item ∷ []) }
@@ -76,9 +79,11 @@ impl<T> Port<T> {
 
         // The refusals in their order.
         ensures closed { (result ≡ Err (Refused.Closed item)) ↔ (self.old.closed ≡ true) }
-        ensures worn { (result ≡ Err (Refused.Worn item)) ↔ ((self.old.closed ≡ false) × (MAX_SENT ≤ length self.old.sent)) }
+        ensures worn { (result ≡ Err (Refused.Worn item))
+            ↔ ((self.old.closed ≡ false) × (MAX_SENT ≤ length self.old.sent)) }
         ensures full_looks { result ≡ Err (Refused.Full item) → self.old.looks < self.new.looks }
-        ensures full { result ≡ Err (Refused.Full item) → length self.new.sent ≡ self.new.seen_taken + self.new.capacity }
+        ensures full { result ≡ Err (Refused.Full item)
+            → length self.new.sent ≡ self.new.seen_taken + self.new.capacity }
 
         // An open lane with room by what the port has seen taken refuses nothing but the item after the last.
         ensures room { self.old.closed ≡ false → length self.old.sent < MAX_SENT

@@ -104,7 +104,8 @@ fn take_all<R: Wait>(rt: &R, mut intake: Intake<u32>) -> (Intake<u32>, bool)
     (intake, in_order && ended)
 }
 
-/// Whether the numbers go in order through a lane of this capacity, from one thread to another, and the ends agree then.
+/// Whether the numbers go in order through a lane of this capacity, from one thread to another, and the ends
+/// agree then.
 fn carries<R: Threads + Wait + Sync>(
     rt: &R,
     alloc: Global,

@@ -1,4 +1,4 @@
-ghost use Rattle.std.specs.Prelude.{◌≡◌, ◌+◌, ◌^◌, ◌≤◌, ◌∷◌, ◌++◌, [], length, IfSome, IfNone};
+ghost use Rattle.std.specs.Prelude.{◌≡◌, ◌+◌, ◌^◌, ◌≤◌, [], ◌∷◌, ◌++◌, length, IfSome, IfNone};
 ghost use Rattle.std.specs.Arc.{arc_value};
 ghost use Rattle.crossbeam_queue.specs.Passes.{view, IsPassOf, ruled_capacity};
 ghost use Rattle.lane.specs.Lane.{IsBeginning};
@@ -39,14 +39,16 @@ impl<T> Reader<T> {
     pub(super) fn new(queue: Arc<Queue<T>, Global>, pass: Knows<T>) -> Self
         requires queue { IsPassOf (arc_value queue) pass }
         requires pass { view pass ≡ for_reader at_first }
-        ensures reader { result ≡ new_reader (arc_value queue).table.shared.table_id (ruled_capacity (arc_value queue)) }
+        ensures reader { result ≡ new_reader (arc_value queue).table.shared.table_id
+            (ruled_capacity (arc_value queue)) }
     {
         Reader { queue, pass }
     }
 
     /// Takes out the item at the front of the pipe, or `None` where it holds none.
     pub(crate) fn pop<R: Wait>(&mut self, rt: &R) -> Option<T>
-        ensures popped { IfSome result (λ x. self.new ≡ record self.old { popped = self.old.popped ++ x ∷ [] }) }
+        ensures popped { IfSome result (λ x.
+            self.new ≡ record self.old { popped = self.old.popped ++ x ∷ [] }) }
         ensures few { IfSome result (λ _. length self.new.popped ≤ 2 ^ 62) }
         ensures missed { IfNone result (self.new ≡ record self.old { looks = self.old.looks + 1 }) }
     {
@@ -57,7 +59,7 @@ impl<T> Reader<T> {
         answer
     }
 
-    /// Changes nothing: what was popped is a beginning of what was pushed, and the pipe holds the rest.
+    /// Shows that what was popped is a beginning of what was pushed. It changes nothing.
     pub(crate) fn meet<R: Wait>(&mut self, rt: &R, writer: &mut Writer<T>)
         requires same_queue { writer.old.queue ≡ self.old.queue }
         ensures reader { self.new ≡ self.old }
@@ -75,7 +77,8 @@ impl<T> Reader<T> {
     pub(crate) fn pop_beside<R: Wait>(&mut self, rt: &R, writer: &mut Writer<T>) -> Option<T>
         requires same_queue { writer.old.queue ≡ self.old.queue }
         ensures writer { writer.new ≡ writer.old }
-        ensures popped { IfSome result (λ x. self.new ≡ record self.old { popped = self.old.popped ++ x ∷ [] }) }
+        ensures popped { IfSome result (λ x.
+            self.new ≡ record self.old { popped = self.old.popped ++ x ∷ [] }) }
         ensures next { IfSome result (λ x. IsBeginning (self.old.popped ++ x ∷ []) writer.old.pushed) }
         ensures few { IfSome result (λ _. length self.new.popped ≤ 2 ^ 62) }
         ensures unchanged { IfNone result (self.new ≡ self.old) }

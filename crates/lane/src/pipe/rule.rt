@@ -1,16 +1,17 @@
 //! The rule that a pipe's queue keeps, and what each step on it tells.
-ghost use Rattle.std.specs.Prelude.{◌≡◌, ◌^◌, ◌≤◌, ⊤, true, [], ◌∷◌, ◌++◌, length};
+ghost use Rattle.std.specs.Prelude.{◌≡◌, ◌^◌, ◌≤◌, ⊤, true, ◌++◌, length};
 ghost use Rattle.crossbeam_queue.specs.Passes.{view, IsPassOf};
 ghost use Rattle.lane.specs.Lane.{IsBeginning};
-ghost use Rattle.lane.specs.Pipe.{at_first, nothing, for_writer, for_reader, together, after_refusal, after_miss, InOrder};
+ghost use Rattle.lane.specs.Pipe.{at_first, nothing, for_writer, for_reader, together};
+ghost use Rattle.lane.specs.Pipe.{after_push, after_pop, after_refusal, after_miss, InOrder};
 
 use crossbeam_queue::protocol::{Join, Lesson, Outcome, Protocol, Split};
 use crossbeam_queue::{Pass, RuledArrayQueue};
 use std::collections::LinkedList;
 use std::mem;
 
-/// What a pass knows: what it may do, what it has pushed and popped, how many it had pushed at its last refused push, how
-/// many of its pushes were refused, and how many of its pops found nothing. No value of it is made.
+/// What a pass knows: what it may do, what it has pushed and popped, how many it had pushed at its last refused
+/// push, how many of its pushes were refused, and how many of its pops found nothing. No value of it is made.
 pub(crate) struct Known<T> {
     pub(crate) writes: bool,
     pub(crate) reads: bool,
@@ -82,7 +83,7 @@ impl<T> Split<Known<T>> for Miss {
 pub(super) struct Pushed;
 
 impl<T> Outcome<T, Known<T>> for Pushed {
-    ghost then = { λ v x w. w ≡ record v { pushed = v.pushed ++ x ∷ [] } };
+    ghost then = { λ v x w. w ≡ after_push v x };
 }
 
 impl<T> Lesson<T, Known<T>> for Pushed {
@@ -93,7 +94,7 @@ impl<T> Lesson<T, Known<T>> for Pushed {
 pub(super) struct Popped;
 
 impl<T> Outcome<T, Known<T>> for Popped {
-    ghost then = { λ v x w. (w ≡ record v { popped = v.popped ++ x ∷ [] }) × (length w.popped ≤ 2 ^ 62) };
+    ghost then = { λ v x w. (w ≡ after_pop v x) × (length w.popped ≤ 2 ^ 62) };
 }
 
 impl<T> Lesson<T, Known<T>> for Popped {
@@ -104,7 +105,7 @@ impl<T> Lesson<T, Known<T>> for Popped {
 pub(super) struct PoppedBeside;
 
 impl<T> Outcome<T, Known<T>> for PoppedBeside {
-    ghost then = { λ v x w. (w ≡ record v { popped = v.popped ++ x ∷ [] }) × (length w.popped ≤ 2 ^ 62)
+    ghost then = { λ v x w. (w ≡ after_pop v x) × (length w.popped ≤ 2 ^ 62)
         × IsBeginning w.popped v.pushed };
 }
 

@@ -1,4 +1,5 @@
-ghost use Rattle.std.specs.Prelude.{◌≡◌, ◌+◌, ◌-◌, ◌^◌, ◌<◌, ◌≤◌, ◌∷◌, ◌++◌, [], length, IsOk, OnOk, IfErr};
+ghost use Rattle.std.specs.Prelude.{◌≡◌, ◌+◌, ◌-◌, ◌^◌, ◌<◌, ◌≤◌, [], ◌∷◌, ◌++◌, length};
+ghost use Rattle.std.specs.Prelude.{IsOk, OnOk, IfErr};
 ghost use Rattle.std.specs.Arc.{arc_value};
 ghost use Rattle.crossbeam_queue.specs.Passes.{view, IsPassOf, ruled_capacity};
 ghost use Rattle.lane.specs.Pipe.{for_writer, new_writer, at_first};
@@ -39,22 +40,24 @@ impl<T> Writer<T> {
     pub(super) fn new(queue: Arc<Queue<T>, Global>, pass: Knows<T>) -> Self
         requires queue { IsPassOf (arc_value queue) pass }
         requires pass { view pass ≡ for_writer at_first }
-        ensures writer { result ≡ new_writer (arc_value queue).table.shared.table_id (ruled_capacity (arc_value queue)) }
+        ensures writer { result ≡ new_writer (arc_value queue).table.shared.table_id
+            (ruled_capacity (arc_value queue)) }
     {
         Writer { queue, pass }
     }
 
-    /// How many items the pipe holds at most.
+    /// Returns how many items the pipe holds at most.
     pub(crate) fn capacity(&self) -> usize
         ensures capacity { result ≡ self.now.capacity }
     {
         self.queue.capacity()
     }
 
-    /// Puts the item at the end of the pipe. A full pipe hands it back.
+    /// Puts the item at the back of the pipe. A full pipe hands it back.
     pub(crate) fn push<R: Wait>(&mut self, rt: &R, item: T) -> Result<(), T>
         requires few { length self.old.pushed < 2 ^ 62 }
-        ensures pushed { OnOk result (self.new ≡ record self.old { pushed = self.old.pushed ++ item ∷ [] }) }
+        ensures pushed { OnOk result (
+            self.new ≡ record self.old { pushed = self.old.pushed ++ item ∷ [] }) }
         ensures refused { IfErr result (λ _. self.new ≡ record self.old {
           looks = self.old.looks + 1;
           seen_popped = length self.old.pushed - self.old.capacity;
