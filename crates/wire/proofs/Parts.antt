@@ -13,7 +13,7 @@ use Rattle.byteorder.specs.Endian.{big_bytes}
 use Rattle.keyspace.specs.Key.{IsKey, IsBytes, is_before}
 use Rattle.keyspace.proofs.Booleans.{and_left, and_right}
 use Rattle.wire.specs.declared.error.WireError.{WireError}
-use Rattle.wire.specs.declared.error.WireError.TheVariants.{Kind, Marks, Count, KeyLength, Inverted, Cut, Form, Spelling}
+use Rattle.wire.specs.declared.error.WireError.TheVariants.{Kind, Marks, Count, KeyLength, Inverted, Cut, Spelling}
 use Rattle.wire.specs.declared.version.WireVersion.{WireVersion}
 use Rattle.wire.specs.declared.version.WireVersion.TheVariants.{One, Two}
 use Rattle.wire.specs.Fields.{RangeFields, TxnFields, BatchFields}

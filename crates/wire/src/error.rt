@@ -30,7 +30,7 @@ pub enum WireError {
     /// A count is above its limit, or a verdict other than conflict has places.
     #[error("7 Count")]
     Count = 7,
-    /// A key is longer than `MAX_KEY_LENGTH`.
+    /// A key is longer than an end of a range, or than a single key, may be.
     #[error("8 KeyLength")]
     KeyLength = 8,
     /// A range's begin is after its end.

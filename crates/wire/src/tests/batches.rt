@@ -164,6 +164,9 @@ fn batch_of_longest_keys(rt: &impl Abort, alloc: Global, count: usize) -> Result
     for _ in 0..count {
         let begin = Key::new(vec![in alloc; 0; 10_001]?);
         let end = begin.copy(alloc)?;
+        if end < begin {
+            return Err("a range that ends before it begins")?;
+        }
         writes.push(Range::new(begin, end))?;
     }
     assert!(rt; writes.len() <= 1_024);

@@ -1,4 +1,4 @@
-use Rattle.std.proofs.Common.{◌≡◌, ◌∷◌, ◌++◌, [], length, ap, sym, ◌∙◌}
+use Rattle.std.proofs.Common.{length, ap, sym, ◌∙◌}
 use Rattle.std.specs.Str.{bytes_eq}
 use Rattle.wire.proofs.Singles.{empty_not_single, single_if_zero, single_unless_zero}
 use Rattle.wire.proofs.single.is_single.Goals as goal

@@ -1,4 +1,4 @@
-use Rattle.std.proofs.Common.{◌≡◌, ◌∙◌, List, ℕ, Option, sym, subst}
+use Rattle.std.proofs.Common.{◌∙◌, List, ℕ, Option, sym, subst}
 use Rattle.std.proofs.lemmas.Result.{err_from_is_err_and}
 use Rattle.wire.specs.declared.error.WireError.TheVariants.{Memory}
 use Rattle.wire.specs.Upgrade.{StopsAt}
