@@ -1,0 +1,59 @@
+-- The ten sizes, and which of them a key takes.
+use Rattle.std.proofs.Common.{◌≡◌, ℕ, zero, suc, ◌+◌, ◌*◌, ◌<◌, ◌≤◌, Bool, true, false, nat_lt, List, [], ◌∷◌, length, count_by, slice_index, cond, refl, ap, ◌∙◌, add_comm, add-one, lit≤, arith}
+use borrow.Author.Tests.{ltb-true}
+use Rattle.std.proofs.lemmas.Bool.Decides.{nat_tests}
+use Rattle.std.proofs.lemmas.List.Sums.{sum_by-cons}
+use Rattle.arena.specs.Arena.{sizes, size_of, slots_of}
+
+-- each isn't below the one before
+abbrev Rise : ℕ → List ℕ → Type 0
+Rise x [] = Unit {0}
+Rise x (y ∷ ys) = (x ≤ y) × Rise y ys
+
+abbrev last_of : ℕ → List ℕ → ℕ
+last_of x [] = x
+last_of x (y ∷ ys) = last_of y ys
+
+abbrev too_short : ℕ → List ℕ → ℕ
+too_short n xs = count_by (λ x. nat_lt x n) xs
+
+count : (n x : ℕ) (ys : List ℕ) → too_short n (x ∷ ys) ≡ cond (nat_lt x n) 1 0 + too_short n ys
+count n x ys = sum_by-cons (λ y. cond (nat_lt y n) 1 0) x ys
+
+none_too_short : (n x : ℕ) (ys : List ℕ) → n ≤ x → Rise x ys → too_short n ys ≡ 0
+none_too_short n x [] fits rise = refl
+none_too_short n x (y ∷ ys) fits rise =
+    let here : nat_lt y n ≡ false = not_less y n (omega arith) in
+    count n y ys ∙ ap (λ b. cond b 1 0 + too_short n ys) here ∙ none_too_short n y ys (omega arith) rise.1
+  where
+    not_less : (y n : ℕ) → n ≤ y → nat_lt y n ≡ false
+    not_less y n le = grind (arith, nat_tests)
+
+-- the first that isn't too short has so many before it as are too short
+first_that_fits : (n x : ℕ) (ys : List ℕ) → Rise x ys → n ≤ last_of x ys
+    → (too_short n (x ∷ ys) < suc (length ys)) × (n ≤ slice_index (x ∷ ys) (too_short n (x ∷ ys)))
+first_that_fits n x ys rise fits = by_test (nat_lt x n) refl ys rise fits
+  where
+    at_first : (k : ℕ) (zs : List ℕ) → k ≡ 0 → n ≤ x → (k < suc (length zs)) × (n ≤ slice_index (x ∷ zs) k)
+    at_first k zs is le = rw is (omega arith, le)
+
+    later : (k j m : ℕ) (zs : List ℕ) → k ≡ 1 + j → (j < m) × (n ≤ slice_index zs j) → (k < suc m) × (n ≤ slice_index (x ∷ zs) k)
+    later k j m zs is found = rw (is, add_comm 1 j, add-one) (omega (arith, found.0), found.1)
+
+    by_test : (b : Bool) → nat_lt x n ≡ b → (zs : List ℕ) → Rise x zs → n ≤ last_of x zs
+        → (too_short n (x ∷ zs) < suc (length zs)) × (n ≤ slice_index (x ∷ zs) (too_short n (x ∷ zs)))
+    by_test true is [] up le = absurd (omega (arith, ltb-true x n is))
+    by_test true is (y ∷ ys) up le =
+        let e = count n x (y ∷ ys) ∙ ap (λ b. cond b 1 0 + too_short n (y ∷ ys)) is in
+        later _ _ (suc (length ys)) (y ∷ ys) e (first_that_fits n y ys up.1 le)
+    by_test false is zs up le =
+        let e = count n x zs ∙ ap (λ b. cond b 1 0 + too_short n zs) is in
+        at_first _ zs (e ∙ none_too_short n x zs (not_above x n is) up) (not_above x n is)
+      where
+        not_above : (x n : ℕ) → nat_lt x n ≡ false → n ≤ x
+        not_above x n is = grind (arith, nat_tests)
+
+pub size_fits : (n : ℕ) → n ≤ 16384 → (size_of n < 10) × (n ≤ slice_index sizes (size_of n))
+size_fits n fits =
+    let rest : List ℕ = 64 ∷ 128 ∷ 256 ∷ 512 ∷ 1024 ∷ 2048 ∷ 4096 ∷ 8192 ∷ 16384 ∷ [] in
+    first_that_fits n 32 rest (lit≤ tt, (lit≤ tt, (lit≤ tt, (lit≤ tt, (lit≤ tt, (lit≤ tt, (lit≤ tt, (lit≤ tt, (lit≤ tt, tt))))))))) fits
