@@ -1,2 +1,6 @@
 pub mod Sizes
 pub mod Cells
+pub mod Slots
+pub mod Records
+pub mod Keeping
+pub mod Growing

@@ -3,3 +3,4 @@ pub mod Arena
 pub mod Entry
 pub mod Chunk
 pub mod ChunkLends
+pub mod Kept
