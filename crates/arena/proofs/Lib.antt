@@ -4,3 +4,4 @@ pub mod Slots
 pub mod Records
 pub mod Keeping
 pub mod Growing
+pub mod Reading

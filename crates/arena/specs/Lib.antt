@@ -4,3 +4,4 @@ pub mod Entry
 pub mod Chunk
 pub mod ChunkLends
 pub mod Kept
+pub mod Lends

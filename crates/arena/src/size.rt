@@ -1,5 +1,7 @@
-ghost use Rattle.std.specs.Prelude.{◌≡◌, ◌*◌, ◌<◌, ◌≤◌, slice_index};
-ghost use Rattle.arena.specs.Arena.{sizes, size_of, slots_of};
+ghost use Rattle.std.specs.Prelude.{◌≡◌, ℕ, ◌*◌, ◌<◌, ◌≤◌, slice_index, All, Any, IfErr, IfOk, OnOk, OnErr};
+ghost use Rattle.arena.specs.Arena.{sizes, size_of, slots_of, wanted_of};
+
+use crate::error::ArenaError;
 
 /// The greatest length of a key in an arena, in bytes.
 pub const MAX_LENGTH: usize = 16_384;
@@ -37,4 +39,22 @@ pub(crate) fn size_of(length: usize) -> usize
     ensures { result ≡ size_of length }
 {
     WIDTHS.iter().filter(|width| **width < length).count()
+}
+
+/// Returns how many of the lengths are of each size, or `TooLong` where one is above `MAX_LENGTH`.
+pub(crate) fn count_sizes(lengths: &[usize]) -> Result<[usize; SIZES], ArenaError>
+    ensures counts { IfOk result (λ counts. (size : ℕ) → size < 10
+        → slice_index counts size ≡ wanted_of lengths.now size) }
+    ensures fit { OnOk result (All (λ n. n ≤ 16384) lengths.now) }
+    ensures one_is_longer { OnErr result (Any (λ n. 16384 < n) lengths.now) }
+    ensures too_long { IfErr result (λ e. e ≡ ArenaError.TooLong) }
+{
+    let mut counts = [0; SIZES];
+    for length in lengths {
+        if *length > MAX_LENGTH {
+            return Err(ArenaError::TooLong);
+        }
+        counts[size_of(*length)] += 1;
+    }
+    Ok(counts)
 }
