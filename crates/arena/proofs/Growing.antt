@@ -51,7 +51,7 @@ module _ {H : Type 0} where
       (ap (option_and_then (λ c. slice_get c.cells (q % 512))) same, ap (option_map (λ c. c.size)) same)
 
   -- a slot that some chunk has
-  in_chunk : (chunks : List (Chunk H)) (q size : ℕ) → size_at chunks q ≡ Some size → q / 512 < length chunks
+  pub in_chunk : (chunks : List (Chunk H)) (q size : ℕ) → size_at chunks q ≡ Some size → q / 512 < length chunks
   in_chunk chunks q size is = by_get (slice_get chunks (q / 512)) refl
     where
       by_get : (o : Option (Chunk H)) → slice_get chunks (q / 512) ≡ o → q / 512 < length chunks

@@ -5,3 +5,4 @@ pub mod Records
 pub mod Keeping
 pub mod Growing
 pub mod Reading
+pub mod Giving

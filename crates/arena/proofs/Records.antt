@@ -112,3 +112,13 @@ module _ {H : Type 0} where
           let empty : map.get m slot ≡ None = ap (λ n. map.get n slot) (map.empty_of_len m none) ∙ map.get-empty nat_cmp slot in
           cc
       by_len (suc n) some = omega arith
+
+  -- what the other slots have then
+  pub get-put_same : (m : Records H) (slot : ℕ) (r : Record H) → map.get (map.insert m slot r) slot ≡ Some r
+  get-put_same m slot r = map.get-insert nat_cmp_total m slot r slot ∙ ap (λ b. cond b (Some r) (map.get m slot)) (same_number slot slot refl)
+
+  pub get-put_other : (m : Records H) (slot : ℕ) (r : Record H) (q : ℕ) → q ≢ slot → map.get (map.insert m slot r) q ≡ map.get m q
+  get-put_other m slot r q other = map.get-insert nat_cmp_total m slot r q ∙ ap (λ b. cond b (Some r) (map.get m q)) (other_number q slot other)
+
+  pub get-freed_other : (m : Records H) (slot q : ℕ) → q ≢ slot → map.get (map.remove m slot) q ≡ map.get m q
+  get-freed_other m slot q other = map.get-remove nat_cmp_total m slot q ∙ ap (λ b. cond b None (map.get m q)) (other_number q slot other)
