@@ -6,3 +6,4 @@ pub mod Keeping
 pub mod Growing
 pub mod Reading
 pub mod Giving
+pub mod Releasing

@@ -1,5 +1,5 @@
 -- The ten sizes, and which of them a key takes.
-use Rattle.std.proofs.Common.{◌≡◌, ℕ, zero, suc, ◌+◌, ◌*◌, ◌<◌, ◌≤◌, Bool, true, false, nat_lt, List, [], ◌∷◌, length, count_by, slice_index, cond, refl, ap, ◌∙◌, add_comm, add-one, lit≤, arith}
+use Rattle.std.proofs.Common.{◌≡◌, ℕ, zero, suc, ◌+◌, ◌*◌, ◌<◌, ◌≤◌, Bool, true, false, nat_lt, List, [], ◌∷◌, length, count_by, slice_index, cond, refl, ap, ◌∙◌, add_comm, add-one, zero-add, lit≤, arith}
 use borrow.Author.Tests.{ltb-true}
 use Rattle.std.proofs.lemmas.Bool.Decides.{nat_tests}
 use Rattle.std.proofs.lemmas.List.Sums.{sum_by-cons}
@@ -24,34 +24,37 @@ none_too_short : (n x : ℕ) (ys : List ℕ) → n ≤ x → Rise x ys → too_s
 none_too_short n x [] fits rise = refl
 none_too_short n x (y ∷ ys) fits rise =
     let here : nat_lt y n ≡ false = not_less y n (omega arith) in
-    count n y ys ∙ ap (λ b. cond b 1 0 + too_short n ys) here ∙ none_too_short n y ys (omega arith) rise.1
+    count n y ys ∙ ap (λ b. cond b 1 0 + too_short n ys) here ∙ zero-add (too_short n ys) ∙ none_too_short n y ys (omega arith) rise.1
   where
     not_less : (y n : ℕ) → n ≤ y → nat_lt y n ≡ false
     not_less y n le = grind (arith, nat_tests)
 
+at_first : (n x : ℕ) (ys : List ℕ) → nat_lt x n ≡ false → Rise x ys → (too_short n (x ∷ ys) < suc (length ys)) × (n ≤ slice_index (x ∷ ys) (too_short n (x ∷ ys)))
+at_first n x ys is rise =
+    let fits = not_above x n is in
+    let none = count n x ys ∙ ap (λ b. cond b 1 0 + too_short n ys) is ∙ zero-add (too_short n ys) ∙ none_too_short n x ys fits rise in
+    rw none (omega arith, fits)
+  where
+    not_above : (x n : ℕ) → nat_lt x n ≡ false → n ≤ x
+    not_above x n is = grind (arith, nat_tests)
+
+later : (n x k j m : ℕ) (ys : List ℕ) → k ≡ 1 + j → (j < m) × (n ≤ slice_index ys j) → (k < suc m) × (n ≤ slice_index (x ∷ ys) k)
+later n x k j m ys is found = rw (is, add_comm 1 j, add-one) (omega (arith, found.0), found.1)
+
 -- the first that isn't too short has so many before it as are too short
 first_that_fits : (n x : ℕ) (ys : List ℕ) → Rise x ys → n ≤ last_of x ys
     → (too_short n (x ∷ ys) < suc (length ys)) × (n ≤ slice_index (x ∷ ys) (too_short n (x ∷ ys)))
-first_that_fits n x ys rise fits = by_test (nat_lt x n) refl ys rise fits
+first_that_fits n x [] rise fits = by_test (nat_lt x n) refl
   where
-    at_first : (k : ℕ) (zs : List ℕ) → k ≡ 0 → n ≤ x → (k < suc (length zs)) × (n ≤ slice_index (x ∷ zs) k)
-    at_first k zs is le = rw is (omega arith, le)
-
-    later : (k j m : ℕ) (zs : List ℕ) → k ≡ 1 + j → (j < m) × (n ≤ slice_index zs j) → (k < suc m) × (n ≤ slice_index (x ∷ zs) k)
-    later k j m zs is found = rw (is, add_comm 1 j, add-one) (omega (arith, found.0), found.1)
-
-    by_test : (b : Bool) → nat_lt x n ≡ b → (zs : List ℕ) → Rise x zs → n ≤ last_of x zs
-        → (too_short n (x ∷ zs) < suc (length zs)) × (n ≤ slice_index (x ∷ zs) (too_short n (x ∷ zs)))
-    by_test true is [] up le = absurd (omega (arith, ltb-true x n is))
-    by_test true is (y ∷ ys) up le =
-        let e = count n x (y ∷ ys) ∙ ap (λ b. cond b 1 0 + too_short n (y ∷ ys)) is in
-        later _ _ (suc (length ys)) (y ∷ ys) e (first_that_fits n y ys up.1 le)
-    by_test false is zs up le =
-        let e = count n x zs ∙ ap (λ b. cond b 1 0 + too_short n zs) is in
-        at_first _ zs (e ∙ none_too_short n x zs (not_above x n is) up) (not_above x n is)
-      where
-        not_above : (x n : ℕ) → nat_lt x n ≡ false → n ≤ x
-        not_above x n is = grind (arith, nat_tests)
+    by_test : (b : Bool) → nat_lt x n ≡ b → (too_short n (x ∷ []) < 1) × (n ≤ slice_index (x ∷ []) (too_short n (x ∷ [])))
+    by_test true is = absurd (omega (arith, ltb-true x n is))
+    by_test false is = at_first n x [] is rise
+first_that_fits n x (y ∷ ys) rise fits = by_test (nat_lt x n) refl (first_that_fits n y ys rise.1 fits)
+  where
+    by_test : (b : Bool) → nat_lt x n ≡ b → (too_short n (y ∷ ys) < suc (length ys)) × (n ≤ slice_index (y ∷ ys) (too_short n (y ∷ ys)))
+        → (too_short n (x ∷ y ∷ ys) < suc (suc (length ys))) × (n ≤ slice_index (x ∷ y ∷ ys) (too_short n (x ∷ y ∷ ys)))
+    by_test true is found = later n x _ _ (suc (length ys)) (y ∷ ys) (count n x (y ∷ ys) ∙ ap (λ b. cond b 1 0 + too_short n (y ∷ ys)) is) found
+    by_test false is found = at_first n x (y ∷ ys) is rise
 
 pub size_fits : (n : ℕ) → n ≤ 16384 → (size_of n < 10) × (n ≤ slice_index sizes (size_of n))
 size_fits n fits =
