@@ -1,9 +1,11 @@
 -- The ten sizes, and which of them a key takes.
-use Rattle.std.proofs.Common.{◌≡◌, ℕ, zero, suc, ◌+◌, ◌*◌, ◌<◌, ◌≤◌, Bool, true, false, nat_lt, List, [], ◌∷◌, length, count_by, slice_index, cond, refl, ap, ◌∙◌, add_comm, add-one, zero-add, lit≤, arith}
+use Rattle.std.proofs.Common.{◌≡◌, ◌≢◌, ◌⊎◌, ◌==◌, inl, inr, ℕ, zero, suc, ◌+◌, ◌*◌, ◌<◌, ◌≤◌, Bool, true, false, nat_lt, List, [], ◌∷◌, length, take, set, get_or, count_by, slice_index, sym, cond, refl, ap, ◌∙◌, add_comm, add-one, zero-add, lit≤, arith}
 use borrow.Author.Tests.{ltb-true}
 use Rattle.std.proofs.lemmas.Bool.Decides.{nat_tests}
-use Rattle.std.proofs.lemmas.List.Sums.{sum_by-cons}
-use Rattle.arena.specs.Arena.{sizes, size_of, slots_of}
+use Rattle.std.proofs.lemmas.List.Sums.{sum_by-cons, count_by_more_yes, count_by_more_no, count_by-le-length}
+use Rattle.std.proofs.lemmas.List.{get_or-set_same, get_or-set_other, length-take-le}
+use Rattle.arena.specs.Arena.{sizes, size_of, wanted_of}
+use Rattle.arena.proofs.Slots.{same_or_other}
 
 -- each isn't below the one before
 abbrev Rise : ℕ → List ℕ → Type 0
@@ -60,3 +62,27 @@ pub size_fits : (n : ℕ) → n ≤ 16384 → (size_of n < 10) × (n ≤ slice_i
 size_fits n fits =
     let rest : List ℕ = 64 ∷ 128 ∷ 256 ∷ 512 ∷ 1024 ∷ 2048 ∷ 4096 ∷ 8192 ∷ 16384 ∷ [] in
     first_that_fits n 32 rest (lit≤ tt, (lit≤ tt, (lit≤ tt, (lit≤ tt, (lit≤ tt, (lit≤ tt, (lit≤ tt, (lit≤ tt, (lit≤ tt, tt))))))))) fits
+
+-- one more length is counted under its own size
+pub counted_more : (counts lengths : List ℕ) (i own s : ℕ) → length counts ≡ 10 → own < 10 → own ≡ size_of (get_or lengths i 0) → i < length lengths
+    → slice_index counts s ≡ wanted_of (take i lengths) s
+    → slice_index (set counts own (slice_index counts own + 1)) s ≡ wanted_of (take (i + 1) lengths) s
+counted_more counts lengths i own s ten below is within so_far = by_case (same_or_other s own)
+  where
+    test : (a b : ℕ) → a ≡ b → (a == b) ≡ true
+    test a b e = grind (arith, nat_tests)
+
+    test_not : (a b : ℕ) → a ≢ b → (a == b) ≡ false
+    test_not a b other = grind (arith, nat_tests)
+
+    by_case : (s ≡ own) ⊎ (s ≢ own) → slice_index (set counts own (slice_index counts own + 1)) s ≡ wanted_of (take (i + 1) lengths) s
+    by_case (inl same) =
+        ap (slice_index (set counts own (slice_index counts own + 1))) same ∙ get_or-set_same counts own (slice_index counts own + 1) 0 (omega arith)
+        ∙ ap (λ n. slice_index counts n + 1) (sym same) ∙ ap (λ n. n + 1) so_far
+        ∙ sym (count_by_more_yes (λ n. size_of n == s) lengths i 0 within (test _ _ (sym is ∙ sym same)))
+    by_case (inr other) =
+        get_or-set_other counts own s (slice_index counts own + 1) 0 other ∙ so_far
+        ∙ sym (count_by_more_no (λ n. size_of n == s) lengths i 0 within (test_not _ _ (λ e. other (sym e ∙ sym is))))
+
+pub wanted_of-bound : (lengths : List ℕ) (i s : ℕ) → i ≤ length lengths → wanted_of (take i lengths) s ≤ i
+wanted_of-bound lengths i s within = omega (arith, count_by-le-length (λ n. size_of n == s) (take i lengths), length-take-le i lengths within)

@@ -99,9 +99,7 @@ impl<H: Copy, A: Allocator + Copy> Arena<H, A> {
             return Err(ArenaError::TooLong);
         }
         let size = size_of(key.len());
-        if self.spare[size] == 0 {
-            self.grow(size)?;
-        }
+        self.spare_one(size)?;
         Ok(self.give(size, header, key))
     }
 
@@ -193,11 +191,30 @@ impl<H: Copy, A: Allocator + Copy> Arena<H, A> {
         Ok(())
     }
 
+    // Adds a chunk where no slot of the size is spare.
+    fn spare_one(&mut self, size: usize) -> Result<(), ArenaError>
+        requires { size < 10 }
+        ensures some { OnOk result (0 < spare_of self.new size) }
+        ensures spare { OnOk result (spare_of self.new size
+            ≡ (if spare_of self.old size == 0 then slots_of size else spare_of self.old size)) }
+        ensures records { self.new.records ≡ self.old.records }
+        ensures other_sizes { (s : ℕ) → s ≢ size → spare_of self.new s ≡ spare_of self.old s }
+        ensures enough { 0 < spare_of self.old size → IsOk result }
+        ensures unchanged { OnErr result (self.new ≡ self.old) }
+        ensures memory { IsOkUnless result ArenaError.Memory }
+    {
+        if self.spare[size] == 0 {
+            self.grow(size)?;
+        }
+        Ok(())
+    }
+
     // Adds a chunk of spare slots of the size.
     fn grow(&mut self, size: usize) -> Result<(), ArenaError>
         requires { size < 10 }
         ensures records { self.new.records ≡ self.old.records }
         ensures spare { OnOk result (spare_of self.new size ≡ spare_of self.old size + slots_of size) }
+        ensures more { OnOk result (spare_of self.old size < spare_of self.new size) }
         ensures other_sizes { (s : ℕ) → s ≢ size → spare_of self.new s ≡ spare_of self.old s }
         ensures unchanged { OnErr result (self.new ≡ self.old) }
         ensures memory { IsOkUnless result ArenaError.Memory }

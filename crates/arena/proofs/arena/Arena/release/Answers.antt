@@ -1,4 +1,4 @@
-use Rattle.std.proofs.Common.{◌≡◌, ◌≢◌, ℕ, ◌+◌, ◌-◌, ◌/◌, ◌%◌, ◌<◌, length, slice_index, slice_index_or, option_map, IfSome, None, Some, refl, sym, ap, ◌∙◌, arith, rules}
+use Rattle.std.proofs.Common.{◌≡◌, ◌≢◌, ℕ, ◌+◌, ◌-◌, ◌/◌, ◌%◌, ◌<◌, length, set, slice_index, slice_index_or, option_map, IfSome, None, Some, refl, sym, ap, ◌∙◌, arith, rules}
 use Rattle.std.proofs.lemmas.List.{get_or_default}
 use Rattle.std.proofs.lemmas.Option.{slice_get_within}
 use Rattle.std.specs.Option.{option_and_then}
@@ -50,7 +50,19 @@ returns-clause-others g c = λ other apart.
     rw (← c.self.view_is, c.free.ensures, c.index.ensures, c.chunk-2.ensures, released_records _ c.args.slot _ _ _ out) (get-freed_other _ c.args.slot other apart)
 
 pub returns-clause-spare : goal.returns-clause-spare
-returns-clause-spare g c = ?
+returns-clause-spare g c =
+    let live = rw (← c.self.view_is) at c.requires in
+    let out = IsReleased-read c.self.inside.chunks.items c.args.slot _ _ _ _ live c.chunk.ensures c.chunk-2.ensures c.index-chunk.ensures c.index_mut-chunk.ensures.value in
+    let within : c.size-size.result < length c.self.inside.spare = omega (arith, c.self.told) in
+    let spare = set c.self.inside.spare c.size-size.result (slice_index c.self.inside.spare c.size-size.result + 1) in
+    rw (← c.self.view_is)
+    (released_key _ _ _ _ c.size-size.result c.args.slot _ _ (λ n. slice_index spare n ≡ slice_index c.self.inside.spare n + 1) c.self.invariant out c.size-size.ensures.size (spare_more _ _ within))
 
 pub returns-clause-other_sizes : goal.returns-clause-other_sizes
-returns-clause-other_sizes g c = ?
+returns-clause-other_sizes g c =
+    let live = rw (← c.self.view_is) at c.requires in
+    let out = IsReleased-read c.self.inside.chunks.items c.args.slot _ _ _ _ live c.chunk.ensures c.chunk-2.ensures c.index-chunk.ensures c.index_mut-chunk.ensures.value in
+    let spare = set c.self.inside.spare c.size-size.result (slice_index c.self.inside.spare c.size-size.result + 1) in
+    rw (← c.self.view_is)
+    (released_key _ _ _ _ c.size-size.result c.args.slot _ _ (λ n. (s : ℕ) → s ≢ n → slice_index spare s ≡ slice_index c.self.inside.spare s) c.self.invariant out c.size-size.ensures.size
+    (λ s other. spare_same c.self.inside.spare c.size-size.result s _ other))
