@@ -13,6 +13,14 @@ use Rattle.arena.specs.declared.entry.Entry.TheVariants.{Free, Live}
 pub same_or_other : (a b : ℕ) → (a ≡ b) ⊎ (a ≢ b)
 same_or_other a b = grind arith
 
+-- what holds at one number and at every other
+pub at_each : (P : ℕ → Type 0) (own n : ℕ) → P own → (n ≢ own → P n) → P n
+at_each P own n here others = by_case (same_or_other n own)
+  where
+    by_case : (n ≡ own) ⊎ (n ≢ own) → P n
+    by_case (inl same) = subst P (sym same) here
+    by_case (inr other) = others other
+
 module _ {X : Type 0} where
   pub slice_get-set_same : (xs : List X) (i : ℕ) (x : X) → i < length xs → slice_get (set xs i x) i ≡ Some x
   slice_get-set_same [] i x within = absurd (omega arith)
