@@ -1,4 +1,4 @@
-ghost use Rattle.std.specs.Prelude.{◌≡◌, ◌≢◌, ℕ, ◌+◌, ◌<◌, ◌≤◌, ◌==◌, ◌↔◌, length, Some, None, IsOk, IsSome, IfOk, IfSome, OnOk, OnErr, IsOkUnless, Any, All, if◌then◌else◌};
+ghost use Rattle.std.specs.Prelude.{◌≡◌, ◌≢◌, ℕ, ◌+◌, ◌<◌, ◌≤◌, ◌==◌, ◌↔◌, length, Some, None, IsOk, IsSome, IsTrue, IfOk, IfSome, OnOk, OnErr, IsOkUnless, Any, All, if◌then◌else◌};
 ghost use Rattle.std.specs.Borrow.{sem};
 ghost use Rattle.std.specs.FinMap as map;
 ghost use Rattle.arena.specs.Arena.{size_of, slots_of, wanted_of, record_at, header_at, key_at, spare_of, with_header, IsLive};
@@ -172,6 +172,17 @@ impl<H: Copy, A: Allocator + Copy> Arena<H, A> {
         ensures { result ≡ map.len self.now.records }
     {
         self.live
+    }
+
+    // Whether a slot names a record, for tests.
+    #[cfg(test)]
+    pub(crate) fn is_live(&self, slot: Slot) -> bool
+        ensures { IsTrue result → IsLive self.now slot }
+    {
+        match self.chunks.get(slot.chunk()) {
+            Some(chunk) => chunk.is_live(slot.index()),
+            None => false,
+        }
     }
 
     // Adds chunks until so many slots of the size are spare.

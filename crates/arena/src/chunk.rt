@@ -1,4 +1,4 @@
-ghost use Rattle.std.specs.Prelude.{◌≡◌, ℕ, ◌+◌, ◌*◌, ◌<◌, ◌≤◌, ◌++◌, List, length, take, drop, slice_index, slice_set, slice_get, Some, IsSome, IfOk, option_map};
+ghost use Rattle.std.specs.Prelude.{◌≡◌, ℕ, ◌+◌, ◌*◌, ◌<◌, ◌≤◌, ◌++◌, List, length, take, drop, slice_index, slice_set, slice_get, Some, IsSome, IsTrue, IfOk, option_map};
 ghost use Rattle.std.specs.Borrow.{sem};
 ghost use Rattle.arena.specs.Arena.{sizes, slots_of};
 
@@ -84,6 +84,17 @@ impl<H, A: Allocator> Chunk<H, A> {
     {
         let length = self.entries[index].live().length as usize;
         part(&self.bytes, index * self.width, length)
+    }
+
+    /// Whether the slot at an index is live.
+    #[cfg(test)]
+    pub(crate) fn is_live(&self, index: usize) -> bool
+        ensures { IsTrue result → IsSome (held_at self.now.cells index) }
+    {
+        match self.entries.get(index) {
+            Some(entry) => matches!(entry, Entry::Live(_)),
+            None => false,
+        }
     }
 
     /// Frees a slot, and lets it lead to the next one that is free.
