@@ -37,7 +37,12 @@ pub record Arena (H : Type 0) : Type 0 where
 -- a record is stored as the pair of its fields
 abbrev pub record_code : {H : Type 0} → Coded H → Coded (Record H)
 record_code {H} code =
-    code_by (H × List ℕ) (coded× code (coded_list coded_ℕ)) (λ r. (r.header, r.key)) (λ p. record { header = p.0; key = p.1 }) (λ _. refl)
+    code_by
+    (H × List ℕ)
+    (coded× code (coded_list coded_ℕ))
+    (λ r. (r.header, r.key))
+    (λ p. record { header = p.0; key = p.1 })
+    (λ _. refl)
 
 -- and so is an arena
 abbrev pub arena_code : {H : Type 0} → Coded H → Coded (Arena H)
@@ -70,4 +75,5 @@ module _ {H : Type 0} where
   -- the arena with this header at a live slot
   abbrev pub with_header : Arena H → ℕ → H → Arena H
   with_header a slot header =
-      record a { records = map.insert a.records slot (record { header = header; key = unwrap_or (key_at a slot) [] }) }
+      let key = unwrap_or (key_at a slot) [] in
+      record a { records = map.insert a.records slot (record { header = header; key = key }) }

@@ -46,8 +46,10 @@ module _ {H : Type 0} where
     -- slots can name them all
     pub few : length chunks ≤ 8388608
     -- each size's spare slots are a list
-    pub lists : (size : ℕ) → size < 10 → FreeFrom chunks size (slice_index spare size) (slice_index_or first size None)
+    pub lists : (size : ℕ) → size < 10
+        → FreeFrom chunks size (slice_index spare size) (slice_index_or first size None)
     -- each record is in a slot of its key's size
-    pub sized : (slot : ℕ) (r : Record H) → record_in chunks slot ≡ Some r → size_at chunks slot ≡ Some (size_of (length r.key))
+    pub sized : (slot : ℕ) (r : Record H) → record_in chunks slot ≡ Some r
+        → size_at chunks slot ≡ Some (size_of (length r.key))
     pub counted : live ≡ map.len (records_of chunks)
     pub bounded : live + sum spare ≤ 512 * length chunks

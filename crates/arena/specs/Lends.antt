@@ -6,5 +6,6 @@ use Rattle.arena.specs.Arena.{Arena, with_header}
 use Rattle.arena.specs.contracts.arena.Arena.{the_row}
 
 -- once the borrow r ends, the slot has the last header written through r, and all else is as it was
-abbrev pub lends_header : (H A : RattleType) (alloc : Ghosts A.Denot) → MutBor (Arena H.Denot) → ℕ → MutBor H.Denot → Fml
+abbrev pub lends_header : (H A : RattleType) (alloc : Ghosts A.Denot)
+    → MutBor (Arena H.Denot) → ℕ → MutBor H.Denot → Fml
 lends_header H A alloc a slot r = Lends (the_row H A alloc) H a r (with_header a.now slot)

@@ -11,11 +11,12 @@ use std::alloc::{AllocError, Allocator, Global};
 use std::fmt;
 use std::marker::Model;
 
-/// Records of a header and key bytes, each in a slot of one of ten sizes. A slot that is released is given again.
+/// Records of a header and key bytes, each in a slot of one of ten sizes. A released slot is given again.
 ///
-/// A slot has room for the least power of two, from 32 to 16,384 bytes, that its key's length doesn't exceed. Memory is
-/// taken in chunks of 16,384 key bytes, each cut into slots of one size, and is kept until the arena is dropped. Contracts
-/// see the records as a finite map from slots, and for each size the number of slots that are spare.
+/// The key of a slot may have as many bytes as its size tells: 32, 64, 128, and so on to 16,384. A record takes
+/// a slot of the least size that its key fits. Memory is taken in chunks of 16,384 key bytes, each cut into slots
+/// of one size, and is kept until the arena is dropped. Contracts see the records as a finite map from slots, and
+/// for each size the number of slots that are spare.
 #[derive(Drop)]
 pub struct Arena<H: Copy, A: Allocator + Copy = Global> {
     alloc: A,
@@ -56,9 +57,11 @@ impl<H: Copy, A: Allocator + Copy> Arena<H, A> {
         }
     }
 
-    /// Takes the memory that records with keys of these lengths need. It takes none of a size of which enough is spare.
+    /// Takes the memory that records with keys of these lengths need, and none for a size of which enough slots are
+    /// spare.
     pub fn reserve(&mut self, lengths: &[usize]) -> Result<(), ArenaError>
-        ensures room { OnOk result ((size : ℕ) → size < 10 → wanted_of lengths.now size ≤ spare_of self.new size) }
+        ensures room { OnOk result ((size : ℕ) → size < 10
+            → wanted_of lengths.now size ≤ spare_of self.new size) }
         ensures records { self.new.records ≡ self.old.records }
         ensures spare_stays { (size : ℕ) → spare_of self.old size ≤ spare_of self.new size }
         ensures no_more { (size : ℕ) → wanted_of lengths.now size ≤ spare_of self.old size
@@ -82,8 +85,10 @@ impl<H: Copy, A: Allocator + Copy> Arena<H, A> {
         ensures was_free { IfOk result (λ slot. record_at self.old slot ≡ None) }
         ensures placed { IfOk result (λ slot. self.new.records
             ≡ map.insert self.old.records slot (record { header = header; key = key.now })) }
-        ensures record { IfOk result (λ slot. record_at self.new slot ≡ Some (record { header = header; key = key.now })) }
-        ensures others { IfOk result (λ slot. (other : ℕ) → other ≢ slot → record_at self.new other ≡ record_at self.old other) }
+        ensures record { IfOk result (λ slot. record_at self.new slot
+            ≡ Some (record { header = header; key = key.now })) }
+        ensures others { IfOk result (λ slot. (other : ℕ) → other ≢ slot
+            → record_at self.new other ≡ record_at self.old other) }
 
         // It uses one spare slot, of a new chunk where none was spare.
         ensures spare { OnOk result (let size = size_of (length key.now) in spare_of self.new size + 1
@@ -91,7 +96,9 @@ impl<H: Copy, A: Allocator + Copy> Arena<H, A> {
         ensures other_sizes { OnOk result ((size : ℕ) → size ≢ size_of (length key.now)
             → spare_of self.new size ≡ spare_of self.old size) }
 
-        ensures enough { length key.now ≤ 16384 → 0 < spare_of self.old (size_of (length key.now)) → IsOk result }
+        // It is refused `TooLong` for such a key alone, and `Memory` only where no slot of the size is spare.
+        ensures enough { length key.now ≤ 16384 → 0 < spare_of self.old (size_of (length key.now))
+            → IsOk result }
         ensures too_long { (result ≡ Err ArenaError.TooLong) ↔ (16384 < length key.now) }
         ensures unchanged { OnErr result (self.new ≡ self.old) }
     {
@@ -247,7 +254,8 @@ impl<H: Copy, A: Allocator + Copy> Arena<H, A> {
         requires fits { length key.now ≤ 16384 }
         requires spare { 0 < spare_of self.old size }
         ensures was_free { record_at self.old result ≡ None }
-        ensures placed { self.new.records ≡ map.insert self.old.records result (record { header = header; key = key.now }) }
+        ensures placed { self.new.records
+            ≡ map.insert self.old.records result (record { header = header; key = key.now }) }
         ensures spare { spare_of self.new size + 1 ≡ spare_of self.old size }
         ensures other_sizes { (s : ℕ) → s ≢ size → spare_of self.new s ≡ spare_of self.old s }
     {

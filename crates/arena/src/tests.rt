@@ -1,4 +1,6 @@
 //! The worked rows, random calls beside a map, and growth that is refused.
+ghost use Rattle.std.specs.Prelude.{◌<◌};
+
 use crate::{Arena, ArenaError, MAX_LENGTH, Slot};
 use linked_list_allocator::LocalHeap;
 use std::alloc::{AllocError, Allocator, Global};
@@ -264,6 +266,7 @@ fn refusals_print_their_numbers(rt: HostRuntime) -> Result<(), Fail> {
 fn an_arena_prints_its_count(rt: HostRuntime) -> Result<(), Fail> {
     let mut arena: Arena<u32> = Arena::new(rt.alloc());
     let _slot = arena.place(1, b"key")?;
-    assert_eq!(rt; format!(in rt.alloc(); "{arena:?}")?.as_str(), "Arena { live: 1 }");
+    let text = format!(in rt.alloc(); "{arena:?}")?;
+    assert_eq!(rt; text.as_str(), "Arena { live: 1 }");
     Ok(())
 }
