@@ -1,7 +1,7 @@
 -- The slots of a chunk, as its entries and bytes tell them.
-use Rattle.std.proofs.Common.{◌≡◌, ℕ, zero, suc, ◌+◌, ◌-◌, ◌*◌, ◌<◌, ◌≤◌, List, [], ◌∷◌, ◌++◌, length, take, drop, set, get_or, slice_get, Option, Some, None, IsSome, option_map, unwrap_or, slice_index, refl, sym, ap, ◌∙◌, add_assoc, zero-mul, mul-le-mul_right, arith, length-drop, length-append, length-set}
+use Rattle.std.proofs.Common.{◌≡◌, ℕ, zero, suc, ◌+◌, ◌*◌, ◌<◌, ◌≤◌, List, [], ◌∷◌, ◌++◌, length, take, drop, set, get_or, slice_get, Option, Some, IsSome, option_map, unwrap_or, slice_index, refl, sym, ap, ◌∙◌, add_assoc, zero-mul, mul-le-mul_right, arith, length-drop, length-append, length-set}
 use Rattle.std.proofs.Math.Path.{ap₂}
-use Rattle.std.proofs.lemmas.List.{drop-drop, take-append-le, take-take, drop_at, take_at, drop-append-le, drop-take, length-take-le}
+use Rattle.std.proofs.lemmas.List.{drop-drop, take-append-le, take-take, take_at, drop-append-le, drop-take, length-take-le}
 use Rattle.std.proofs.lemmas.Option.{slice_get_within, slice_get_read}
 use Rattle.std.proofs.lemmas.Slice.{drop-append-drop}
 use Rattle.std.specs.Option.{option_and_then}

@@ -1,21 +1,15 @@
 -- The first spare slot of a size, and its chunk.
-use Rattle.std.proofs.Common.{◌≡◌, ◌≢◌, ℕ, zero, suc, ◌+◌, ◌-◌, ◌*◌, ◌/◌, ◌%◌, ◌<◌, ◌≤◌, List, [], ◌∷◌, length, set, get_or, slice_get, slice_index, slice_index_or, Option, Some, None, IsSome, option_map, refl, sym, ap, subst, ◌∙◌, arith}
+use Rattle.std.proofs.Common.{◌≡◌, ◌≢◌, ℕ, ◌+◌, ◌-◌, ◌/◌, ◌%◌, ◌<◌, ◌≤◌, List, length, set, get_or, slice_get, slice_index, slice_index_or, Option, Some, None, IsSome, option_map, refl, sym, ap, subst, ◌∙◌, arith}
 use Rattle.std.proofs.lemmas.List.{get_or_default, get_or-set_same, get_or-set_other}
 use Rattle.std.proofs.lemmas.Option.{slice_get_within}
-use Rattle.std.specs.Option.{option_and_then}
-use Rattle.std.specs.FinMap as map
-use Rattle.arena.specs.Arena.{Record, sizes, size_of}
-use Rattle.arena.specs.Entry.{held, held_at, LeadsTo}
+use Rattle.arena.specs.Arena.{sizes, size_of}
+use Rattle.arena.specs.Entry.{LeadsTo}
 use Rattle.arena.specs.Chunk.{Chunk}
-use Rattle.arena.specs.Kept.{cell_at, size_at, record_in, records_of, IsKept}
-use Rattle.arena.specs.declared.entry.Entry.{Entry}
-use Rattle.arena.specs.declared.entry.Entry.TheVariants.{Free, Live}
+use Rattle.arena.specs.Kept.{IsKept}
 use Rattle.arena.proofs.Sizes.{size_fits}
-use Rattle.arena.proofs.Slots.{Writes, Writes-set, with_cell}
-use Rattle.arena.proofs.Records.{get-records_of}
 use Rattle.arena.proofs.Keeping.{IsFirst, first_of}
 use Rattle.arena.proofs.Growing.{in_chunk}
-use Rattle.arena.proofs.Reading.{IsRead, IsRead-within, held_cell}
+use Rattle.arena.proofs.Reading.{IsRead-within}
 
 -- the count of a size goes down by one
 pub spare_less : (spare : List ℕ) (size : ℕ) → size < length spare → 0 < slice_index spare size → slice_index (set spare size (slice_index spare size - 1)) size + 1 ≡ slice_index spare size

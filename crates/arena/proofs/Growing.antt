@@ -1,16 +1,13 @@
 -- What a new chunk adds.
-use Rattle.std.proofs.Common.{◌≡◌, ◌≢◌, ◌⊎◌, inl, inr, ℕ, zero, suc, ◌+◌, ◌-◌, ◌*◌, ◌/◌, ◌%◌, ◌<◌, ◌≤◌, Bool, true, false, cond, nat_lt, List, [], ◌∷◌, ◌++◌, length, set, sum, get_or, slice_get, slice_index, slice_index_or, Option, Some, None, IsSome, option_map, refl, sym, ap, subst, ◌∙◌, add-one, add_comm, zero-add, suc-add, length-append, arith}
+use Rattle.std.proofs.Common.{◌≡◌, ◌≢◌, ◌⊎◌, inl, inr, ℕ, zero, suc, ◌+◌, ◌-◌, ◌*◌, ◌/◌, ◌%◌, ◌<◌, ◌≤◌, true, false, cond, nat_lt, List, [], ◌∷◌, ◌++◌, length, set, slice_get, slice_index, slice_index_or, Option, Some, None, option_map, refl, sym, ap, ◌∙◌, add_comm, zero-add, suc-add, length-append, arith}
 use Rattle.std.proofs.lemmas.Bool.Decides.{nat_tests}
 use Rattle.std.proofs.lemmas.List.{get_or-set_same, get_or-set_other}
 use Rattle.std.proofs.lemmas.Option.{slice_get_within, slice_get_past}
 use Rattle.std.specs.Option.{option_and_then}
 use Rattle.std.specs.FinMap as map
-use Rattle.arena.specs.Arena.{Record, size_of}
-use Rattle.arena.specs.Entry.{held, LeadsTo}
+use Rattle.arena.specs.Entry.{held}
 use Rattle.arena.specs.Chunk.{Chunk, IsFresh, next_in}
 use Rattle.arena.specs.Kept.{cell_at, size_at, record_in, records_of, FreeFrom, IsKept}
-use Rattle.arena.specs.declared.entry.Entry.{Entry}
-use Rattle.arena.specs.declared.entry.Entry.TheVariants.{Free, Live}
 use Rattle.arena.proofs.Slots.{same_or_other}
 use Rattle.arena.proofs.Records.{same_records}
 use Rattle.arena.proofs.Keeping.{sum-set}

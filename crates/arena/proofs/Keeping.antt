@@ -1,5 +1,5 @@
 -- What an arena keeps stays true as slots are written and chunks are added.
-use Rattle.std.proofs.Common.{◌≡◌, ◌≢◌, ◌⊎◌, inl, inr, ℕ, zero, suc, ◌+◌, ◌-◌, ◌*◌, ◌/◌, ◌%◌, ◌<◌, ◌≤◌, List, [], ◌∷◌, ◌++◌, length, set, sum, get_or, slice_get, slice_index, slice_index_or, Option, Some, None, IsSome, option_map, refl, sym, ap, subst, ◌∙◌, add-one, arith}
+use Rattle.std.proofs.Common.{◌≡◌, ◌≢◌, ◌⊎◌, inl, inr, ℕ, zero, suc, ◌+◌, ◌-◌, ◌<◌, List, [], ◌∷◌, length, set, sum, slice_index, slice_index_or, Option, Some, None, IsSome, refl, sym, ap, subst, ◌∙◌, add-one, arith}
 use Rattle.std.proofs.lemmas.List.{get_or-set_same, get_or-set_other, get_or-replicate}
 use Rattle.std.proofs.lemmas.List.Sums.{sum_by-set}
 use Rattle.std.specs.Option.{option_and_then}
@@ -8,7 +8,6 @@ use Rattle.arena.specs.Arena.{Record, size_of}
 use Rattle.arena.specs.Entry.{held}
 use Rattle.arena.specs.Chunk.{Chunk}
 use Rattle.arena.specs.Kept.{cell_at, size_at, record_in, records_of, FreeFrom, IsKept}
-use Rattle.arena.specs.declared.entry.Entry.{Entry}
 use Rattle.arena.specs.declared.entry.Entry.TheVariants.{Free, Live}
 use Rattle.arena.proofs.Slots.{same_or_other, Writes, FreeFrom-count, FreeFrom-write, off_live, off_size}
 use Rattle.arena.proofs.Records.{get-records_of, records_of-put, records_of-freed, len-put_new, len-put_again, len-freed, some_record}
@@ -41,13 +40,17 @@ module _ {H : Type 0} where
       → (slot : ℕ) × (next : Option ℕ) × (first ≡ Some slot) × IsFirst chunks size count slot next
   first_of chunks size zero first some list = absurd (omega arith)
   first_of chunks size (suc n) first some list =
-      let less : suc n - 1 ≡ n = omega arith in
-      (list.0, list.1, list.2, record {
-        its = list.3;
-        free = list.4;
-        rest = rw less list.5;
-        all = subst (FreeFrom chunks size (suc n)) list.2 list;
-      })
+      let less : suc n - 1 ≡ n = omega arith in (
+        list.0,
+        list.1,
+        list.2,
+        record {
+          its = list.3;
+          free = list.4;
+          rest = rw less list.5;
+          all = subst (FreeFrom chunks size (suc n)) list.2 list;
+        },
+      )
 
   pub IsKept-taken : (old new : List (Chunk H)) (first : List (Option ℕ)) (spare : List ℕ) (live size slot : ℕ) (next : Option ℕ) (r : Record H)
       → IsKept old first spare live → size < 10 → length first ≡ 10 → length spare ≡ 10

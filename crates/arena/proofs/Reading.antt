@@ -1,13 +1,13 @@
 -- What a read of the chunks finds at a live slot.
-use Rattle.std.proofs.Common.{◌≡◌, ℕ, ◌+◌, ◌*◌, ◌/◌, ◌%◌, ◌<◌, ◌≤◌, List, [], ◌∷◌, length, set, get_or, slice_get, Option, Some, None, IsSome, option_map, unwrap_or, refl, sym, ap, ◌∙◌, arith}
+use Rattle.std.proofs.Common.{◌≡◌, ℕ, ◌/◌, ◌%◌, ◌<◌, List, [], length, set, get_or, slice_get, Option, Some, None, IsSome, option_map, unwrap_or, refl, sym, ap, ◌∙◌}
 use Rattle.std.proofs.lemmas.Option.{slice_get_within, slice_get_read}
 use Rattle.std.specs.Option.{option_and_then}
 use Rattle.std.specs.FinMap as map
-use Rattle.arena.specs.Arena.{Record, Records, size_of}
-use Rattle.arena.specs.Entry.{held, held_at, LeadsTo}
+use Rattle.arena.specs.Arena.{Record}
+use Rattle.arena.specs.Entry.{held, held_at}
 use Rattle.arena.specs.Chunk.{Chunk}
 use Rattle.arena.specs.ChunkLends as chunk
-use Rattle.arena.specs.Kept.{cell_at, size_at, record_in, records_of, FreeFrom, IsKept}
+use Rattle.arena.specs.Kept.{cell_at, records_of, IsKept}
 use Rattle.arena.specs.declared.entry.Entry.{Entry}
 use Rattle.arena.specs.declared.entry.Entry.TheVariants.{Free, Live}
 use Rattle.arena.proofs.Slots.{Writes, Writes-set}

@@ -1,5 +1,5 @@
 -- The records of an arena, as its slots tell them.
-use Rattle.std.proofs.Common.{◌≡◌, ◌≢◌, ◌⊎◌, inl, inr, ℕ, zero, suc, ◌+◌, ◌-◌, ◌*◌, ◌/◌, ◌%◌, ◌<◌, ◌≤◌, Bool, true, false, cond, List, [], ◌∷◌, ◌++◌, length, slice_get, Option, Some, None, is_some, IsSome, option_map, refl, sym, ap, ◌∙◌, add-one, arith}
+use Rattle.std.proofs.Common.{◌≡◌, ◌≢◌, ◌⊎◌, inl, inr, ℕ, zero, suc, ◌+◌, ◌-◌, ◌*◌, ◌/◌, ◌%◌, ◌<◌, ◌≤◌, true, false, cond, List, ◌++◌, length, slice_get, Option, Some, None, is_some, IsSome, refl, sym, ap, ◌∙◌, arith}
 use Rattle.std.proofs.lemmas.Option.{slice_get_past}
 use Rattle.std.proofs.lemmas.Bool.Decides.{nat_tests}
 use Rattle.std.specs.Option.{option_and_then}
@@ -9,8 +9,7 @@ use Rattle.std.specs.FinMap as map
 use Rattle.arena.specs.Arena.{Record, Records}
 use Rattle.arena.specs.Entry.{held}
 use Rattle.arena.specs.Chunk.{Chunk}
-use Rattle.arena.specs.Kept.{cell_at, size_at, record_in, entry_of, live_below, records_of}
-use Rattle.arena.specs.declared.entry.Entry.{Entry}
+use Rattle.arena.specs.Kept.{cell_at, record_in, entry_of, live_below, records_of}
 use Rattle.arena.specs.declared.entry.Entry.TheVariants.{Free, Live}
 use Rattle.arena.proofs.Slots.{same_or_other, Writes}
 

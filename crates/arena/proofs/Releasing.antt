@@ -1,15 +1,14 @@
 -- What a release changes.
-use Rattle.std.proofs.Common.{◌≡◌, ◌≢◌, ℕ, zero, suc, ◌+◌, ◌-◌, ◌*◌, ◌/◌, ◌%◌, ◌<◌, ◌≤◌, List, [], ◌∷◌, length, set, get_or, slice_get, slice_index, slice_index_or, Option, Some, None, IsSome, IfSome, option_map, refl, sym, ap, subst, ◌∙◌, arith}
+use Rattle.std.proofs.Common.{◌≡◌, ℕ, ◌+◌, ◌-◌, ◌/◌, ◌%◌, ◌<◌, List, length, set, get_or, slice_get, slice_index, slice_index_or, Option, Some, None, IsSome, IfSome, option_map, refl, sym, ap, subst, ◌∙◌}
 use Rattle.std.proofs.lemmas.Option.{slice_get_within}
 use Rattle.std.specs.Option.{option_and_then}
 use Rattle.std.specs.FinMap as map
-use Rattle.arena.specs.Arena.{Record, sizes, size_of}
-use Rattle.arena.specs.Entry.{held, held_at}
+use Rattle.arena.specs.Arena.{Record, size_of}
+use Rattle.arena.specs.Entry.{held}
 use Rattle.arena.specs.Chunk.{Chunk}
-use Rattle.arena.specs.Kept.{cell_at, size_at, record_in, records_of, IsKept}
-use Rattle.arena.specs.declared.entry.Entry.{Entry}
+use Rattle.arena.specs.Kept.{cell_at, size_at, records_of, IsKept}
 use Rattle.arena.specs.declared.entry.Entry.TheVariants.{Free, Live}
-use Rattle.arena.proofs.Slots.{Writes, Writes-set, with_cell}
+use Rattle.arena.proofs.Slots.{Writes-set, with_cell}
 use Rattle.arena.proofs.Records.{get-records_of, records_of-freed}
 use Rattle.arena.proofs.Keeping.{IsKept-freed}
 use Rattle.arena.proofs.Reading.{in_chunks, IsRead-within, held_cell}

@@ -1,5 +1,5 @@
 -- What the slots of a chunk hold. No public clause cites this module.
-use Rattle.std.specs.Prelude.{◌≡◌, ℕ, List, Option, Some, None, option_map, slice_get}
+use Rattle.std.specs.Prelude.{◌≡◌, ℕ, List, Option, Some, None, slice_get}
 use Rattle.std.specs.Option.{option_and_then}
 use Rattle.arena.specs.declared.entry.Entry.{Entry}
 use Rattle.arena.specs.declared.entry.Entry.TheVariants.{Free, Live}

@@ -113,8 +113,10 @@ impl<H, A: Allocator> Chunk<H, A> {
         H: Drop,
         requires within { index < length self.old.cells }
         requires fits { length key.now ≤ slice_index sizes self.old.size }
-        ensures { self.new ≡ record self.old { cells
-            = slice_set self.old.cells index (Live (record { header = header; key = key.now })) } }
+        ensures { self.new ≡ record self.old {
+          cells
+              = slice_set self.old.cells index (Live (record { header = header; key = key.now }));
+        } }
     {
         write_at(self.bytes.as_mut_slice(), index * self.width, key);
         let length = key.len() as u16;

@@ -98,7 +98,10 @@ fn arena_chunk_and_refusal(rt: HostRuntime) -> Result<(), Fail> {
     assert_eq!(rt; arena.reserve(&[33]), Err(ArenaError::Memory));
     assert_eq!(rt; arena.reserve(&[1, 33]), Err(ArenaError::Memory));
     assert_eq!(rt; arena.place(1, &[0; 33]).err(), Some(ArenaError::Memory));
-    assert_eq!(rt; arena.place(1, b"no slot is left").err(), Some(ArenaError::Memory));
+    assert_eq!(rt;
+        arena.place(1, b"no slot is left").err(),
+        Some(ArenaError::Memory)
+    );
     assert_eq!(rt; arena.live(), 512);
     for (number, slot) in (0..512_u32).zip(&slots) {
         if *slot != again {

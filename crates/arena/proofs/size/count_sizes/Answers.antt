@@ -1,4 +1,4 @@
-use Rattle.std.proofs.Common.{◌≡◌, ◌<◌, ◌≤◌, ◌^◌, length, below_more, length-set, ◌∙◌, arith, rules}
+use Rattle.std.proofs.Common.{◌<◌, ◌^◌, length, below_more, length-set, ◌∙◌, arith, rules}
 use Rattle.std.proofs.lemmas.List.{get_or_default}
 use Rattle.arena.proofs.Sizes.{size_fits, counted_more, wanted_of-bound}
 use Rattle.arena.proofs.size.count_sizes.Goals as goal

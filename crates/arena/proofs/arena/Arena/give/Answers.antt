@@ -1,4 +1,4 @@
-use Rattle.std.proofs.Common.{◌≡◌, ◌≢◌, ℕ, ◌+◌, ◌-◌, ◌/◌, ◌<◌, length, slice_index, None, Some, refl, sym, ap, ◌∙◌, arith, rules}
+use Rattle.std.proofs.Common.{◌≡◌, ◌/◌, ◌<◌, length, sym, ap, ◌∙◌, arith, rules}
 use Rattle.std.specs.Option.{option_and_then}
 use Rattle.arena.specs.Entry.{held}
 use Rattle.arena.proofs.Slots.{Writes-set}

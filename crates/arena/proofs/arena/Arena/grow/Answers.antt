@@ -1,4 +1,4 @@
-use Rattle.std.proofs.Common.{◌≡◌, ◌*◌, ◌<◌, ◌++◌, [], ◌∷◌, length, slice_index_or, None, sym, ap, ◌∙◌, arith, rules, add-zero}
+use Rattle.std.proofs.Common.{◌≡◌, ◌*◌, ◌<◌, ◌++◌, [], ◌∷◌, length, slice_index_or, None, arith, rules, add-zero}
 use Rattle.std.proofs.lemmas.List.{get_or_default}
 use Rattle.arena.specs.Chunk.{IsFresh}
 use Rattle.arena.proofs.Growing.{IsKept-grown, records_of-push}

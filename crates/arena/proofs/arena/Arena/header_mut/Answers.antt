@@ -1,4 +1,4 @@
-use Rattle.std.proofs.Common.{◌≡◌, refl, sym, ap, ◌∙◌, option_map, arith}
+use Rattle.std.proofs.Common.{refl, ap, ◌∙◌, option_map, arith}
 use Rattle.arena.proofs.Reading.{in_chunks, IsRead-within, Lent-read, lent_records, lent_kept}
 use Rattle.arena.proofs.arena.Arena.header_mut.Goals as goal
 
@@ -24,7 +24,7 @@ returns g c =
       (
         refl,
         λ w. rw (← c.self.view_is, c.chunk.ensures, c.index.ensures)
-        (ap (λ records. record { records = records; spare = c.self.inside.spare }) (lent_records _ _ _ w (Lent-read _ _ _ w read live))),
+            (ap (λ records. record { records = records; spare = c.self.inside.spare }) (lent_records _ _ _ w (Lent-read _ _ _ w read live))),
       ),
       record {
         lends = tt;

@@ -1,5 +1,5 @@
-use Rattle.std.proofs.Common.{◌≡◌, sym, ap, ◌∙◌, option_map, arith}
-use Rattle.arena.proofs.Reading.{in_chunks, IsRead-within, Lent-read}
+use Rattle.std.proofs.Common.{ap, ◌∙◌, option_map, arith}
+use Rattle.arena.proofs.Reading.{in_chunks, IsRead-within}
 use Rattle.arena.proofs.arena.Arena.key.Goals as goal
 
 pub index-chunk-requires : goal.index-chunk-requires

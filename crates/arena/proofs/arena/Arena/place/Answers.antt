@@ -1,4 +1,4 @@
-use Rattle.std.proofs.Common.{◌≡◌, ap, ◌∙◌}
+use Rattle.std.proofs.Common.{ap, ◌∙◌}
 use Rattle.std.specs.FinMap as map
 use Rattle.arena.proofs.Records.{get-put_same, get-put_other}
 use Rattle.arena.proofs.arena.Arena.place.Goals as goal

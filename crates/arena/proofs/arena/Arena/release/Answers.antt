@@ -1,11 +1,8 @@
-use Rattle.std.proofs.Common.{◌≡◌, ◌≢◌, ℕ, ◌+◌, ◌-◌, ◌/◌, ◌%◌, ◌<◌, length, set, slice_index, slice_index_or, option_map, IfSome, None, Some, refl, sym, ap, ◌∙◌, arith, rules}
+use Rattle.std.proofs.Common.{◌≡◌, ◌≢◌, ℕ, ◌+◌, ◌<◌, length, set, slice_index, None, arith, rules}
 use Rattle.std.proofs.lemmas.List.{get_or_default}
-use Rattle.std.proofs.lemmas.Option.{slice_get_within}
-use Rattle.std.specs.Option.{option_and_then}
-use Rattle.arena.specs.Entry.{held}
 use Rattle.arena.proofs.Records.{get-freed_other, some_record}
-use Rattle.arena.proofs.Reading.{in_chunks, IsRead-within}
-use Rattle.arena.proofs.Releasing.{IsReleased, IsReleased-read, released_kept, released_records, released_key}
+use Rattle.arena.proofs.Reading.{in_chunks}
+use Rattle.arena.proofs.Releasing.{IsReleased-read, released_kept, released_records, released_key}
 use Rattle.arena.proofs.Giving.{spare_more, spare_same}
 use Rattle.arena.proofs.arena.Arena.release.Goals as goal
 

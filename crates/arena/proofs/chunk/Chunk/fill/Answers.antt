@@ -1,6 +1,6 @@
-use Rattle.std.proofs.Common.{◌≡◌, ◌+◌, ◌*◌, ◌<◌, ◌≤◌, length, refl, sym, ap, ◌∙◌, arith}
+use Rattle.std.proofs.Common.{ap, arith}
 use Rattle.std.proofs.lemmas.List.{with_items_is}
-use Rattle.arena.proofs.Cells.{IsSlot-within, length-with_key, IsChunk-filled, filled}
+use Rattle.arena.proofs.Cells.{IsSlot-within, IsChunk-filled, filled}
 use Rattle.arena.proofs.chunk.Chunk.fill.Goals as goal
 
 pub overflow_mul-index : goal.overflow_mul-index

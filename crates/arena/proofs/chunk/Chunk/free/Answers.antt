@@ -1,4 +1,4 @@
-use Rattle.std.proofs.Common.{◌≡◌, refl, sym, ap, ◌∙◌, arith}
+use Rattle.std.proofs.Common.{ap, arith}
 use Rattle.arena.proofs.Cells.{IsSlot-within, IsChunk-freed, cells_of-freed}
 use Rattle.arena.proofs.chunk.Chunk.free.Goals as goal
 

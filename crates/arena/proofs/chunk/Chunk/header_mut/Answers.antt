@@ -1,4 +1,4 @@
-use Rattle.std.proofs.Common.{◌≡◌, Some, refl, sym, ap, ◌∙◌, option_map, unwrap_or, arith}
+use Rattle.std.proofs.Common.{refl, ap, option_map, arith}
 use Rattle.std.proofs.lemmas.Option.{slice_get_within}
 use Rattle.std.specs.Option.{option_and_then}
 use Rattle.arena.specs.Entry.{held}
@@ -30,7 +30,7 @@ returns g c =
       (
         refl,
         λ w. rw (← c.self.view_is, ← same)
-        (ap (λ cells. record { size = c.self.inside.size; cells = cells }) (lent _ _ _ c.args.index live.0 w live.2)),
+            (ap (λ cells. record { size = c.self.inside.size; cells = cells }) (lent _ _ _ c.args.index live.0 w live.2)),
       ),
       record {
         lends = tt;

@@ -1,7 +1,7 @@
-use Rattle.std.proofs.Common.{◌≡◌, Some, refl, sym, ap, ◌∙◌, option_map, arith}
-use Rattle.std.proofs.lemmas.Option.{slice_get_within, slice_get_read}
+use Rattle.std.proofs.Common.{ap, option_map, arith}
+use Rattle.std.proofs.lemmas.Option.{slice_get_within}
 use Rattle.std.specs.Option.{option_and_then}
-use Rattle.arena.specs.Entry.{held, held_at}
+use Rattle.arena.specs.Entry.{held}
 use Rattle.arena.proofs.Cells.{live_entry, entry_at, held_in, key_within}
 use Rattle.arena.proofs.chunk.Chunk.key.Goals as goal
 

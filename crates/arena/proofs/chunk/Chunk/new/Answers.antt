@@ -1,4 +1,4 @@
-use Rattle.std.proofs.Common.{◌≡◌, ◌*◌, length, sym, ap, ◌∙◌, arith}
+use Rattle.std.proofs.Common.{◌≡◌, ◌*◌, length, arith}
 use Rattle.arena.specs.Chunk.{next_in}
 use Rattle.arena.proofs.Cells.{IsChunk-new, IsFresh-new}
 use Rattle.arena.proofs.chunk.Chunk.new.Goals as goal

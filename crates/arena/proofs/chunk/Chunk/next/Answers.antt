@@ -1,6 +1,5 @@
-use Rattle.std.proofs.Common.{◌≡◌, Some, refl, sym, ap, ◌∙◌, arith}
+use Rattle.std.proofs.Common.{◌≡◌, refl, arith}
 use Rattle.std.proofs.lemmas.Option.{slice_get_within, slice_get_read}
-use Rattle.arena.specs.Entry.{IsFree}
 use Rattle.arena.proofs.Cells.{free_entry}
 use Rattle.arena.proofs.chunk.Chunk.next.Goals as goal
 
