@@ -220,3 +220,11 @@ module _ {H : Type 0} where
       → IsFresh (cells_of es width bytes) first count last
   IsFresh-new es width bytes first count last slots free =
       record { slots = length-cells_of es width bytes ∙ slots; leads = λ k below. free_slot es width bytes k _ (free k below) }
+
+  -- a live entry is a live slot
+  pub live_slot : (es : List (Entry (Head H))) (width : ℕ) (bytes : List ℕ) (i : ℕ) (head : Head H)
+      → slice_get es i ≡ Some (Live head) → IsSome (held_at (cells_of es width bytes) i)
+  live_slot [] width bytes i head is = cc
+  live_slot (Free n ∷ es) width bytes zero head is = cc
+  live_slot (Live h ∷ es) width bytes zero head is = refl
+  live_slot (e ∷ es) width bytes (suc i) head is = live_slot es width (drop width bytes) i head is

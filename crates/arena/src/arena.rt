@@ -186,10 +186,11 @@ impl<H: Copy, A: Allocator + Copy> Arena<H, A> {
     pub(crate) fn is_live(&self, slot: Slot) -> bool
         ensures { IsTrue result → IsLive self.now slot }
     {
-        match self.chunks.get(slot.chunk()) {
-            Some(chunk) => chunk.is_live(slot.index()),
-            None => false,
+        if slot.chunk() >= self.chunks.len() {
+            return false;
         }
+        let chunk = &self.chunks[slot.chunk()];
+        chunk.is_live(slot.index())
     }
 
     // Adds chunks until so many slots of the size are spare.

@@ -91,9 +91,12 @@ impl<H, A: Allocator> Chunk<H, A> {
     pub(crate) fn is_live(&self, index: usize) -> bool
         ensures { IsTrue result → IsSome (held_at self.now.cells index) }
     {
-        match self.entries.get(index) {
-            Some(entry) => matches!(entry, Entry::Live(_)),
-            None => false,
+        if index >= self.entries.len() {
+            return false;
+        }
+        match &self.entries[index] {
+            Entry::Live(_) => true,
+            Entry::Free(_) => false,
         }
     }
 

