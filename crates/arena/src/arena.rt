@@ -96,7 +96,7 @@ impl<H: Copy, A: Allocator + Copy> Arena<H, A> {
         ensures other_sizes { OnOk result ((size : ℕ) → size ≢ size_of (length key.now)
             → spare_of self.new size ≡ spare_of self.old size) }
 
-        // It is refused `TooLong` for such a key alone, and `Memory` only where no slot of the size is spare.
+        // It is refused `TooLong` for a longer key alone, and `Memory` only where no slot of the size is spare.
         ensures enough { length key.now ≤ 16384 → 0 < spare_of self.old (size_of (length key.now))
             → IsOk result }
         ensures too_long { (result ≡ Err ArenaError.TooLong) ↔ (16384 < length key.now) }
