@@ -1,5 +1,31 @@
 -- What a release changes.
-use Rattle.std.proofs.Common.{◌≡◌, ℕ, ◌+◌, ◌-◌, ◌/◌, ◌%◌, ◌<◌, List, length, set, get_or, slice_get, slice_index, slice_index_or, Option, Some, None, IsSome, IfSome, option_map, refl, sym, ap, subst, ◌∙◌}
+use Rattle.std.proofs.Common.{
+  ◌≡◌,
+  ℕ,
+  ◌+◌,
+  ◌-◌,
+  ◌/◌,
+  ◌%◌,
+  ◌<◌,
+  List,
+  length,
+  set,
+  get_or,
+  slice_get,
+  slice_index,
+  slice_index_or,
+  Option,
+  Some,
+  None,
+  IsSome,
+  IfSome,
+  option_map,
+  refl,
+  sym,
+  ap,
+  subst,
+  ◌∙◌,
+}
 use Rattle.std.proofs.lemmas.Option.{slice_get_within}
 use Rattle.std.specs.Option.{option_and_then}
 use Rattle.std.specs.FinMap as map
@@ -22,8 +48,10 @@ module _ {H : Type 0} where
     pub within : slot % 512 < length read.cells
     pub own : size_at chunks slot ≡ Some seen.size
 
-  pub IsReleased-read : (chunks : List (Chunk H)) (slot j k : ℕ) (seen read : Chunk H) → IsSome (map.get (records_of chunks) slot)
-      → j ≡ slot / 512 → k ≡ slot / 512 → seen ≡ get_or chunks j seen → read ≡ get_or chunks k read → IsReleased chunks slot seen read
+  pub IsReleased-read : (chunks : List (Chunk H)) (slot j k : ℕ) (seen read : Chunk H)
+      → IsSome (map.get (records_of chunks) slot)
+      → j ≡ slot / 512 → k ≡ slot / 512 → seen ≡ get_or chunks j seen → read ≡ get_or chunks k read
+      → IsReleased chunks slot seen read
   IsReleased-read chunks slot j k seen read live at_seen at_read seen_is read_is =
       let within = in_chunks chunks slot live in
       let first = IsRead-within chunks slot j (slot % 512) seen within at_seen refl seen_is in
@@ -37,18 +65,26 @@ module _ {H : Type 0} where
         own = ap (option_map (λ c. c.size)) first.found;
       }
 
-  pub released_kept : (chunks : List (Chunk H)) (first : List (Option ℕ)) (spare : List ℕ) (live size slot : ℕ) (seen read : Chunk H)
-      → IsKept chunks first spare live → IsReleased chunks slot seen read → size < 10 → length first ≡ 10 → length spare ≡ 10 → size ≡ seen.size
-      → IsKept (set chunks (slot / 512) (with_cell read (slot % 512) (Free (slice_index_or first size None)))) (set first size (Some slot)) (set spare size (slice_index spare size + 1)) (live - 1)
+  pub released_kept : (chunks : List (Chunk H)) (first : List (Option ℕ)) (spare : List ℕ)
+      (live size slot : ℕ) (seen read : Chunk H)
+      → IsKept chunks first spare live → IsReleased chunks slot seen read → size < 10 → length first ≡ 10
+      → length spare ≡ 10 → size ≡ seen.size
+      → IsKept (set chunks (slot / 512) (with_cell read (slot % 512) (Free (slice_index_or first size None))))
+      (set first size (Some slot)) (set spare size (slice_index spare size + 1)) (live - 1)
   released_kept chunks first spare live size slot seen read kept out below firsts spares its =
-      IsKept-freed chunks _ first spare live size slot out.record_is kept below firsts spares out.was (out.own ∙ ap Some (sym its)) (Writes-set chunks slot read _ out.found out.within)
+      IsKept-freed chunks _ first spare live size slot out.record_is kept below firsts spares out.was (out.own
+      ∙ ap Some (sym its)) (Writes-set chunks slot read _ out.found out.within)
 
-  pub released_records : (chunks : List (Chunk H)) (slot : ℕ) (seen read : Chunk H) (next : Option ℕ) → IsReleased chunks slot seen read
-      → records_of (set chunks (slot / 512) (with_cell read (slot % 512) (Free next))) ≡ map.remove (records_of chunks) slot
-  released_records chunks slot seen read next out = records_of-freed chunks _ slot next (Writes-set chunks slot read (Free next) out.found out.within)
+  pub released_records : (chunks : List (Chunk H)) (slot : ℕ) (seen read : Chunk H) (next : Option ℕ)
+      → IsReleased chunks slot seen read
+      → records_of (set chunks (slot / 512) (with_cell read (slot % 512) (Free next)))
+      ≡ map.remove (records_of chunks) slot
+  released_records chunks slot seen read next out =
+      records_of-freed chunks _ slot next (Writes-set chunks slot read (Free next) out.found out.within)
 
   -- the key that was there is of the chunk's size
-  pub released_key : (chunks : List (Chunk H)) (first : List (Option ℕ)) (spare : List ℕ) (live size slot : ℕ) (seen read : Chunk H) (P : ℕ → Type 0)
+  pub released_key : (chunks : List (Chunk H)) (first : List (Option ℕ)) (spare : List ℕ) (live size slot : ℕ)
+      (seen read : Chunk H) (P : ℕ → Type 0)
       → IsKept chunks first spare live → IsReleased chunks slot seen read → size ≡ seen.size → P size
       → IfSome (option_map (λ r. r.key) (map.get (records_of chunks) slot)) (λ key. P (size_of (length key)))
   released_key chunks first spare live size slot seen read P kept out its holds =

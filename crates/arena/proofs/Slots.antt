@@ -1,5 +1,33 @@
 -- What a write to one slot of an arena changes.
-use Rattle.std.proofs.Common.{◌≡◌, ◌≢◌, ◌⊎◌, inl, inr, ℕ, zero, suc, ◌/◌, ◌%◌, ◌<◌, List, [], ◌∷◌, length, set, slice_get, Option, Some, option_map, refl, sym, ap, subst, ◌∙◌, arith, length-set}
+use Rattle.std.proofs.Common.{
+  ◌≡◌,
+  ◌≢◌,
+  ◌⊎◌,
+  inl,
+  inr,
+  ℕ,
+  zero,
+  suc,
+  ◌/◌,
+  ◌%◌,
+  ◌<◌,
+  List,
+  [],
+  ◌∷◌,
+  length,
+  set,
+  slice_get,
+  Option,
+  Some,
+  option_map,
+  refl,
+  sym,
+  ap,
+  subst,
+  ◌∙◌,
+  arith,
+  length-set,
+}
 use Rattle.std.proofs.lemmas.Option.{slice_get_within}
 use Rattle.std.specs.Option.{option_and_then}
 use Rattle.arena.specs.Arena.{Record}
@@ -25,7 +53,8 @@ module _ {X : Type 0} where
   slice_get-set_same (y ∷ xs) zero x within = refl
   slice_get-set_same (y ∷ xs) (suc i) x within = slice_get-set_same xs i x (omega arith)
 
-  pub slice_get-set_other : (xs : List X) (i j : ℕ) (x : X) → j ≢ i → slice_get (set xs i x) j ≡ slice_get xs j
+  pub slice_get-set_other : (xs : List X) (i j : ℕ) (x : X) → j ≢ i
+      → slice_get (set xs i x) j ≡ slice_get xs j
   slice_get-set_other [] i j x other = refl
   slice_get-set_other (y ∷ xs) zero zero x other = absurd (other refl)
   slice_get-set_other (y ∷ xs) zero (suc j) x other = refl
@@ -61,25 +90,36 @@ module _ {H : Type 0} where
       written : slice_get (set chunks (slot / 512) changed) (slot / 512) ≡ Some changed
       written = slice_get-set_same chunks (slot / 512) changed (slice_get_within chunks (slot / 512) c found)
 
-      at_chunk : (q : ℕ) → q / 512 ≡ slot / 512 → cell_at (set chunks (slot / 512) changed) q ≡ slice_get changed.cells (q % 512)
-      at_chunk q same = ap (option_and_then (λ c. slice_get c.cells (q % 512))) (ap (slice_get (set chunks (slot / 512) changed)) same ∙ written)
+      at_chunk : (q : ℕ) → q / 512 ≡ slot / 512
+          → cell_at (set chunks (slot / 512) changed) q ≡ slice_get changed.cells (q % 512)
+      at_chunk q same =
+          ap (option_and_then (λ c. slice_get c.cells (q % 512)))
+          (ap (slice_get (set chunks (slot / 512) changed)) same ∙ written)
 
       was_at : (q : ℕ) → q / 512 ≡ slot / 512 → slice_get chunks (q / 512) ≡ Some c
       was_at q same = ap (slice_get chunks) same ∙ found
 
-      by_chunk_size : (q : ℕ) → (q / 512 ≡ slot / 512) ⊎ (q / 512 ≢ slot / 512) → size_at (set chunks (slot / 512) changed) q ≡ size_at chunks q
+      by_chunk_size : (q : ℕ) → (q / 512 ≡ slot / 512) ⊎ (q / 512 ≢ slot / 512)
+          → size_at (set chunks (slot / 512) changed) q ≡ size_at chunks q
       by_chunk_size q (inl same) =
-          ap (option_map (λ c. c.size)) (ap (slice_get (set chunks (slot / 512) changed)) same ∙ written) ∙ sym (ap (option_map (λ c. c.size)) (was_at q same))
-      by_chunk_size q (inr other) = ap (option_map (λ c. c.size)) (slice_get-set_other chunks (slot / 512) (q / 512) changed other)
+          ap (option_map (λ c. c.size)) (ap (slice_get (set chunks (slot / 512) changed)) same ∙ written)
+          ∙ sym (ap (option_map (λ c. c.size)) (was_at q same))
+      by_chunk_size q (inr other) =
+          ap (option_map (λ c. c.size)) (slice_get-set_other chunks (slot / 512) (q / 512) changed other)
 
-      by_chunk : (q : ℕ) → q ≢ slot → (q / 512 ≡ slot / 512) ⊎ (q / 512 ≢ slot / 512) → cell_at (set chunks (slot / 512) changed) q ≡ cell_at chunks q
+      by_chunk : (q : ℕ) → q ≢ slot → (q / 512 ≡ slot / 512) ⊎ (q / 512 ≢ slot / 512)
+          → cell_at (set chunks (slot / 512) changed) q ≡ cell_at chunks q
       by_chunk q other (inl same) =
           let apart : q % 512 ≢ slot % 512 = λ e. other (omega arith) in
-          at_chunk q same ∙ slice_get-set_other c.cells (slot % 512) (q % 512) cell apart ∙ sym (ap (option_and_then (λ c. slice_get c.cells (q % 512))) (was_at q same))
-      by_chunk q other (inr apart) = ap (option_and_then (λ c. slice_get c.cells (q % 512))) (slice_get-set_other chunks (slot / 512) (q / 512) changed apart)
+          at_chunk q same ∙ slice_get-set_other c.cells (slot % 512) (q % 512) cell apart
+          ∙ sym (ap (option_and_then (λ c. slice_get c.cells (q % 512))) (was_at q same))
+      by_chunk q other (inr apart) =
+          ap (option_and_then (λ c. slice_get c.cells (q % 512)))
+          (slice_get-set_other chunks (slot / 512) (q / 512) changed apart)
 
   -- a list of free slots has one length
-  pub FreeFrom-count : (chunks : List (Chunk H)) (size m n : ℕ) (first : Option ℕ) → FreeFrom chunks size m first → FreeFrom chunks size n first → m ≡ n
+  pub FreeFrom-count : (chunks : List (Chunk H)) (size m n : ℕ) (first : Option ℕ)
+      → FreeFrom chunks size m first → FreeFrom chunks size n first → m ≡ n
   FreeFrom-count chunks size zero zero first p q = refl
   FreeFrom-count chunks size zero (suc n) first p q = let e = q.2 in cc
   FreeFrom-count chunks size (suc m) zero first p q = let e = p.2 in cc
@@ -93,13 +133,16 @@ module _ {H : Type 0} where
       ap suc (FreeFrom-count chunks size m n p.1 p.5 (subst (FreeFrom chunks size n) (sym next) q.5))
 
   -- a list stays where the slot that was written isn't on it
-  pub FreeFrom-write : (old new : List (Chunk H)) (slot : ℕ) (cell : Entry (Record H)) → Writes old new slot cell
-      → (size count : ℕ) (first : Option ℕ) → ((m : ℕ) → m < count → FreeFrom old size (suc m) (Some slot) → ⊥)
+  pub FreeFrom-write : (old new : List (Chunk H)) (slot : ℕ) (cell : Entry (Record H))
+      → Writes old new slot cell
+      → (size count : ℕ) (first : Option ℕ)
+      → ((m : ℕ) → m < count → FreeFrom old size (suc m) (Some slot) → ⊥)
       → FreeFrom old size count first → FreeFrom new size count first
   FreeFrom-write old new slot cell writes size zero first off list = list
   FreeFrom-write old new slot cell writes size (suc n) first off list =
       let at = list.2 in
-      let apart : list.0 ≢ slot = λ e. off n (omega arith) (subst (FreeFrom old size (suc n)) (at ∙ ap Some e) list) in (
+      let apart : list.0 ≢ slot =
+      λ e. off n (omega arith) (subst (FreeFrom old size (suc n)) (at ∙ ap Some e) list) in (
         list.0,
         list.1,
         at,
@@ -109,7 +152,8 @@ module _ {H : Type 0} where
       )
 
   -- a live slot is on no list
-  pub off_live : (chunks : List (Chunk H)) (slot : ℕ) (r : Record H) → cell_at chunks slot ≡ Some (Live r) → (size m : ℕ) → FreeFrom chunks size (suc m) (Some slot) → ⊥
+  pub off_live : (chunks : List (Chunk H)) (slot : ℕ) (r : Record H) → cell_at chunks slot ≡ Some (Live r)
+      → (size m : ℕ) → FreeFrom chunks size (suc m) (Some slot) → ⊥
   off_live chunks slot r live size m list =
       let at = list.2 in
       let same : slot ≡ list.0 = cc in
@@ -117,7 +161,8 @@ module _ {H : Type 0} where
       cc
 
   -- nor is one of another size
-  pub off_size : (chunks : List (Chunk H)) (slot own : ℕ) → size_at chunks slot ≡ Some own → (size m : ℕ) → own ≢ size → FreeFrom chunks size (suc m) (Some slot) → ⊥
+  pub off_size : (chunks : List (Chunk H)) (slot own : ℕ) → size_at chunks slot ≡ Some own → (size m : ℕ)
+      → own ≢ size → FreeFrom chunks size (suc m) (Some slot) → ⊥
   off_size chunks slot own is size m other list =
       let at = list.2 in
       let same : slot ≡ list.0 = cc in

@@ -1,5 +1,20 @@
 -- What an arena is seen as: a map from live slots to records, and how many slots are spare.
-use Rattle.std.specs.Prelude.{ℕ, ◌/◌, ◌==◌, nat_lt, List, [], ◌∷◌, count_by, slice_index, Option, IsSome, option_map, unwrap_or, refl}
+use Rattle.std.specs.Prelude.{
+  ℕ,
+  ◌/◌,
+  ◌==◌,
+  nat_lt,
+  List,
+  [],
+  ◌∷◌,
+  count_by,
+  slice_index,
+  Option,
+  IsSome,
+  option_map,
+  unwrap_or,
+  refl,
+}
 use Rattle.std.specs.Ordering.{nat_cmp}
 use Rattle.std.specs.FinMap as map
 use Rattle.std.specs.Coded.{Coded, code_by, coded×, coded_ℕ, coded_list}

@@ -1,5 +1,23 @@
 -- What a chunk is seen as: slots of one size, each free or with a record. No public clause cites this module.
-use Rattle.std.specs.Prelude.{◌≡◌, ℕ, ◌+◌, ◌*◌, ◌<◌, ◌≤◌, nat_lt, if◌then◌else◌, List, [], ◌∷◌, length, take, drop, slice_index, Option, Some}
+use Rattle.std.specs.Prelude.{
+  ◌≡◌,
+  ℕ,
+  ◌+◌,
+  ◌*◌,
+  ◌<◌,
+  ◌≤◌,
+  nat_lt,
+  if◌then◌else◌,
+  List,
+  [],
+  ◌∷◌,
+  length,
+  take,
+  drop,
+  slice_index,
+  Option,
+  Some,
+}
 use Rattle.arena.specs.Arena.{Record, sizes}
 use Rattle.arena.specs.Entry.{LeadsTo}
 use Rattle.arena.specs.declared.entry.Entry.{Entry}

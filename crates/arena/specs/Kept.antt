@@ -1,5 +1,29 @@
 -- How an arena keeps its slots in chunks. No public clause cites this module.
-use Rattle.std.specs.Prelude.{◌≡◌, ℕ, zero, suc, ◌+◌, ◌*◌, ◌/◌, ◌%◌, ◌<◌, ◌≤◌, List, [], ◌∷◌, ◌++◌, length, sum, slice_get, slice_index, slice_index_or, Option, Some, None, option_map}
+use Rattle.std.specs.Prelude.{
+  ◌≡◌,
+  ℕ,
+  zero,
+  suc,
+  ◌+◌,
+  ◌*◌,
+  ◌/◌,
+  ◌%◌,
+  ◌<◌,
+  ◌≤◌,
+  List,
+  [],
+  ◌∷◌,
+  ◌++◌,
+  length,
+  sum,
+  slice_get,
+  slice_index,
+  slice_index_or,
+  Option,
+  Some,
+  None,
+  option_map,
+}
 use Rattle.std.specs.Option.{option_and_then}
 use Rattle.std.specs.FinMap as map
 use Rattle.arena.specs.Arena.{Record, Records, size_of}
@@ -41,7 +65,8 @@ module _ {H : Type 0} where
       × (cell_at chunks slot ≡ Some (Free next)) × FreeFrom chunks size count next
 
   -- what an arena keeps
-  pub record IsKept (chunks : List (Chunk H)) (first : List (Option ℕ)) (spare : List ℕ) (live : ℕ) : Type 0 where
+  pub record IsKept (chunks : List (Chunk H)) (first : List (Option ℕ)) (spare : List ℕ)
+      (live : ℕ) : Type 0 where
     -- slots can name them all
     pub few : length chunks ≤ 8388608
     -- each size's spare slots are a list

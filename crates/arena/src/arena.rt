@@ -1,4 +1,5 @@
-ghost use Rattle.std.specs.Prelude.{◌≡◌, ◌≢◌, ℕ, ◌+◌, ◌<◌, ◌≤◌, ◌==◌, ◌↔◌, length, Some, None, IsOk, IsSome, IsTrue, IfOk, IfSome, OnOk, OnErr, IsOkUnless, Any, All, if◌then◌else◌};
+ghost use Rattle.std.specs.Prelude.{◌≡◌, ◌≢◌, ℕ, ◌+◌, ◌<◌, ◌≤◌, ◌==◌, ◌↔◌, length, Some, None, IsOk, IsSome, IfOk, IfSome, OnOk, OnErr, IsOkUnless, Any, All, if◌then◌else◌};
+ghost use Rattle.std.specs.Option.{is_some};
 ghost use Rattle.std.specs.Borrow.{sem};
 ghost use Rattle.std.specs.FinMap as map;
 ghost use Rattle.arena.specs.Arena.{size_of, slots_of, wanted_of, record_at, header_at, key_at, spare_of, with_header, IsLive};
@@ -112,16 +113,16 @@ impl<H: Copy, A: Allocator + Copy> Arena<H, A> {
 
     /// Returns the header of a record.
     pub fn header(&self, slot: Slot) -> H
-        requires { IsLive self.now slot }
-        ensures { header_at self.now slot ≡ Some result }
+        requires live { IsLive self.now slot }
+        ensures header { header_at self.now slot ≡ Some result }
     {
         *self.header_ref(slot)
     }
 
     /// Returns the header of a record where it lies.
     pub fn header_ref(&self, slot: Slot) -> &H
-        requires { IsLive self.now slot }
-        ensures { header_at self.now slot ≡ Some result.now }
+        requires live { IsLive self.now slot }
+        ensures header { header_at self.now slot ≡ Some result.now }
     {
         let chunk = &self.chunks[slot.chunk()];
         chunk.header(slot.index())
@@ -129,7 +130,7 @@ impl<H: Copy, A: Allocator + Copy> Arena<H, A> {
 
     /// Lends the header of a record for writing. The key and all other records stay as they are.
     pub fn header_mut(&mut self, slot: Slot) -> &mut H
-        requires { IsLive self.old slot }
+        requires live { IsLive self.old slot }
         ensures* lends { sem 𝓛 (lends_header H.row A.row A.Allocator self.entry slot result) }
         ensures header { header_at self.old slot ≡ Some result.now }
     {
@@ -139,16 +140,16 @@ impl<H: Copy, A: Allocator + Copy> Arena<H, A> {
 
     /// Replaces the header of a record. The key and all other records stay as they are.
     pub fn set_header(&mut self, slot: Slot, header: H)
-        requires { IsLive self.old slot }
-        ensures { self.new ≡ with_header self.old slot header }
+        requires live { IsLive self.old slot }
+        ensures replaced { self.new ≡ with_header self.old slot header }
     {
         *self.header_mut(slot) = header;
     }
 
     /// Returns the key of a record where it lies.
     pub fn key(&self, slot: Slot) -> &[u8]
-        requires { IsLive self.now slot }
-        ensures { key_at self.now slot ≡ Some result.now }
+        requires live { IsLive self.now slot }
+        ensures key { key_at self.now slot ≡ Some result.now }
     {
         let chunk = &self.chunks[slot.chunk()];
         chunk.key(slot.index())
@@ -156,7 +157,7 @@ impl<H: Copy, A: Allocator + Copy> Arena<H, A> {
 
     /// Removes a record. Its slot is spare then.
     pub fn release(&mut self, slot: Slot)
-        requires { IsLive self.old slot }
+        requires live { IsLive self.old slot }
         ensures released { self.new.records ≡ map.remove self.old.records slot }
         ensures others { (other : ℕ) → other ≢ slot → record_at self.new other ≡ record_at self.old other }
         ensures spare { IfSome (key_at self.old slot) (λ key. spare_of self.new (size_of (length key))
@@ -176,15 +177,14 @@ impl<H: Copy, A: Allocator + Copy> Arena<H, A> {
 
     /// Returns how many records there are.
     pub fn live(&self) -> usize
-        ensures { result ≡ map.len self.now.records }
+        ensures count { result ≡ map.len self.now.records }
     {
         self.live
     }
 
-    // Whether a slot names a record, for tests.
-    #[cfg(test)]
-    pub(crate) fn is_live(&self, slot: Slot) -> bool
-        ensures { IsTrue result → IsLive self.now slot }
+    /// Returns `true` if the slot is live, which is to say that it has a record.
+    pub fn is_live(&self, slot: Slot) -> bool
+        ensures live { result ≡ is_some (record_at self.now slot) }
     {
         if slot.chunk() >= self.chunks.len() {
             return false;
@@ -195,7 +195,7 @@ impl<H: Copy, A: Allocator + Copy> Arena<H, A> {
 
     // Adds chunks until so many slots of the size are spare.
     fn fill_up(&mut self, size: usize, wanted: usize) -> Result<(), ArenaError>
-        requires { size < 10 }
+        requires size { size < 10 }
         ensures room { OnOk result (wanted ≤ spare_of self.new size) }
         ensures records { self.new.records ≡ self.old.records }
         ensures spare_stays { spare_of self.old size ≤ spare_of self.new size }
@@ -212,7 +212,7 @@ impl<H: Copy, A: Allocator + Copy> Arena<H, A> {
 
     // Adds a chunk where no slot of the size is spare.
     fn spare_one(&mut self, size: usize) -> Result<(), ArenaError>
-        requires { size < 10 }
+        requires size { size < 10 }
         ensures some { OnOk result (0 < spare_of self.new size) }
         ensures spare { OnOk result (spare_of self.new size
             ≡ (if spare_of self.old size == 0 then slots_of size else spare_of self.old size)) }
@@ -230,7 +230,7 @@ impl<H: Copy, A: Allocator + Copy> Arena<H, A> {
 
     // Adds a chunk of spare slots of the size.
     fn grow(&mut self, size: usize) -> Result<(), ArenaError>
-        requires { size < 10 }
+        requires size { size < 10 }
         ensures records { self.new.records ≡ self.old.records }
         ensures spare { OnOk result (spare_of self.new size ≡ spare_of self.old size + slots_of size) }
         ensures more { OnOk result (spare_of self.old size < spare_of self.new size) }

@@ -1,4 +1,5 @@
 ghost use Rattle.std.specs.Prelude.{◌≡◌, ℕ, ◌+◌, ◌*◌, ◌<◌, ◌≤◌, ◌++◌, List, length, take, drop, slice_index, slice_set, slice_get, Some, IsSome, IsTrue, IfOk, option_map};
+ghost use Rattle.std.specs.Option.{is_some};
 ghost use Rattle.std.specs.Borrow.{sem};
 ghost use Rattle.arena.specs.Arena.{sizes, slots_of};
 
@@ -30,16 +31,16 @@ impl<H, A: Allocator> Model for Chunk<H, A> {
 
 /// Writes the key over the bytes from an index on.
 fn write_at(bytes: &mut [u8], from: usize, key: &[u8])
-    requires { from + length key.now ≤ length bytes.old }
-    ensures { bytes.new ≡ take from bytes.old ++ (key.now ++ drop (from + length key.now) bytes.old) }
+    requires within { from + length key.now ≤ length bytes.old }
+    ensures bytes { bytes.new ≡ take from bytes.old ++ (key.now ++ drop (from + length key.now) bytes.old) }
 {
     bytes[from..from + key.len()].copy_from_slice(key);
 }
 
 /// Returns so many bytes from an index on.
 fn part(bytes: &[u8], from: usize, count: usize) -> &[u8]
-    requires { from + count ≤ length bytes.now }
-    ensures { result.now ≡ take count (drop from bytes.now) }
+    requires within { from + count ≤ length bytes.now }
+    ensures bytes { result.now ≡ take count (drop from bytes.now) }
 {
     &bytes[from..from + count]
 }
@@ -60,8 +61,8 @@ impl<H, A: Allocator> Chunk<H, A> {
 
     /// Where the slot after a free one in the list of free slots is.
     pub(crate) fn next(&self, index: usize) -> Option<Slot>
-        requires { IsFree self.now.cells index }
-        ensures { LeadsTo self.now.cells index result }
+        requires free { IsFree self.now.cells index }
+        ensures next { LeadsTo self.now.cells index result }
     {
         match &self.entries[index] {
             Entry::Free(next) => *next,
@@ -71,25 +72,24 @@ impl<H, A: Allocator> Chunk<H, A> {
 
     /// Returns the header of a live slot, where it lies.
     pub(crate) fn header(&self, index: usize) -> &H
-        requires { IsSome (held_at self.now.cells index) }
-        ensures { option_map (λ r. r.header) (held_at self.now.cells index) ≡ Some result.now }
+        requires live { IsSome (held_at self.now.cells index) }
+        ensures header { option_map (λ r. r.header) (held_at self.now.cells index) ≡ Some result.now }
     {
         &self.entries[index].live().header
     }
 
     /// Returns the key of a live slot, where it lies.
     pub(crate) fn key(&self, index: usize) -> &[u8]
-        requires { IsSome (held_at self.now.cells index) }
-        ensures { option_map (λ r. r.key) (held_at self.now.cells index) ≡ Some result.now }
+        requires live { IsSome (held_at self.now.cells index) }
+        ensures key { option_map (λ r. r.key) (held_at self.now.cells index) ≡ Some result.now }
     {
         let length = self.entries[index].live().length as usize;
         part(&self.bytes, index * self.width, length)
     }
 
     /// Whether the slot at an index is live.
-    #[cfg(test)]
     pub(crate) fn is_live(&self, index: usize) -> bool
-        ensures { IsTrue result → IsSome (held_at self.now.cells index) }
+        ensures live { result ≡ is_some (held_at self.now.cells index) }
     {
         if index >= self.entries.len() {
             return false;
@@ -104,8 +104,8 @@ impl<H, A: Allocator> Chunk<H, A> {
     pub(crate) fn free(&mut self, index: usize, next: Option<Slot>)
     where
         H: Drop,
-        requires { index < length self.old.cells }
-        ensures { self.new ≡ record self.old { cells = slice_set self.old.cells index (Free next) } }
+        requires inside { index < length self.old.cells }
+        ensures freed { self.new ≡ record self.old { cells = slice_set self.old.cells index (Free next) } }
     {
         self.entries[index] = Entry::Free(next);
     }
@@ -116,7 +116,7 @@ impl<H, A: Allocator> Chunk<H, A> {
         H: Drop,
         requires within { index < length self.old.cells }
         requires fits { length key.now ≤ slice_index sizes self.old.size }
-        ensures { self.new ≡ record self.old {
+        ensures filled { self.new ≡ record self.old {
           cells
               = slice_set self.old.cells index (Live (record { header = header; key = key.now }));
         } }
@@ -128,7 +128,7 @@ impl<H, A: Allocator> Chunk<H, A> {
 
     /// Lends the header of a live slot for writing.
     pub(crate) fn header_mut(&mut self, index: usize) -> &mut H
-        requires { IsSome (held_at self.old.cells index) }
+        requires live { IsSome (held_at self.old.cells index) }
         ensures* lends { sem 𝓛 (lends_header H.row A.row A.Allocator self.entry index result) }
         ensures value { option_map (λ r. r.header) (held_at self.old.cells index) ≡ Some result.now }
     {

@@ -23,8 +23,8 @@ impl<T> Entry<T> {
     ghost use Rattle.arena.specs.contracts.entry.Entry.{the_row};
 
     pub(crate) fn live(&self) -> &T
-        requires { IsSome (held self.now) }
-        ensures { held self.now ≡ Some result.now }
+        requires live { IsSome (held self.now) }
+        ensures held { held self.now ≡ Some result.now }
     {
         match self {
             Entry::Live(held) => held,
@@ -33,7 +33,7 @@ impl<T> Entry<T> {
     }
 
     pub(crate) fn live_mut(&mut self) -> &mut T
-        requires { IsSome (held self.old) }
+        requires live { IsSome (held self.old) }
         ensures* lends { sem 𝓛 (Lends (the_row T.row) T.row self.entry result Entry.Live) }
         ensures value { held self.old ≡ Some result.now }
     {

@@ -16,7 +16,7 @@ const WIDTHS: [usize; SIZES] = [32, 64, 128, 256, 512, 1024, 2048, 4096, 8192, 1
 
 /// Returns how many bytes the key of a slot of the size may have.
 pub(crate) fn width_of(size: usize) -> usize
-    requires { size < 10 }
+    requires size { size < 10 }
     ensures width { result ≡ slice_index sizes size }
     ensures positive { 0 < result }
 {
@@ -25,7 +25,7 @@ pub(crate) fn width_of(size: usize) -> usize
 
 /// Returns how many slots of the size a chunk has.
 pub(crate) fn slots_of(size: usize) -> usize
-    requires { size < 10 }
+    requires size { size < 10 }
     ensures slots { result ≡ slots_of size }
     ensures some { 0 < result }
     ensures at_most { result ≤ 512 }
@@ -36,7 +36,7 @@ pub(crate) fn slots_of(size: usize) -> usize
 
 /// Returns the least size that a key of so many bytes fits.
 pub(crate) fn size_of(length: usize) -> usize
-    ensures { result ≡ size_of length }
+    ensures size { result ≡ size_of length }
 {
     WIDTHS.iter().filter(|width| **width < length).count()
 }

@@ -30,7 +30,7 @@ impl Slot {
     pub(crate) fn new(chunk: usize, index: usize) -> Self
         requires chunk { chunk < MAX_CHUNKS }
         requires index { index < CHUNK_SLOTS }
-        ensures { result ≡ chunk * 512 + index }
+        ensures number { result ≡ chunk * 512 + index }
     {
         Slot {
             number: (chunk * CHUNK_SLOTS + index) as u32,
@@ -38,13 +38,13 @@ impl Slot {
     }
 
     pub(crate) fn chunk(self) -> usize
-        ensures { result ≡ self / 512 }
+        ensures chunk { result ≡ self / 512 }
     {
         self.number as usize / CHUNK_SLOTS
     }
 
     pub(crate) fn index(self) -> usize
-        ensures { result ≡ self % 512 }
+        ensures index { result ≡ self % 512 }
     {
         self.number as usize % CHUNK_SLOTS
     }

@@ -8,7 +8,7 @@ use std::collections::BTreeMap;
 use std::process::Abort;
 use std::test::Fail;
 
-/// A key of so many bytes, which tells it from others of its length.
+// A key of so many bytes, which tells it from others of its length.
 fn key(alloc: Global, number: u32, length: usize) -> Result<Vec<u8>, AllocError> {
     let mut bytes = Vec::with_capacity(alloc, length)?;
     let mut state = number.wrapping_mul(2_654_435_761);
@@ -19,7 +19,7 @@ fn key(alloc: Global, number: u32, length: usize) -> Result<Vec<u8>, AllocError>
     Ok(bytes)
 }
 
-/// Holds where the slot has this header and this key.
+// Holds where the slot has this header and this key.
 fn shows<A: Allocator + Copy>(
     rt: &impl Abort,
     arena: &Arena<u32, A>,
@@ -56,7 +56,7 @@ fn arena_reserve_and_place(rt: HostRuntime) -> Result<(), Fail> {
     Ok(())
 }
 
-/// Takes what memory the heap has left.
+// Takes what memory the heap has left.
 fn rest_of<'a>(
     alloc: Global,
     heap: &'a LocalHeap,
@@ -111,7 +111,7 @@ fn arena_chunk_and_refusal(rt: HostRuntime) -> Result<(), Fail> {
     Ok(())
 }
 
-/// Numbers that look random, the same in each run.
+// Numbers that look random, the same in each run.
 #[derive(Drop)]
 struct Numbers {
     state: u64,
@@ -119,8 +119,8 @@ struct Numbers {
 
 impl Numbers {
     fn below(&mut self, bound: u64) -> u64
-        requires { 0 < bound }
-        ensures { result < bound }
+        requires positive { 0 < bound }
+        ensures below { result < bound }
     {
         self.state = self
             .state
@@ -129,7 +129,7 @@ impl Numbers {
         (self.state >> 33) % bound
     }
 
-    /// A length of a key, each size as often as another.
+    // A length of a key, each size as often as another.
     fn length(&mut self) -> usize {
         let most = 32_u64 << self.below(10);
         self.below(most + 1) as usize
@@ -138,7 +138,7 @@ impl Numbers {
 
 type Records = BTreeMap<u32, (Slot, Vec<u8>)>;
 
-/// Takes out the record whose number is the first from this one on, and releases it.
+// Takes out the record whose number is the first from this one on, and releases it.
 fn release_from(rt: &impl Abort, arena: &mut Arena<u32>, records: &mut Records, from: u32) {
     let Some((number, _)) = records.range(from..).next() else {
         return;
@@ -190,8 +190,8 @@ fn headers_are_written_where_they_lie(rt: HostRuntime) -> Result<(), Fail> {
     Ok(())
 }
 
-/// However little memory there is, a refused call leaves the records as they were, and the next call after one that
-/// succeeds.
+// However little memory there is, a refused call leaves the records as they were, and the next call after one that
+// succeeds.
 #[test]
 fn refused_growth_changes_nothing(rt: HostRuntime) -> Result<(), Fail> {
     let lengths = [5, 40, 300, 20, 1000, 100, 16_384, 64, 8_000, 0, 3_000, 500];
@@ -221,7 +221,7 @@ fn refused_growth_changes_nothing(rt: HostRuntime) -> Result<(), Fail> {
     Ok(())
 }
 
-/// Places a record, in a second try where the first is refused memory.
+// Places a record, in a second try where the first is refused memory.
 fn place_at_last(rt: &impl Abort, arena: &mut Arena<u32>, header: u32, key: &[u8]) -> Option<Slot> {
     let live = arena.live();
     match arena.place(header, key) {
@@ -234,7 +234,7 @@ fn place_at_last(rt: &impl Abort, arena: &mut Arena<u32>, header: u32, key: &[u8
     }
 }
 
-/// Its outcome is the same whichever one growth is refused.
+// Its outcome is the same whichever one growth is refused.
 #[test]
 fn one_growth_refused(rt: HostRuntime) {
     let mut arena = Arena::new(rt.alloc());

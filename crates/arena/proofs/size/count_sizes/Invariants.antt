@@ -6,6 +6,7 @@ abbrev pub invariant-loop-length : goal.invariant-loop-length
 invariant-loop-length l =
     record {
       ten : length l.counts ≡ 10;
-      counts : (size : ℕ) → size < 10 → slice_index l.counts size ≡ wanted_of (take l.length-index l.lengths) size;
+      counts : (size : ℕ) → size < 10
+          → slice_index l.counts size ≡ wanted_of (take l.length-index l.lengths) size;
       fit : (k : ℕ) → k < l.length-index → get_or l.lengths k 0 ≤ 16384;
     }

@@ -8,7 +8,8 @@ invariant-loop-self g l =
       records : l.self.records ≡ l.initial.self.records;
       stays : spare_of l.initial.self l.size ≤ spare_of l.self l.size;
       others : (s : ℕ) → s ≢ l.size → spare_of l.self s ≡ spare_of l.initial.self s;
-      no_more : l.wanted ≤ spare_of l.initial.self l.size → spare_of l.self l.size ≡ spare_of l.initial.self l.size;
+      no_more : l.wanted ≤ spare_of l.initial.self l.size
+          → spare_of l.self l.size ≡ spare_of l.initial.self l.size;
     }
 
 abbrev pub decreases-loop-self : goal.decreases-loop-self

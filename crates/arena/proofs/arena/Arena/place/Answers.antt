@@ -8,4 +8,5 @@ returns-clause-record g c = rw c.give.ensures.placed (get-put_same _ c.give.resu
 
 pub returns-clause-others : goal.returns-clause-others
 returns-clause-others g c = λ other apart.
-    rw c.give.ensures.placed (get-put_other _ c.give.result _ other apart) ∙ ap (λ m. map.get m other) c.spare_one.ensures.records
+    rw c.give.ensures.placed (get-put_other _ c.give.result _ other apart)
+    ∙ ap (λ m. map.get m other) c.spare_one.ensures.records

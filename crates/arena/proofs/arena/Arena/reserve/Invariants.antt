@@ -8,5 +8,6 @@ invariant-loop-size g l =
       records : l.self.records ≡ l.initial.self.records;
       room : (s : ℕ) → s < l.size → wanted_of l.lengths s ≤ spare_of l.self s;
       stays : (s : ℕ) → spare_of l.initial.self s ≤ spare_of l.self s;
-      no_more : (s : ℕ) → wanted_of l.lengths s ≤ spare_of l.initial.self s → spare_of l.self s ≡ spare_of l.initial.self s;
+      no_more : (s : ℕ) → wanted_of l.lengths s ≤ spare_of l.initial.self s
+          → spare_of l.self s ≡ spare_of l.initial.self s;
     }

@@ -7,29 +7,42 @@ use Rattle.arena.proofs.chunk.Chunk.key.Goals as goal
 
 pub index-requires : goal.index-requires
 index-requires g c =
-    let live = live_entry _ _ _ c.args.index (rw (← c.self.view_is) at c.requires) in
+    let live = live_entry _ _ _ c.args.index (rw (← c.self.view_is) at c.requires.live) in
     omega (arith, slice_get_within c.self.inside.entries.items c.args.index _ live.1)
 
 pub live-requires : goal.live-requires
-live-requires g c =
-    let live = live_entry _ _ _ c.args.index (rw (← c.self.view_is) at c.requires) in
-    rw (entry_at c.self.inside.entries.items c.args.index c.index.result.now _ live.1 c.index.ensures)
+live-requires g c = record {
+  live =
+      let live = live_entry _ _ _ c.args.index (rw (← c.self.view_is) at c.requires.live) in
+      rw (entry_at c.self.inside.entries.items c.args.index c.index.result.now _ live.1 c.index.ensures);
+}
 
 pub overflow_mul-index : goal.overflow_mul-index
 overflow_mul-index g c =
-    let live = live_entry _ _ _ c.args.index (rw (← c.self.view_is) at c.requires) in
+    let live = live_entry _ _ _ c.args.index (rw (← c.self.view_is) at c.requires.live) in
     omega (arith, key_within _ _ _ _ c.args.index live.0 c.self.invariant live.1, c.self.invariant.room)
 
 pub part-requires : goal.part-requires
-part-requires g c =
-    let live = live_entry _ _ _ c.args.index (rw (← c.self.view_is) at c.requires) in
-    let entry = entry_at c.self.inside.entries.items c.args.index c.index.result.now _ live.1 c.index.ensures in
-    let same = held_in _ _ _ entry c.live.ensures in
-    rw (← same, c.deref.ensures.value) (key_within _ _ _ _ c.args.index live.0 c.self.invariant live.1)
+part-requires g c = record {
+  within =
+      let live = live_entry _ _ _ c.args.index (rw (← c.self.view_is) at c.requires.live) in
+      let entry =
+      entry_at c.self.inside.entries.items c.args.index c.index.result.now _ live.1 c.index.ensures in
+      let same = held_in _ _ _ entry c.live.ensures.held in
+      rw (← same, c.deref.ensures.value) (key_within _ _ _ _ c.args.index live.0 c.self.invariant live.1);
+}
 
 pub returns : goal.returns
-returns g c =
-    let live = live_entry _ _ _ c.args.index (rw (← c.self.view_is) at c.requires) in
-    let entry = entry_at c.self.inside.entries.items c.args.index c.index.result.now _ live.1 c.index.ensures in
-    let same = held_in _ _ _ entry c.live.ensures in
-    rw (← c.self.view_is, c.part.ensures, c.deref.ensures.value, ← same) (ap (λ o. option_map (λ r. r.key) (option_and_then held o)) live.2)
+returns g c = record {
+  key =
+      let live = live_entry _ _ _ c.args.index (rw (← c.self.view_is) at c.requires.live) in
+      let entry =
+      entry_at c.self.inside.entries.items c.args.index c.index.result.now _ live.1 c.index.ensures in
+      let same = held_in _ _ _ entry c.live.ensures.held in
+      rw (
+        ← c.self.view_is,
+        c.part.ensures.bytes,
+        c.deref.ensures.value,
+        ← same,
+      ) (ap (λ o. option_map (λ r. r.key) (option_and_then held o)) live.2);
+}

@@ -8,9 +8,11 @@ invariant_of-result g c =
     let count : length c.loop-index.entries.items ≡ c.slots_of-count.result = omega arith in
     let width = c.width_of-width.ensures.width in
     let bytes = c.slots_of-count.ensures.bytes in
-    let shared : length c.loop-index.entries.items * c.width_of-width.result ≡ 16384 = rw (count, width) bytes in
+    let shared : length c.loop-index.entries.items * c.width_of-width.result ≡ 16384 =
+    rw (count, width) bytes in
     let room : length c.in_ok-bytes.bytes.items ≡ 16384 = omega (arith, c.in_ok-bytes.ensures.len) in
-    IsChunk-new _ _ _ _ (λ k. next_in (c.args.number * 512) c.slots_of-count.result k c.args.last) (omega arith) width shared room
+    IsChunk-new _ _ _ _ (λ k. next_in (c.args.number * 512) c.slots_of-count.result k c.args.last)
+    (omega arith) width shared room
     (λ k below. c.loop-index.invariant.leads k (omega arith))
 
 pub returns-clause-fresh : goal.returns-clause-fresh

@@ -7,5 +7,6 @@ abbrev pub invariant-loop-index : goal.invariant-loop-index
 invariant-loop-index g l =
     record {
       count : vec_len l.entries ≡ l.index;
-      leads : (k : ℕ) → k < l.index → slice_get l.entries.items k ≡ Some (Free (next_in (l.number * 512) l.count k l.last));
+      leads : (k : ℕ) → k < l.index
+          → slice_get l.entries.items k ≡ Some (Free (next_in (l.number * 512) l.count k l.last));
     }
