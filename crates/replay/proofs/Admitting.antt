@@ -17,10 +17,13 @@ pub answered_stands : (old : CoreState) (proxy : ℕ) (b : Batch) (a : Answer) (
 answered_stands old proxy b (told.Reply r) new h ps s =
     let p : Processed = record { proxy = proxy; batch = b; reply = r } in
     let judged : JudgedButPlaces WINDOW (writes ps) b r =
-        subst (λ ws. JudgedButPlaces WINDOW ws b r) s.written h.1 in
+    subst (λ ws. JudgedButPlaces WINDOW ws b r) s.written h.1 in
     record {
-      chain = chain_more (JudgedButPlaces WINDOW) ps p s.chain (record { previous = h.0 ∙ s.version; judged =
-          judged });
+      chain = chain_more (JudgedButPlaces WINDOW) ps p s.chain (record {
+        previous = h.0 ∙ s.version;
+        judged =
+            judged;
+      });
       version = h.3 ∙ sym (version_of-more ps p);
       written = h.2 ∙ ap (λ ws. ws ++ writes_of b r) s.written ∙ sym (writes-more ps p);
     }

@@ -1,6 +1,29 @@
 -- A batch, judged one transaction after another.
-use Rattle.std.proofs.Common.{◌≡◌, List, [], ◌∷◌, ◌++◌, map, ap, sym, ◌∙◌, refl, ℕ, suc, ◌+◌, ◌<◌, ◌≤◌,
-    arith, ℤ, length, get_or, drop, append_assoc, drop-cons, add-one}
+use Rattle.std.proofs.Common.{
+  ◌≡◌,
+  List,
+  [],
+  ◌∷◌,
+  ◌++◌,
+  map,
+  ap,
+  sym,
+  ◌∙◌,
+  refl,
+  ℕ,
+  suc,
+  ◌+◌,
+  ◌<◌,
+  ◌≤◌,
+  arith,
+  ℤ,
+  length,
+  get_or,
+  drop,
+  append_assoc,
+  drop-cons,
+  add-one,
+}
 use Rattle.keyspace.specs.declared.range.Range.{Range}
 use Rattle.keyspace.specs.declared.txn.Txn.{Txn}
 use Rattle.keyspace.specs.declared.reply.Entry.{Entry}
@@ -32,32 +55,32 @@ pub entries_step : (edge version : ℤ) (history : List Write) (es : List Entry)
     (t : Txn) (left : List Txn) (e : Entry) →
     e.verdict ≡ (judge_txn edge history (ranges_of earlier) t).verdict → e.places ≡ [] →
     more ≡ earlier ++ at_version version
-        (counted (judge_txn edge history (ranges_of earlier) t).verdict t.writes) →
+    (counted (judge_txn edge history (ranges_of earlier) t).verdict t.writes) →
     (es ++ e ∷ []) ++ silent (judge_txns edge history (ranges_of more) left) ≡ es
-        ++ silent (judge_txns edge history (ranges_of earlier) (t ∷ left))
+    ++ silent (judge_txns edge history (ranges_of earlier) (t ∷ left))
 entries_step edge version history es earlier more t left e v p m =
     let same = entry_same e (without_places (judge_txn edge history (ranges_of earlier) t).verdict) v p in
     append_assoc es (e ∷ []) (silent (judge_txns edge history (ranges_of more) left))
     ∙ ap (λ (x : Entry). es ++ x ∷ silent (judge_txns edge history (ranges_of more) left)) same
     ∙ ap (λ rs. es ++ without_places (judge_txn edge history (ranges_of earlier) t).verdict
-        ∷ silent (judge_txns edge history rs left)) (ranges_more version earlier more _ m)
+    ∷ silent (judge_txns edge history rs left)) (ranges_more version earlier more _ m)
 
 pub written_step : (edge version : ℤ) (history : List Write) (earlier more : List Write) (t : Txn)
     (left : List Txn) →
     more ≡ earlier ++ at_version version
-        (counted (judge_txn edge history (ranges_of earlier) t).verdict t.writes) →
+    (counted (judge_txn edge history (ranges_of earlier) t).verdict t.writes) →
     more ++ at_version version (committed left (judge_txns edge history (ranges_of more) left)) ≡ earlier
-        ++ at_version version (committed (t ∷ left) (judge_txns edge history (ranges_of earlier) (t ∷ left)))
+    ++ at_version version (committed (t ∷ left) (judge_txns edge history (ranges_of earlier) (t ∷ left)))
 written_step edge version history earlier more t left m =
     let own = counted (judge_txn edge history (ranges_of earlier) t).verdict t.writes in
     let rest = committed left (judge_txns edge history (ranges_of earlier ++ own) left) in
     ap (λ rs. more ++ at_version version (committed left (judge_txns edge history rs left)))
-        (ranges_more version earlier more own m)
+    (ranges_more version earlier more own m)
     ∙ ap (λ ws. ws ++ at_version version rest) m
     ∙ append_assoc earlier (at_version version own) (at_version version rest)
     ∙ ap (λ ws. earlier ++ ws)
-        (sym (map_append (λ (range : Range). let w : Write = record { range = range; version = version } in
-        w) own rest))
+    (sym (map_append (λ (range : Range). let w : Write = record { range = range; version = version } in
+    w) own rest))
 
 -- places count for nothing in what is committed
 pub committed-silent : (ts : List Txn) (es : List Entry) → committed ts (silent es) ≡ committed ts es
@@ -76,9 +99,12 @@ length-map f (x ∷ xs) = ap suc (length-map f xs)
 pub few_silent : (edge : ℤ) (history : List Write) (ts : List Txn) (es : List Entry) → length ts ≤ 4096
     → es ≡ silent (judge_txns edge history [] ts) → length es ≤ 4096
 few_silent edge history ts es few e =
-    omega (arith, ap length e,
-        length-map (λ (x : Entry). without_places x.verdict) (judge_txns edge history [] ts),
-        length-judge_txns edge history [] ts)
+    omega (
+      arith,
+      ap length e,
+      length-map (λ (x : Entry). without_places x.verdict) (judge_txns edge history [] ts),
+      length-judge_txns edge history [] ts,
+    )
 
 -- a reply with these entries is right but for the places
 pub judged_but_places : (window : ℤ) (history : List Write) (b : Batch) (r : Reply) → r.version ≡ b.version
@@ -90,7 +116,7 @@ judged_but_places window history b r v e =
 pub writes_but_places : (window : ℤ) (history written : List Write) (b : Batch) (r : Reply)
     → r.entries ≡ silent (judge_txns (edge window b) history [] b.txns) →
     written ≡ at_version b.version (committed b.txns (judge_txns (edge window b) history [] b.txns))
-        → written ≡ writes_of b r
+    → written ≡ writes_of b r
 writes_but_places window history written b r e w =
     w ∙ ap (at_version b.version) (sym (ap (committed b.txns) e
-        ∙ committed-silent b.txns (judge_txns (edge window b) history [] b.txns)))
+    ∙ committed-silent b.txns (judge_txns (edge window b) history [] b.txns)))

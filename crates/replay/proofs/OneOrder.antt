@@ -1,6 +1,23 @@
 -- A list in order is given by its elements that tie with each: two lists in order that agree on these are one.
-use Rattle.std.specs.Prelude.{◌≡◌, ℕ, suc, ◌<◌, ◌≤◌, Bool, true, false, not, ◌&&◌, List, [], ◌∷◌, length, ⊤,
-    filter, slice_index_or as get_or}
+use Rattle.std.specs.Prelude.{
+  ◌≡◌,
+  ℕ,
+  suc,
+  ◌<◌,
+  ◌≤◌,
+  Bool,
+  true,
+  false,
+  not,
+  ◌&&◌,
+  List,
+  [],
+  ◌∷◌,
+  length,
+  ⊤,
+  filter,
+  slice_index_or as get_or,
+}
 use Rattle.std.proofs.Common.{refl, sym, ap, ◌∙◌, arith, inl, inr}
 use Rattle.std.proofs.lemmas.Bool.{cond-true, cond-false, cases_Bool, and_parts, not-true}
 use Rattle.std.proofs.lemmas.List.Sorted.{sorted_far}
@@ -81,7 +98,7 @@ module _ {X : Type 0} (lt : X → X → Bool) (order : IsStrictWeakOrder lt) whe
       let at_y = filter-kept (ties lt y) y ys (ties_itself y) in
       let at_z = filter-kept (ties lt z) z zs (ties_itself z) in
       let y_not_below =
-          NoneBelow-found z y (z ∷ zs) y _ (not_below_itself z, right.0) (sym (same y) ∙ at_y) in
+      NoneBelow-found z y (z ∷ zs) y _ (not_below_itself z, right.0) (sym (same y) ∙ at_y) in
       let z_not_below = NoneBelow-found y z (y ∷ ys) z _ (not_below_itself y, left.0) (same z ∙ at_z) in
       let heads = sym at_y ∙ same y ∙ filter-kept (ties lt y) z zs (both_not _ _ y_not_below z_not_below) in
       let head : y ≡ z = cc in
@@ -89,9 +106,9 @@ module _ {X : Type 0} (lt : X → X → Bool) (order : IsStrictWeakOrder lt) whe
       λ x. elim (cases_Bool (ties lt x y)) [
         | inl with ↦
             let both = sym (filter-kept (ties lt x) y ys with) ∙ same x
-                ∙ filter-kept (ties lt x) z zs (ap (ties lt x) (sym head) ∙ with) in cc
+            ∙ filter-kept (ties lt x) z zs (ap (ties lt x) (sym head) ∙ with) in cc
         | inr without ↦
             sym (filter-dropped (ties lt x) y ys without) ∙ same x
-                ∙ filter-dropped (ties lt x) z zs (ap (ties lt x) (sym head) ∙ without)
+            ∙ filter-dropped (ties lt x) z zs (ap (ties lt x) (sym head) ∙ without)
       ] in
       ap (λ w. w ∷ ys) head ∙ ap (λ l. z ∷ l) (same_from_ties ys zs left.1 right.1 tails)

@@ -7,8 +7,15 @@ use Rattle.std.proofs.lemmas.Fn.{always_returns_same}
 use Rattle.std.proofs.lemmas.List.Sorted.{ranks_by}
 use Rattle.std.proofs.lemmas.List.Elements.{filter-append}
 use Rattle.std.specs.Cmp.{IsStrictWeakOrder}
-use Rattle.std.specs.List.Sorted.{IsSortedBy, IsStableBy, IsSortedByKey, IsStableByKey, IsSortedByKeyClosure,
-    IsStableByKeyClosure, ties}
+use Rattle.std.specs.List.Sorted.{
+  IsSortedBy,
+  IsStableBy,
+  IsSortedByKey,
+  IsStableByKey,
+  IsSortedByKeyClosure,
+  IsStableByKeyClosure,
+  ties,
+}
 use Rattle.std.specs.Fn.{Called}
 use Rattle.std.specs.Ordering.{int_cmp, is_lt}
 use Rattle.std.specs.declared.cmp.Ordering.TheVariants.{Less, Equal, Greater}
@@ -17,8 +24,16 @@ use denote.Ref.{Bor}
 use Rattle.keyspace.specs.declared.answer.Answer.{Answer}
 use Rattle.keyspace.specs.Answer.{version_of_answer}
 use Rattle.replay.specs.Lines.{put_in_order, in_order}
-use Rattle.replay.proofs.OneOrder.{NoneBelow, Rises, Rises-from_sorted, same_from_ties, ties-parts,
-    not_below_itself, filter-kept, filter-dropped}
+use Rattle.replay.proofs.OneOrder.{
+  NoneBelow,
+  Rises,
+  Rises-from_sorted,
+  same_from_ties,
+  ties-parts,
+  not_below_itself,
+  filter-kept,
+  filter-dropped,
+}
 
 abbrev earlier : Answer → Answer → Bool
 earlier a b = int_lt (version_of_answer a) (version_of_answer b)
@@ -59,8 +74,10 @@ NoneBelow-put low a [] le none = (le, tt)
 NoneBelow-put low a (b ∷ bs) le none =
     elim (cases_Bool (earlier a b)) [
       | inl before ↦ subst (NoneBelow earlier order low) (sym (put_in_order-before a b bs before)) (le, none)
-      | inr behind ↦ subst (NoneBelow earlier order low) (sym (put_in_order-behind a b bs behind)) (none.0,
-          NoneBelow-put low a bs le none.1)
+      | inr behind ↦ subst (NoneBelow earlier order low) (sym (put_in_order-behind a b bs behind)) (
+        none.0,
+        NoneBelow-put low a bs le none.1,
+      )
     ]
 
 Rises-put : (a : Answer) (bs : List Answer) → Rises earlier order bs → Rises earlier order (put_in_order bs a)
@@ -70,10 +87,10 @@ Rises-put a (b ∷ bs) rises =
       | inl before ↦
           let le = order.one_way a b before in
           subst (Rises earlier order) (sym (put_in_order-before a b bs before))
-              ((le, NoneBelow-lower a b bs le rises.0), rises)
+          ((le, NoneBelow-lower a b bs le rises.0), rises)
       | inr behind ↦
           subst (Rises earlier order) (sym (put_in_order-behind a b bs behind))
-              (NoneBelow-put b a bs behind rises.0, Rises-put a bs rises.1)
+          (NoneBelow-put b a bs behind rises.0, Rises-put a bs rises.1)
     ]
 
 -- none of the list ties with x, which ties with an earlier one
@@ -84,7 +101,7 @@ none_tie x a b (c ∷ cs) tie before none =
     elim (cases_Bool (ties earlier x c)) [
       | inl with ↦
           let a_c =
-              order.chain a x c (ties-parts earlier order x a tie).1 (ties-parts earlier order x c with).0 in
+          order.chain a x c (ties-parts earlier order x a tie).1 (ties-parts earlier order x c with).0 in
           absurd (false≢true (sym (order.chain a c b a_c none.0) ∙ before))
       | inr without ↦ filter-dropped (ties earlier x) c cs without ∙ none_tie x a b cs tie before none.1
     ]
@@ -105,16 +122,16 @@ filter-put x a (b ∷ bs) rises =
                 let none = none_tie x a b (b ∷ bs) with before (not_before_itself b, rises.0) in
                 filter-kept p a (b ∷ bs) with ∙ ap (λ l. a ∷ l) none
                 ∙ sym (filter-append p (b ∷ bs) (a ∷ []) ∙ ap (λ l. l ++ filter p (a ∷ [])) none
-                    ∙ filter-kept p a [] with)
+                ∙ filter-kept p a [] with)
             | inr without ↦
                 filter-dropped p a (b ∷ bs) without
                 ∙ sym (filter-append p (b ∷ bs) (a ∷ [])
-                    ∙ ap (λ l. filter p (b ∷ bs) ++ l) (filter-dropped p a [] without)
-                    ∙ append-nil (filter p (b ∷ bs)))
+                ∙ ap (λ l. filter p (b ∷ bs) ++ l) (filter-dropped p a [] without)
+                ∙ append-nil (filter p (b ∷ bs)))
           ]
       | inr behind ↦
           ap (filter p) (put_in_order-behind a b bs behind)
-              ∙ ap (λ l. cond (p b) (b ∷ l) l) (filter-put x a bs rises.1)
+          ∙ ap (λ l. cond (p b) (b ∷ l) l) (filter-put x a bs rises.1)
     ]
 
 -- what putting answers in one after another keeps
@@ -124,8 +141,11 @@ record IsPutFrom (start received sorted : List Answer) : Type 0 where
 
 put_all : (start received : List Answer) → Rises earlier order start
     → IsPutFrom start received (fold put_in_order start received)
-put_all start [] rises = record { rises = rises; same =
-    λ x. ap (filter (ties earlier x)) (sym (append-nil start)) }
+put_all start [] rises = record {
+  rises = rises;
+  same =
+      λ x. ap (filter (ties earlier x)) (sym (append-nil start));
+}
 put_all start (a ∷ received) rises =
     let later = put_all (put_in_order start a) received (Rises-put a start rises) in
     record {
@@ -135,7 +155,7 @@ put_all start (a ∷ received) rises =
           later.same x ∙ filter-append p (put_in_order start a) received
           ∙ ap (λ l. l ++ filter p received) (filter-put x a start rises)
           ∙ sym (filter-append p (start ++ a ∷ []) received)
-              ∙ ap (filter p) (append_assoc start (a ∷ []) received);
+          ∙ ap (filter p) (append_assoc start (a ∷ []) received);
     }
 
 pub in_order-from_sort : (received sorted : List Answer) → IsSortedByKey version_of_answer int_cmp sorted
@@ -144,16 +164,16 @@ in_order-from_sort received sorted up stable =
     let put = put_all [] received tt in
     let up' = subst (λ (lt : Answer → Answer → Bool). IsSortedBy lt sorted) by_cmp-earlier up in
     let stable' =
-        subst (λ (lt : Answer → Answer → Bool). IsStableBy lt received sorted) by_cmp-earlier stable in
+    subst (λ (lt : Answer → Answer → Bool). IsStableBy lt received sorted) by_cmp-earlier stable in
     same_from_ties earlier order sorted (in_order received)
-        (Rises-from_sorted earlier order sorted up') put.rises (λ x. stable' x ∙ sym (put.same x))
+    (Rises-from_sorted earlier order sorted up') put.rises (λ x. stable' x ∙ sym (put.same x))
 
 -- the same from what `sort_by_key` ensures, where each call gives the version
 pub in_order-from_sort_by_key : {F : Type 0} {g : Mut F (Bor Answer × Unit {0}) ℤ} {f : F}
     (received sorted : List Answer) → IsSortedByKeyClosure g int_cmp f sorted
     → IsStableByKeyClosure g int_cmp f received sorted
     → ((a : Bor Answer × Unit {0}) (r : ℤ) (f' : F) → Called g f a r f'
-        → (r ≡ version_of_answer a.0.now) × (f' ≡ f)) → sorted ≡ in_order received
+    → (r ≡ version_of_answer a.0.now) × (f' ≡ f)) → sorted ≡ in_order received
 in_order-from_sort_by_key {g = g} {f = f} received sorted up stable calls =
     let by_version = always_returns_same g (λ a r. r ≡ version_of_answer a.0.now) f calls in
     in_order-from_sort received sorted (up version_of_answer by_version) (stable version_of_answer by_version)

@@ -1,6 +1,29 @@
 -- Answers that are owed, each with its proxy: what is left to each when one is handed out.
-use Rattle.std.proofs.Common.{◌<◌, length, ◌≡◌, ◌≢◌, ℕ, zero, suc, ◌+◌, Bool, true, false, cond, List, [],
-    ◌∷◌, refl, sym, ◌∙◌, ap, subst, get_or, arith, zero-add}
+use Rattle.std.proofs.Common.{
+  ◌<◌,
+  length,
+  ◌≡◌,
+  ◌≢◌,
+  ℕ,
+  zero,
+  suc,
+  ◌+◌,
+  Bool,
+  true,
+  false,
+  cond,
+  List,
+  [],
+  ◌∷◌,
+  refl,
+  sym,
+  ◌∙◌,
+  ap,
+  subst,
+  get_or,
+  arith,
+  zero-add,
+}
 use Rattle.std.specs.Prelude.{None, Some, ◌==◌, map, filter}
 use Rattle.std.specs.List.{position_from, remove}
 use Rattle.keyspace.specs.declared.answer.Answer.{Answer}
@@ -18,10 +41,10 @@ first_from test n [] k e = cc
 first_from test n (x ∷ xs) k e =
     elim (test x) as (λ b. test x ≡ b → cond b (Some n) (position_from test (n + 1) xs) ≡ Some k
     → (i : ℕ) × (k ≡ n + i) × IsFirst test (x ∷ xs) i) [
-  | true ↦ λ t f. let same : n ≡ k = cc in (0, omega (arith, same), t)
-  | false ↦ λ t f. let more = first_from test (n + 1) xs k f in
-      (suc more.0, omega (arith, more.1), (t, more.2))
-] refl e
+      | true ↦ λ t f. let same : n ≡ k = cc in (0, omega (arith, same), t)
+      | false ↦ λ t f. let more = first_from test (n + 1) xs k f in
+          (suc more.0, omega (arith, more.1), (t, more.2))
+    ] refl e
 
 pub first_at : {X : Type 0} (test : X → Bool) (xs : List X) (k : ℕ) → position_from test 0 xs ≡ Some k
     → IsFirst test xs k
@@ -45,10 +68,10 @@ others_keep proxy other (x ∷ xs) zero h n = let e = apart x.0 proxy other h n 
 others_keep proxy other (x ∷ xs) (suc i) h n =
     let more : answers_to other (remove xs i) ≡ answers_to other xs = others_keep proxy other xs i h.1 n in
     elim (x.0 == other) as
-        (λ b. map (λ (a : ℕ × Answer). a.1)
-        (cond b (x ∷ filter (λ a. a.0 == other) (remove xs i)) (filter (λ a. a.0 == other) (remove xs i)))
-        ≡ map (λ (a : ℕ × Answer). a.1)
-        (cond b (x ∷ filter (λ a. a.0 == other) xs) (filter (λ a. a.0 == other) xs))) [
+    (λ b. map (λ (a : ℕ × Answer). a.1)
+    (cond b (x ∷ filter (λ a. a.0 == other) (remove xs i)) (filter (λ a. a.0 == other) (remove xs i)))
+    ≡ map (λ (a : ℕ × Answer). a.1)
+    (cond b (x ∷ filter (λ a. a.0 == other) xs) (filter (λ a. a.0 == other) xs))) [
       | true ↦ ap (λ as'. x.1 ∷ as') more
       | false ↦ more
     ]
@@ -66,6 +89,6 @@ none_owed proxy n (x ∷ xs) e =
     elim (x.0 == proxy) as (λ b. cond b (Some n) (position_from (λ (o : ℕ × Answer). o.0 == proxy) (n + 1) xs)
     ≡ None → map (λ (a : ℕ × Answer). a.1)
     (cond b (x ∷ filter (λ a. a.0 == proxy) xs) (filter (λ a. a.0 == proxy) xs)) ≡ []) [
-  | true ↦ λ f. cc
-  | false ↦ λ f. none_owed proxy (n + 1) xs f
-] e
+      | true ↦ λ f. cc
+      | false ↦ λ f. none_owed proxy (n + 1) xs f
+    ] e

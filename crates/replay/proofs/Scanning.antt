@@ -17,7 +17,7 @@ pub in_conflict-scan : (history earlier : List Write) (t : Txn)
 in_conflict-scan history earlier t =
     list_any-same _ (λ range. is_hit history t range || meets_earlier (ranges_of earlier) range)
     (λ range. ap (λ b. is_hit history t range || b)
-        (sym (list_any-map (ranges_meet range) (λ w. w.range) earlier))) t.reads
+    (sym (list_any-map (ranges_meet range) (λ w. w.range) earlier))) t.reads
 
 -- what the tests say of the verdict
 pub verdict_in_conflict : (edge : ℤ) (ws : List Write) (earlier : List Range) (t : Txn)

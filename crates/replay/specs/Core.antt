@@ -31,7 +31,7 @@ pub record StandsFor (core : CoreState) (ps : List Processed) : Type 0 where
 abbrev pub IsAnswered : List Write → ℤ → Batch → Answer → List Write → ℤ → Type 0
 IsAnswered written version b (told.Reply r) written' version' =
     (b.previous ≡ version) × JudgedButPlaces WINDOW written b r × (written' ≡ written ++ writes_of b r)
-        × (version' ≡ b.version)
+    × (version' ≡ b.version)
 IsAnswered written version b (told.Held told_version) written' version' =
     (version <ℤ b.previous) × (told_version ≡ b.version) × (written' ≡ written) × (version' ≡ version)
 IsAnswered written version b (told.Never told_version) written' version' =

@@ -1,21 +1,5 @@
 -- What each change of a step map keeps, said of the map before and the map after.
-use Rattle.std.proofs.Common.{
-  ◌≡◌,
-  ℕ,
-  ◌+◌,
-  ◌*◌,
-  ◌≤◌,
-  ◌<◌,
-  List,
-  [],
-  ◌∷◌,
-  ◌++◌,
-  length,
-  get_or,
-  sym,
-  subst,
-  arith,
-}
+use Rattle.std.proofs.Common.{◌≡◌, ℕ, ◌+◌, ◌≤◌, ◌<◌, List, [], ◌∷◌, ◌++◌, length, get_or, sym, subst, arith}
 use Rattle.std.specs.Prelude.{ℤ, ◌≤ℤ◌, None}
 use Rattle.std.proofs.lemmas.Int.{ints}
 use Rattle.keyspace.specs.Range.{Holds, IsEmpty}
@@ -146,17 +130,6 @@ raise_keeps edge old h le new e =
         passed =
             r.passed;
       };
-    })
-
--- what is ready doesn't matter for the rest
-pub ready_keeps : (ready : List (ℕ × ℕ)) (old : Steps) → AreSteps old
-    → length old.boundaries + 2 * length ready ≤ old.limit → (new : Steps)
-    → new ≡ record old { ready = ready } → RaiseKeeps old new
-ready_keeps ready old h room new e =
-    subst (RaiseKeeps old) (sym e) (record {
-      steps = record { boundaries = h.boundaries; round = h.round; within = room; limit = h.limit };
-      covers = λ ws covers. covers;
-      rooted = λ ws r. record { each = r.each; passed = r.passed };
     })
 
 pub up_to_later : (v w : ℤ) (bs : List Boundary) → v ≤ℤ w → AreUpTo v bs → AreUpTo w bs

@@ -1,49 +1,10 @@
 -- A pass over a part of a list that keeps some boundaries and moves them together.
-use Rattle.std.proofs.Common.{
-  ◌≡◌,
-  ℕ,
-  suc,
-  ◌+◌,
-  ◌-◌,
-  ◌<◌,
-  ◌≤◌,
-  Bool,
-  true,
-  false,
-  cond,
-  ◌&&◌,
-  List,
-  [],
-  ◌∷◌,
-  ◌++◌,
-  length,
-  get_or,
-  set,
-  take,
-  drop,
-  refl,
-  sym,
-  ◌∙◌,
-  ap,
-  inl,
-  inr,
-  arith,
-  append_assoc,
-  append-nil,
-}
+use Rattle.std.proofs.Common.{◌≡◌, ℕ, suc, ◌+◌, ◌-◌, ◌<◌, ◌≤◌, Bool, true, false, cond, ◌&&◌, List, [], ◌∷◌, ◌++◌, length, get_or, set, take, drop, refl, sym, ◌∙◌, ap, inl, inr, arith, append_assoc}
 use Rattle.std.specs.Prelude.{ℤ, negsuc, ◌<ℤ◌, ◌≤ℤ◌, int_lt, int_le, slice_range}
 use Rattle.std.specs.List.{SwappedAt}
 use Rattle.std.proofs.lemmas.Int.{ints}
 use Rattle.std.proofs.lemmas.Bool.{cases_lt}
-use Rattle.std.proofs.lemmas.List.{
-  take-set-le,
-  take_more_set,
-  drop-set-lt,
-  set-set,
-  drop_more,
-  drop_at,
-  length-take-le,
-}
+use Rattle.std.proofs.lemmas.List.{take-set-le, take_more_set, drop-set-lt, set-set, drop_more}
 use Rattle.stepmap.specs.Boundary.{Boundary, last_version}
 use Rattle.stepmap.specs.Sweeping.{thinned}
 use Rattle.stepmap.proofs.Thinned.{goes}
@@ -175,26 +136,3 @@ compact_start edge old from to before e = record {
   rest = refl;
   done = ap (λ v. take from old ++ thinned edge v (slice_range old from to)) e;
 }
-
-empty_slice : (xs : List Boundary) (i : ℕ) → slice_range xs i i ≡ []
-empty_slice xs i = let e : i - i ≡ 0 = omega arith in ap (λ n. take n (drop i xs)) e
-
--- after the pass, with the gap closed
-pub compact_end : (edge : ℤ) (old now : List Boundary) (from to kept : ℕ) (before : ℤ)
-    → IsCompacting edge old now from to kept to before
-    → take kept now ++ drop to now ≡ take from old
-    ++ (thinned edge (last_version (negsuc 0) (take from old)) (slice_range old from to) ++ drop to old)
-compact_end edge old now from to kept before h =
-    let none : thinned edge before (slice_range old to to) ≡ [] =
-    ap (thinned edge before) (empty_slice old to) in
-    let front : take kept now ≡ staying edge old from to =
-    sym (append-nil (take kept now)) ∙ ap (λ xs. take kept now ++ xs) (sym none) ∙ h.done in
-    ap (λ xs. xs ++ drop to now) front ∙ ap (λ xs. staying edge old from to ++ xs) h.rest
-    ∙ append_assoc (take from old)
-    (thinned edge (last_version (negsuc 0) (take from old)) (slice_range old from to)) (drop to old)
-
-pub compact_unseen : (edge : ℤ) (old now : List Boundary) (from to kept : ℕ) (before : ℤ)
-    → IsCompacting edge old now from to kept to before → to ≤ length now
-    → drop kept (take kept now ++ drop to now) ≡ drop to old
-compact_unseen edge old now from to kept before h le =
-    drop_at (take kept now) (drop to now) kept (length-take-le kept now (omega (arith, h.behind))) ∙ h.rest

@@ -21,9 +21,6 @@ pub covers_raise : (f : List ℕ → ℤ) (ws : List Write) (edge later : ℤ) �
     → Covers f ws later
 covers_raise f ws edge later le covers key bytes s h = covers key bytes s (omega (arith, ints))
 
-pub same_raise : (f g : List ℕ → ℤ) (edge later : ℤ) → edge ≤ℤ later → SameFrom edge f g → SameFrom later f g
-same_raise f g edge later le same key bytes s h = same key bytes s (omega (arith, ints))
-
 -- a range holds a key or doesn't
 pub holds_or_not : (range : Range) (key : List ℕ) → Holds range key ⊎ (¬ Holds range key)
 holds_or_not range key =

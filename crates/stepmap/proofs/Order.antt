@@ -34,10 +34,6 @@ pub empty_unless_after : (key : List ℕ) → is_before [] key ≡ false → key
 empty_unless_after [] h = refl
 empty_unless_after (x ∷ xs) h = cc
 
-pub after_unless_empty : (key : List ℕ) → key ≢ [] → IsBefore [] key
-after_unless_empty [] h = absurd (h refl)
-after_unless_empty (x ∷ xs) h = refl
-
 pub not_empty_if_after : (key j : List ℕ) → IsBefore j key → key ≢ []
 not_empty_if_after key j h e =
     not_both_ways _ h (subst (λ k. is_before j k ≡ false) (sym e) (not_before_empty j))

@@ -110,9 +110,9 @@ pub record WritesInTurn (united : List Range) (version : ℤ) : Type 0 where
       slice_get united done ≡ Some range → MayBeNext range version now
   -- and then one more is
   pub step :
-      (done : ℕ) (range : Range) (before now after : Steps) → IsWriting united version done before now →
-      slice_get united done ≡ Some range → after ≡ after_write range version now →
-      IsWriting united version (done + 1) before after
+      (done : ℕ) (range : Range) (before now later : Steps) → IsWriting united version done before now →
+      slice_get united done ≡ Some range → later ≡ after_write range version now →
+      IsWriting united version (done + 1) before later
   -- where all are, so are those ranges that they unite
   pub whole :
       (ranges : List Range) (before now : Steps) → IsWriting united version (length united) before now →

@@ -36,13 +36,16 @@ same_range a b e =
     λ i. record {
       begin = begin i;
       end = end i;
-      begin_is_key = is_prop→PathP (λ j. IsKey (begin j)) (λ j. is_key_prop (begin j)) a.begin_is_key b.begin_is_key i;
+      begin_is_key = is_prop→PathP (λ j. IsKey (begin j))
+          (λ j. is_key_prop (begin j)) a.begin_is_key b.begin_is_key i;
       end_is_key = is_prop→PathP (λ j. IsKey (end j)) (λ j. is_key_prop (end j)) a.end_is_key b.end_is_key i;
-      ordered = is_prop→PathP (λ j. IsAtMost (begin j) (end j)) (λ j. at_most_prop (begin j) (end j)) a.ordered b.ordered i;
+      ordered = is_prop→PathP (λ j. IsAtMost (begin j) (end j))
+          (λ j. at_most_prop (begin j) (end j)) a.ordered b.ordered i;
     }
 
 -- lists whose values are told apart by their fields
-same_list : {A B : Type 0} (f : A → B) → ((a b : A) → f a ≡ f b → a ≡ b) → (xs ys : List A) → map f xs ≡ map f ys → xs ≡ ys
+same_list : {A B : Type 0} (f : A → B) → ((a b : A) → f a ≡ f b → a ≡ b) → (xs ys : List A)
+    → map f xs ≡ map f ys → xs ≡ ys
 same_list f one [] [] e = refl
 same_list f one [] (y ∷ ys) e = absurd cc
 same_list f one (x ∷ xs) [] e = absurd cc
@@ -64,9 +67,12 @@ same_txn a b e =
       marked = marked i;
       reads = reads i;
       writes = writes i;
-      natural = is_prop→PathP (λ j. pos 0 ≤ℤ snapshot j) (λ j. le_int_prop (pos 0) (snapshot j)) a.natural b.natural i;
-      few_reads = is_prop→PathP (λ j. length (reads j) ≤ 1024) (λ j. few_prop (length (reads j)) 1024) a.few_reads b.few_reads i;
-      few_writes = is_prop→PathP (λ j. length (writes j) ≤ 1024) (λ j. few_prop (length (writes j)) 1024) a.few_writes b.few_writes i;
+      natural = is_prop→PathP (λ j. pos 0 ≤ℤ snapshot j)
+          (λ j. le_int_prop (pos 0) (snapshot j)) a.natural b.natural i;
+      few_reads = is_prop→PathP (λ j. length (reads j) ≤ 1024)
+          (λ j. few_prop (length (reads j)) 1024) a.few_reads b.few_reads i;
+      few_writes = is_prop→PathP (λ j. length (writes j) ≤ 1024)
+          (λ j. few_prop (length (writes j)) 1024) a.few_writes b.few_writes i;
     }
 
 pub same_batch : (a b : Batch) → batch_fields a ≡ batch_fields b → a ≡ b
@@ -80,11 +86,16 @@ same_batch a b e =
       version = version i;
       received = received i;
       txns = txns i;
-      natural = is_prop→PathP (λ j. pos 0 ≤ℤ version j) (λ j. le_int_prop (pos 0) (version j)) a.natural b.natural i;
-      previous_from = is_prop→PathP (λ j. negsuc 0 ≤ℤ previous j) (λ j. le_int_prop (negsuc 0) (previous j)) a.previous_from b.previous_from i;
-      rises = is_prop→PathP (λ j. previous j <ℤ version j) (λ j. lt_int_prop (previous j) (version j)) a.rises b.rises i;
-      received_from = is_prop→PathP (λ j. negsuc 0 ≤ℤ received j) (λ j. le_int_prop (negsuc 0) (received j)) a.received_from b.received_from i;
-      received_before = is_prop→PathP (λ j. received j <ℤ version j) (λ j. lt_int_prop (received j) (version j)) a.received_before b.received_before i;
+      natural = is_prop→PathP (λ j. pos 0 ≤ℤ version j)
+          (λ j. le_int_prop (pos 0) (version j)) a.natural b.natural i;
+      previous_from = is_prop→PathP (λ j. negsuc 0 ≤ℤ previous j)
+          (λ j. le_int_prop (negsuc 0) (previous j)) a.previous_from b.previous_from i;
+      rises = is_prop→PathP (λ j. previous j <ℤ version j)
+          (λ j. lt_int_prop (previous j) (version j)) a.rises b.rises i;
+      received_from = is_prop→PathP (λ j. negsuc 0 ≤ℤ received j)
+          (λ j. le_int_prop (negsuc 0) (received j)) a.received_from b.received_from i;
+      received_before = is_prop→PathP (λ j. received j <ℤ version j)
+          (λ j. lt_int_prop (received j) (version j)) a.received_before b.received_before i;
       few = is_prop→PathP (λ j. length (txns j) ≤ 4096) (λ j. few_prop (length (txns j)) 4096) a.few b.few i;
     }
 
@@ -98,16 +109,20 @@ same_entry a b e =
     λ i. record {
       verdict = verdict i;
       places = places i;
-      only_conflict = is_prop→PathP (λ j. verdict j ≢ Conflict → places j ≡ []) (λ j. only_conflict_prop (verdict j) (places j)) a.only_conflict b.only_conflict i;
+      only_conflict = is_prop→PathP (λ j. verdict j ≢ Conflict
+          → places j ≡ []) (λ j. only_conflict_prop (verdict j) (places j)) a.only_conflict b.only_conflict i;
     }
 
 pub same_reply : (a b : Reply) → reply_fields a ≡ reply_fields b → a ≡ b
 same_reply a b e =
     let version = ap (λ (x : ReplyFields). x.version) e in
-    let entries = same_list entry_fields same_entry a.entries b.entries (ap (λ (x : ReplyFields). x.entries) e) in
+    let entries = same_list entry_fields same_entry a.entries b.entries
+    (ap (λ (x : ReplyFields). x.entries) e) in
     λ i. record {
       version = version i;
       entries = entries i;
-      natural = is_prop→PathP (λ j. pos 0 ≤ℤ version j) (λ j. le_int_prop (pos 0) (version j)) a.natural b.natural i;
-      few = is_prop→PathP (λ j. length (entries j) ≤ 4096) (λ j. few_prop (length (entries j)) 4096) a.few b.few i;
+      natural = is_prop→PathP (λ j. pos 0 ≤ℤ version j)
+          (λ j. le_int_prop (pos 0) (version j)) a.natural b.natural i;
+      few = is_prop→PathP (λ j. length (entries j) ≤ 4096)
+          (λ j. few_prop (length (entries j)) 4096) a.few b.few i;
     }

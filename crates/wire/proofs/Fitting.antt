@@ -16,44 +16,63 @@ use Rattle.keyspace.specs.Writes.{Write, counted}
 use Rattle.keyspace.specs.Judged.{Judged, edge}
 use Rattle.keyspace.specs.Judge.{is_too_old, is_in_conflict, is_hit, meets_earlier, places_from, hits_or_first, report, without_places, in_conflict_at, judge_txn, judge_txns}
 use Rattle.keyspace.proofs.Judging.{only_judge}
-use Rattle.wire.specs.Fields.{EntryFields, range_fields, txn_fields, entry_fields, batch_fields, reply_fields}
-use Rattle.wire.specs.Spelling.{key_text, range_text, txn_text, batch_body, entry_text, verdict_text, places_text, reply_body, signed_text, marks_text, header_text, IsShort}
+use Rattle.wire.specs.declared.version.WireVersion.{WireVersion}
+use Rattle.wire.specs.declared.version.WireVersion.TheVariants.{One, Two}
+use Rattle.wire.specs.Fields.{RangeFields, EntryFields, range_fields, txn_fields, entry_fields, batch_fields, reply_fields}
+use Rattle.wire.specs.Spelling.{key_text, ends_text, is_single_key, formed_text, range_text, txn_text, batch_body, entry_text, verdict_text, places_text, reply_body, signed_text, marks_text, header_text, IsShort}
 
-places_few : (i : ℕ) (test : Range → Bool) (ranges : List Range) → length (places_from i test ranges) ≤ length ranges
+places_few : (i : ℕ) (test : Range → Bool) (ranges : List Range)
+    → length (places_from i test ranges) ≤ length ranges
 places_few i test [] = omega arith
 places_few i test (r ∷ rs) =
     let more = places_few (i + 1) test rs in
-    elim (test r) as (λ b. length (cond b (i ∷ places_from (i + 1) test rs) (places_from (i + 1) test rs)) ≤ length (r ∷ rs)) [ true ↦ omega (arith, more) | false ↦ omega (arith, more) ]
+    elim (test r) as (λ b. length (cond b (i ∷ places_from (i + 1) test rs) (places_from (i + 1) test rs))
+    ≤ length (r ∷ rs)) [ true ↦ omega (arith, more) | false ↦ omega (arith, more) ]
 
 take_one_few : (xs : List ℕ) → length (take 1 xs) ≤ length xs
 take_one_few [] = omega arith
 take_one_few (x ∷ xs) = omega arith
 
-hits_or_first_few : (hits met : List ℕ) (n : ℕ) → length hits ≤ n → length met ≤ n → length (hits_or_first hits met) ≤ n
+hits_or_first_few : (hits met : List ℕ) (n : ℕ) → length hits ≤ n → length met ≤ n
+    → length (hits_or_first hits met) ≤ n
 hits_or_first_few [] met n h m = omega (arith, take_one_few met)
 hits_or_first_few (x ∷ xs) met n h m = h
 
 -- no more places than read ranges
-report_few : (ws : List Write) (earlier : List Range) (t : Txn) → length (report ws earlier t) ≤ length t.reads
+report_few : (ws : List Write) (earlier : List Range) (t : Txn)
+    → length (report ws earlier t) ≤ length t.reads
 report_few ws earlier t =
-    elim t.marked as (λ b. length (cond b (hits_or_first (places_from 0 (is_hit ws t) t.reads) (places_from 0 (meets_earlier earlier) t.reads)) []) ≤ length t.reads) [
-      | true ↦ hits_or_first_few (places_from 0 (is_hit ws t) t.reads) (places_from 0 (meets_earlier earlier) t.reads) (length t.reads) (places_few 0 (is_hit ws t) t.reads) (places_few 0 (meets_earlier earlier) t.reads)
+    elim t.marked as (λ b. length (cond b (hits_or_first (places_from 0 (is_hit ws t) t.reads)
+    (places_from 0 (meets_earlier earlier) t.reads)) []) ≤ length t.reads) [
+      | true ↦ hits_or_first_few (places_from 0 (is_hit ws t) t.reads)
+          (places_from 0 (meets_earlier earlier) t.reads) (length t.reads)
+          (places_few 0 (is_hit ws t) t.reads) (places_few 0 (meets_earlier earlier) t.reads)
       | false ↦ omega arith
     ]
 
-entry_few : (edge : ℤ) (ws : List Write) (earlier : List Range) (t : Txn) → length (judge_txn edge ws earlier t).places ≤ length t.reads
+entry_few : (edge : ℤ) (ws : List Write) (earlier : List Range) (t : Txn)
+    → length (judge_txn edge ws earlier t).places ≤ length t.reads
 entry_few edge ws earlier t =
-    elim (is_too_old edge t) as (λ old. let e : Entry = cond old (without_places TooOld) (cond (is_in_conflict ws earlier t) (in_conflict_at (report ws earlier t)) (without_places Committed)) in length e.places ≤ length t.reads) [
+    elim (is_too_old edge t) as (λ old. let e : Entry = cond old (without_places TooOld)
+    (cond (is_in_conflict ws earlier t) (in_conflict_at (report ws earlier t))
+    (without_places Committed)) in length e.places ≤ length t.reads) [
       | true ↦ omega arith
-      | false ↦ elim (is_in_conflict ws earlier t) as (λ met. let e : Entry = cond met (in_conflict_at (report ws earlier t)) (without_places Committed) in length e.places ≤ length t.reads) [
-        | true ↦ report_few ws earlier t
-        | false ↦ omega arith
-      ]
+      | false ↦ elim (is_in_conflict ws earlier t) as
+          (λ met. let e : Entry = cond met (in_conflict_at (report ws earlier t))
+          (without_places Committed) in length e.places ≤ length t.reads) [
+            | true ↦ report_few ws earlier t
+            | false ↦ omega arith
+          ]
     ]
 
 places_length : (places : List ℕ) → length (places_text places) ≡ 2 * length places
 places_length [] = refl
-places_length (p ∷ ps) = omega (arith, length-append (big_bytes 2 p) (places_text ps), length-bytes_high_first 2 p, places_length ps)
+places_length (p ∷ ps) = omega (
+  arith,
+  length-append (big_bytes 2 p) (places_text ps),
+  length-bytes_high_first 2 p,
+  places_length ps,
+)
 
 verdict_length : (v : Verdict) → length (verdict_text v) ≡ 1
 verdict_length Conflict = refl
@@ -74,63 +93,94 @@ entry_length e =
     )
 
 key_least : (key : List ℕ) → 2 ≤ length (key_text key)
-key_least key = omega (arith, length-append (big_bytes 2 (length key)) key, length-bytes_high_first 2 (length key))
+key_least key = omega (
+  arith,
+  length-append (big_bytes 2 (length key)) key,
+  length-bytes_high_first 2 (length key),
+)
 
-ranges_least : (ranges : List Range) → 4 * length ranges ≤ length (flat_map range_text (map range_fields ranges))
-ranges_least [] = omega arith
-ranges_least (r ∷ rs) =
+ends_least : (range : RangeFields) → 4 ≤ length (ends_text range)
+ends_least range =
     omega (
       arith,
-      length-append (range_text (range_fields r)) (flat_map range_text (map range_fields rs)),
-      length-append (key_text r.begin) (key_text r.end),
-      key_least r.begin,
-      key_least r.end,
-      ranges_least rs,
+      length-append (key_text range.begin) (key_text range.end),
+      key_least range.begin,
+      key_least range.end,
+    )
+
+formed_least : (range : RangeFields) → 3 ≤ length (formed_text range)
+unfolding formed_text
+formed_least range =
+    elim (is_single_key range) as (λ b. 3 ≤ length
+    (cond b (1 ∷ key_text range.begin) (0 ∷ ends_text range))) [
+      | true ↦ omega (arith, key_least range.begin)
+      | false ↦ omega (arith, ends_least range)
+    ]
+
+range_least : (v : WireVersion) (range : RangeFields) → 3 ≤ length (range_text v range)
+range_least One range = omega (arith, ends_least range)
+range_least Two range = formed_least range
+
+ranges_least : (v : WireVersion) (ranges : List Range)
+    → 3 * length ranges ≤ length (flat_map (range_text v) (map range_fields ranges))
+ranges_least v [] = omega arith
+ranges_least v (r ∷ rs) =
+    omega (
+      arith,
+      length-append (range_text v (range_fields r)) (flat_map (range_text v) (map range_fields rs)),
+      range_least v (range_fields r),
+      ranges_least v rs,
     )
 
 signed_length : (z : ℤ) → length (signed_text z) ≡ 8
 signed_length z = length-bytes_high_first 8 (cast_unsigned w64 z)
 
-txn_least : (t : Txn) → 3 + 2 * length t.reads ≤ length (txn_text (txn_fields t))
+txn_least : (v : WireVersion) (t : Txn) → 3 + 2 * length t.reads ≤ length (txn_text v (txn_fields t))
 unfolding txn_text
-txn_least t =
+txn_least v t =
     let f = txn_fields t in
-    let reads = flat_map range_text f.reads in
-    let writes = flat_map range_text f.writes in
+    let reads = flat_map (range_text v) f.reads in
+    let writes = flat_map (range_text v) f.writes in
     let read_count = big_bytes 2 (length f.reads) in
     let write_count = big_bytes 2 (length f.writes) in
     omega (
       arith,
-      length-append (signed_text t.snapshot) (marks_text t.marked ++ (read_count ++ (write_count ++ (reads ++ writes)))),
+      length-append (signed_text t.snapshot) (marks_text t.marked
+          ++ (read_count ++ (write_count ++ (reads ++ writes)))),
       length-append (marks_text t.marked) (read_count ++ (write_count ++ (reads ++ writes))),
       length-append read_count (write_count ++ (reads ++ writes)),
       length-append write_count (reads ++ writes),
       length-append reads writes,
       signed_length t.snapshot,
-      ranges_least t.reads,
+      ranges_least v t.reads,
     )
 
-entries_fit : (edge : ℤ) (ws : List Write) (earlier : List Range) (ts : List Txn) →
-    length (flat_map entry_text (map entry_fields (judge_txns edge ws earlier ts))) ≤ length (flat_map txn_text (map txn_fields ts))
-entries_fit edge ws earlier [] = omega arith
-entries_fit edge ws earlier (t ∷ ts) =
-    let e = judge_txn edge ws earlier t in
-    let after = earlier ++ counted e.verdict t.writes in
+entries_fit : (v : WireVersion) (edge : ℤ) (ws : List Write) (before : List Range) (ts : List Txn)
+    → length (flat_map entry_text (map entry_fields (judge_txns edge ws before ts)))
+    ≤ length (flat_map (txn_text v) (map txn_fields ts))
+entries_fit v edge ws before [] = omega arith
+entries_fit v edge ws before (t ∷ ts) =
+    let e = judge_txn edge ws before t in
+    let after = before ++ counted e.verdict t.writes in
     omega (
       arith,
-      length-append (entry_text (entry_fields e)) (flat_map entry_text (map entry_fields (judge_txns edge ws after ts))),
-      length-append (txn_text (txn_fields t)) (flat_map txn_text (map txn_fields ts)),
+      length-append (entry_text (entry_fields e))
+          (flat_map entry_text (map entry_fields (judge_txns edge ws after ts))),
+      length-append (txn_text v (txn_fields t)) (flat_map (txn_text v) (map txn_fields ts)),
       entry_length (entry_fields e),
-      entry_few edge ws earlier t,
-      txn_least t,
-      entries_fit edge ws after ts,
+      entry_few edge ws before t,
+      txn_least v t,
+      entries_fit v edge ws after ts,
     )
 
-body_fits : (b : Batch) (r : Reply) → length (flat_map entry_text (map entry_fields r.entries)) ≤ length (flat_map txn_text (map txn_fields b.txns)) → length (reply_body (reply_fields r)) ≤ length (batch_body (batch_fields b))
+body_fits : (v : WireVersion) (b : Batch) (r : Reply)
+    → length (flat_map entry_text (map entry_fields r.entries)) ≤ length
+    (flat_map (txn_text v) (map txn_fields b.txns))
+    → length (reply_body (reply_fields r)) ≤ length (batch_body v (batch_fields b))
 unfolding reply_body batch_body
-body_fits b r h =
+body_fits v b r h =
     let entries = flat_map entry_text (map entry_fields r.entries) in
-    let txns = flat_map txn_text (map txn_fields b.txns) in
+    let txns = flat_map (txn_text v) (map txn_fields b.txns) in
     let entry_count = big_bytes 2 (length (map entry_fields r.entries)) in
     let txn_count = big_bytes 2 (length (map txn_fields b.txns)) in
     let header = header_text b.previous b.version b.received in
@@ -151,9 +201,14 @@ body_fits b r h =
       h,
     )
 
-pub reply_fits : (window : ℤ) (ws : List Write) (b : Batch) (r : Reply) → Judged window ws b r → IsShort (batch_body (batch_fields b)) → IsShort (reply_body (reply_fields r))
-reply_fits window ws b r judged short =
+pub reply_fits : (v : WireVersion) (window : ℤ) (ws : List Write) (b : Batch) (r : Reply)
+    → Judged window ws b r
+    → IsShort (batch_body v (batch_fields b)) → IsShort (reply_body (reply_fields r))
+reply_fits v window ws b r judged short =
     let same = only_judge window ws b r judged in
-    let fits : length (flat_map entry_text (map entry_fields r.entries)) ≤ length (flat_map txn_text (map txn_fields b.txns)) =
-    subst (λ (x : Reply). length (flat_map entry_text (map entry_fields x.entries)) ≤ length (flat_map txn_text (map txn_fields b.txns))) (sym same) (entries_fit (edge window b) ws [] b.txns) in
-    omega (arith, body_fits b r fits)
+    let fits : length (flat_map entry_text (map entry_fields r.entries))
+    ≤ length (flat_map (txn_text v) (map txn_fields b.txns)) =
+    subst (λ (x : Reply). length (flat_map entry_text (map entry_fields x.entries))
+    ≤ length (flat_map (txn_text v) (map txn_fields b.txns))) (sym same)
+    (entries_fit v (edge window b) ws [] b.txns) in
+    omega (arith, body_fits v b r fits)

@@ -17,7 +17,8 @@ long_length : (bytes : List ℕ) → 4 ≤ length bytes → 4194304 < big_number
 unfolding frame_length
 long_length bytes le lt = let a = le-ltb _ _ le in let b = lt-ltb _ _ lt in rw (a, b) refl
 
-whole_length : (bytes : List ℕ) → 4 ≤ length bytes → big_number 4 bytes ≤ 4194304 → frame_length bytes ≡ 4 + big_number 4 bytes
+whole_length : (bytes : List ℕ) → 4 ≤ length bytes → big_number 4 bytes ≤ 4194304
+    → frame_length bytes ≡ 4 + big_number 4 bytes
 unfolding frame_length
 whole_length bytes le low = let a = le-ltb _ _ le in let b = le-ltb _ _ low in rw (a, b) refl
 
@@ -25,28 +26,44 @@ pub at_least_four : (bytes : List ℕ) → 4 ≤ frame_length bytes
 at_least_four bytes =
     elim (cases_lt (length bytes) 4) [
       | inl lt ↦ omega (arith, short_length bytes lt)
-      | inr le ↦ elim (cases_lt 4194304 (big_number 4 bytes)) [ inl lt ↦ omega (arith, long_length bytes le lt) | inr low ↦ omega (arith, whole_length bytes le low) ]
+      | inr le ↦ elim (cases_lt 4194304 (big_number 4 bytes)) [
+        | inl lt ↦ omega (
+          arith,
+          long_length bytes le lt,
+        )
+        | inr low ↦ omega (arith, whole_length bytes le low)
+      ]
     ]
 
 pub at_most_whole : (bytes : List ℕ) → 4 ≤ length bytes → frame_length bytes ≤ 4 + big_number 4 bytes
 at_most_whole bytes le =
-    elim (cases_lt 4194304 (big_number 4 bytes)) [ inl lt ↦ omega (arith, long_length bytes le lt) | inr low ↦ omega (arith, whole_length bytes le low) ]
+    elim (cases_lt 4194304 (big_number 4 bytes)) [
+      | inl lt ↦ omega (
+        arith,
+        long_length bytes le lt,
+      )
+      | inr low ↦ omega (arith, whole_length bytes le low)
+    ]
 
 -- more bytes don't change the length that the front tells
-pub same_length : (front bytes : List ℕ) → take (length front) bytes ≡ front → 4 < frame_length front → frame_length bytes ≡ frame_length front
+pub same_length : (front bytes : List ℕ) → take (length front) bytes ≡ front → 4 < frame_length front
+    → frame_length bytes ≡ frame_length front
 same_length front bytes e more =
     elim (cases_lt (length front) 4) [
       | inl lt ↦ absurd (omega (arith, short_length front lt))
       | inr le ↦ elim (cases_lt 4194304 (big_number 4 front)) [
         | inl lt ↦ absurd (omega (arith, long_length front le lt))
         | inr low ↦
-            let number : big_number 4 bytes ≡ big_number 4 front = sym (big_from-take 0 4 (length front) bytes (omega arith)) ∙ ap (big_number 4) e in
+            let number : big_number 4 bytes ≡ big_number 4 front =
+            sym (big_from-take 0 4 (length front) bytes (omega arith)) ∙ ap (big_number 4) e in
             let there : 4 ≤ length bytes = omega (arith, length-take (length front) bytes, ap length e) in
-            whole_length bytes there (omega arith) ∙ ap (λ (n : ℕ). 4 + n) number ∙ sym (whole_length front le low)
+            whole_length bytes there (omega arith) ∙ ap (λ (n : ℕ). 4 + n) number
+            ∙ sym (whole_length front le low)
       ]
     ]
 
-same_body : (front rest : List ℕ) → frame_length front ≤ length front → body_at (front ++ rest) ≡ body_at front
+same_body : (front rest : List ℕ) → frame_length front ≤ length front
+    → body_at (front ++ rest) ≡ body_at front
 unfolding body_at
 same_body front rest settled =
     let least = at_least_four front in
@@ -63,14 +80,18 @@ same_body front rest settled =
           let e : ltb (length (front ++ rest)) (4 + big_number 4 front) ≡ false = le-ltb _ _ (omega arith) in
           let f : ltb (length front) (4 + big_number 4 front) ≡ false = le-ltb _ _ whole in
           let after : drop 4 (front ++ rest) ≡ drop 4 front ++ rest = drop-append-le 4 front rest le in
-          let body : take (big_number 4 front) (drop 4 front ++ rest) ≡ take (big_number 4 front) (drop 4 front) = take-append-le (big_number 4 front) (drop 4 front) rest (omega (arith, length-drop 4 front)) in
+          let body : take (big_number 4 front) (drop 4 front ++ rest) ≡ take (big_number 4 front)
+          (drop 4 front) = take-append-le (big_number 4 front) (drop 4 front) rest
+          (omega (arith, length-drop 4 front)) in
           rw (a, b, number, d, e, f, after, body) refl
     ]
 
-pub same_read : (front rest : List ℕ) → (length front < frame_length front → rest ≡ []) → read_batch (front ++ rest) ≡ read_batch front
+pub same_read : (front rest : List ℕ) → (length front < frame_length front → rest ≡ [])
+    → read_batch (front ++ rest) ≡ read_batch front
 unfolding read_batch
 same_read front rest end =
     elim (cases_lt (length front) (frame_length front)) [
       | inl lt ↦ ap read_batch (ap (λ (x : List ℕ). front ++ x) (end lt) ∙ append-nil front)
-      | inr le ↦ ap (λ (r : Result (List ℕ) WireError). r >>= λ body. all_of (batch_at body)) (same_body front rest le)
+      | inr le ↦ ap (λ (r : Result (List ℕ) WireError). r
+          >>= λ body. all_of (batch_at body)) (same_body front rest le)
     ]

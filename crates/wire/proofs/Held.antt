@@ -17,7 +17,14 @@ use Rattle.wire.proofs.PlaceLists.{few_places}
 
 ranges_hold : (ranges : List Range) → AllByRecursion RangeHolds (map range_fields ranges)
 ranges_hold [] = tt
-ranges_hold (range ∷ ranges) = (record { begin = range.begin_is_key; end = range.end_is_key; ordered = range.ordered }, ranges_hold ranges)
+ranges_hold (range ∷ ranges) = (
+  record {
+    begin = range.begin_is_key;
+    end = range.end_is_key;
+    ordered = range.ordered;
+  },
+  ranges_hold ranges,
+)
 
 txn_holds : (txn : Txn) → FitsSigned w64 txn.snapshot → TxnHolds (txn_fields txn)
 txn_holds txn fits = record {
@@ -29,11 +36,17 @@ txn_holds txn fits = record {
   writes = ranges_hold txn.writes;
 }
 
-txns_hold : (txns : List Txn) → All (λ txn. FitsSigned w64 txn.snapshot) txns → AllByRecursion TxnHolds (map txn_fields txns)
+txns_hold : (txns : List Txn) → All (λ txn. FitsSigned w64 txn.snapshot) txns
+    → AllByRecursion TxnHolds (map txn_fields txns)
 txns_hold [] fit = tt
-txns_hold (txn ∷ txns) fit = (txn_holds txn (All-head (λ txn. FitsSigned w64 txn.snapshot) txn txns fit), txns_hold txns (All-tail (λ txn. FitsSigned w64 txn.snapshot) txn txns fit))
+txns_hold (txn ∷ txns) fit = (
+  txn_holds txn (All-head (λ txn. FitsSigned w64 txn.snapshot) txn txns fit),
+  txns_hold txns (All-tail (λ txn. FitsSigned w64 txn.snapshot) txn txns fit),
+)
 
-pub batch_holds : (batch : Batch) → FitsSigned w64 batch.previous → FitsSigned w64 batch.version → FitsSigned w64 batch.received → All (λ txn. FitsSigned w64 txn.snapshot) batch.txns → BatchHolds (batch_fields batch)
+pub batch_holds : (batch : Batch) → FitsSigned w64 batch.previous → FitsSigned w64 batch.version
+    → FitsSigned w64 batch.received → All (λ txn. FitsSigned w64 txn.snapshot) batch.txns
+    → BatchHolds (batch_fields batch)
 batch_holds batch previous version received fit = record {
   previous_fits = previous;
   version_fits = version;
@@ -47,13 +60,17 @@ batch_holds batch previous version received fit = record {
   txns = txns_hold batch.txns fit;
 }
 
-entries_hold : (entries : List Entry) → All (λ entry. ArePlaces entry.places) entries → AllByRecursion EntryHolds (map entry_fields entries)
+entries_hold : (entries : List Entry) → All (λ entry. ArePlaces entry.places) entries
+    → AllByRecursion EntryHolds (map entry_fields entries)
 entries_hold [] places = tt
 entries_hold (entry ∷ entries) places =
-    let here : ArePlaces entry.places = All-head (λ entry. ArePlaces entry.places) entry entries places in
-    (record { few = few_places entry.places here; only_conflict = entry.only_conflict; places = here }, entries_hold entries (All-tail (λ entry. ArePlaces entry.places) entry entries places))
+    let here : ArePlaces entry.places = All-head (λ entry. ArePlaces entry.places) entry entries places in (
+      record { few = few_places entry.places here; only_conflict = entry.only_conflict; places = here },
+      entries_hold entries (All-tail (λ entry. ArePlaces entry.places) entry entries places),
+    )
 
-pub reply_holds : (reply : Reply) → FitsSigned w64 reply.version → All (λ entry. ArePlaces entry.places) reply.entries → ReplyHolds (reply_fields reply)
+pub reply_holds : (reply : Reply) → FitsSigned w64 reply.version
+    → All (λ entry. ArePlaces entry.places) reply.entries → ReplyHolds (reply_fields reply)
 reply_holds reply version places = record {
   version_fits = version;
   version = reply.natural;

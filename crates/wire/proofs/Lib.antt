@@ -1,6 +1,7 @@
 pub mod Loop
 pub mod Steps
 pub mod Taken
+pub mod Singles
 pub mod Parts
 pub mod Batches
 pub mod Again
@@ -10,6 +11,8 @@ pub mod Fields
 pub mod OneSpelling
 pub mod Held
 pub mod Known
+pub mod Given
 pub mod FrameLengths
 pub mod NextFrames
+pub mod NewFrames
 pub mod Fitting

@@ -11,33 +11,42 @@ Reading A = Result (A × List ℕ) WireError
 abbrev pub with_front : {A : Type 0} → List A → Reading (List A) → Reading (List A)
 with_front front read = read >>= λ x. Ok (front ++ x.0, x.1)
 
-regroup : {A : Type 0} (front : List A) (a : A) (read : Reading (List A)) → with_front front (read >>= λ x. Ok (a ∷ x.0, x.1)) ≡ with_front (front ++ a ∷ []) read
+regroup : {A : Type 0} (front : List A) (a : A) (read : Reading (List A))
+    → with_front front (read >>= λ x. Ok (a ∷ x.0, x.1)) ≡ with_front (front ++ a ∷ []) read
 regroup {A} front a (Ok x) = ap (λ (all : List A). Ok (all, x.1)) (simp append_assoc)
 regroup front a (Err e) = refl
 
-pub goes_on : {A : Type 0} (one : List ℕ → Reading A) (front : List A) (count i : ℕ) (bytes : List ℕ) (a : A) (after : List ℕ) (total : Reading (List A)) → i < count → one bytes ≡ Ok (a, after)
-    → with_front front (many_at one (count - i) bytes) ≡ total → with_front (front ++ a ∷ []) (many_at one (count - (i + 1)) after) ≡ total
+pub goes_on : {A : Type 0} (one : List ℕ → Reading A) (front : List A) (count i : ℕ) (bytes : List ℕ) (a : A)
+    (after : List ℕ) (total : Reading (List A)) → i < count → one bytes ≡ Ok (a, after)
+    → with_front front (many_at one (count - i) bytes) ≡ total
+    → with_front (front ++ a ∷ []) (many_at one (count - (i + 1)) after) ≡ total
 unfolding many_at
 goes_on one front count i bytes a after total lt h so_far =
     let k : count - i ≡ suc (count - (i + 1)) = omega arith in
     let next = with_front front (many_at one (count - i) bytes) in
-    let step : next ≡ with_front (front ++ a ∷ []) (many_at one (count - (i + 1)) after) = rw (k, h) (regroup front a (many_at one (count - (i + 1)) after)) in
+    let step : next ≡ with_front (front ++ a ∷ []) (many_at one (count - (i + 1)) after) =
+    rw (k, h) (regroup front a (many_at one (count - (i + 1)) after)) in
     sym step ∙ so_far
 
-pub ends : {A : Type 0} (one : List ℕ → Reading A) (e : WireError) (front : List A) (count i : ℕ) (bytes : List ℕ) (total : Reading (List A)) → i < count → Refuses e (one bytes)
+pub ends : {A : Type 0} (one : List ℕ → Reading A) (e : WireError) (front : List A) (count i : ℕ)
+    (bytes : List ℕ) (total : Reading (List A)) → i < count → Refuses e (one bytes)
     → with_front front (many_at one (count - i) bytes) ≡ total → Refuses e total
 unfolding many_at
 ends one e front count i bytes total lt refused so_far =
     let k : count - i ≡ suc (count - (i + 1)) = omega arith in (
       refused.0,
-      λ not_memory. let h = refused.1 not_memory in
+      refused.1,
+      λ not_memory. let h = refused.2 not_memory in
           let step : with_front front (many_at one (count - i) bytes) ≡ Err e = rw (k, h) refl in
           sym so_far ∙ step,
     )
 
-pub is_done : {A : Type 0} (one : List ℕ → Reading A) (front : List A) (count i : ℕ) (bytes : List ℕ) (total : Reading (List A)) → count ≤ i → with_front front (many_at one (count - i) bytes) ≡ total → total ≡ Ok (front, bytes)
+pub is_done : {A : Type 0} (one : List ℕ → Reading A) (front : List A) (count i : ℕ) (bytes : List ℕ)
+    (total : Reading (List A)) → count ≤ i → with_front front (many_at one (count - i) bytes) ≡ total
+    → total ≡ Ok (front, bytes)
 unfolding many_at
 is_done {A} one front count i bytes total le so_far =
     let k : count - i ≡ 0 = omega arith in
-    let step : with_front front (many_at one (count - i) bytes) ≡ Ok (front, bytes) = rw k (ap (λ (all : List A). Ok (all, bytes)) (append-nil front)) in
+    let step : with_front front (many_at one (count - i) bytes) ≡ Ok (front, bytes) =
+    rw k (ap (λ (all : List A). Ok (all, bytes)) (append-nil front)) in
     sym so_far ∙ step

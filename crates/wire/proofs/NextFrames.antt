@@ -7,29 +7,38 @@ use Rattle.std.proofs.lemmas.Bool.{cases_lt}
 use Rattle.byteorder.specs.Endian.{big_number}
 use Rattle.keyspace.specs.declared.batch.Batch.{Batch}
 use Rattle.wire.specs.declared.error.WireError.{WireError}
+use Rattle.wire.specs.declared.version.WireVersion.{WireVersion}
 use Rattle.wire.specs.Fields.{batch_fields}
 use Rattle.wire.specs.Spelling.{SpellsBatch}
 use Rattle.wire.specs.FrameLength.{frame_length}
 use Rattle.wire.specs.NextFrame.{TakesFrame, IsFaultOf}
-use Rattle.wire.specs.Reading.{read_batch, refusal}
+use Rattle.wire.specs.Reading.{read_batch, refusal, version_told}
 use Rattle.wire.proofs.Taken.{AreBytes}
 use Rattle.wire.proofs.Batches.{batch_is_spelled}
 use Rattle.wire.proofs.FrameLengths.{at_most_whole, same_read}
 use Rattle.wire.proofs.Known.{held_consumes}
 
-pub takes_frame : (old new : Option (List ℕ)) (held : List ℕ) (batch : Batch) → AreBytes held → Keeps old (prepend_known held new) → length held ≤ frame_length held → read_batch held ≡ Ok (batch_fields batch) → TakesFrame old new batch
-takes_frame old new held batch fits joined within read =
+pub takes_frame : (old new : Option (List ℕ)) (held : List ℕ) (version : WireVersion) (batch : Batch)
+    → AreBytes held
+    → Keeps old (prepend_known held new) → length held ≤ frame_length held
+    → read_batch held ≡ Ok (version, batch_fields batch) → TakesFrame old new batch
+takes_frame old new held version batch fits joined within read =
     let n = 4 + big_number 4 held in
-    let found = batch_is_spelled held batch n fits read refl in
+    let found = batch_is_spelled held version batch n fits read refl in
     let four : 4 ≤ length held = omega (arith, found.1) in
     let whole : take n held ≡ held = take_all n held (omega (arith, at_most_whole held four)) in
-    (held, subst (λ (bytes : List ℕ). SpellsBatch bytes batch) whole found.0, held_consumes old new held joined)
+    let spelled : SpellsBatch (version_told held) held batch =
+    subst (λ (bytes : List ℕ). SpellsBatch (version_told held) bytes batch) whole found.0 in
+    (held, spelled, held_consumes old new held joined)
 
 not_nil : (held rest : List ℕ) → held ≢ [] → held ++ rest ≢ []
 not_nil [] rest some e = some refl
 not_nil (b ∷ held) rest some e = cc
 
-pub is_fault : (e : WireError) (old new : Option (List ℕ)) (held : List ℕ) → Keeps old (prepend_known held new) → held ≢ [] → (length held < frame_length held → IsAtEnd new) → read_batch held ≡ Err e → IfSome old (IsFaultOf e)
+pub is_fault : (e : WireError) (old new : Option (List ℕ)) (held : List ℕ)
+    → Keeps old (prepend_known held new)
+    → held ≢ [] → (length held < frame_length held → IsAtEnd new) → read_batch held ≡ Err e
+    → IfSome old (IsFaultOf e)
 is_fault e None new held joined some end read = tt
 is_fault e (Some xs) None held joined some end read = absurd joined
 is_fault e (Some xs) (Some ys) held joined some end read =
@@ -37,4 +46,8 @@ is_fault e (Some xs) (Some ys) held joined some end read =
     subst (λ (bytes : List ℕ). IsFaultOf e bytes) joined (not_nil held ys some, read_again)
 
 pub each_byte : (bytes : List ℕ) → ((i d : ℕ) → i < length bytes → get_or bytes i d < 256) → AreBytes bytes
-each_byte bytes small i = elim (cases_lt i (length bytes)) [ inl lt ↦ small i 0 lt | inr le ↦ rw (get_or_past bytes i 0 le) (omega arith) ]
+each_byte bytes small i = elim (cases_lt i (length bytes)) [
+  | inl lt ↦ small i 0 lt
+  | inr le ↦ rw
+      (get_or_past bytes i 0 le) (omega arith)
+]

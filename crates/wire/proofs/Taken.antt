@@ -33,7 +33,11 @@ pub record Takes (bytes text rest : List ℕ) : Type 0 where
   pub rest_fits : AreBytes rest
 
 pub Takes-then : {a x b y c : List ℕ} → Takes a x b → Takes b y c → Takes a (x ++ y) c
-Takes-then {a} {x} {b} {y} {c} p q = record { parts = p.parts ∙ ap (λ (t : List ℕ). x ++ t) q.parts ∙ sym (append_assoc x y c); rest_fits = q.rest_fits }
+Takes-then {a} {x} {b} {y} {c} p q = record {
+  parts = p.parts ∙ ap (λ (t : List ℕ). x ++ t) q.parts
+      ∙ sym (append_assoc x y c);
+  rest_fits = q.rest_fits;
+}
 
 -- the bytes of a number of n bytes are those that were read
 abbrev pub ReadsBack : ℕ → Type 0
@@ -53,7 +57,8 @@ back_4 bytes len fits = be_bytes_4 bytes _ len fits (omega arith)
 pub back_8 : ReadsBack 8
 back_8 bytes len fits = be_bytes_8 bytes _ len fits (omega arith)
 
-pub number_takes : (n : ℕ) (back : ReadsBack n) (bytes : List ℕ) (x : ℕ) (rest : List ℕ) → AreBytes bytes → number_at n bytes ≡ Ok (x, rest) → Takes bytes (big_bytes n x) rest × (x < 256 ^ n)
+pub number_takes : (n : ℕ) (back : ReadsBack n) (bytes : List ℕ) (x : ℕ) (rest : List ℕ) → AreBytes bytes
+    → number_at n bytes ≡ Ok (x, rest) → Takes bytes (big_bytes n x) rest × (x < 256 ^ n)
 number_takes n back bytes x rest fits e =
     let g = passed_over (ltb (length bytes) n) Cut (Ok (big_number n bytes, drop n bytes)) (x, rest) e in
     let long : n ≤ length bytes = ltb-false _ _ g.0 in
@@ -62,21 +67,36 @@ number_takes n back bytes x rest fits e =
     let rest-is : drop n bytes ≡ rest = ap (λ (p : ℕ × List ℕ). p.1) both in
     let front_len : length (take n bytes) ≡ n = omega (arith, length-take n bytes) in
     let same : big_number n (take n bytes) ≡ big_number n bytes = big_from-take 0 n n bytes (omega arith) in
-    let front : big_bytes n x ≡ take n bytes = rw (← x-is, ← same) (back (take n bytes) front_len (AreBytes-take n bytes fits)) in
-    (record { parts = rw (front, ← rest-is) (sym (take-append-drop n bytes)); rest_fits = rw (← rest-is) (AreBytes-drop n bytes fits) }, rw (← x-is) (big_from-lt 0 n bytes fits))
+    let front : big_bytes n x ≡ take n bytes =
+    rw (← x-is, ← same) (back (take n bytes) front_len (AreBytes-take n bytes fits)) in (
+      record {
+        parts = rw (front, ← rest-is) (sym (take-append-drop n bytes));
+        rest_fits = rw (← rest-is) (AreBytes-drop n bytes fits);
+      },
+      rw (← x-is) (big_from-lt 0 n bytes fits),
+    )
 
-pub signed_takes : (bytes : List ℕ) (z : ℤ) (rest : List ℕ) → AreBytes bytes → signed_at bytes ≡ Ok (z, rest) → Takes bytes (signed_text z) rest × FitsSigned w64 z
+pub signed_takes : (bytes : List ℕ) (z : ℤ) (rest : List ℕ) → AreBytes bytes → signed_at bytes ≡ Ok (z, rest)
+    → Takes bytes (signed_text z) rest × FitsSigned w64 z
 signed_takes bytes z rest fits e =
     let b = bind_ok (number_at 8 bytes) (λ n. Ok (cast_signed w64 n.0, n.1)) (z, rest) e in
     let t = number_takes 8 back_8 bytes b.0.0 b.0.1 fits b.1 in
     let small : b.0.0 < 2 ^ 64 = t.1 in
-    let same : signed_text (cast_signed w64 b.0.0) ≡ big_bytes 8 b.0.0 = ap (big_bytes 8) (of_z-to_z w64 b.0.0 small) in
-    subst (λ (p : ℤ × List ℕ). Takes bytes (signed_text p.0) p.1 × FitsSigned w64 p.0) (ok_is (cast_signed w64 b.0.0, b.0.1) (z, rest) b.2) (rw same t.0, sfits_to_z {w = w64} {n = b.0.0} (record { fits = small }))
+    let same : signed_text (cast_signed w64 b.0.0) ≡ big_bytes 8 b.0.0 =
+    ap (big_bytes 8) (of_z-to_z w64 b.0.0 small) in
+    subst (λ (p : ℤ × List ℕ). Takes bytes (signed_text p.0) p.1 × FitsSigned w64 p.0)
+    (ok_is (cast_signed w64 b.0.0, b.0.1) (z, rest) b.2) (
+      rw same t.0,
+      sfits_to_z {w = w64} {n = b.0.0} (record { fits = small }),
+    )
 
-pub version_takes : (holds : ℤ → Bool) (bytes : List ℕ) (x : ℤ × List ℕ) → AreBytes bytes → version_at holds bytes ≡ Ok x → Takes bytes (signed_text x.0) x.1 × FitsSigned w64 x.0 × (holds x.0 ≡ true)
+pub version_takes : (holds : ℤ → Bool) (bytes : List ℕ) (x : ℤ × List ℕ) → AreBytes bytes
+    → version_at holds bytes ≡ Ok x → Takes bytes (signed_text x.0) x.1 × FitsSigned w64 x.0
+    × (holds x.0 ≡ true)
 unfolding version_at
 version_takes holds bytes x fits e =
     let b = bind_ok (signed_at bytes) (λ version. cond (holds version.0) (Ok version) (Err Version)) x e in
     let g = passed (holds b.0.0) Version (Ok b.0) x b.2 in
     let t = signed_takes bytes b.0.0 b.0.1 fits b.1 in
-    subst (λ (p : ℤ × List ℕ). Takes bytes (signed_text p.0) p.1 × FitsSigned w64 p.0 × (holds p.0 ≡ true)) (ok_is b.0 x g.1) (t.0, t.1, g.0)
+    subst (λ (p : ℤ × List ℕ). Takes bytes (signed_text p.0) p.1 × FitsSigned w64 p.0 × (holds p.0 ≡ true))
+    (ok_is b.0 x g.1) (t.0, t.1, g.0)

@@ -1,4 +1,4 @@
--- What a frame says: ranges, transactions, batches, entries and replies without the facts that their types carry.
+-- What a frame says: ranges, transactions, batches, entries and replies, without the facts that their types carry.
 use Rattle.std.specs.Prelude.{ℕ, ℤ, Bool, List, map}
 use Rattle.keyspace.specs.declared.range.Range.{Range}
 use Rattle.keyspace.specs.declared.txn.Txn.{Txn}
@@ -27,10 +27,20 @@ abbrev pub range_fields : Range → RangeFields
 range_fields range = record { begin = range.begin; end = range.end }
 
 abbrev pub txn_fields : Txn → TxnFields
-txn_fields txn = record { snapshot = txn.snapshot; marked = txn.marked; reads = map range_fields txn.reads; writes = map range_fields txn.writes }
+txn_fields txn = record {
+  snapshot = txn.snapshot;
+  marked = txn.marked;
+  reads = map range_fields txn.reads;
+  writes = map range_fields txn.writes;
+}
 
 abbrev pub batch_fields : Batch → BatchFields
-batch_fields batch = record { previous = batch.previous; version = batch.version; received = batch.received; txns = map txn_fields batch.txns }
+batch_fields batch = record {
+  previous = batch.previous;
+  version = batch.version;
+  received = batch.received;
+  txns = map txn_fields batch.txns;
+}
 
 pub record EntryFields : Type 0 where
   pub verdict : Verdict

@@ -5,3 +5,5 @@ pub mod Source
 pub mod FrameLength
 pub mod NextFrame
 pub mod Frames
+pub mod Sink
+pub mod Upgrade

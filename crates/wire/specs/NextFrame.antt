@@ -4,11 +4,15 @@ use Rattle.std.specs.Io.KnownBytes.{Consumes}
 use Rattle.keyspace.specs.declared.batch.Batch.{Batch}
 use Rattle.wire.specs.declared.error.WireError.{WireError}
 use Rattle.wire.specs.Spelling.{SpellsBatch}
-use Rattle.wire.specs.Reading.{batch_fault}
+use Rattle.wire.specs.Reading.{batch_fault, version_told}
+
+-- the bytes are the frame of the batch, in the wire version that its kind tells
+abbrev pub IsFrameOf : List ℕ → Batch → Type 0
+IsFrameOf bytes batch = SpellsBatch (version_told bytes) bytes batch
 
 -- the frame of the batch stands at the front, and just that frame leaves
 abbrev pub TakesFrame : Option (List ℕ) → Option (List ℕ) → Batch → Type 0
-TakesFrame old new batch = (bytes : List ℕ) × SpellsBatch bytes batch × Consumes old new bytes
+TakesFrame old new batch = (bytes : List ℕ) × IsFrameOf bytes batch × Consumes old new bytes
 
 -- something is left, and this is its first fault
 abbrev pub IsFaultOf : WireError → List ℕ → Type 0

@@ -1,5 +1,5 @@
 -- Reading from left to right, with the first fault that is met. The format is the project's own.
-use Rattle.std.specs.Prelude.{◌≡◌, ◌≢◌, ℕ, ◌+◌, zero, suc, ℤ, pos, negsuc, Bool, ◌&&◌, List, [], ◌∷◌, length, take, drop, Option, Some, None, Result, Ok, Err, nat_lt, nat_le, int_lt, int_le, ◌==◌, if◌then◌else◌}
+use Rattle.std.specs.Prelude.{◌≡◌, ◌≢◌, ℕ, ◌+◌, zero, suc, ℤ, pos, negsuc, Bool, ◌&&◌, List, [], ◌∷◌, length, take, drop, slice_index, Option, Some, None, Result, Ok, Err, nat_lt, nat_le, int_lt, int_le, ◌==◌, if◌then◌else◌}
 use Rattle.std.specs.Int.{w64, cast_signed}
 use Rattle.byteorder.specs.Endian.{big_number}
 use Rattle.keyspace.specs.declared.key.TheConstants.{MAX_KEY_LENGTH}
@@ -9,18 +9,22 @@ use Rattle.keyspace.specs.Key.{is_before}
 use Rattle.keyspace.specs.declared.reply.Verdict.{Verdict}
 use Rattle.keyspace.specs.declared.reply.Verdict.TheVariants.{Conflict, TooOld, Committed}
 use Rattle.wire.specs.declared.error.WireError.{WireError}
-use Rattle.wire.specs.declared.error.WireError.TheVariants.{Short, Long, Kind, Trailing, Version, Marks, Count, KeyLength, Inverted, Cut, Memory, Read}
+use Rattle.wire.specs.declared.error.WireError.TheVariants.{Short, Long, Kind, Trailing, Version, Marks, Count, KeyLength, Inverted, Cut, Memory, Read, Form, Spelling, Write}
 use Rattle.wire.specs.declared.field.TheConstants.{MAX_BODY_LENGTH}
+use Rattle.wire.specs.declared.single.TheConstants.{MAX_SINGLE_KEY_LENGTH}
+use Rattle.wire.specs.declared.version.WireVersion.{WireVersion}
+use Rattle.wire.specs.declared.version.WireVersion.TheVariants.{One, Two}
 use Rattle.wire.specs.Fields.{RangeFields, TxnFields, BatchFields, EntryFields, ReplyFields}
+use Rattle.wire.specs.Spelling.{single_key, is_single_key}
 
 infixl 10 ◌>>=◌
 abbrev pub ◌>>=◌ : {A B : Type 0} → Result A WireError → (A → Result B WireError) → Result B WireError
 (Ok x) >>= f = f x
 (Err e) >>= f = Err e
 
--- What may be answered in place of a value: the first fault, or that memory ran out, and never a failed read.
+-- What may be answered in place of a value: the first fault, or that memory ran out. Never a failed read or write.
 abbrev pub Refuses : {Y : Type 0} → WireError → Result Y WireError → Type 0
-Refuses e read = (e ≢ Read) × (e ≢ Memory → read ≡ Err e)
+Refuses e read = (e ≢ Read) × (e ≢ Write) × (e ≢ Memory → read ≡ Err e)
 
 -- What a function answered, seen by view, is what reading gives, unless memory ran out.
 abbrev pub Gives : {X Y : Type 0} → (X → Y) → Result X WireError → Result Y WireError → Type 0
@@ -54,33 +58,57 @@ marks_at bytes = do
   n ← number_at 1 bytes
   if nat_lt 1 n.0 then Err Marks else Ok (n.0 == 1, n.1)
 
-unfoldable pub key_at : List ℕ → Result (List ℕ × List ℕ) WireError
-key_at bytes = do
+-- a key of at most so many bytes
+unfoldable pub key_at : ℕ → List ℕ → Result (List ℕ × List ℕ) WireError
+key_at limit bytes = do
   n ← number_at 2 bytes
-  if nat_lt MAX_KEY_LENGTH n.0 then Err KeyLength else if nat_lt (length n.1) n.0 then Err Cut else Ok (take n.0 n.1, drop n.0 n.1)
+  if nat_lt limit n.0 then Err KeyLength
+      else if nat_lt (length n.1) n.0 then Err Cut
+      else Ok (take n.0 n.1, drop n.0 n.1)
 
-unfoldable pub range_at : List ℕ → Result (RangeFields × List ℕ) WireError
-range_at bytes = do
-  begin ← key_at bytes
-  end ← key_at begin.1
+-- both ends of a range
+unfoldable pub ends_at : List ℕ → Result (RangeFields × List ℕ) WireError
+ends_at bytes = do
+  begin ← key_at MAX_KEY_LENGTH bytes
+  end ← key_at MAX_KEY_LENGTH begin.1
   if is_before end.0 begin.0 then Err Inverted else Ok (record { begin = begin.0; end = end.0 }, end.1)
 
+-- what follows a form: 0 has both ends of a range that isn't a single key, 1 has a single key
+unfoldable pub form_at : ℕ → List ℕ → Result (RangeFields × List ℕ) WireError
+form_at zero bytes = do
+  range ← ends_at bytes
+  if is_single_key range.0 then Err Spelling else Ok range
+form_at (suc zero) bytes = do
+  key ← key_at MAX_SINGLE_KEY_LENGTH bytes
+  Ok (single_key key.0, key.1)
+form_at (suc (suc n)) bytes = Err Form
+
+unfoldable pub formed_at : List ℕ → Result (RangeFields × List ℕ) WireError
+formed_at bytes = do
+  form ← number_at 1 bytes
+  form_at form.0 form.1
+
+abbrev pub range_at : WireVersion → List ℕ → Result (RangeFields × List ℕ) WireError
+range_at One = ends_at
+range_at Two = formed_at
+
 -- as many values, one after the other
-unfoldable pub many_at : {A : Type 0} → (List ℕ → Result (A × List ℕ) WireError) → ℕ → List ℕ → Result (List A × List ℕ) WireError
+unfoldable pub many_at : {A : Type 0} → (List ℕ → Result (A × List ℕ) WireError)
+    → ℕ → List ℕ → Result (List A × List ℕ) WireError
 many_at one zero bytes = Ok ([], bytes)
 many_at one (suc n) bytes = do
   first ← one bytes
   others ← many_at one n first.1
   Ok (first.0 ∷ others.0, others.1)
 
-unfoldable pub txn_at : List ℕ → Result (TxnFields × List ℕ) WireError
-txn_at bytes = do
+unfoldable pub txn_at : WireVersion → List ℕ → Result (TxnFields × List ℕ) WireError
+txn_at version bytes = do
   snapshot ← version_at (λ v. int_le (pos 0) v) bytes
   marked ← marks_at snapshot.1
   read_count ← count_at MAX_RANGES marked.1
   write_count ← count_at MAX_RANGES read_count.1
-  reads ← many_at range_at read_count.0 write_count.1
-  writes ← many_at range_at write_count.0 reads.1
+  reads ← many_at (range_at version) read_count.0 write_count.1
+  writes ← many_at (range_at version) write_count.0 reads.1
   Ok (record { snapshot = snapshot.0; marked = marked.0; reads = reads.0; writes = writes.0 }, writes.1)
 
 unfoldable pub kind_at : ℕ → List ℕ → Result (List ℕ) WireError
@@ -88,21 +116,39 @@ kind_at kind bytes = do
   n ← number_at 1 bytes
   if n.0 == kind then Ok n.1 else Err Kind
 
--- the kind of a batch, and its previous version, version and last received version
+-- the wire version of a kind
+abbrev pub version_of_kind : ℕ → Result WireVersion WireError
+version_of_kind kind = if kind == 1 then Ok One else if kind == 3 then Ok Two else Err Kind
+
+-- the kind of a batch, as the wire version that it tells
+unfoldable pub batch_kind_at : List ℕ → Result (WireVersion × List ℕ) WireError
+batch_kind_at bytes = do
+  n ← number_at 1 bytes
+  version ← version_of_kind n.0
+  Ok (version, n.1)
+
+-- the previous version, the version and the last received version of a batch
 unfoldable pub header_at : List ℕ → Result ((ℤ × ℤ × ℤ) × List ℕ) WireError
 header_at bytes = do
-  rest ← kind_at 1 bytes
-  previous ← version_at (λ v. int_le (negsuc 0) v) rest
+  previous ← version_at (λ v. int_le (negsuc 0) v) bytes
   version ← version_at (λ v. int_le (pos 0) v && int_lt previous.0 v) previous.1
   received ← version_at (λ v. int_le (negsuc 0) v && int_lt v version.0) version.1
   Ok ((previous.0, version.0, received.0), received.1)
 
-unfoldable pub batch_at : List ℕ → Result (BatchFields × List ℕ) WireError
-batch_at bytes = do
+-- a batch of this wire version, behind its kind
+unfoldable pub fields_at : WireVersion → List ℕ → Result (BatchFields × List ℕ) WireError
+fields_at version bytes = do
   header ← header_at bytes
   count ← count_at MAX_TXNS header.1
-  txns ← many_at txn_at count.0 count.1
+  txns ← many_at (txn_at version) count.0 count.1
   Ok (record { previous = header.0.0; version = header.0.1; received = header.0.2; txns = txns.0 }, txns.1)
+
+-- a batch and the wire version that it is spelled in
+unfoldable pub batch_at : List ℕ → Result ((WireVersion × BatchFields) × List ℕ) WireError
+batch_at bytes = do
+  kind ← batch_kind_at bytes
+  batch ← fields_at kind.0 kind.1
+  Ok ((kind.0, batch.0), batch.1)
 
 -- the verdict of a byte
 abbrev pub verdict_of : ℕ → Result Verdict WireError
@@ -164,8 +210,8 @@ body_at bytes =
 abbrev pub all_of : {A : Type 0} → Result (A × List ℕ) WireError → Result A WireError
 all_of read = read >>= λ x. if length x.1 == 0 then Ok x.0 else Err Trailing
 
--- what the frame of a batch at the front says
-unfoldable pub read_batch : List ℕ → Result BatchFields WireError
+-- what the frame of a batch at the front says, and in which wire version
+unfoldable pub read_batch : List ℕ → Result (WireVersion × BatchFields) WireError
 read_batch bytes = do
   body ← body_at bytes
   all_of (batch_at body)
@@ -187,3 +233,7 @@ batch_fault bytes = refusal (read_batch bytes)
 -- the first fault of the frame of a reply at the front, or none
 abbrev pub reply_fault : List ℕ → Option WireError
 reply_fault bytes = refusal (read_reply bytes)
+
+-- the wire version that the kind of the frame at the front tells
+abbrev pub version_told : List ℕ → WireVersion
+version_told bytes = if slice_index bytes 4 == 3 then Two else One

@@ -12,4 +12,5 @@ source_failures source = source.failures
 
 -- the bytes left, where the reader tells them, as long as a further failure could be counted
 abbrev pub source_remaining : {R : Type 0} → (R → Option (List ℕ)) → StdSource R → Option (List ℕ)
-source_remaining remaining source = if source.failures == 18446744073709551615 then None else remaining source.reader
+source_remaining remaining source =
+    if source.failures == 18446744073709551615 then None else remaining source.reader

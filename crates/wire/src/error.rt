@@ -5,8 +5,8 @@ use crate::source::Failed;
 use std::alloc::{AllocError, AllocFailed};
 use thiserror::Error;
 
-/// Why there is no value: the first fault of the bytes, memory that ran out, or a reader that failed. The text of each
-/// is its number and its name, as `1 Short`.
+/// Why there is no value: the first fault of the bytes, memory that ran out, or a reader or a writer that
+/// failed. The text of each is its number and its name, as `1 Short`.
 #[derive(Clone, Copy, Debug, PartialEq, Eq, Error)]
 pub enum WireError {
     /// The input ends inside a frame.
@@ -30,7 +30,7 @@ pub enum WireError {
     /// A count is above its limit, or a verdict other than conflict has places.
     #[error("7 Count")]
     Count = 7,
-    /// A key is longer than `MAX_KEY_LENGTH`.
+    /// A key is longer than an end of a range, or than a single key, may be.
     #[error("8 KeyLength")]
     KeyLength = 8,
     /// A range's begin is after its end.
@@ -45,6 +45,15 @@ pub enum WireError {
     /// The reader failed in this call.
     #[error("12 Read")]
     Read = 12,
+    /// The form of a range is above 1.
+    #[error("13 Form")]
+    Form = 13,
+    /// A range of form 0 is a single key.
+    #[error("14 Spelling")]
+    Spelling = 14,
+    /// The writer failed in this call.
+    #[error("15 Write")]
+    Write = 15,
 }
 
 impl From<AllocError> for WireError {

@@ -1,4 +1,5 @@
-//! The fields that frames are made of. Each function reads one at the front and returns it with the bytes after it.
+//! The fields that frames are made of. Each function reads one at the front and returns it with the bytes
+//! after it.
 
 ghost use Rattle.std.specs.Prelude.{◌≡◌, ◌⊎◌, ◌+◌, ◌*◌, ◌<◌, ◌≤◌, IfOk, length};
 ghost use Rattle.byteorder.specs.Endian.{big_number};
@@ -79,8 +80,8 @@ pub fn after_kind(kind: u8, bytes: &[u8]) -> Result<&[u8], WireError>
     Ok(rest)
 }
 
-/// Returns for how many of `count` values to take memory at once: no more than the bytes can hold, where each value
-/// takes at least `least` of them.
+/// Returns for how many of `count` values to take memory at once: no more than the bytes can hold, where each
+/// value takes at least `least` of them.
 pub fn room_for(count: u16, least: usize, bytes: &[u8]) -> usize
     requires some { 0 < least }
     ensures few { result ≤ count }
@@ -90,14 +91,16 @@ pub fn room_for(count: u16, least: usize, bytes: &[u8]) -> usize
     (count as usize).min(bytes.len() / least)
 }
 
-/// Reads a key. Its bytes are copied here and nowhere else.
+/// Reads a key of at most `limit` bytes. Its bytes are copied here and nowhere else.
 #[tactic(auto, unfolding(crate::specs::Reading::key_at))]
-pub fn key_of(alloc: Global, bytes: &[u8]) -> Result<(Key, &[u8]), WireError>
-    ensures reads { Gives (λ x. (x.0, x.1.now)) result (key_at bytes.now) }
+pub fn key_of(alloc: Global, limit: usize, bytes: &[u8]) -> Result<(Key, &[u8]), WireError>
+    requires limit { limit ≤ MAX_KEY_LENGTH }
+    ensures reads { Gives (λ x. (x.0, x.1.now)) result (key_at limit bytes.now) }
+    ensures short { IfOk result (λ x. length x.0 ≤ limit) }
 {
     let (length, rest) = u16_at(bytes)?;
     let length = length as usize;
-    if length > MAX_KEY_LENGTH {
+    if length > limit {
         return Err(WireError::KeyLength);
     }
     if rest.len() < length {

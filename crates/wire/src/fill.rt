@@ -28,7 +28,8 @@ fn read_more<R: Source>(
     ensures end { IfOk result (λ n. n ≡ 0 → IsAtEnd (R.remaining reader.new)) }
     ensures ok { OnOk result (R.failures reader.new ≡ R.failures reader.old) }
     ensures read { IfErr result (λ e. e ≡ WireError.Read → R.failures reader.old < R.failures reader.new) }
-    ensures memory { IfErr result (λ e. e ≢ WireError.Read → (e ≡ WireError.Memory) × (R.failures reader.new ≡ R.failures reader.old)) }
+    ensures memory { IfErr result (λ e. e ≢ WireError.Read
+        → (e ≡ WireError.Memory) × (R.failures reader.new ≡ R.failures reader.old)) }
 {
     let mut chunk = [0; CHUNK_LENGTH];
     let wanted = most.min(CHUNK_LENGTH);
@@ -48,7 +49,8 @@ fn fill<R: Source>(reader: &mut R, buffer: &mut Vec<u8>, target: usize) -> Resul
     ensures end { OnOk result (vec_len buffer.new < target → IsAtEnd (R.remaining reader.new)) }
     ensures ok { OnOk result (R.failures reader.new ≡ R.failures reader.old) }
     ensures read { IfErr result (λ e. e ≡ WireError.Read → R.failures reader.old < R.failures reader.new) }
-    ensures memory { IfErr result (λ e. e ≢ WireError.Read → (e ≡ WireError.Memory) × (R.failures reader.new ≡ R.failures reader.old)) }
+    ensures memory { IfErr result (λ e. e ≢ WireError.Read
+        → (e ≡ WireError.Memory) × (R.failures reader.new ≡ R.failures reader.old)) }
 {
     while buffer.len() < target {
         let count = read_more(reader, buffer, target - buffer.len())?;
@@ -77,12 +79,15 @@ fn settled_by(front: &[u8]) -> usize
 /// Reads the bytes of the next frame into the buffer: as many as settle what it says, or all that are left.
 #[tactic(auto, using(crate::proofs::Known::prepended_none, crate::proofs::Known::keeps_then, crate::proofs::FrameLengths::same_length, crate::proofs::FrameLengths::at_least_four))]
 pub fn fill_frame<R: Source>(reader: &mut R, buffer: &mut Vec<u8>) -> Result<(), WireError>
-    ensures joined { OnOk result (Keeps (R.remaining reader.old) (prepend_known buffer.new.items (R.remaining reader.new))) }
+    ensures joined { OnOk result
+        (Keeps (R.remaining reader.old) (prepend_known buffer.new.items (R.remaining reader.new))) }
     ensures within { OnOk result (vec_len buffer.new ≤ frame_length buffer.new.items) }
-    ensures end { OnOk result (vec_len buffer.new < frame_length buffer.new.items → IsAtEnd (R.remaining reader.new)) }
+    ensures end { OnOk result
+        (vec_len buffer.new < frame_length buffer.new.items → IsAtEnd (R.remaining reader.new)) }
     ensures ok { OnOk result (R.failures reader.new ≡ R.failures reader.old) }
     ensures read { IfErr result (λ e. e ≡ WireError.Read → R.failures reader.old < R.failures reader.new) }
-    ensures memory { IfErr result (λ e. e ≢ WireError.Read → (e ≡ WireError.Memory) × (R.failures reader.new ≡ R.failures reader.old)) }
+    ensures memory { IfErr result (λ e. e ≢ WireError.Read
+        → (e ≡ WireError.Memory) × (R.failures reader.new ≡ R.failures reader.old)) }
 {
     buffer.clear();
     fill(reader, buffer, 4)?;

@@ -10,7 +10,8 @@ use crate::source::Source;
 use keyspace::Batch;
 use std::alloc::Global;
 
-/// Iterates over the batches of a reader, frame after frame. Reads no byte beyond the frame that is asked for.
+/// Iterates over the batches of a reader, frame after frame. Reads no byte beyond the frame that is asked
+/// for.
 #[derive(Debug, Drop)]
 pub struct Frames<R> {
     reader: R,
@@ -34,43 +35,57 @@ pub fn read_frames<R: Source>(alloc: Global, reader: R) -> Frames<R>
     }
 }
 
-// Returns the batch of the next frame, or `None` at the end of the input.
-fn read_next<R: Source>(
+/// Returns the batch of the next frame, or `None` at the end of the input. The buffer takes the bytes of the
+/// frame.
+pub fn read_next<R: Source>(
     alloc: Global,
     reader: &mut R,
     buffer: &mut Vec<u8>,
 ) -> Result<Option<Batch>, WireError>
-    ensures batch { IfOk result (λ found. IfSome found (TakesFrame (R.remaining reader.old) (R.remaining reader.new))) }
-    ensures end { IfOk result (λ found. IfNone found (IsAtEnd (R.remaining reader.old) × IsAtEnd (R.remaining reader.new))) }
-    ensures fault { IfErr result (λ e. e ≢ WireError.Memory → e ≢ WireError.Read → IfSome (R.remaining reader.old) (IsFaultOf e)) }
+    ensures batch { IfOk result (λ found. IfSome found
+        (TakesFrame (R.remaining reader.old) (R.remaining reader.new))) }
+    ensures end { IfOk result (λ found. IfNone found
+        (IsAtEnd (R.remaining reader.old) × IsAtEnd (R.remaining reader.new))) }
+    ensures fault { IfErr result (λ e. e ≢ WireError.Memory → e ≢ WireError.Read
+        → IfSome (R.remaining reader.old) (IsFaultOf e)) }
     ensures ok { OnOk result (R.failures reader.new ≡ R.failures reader.old) }
     ensures read { IfErr result (λ e. e ≡ WireError.Read → R.failures reader.old < R.failures reader.new) }
     ensures others { IfErr result (λ e. e ≢ WireError.Read → R.failures reader.new ≡ R.failures reader.old) }
+    ensures never_write { IfErr result (λ e. e ≢ WireError.Write) }
 {
     fill_frame(reader, buffer)?;
     if buffer.is_empty() {
         return Ok(None);
     }
-    let (batch, _) = read_frame(alloc, buffer)?;
+    let (_, batch, _) = read_frame(alloc, buffer)?;
     Ok(Some(batch))
 }
 
 impl<R: Source> Frames<R> {
-    /// Returns the next batch, or `None` where the input ends between two frames. Returns `Read` only where the reader
-    /// failed in this call. After a refusal every later call returns the same refusal and reads nothing.
+    /// Returns the next batch, or `None` where the input ends between two frames. Returns `Read` only where
+    /// the reader failed in this call. After a refusal every later call returns the same refusal and reads
+    /// nothing.
     pub fn next(&mut self) -> Result<Option<Batch>, WireError>
-        ensures batch { IfOk result (λ found. IfSome found (TakesFrame (R.remaining (frames_reader self.old)) (R.remaining (frames_reader self.new)))) }
-        ensures end { IfOk result (λ found. IfNone found (IsAtEnd (R.remaining (frames_reader self.old)) × IsAtEnd (R.remaining (frames_reader self.new)))) }
+        ensures batch { IfOk result (λ found. IfSome found
+            (TakesFrame (R.remaining (frames_reader self.old)) (R.remaining (frames_reader self.new)))) }
+        ensures end { IfOk result (λ found. IfNone found
+            (IsAtEnd (R.remaining (frames_reader self.old))
+            × IsAtEnd (R.remaining (frames_reader self.new)))) }
 
-        // Where the reader tells its bytes, a first refusal other than `Memory` and `Read` is the first fault of those left.
-        ensures fault { refusal_of self.old ≡ None → IfErr result (λ e. e ≢ WireError.Memory → e ≢ WireError.Read → IfSome (R.remaining (frames_reader self.old)) (IsFaultOf e)) }
-        ensures read { refusal_of self.old ≡ None → (IsErrOf result WireError.Read ↔ (R.failures (frames_reader self.old) < R.failures (frames_reader self.new))) }
+        // Where the reader tells its bytes, any other refusal than `Memory` and `Read` is the fault of those
+        // left.
+        ensures fault { refusal_of self.old ≡ None → IfErr result (λ e.
+            e ≢ WireError.Memory → e ≢ WireError.Read
+            → IfSome (R.remaining (frames_reader self.old)) (IsFaultOf e)) }
+        ensures read { refusal_of self.old ≡ None → (IsErrOf result WireError.Read ↔
+            (R.failures (frames_reader self.old) < R.failures (frames_reader self.new))) }
 
         ensures refused { IfSome (refusal_of self.old) (λ e. result ≡ Err e) }
         ensures rests { IsSome (refusal_of self.old) → frames_reader self.new ≡ frames_reader self.old }
         ensures err { IfErr result (λ e. refusal_of self.new ≡ Some e) }
         ensures ok { OnOk result (refusal_of self.new ≡ None) }
-        ensures steady { OnOk result (R.failures (frames_reader self.new) ≡ R.failures (frames_reader self.old)) }
+        ensures steady { OnOk result
+            (R.failures (frames_reader self.new) ≡ R.failures (frames_reader self.old)) }
     {
         if let Some(refusal) = self.refusal {
             return Err(refusal);

@@ -3,8 +3,10 @@
 ghost use Rattle.std.specs.Prelude.{◌≡◌, ◌≤◌, ◌*◌, length, map};
 ghost use Rattle.std.specs.List.{flat_map};
 ghost use Rattle.wire.specs.Fields.{range_fields, txn_fields, batch_fields, entry_fields, reply_fields};
-ghost use Rattle.wire.specs.Spelling.{key_text, range_text, txn_text, batch_body, entry_text, reply_body};
+ghost use Rattle.wire.specs.Spelling.{key_text, ends_text, range_text, txn_text, batch_body, entry_text, reply_body};
 
+use crate::single::is_single;
+use crate::version::WireVersion;
 use keyspace::{Batch, Entry, Key, MAX_RANGES, MAX_TXNS, Range, Reply, Txn};
 
 fn key_length(key: &Key) -> usize
@@ -14,51 +16,70 @@ fn key_length(key: &Key) -> usize
     2 + key.as_bytes().len()
 }
 
-fn range_length(range: &Range) -> usize
-    ensures exact { result ≡ length (range_text (range_fields range.now)) }
+fn ends_length(range: &Range) -> usize
+    ensures exact { result ≡ length (ends_text (range_fields range.now)) }
     ensures bound { result ≤ 20006 }
 {
     key_length(&range.begin) + key_length(&range.end)
 }
 
-fn ranges_length(ranges: &[Range]) -> usize
+#[tactic(auto, unfolding(crate::specs::Spelling::formed_text))]
+fn range_length(version: WireVersion, range: &Range) -> usize
+    ensures exact { result ≡ length (range_text version (range_fields range.now)) }
+    ensures bound { result ≤ 20007 }
+{
+    match version {
+        WireVersion::One => ends_length(range),
+        WireVersion::Two => {
+            if is_single(range) {
+                1 + key_length(&range.begin)
+            } else {
+                1 + ends_length(range)
+            }
+        }
+    }
+}
+
+fn ranges_length(version: WireVersion, ranges: &[Range]) -> usize
     requires few { length ranges.now ≤ MAX_RANGES }
-    ensures exact { result ≡ length (flat_map range_text (map range_fields ranges.now)) }
-    ensures bound { result ≤ 20006 * MAX_RANGES }
+    ensures exact { result ≡ length (flat_map (range_text version) (map range_fields ranges.now)) }
+    ensures bound { result ≤ 20007 * MAX_RANGES }
 {
     let mut total = 0;
     for range in ranges {
-        total += range_length(range);
+        total += range_length(version, range);
     }
     total
 }
 
 #[tactic(auto, unfolding(crate::specs::Spelling::txn_text))]
-fn txn_length(txn: &Txn) -> usize
-    ensures exact { result ≡ length (txn_text (txn_fields txn.now)) }
-    ensures bound { result ≤ 40972301 }
+fn txn_length(version: WireVersion, txn: &Txn) -> usize
+    ensures exact { result ≡ length (txn_text version (txn_fields txn.now)) }
+    ensures bound { result ≤ 40974349 }
 {
-    13 + ranges_length(txn.reads.as_slice()) + ranges_length(txn.writes.as_slice())
+    let reads = ranges_length(version, txn.reads.as_slice());
+    let writes = ranges_length(version, txn.writes.as_slice());
+    13 + reads + writes
 }
 
-fn txns_length(txns: &[Txn]) -> usize
+fn txns_length(version: WireVersion, txns: &[Txn]) -> usize
     requires few { length txns.now ≤ MAX_TXNS }
-    ensures exact { result ≡ length (flat_map txn_text (map txn_fields txns.now)) }
-    ensures bound { result ≤ 40972301 * MAX_TXNS }
+    ensures exact { result ≡ length (flat_map (txn_text version) (map txn_fields txns.now)) }
+    ensures bound { result ≤ 40974349 * MAX_TXNS }
 {
     let mut total = 0;
     for txn in txns {
-        total += txn_length(txn);
+        total += txn_length(version, txn);
     }
     total
 }
 
 /// Returns the length of the body of a batch, in bytes.
 #[tactic(auto, unfolding(crate::specs::Spelling::batch_body))]
-pub fn batch_length(batch: &Batch) -> usize
-    ensures exact { result ≡ length (batch_body (batch_fields batch.now)) }
+pub fn batch_length(version: WireVersion, batch: &Batch) -> usize
+    ensures exact { result ≡ length (batch_body version (batch_fields batch.now)) }
 {
-    27 + txns_length(batch.txns.as_slice())
+    27 + txns_length(version, batch.txns.as_slice())
 }
 
 #[tactic(auto, using(crate::proofs::PlaceLists::few_places, crate::proofs::PlaceLists::places_length), unfolding(crate::specs::Spelling::entry_text))]

@@ -1,12 +1,14 @@
 //! Batches and replies as frames of bytes, and back.
 //!
-//! `specs/` holds what has to be believed, to be read in this order: `Fields` (what a frame says), `Spelling` (how each
-//! value is spelled, and what must hold of it), `Reading` (the fault that reading meets first) and, for a stream of
-//! frames, `Source`, `NextFrame` and `Frames`. Of these the code keeps nothing but a cursor in the bytes.
+//! `specs/` holds what has to be believed, to be read in this order: `Fields` (what a frame says), `Spelling`
+//! (how each value is spelled, and what must hold of it), `Reading` (the fault that reading meets first) and, for
+//! a stream of frames, `Source`, `NextFrame`, `Frames`, `Sink` and `Upgrade`. Of these the code keeps nothing but a
+//! cursor in the bytes. The form has two versions, which differ in the kind of a batch and in the text of a range.
 //!
-//! The layers above use [`decode_batch`] and [`decode_reply`], which decode exactly the frames that spell a value and
-//! name the first fault of any other; [`encode_batch`] and [`encode_reply`], which encode them; and [`Frames`], which
-//! iterates over the batches of a reader, however it cuts its bytes.
+//! The layers above use [`decode_batch`] and [`decode_reply`], which decode exactly the frames that spell a value
+//! and name the first fault of any other; [`encode_batch`], [`encode_batch_1`] and [`encode_reply`], which encode
+//! them; [`Frames`], which iterates over the batches of a reader, however it cuts its bytes; [`upgrade`], which
+//! writes batches of either version anew in version 2; and [`write_all`], which gives a [`Sink`] a whole slice.
 #![tactic(auto)]
 
 mod batch;
@@ -20,16 +22,23 @@ mod length;
 mod put;
 mod range;
 mod reply;
+mod single;
+mod sink;
 mod source;
 mod txn;
+mod upgrading;
+mod version;
 
 pub use batch::decode_batch;
-pub use encode::{encode_batch, encode_reply};
+pub use encode::{encode_batch, encode_batch_1, encode_reply};
 pub use error::WireError;
 pub use field::MAX_BODY_LENGTH;
 pub use frames::{Frames, read_frames};
 pub use reply::decode_reply;
+pub use sink::{Sink, StdSink, write_all};
 pub use source::{Failed, Source, StdSource};
+pub use upgrading::upgrade;
+pub use version::WireVersion;
 
 #[cfg(test)]
 mod tests;

@@ -7,8 +7,10 @@ ghost use Rattle.std.specs.List.{All, flat_map};
 ghost use Rattle.byteorder.specs.Endian.{big_bytes};
 ghost use Rattle.keyspace.specs.Places.{ArePlaces};
 ghost use Rattle.wire.specs.Fields.{range_fields, txn_fields, entry_fields};
-ghost use Rattle.wire.specs.Spelling.{signed_text, key_text, range_text, marks_text, txn_text, verdict_text, places_text, entry_text};
+ghost use Rattle.wire.specs.Spelling.{signed_text, key_text, ends_text, formed_text, range_text, marks_text, txn_text, verdict_text, places_text, entry_text};
 
+use crate::single::is_single;
+use crate::version::WireVersion;
 use keyspace::{Entry, Key, Range, Txn, Verdict};
 use std::alloc::AllocError;
 
@@ -53,42 +55,68 @@ fn put_key(out: &mut Vec<u8>, key: &Key) -> Result<(), AllocError>
     out.extend_from_slice(bytes)
 }
 
-fn put_range(out: &mut Vec<u8>, range: &Range) -> Result<(), AllocError>
-    ensures text { OnOk result (out.new.items ≡ out.old.items ++ range_text (range_fields range.now)) }
+fn put_ends(out: &mut Vec<u8>, range: &Range) -> Result<(), AllocError>
+    ensures text { OnOk result (out.new.items ≡ out.old.items ++ ends_text (range_fields range.now)) }
 {
     put_key(out, &range.begin)?;
     put_key(out, &range.end)
 }
 
-fn put_ranges(out: &mut Vec<u8>, ranges: &[Range]) -> Result<(), AllocError>
-    ensures text { OnOk result (out.new.items ≡ out.old.items ++ flat_map range_text (map range_fields ranges.now)) }
+#[tactic(auto, unfolding(crate::specs::Spelling::formed_text))]
+fn put_formed(out: &mut Vec<u8>, range: &Range) -> Result<(), AllocError>
+    ensures text { OnOk result (out.new.items ≡ out.old.items ++ formed_text (range_fields range.now)) }
+{
+    if is_single(range) {
+        out.push(1)?;
+        put_key(out, &range.begin)
+    } else {
+        out.push(0)?;
+        put_ends(out, range)
+    }
+}
+
+fn put_range(out: &mut Vec<u8>, version: WireVersion, range: &Range) -> Result<(), AllocError>
+    ensures text { OnOk result
+        (out.new.items ≡ out.old.items ++ range_text version (range_fields range.now)) }
+{
+    match version {
+        WireVersion::One => put_ends(out, range),
+        WireVersion::Two => put_formed(out, range),
+    }
+}
+
+fn put_ranges(out: &mut Vec<u8>, version: WireVersion, ranges: &[Range]) -> Result<(), AllocError>
+    ensures text { OnOk result (out.new.items ≡
+        out.old.items ++ flat_map (range_text version) (map range_fields ranges.now)) }
 {
     for range in ranges {
-        put_range(out, range)?;
+        put_range(out, version, range)?;
     }
     Ok(())
 }
 
 #[tactic(auto, unfolding(crate::specs::Spelling::txn_text))]
-fn put_txn(out: &mut Vec<u8>, txn: &Txn) -> Result<(), AllocError>
-    ensures text { OnOk result (out.new.items ≡ out.old.items ++ txn_text (txn_fields txn.now)) }
+fn put_txn(out: &mut Vec<u8>, version: WireVersion, txn: &Txn) -> Result<(), AllocError>
+    ensures text { OnOk result (out.new.items ≡ out.old.items ++ txn_text version (txn_fields txn.now)) }
     ensures fits { FitsSigned w64 txn.now.snapshot }
 {
     put_i64(out, txn.snapshot)?;
     put_marks(out, txn.marked)?;
     put_u16(out, txn.reads.len() as u16)?;
     put_u16(out, txn.writes.len() as u16)?;
-    put_ranges(out, txn.reads.as_slice())?;
-    put_ranges(out, txn.writes.as_slice())?;
+    put_ranges(out, version, txn.reads.as_slice())?;
+    put_ranges(out, version, txn.writes.as_slice())?;
     Ok(())
 }
 
-pub fn put_txns(out: &mut Vec<u8>, txns: &[Txn]) -> Result<(), AllocError>
-    ensures text { OnOk result (out.new.items ≡ out.old.items ++ flat_map txn_text (map txn_fields txns.now)) }
+/// Appends the transactions of a batch.
+pub fn put_txns(out: &mut Vec<u8>, version: WireVersion, txns: &[Txn]) -> Result<(), AllocError>
+    ensures text { OnOk result (out.new.items ≡
+        out.old.items ++ flat_map (txn_text version) (map txn_fields txns.now)) }
     ensures fit { OnOk result (All (λ txn. FitsSigned w64 txn.snapshot) txns.now) }
 {
     for txn in txns {
-        put_txn(out, txn)?;
+        put_txn(out, version, txn)?;
     }
     Ok(())
 }
@@ -127,7 +155,8 @@ fn put_entry(out: &mut Vec<u8>, entry: &Entry) -> Result<(), AllocError>
 
 /// Appends the entries of a reply.
 pub fn put_entries(out: &mut Vec<u8>, entries: &[Entry]) -> Result<(), AllocError>
-    ensures text { OnOk result (out.new.items ≡ out.old.items ++ flat_map entry_text (map entry_fields entries.now)) }
+    ensures text { OnOk result (out.new.items ≡
+        out.old.items ++ flat_map entry_text (map entry_fields entries.now)) }
     ensures places { OnOk result (All (λ entry. ArePlaces entry.places) entries.now) }
 {
     for entry in entries {

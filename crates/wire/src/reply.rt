@@ -86,7 +86,8 @@ fn entry_of(alloc: Global, bytes: &[u8]) -> Result<(Entry, &[u8]), WireError>
 
 // Reads `count` entries.
 fn entries_of(alloc: Global, count: u16, bytes: &[u8]) -> Result<(Vec<Entry>, &[u8]), WireError>
-    ensures reads { Gives (λ x. (map entry_fields x.0.items, x.1.now)) result (many_at entry_at count bytes.now) }
+    ensures reads { Gives (λ x. (map entry_fields x.0.items, x.1.now)) result
+        (many_at entry_at count bytes.now) }
     ensures count { IfOk result (λ x. vec_len x.0 ≡ count) }
 {
     let room = room_for(count, MIN_ENTRY_LENGTH, bytes);
@@ -127,14 +128,15 @@ fn read_frame(alloc: Global, bytes: &[u8]) -> Result<(Reply, usize), WireError>
     Ok((reply, 4 + body.len()))
 }
 
-/// Decodes the frame at the front and returns its reply and its length in bytes. What follows the frame isn't looked
-/// at. A refusal other than `Memory` is the frame's first fault.
+/// Decodes the frame at the front and returns its reply and its length in bytes. What follows the frame isn't
+/// looked at. A refusal other than `Memory` is the frame's first fault.
 pub fn decode_reply(alloc: Global, bytes: &[u8]) -> Result<(Reply, usize), WireError>
     ensures within { IfOk result (λ found. found.1 ≤ length bytes.now) }
     ensures spelled { IfOk result (λ found. SpellsReply (take found.1 bytes.now) found.0) }
     ensures ok { OnOk result (reply_fault bytes.now ≡ None) }
     ensures fault { IfErr result (λ e. e ≢ WireError.Memory → reply_fault bytes.now ≡ Some e) }
     ensures never_read { IfErr result (λ e. e ≢ WireError.Read) }
+    ensures never_write { IfErr result (λ e. e ≢ WireError.Write) }
 {
     read_frame(alloc, bytes)
 }

@@ -6,7 +6,7 @@ ghost use Rattle.wire.specs.Source.{source_reader, source_failures, source_remai
 
 use std::io::{ErrorKind, Read};
 
-/// A reader failed.
+/// A reader or a writer failed.
 #[derive(Clone, Copy, Debug, PartialEq, Eq)]
 pub struct Failed;
 
@@ -18,21 +18,22 @@ pub trait Source {
     // How often it has failed.
     ghost failures: { Self → ℕ };
 
-    /// Reads into the front of the buffer and returns how many bytes it wrote. Returns 0 for a non-empty buffer only at
-    /// the end of the input.
+    /// Reads into the front of the buffer and returns how many bytes it wrote. Returns 0 for a non-empty
+    /// buffer only at the end of the input.
     fn read(&mut self, buffer: &mut [u8]) -> Result<usize, Failed>
         ensures bound { IfOk result (λ n. n ≤ length buffer.new) }
-        ensures bytes { IfOk result (λ n. Consumes (remaining self.old) (remaining self.new) (take n buffer.new)) }
+        ensures bytes { IfOk result (λ n.
+            Consumes (remaining self.old) (remaining self.new) (take n buffer.new)) }
         ensures end { IfOk result (λ n. n ≡ 0 → 0 < length buffer.new → IsAtEnd (remaining self.new)) }
         ensures ok { OnOk result (failures self.new ≡ failures self.old) }
         ensures failed { OnErr result (failures self.new ≡ failures self.old + 1) };
 }
 
-// The most times that one read is tried again after an interruption.
-const MAX_RETRIES: u32 = 1_000;
+/// The most times that one read or write is tried again after an interruption.
+pub const MAX_RETRIES: u32 = 1_000;
 
-/// A [`Source`] over any reader of `std`. After an interruption it tries again, at most 1,000 times in one call. Its
-/// count of failures stops at `u64::MAX`: from then on it tells no bytes and gives none.
+/// A [`Source`] over any reader of `std`. After an interruption it tries again, at most 1,000 times in one
+/// call. Its count of failures stops at `u64::MAX`: from then on it tells no bytes and gives none.
 #[derive(Debug, Drop)]
 pub struct StdSource<R> {
     reader: R,

@@ -1,4 +1,5 @@
-//! The vectors and the tables of refusals. Blanks stand between the fields of a text and aren't part of the bytes.
+//! The vectors and the tables of refusals. Blanks stand between the fields of a text and aren't part of the
+//! bytes.
 
 use super::*;
 use keyspace::{Batch, Range, Reply, Verdict};
@@ -7,7 +8,10 @@ use std::test::Fail;
 
 mod batches;
 mod frames;
+mod refusals;
 mod replies;
+mod second_version;
+mod upgrades;
 
 // `-1>0`, received -1, no transactions.
 const EMPTY_BATCH: &str = "0000001b 01 ffffffffffffffff 0000000000000000 ffffffffffffffff 0000";
@@ -15,6 +19,17 @@ const EMPTY_BATCH: &str = "0000001b 01 ffffffffffffffff 0000000000000000 fffffff
 // `0>100`, received -1, one transaction with snapshot 0, no mark, no reads and the write [a,b).
 const ONE_WRITE: &str = "0000002e 01 0000000000000000 0000000000000064 ffffffffffffffff 0001 \
      0000000000000000 00 0000 0001 0001 61 0001 62";
+
+// As [`EMPTY_BATCH`], in wire version 2.
+const EMPTY_BATCH_2: &str = "0000001b 03 ffffffffffffffff 0000000000000000 ffffffffffffffff 0000";
+
+// As [`ONE_WRITE`], in wire version 2.
+const ONE_WRITE_2: &str = "0000002f 03 0000000000000000 0000000000000064 ffffffffffffffff 0001 \
+     0000000000000000 00 0000 0001 00 0001 61 0001 62";
+
+// As [`ONE_WRITE_2`], with the write of the single key k.
+const SINGLE_KEY_2: &str = "0000002c 03 0000000000000000 0000000000000064 ffffffffffffffff 0001 \
+     0000000000000000 00 0000 0001 01 0001 6b";
 
 // Version 0, no entries. It answers [`EMPTY_BATCH`].
 const EMPTY_REPLY: &str = "0000000b 02 0000000000000000 0000";
@@ -28,6 +43,8 @@ const ONE_COMMITTED: &str = "0000000e 02 0000000000000064 0001 02 0000";
 const EMPTY_BATCH_SHOWN: &str = "-1>0 received -1";
 
 const ONE_WRITE_SHOWN: &str = "0>100 received -1; @0 W[61,62)";
+
+const SINGLE_KEY_SHOWN: &str = "0>100 received -1; @0 W[6b,6b00)";
 
 // The bytes of a text in hexadecimal.
 fn bytes_of(alloc: Global, text: &str) -> Result<Vec<u8>, Fail> {
@@ -85,33 +102,22 @@ fn show_reply(alloc: Global, reply: &Reply) -> Result<String, Fail> {
 }
 
 #[test]
-fn texts_of_refusals(rt: HostRuntime) -> Result<(), Fail> {
-    for (refusal, text) in [
-        (WireError::Short, "1 Short"),
-        (WireError::Long, "2 Long"),
-        (WireError::Kind, "3 Kind"),
-        (WireError::Trailing, "4 Trailing"),
-        (WireError::Version, "5 Version"),
-        (WireError::Marks, "6 Marks"),
-        (WireError::Count, "7 Count"),
-        (WireError::KeyLength, "8 KeyLength"),
-        (WireError::Inverted, "9 Inverted"),
-        (WireError::Cut, "10 Cut"),
-        (WireError::Memory, "11 Memory"),
-        (WireError::Read, "12 Read"),
-    ] {
-        let shown = format!(in rt.alloc(); "{refusal}")?;
-        assert_eq!(rt; shown.as_str(), text);
-    }
-    Ok(())
-}
-
-#[test]
 fn decoder_always_memory(rt: HostRuntime) -> Result<(), Fail> {
     let alloc = rt.alloc();
     for (text, value, length) in [
         (EMPTY_BATCH, EMPTY_BATCH_SHOWN, 31),
         (ONE_WRITE, ONE_WRITE_SHOWN, 50),
+    ] {
+        let bytes = bytes_of(alloc, text)?;
+        let (batch, used) = decode_batch(alloc, &bytes)?;
+        assert_eq!(rt; show_batch(alloc, &batch)?.as_str(), value);
+        assert_eq!(rt; used, length, "of {text}");
+        assert_eq!(rt; encode_batch_1(alloc, &batch)?.as_slice(), bytes.as_slice());
+    }
+    for (text, value, length) in [
+        (EMPTY_BATCH_2, EMPTY_BATCH_SHOWN, 31),
+        (ONE_WRITE_2, ONE_WRITE_SHOWN, 51),
+        (SINGLE_KEY_2, SINGLE_KEY_SHOWN, 48),
     ] {
         let bytes = bytes_of(alloc, text)?;
         let (batch, used) = decode_batch(alloc, &bytes)?;

@@ -5,6 +5,7 @@ ghost use Rattle.wire.specs.Reading.{Gives, txn_at, many_at};
 use crate::error::WireError;
 use crate::field::{count_of, i64_at, marks_of, room_for};
 use crate::range::ranges_of;
+use crate::version::WireVersion;
 use keyspace::{MAX_RANGES, Sequence, Txn};
 use std::alloc::Global;
 
@@ -12,8 +13,8 @@ use std::alloc::Global;
 const MIN_TXN_LENGTH: usize = 13;
 
 #[tactic(auto, unfolding(crate::specs::Reading::txn_at, crate::specs::Reading::version_at))]
-fn txn_of(alloc: Global, bytes: &[u8]) -> Result<(Txn, &[u8]), WireError>
-    ensures reads { Gives (λ x. (txn_fields x.0, x.1.now)) result (txn_at bytes.now) }
+fn txn_of(alloc: Global, version: WireVersion, bytes: &[u8]) -> Result<(Txn, &[u8]), WireError>
+    ensures reads { Gives (λ x. (txn_fields x.0, x.1.now)) result (txn_at version bytes.now) }
 {
     let (snapshot, rest) = i64_at(bytes)?;
     if snapshot < 0 {
@@ -22,8 +23,8 @@ fn txn_of(alloc: Global, bytes: &[u8]) -> Result<(Txn, &[u8]), WireError>
     let (marked, rest) = marks_of(rest)?;
     let (read_count, rest) = count_of(MAX_RANGES as u16, rest)?;
     let (write_count, rest) = count_of(MAX_RANGES as u16, rest)?;
-    let (reads, rest) = ranges_of(alloc, read_count, rest)?;
-    let (writes, rest) = ranges_of(alloc, write_count, rest)?;
+    let (reads, rest) = ranges_of(alloc, version, read_count, rest)?;
+    let (writes, rest) = ranges_of(alloc, version, write_count, rest)?;
     let txn = Txn::new(
         snapshot,
         marked,
@@ -34,15 +35,21 @@ fn txn_of(alloc: Global, bytes: &[u8]) -> Result<(Txn, &[u8]), WireError>
 }
 
 /// Reads `count` transactions.
-pub fn txns_of(alloc: Global, count: u16, bytes: &[u8]) -> Result<(Vec<Txn>, &[u8]), WireError>
-    ensures reads { Gives (λ x. (map txn_fields x.0.items, x.1.now)) result (many_at txn_at count bytes.now) }
+pub fn txns_of(
+    alloc: Global,
+    version: WireVersion,
+    count: u16,
+    bytes: &[u8],
+) -> Result<(Vec<Txn>, &[u8]), WireError>
+    ensures reads { Gives (λ x. (map txn_fields x.0.items, x.1.now)) result
+        (many_at (txn_at version) count bytes.now) }
     ensures count { IfOk result (λ x. vec_len x.0 ≡ count) }
 {
     let room = room_for(count, MIN_TXN_LENGTH, bytes);
     let mut txns = Vec::with_capacity(alloc, room)?;
     let mut rest = bytes;
     for _ in 0..count {
-        let (txn, after) = txn_of(alloc, rest)?;
+        let (txn, after) = txn_of(alloc, version, rest)?;
         txns.push(txn)?;
         rest = after;
     }

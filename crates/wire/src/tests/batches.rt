@@ -1,4 +1,4 @@
-//! Tests of `decode_batch` and `encode_batch`.
+//! Tests of `decode_batch`, `encode_batch` and `encode_batch_1` in wire version 1.
 
 use super::*;
 use keyspace::{Key, Sequence, Txn};
@@ -164,6 +164,9 @@ fn batch_of_longest_keys(rt: &impl Abort, alloc: Global, count: usize) -> Result
     for _ in 0..count {
         let begin = Key::new(vec![in alloc; 0; 10_001]?);
         let end = begin.copy(alloc)?;
+        if end < begin {
+            return Err("a range that ends before it begins")?;
+        }
         writes.push(Range::new(begin, end))?;
     }
     assert!(rt; writes.len() <= 1_024);
@@ -182,10 +185,12 @@ fn too_long_a_batch(rt: HostRuntime) -> Result<(), Fail> {
     let alloc = rt.alloc();
     // 40 bytes, and 20,006 for each write: at most 4,194,304 up to 209 writes
     let batch = batch_of_longest_keys(&rt, alloc, 209)?;
-    let bytes = encode_batch(alloc, &batch)?;
+    let bytes = encode_batch_1(alloc, &batch)?;
     assert_eq!(rt; bytes.len(), 4 + 40 + 209 * 20_006);
     assert_eq!(rt; decode_batch(alloc, &bytes)?.1, bytes.len());
     let batch = batch_of_longest_keys(&rt, alloc, 210)?;
+    let refusal = encode_batch_1(alloc, &batch).err();
+    assert_eq!(rt; refusal, Some(WireError::Long));
     assert_eq!(rt; encode_batch(alloc, &batch).err(), Some(WireError::Long));
     Ok(())
 }

@@ -5,8 +5,8 @@ use std::io;
 use std::io::{ErrorKind, Read};
 use std::process::Abort;
 
-// A reader that gives at most `step` bytes a call. It is interrupted so many times before each call that gives some.
-// At the end it fails where `fails` is set.
+// A reader that gives at most `step` bytes a call. It is interrupted so many times before each call that
+// gives some. At the end it fails where `fails` is set.
 #[derive(Drop)]
 struct Pieces<'a> {
     bytes: &'a [u8],
@@ -68,7 +68,7 @@ fn expect(
     Ok(())
 }
 
-const TEXTS: [(&str, [&str; 3]); 9] = [
+const TEXTS: [(&str, [&str; 3]); 10] = [
     ("", ["none", "none", "none"]),
     (
         "0000001b 01 ffffffffffffffff 0000000000000000 ffffffffffffffff 0000 \
@@ -86,6 +86,14 @@ const TEXTS: [(&str, [&str; 3]); 9] = [
          0000002e 01 0000000000000000 0000000000000064 ffffffffffffffff 0001 \
          0000000000000000 00 0000 0001 0001 61 0001 62",
         [EMPTY_BATCH_SHOWN, "3 Kind", "3 Kind"],
+    ),
+    (
+        "0000001b 03 ffffffffffffffff 0000000000000000 ffffffffffffffff 0000 \
+         0000002e 01 0000000000000000 0000000000000064 ffffffffffffffff 0001 \
+         0000000000000000 00 0000 0001 0001 61 0001 62 \
+         0000002c 03 0000000000000000 0000000000000064 ffffffffffffffff 0001 \
+         0000000000000000 00 0000 0001 01 0001 6b",
+        [EMPTY_BATCH_SHOWN, ONE_WRITE_SHOWN, SINGLE_KEY_SHOWN],
     ),
     ("00400001", ["2 Long", "2 Long", "2 Long"]),
     ("00400000", ["1 Short", "1 Short", "1 Short"]),
@@ -125,40 +133,55 @@ fn short_second_frame(rt: HostRuntime) -> Result<(), Fail> {
     expect(&rt, rt.alloc(), &bytes, 100_000, false, &answers)
 }
 
+// The first run in either wire version: an empty batch of 31 bytes, and one with one write.
+const FIRST_RUNS: [[&str; 2]; 2] = [[EMPTY_BATCH, ONE_WRITE], [EMPTY_BATCH_2, ONE_WRITE_2]];
+
+fn first_run(alloc: Global, texts: [&str; 2]) -> Result<Vec<u8>, Fail> {
+    let [empty_batch, one_write] = texts;
+    let mut bytes = bytes_of(alloc, empty_batch)?;
+    bytes.extend_from_slice(&bytes_of(alloc, one_write)?)?;
+    Ok(bytes)
+}
+
 #[test]
 fn reader_fails_everywhere(rt: HostRuntime) -> Result<(), Fail> {
-    let mut bytes = bytes_of(rt.alloc(), EMPTY_BATCH)?;
-    bytes.extend_from_slice(&bytes_of(rt.alloc(), ONE_WRITE)?)?;
-    assert_eq!(rt; bytes.len(), 81);
-    for count in 0..=bytes.len() {
-        let front = &bytes[..count];
-        if count < 31 {
-            expect(
-                &rt,
-                rt.alloc(),
-                front,
-                1,
-                true,
-                &["12 Read", "12 Read", "12 Read"],
-            )?;
-        } else if count < 81 {
-            expect(
-                &rt,
-                rt.alloc(),
-                front,
-                1,
-                true,
-                &[EMPTY_BATCH_SHOWN, "12 Read", "12 Read"],
-            )?;
-        } else {
-            expect(
-                &rt,
-                rt.alloc(),
-                front,
-                1,
-                true,
-                &[EMPTY_BATCH_SHOWN, ONE_WRITE_SHOWN, "12 Read"],
-            )?;
+    for texts in FIRST_RUNS {
+        let bytes = first_run(rt.alloc(), texts)?;
+        let whole = bytes.len();
+        for count in 0..=whole {
+            let answers = if count < 31 {
+                ["12 Read", "12 Read", "12 Read"]
+            } else if count < whole {
+                [EMPTY_BATCH_SHOWN, "12 Read", "12 Read"]
+            } else {
+                [EMPTY_BATCH_SHOWN, ONE_WRITE_SHOWN, "12 Read"]
+            };
+            expect(&rt, rt.alloc(), &bytes[..count], 1, true, &answers)?;
+        }
+    }
+    Ok(())
+}
+
+#[test]
+fn first_run_cut_everywhere(rt: HostRuntime) -> Result<(), Fail> {
+    for texts in FIRST_RUNS {
+        let bytes = first_run(rt.alloc(), texts)?;
+        let whole = bytes.len();
+        for count in 0..=whole {
+            let answers = if count == 0 {
+                ["none", "none", "none"]
+            } else if count < 31 {
+                ["1 Short", "1 Short", "1 Short"]
+            } else if count == 31 {
+                [EMPTY_BATCH_SHOWN, "none", "none"]
+            } else if count < whole {
+                [EMPTY_BATCH_SHOWN, "1 Short", "1 Short"]
+            } else {
+                [EMPTY_BATCH_SHOWN, ONE_WRITE_SHOWN, "none"]
+            };
+            for step in [1, 100_000] {
+                expect(&rt, rt.alloc(), &bytes[..count], step, false, &answers)?;
+            }
         }
     }
     Ok(())

@@ -12,6 +12,6 @@ loop-proxy-preserved g c =
     let x = c.index-answers-proxy.result in
     subst (Appends (g.W.Write.contents c.args.out.now) (g.W.Write.contents c.print_proxy.new.out))
     (ap (λ ys. lines_in_order (map vec_items (take proxy xs))
-        ++ lines_of_proxy (proxy, ys)) c.deref.ensures.value
+    ++ lines_of_proxy (proxy, ys)) c.deref.ensures.value
     ∙ sym (text_from-more vec_items lines_of_proxy xs proxy x (omega arith) c.index-answers-proxy.is))
     (Appends-then _ _ _ _ _ c.loop-proxy.invariant c.in_ok-print_proxy.ensures.text)

@@ -24,27 +24,27 @@ loop-txn-preserved c =
     let next = dropped items c.loop-txn.txn-index txn (omega arith) c.txn-item.is in
     let verdict : c.verdict_of-verdict.result ≡ (judge_txn at_edge history (ranges_of earlier) txn).verdict =
     c.verdict_of-verdict.ensures.verdict
-        ∙ ap (λ (ws : List Write).
-        (judge_txn at_edge history (ranges_of ws) txn).verdict) c.deref.ensures.value in
+    ∙ ap (λ (ws : List Write).
+    (judge_txn at_edge history (ranges_of ws) txn).verdict) c.deref.ensures.value in
     let written : more ≡ earlier ++ at_version batch.version
-        (counted (judge_txn at_edge history (ranges_of earlier) txn).verdict txn.writes) =
+    (counted (judge_txn at_edge history (ranges_of earlier) txn).verdict txn.writes) =
     c.in_ok-add_counted.ensures.counted
-        ∙ ap (λ (v : Verdict). earlier ++ at_version batch.version (counted v txn.writes)) verdict in
+    ∙ ap (λ (v : Verdict). earlier ++ at_version batch.version (counted v txn.writes)) verdict in
     let made = c.new-in-loop-txn-2.ensures in
     record {
       entries =
           ap (λ es. es
-              ++ silent (judge_txns at_edge history (ranges_of more) left)) c.in_ok-push.ensures.items
+          ++ silent (judge_txns at_edge history (ranges_of more) left)) c.in_ok-push.ensures.items
           ∙ entries_step at_edge batch.version history entries earlier more txn left
-              c.new-in-loop-txn-2.result (made.verdict ∙ verdict) (made.places
-              ∙ c.new-in-loop-txn.ensures.places ∙ c.new.ensures.items) written
+          c.new-in-loop-txn-2.result (made.verdict ∙ verdict) (made.places
+          ∙ c.new-in-loop-txn.ensures.places ∙ c.new.ensures.items) written
           ∙ ap (λ (ts : List Txn). entries ++ silent (judge_txns at_edge history (ranges_of earlier) ts))
-              (sym next)
+          (sym next)
           ∙ c.loop-txn.invariant.entries;
       written =
           written_step at_edge batch.version history earlier more txn left written
           ∙ ap (λ (ts : List Txn). earlier
-              ++ at_version batch.version (committed ts (judge_txns at_edge history (ranges_of earlier) ts)))
-              (sym next)
+          ++ at_version batch.version (committed ts (judge_txns at_edge history (ranges_of earlier) ts)))
+          (sym next)
           ∙ c.loop-txn.invariant.written;
     }

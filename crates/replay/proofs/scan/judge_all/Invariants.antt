@@ -18,5 +18,5 @@ invariant-loop-txn l =
       written : l.earlier.items ++ at_version l.batch.version
           (committed left (judge_txns (edge WINDOW l.batch) l.history (ranges_of l.earlier.items) left))
           ≡ at_version l.batch.version
-              (committed l.txn-items (judge_txns (edge WINDOW l.batch) l.history [] l.txn-items));
+          (committed l.txn-items (judge_txns (edge WINDOW l.batch) l.history [] l.txn-items));
     }

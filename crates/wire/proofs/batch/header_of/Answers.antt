@@ -23,6 +23,8 @@ returns-clause-reads c =
     let received_from : int_le (negsuc 0) received ≡ true = grind (arith, ints) in
     let received_before : int_lt received version ≡ true = grind (arith, ints) in
     let one = version_taken (λ v. int_le (negsuc 0) v) _ _ _ c.in_ok-previous.ensures.reads previous_from in
-    let two = version_taken (λ v. int_le (pos 0) v && int_lt previous v) _ _ _ c.in_ok-version.ensures.reads (and_both _ _ natural rises) in
-    let three = version_taken (λ v. int_le (negsuc 0) v && int_lt v version) _ _ _ c.in_ok-received.ensures.reads (and_both _ _ received_from received_before) in
-    rw (same_previous, same_version, same_received, c.in_ok-rest.ensures.reads, one, two, three) refl
+    let two = version_taken (λ v. int_le (pos 0) v && int_lt previous v) _ _ _ c.in_ok-version.ensures.reads
+    (and_both _ _ natural rises) in
+    let three = version_taken (λ v. int_le (negsuc 0) v && int_lt v version) _ _ _
+    c.in_ok-received.ensures.reads (and_both _ _ received_from received_before) in
+    rw (same_previous, same_version, same_received, one, two, three) refl

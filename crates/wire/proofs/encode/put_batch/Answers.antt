@@ -22,6 +22,7 @@ returns-clause-text c =
       c.in_ok-put_i64-2.ensures.text,
       c.in_ok-put_i64.ensures.text,
       c.in_ok-push.ensures.items,
+      c.kind_of.ensures.exact,
       to_z-of_z w64 c.args.batch.now.previous fits_previous,
       to_z-of_z w64 c.args.batch.now.version fits_version,
       to_z-of_z w64 c.args.batch.now.received fits_received,
@@ -31,4 +32,5 @@ returns-clause-text c =
 pub returns-clause-holds : goal.returns-clause-holds
 returns-clause-holds c =
     batch_holds c.args.batch.now (search rules) (search rules) (search rules)
-    (subst (λ (txns : List Txn). All (λ txn. FitsSigned w64 txn.snapshot) txns) c.as_slice.ensures.items c.in_ok-put_txns.ensures.fit)
+    (subst (λ (txns : List Txn). All (λ txn. FitsSigned w64 txn.snapshot) txns) c.as_slice.ensures.items
+    c.in_ok-put_txns.ensures.fit)

@@ -25,4 +25,5 @@ returns-clause-text c =
 pub returns-clause-holds : goal.returns-clause-holds
 returns-clause-holds c =
     reply_holds c.args.reply.now (search rules)
-    (subst (λ (entries : List Entry). All (λ entry. ArePlaces entry.places) entries) c.as_slice.ensures.items c.in_ok-put_entries.ensures.places)
+    (subst (λ (entries : List Entry). All (λ entry. ArePlaces entry.places) entries) c.as_slice.ensures.items
+    c.in_ok-put_entries.ensures.places)

@@ -5,4 +5,5 @@ use Rattle.wire.specs.Spelling.{range_text}
 use Rattle.wire.proofs.length.ranges_length.Given as goal
 
 abbrev pub invariant-loop-range : goal.invariant-loop-range
-invariant-loop-range l = (l.total ≡ length (flat_map range_text (map range_fields (take l.range-index l.ranges)))) × (l.total ≤ 20006 * l.range-index)
+invariant-loop-range l = (l.total ≡ length (flat_map (range_text l.version)
+    (map range_fields (take l.range-index l.ranges)))) × (l.total ≤ 20007 * l.range-index)

@@ -5,4 +5,5 @@ use Rattle.wire.specs.Spelling.{txn_text}
 use Rattle.wire.proofs.length.txns_length.Given as goal
 
 abbrev pub invariant-loop-txn : goal.invariant-loop-txn
-invariant-loop-txn l = (l.total ≡ length (flat_map txn_text (map txn_fields (take l.txn-index l.txns)))) × (l.total ≤ 40972301 * l.txn-index)
+invariant-loop-txn l = (l.total ≡ length (flat_map (txn_text l.version)
+    (map txn_fields (take l.txn-index l.txns)))) × (l.total ≤ 40974349 * l.txn-index)

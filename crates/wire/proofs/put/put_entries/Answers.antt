@@ -9,10 +9,15 @@ use Rattle.wire.proofs.put.put_entries.Goals as goal
 
 pub loop-entry-preserved : goal.loop-entry-preserved
 loop-entry-preserved c =
-    let places = subst (λ (entry : Entry). ArePlaces entry.places) c.entry-item.is c.put_entry.ensures.places in
-    (grind (arith, common_steps), All-more (λ entry. ArePlaces entry.places) c.args.entries.now c.loop-entry.entry-index c.entry-item.result c.loop-entry-test.true c.loop-entry.invariant.1 places)
+    let places = subst (λ (entry : Entry). ArePlaces entry.places) c.entry-item.is
+    c.put_entry.ensures.places in (
+      grind (arith, common_steps),
+      All-more (λ entry. ArePlaces entry.places) c.args.entries.now
+          c.loop-entry.entry-index c.entry-item.result c.loop-entry-test.true c.loop-entry.invariant.1 places,
+    )
 
 pub returns-clause-places : goal.returns-clause-places
 returns-clause-places c =
     let whole = take_all c.loop-entry.entry-index c.args.entries.now c.loop-entry-test.false in
-    subst (λ (entries : List Entry). All (λ entry. ArePlaces entry.places) entries) whole c.loop-entry.invariant.1
+    subst (λ (entries : List Entry). All (λ entry. ArePlaces entry.places) entries) whole
+    c.loop-entry.invariant.1

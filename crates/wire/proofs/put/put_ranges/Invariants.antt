@@ -5,4 +5,5 @@ use Rattle.wire.specs.Spelling.{range_text}
 use Rattle.wire.proofs.put.put_ranges.Given as goal
 
 abbrev pub invariant-loop-range : goal.invariant-loop-range
-invariant-loop-range l = l.out.items ≡ l.fn.out.items ++ flat_map range_text (map range_fields (take l.range-index l.ranges))
+invariant-loop-range l = l.out.items ≡ l.fn.out.items ++ flat_map (range_text l.version)
+    (map range_fields (take l.range-index l.ranges))

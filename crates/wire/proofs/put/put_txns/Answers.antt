@@ -7,5 +7,8 @@ use Rattle.wire.proofs.put.put_txns.Goals as goal
 
 pub loop-txn-preserved : goal.loop-txn-preserved
 loop-txn-preserved c =
-    let fits = subst (λ (txn : Txn). FitsSigned w64 txn.snapshot) c.txn-item.is c.put_txn.ensures.fits in
-    (grind (arith, common_steps), All-more (λ txn. FitsSigned w64 txn.snapshot) c.args.txns.now c.loop-txn.txn-index c.txn-item.result c.loop-txn-test.true c.loop-txn.invariant.1 fits)
+    let fits = subst (λ (txn : Txn). FitsSigned w64 txn.snapshot) c.txn-item.is c.put_txn.ensures.fits in (
+      grind (arith, common_steps),
+      All-more (λ txn. FitsSigned w64 txn.snapshot) c.args.txns.now
+          c.loop-txn.txn-index c.txn-item.result c.loop-txn-test.true c.loop-txn.invariant.1 fits,
+    )

@@ -8,5 +8,5 @@ use Rattle.wire.proofs.put.put_txns.Given as goal
 
 abbrev pub invariant-loop-txn : goal.invariant-loop-txn
 invariant-loop-txn l =
-    (l.out.items ≡ l.fn.out.items ++ flat_map txn_text (map txn_fields (take l.txn-index l.txns)))
+    (l.out.items ≡ l.fn.out.items ++ flat_map (txn_text l.version) (map txn_fields (take l.txn-index l.txns)))
     × All (λ txn. FitsSigned w64 txn.snapshot) (take l.txn-index l.txns)

@@ -6,5 +6,6 @@ use Rattle.wire.proofs.range.ranges_of.Given as goal
 
 abbrev pub invariant-loop : goal.invariant-loop
 invariant-loop l =
-    (with_front (map range_fields l.ranges.items) (many_at range_at (l.count - l.counter) l.rest) ≡ many_at range_at l.count l.bytes)
+    (with_front (map range_fields l.ranges.items) (many_at (range_at l.version) (l.count - l.counter) l.rest)
+    ≡ many_at (range_at l.version) l.count l.bytes)
     × (vec_len l.ranges ≡ l.counter)

@@ -6,5 +6,6 @@ use Rattle.wire.proofs.txn.txns_of.Given as goal
 
 abbrev pub invariant-loop : goal.invariant-loop
 invariant-loop l =
-    (with_front (map txn_fields l.txns.items) (many_at txn_at (l.count - l.counter) l.rest) ≡ many_at txn_at l.count l.bytes)
+    (with_front (map txn_fields l.txns.items) (many_at (txn_at l.version) (l.count - l.counter) l.rest)
+    ≡ many_at (txn_at l.version) l.count l.bytes)
     × (vec_len l.txns ≡ l.counter)

@@ -1,0 +1,67 @@
+-- What a chunk is seen as: slots of one size, each free or with a record. No public clause cites this module.
+use Rattle.std.specs.Prelude.{
+  ◌≡◌,
+  ℕ,
+  ◌+◌,
+  ◌*◌,
+  ◌<◌,
+  ◌≤◌,
+  nat_lt,
+  if◌then◌else◌,
+  List,
+  [],
+  ◌∷◌,
+  length,
+  take,
+  drop,
+  slice_index,
+  Option,
+  Some,
+}
+use Rattle.arena.specs.Arena.{Record, sizes}
+use Rattle.arena.specs.Entry.{LeadsTo}
+use Rattle.arena.specs.declared.entry.Entry.{Entry}
+use Rattle.arena.specs.declared.entry.Entry.TheVariants.{Free, Live}
+use Rattle.arena.specs.declared.entry.Head.{Head}
+
+-- a chunk: the size of its slots, and what each of them holds
+pub record Chunk (H : Type 0) : Type 0 where
+  pub size : ℕ
+  pub cells : List (Entry (Record H))
+
+-- what a free slot of a new chunk leads to: the next slot, and the last one to a slot of another chunk
+abbrev pub next_in : ℕ → ℕ → ℕ → Option ℕ → Option ℕ
+next_in first count index last = if nat_lt (index + 1) count then Some (first + (index + 1)) else last
+
+module _ {H : Type 0} where
+  -- the slot of this entry, whose key bytes are the first of these
+  abbrev pub cell_of : Entry (Head H) → List ℕ → Entry (Record H)
+  cell_of (Free next) bytes = Free next
+  cell_of (Live head) bytes = Live (record { header = head.header; key = take head.length bytes })
+
+  -- the slots of these entries, each with so many bytes
+  abbrev pub cells_of : List (Entry (Head H)) → ℕ → List ℕ → List (Entry (Record H))
+  cells_of [] width bytes = []
+  cells_of (e ∷ es) width bytes = cell_of e bytes ∷ cells_of es width (drop width bytes)
+
+  abbrev pub Fits : Entry (Head H) → ℕ → Type 0
+  Fits (Free _) width = Unit {0}
+  Fits (Live head) width = head.length ≤ width
+
+  -- no key is longer than its slot
+  abbrev pub AllFit : List (Entry (Head H)) → ℕ → Type 0
+  AllFit [] width = Unit {0}
+  AllFit (e ∷ es) width = Fits e width × AllFit es width
+
+  -- what a chunk keeps: its slots share all its bytes
+  pub record IsChunk (es : List (Entry (Head H))) (size width : ℕ) (bytes : List ℕ) : Type 0 where
+    pub sized : size < 10
+    pub wide : width ≡ slice_index sizes size
+    pub shared : length es * width ≡ 16384
+    pub room : length bytes ≡ 16384
+    pub fit : AllFit es width
+
+  -- all slots are free and lead on, from the first, which has this number, to the last
+  pub record IsFresh (cells : List (Entry (Record H))) (first count : ℕ) (last : Option ℕ) : Type 0 where
+    pub slots : length cells ≡ count
+    pub leads : (k : ℕ) → k < count → LeadsTo cells k (next_in first count k last)

@@ -1,0 +1,86 @@
+-- What is seen of the two ends of a lane, and *Lane*, which holds of them at every moment (this project's own).
+use Rattle.std.specs.Prelude.{◌≡◌, ℕ, ◌+◌, ◌≤◌, Bool, true, false, List, [], ◌++◌, length}
+use Rattle.atomic_table.specs.Seated.{TableId}
+
+-- the first list is a beginning of the second, which may be all of it
+abbrev pub IsBeginning : {T : Type 0} → List T → List T → Type 0
+IsBeginning {T} xs ys = (rest : List T) × (ys ≡ xs ++ rest)
+
+-- Which lane an end is of. A caller only ever compares two of them: what one is made of belongs to the
+-- representation
+pub record LaneId : Type 0 where
+  pub items : TableId
+  pub close : TableId
+
+-- the port of a lane
+pub record PortView (T : Type 0) : Type 0 where
+  pub lane : LaneId
+  pub capacity : ℕ
+  pub sent : List T
+  pub closed : Bool
+  -- how many items it has seen taken
+  pub seen_taken : ℕ
+  -- how often it has looked at the intake
+  pub looks : ℕ
+
+-- the intake of a lane
+pub record IntakeView (T : Type 0) : Type 0 where
+  pub lane : LaneId
+  pub capacity : ℕ
+  pub taken : List T
+  -- how many items it has seen sent
+  pub seen_sent : ℕ
+  -- whether it has seen the close
+  pub seen_close : Bool
+  -- how often it has looked at the port
+  pub looks : ℕ
+
+module _ {T : Type 0} where
+  -- the two ends are of one lane
+  pub record SameLane (port : PortView T) (intake : IntakeView T) : Type 0 where
+    pub lane : port.lane ≡ intake.lane
+    pub capacity : port.capacity ≡ intake.capacity
+
+  -- *Lane*, of the two ends of one lane
+  pub record Lane (port : PortView T) (intake : IntakeView T) : Type 0 where
+    -- what was taken is a beginning of what was sent
+    pub in_order : IsBeginning intake.taken port.sent
+    -- at most `capacity` items were sent and not taken
+    pub bounded : length port.sent ≤ length intake.taken + port.capacity
+    -- what an end has seen of the other isn't more than what is
+    pub seen_taken : port.seen_taken ≤ length intake.taken
+    pub seen_sent : intake.seen_sent ≤ length port.sent
+    pub seen_close : intake.seen_close ≡ true → port.closed ≡ true
+    -- an item is seen before it is taken
+    pub taken_seen : length intake.taken ≤ intake.seen_sent
+    -- where the close is seen, so is all that was sent
+    pub all_seen : intake.seen_close ≡ true → intake.seen_sent ≡ length port.sent
+
+  -- the ends of a new lane: nothing was sent, taken or seen
+  abbrev pub new_port : LaneId → ℕ → PortView T
+  new_port lane capacity =
+      record { lane = lane; capacity = capacity; sent = []; closed = false; seen_taken = 0; looks = 0 }
+
+  abbrev pub new_intake : LaneId → ℕ → IntakeView T
+  new_intake lane capacity =
+      record { lane = lane; capacity = capacity; taken = []; seen_sent = 0; seen_close = false; looks = 0 }
+
+  -- the same port later: what it has seen, and how often it looked, doesn't fall
+  pub record PortGoesOn (old new : PortView T) : Type 0 where
+    pub lane : new.lane ≡ old.lane
+    pub capacity : new.capacity ≡ old.capacity
+    pub seen_taken : old.seen_taken ≤ new.seen_taken
+    pub looks : old.looks ≤ new.looks
+
+  -- the same intake later
+  pub record IntakeGoesOn (old new : IntakeView T) : Type 0 where
+    pub lane : new.lane ≡ old.lane
+    pub capacity : new.capacity ≡ old.capacity
+    pub seen_sent : old.seen_sent ≤ new.seen_sent
+    pub seen_close : old.seen_close ≡ true → new.seen_close ≡ true
+    pub looks : old.looks ≤ new.looks
+
+  -- the intake has seen the close, and has taken all
+  pub record HasEnded (intake : IntakeView T) : Type 0 where
+    pub close : intake.seen_close ≡ true
+    pub all : length intake.taken ≡ intake.seen_sent
