@@ -1,6 +1,20 @@
 -- Sets of gaps: the list of their marks, and the words that keep them, one bit a gap.
-use Rattle.std.specs.Prelude.{◌≡◌, ℕ, ◌/◌, ◌%◌, ◌<◌, ◌≤◌, ◌==◌, Bool, false, IsTrue, List, map, slice_index,
-    slice_index_or}
+use Rattle.std.specs.Prelude.{
+  ◌≡◌,
+  ℕ,
+  ◌/◌,
+  ◌%◌,
+  ◌<◌,
+  ◌≤◌,
+  ◌==◌,
+  Bool,
+  false,
+  IsTrue,
+  List,
+  map,
+  slice_index,
+  slice_index_or,
+}
 use Rattle.std.specs.List.{range_with_len}
 use Rattle.std.specs.Int.{bit_at}
 

@@ -1,6 +1,24 @@
 -- Each batch is answered once, but for those that are held.
-use Rattle.std.proofs.Common.{◌≡◌, ℕ, zero, suc, ◌+◌, Bool, true, false, cond, List, [], ◌∷◌, ◌++◌, length,
-    refl, ap, ◌∙◌, arith}
+use Rattle.std.proofs.Common.{
+  ◌≡◌,
+  ℕ,
+  zero,
+  suc,
+  ◌+◌,
+  Bool,
+  true,
+  false,
+  cond,
+  List,
+  [],
+  ◌∷◌,
+  ◌++◌,
+  length,
+  refl,
+  ap,
+  ◌∙◌,
+  arith,
+}
 use Rattle.std.specs.Prelude.{ℤ, ◌==◌, int_lt, Option, Some, None, map, filter}
 use Rattle.std.proofs.lemmas.List.{length-append, length-map}
 use Rattle.std.proofs.lemmas.List.Elements.{filter-append}
@@ -13,8 +31,23 @@ use Rattle.keyspace.specs.Judge.{judge}
 use Rattle.keyspace.specs.Found.{found}
 use Rattle.keyspace.specs.Leaving.{Held, next_due}
 use Rattle.keyspace.specs.Laws.{Leaves, EachBatchIsAnswered, NoneIsHeldAfterFinish}
-use Rattle.keyspace.specs.Run.{State, start, Step, Take, Finish, hold, answer, process, admit, leave,
-    leave_then, step, run_from, run, part}
+use Rattle.keyspace.specs.Run.{
+  State,
+  start,
+  Step,
+  Take,
+  Finish,
+  hold,
+  answer,
+  process,
+  admit,
+  leave,
+  leave_then,
+  step,
+  run_from,
+  run,
+  part,
+}
 use Rattle.keyspace.proofs.Waiting.{next_due_leaves}
 
 -- one where the proxy is this one, else none

@@ -1,6 +1,21 @@
 -- The limits of the worked rows, from tests that compute.
-use Rattle.std.proofs.Common.{◌≡◌, ℕ, zero, suc, ◌≤◌, arith, ◌&&◌, not, true, List, [], ◌∷◌, length, nat_lt,
-    nat_le}
+use Rattle.std.proofs.Common.{
+  ◌≡◌,
+  ℕ,
+  zero,
+  suc,
+  ◌≤◌,
+  arith,
+  ◌&&◌,
+  not,
+  true,
+  List,
+  [],
+  ◌∷◌,
+  length,
+  nat_lt,
+  nat_le,
+}
 use Rattle.std.specs.Prelude.{ℤ, pos, negsuc, ◌≤ℤ◌, ◌<ℤ◌, int_lt, int_le}
 use Rattle.std.specs.List.{list_all}
 use Rattle.std.proofs.lemmas.Int.{ints}

@@ -64,7 +64,7 @@ pub record Limits : Type 0 where
   pub batch : (previous : ℤ) (version : ℕ) (received : ℤ) (txns : List Txn)
       → is_batch previous version received txns ≡ true
       → (negsuc 0 ≤ℤ previous) × (previous <ℤ pos version) × (negsuc 0 ≤ℤ received)
-          × (received <ℤ pos version)
+      × (received <ℤ pos version)
       × (length txns ≤ MAX_TXNS)
 
 -- what is answered, without the proofs of its limits
@@ -202,7 +202,7 @@ module _ (limits : Limits) where
   reads_of_three snapshot =
       sent 0 100 (txn 0 false [] (ab ∷ ef ∷ []) refl ∷ []) refl
       ∷ sent 100 200 (txn 100 false [] (cd ∷ []) refl ∷ txn snapshot true (ab ∷ cd ∷ ef ∷ []) [] refl
-          ∷ []) refl ∷ []
+      ∷ []) refl ∷ []
 
   abbrev pub left_in_turn : List Step
   left_in_turn =
@@ -229,7 +229,7 @@ module _ (limits : Limits) where
         ≡ Replied 0 [] ∷ Replied 100 (committed ∷ conflict (0 ∷ []) ∷ []) ∷ []
     pub conflict_writes_do_not_count : after_opening
         (sent 0 100 (write_ab ∷ txn 0 false (ab ∷ []) (xy ∷ []) refl ∷ txn 0 false (xy ∷ []) [] refl
-            ∷ []) refl ∷ [])
+        ∷ []) refl ∷ [])
         ≡ Replied 0 [] ∷ Replied 100 (committed ∷ conflict [] ∷ committed ∷ []) ∷ []
     pub touching_ranges_do_not_meet : after_opening
         (sent 0 100 (txn 0 false [] (bc ∷ []) refl ∷ []) refl ∷ sent 100 200 (read_ab 0 ∷ []) refl ∷ [])
@@ -242,12 +242,12 @@ module _ (limits : Limits) where
         ∷ Replied 5000100 (too_old ∷ []) ∷ []
     pub report_history_hits : after_opening (reads_of_three 50)
         ≡ Replied 0 [] ∷ Replied 100 (committed ∷ []) ∷ Replied 200 (committed ∷ conflict (0 ∷ 2 ∷ []) ∷ [])
-            ∷ []
+        ∷ []
     pub report_batch_place : after_opening (reads_of_three 100)
         ≡ Replied 0 [] ∷ Replied 100 (committed ∷ []) ∷ Replied 200 (committed ∷ conflict (1 ∷ []) ∷ []) ∷ []
     pub batch_place_skips_empty_range : after_opening
         (sent 0 100 (txn 0 false [] (range (letter 97) (letter 99) refl ∷ range (letter 101) (letter 103) refl
-            ∷ []) refl
+        ∷ []) refl
         ∷ txn 0 true (range (letter 99) (letter 101) refl ∷ range (letter 98) (letter 98) refl
         ∷ range (letter 102) (letter 104) refl ∷ []) [] refl ∷ []) refl ∷ [])
         ≡ Replied 0 [] ∷ Replied 100 (committed ∷ conflict (2 ∷ []) ∷ []) ∷ []
