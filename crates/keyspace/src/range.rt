@@ -2,6 +2,7 @@ ghost use Rattle.std.specs.Prelude.{◌≡◌, ◌↔◌, IfOk, IsTrue};
 ghost use Rattle.keyspace.specs.Key.{IsKey, IsAtMost};
 
 use crate::key::Key;
+use crate::range_ref::RangeRef;
 use std::alloc::{AllocError, Global};
 
 /// The half-open range `[begin, end)`; empty if the two are equal. `begin` isn't after `end`.
@@ -26,6 +27,13 @@ impl Range {
         let _ = begin.as_bytes();
         let _ = end.as_bytes();
         Range { begin, end }
+    }
+
+    /// Borrows the range, without copying its keys.
+    pub fn as_ref(&self) -> RangeRef<'_>
+        ensures range { result ≡ self.now }
+    {
+        RangeRef::new(self.begin.as_bytes(), self.end.as_bytes())
     }
 
     /// Returns `true` if the range holds no key.

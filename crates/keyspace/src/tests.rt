@@ -10,6 +10,15 @@ fn key(alloc: Global, bytes: &[u8]) -> Result<Key, Fail> {
     Ok(Key::new(bytes))
 }
 
+fn a_to_b(alloc: Global) -> Result<Range, Fail> {
+    let begin = key(alloc, b"a")?;
+    let end = key(alloc, b"b")?;
+    if end < begin {
+        return Err("a range that ends before it begins")?;
+    }
+    Ok(Range::new(begin, end))
+}
+
 #[test]
 fn copies_a_key(rt: HostRuntime) -> Result<(), Fail> {
     let alloc = rt.alloc();
@@ -19,14 +28,18 @@ fn copies_a_key(rt: HostRuntime) -> Result<(), Fail> {
 }
 
 #[test]
+fn borrows_a_range(rt: HostRuntime) -> Result<(), Fail> {
+    let range = a_to_b(rt.alloc())?;
+    let borrowed = range.as_ref();
+    assert_eq!(rt; borrowed.begin(), b"a".as_slice());
+    assert_eq!(rt; borrowed.end(), b"b".as_slice());
+    Ok(())
+}
+
+#[test]
 fn copies_a_range(rt: HostRuntime) -> Result<(), Fail> {
     let alloc = rt.alloc();
-    let begin = key(alloc, b"a")?;
-    let end = key(alloc, b"b")?;
-    if end < begin {
-        return Err("a range that ends before it begins")?;
-    }
-    let range = Range::new(begin, end);
+    let range = a_to_b(alloc)?;
     let copied = range.copy(alloc)?;
     assert_eq!(rt; copied.begin.as_bytes(), b"a".as_slice());
     assert_eq!(rt; copied.end.as_bytes(), b"b".as_slice());

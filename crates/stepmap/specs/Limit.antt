@@ -1,8 +1,7 @@
 -- How a step map stays within its limit. This project's own.
-use Rattle.std.specs.Prelude.{ℕ, ℤ, ◌+◌, ◌*◌, ◌≤◌, nat_le, if◌then◌else◌, List, [], ◌∷◌, length, map, None}
-use Rattle.keyspace.specs.declared.range.Range.{Range}
+use Rattle.std.specs.Prelude.{ℕ, ℤ, ◌+◌, ◌*◌, ◌≤◌, nat_le, if◌then◌else◌, List, [], ◌∷◌, length, None}
 use Rattle.stepmap.specs.Boundary.{Boundary}
-use Rattle.stepmap.specs.StepMap.{Steps, lengths}
+use Rattle.stepmap.specs.StepMap.{Steps}
 use Rattle.stepmap.specs.Sweeping.{thinned}
 
 -- so many ranges can be written: the boundaries, and two for each range, are within the limit
@@ -22,6 +21,6 @@ after_round m = record m { boundaries = thinned_all m.edge m.boundaries; round =
 abbrev pub made_room : ℕ → Steps → Steps
 made_room ranges m = if nat_le (length m.boundaries + 2 * ranges) m.limit then m else after_round m
 
--- the step map after that, with these ranges ready to be written
-abbrev pub prepared : List Range → Steps → Steps
-prepared ranges m = record (made_room (length ranges) m) { ready = map lengths ranges }
+-- the step map after that, with ranges of these lengths ready to be written
+abbrev pub prepared : List (ℕ × ℕ) → Steps → Steps
+prepared lengths m = record (made_room (length lengths) m) { ready = lengths }

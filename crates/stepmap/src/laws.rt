@@ -17,7 +17,8 @@ pub fn counts()
     ensures along { CountedAlong }
 {}
 
-/// Ranges that were prepared together may be written one after the other; then all of them are written.
+/// Ranges in order and apart, whose lengths were prepared together, may be written one after the other; then all of them
+/// are written.
 pub fn writing()
     ensures in_turn { ApartWriteInTurn }
     ensures later { UpToLater }

@@ -14,6 +14,7 @@ mod boundary;
 mod error;
 mod greatest;
 mod indexes;
+mod key_lengths;
 pub mod laws;
 mod room;
 mod step_map;
@@ -21,6 +22,7 @@ mod thinning;
 mod writing;
 
 pub use error::StepError;
+pub use key_lengths::KeyLengths;
 pub use step_map::{MAX_LIMIT, StepMap, SweepEnd};
 
 #[cfg(test)]

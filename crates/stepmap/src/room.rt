@@ -1,7 +1,8 @@
-ghost use Rattle.std.specs.Prelude.{◌≡◌, map, IfOk, OnOk};
+ghost use Rattle.std.specs.Prelude.{◌≡◌, IfOk, OnOk};
 ghost use Rattle.stepmap.specs.StepMap.{lengths};
 
-use keyspace::{Key, Range};
+use crate::key_lengths::KeyLengths;
+use keyspace::{Key, RangeRef};
 use std::alloc::{AllocError, Global};
 use std::collections::VecDeque;
 use std::marker::Model;
@@ -24,40 +25,40 @@ impl Model for Room {
 }
 
 impl Room {
-    // Takes memory for the bytes of the range's begin and end.
-    pub fn new(alloc: Global, range: &Range) -> Result<Self, AllocError>
-        ensures lengths { IfOk result (λ room. room ≡ lengths range.now) }
+    // Takes memory for a begin and an end of these lengths.
+    pub fn new(alloc: Global, lengths: KeyLengths) -> Result<Self, AllocError>
+        ensures lengths { IfOk result (λ room. room ≡ lengths) }
     {
-        let begin = Vec::with_capacity(alloc, range.begin.as_bytes().len())?;
-        let end = Vec::with_capacity(alloc, range.end.as_bytes().len())?;
+        let begin = Vec::with_capacity(alloc, lengths.begin())?;
+        let end = Vec::with_capacity(alloc, lengths.end())?;
         Ok(Room { begin, end })
     }
 
     // Returns the range's begin and end, with bytes of their own. It takes no memory.
-    pub fn fill(self, range: &Range) -> (Key, Key)
+    pub fn fill(self, range: &RangeRef<'_>) -> (Key, Key)
         requires lengths { self ≡ lengths range.now }
         ensures begin { result.0 ≡ range.now.begin }
         ensures end { result.1 ≡ range.now.end }
     {
         let mut begin = self.begin;
         let mut end = self.end;
-        begin.extend_from_slice(range.begin.as_bytes()).unwrap();
-        end.extend_from_slice(range.end.as_bytes()).unwrap();
+        begin.extend_from_slice(range.begin()).unwrap();
+        end.extend_from_slice(range.end()).unwrap();
         (Key::new(begin), Key::new(end))
     }
 }
 
-// Replaces what there is by room for the begins and ends of the ranges, in order.
+// Replaces what there is by room for begins and ends of these lengths, in order.
 pub fn make_rooms(
     rooms: &mut VecDeque<Room>,
     alloc: Global,
-    ranges: &[Range],
+    lengths: &[KeyLengths],
 ) -> Result<(), AllocError>
-    ensures lengths { OnOk result (rooms.new.items ≡ map lengths ranges.now) }
+    ensures lengths { OnOk result (rooms.new.items ≡ lengths.now) }
 {
     rooms.clear();
-    for range in ranges {
-        rooms.push_back(Room::new(alloc, range)?)?;
+    for pair in lengths {
+        rooms.push_back(Room::new(alloc, *pair)?)?;
     }
     Ok(())
 }

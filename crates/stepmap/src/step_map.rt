@@ -1,12 +1,12 @@
 ghost use Rattle.std.specs.Prelude.{◌≡◌, ℕ, ◌+◌, ◌*◌, ◌≤◌, ◌<◌, nat_le, ℤ, negsuc, ◌≤ℤ◌, ◌↔◌};
-ghost use Rattle.std.specs.Prelude.{List, [], length, map, slice_get, Some, None, Err};
+ghost use Rattle.std.specs.Prelude.{List, [], length, slice_get, Some, None, Err};
 ghost use Rattle.std.specs.Prelude.{IfOk, OnOk, OnErr, IfErr, IsTrue};
 ghost use Rattle.keyspace.specs.Key.{IsBytes};
 ghost use Rattle.keyspace.specs.Range.{Holds, IsEmpty};
 ghost use Rattle.keyspace.specs.Writes.{Write, with_write};
 ghost use Rattle.stepmap.specs.Boundary.{value_at, AreUpTo};
 ghost use Rattle.stepmap.specs.StepMap.{lengths, new_map, AreSteps};
-ghost use Rattle.stepmap.specs.Writing.{AreApart, after_write};
+ghost use Rattle.stepmap.specs.Writing.{after_write};
 ghost use Rattle.stepmap.specs.Sweeping.{rest, round_edge, at_front, after_sweep};
 ghost use Rattle.stepmap.specs.Limit.{HasRoomFor, after_round, made_room, prepared};
 ghost use Rattle.stepmap.specs.Covers.{SameFrom, MapCovers, IsAbove};
@@ -17,10 +17,11 @@ use crate::boundary::Boundary;
 use crate::error::StepError;
 use crate::greatest::{greatest_version, is_above};
 use crate::indexes::{index_left, version_at};
+use crate::key_lengths::KeyLengths;
 use crate::room::{Room, make_rooms};
 use crate::thinning::thin;
 use crate::writing::write_range;
-use keyspace::{Key, MAX_KEY_LENGTH, Range};
+use keyspace::{Key, MAX_KEY_LENGTH, Range, RangeRef};
 use std::alloc::{AllocError, Global};
 use std::collections::VecDeque;
 use std::marker::Model;
@@ -128,18 +129,17 @@ impl StepMap {
         self.boundaries.len()
     }
 
-    /// Takes all the memory that writing the ranges needs, in place of what was taken before. The ranges are those to be
-    /// written next, in key order; they, or others whose ends have the same lengths, can then be written. Where the
-    /// boundaries, and two for each range, exceed the limit, it sweeps a whole round from the front first.
+    /// Takes all the memory that writing ranges with keys of these lengths needs, in place of what was taken before. Such
+    /// ranges can then be written, in this order. Where the boundaries, and two for each range, exceed the limit, it
+    /// sweeps a whole round from the front first.
     ///
     /// Returns `Full` where they still exceed it, before any memory is taken, and `Memory` where a growth is refused.
     /// After either no range is ready; the function says the same as before at and above the edge.
-    pub fn prepare(&mut self, ranges: &[Range]) -> Result<(), StepError>
-        requires apart { AreApart ranges.now }
-        ensures ok { OnOk result (self.new ≡ prepared ranges.now self.old) }
-        ensures err { OnErr result (self.new ≡ record (prepared ranges.now self.old) { ready = [] }) }
+    pub fn prepare(&mut self, lengths: &[KeyLengths]) -> Result<(), StepError>
+        ensures ok { OnOk result (self.new ≡ prepared lengths.now self.old) }
+        ensures err { OnErr result (self.new ≡ record (prepared lengths.now self.old) { ready = [] }) }
         ensures full { (result ≡ Err StepError.Full)
-            ↔ ¬ HasRoomFor (length ranges.now) (made_room (length ranges.now) self.old) }
+            ↔ ¬ HasRoomFor (length lengths.now) (made_room (length lengths.now) self.old) }
         ensures steps { AreSteps self.new }
         ensures edge { self.new.edge ≡ self.old.edge }
         ensures limit { self.new.limit ≡ self.old.limit }
@@ -148,47 +148,47 @@ impl StepMap {
             → AreUpTo version self.old.boundaries → AreUpTo version self.new.boundaries }
         ensures covers { (ws : List Write) → MapCovers self.old ws → MapCovers self.new ws }
         ensures rooted { (ws : List Write) → Rooted self.old ws → Rooted self.new ws }
-        ensures untouched { HasRoomFor (length ranges.now) self.old
+        ensures untouched { HasRoomFor (length lengths.now) self.old
             → self.new ≡ record self.old { ready = self.new.ready } }
-        ensures front { ¬ HasRoomFor (length ranges.now) self.old → self.new.round ≡ None }
-        ensures ends { ¬ HasRoomFor (length ranges.now) self.old → (ws : List Write) → Rooted self.old ws
+        ensures front { ¬ HasRoomFor (length lengths.now) self.old → self.new.round ≡ None }
+        ensures ends { ¬ HasRoomFor (length lengths.now) self.old → (ws : List Write) → Rooted self.old ws
             → Ends self.new.boundaries ws self.old.edge }
         ensures bound { result ≡ Err StepError.Full → (ws : List Write) → Rooted self.old ws
-            → self.old.limit < 1 + 2 * (live_count self.old.edge ws + length ranges.now) }
+            → self.old.limit < 1 + 2 * (live_count self.old.edge ws + length lengths.now) }
     {
-        self.make_room(ranges.len());
-        if !self.has_room_for(ranges.len()) {
+        self.make_room(lengths.len());
+        if !self.has_room_for(lengths.len()) {
             self.rooms.clear();
             return Err(StepError::Full);
         }
-        self.reserve(ranges)?;
+        self.reserve(lengths)?;
         Ok(())
     }
 
-    /// Sets the version on the range; elsewhere the function stays as it is. The range is the next one prepared, or one
-    /// whose ends are as long. It takes no memory.
-    pub fn write(&mut self, range: &Range, version: i64)
-        requires filled { ¬ IsEmpty range.now }
-        requires ready { slice_get self.old.ready 0 ≡ Some (lengths range.now) }
+    /// Sets the version on the range; elsewhere the function stays as it is. The range's keys have the lengths that were
+    /// prepared next. It takes no memory: the keys are copied into what was taken.
+    pub fn write(&mut self, range: RangeRef<'_>, version: i64)
+        requires filled { ¬ IsEmpty range }
+        requires ready { slice_get self.old.ready 0 ≡ Some (lengths range) }
         requires newest { AreUpTo version self.old.boundaries }
         requires late { self.old.edge ≤ℤ version }
-        ensures map { self.new ≡ after_write range.now version self.old }
-        ensures on_range { (key : List ℕ) → Holds range.now key → value_at self.new.boundaries key ≡ version }
-        ensures elsewhere { (key : List ℕ) → ¬ Holds range.now key
+        ensures map { self.new ≡ after_write range.entry version self.old }
+        ensures on_range { (key : List ℕ) → Holds range.entry key → value_at self.new.boundaries key ≡ version }
+        ensures elsewhere { (key : List ℕ) → ¬ Holds range.entry key
             → value_at self.new.boundaries key ≡ value_at self.old.boundaries key }
         ensures newest { AreUpTo version self.new.boundaries }
         ensures covers { (ws : List Write)
-            → MapCovers self.old ws → MapCovers self.new (with_write ws range.now version) }
+            → MapCovers self.old ws → MapCovers self.new (with_write ws range.entry version) }
         ensures rooted { (ws : List Write)
-            → Rooted self.old ws → Rooted self.new (with_write ws range.now version) }
+            → Rooted self.old ws → Rooted self.new (with_write ws range.entry version) }
         ensures ends { (ws : List Write) (edge : ℤ) → edge ≤ℤ version → Ends self.old.boundaries ws edge
-            → Ends self.new.boundaries (with_write ws range.now version) edge }
+            → Ends self.new.boundaries (with_write ws range.entry version) edge }
         ensures rest { rest self.new ≤ rest self.old + 2 }
         ensures count { length self.new.boundaries ≤ length self.old.boundaries + 2 }
     {
         let room = self.rooms.pop_front().unwrap();
-        let (begin, end) = room.fill(range);
-        write_range(&mut self.boundaries, range, begin, end, version);
+        let (begin, end) = room.fill(&range);
+        write_range(&mut self.boundaries, &range, begin, end, version);
     }
 
     /// Raises the edge to this one. Nothing else changes. It takes no memory.
@@ -272,15 +272,15 @@ impl StepMap {
         self.cursor.clear();
     }
 
-    // Takes the memory that the writing of the ranges needs, in place of what was taken before.
-    fn reserve(&mut self, ranges: &[Range]) -> Result<(), AllocError>
-        requires room { HasRoomFor (length ranges.now) self.old }
-        ensures ok { OnOk result (self.new ≡ record self.old { ready = map lengths ranges.now }) }
+    // Takes the memory that writing ranges with keys of these lengths needs, in place of what was taken before.
+    fn reserve(&mut self, lengths: &[KeyLengths]) -> Result<(), AllocError>
+        requires room { HasRoomFor (length lengths.now) self.old }
+        ensures ok { OnOk result (self.new ≡ record self.old { ready = lengths.now }) }
         ensures err { OnErr result (self.new ≡ record self.old { ready = [] }) }
     {
-        let made = make_rooms(&mut self.rooms, self.alloc, ranges);
+        let made = make_rooms(&mut self.rooms, self.alloc, lengths);
         let reserved = match made {
-            Ok(()) => self.boundaries.reserve(2 * ranges.len()),
+            Ok(()) => self.boundaries.reserve(2 * lengths.len()),
             Err(refused) => Err(refused),
         };
         if reserved.is_err() {

@@ -3,7 +3,7 @@ ghost use Rattle.std.specs.Prelude.{◌≡◌, ◌≤◌, ℤ, ◌≤ℤ◌, pos
 ghost use Rattle.keyspace.specs.Key.{IsBefore, IsAtMost};
 ghost use Rattle.stepmap.specs.Boundary.{AreUpTo};
 
-use crate::{MAX_LIMIT, StepError, StepMap, SweepEnd};
+use crate::{KeyLengths, MAX_LIMIT, StepError, StepMap, SweepEnd};
 use keyspace::{Key, MAX_KEY_LENGTH, Range};
 use std::alloc::Global;
 use std::process::Abort;
@@ -42,12 +42,12 @@ fn put(
     ensures newest { OnOk result ((later : ℤ) → version ≤ℤ later → AreUpTo later map.new.boundaries) }
     ensures edge { OnOk result (map.new.edge ≡ map.old.edge) }
 {
-    let ranges = [range];
-    if map.prepare(&ranges).is_err() {
+    let lengths = [KeyLengths::of(range.as_ref())];
+    if map.prepare(&lengths).is_err() {
         assert_at(rt, map, before);
-        map.prepare(&ranges)?;
+        map.prepare(&lengths)?;
     }
-    map.write(&ranges[0], version);
+    map.write(range.as_ref(), version);
     Ok(())
 }
 // [a,d) written at 100, then [b,c) at 200.
@@ -183,11 +183,11 @@ fn greatest_versions(rt: HostRuntime) -> Result<(), Fail> {
 #[test]
 fn limit_three_step_map(rt: HostRuntime) -> Result<(), Fail> {
     let alloc = rt.alloc();
-    let first = [range(alloc, b"a", b"b")?];
-    let second = [range(alloc, b"c", b"d")?];
+    let first = range(alloc, b"a", b"b")?;
+    let second = [KeyLengths::of(range(alloc, b"c", b"d")?.as_ref())];
     let mut map = StepMap::new(alloc, 3)?;
-    map.prepare(&first)?;
-    map.write(&first[0], 100);
+    map.prepare(&[KeyLengths::of(first.as_ref())])?;
+    map.write(first.as_ref(), 100);
     assert_eq!(rt; map.prepare(&second), Err(StepError::Full));
     assert_eq!(rt; map.boundaries(), 3);
     assert_eq!(rt; map.at(b"a"), 100);

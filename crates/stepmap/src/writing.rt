@@ -6,7 +6,7 @@ ghost use Rattle.stepmap.specs.Writing.{closed_at, written};
 
 use crate::boundary::Boundary;
 use crate::indexes::index_of;
-use keyspace::{Key, Range};
+use keyspace::{Key, RangeRef};
 
 // Removes `boundaries[from..to]`.
 pub fn remove_between(boundaries: &mut Vec<Boundary>, from: usize, to: usize)
@@ -37,7 +37,7 @@ pub fn close_at(boundaries: &mut Vec<Boundary>, at: usize, key: Key, version: i6
 // Writes the version on the range. `begin` and `end` are its two keys, with bytes of their own. It takes no memory.
 pub fn write_range(
     boundaries: &mut Vec<Boundary>,
-    range: &Range,
+    range: &RangeRef<'_>,
     begin: Key,
     end: Key,
     version: i64,
@@ -50,8 +50,8 @@ pub fn write_range(
     ensures items { boundaries.new.items ≡ written range.now version boundaries.old.items }
     ensures capacity { vec_capacity boundaries.old ≤ vec_capacity boundaries.new }
 {
-    let from = index_of(boundaries, range.begin.as_bytes());
-    let to = index_of(boundaries, range.end.as_bytes());
+    let from = index_of(boundaries, range.begin());
+    let to = index_of(boundaries, range.end());
     let at_end = boundaries[to - 1].version();
     remove_between(boundaries, from, to);
     close_at(boundaries, from, end, at_end);

@@ -1,6 +1,5 @@
-use Rattle.std.proofs.Common.{◌≡◌, map, take}
-use Rattle.stepmap.specs.StepMap.{lengths}
+use Rattle.std.proofs.Common.{◌≡◌, take}
 use Rattle.stepmap.proofs.room.make_rooms.Given as goal
 
-abbrev pub invariant-loop-range : goal.invariant-loop-range
-invariant-loop-range l = l.rooms.items ≡ map lengths (take l.range-index l.ranges)
+abbrev pub invariant-loop-pair : goal.invariant-loop-pair
+invariant-loop-pair l = l.rooms.items ≡ take l.pair-index l.lengths

@@ -18,8 +18,8 @@ ordered c =
     c.index_of-to.result
     (rw c.deref.ensures.value at c.index_of-from.ensures.bound)
     (rw c.deref-2.ensures.value at c.index_of-to.ensures.bound)
-    (rw (c.deref.ensures.value, c.as_bytes.ensures.bytes) at c.index_of-from.ensures.before)
-    (rw (c.deref-2.ensures.value, c.as_bytes-2.ensures.bytes) at c.index_of-to.ensures.before)
+    (rw (c.deref.ensures.value, c.begin.ensures.bytes) at c.index_of-from.ensures.before)
+    (rw (c.deref-2.ensures.value, c.end.ensures.bytes) at c.index_of-to.ensures.before)
 
 pub remove_between-requires-clause-ordered : goal.remove_between-requires-clause-ordered
 remove_between-requires-clause-ordered c =
@@ -58,7 +58,7 @@ returns-clause-items c =
     rw c.unwrap.ensures at c.insert.ensures.items ∙ ap (insert closed from) new_is in
     let to_in : to ≤ length bs = rw c.deref-2.ensures.value at c.index_of-to.ensures.bound in
     let to_is : take to bs ≡ below range.end bs =
-    rw (c.deref-2.ensures.value, c.as_bytes-2.ensures.bytes) at c.index_of-to.ensures.before in
+    rw (c.deref-2.ensures.value, c.end.ensures.bytes) at c.index_of-to.ensures.before in
     let fits : SFits w64 c.version-at_end.result = search rules in
     let last = c.version-at_end.ensures.version
     ∙ sym (last_before (negsuc 0) bs to c.index.result.now
@@ -66,9 +66,9 @@ returns-clause-items c =
     items ∙ replaced range c.args.version c.version-at_end.result bs
     (rising_in_order bs c.requires.in_order) from to
     (rw c.deref.ensures.value at c.index_of-from.ensures.bound)
-    (rw (c.deref.ensures.value, c.as_bytes.ensures.bytes) at c.index_of-from.ensures.before)
+    (rw (c.deref.ensures.value, c.begin.ensures.bytes) at c.index_of-from.ensures.before)
     to_is
-    (rw (c.deref-2.ensures.value, c.as_bytes-2.ensures.bytes) at c.index_of-to.ensures.rest)
+    (rw (c.deref-2.ensures.value, c.end.ensures.bytes) at c.index_of-to.ensures.rest)
     last
     c.remove_between.new.boundaries.items c.remove_between.ensures.items
     closed (c.close_at.ensures.items

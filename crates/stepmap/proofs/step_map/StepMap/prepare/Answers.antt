@@ -1,5 +1,5 @@
-use Rattle.std.proofs.Common.{[], map, length, sym, ◌∙◌, ap, subst}
-use Rattle.stepmap.specs.StepMap.{Steps, lengths}
+use Rattle.std.proofs.Common.{[], length, sym, ◌∙◌, ap, subst}
+use Rattle.stepmap.specs.StepMap.{Steps}
 use Rattle.stepmap.specs.Limit.{HasRoomFor, made_room}
 use Rattle.stepmap.specs.Kept.{steps_of}
 use Rattle.stepmap.proofs.Preparing.{RoomKeeps, prepare_keeps, no_room_if, full_bound}
@@ -8,13 +8,13 @@ use Rattle.stepmap.proofs.step_map.StepMap.prepare.Goals.{After-clear, After-fro
 
 -- where there is no room
 full : (c : After-clear)
-    → RoomKeeps (length c.args.ranges.now) c.args.self.now
+    → RoomKeeps (length c.args.lengths.now) c.args.self.now
     (steps_of c.self.inside.boundaries.items c.self.inside.edge c.clear.new.self.items
     c.self.inside.cursor.items c.self.inside.round c.self.inside.limit)
 full c =
     let i = c.self.inside in
     prepare_keeps
-    (length c.args.ranges.now) c.clear.new.self.items c.args.self.now c.make_room.ensures.steps
+    (length c.args.lengths.now) c.clear.new.self.items c.args.self.now c.make_room.ensures.steps
     c.make_room.new.self _ c.make_room.ensures.map
     (ap (λ (m : Steps). record m { ready = c.clear.new.self.items }) c.self.view_is)
 
@@ -57,7 +57,7 @@ returns-then-not-has_room_for-clause-ends c =
 pub returns-then-not-has_room_for-clause-bound : goal.returns-then-not-has_room_for-clause-bound
 returns-then-not-has_room_for-clause-bound c =
     let old = c.args.self.now in
-    let n = length c.args.ranges.now in
+    let n = length c.args.lengths.now in
     let test = sym c.has_room_for.ensures.room ∙ c.if-not-has_room_for.true in
     let none : ¬ HasRoomFor n (made_room n old) =
     subst (λ (m : Steps). ¬ HasRoomFor n m) c.make_room.ensures.map
@@ -65,10 +65,10 @@ returns-then-not-has_room_for-clause-bound c =
     λ _ ws r. full_bound n old c.make_room.ensures.steps none ws r
 
 -- where memory was refused
-refused : (c : After-from_residual) → RoomKeeps (length c.args.ranges.now) c.args.self.now c.reserve.new.self
+refused : (c : After-from_residual) → RoomKeeps (length c.args.lengths.now) c.args.self.now c.reserve.new.self
 refused c =
     prepare_keeps
-    (length c.args.ranges.now) [] c.args.self.now c.make_room.ensures.steps c.make_room.new.self
+    (length c.args.lengths.now) [] c.args.self.now c.make_room.ensures.steps c.make_room.new.self
     c.reserve.new.self c.make_room.ensures.map c.in_err-reserve.ensures.err
 
 pub returns-in_err-reserve-clause-same : goal.returns-in_err-reserve-clause-same
@@ -108,10 +108,10 @@ returns-in_err-reserve-clause-ends c =
     (refused (goal.at.returns-in_err-reserve-clause-ends c).After-from_residual).ends
 
 -- where all is ready
-ready : (c : In_ok-reserve) → RoomKeeps (length c.args.ranges.now) c.args.self.now c.reserve.new.self
+ready : (c : In_ok-reserve) → RoomKeeps (length c.args.lengths.now) c.args.self.now c.reserve.new.self
 ready c =
-    prepare_keeps (length c.args.ranges.now)
-    (map lengths c.args.ranges.now) c.args.self.now c.make_room.ensures.steps c.make_room.new.self
+    prepare_keeps (length c.args.lengths.now)
+    c.args.lengths.now c.args.self.now c.make_room.ensures.steps c.make_room.new.self
     c.reserve.new.self c.make_room.ensures.map c.in_ok-reserve.ensures.ok
 
 pub returns-clause-same : goal.returns-clause-same

@@ -21,7 +21,7 @@ new_map c = record {
       c.self.inside.limit;
 }
 
-new_is : (c : After-write_range) → new_map c ≡ after_write c.args.range.now c.args.version c.args.self.now
+new_is : (c : After-write_range) → new_map c ≡ after_write c.args.range c.args.version c.args.self.now
 unfolding new_map
 new_is c =
     ap (λ (xs : List Boundary). record {
@@ -33,27 +33,27 @@ new_is c =
       limit =
           c.self.inside.limit;
     }) (c.write_range.ensures.items
-    ∙ ap (λ v. written c.args.range.now v c.self.inside.boundaries.items)
+    ∙ ap (λ v. written c.args.range v c.self.inside.boundaries.items)
     (to_z-of_z w64 c.args.version c.ranges.version))
     ∙ ap (λ (rs : List (ℕ × ℕ)). record {
       boundaries =
-          written c.args.range.now c.args.version c.self.inside.boundaries.items;
+          written c.args.range c.args.version c.self.inside.boundaries.items;
       edge = c.self.inside.edge;
       ready = rs;
       round = round_of c.self.inside.cursor.items c.self.inside.round;
       limit =
           c.self.inside.limit;
     }) c.pop_front.ensures.rest
-    ∙ ap (after_write c.args.range.now c.args.version) c.self.view_is
+    ∙ ap (after_write c.args.range c.args.version) c.self.view_is
 
 -- one range at least is ready
 some_ready : (c : After-write_range) → 0 < length c.args.self.now.ready
-some_ready c = slice_get_within c.args.self.now.ready 0 (lengths c.args.range.now) c.requires.ready
+some_ready c = slice_get_within c.args.self.now.ready 0 (lengths c.args.range) c.requires.ready
 
-keeps : (c : After-write_range) → WriteKeeps c.args.range.now c.args.version c.args.self.now (new_map c)
+keeps : (c : After-write_range) → WriteKeeps c.args.range c.args.version c.args.self.now (new_map c)
 unfolding new_map
 keeps c =
-    write_keeps c.args.range.now c.requires.filled c.args.version c.args.self.now
+    write_keeps c.args.range c.requires.filled c.args.version c.args.self.now
     (subst AreSteps c.self.view_is c.self.invariant.steps) c.requires.newest c.requires.late (some_ready c)
     (new_map c) (new_is c)
 
