@@ -1,5 +1,6 @@
 //! The ends of the ranges of a batch, sorted and made distinct, and the ranks of keys among them.
-ghost use Rattle.std.specs.Prelude.{◌≡◌, ◌↔◌, ◌≤◌, ◌++◌, List, ℕ, [], length, All, Contains, OnOk};
+ghost use Rattle.std.specs.Prelude.{◌≡◌, ◌↔◌, ◌<◌, ◌≤◌, ◌++◌, List, ℕ, [], length, slice_get, All, Contains, OnOk};
+ghost use Rattle.keyspace.specs.Key.{IsKey};
 ghost use Rattle.keyspace.specs.declared.batch.TheConstants.{MAX_TXNS};
 ghost use Rattle.keyspace.specs.declared.txn.TheConstants.{MAX_RANGES};
 ghost use Rattle.stepmap.specs.Uniting.{IsEndIn};
@@ -71,6 +72,7 @@ impl Ends {
             (open_ranges batch.now.txns entries.now)) }
         ensures only { OnOk result (All (IsEndIn (open_ranges batch.now.txns entries.now))
             (keys_of batch.now.txns self.new)) }
+        ensures keys { OnOk result (All IsKey (keys_of batch.now.txns self.new)) }
     {
         let txns = batch.txns.as_slice();
         self.ends.clear();
@@ -84,6 +86,14 @@ impl Ends {
         ensures count { result ≡ length self.now }
     {
         self.ends.len()
+    }
+
+    /// Returns the key of the end at the index. The batch is the one that the ends were gathered of.
+    pub fn key<'a>(&self, batch: &'a Batch, index: usize) -> &'a [u8]
+        requires within { index < length self.now }
+        ensures key { slice_get (keys_of batch.now.txns self.now) index ≡ Some result.now }
+    {
+        key_of(batch.txns.as_slice(), &self.ends[index])
     }
 
     /// Returns the ranks of the range's begin and of its end: the run of gaps that it covers. The batch is the one

@@ -2,6 +2,7 @@ ghost use Rattle.std.specs.Prelude.{◌≡◌};
 ghost use Rattle.conflict.specs.declared.error.SetStop.TheVariants.{Memory};
 
 use std::alloc::AllocError;
+use stepmap::StepError;
 use thiserror::Error;
 
 /// Why a conflict set resolves no more batches.
@@ -20,5 +21,18 @@ impl From<AllocError> for SetStop {
 
     fn from(_refused: AllocError) -> SetStop {
         SetStop::Memory
+    }
+}
+
+impl From<StepError> for SetStop {
+    ghost use Rattle.conflict.specs.ConflictSet.{stop_of};
+
+    ghost from_gives = { λ error stop. stop ≡ stop_of error };
+
+    fn from(error: StepError) -> SetStop {
+        match error {
+            StepError::Memory => SetStop::Memory,
+            StepError::Full => SetStop::ArenaFull,
+        }
     }
 }

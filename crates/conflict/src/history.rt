@@ -72,3 +72,6 @@ pub fn judge_by_history(
     let places = hit_places(alloc, map, txn)?;
     Ok(Entry::new(Verdict::Conflict, places))
 }
+
+#[cfg(test)]
+mod tests;

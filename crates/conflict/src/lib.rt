@@ -1,16 +1,28 @@
 //! Verdicts and reports of a batch, over the step map that remembers committed writes.
 //!
-//! The parts of which the conflict set will be made: [`history`] judges a transaction by the history alone, [`ends`] sorts the
-//! ends of the ranges that are still open and tells the run of gaps that a range covers, [`gaps`] keeps the gaps that the
-//! batch has written, and [`union`] unites what it commits. [`laws`] says what ties them to the reference definitions. The
-//! conflict set itself, which is what a layer above may use, is still to come.
+//! [`ConflictSet::resolve`] judges a batch after all writes that the set remembers, and remembers what the batch
+//! commits. First `history` judges each transaction by the history alone. For those that are left, `ends` sorts the ends
+//! of their ranges and makes each range a run of gaps. `in_batch` judges them in order, by the gaps that earlier ones
+//! wrote, which `gaps` keeps. The runs of these gaps are the `union` of what the batch commits, and `writing` writes it.
+//! `laws` ties these parts to the reference definitions.
+//!
+//! The layer above may use the contracts of [`ConflictSet`] alone, which see it as its window, the greatest version
+//! resolved, its step map and its stop.
 #![tactic(auto)]
 
-pub mod ends;
+mod conflict_set;
+mod ends;
 mod error;
-pub mod gaps;
-pub mod history;
-pub mod laws;
-pub mod union;
+#[cfg(test)]
+mod fixtures;
+mod gaps;
+mod history;
+mod in_batch;
+mod judging;
+mod laws;
+mod scratch;
+mod union;
+mod writing;
 
+pub use conflict_set::{ConflictSet, MAX_WINDOW};
 pub use error::SetStop;

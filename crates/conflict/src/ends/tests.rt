@@ -4,59 +4,20 @@ ghost use Rattle.conflict.specs.Ranks.{AreRising};
 ghost use Rattle.conflict.specs.Gathered.{keys_of};
 
 use super::*;
-use keyspace::{Key, MAX_KEY_LENGTH, MAX_RANGES, MAX_TXNS, Places, Sequence};
+use crate::fixtures::{batch, entry, key, range, ranges, txn};
+use keyspace::Key;
 use std::alloc::Global;
 use std::process::Abort;
 use std::test::Fail;
-
-fn key(alloc: Global, bytes: &[u8]) -> Result<Key, Fail> {
-    let bytes = Vec::from_slice(alloc, bytes)?;
-    if bytes.len() > MAX_KEY_LENGTH {
-        return Err("a key that is too long")?;
-    }
-    Ok(Key::new(bytes))
-}
-
-fn range(begin: Key, end: Key) -> Result<Range, Fail> {
-    if end < begin {
-        return Err("a range that ends before it begins")?;
-    }
-    Ok(Range::new(begin, end))
-}
-
-fn ranges(alloc: Global, ends: &[(&[u8], &[u8])]) -> Result<Vec<Range>, Fail> {
-    let mut ranges = Vec::new(alloc);
-    for (begin, end) in ends {
-        ranges.push(range(key(alloc, begin)?, key(alloc, end)?)?)?;
-    }
-    Ok(ranges)
-}
-
-fn txn(reads: Vec<Range>, writes: Vec<Range>) -> Result<Txn, Fail> {
-    if reads.len() > MAX_RANGES || writes.len() > MAX_RANGES {
-        return Err("too many ranges")?;
-    }
-    Ok(Txn::new(0, false, Sequence::new(reads), Sequence::new(writes)))
-}
-
-fn batch(txns: Vec<Txn>) -> Result<Batch, Fail> {
-    if txns.len() > MAX_TXNS {
-        return Err("too many transactions")?;
-    }
-    Ok(Batch::new(-1, 0, -1, Sequence::new(txns)))
-}
-
-fn entry(alloc: Global, verdict: Verdict) -> Entry {
-    Entry::new(verdict, Places::new(Vec::new(alloc)))
-}
 
 #[test]
 fn runs_of_a_batch(rt: HostRuntime) -> Result<(), Fail> {
     let alloc = rt.alloc();
     let reads = ranges(alloc, &[(b"b", b"d"), (b"m", b"m")])?;
-    let first = txn(reads, ranges(alloc, &[(b"a", b"c")])?)?;
-    let refused = txn(Vec::new(alloc), ranges(alloc, &[(b"aa", b"y")])?)?;
+    let first = txn(false, reads, ranges(alloc, &[(b"a", b"c")])?)?;
+    let refused = txn(false, Vec::new(alloc), ranges(alloc, &[(b"aa", b"y")])?)?;
     let last = txn(
+        false,
         ranges(alloc, &[(b"c", b"d")])?,
         ranges(alloc, &[(b"", b"a")])?,
     )?;
@@ -72,8 +33,11 @@ fn runs_of_a_batch(rt: HostRuntime) -> Result<(), Fail> {
     let mut ends = Ends::new(alloc);
     assert_eq!(rt; ends.count(), 0);
     ends.gather(&batch, &entries)?;
-    // The empty key, a, b, c, d.
-    assert_eq!(rt; ends.count(), 5);
+    let keys: [&[u8]; 5] = [b"", b"a", b"b", b"c", b"d"];
+    assert_eq!(rt; ends.count(), keys.len());
+    for (index, key) in keys.iter().enumerate() {
+        assert_eq!(rt; ends.key(&batch, index), *key);
+    }
     let [b_to_d, empty] = first.reads.as_slice() else {
         return Err("two reads")?;
     };
@@ -132,7 +96,7 @@ impl Random {
     fn batch(&mut self, alloc: Global) -> Result<Batch, Fail> {
         let mut txns = Vec::new(alloc);
         for _ in 0..self.below(6) {
-            txns.push(txn(self.ranges(alloc)?, self.ranges(alloc)?)?)?;
+            txns.push(txn(false, self.ranges(alloc)?, self.ranges(alloc)?)?)?;
         }
         batch(txns)
     }

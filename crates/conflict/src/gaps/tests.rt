@@ -11,8 +11,8 @@ struct Random(u64);
 
 impl Random {
     fn below(&mut self, bound: usize) -> usize
-        requires { 0 < bound }
-        ensures { result < bound }
+        requires some { 0 < bound }
+        ensures below { result < bound }
     {
         self.0 = self
             .0
@@ -23,7 +23,7 @@ impl Random {
 
     // A run of at most `longest` gaps.
     fn run(&mut self, count: usize, longest: u16) -> (usize, usize)
-        requires { count < 2 ^ 32 }
+        requires small { count < 2 ^ 32 }
         ensures ordered { result.0 ≤ result.1 }
         ensures within { result.1 ≤ count }
     {
@@ -35,11 +35,25 @@ impl Random {
 
 // Whether the set says of each gap what the list says.
 fn assert_same(rt: &impl Abort, gaps: &Gaps, plain: &[bool])
-    requires { length gaps.now ≡ length plain.now }
+    requires same { length gaps.now ≡ length plain.now }
 {
     for (gap, marked) in plain.iter().enumerate() {
         assert_eq!(rt; gaps.any(gap, gap + 1), *marked, "at {gap}");
     }
+}
+
+// Whether the next run is the one of the list.
+fn assert_next_run(rt: &impl Abort, gaps: &Gaps, plain: &[bool], from: usize)
+    requires within { from ≤ length plain.now }
+{
+    let mut expected = None;
+    if let Some(skipped) = plain[from..].iter().position(|marked| *marked) {
+        let begin = from + skipped;
+        let rest = &plain[begin..];
+        let unmarked = rest.iter().position(|marked| !*marked);
+        expected = Some((begin, begin + unmarked.unwrap_or(rest.len())));
+    }
+    assert_eq!(rt; gaps.next_run(from), expected, "from {from}");
 }
 
 // Marks random runs in both, and asks both for runs of several lengths.
@@ -52,12 +66,14 @@ fn assert_runs(
 )
     requires same { length gaps.old ≡ length plain.old }
     requires count { length plain.old < 2 ^ 32 }
-    ensures { length gaps.new ≡ length gaps.old }
+    ensures count { length gaps.new ≡ length gaps.old }
 {
     'runs: for _ in 0..100 {
         let (from, to) = random.run(plain.len(), longest);
         gaps.mark(from, to);
         plain[from..to].fill(true);
+        let from = random.below(plain.len() + 1);
+        assert_next_run(rt, gaps, plain, from);
         'asked: for asked in [1, 10, 100, 1_000] {
             let (from, to) = random.run(plain.len(), asked);
             assert_eq!(rt;
@@ -83,6 +99,47 @@ fn marks_the_run_at_word_borders(rt: HostRuntime) -> Result<(), Fail> {
                 assert_same(&rt, &gaps, &plain);
             }
         }
+    }
+    Ok(())
+}
+
+type Run = (usize, usize);
+
+#[test]
+fn runs_of_marked_gaps(rt: HostRuntime) -> Result<(), Fail> {
+    let rows: [(usize, &[Run], &[Run]); 12] = [
+        // none is marked
+        (0, &[], &[]),
+        (64, &[(3, 3)], &[]),
+        (1_000, &[], &[]),
+        // neighbours are one run, in either order
+        (9, &[(0, 3), (3, 5), (4, 6)], &[(0, 6)]),
+        (9, &[(5, 9), (2, 5)], &[(2, 9)]),
+        // a gap lies between them
+        (9, &[(0, 3), (4, 6)], &[(0, 3), (4, 6)]),
+        // across the border of a word, and up to it
+        (130, &[(60, 70)], &[(60, 70)]),
+        (130, &[(0, 64), (65, 128)], &[(0, 64), (65, 128)]),
+        // over whole words, and up to the count
+        (300, &[(3, 260)], &[(3, 260)]),
+        (192, &[(0, 192)], &[(0, 192)]),
+        (200, &[(150, 200), (63, 65)], &[(63, 65), (150, 200)]),
+        // words without a mark are skipped
+        (1_000, &[(0, 1), (999, 1_000)], &[(0, 1), (999, 1_000)]),
+    ];
+    let mut gaps = Gaps::new(rt.alloc());
+    for (count, marked, expected) in rows {
+        gaps.reset(count)?;
+        for (from, to) in marked {
+            assert!(rt; *from <= *to && *to <= count);
+            gaps.mark(*from, *to);
+        }
+        let mut from = 0;
+        for run in expected {
+            assert_eq!(rt; gaps.next_run(from), Some(*run));
+            from = run.1;
+        }
+        assert_eq!(rt; gaps.next_run(from), None);
     }
     Ok(())
 }

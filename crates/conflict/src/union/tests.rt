@@ -1,47 +1,61 @@
-//! Ranges as text, and what they unite to.
-use super::unite;
-use keyspace::{Key, MAX_KEY_LENGTH, Range};
+//! The writes of a batch, and the runs and the keys of their union.
+ghost use Rattle.std.specs.Prelude.{◌≡◌, length, OnOk};
+ghost use Rattle.conflict.specs.Ranks.{AreRising};
+ghost use Rattle.conflict.specs.Gathered.{keys_of};
+
+use super::Union;
+use crate::ends::Ends;
+use crate::fixtures::{batch, entry, ranges, txn};
+use crate::gaps::Gaps;
+use keyspace::{Batch, Verdict};
 use std::alloc::Global;
 use std::process::Abort;
 use std::test::Fail;
 
-type Ends<'a> = (&'a [u8], &'a [u8]);
+type Pair<'a> = (&'a [u8], &'a [u8]);
 
-fn range(rt: &impl Abort, alloc: Global, (begin, end): Ends) -> Result<Range, Fail> {
-    assert!(rt; begin.len() <= MAX_KEY_LENGTH && end.len() <= MAX_KEY_LENGTH);
-    let begin = Key::new(Vec::from_slice(alloc, begin)?);
-    let end = Key::new(Vec::from_slice(alloc, end)?);
-    assert!(rt; !(end < begin));
-    Ok(Range::new(begin, end))
+// Marks the gaps that the writes of the batch cover.
+fn mark_writes(gaps: &mut Gaps, ends: &Ends, batch: &Batch)
+    requires rising { AreRising (keys_of batch.now.txns ends.now) }
+    requires count { length gaps.old ≡ length ends.now }
+{
+    'txns: for txn in batch.txns.as_slice() {
+        'writes: for range in txn.writes.as_slice() {
+            let (from, to) = ends.run_of(batch, range);
+            gaps.mark(from, to);
+        }
+    }
 }
 
-// Unites the ranges, and compares what comes with the ends that are expected.
-fn assert_unite(
+// Unites the ranges as the writes of a transaction, and compares the keys of the runs with the ends that are expected.
+fn assert_unites(
     rt: &impl Abort,
     alloc: Global,
-    ends: &[Ends],
-    expected: &[Ends],
+    union: &mut Union,
+    writes: &[Pair],
+    expected: &[Pair],
 ) -> Result<(), Fail> {
-    let mut ranges = Vec::new(alloc);
-    for pair in ends {
-        ranges.push(range(rt, alloc, *pair)?)?;
-    }
-    let mut lent = Vec::new(alloc);
-    for range in &ranges {
-        lent.push(range)?;
-    }
-    let united = unite(alloc, lent)?;
-    assert_eq!(rt; united.len(), expected.len());
-    for (range, (begin, end)) in united.iter().zip(expected) {
-        assert_eq!(rt; range.begin.as_bytes(), *begin);
-        assert_eq!(rt; range.end.as_bytes(), *end);
+    let writer = txn(false, Vec::new(alloc), ranges(alloc, writes)?)?;
+    let batch = batch(vec![in alloc; writer]?)?;
+    assert_eq!(rt; batch.txns.len(), 1);
+    let mut ends = Ends::new(alloc);
+    let mut gaps = Gaps::new(alloc);
+    ends.gather(&batch, &[entry(alloc, Verdict::Committed)])?;
+    gaps.reset(ends.count())?;
+    mark_writes(&mut gaps, &ends, &batch);
+    union.gather(&gaps)?;
+    assert_eq!(rt; union.runs().len(), expected.len());
+    for ((from, to), (begin, end)) in union.runs().iter().zip(expected) {
+        assert!(rt; *from < *to && *to < ends.count());
+        assert_eq!(rt; ends.key(&batch, *from), *begin);
+        assert_eq!(rt; ends.key(&batch, *to), *end);
     }
     Ok(())
 }
 
 #[test]
-fn ranges_unite(rt: HostRuntime) -> Result<(), Fail> {
-    let rows: [(&[Ends], &[Ends]); 12] = [
+fn writes_of_a_batch_unite(rt: HostRuntime) -> Result<(), Fail> {
+    let rows: [(&[Pair], &[Pair]); 12] = [
         // no range, and empty ones alone
         (&[], &[]),
         (&[(b"a", b"a"), (b"", b""), (b"a", b"a")], &[]),
@@ -85,8 +99,37 @@ fn ranges_unite(rt: HostRuntime) -> Result<(), Fail> {
             &[(b"a", b"b"), (b"d", b"f")],
         ),
     ];
-    for (ends, expected) in rows {
-        assert_unite(&rt, rt.alloc(), ends, expected)?;
+    let mut union = Union::new(rt.alloc());
+    assert!(rt; union.runs().is_empty());
+    for (writes, expected) in rows {
+        assert_unites(&rt, rt.alloc(), &mut union, writes, expected)?;
+    }
+    Ok(())
+}
+
+#[test]
+fn runs_of_many_gaps(rt: HostRuntime) -> Result<(), Fail> {
+    // The marked gaps of each row, in runs with at least one gap between them.
+    let rows: [&[(usize, usize)]; 7] = [
+        &[(60, 70)],
+        &[(0, 64), (65, 128)],
+        &[(3, 260)],
+        &[(0, 1), (999, 1_000)],
+        &[(0, 1_000)],
+        // none
+        &[],
+        &[(62, 63), (64, 65), (66, 192), (500, 1_000)],
+    ];
+    let mut gaps = Gaps::new(rt.alloc());
+    let mut union = Union::new(rt.alloc());
+    for runs in rows {
+        gaps.reset(1_000)?;
+        for (from, to) in runs {
+            assert!(rt; *from <= *to && *to <= 1_000);
+            gaps.mark(*from, *to);
+        }
+        union.gather(&gaps)?;
+        assert_eq!(rt; union.runs(), runs);
     }
     Ok(())
 }

@@ -1,0 +1,90 @@
+-- What the marked gaps tell of the ranges that are written.
+use Rattle.std.proofs.Common.{
+  ◌≡◌,
+  ◌↔◌,
+  ◌⊎◌,
+  ℕ,
+  ◌+◌,
+  ◌<◌,
+  Bool,
+  List,
+  [],
+  ◌∷◌,
+  ◌++◌,
+  length,
+  get_or,
+  take,
+  append_assoc,
+  append-nil,
+  sym,
+  ap,
+  ◌∙◌,
+  subst,
+  inl,
+  inr,
+}
+use Rattle.std.specs.Prelude.{IsTrue, All}
+use Rattle.std.proofs.lemmas.Bool.Decides.{same_from_decides}
+use Rattle.std.proofs.lemmas.List.{take_more}
+use Rattle.std.proofs.lemmas.List.Elements.{All-weaker}
+use Rattle.std.proofs.lemmas.List.Quantifiers.{Any-push}
+use Rattle.keyspace.specs.declared.range.Range.{Range}
+use Rattle.keyspace.specs.Judge.{meets_earlier}
+use Rattle.stepmap.proofs.SomeElement.{Any-longer, Any-push_cases}
+use Rattle.conflict.specs.Ranks.{run, HasGap, HaveBegin, RunsTellOverlap}
+use Rattle.conflict.specs.Gathered.{HaveEnds}
+use Rattle.conflict.specs.Gaps.{IsInRun, IsMarked, SomeMarked}
+use Rattle.conflict.specs.Written.{AreWrittenGaps}
+
+module _ (keys : List (List ℕ)) where
+  -- no more is written by no ranges
+  pub no_more_written : (marks : List Bool) (written more : List Range) → more ≡ []
+      → AreWrittenGaps keys marks written → AreWrittenGaps keys marks (written ++ more)
+  no_more_written marks written more none told =
+      subst (AreWrittenGaps keys marks) (sym (append-nil written) ∙ ap (λ rs. written ++ rs) (sym none)) told
+
+  -- the run of one more range is marked
+  one_more_written : (old new : List Bool) (written : List Range) (range : Range)
+      → ((gap : ℕ) → IsMarked new gap ↔ (IsMarked old gap ⊎ HasGap (run keys range) gap))
+      → AreWrittenGaps keys old written → AreWrittenGaps keys new (written ++ range ∷ [])
+  one_more_written old new written range marked told gap =
+      let P : Range → Type 0 = λ w. HasGap (run keys w) gap in (
+        λ m. elim ((marked gap).0 m) [
+          | inl before ↦ Any-longer P written range ((told gap).0 before)
+          | inr here ↦ Any-push P written range here
+        ],
+        λ a. (marked gap).1 (elim (Any-push_cases P written range a) [
+          | inl before ↦ inl ((told gap).1 before)
+          | inr here ↦ inr here
+        ]),
+      )
+
+  -- the run of the range at the next index is marked
+  pub next_written : (old new : List Bool) (written ranges : List Range) (i : ℕ) (range : Range) (r : ℕ × ℕ)
+      → i < length ranges → range ≡ get_or ranges i range → r ≡ run keys range
+      → ((gap : ℕ) → IsMarked new gap ↔ (IsMarked old gap ⊎ IsInRun r.0 r.1 gap))
+      → AreWrittenGaps keys old (written ++ take i ranges)
+      → AreWrittenGaps keys new (written ++ take (i + 1) ranges)
+  next_written old new written ranges i range r inside is run_is marked told =
+      let more = subst (λ (s : ℕ × ℕ). (gap : ℕ) → IsMarked new gap ↔ (IsMarked old gap ⊎ HasGap s gap))
+      run_is marked in
+      let longer : (written ++ take i ranges) ++ range ∷ [] ≡ written ++ take (i + 1) ranges =
+      append_assoc written (take i ranges) (range ∷ [])
+      ∙ ap (λ rs. written ++ rs)
+      (ap (λ w. take i ranges ++ w ∷ []) is ∙ sym (take_more ranges i range inside)) in
+      subst (AreWrittenGaps keys new) longer
+      (one_more_written old new (written ++ take i ranges) range more told)
+
+  -- a marked gap in the run of a range tells that it overlaps a written one
+  pub any_marked_is_met : RunsTellOverlap → (marks : List Bool) (written : List Range) (range : Range)
+      (r : ℕ × ℕ) (b : Bool) → r ≡ run keys range → HaveEnds keys range
+      → IsTrue b ↔ SomeMarked marks r.0 r.1
+      → AreWrittenGaps keys marks written → All (HaveEnds keys) written → b ≡ meets_earlier written range
+  any_marked_is_met tells marks written range r b is own says told have =
+      let some = subst (λ (s : ℕ × ℕ). IsTrue b ↔ SomeMarked marks s.0 s.1) is says in
+      let begins =
+      All-weaker (HaveEnds keys) (HaveBegin keys) (λ w ends filled. (ends filled).0) written have in
+      same_from_decides b (meets_earlier written range) (
+        λ t. let m = some.0 t in (m.0, m.1, (told m.0).0 m.2),
+        λ g. some.1 (g.0, g.1, (told g.0).1 g.2),
+      ) (tells keys range written (λ filled. (own filled).0) begins)

@@ -1,0 +1,140 @@
+use Rattle.std.proofs.Common.{rules, w64, SFits, ◌≡◌, [], ◌++◌, ap, sym, subst, ◌∙◌}
+use Rattle.std.specs.Prelude.{◌≤ℤ◌, ◌<ℤ◌}
+use Rattle.std.proofs.lemmas.Int.{to_z-of_z}
+use Rattle.keyspace.specs.declared.reply.Reply.{Reply}
+use Rattle.keyspace.specs.Judged.{edge, Judged}
+use Rattle.keyspace.specs.Judge.{judge, judge_txns}
+use Rattle.keyspace.specs.Writes.{writes_of}
+use Rattle.keyspace.proofs.Judging.{reply_same}
+use Rattle.stepmap.specs.Covers.{MapCovers}
+use Rattle.stepmap.specs.Rooted.{Rooted}
+use Rattle.conflict.specs.ConflictSet.{SetState, IsSet, IsSwept, IsOverLimit}
+use Rattle.conflict.proofs.Edges.{edge_rises, edge_below, edge_handed, at_most, from_least}
+use Rattle.conflict.proofs.conflict_set.ConflictSet.resolve.Goals as goal
+
+pub resolve_at-requires : goal.resolve_at-requires
+resolve_at-requires c =
+    let b = c.args.batch.now in
+    let inside = c.self.inside in
+    let set = c.self.invariant in
+    let given = c.edge_of-edge.result in
+    let fits : SFits w64 given = search rules in
+    let window_fits : SFits w64 inside.window = search rules in
+    let is = edge_handed inside.window given b window_fits fits c.edge_of-edge.ensures.edge in
+    let rising : inside.resolved <ℤ b.version =
+    subst (λ r. r <ℤ b.version) (sym (ap (λ (s : SetState). s.resolved) c.self.view_is)) c.requires.rising in
+    record {
+      raised = subst (λ e. inside.map.edge ≤ℤ e) (sym is)
+          (edge_rises inside.window inside.resolved inside.map.edge b (set.edge c.in_default.is) rising);
+      late = subst (λ e. e ≤ℤ b.version) (sym is) (edge_below inside.window b set.least_window);
+      newest = c.writing.ensures.later inside.resolved b.version inside.map.boundaries
+          (at_most inside.resolved b.version rising) (set.newest c.in_default.is);
+    }
+
+pub invariant_of-self : goal.invariant_of-self
+invariant_of-self c =
+    let b = c.args.batch.now in
+    let inside = c.self.inside in
+    let set = c.self.invariant in
+    let given = c.edge_of-edge.result in
+    let fits : SFits w64 given = search rules in
+    let window_fits : SFits w64 inside.window = search rules in
+    let version_fits : SFits w64 b.version = search rules in
+    let is = edge_handed inside.window given b window_fits fits c.edge_of-edge.ensures.edge in
+    let set_now : IsSet (record {
+      window = inside.window;
+      resolved = b.version;
+      map = c.resolve_at.new.steps;
+      stop = inside.stop;
+    }) =
+    record {
+      least_window = set.least_window;
+      most_window = set.most_window;
+      resolved = from_least b;
+      edge = λ going. c.in-Ok.ensures.edge ∙ is;
+      newest = λ going. c.in-Ok.ensures.newest;
+    } in
+    subst (λ version. IsSet (record {
+      window = inside.window;
+      resolved = version;
+      map = c.resolve_at.new.steps;
+      stop = inside.stop;
+    })) (sym (to_z-of_z w64 b.version version_fits)) set_now
+
+pub returns-in-Ok-clause-judged : goal.returns-in-Ok-clause-judged
+returns-in-Ok-clause-judged c = λ ws covers.
+    let b = c.args.batch.now in
+    let given = c.edge_of-edge.result in
+    let fits : SFits w64 given = search rules in
+    let window_fits : SFits w64 c.self.inside.window = search rules in
+    let window : c.self.inside.window ≡ c.args.self.now.window = ap (λ (s : SetState). s.window) c.self.view_is in
+    let map : c.self.inside.map ≡ c.args.self.now.map = ap (λ (s : SetState). s.map) c.self.view_is in
+    let is = edge_handed c.self.inside.window given b window_fits fits c.edge_of-edge.ensures.edge
+    ∙ ap (λ w. edge w b) window in
+    let entries = c.in-Ok.ensures.judged ws (subst (λ m. MapCovers m ws) (sym map) covers)
+    ∙ ap (λ e. judge_txns e ws [] b.txns) is in
+    let same : c.in-Ok.reply ≡ judge c.args.self.now.window ws b =
+    reply_same c.in-Ok.reply (judge c.args.self.now.window ws b) c.in-Ok.ensures.version entries in
+    subst (Judged c.args.self.now.window ws b) (sym same)
+    (c.one_reply.ensures.right c.args.self.now.window ws b)
+
+pub returns-in-Ok-clause-covers : goal.returns-in-Ok-clause-covers
+returns-in-Ok-clause-covers c = λ ws covers.
+    let map : c.self.inside.map ≡ c.args.self.now.map = ap (λ (s : SetState). s.map) c.self.view_is in
+    c.in-Ok.ensures.covers ws (subst (λ m. MapCovers m ws) (sym map) covers)
+
+pub returns-in-Ok-clause-edge : goal.returns-in-Ok-clause-edge
+returns-in-Ok-clause-edge c =
+    let b = c.args.batch.now in
+    let given = c.edge_of-edge.result in
+    let fits : SFits w64 given = search rules in
+    let window_fits : SFits w64 c.self.inside.window = search rules in
+    let window : c.self.inside.window ≡ c.args.self.now.window = ap (λ (s : SetState). s.window) c.self.view_is in
+    c.in-Ok.ensures.edge ∙ edge_handed c.self.inside.window given b window_fits fits c.edge_of-edge.ensures.edge
+    ∙ ap (λ w. edge w b) window
+
+pub returns-in-Ok-clause-rooted : goal.returns-in-Ok-clause-rooted
+returns-in-Ok-clause-rooted c = λ ws rooted.
+    let map : c.self.inside.map ≡ c.args.self.now.map = ap (λ (s : SetState). s.map) c.self.view_is in
+    c.in-Ok.ensures.rooted ws (subst (λ m. Rooted m ws) (sym map) rooted)
+
+pub returns-in-Ok-clause-swept : goal.returns-in-Ok-clause-swept
+returns-in-Ok-clause-swept c = λ ws rooted.
+    let b = c.args.batch.now in
+    let given = c.edge_of-edge.result in
+    let fits : SFits w64 given = search rules in
+    let window_fits : SFits w64 c.self.inside.window = search rules in
+    let window : c.self.inside.window ≡ c.args.self.now.window = ap (λ (s : SetState). s.window) c.self.view_is in
+    let map : c.self.inside.map ≡ c.args.self.now.map = ap (λ (s : SetState). s.map) c.self.view_is in
+    let is = edge_handed c.self.inside.window given b window_fits fits c.edge_of-edge.ensures.edge
+    ∙ ap (λ w. edge w b) window in
+    let all = ws ++ writes_of b c.in-Ok.reply in
+    subst (λ m. IsSwept (edge c.args.self.now.window b) m c.resolve_at.new.steps all) map
+    (subst (λ e. IsSwept e c.self.inside.map c.resolve_at.new.steps all) is
+    (c.in-Ok.ensures.swept ws (subst (λ m. Rooted m ws) (sym map) rooted)))
+
+pub returns-in-Err-clause-kept : goal.returns-in-Err-clause-kept
+returns-in-Err-clause-kept c = λ ws remembers.
+    let map : c.self.inside.map ≡ c.args.self.now.map = ap (λ (s : SetState). s.map) c.self.view_is in
+    record {
+      covers = c.in-Err.ensures.still_covers ws (subst (λ m. MapCovers m ws) (sym map) remembers.covers);
+      rooted = c.in-Err.ensures.still_rooted ws (subst (λ m. Rooted m ws) (sym map) remembers.rooted);
+    }
+
+pub returns-in-Err-clause-full : goal.returns-in-Err-clause-full
+returns-in-Err-clause-full c = λ going full ws reply remembers judged.
+    let b = c.args.batch.now in
+    let given = c.edge_of-edge.result in
+    let fits : SFits w64 given = search rules in
+    let window_fits : SFits w64 c.self.inside.window = search rules in
+    let window : c.self.inside.window ≡ c.args.self.now.window = ap (λ (s : SetState). s.window) c.self.view_is in
+    let map : c.self.inside.map ≡ c.args.self.now.map = ap (λ (s : SetState). s.map) c.self.view_is in
+    let is = edge_handed c.self.inside.window given b window_fits fits c.edge_of-edge.ensures.edge
+    ∙ ap (λ w. edge w b) window in
+    let only : reply.entries ≡ judge_txns (edge c.args.self.now.window b) ws [] b.txns =
+    ap (λ (r : Reply). r.entries) (c.one_reply.ensures.only c.args.self.now.window ws b reply judged) in
+    subst (λ m. IsOverLimit m.limit (edge c.args.self.now.window b) (ws ++ writes_of b reply)) map
+    (subst (λ e. IsOverLimit c.self.inside.map.limit e (ws ++ writes_of b reply)) is
+    (c.in-Err.ensures.full full ws reply.entries (subst (λ m. MapCovers m ws) (sym map) remembers.covers)
+    (subst (λ m. Rooted m ws) (sym map) remembers.rooted)
+    (only ∙ ap (λ e. judge_txns e ws [] b.txns) (sym is))))

@@ -1,0 +1,43 @@
+use Rattle.std.proofs.Common.{w64, to_z, of_z, ◌≡◌, List, [], length, ap, sym, subst, ◌∙◌}
+use Rattle.keyspace.specs.declared.reply.Entry.{Entry}
+use Rattle.std.proofs.lemmas.Int.{to_z-of_z}
+use Rattle.keyspace.specs.Judge.{judge_txns}
+use Rattle.keyspace.specs.Writes.{committed}
+use Rattle.conflict.specs.InBatch.{in_batches}
+use Rattle.conflict.specs.Gathered.{keys_of}
+use Rattle.conflict.specs.Judging.{TellWritten}
+use Rattle.conflict.proofs.JudgedBatch.{length-in_batches, changed_whole}
+use Rattle.conflict.proofs.judging.judge_batch.Goals as goal
+
+pub returns-clause-judged : goal.returns-clause-judged
+returns-clause-judged c = λ ws covers.
+    let txns = c.args.batch.now.txns in
+    let es = c.in_ok-entries.entries in
+    let after = c.judge_in_batch.new.entries in
+    let is : after ≡ in_batches [] txns es.items =
+    c.in_ok-judge_in_batch.ensures.judged ∙ ap (in_batches [] txns) c.deref_mut.ensures.value in
+    let long = ap length is ∙ length-in_batches [] txns es.items c.in_ok-entries.ensures.count
+    ∙ sym c.in_ok-entries.ensures.count ∙ sym es.ok.0 in
+    changed_whole after es.items es.len long ∙ is
+    ∙ ap (in_batches [] txns) (c.in_ok-entries.ensures.judged ws covers)
+    ∙ sym (c.history_first.ensures.scan (to_z w64 (of_z w64 c.args.oldest)) ws [] txns)
+    ∙ ap (λ oldest. judge_txns oldest ws [] txns) (to_z-of_z w64 c.args.oldest c.ranges.oldest)
+
+pub returns-clause-told : goal.returns-clause-told
+returns-clause-told c =
+    let txns = c.args.batch.now.txns in
+    let es = c.in_ok-entries.entries in
+    let after = c.judge_in_batch.new.entries in
+    let is : after ≡ in_batches [] txns es.items =
+    c.in_ok-judge_in_batch.ensures.judged ∙ ap (in_batches [] txns) c.deref_mut.ensures.value in
+    let long = ap length is ∙ length-in_batches [] txns es.items c.in_ok-entries.ensures.count
+    ∙ sym c.in_ok-entries.ensures.count ∙ sym es.ok.0 in
+    let keys = keys_of txns c.gather.new.self in
+    let told : TellWritten keys c.judge_in_batch.new.gaps (committed txns after) =
+    record {
+      rising = c.in_ok-gather.ensures.rising;
+      have_ends = c.in_ok-judge_in_batch.ensures.have_ends;
+      gaps = c.in_ok-judge_in_batch.ensures.marked;
+    } in
+    subst (λ (entries : List Entry). TellWritten keys c.judge_in_batch.new.gaps (committed txns entries))
+    (sym (changed_whole after es.items es.len long)) told

@@ -1,0 +1,64 @@
+-- What a conflict set is seen as, and how few boundaries it keeps. This project's own.
+use Rattle.std.specs.Prelude.{◌≡◌, ℕ, ◌+◌, ◌*◌, ◌<◌, ◌≤◌, ℤ, pos, negsuc, ◌-ℤ◌, ◌≤ℤ◌, ◌⊎◌, List, Option, None, IsSomeAnd}
+use Rattle.std.specs.Int.{int_max}
+use Rattle.keyspace.specs.Writes.{Write}
+use Rattle.keyspace.specs.Judged.{edge}
+use Rattle.stepmap.specs.Boundary.{AreUpTo}
+use Rattle.stepmap.specs.StepMap.{Steps, new_map}
+use Rattle.stepmap.specs.Sweeping.{rest}
+use Rattle.stepmap.specs.Covers.{MapCovers}
+use Rattle.stepmap.specs.Rooted.{Ends, Rooted}
+use Rattle.stepmap.specs.Counting.{live_count}
+use Rattle.stepmap.specs.declared.error.StepError.{StepError}
+use Rattle.stepmap.specs.declared.error.StepError.TheVariants as step
+use Rattle.conflict.specs.declared.conflict_set.TheConstants.{MAX_WINDOW}
+use Rattle.conflict.specs.declared.error.SetStop.{SetStop}
+use Rattle.conflict.specs.declared.error.SetStop.TheVariants.{Memory, ArenaFull}
+
+-- why a set stops where its step map refuses
+abbrev pub stop_of : StepError → SetStop
+stop_of step.Memory = Memory
+stop_of step.Full = ArenaFull
+
+-- a conflict set
+pub record SetState : Type 0 where
+  -- how far back it remembers writes, in versions
+  pub window : ℤ
+  -- the greatest version resolved, or -1
+  pub resolved : ℤ
+  -- the step function that remembers the writes
+  pub map : Steps
+  -- why it resolves no more
+  pub stop : Option SetStop
+
+-- a set that has resolved nothing
+abbrev pub new_set : ℤ → ℕ → SetState
+new_set window limit =
+    record { window = window; resolved = negsuc 0; map = new_map limit; stop = None }
+
+-- what holds of every conflict set
+pub record IsSet (s : SetState) : Type 0 where
+  pub least_window : pos 1 ≤ℤ s.window
+  pub most_window : s.window ≤ℤ MAX_WINDOW
+  pub resolved : negsuc 0 ≤ℤ s.resolved
+  -- as long as it resolves, its edge is that of the greatest version resolved, and no write is above that version
+  pub edge : s.stop ≡ None → s.map.edge ≡ int_max (s.resolved -ℤ s.window) (pos 0)
+  pub newest : s.stop ≡ None → AreUpTo s.resolved s.map.boundaries
+
+-- The set remembers these writes: its function covers them, and its boundaries come from them.
+pub record Remembers (s : SetState) (ws : List Write) : Type 0 where
+  pub covers : MapCovers s.map ws
+  pub rooted : Rooted s.map ws
+
+-- There are few boundaries, or fewer than before. Every boundary but the empty key is the begin or the end of a range
+-- written at or above the edge; or at or above the edge of the round that was under way before, and that round has
+-- ended; or the round under way has come nearer its end, by ten at least.
+abbrev pub IsSwept : ℤ → Steps → Steps → List Write → Type 0
+IsSwept edge before now ws =
+    Ends now.boundaries ws edge
+    ⊎ ((now.round ≡ None) × IsSomeAnd before.round (λ round. Ends now.boundaries ws round.edge))
+    ⊎ (rest now + 10 ≤ rest before)
+
+-- two boundaries for each live write, and one, would exceed the limit
+abbrev pub IsOverLimit : ℕ → ℤ → List Write → Type 0
+IsOverLimit limit edge ws = limit < 1 + 2 * live_count edge ws

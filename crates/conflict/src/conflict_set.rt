@@ -1,0 +1,170 @@
+ghost use Rattle.std.specs.Prelude.{◌≡◌, ◌≤◌, ◌≤ℤ◌, ◌<ℤ◌, pos, ◌++◌, List, [], length, None, Some, Err};
+ghost use Rattle.std.specs.Prelude.{IfOk, IfErr, OnOk, OnErr, IfSome};
+ghost use Rattle.keyspace.specs.declared.reply.Entry.{Entry};
+ghost use Rattle.keyspace.specs.Writes.{Write, at_version, committed, writes_of};
+ghost use Rattle.keyspace.specs.Judge.{judge_txns};
+ghost use Rattle.keyspace.specs.Judged.{edge, Judged};
+ghost use Rattle.stepmap.specs.Boundary.{AreUpTo};
+ghost use Rattle.stepmap.specs.declared.step_map.TheConstants.{MAX_LIMIT};
+ghost use Rattle.stepmap.specs.Covers.{MapCovers};
+ghost use Rattle.stepmap.specs.Rooted.{Rooted};
+ghost use Rattle.conflict.specs.ConflictSet.{new_set, Remembers, IsSwept, IsOverLimit};
+
+use crate::error::SetStop;
+use crate::judging::judge_batch;
+use crate::scratch::Scratch;
+use crate::writing::write_batch;
+use keyspace::{Batch, Reply, Sequence};
+use std::alloc::Global;
+use std::marker::Model;
+use stepmap::StepMap;
+
+/// The greatest window, in versions: this project's own.
+pub const MAX_WINDOW: i64 = 1_099_511_627_776;
+
+/// The committed writes of the batches resolved so far, as far back as the window: `ConflictSet` of FoundationDB 7.1.
+#[derive(Debug, Drop)]
+pub struct ConflictSet {
+    alloc: Global,
+    window: i64,
+    resolved: i64,
+    map: StepMap,
+    stop: Option<SetStop>,
+    scratch: Scratch,
+}
+
+impl Model for ConflictSet {
+    ghost use Rattle.conflict.specs.ConflictSet.{SetState, IsSet};
+
+    ghost Value = { SetState };
+
+    ghost view = { λ s. record { window = s.window; resolved = s.resolved; map = s.map; stop = s.stop } };
+
+    ghost invariant = { λ s. IsSet
+        (record { window = s.window; resolved = s.resolved; map = s.map; stop = s.stop }) };
+}
+
+impl ConflictSet {
+    /// Creates a set that has resolved nothing, or returns `Memory` if memory is refused. `window` is how far back it
+    /// remembers writes, in versions; it never keeps more boundaries than `limit`.
+    pub fn new(alloc: Global, window: i64, limit: usize) -> Result<Self, SetStop>
+        requires least_window { pos 1 ≤ℤ window }
+        requires most_window { window ≤ℤ MAX_WINDOW }
+        requires least_limit { 1 ≤ limit }
+        requires most_limit { limit ≤ MAX_LIMIT }
+        ensures empty { IfOk result (λ set. set ≡ new_set window limit) }
+        ensures remembers { IfOk result (λ set. Remembers set []) }
+        ensures memory { IfErr result (λ stop. stop ≡ SetStop.Memory) }
+    {
+        Ok(ConflictSet {
+            alloc,
+            window,
+            resolved: -1,
+            map: StepMap::new(alloc, limit)?,
+            stop: None,
+            scratch: Scratch::new(alloc),
+        })
+    }
+
+    /// Judges a batch after all writes that the set remembers, and remembers what the batch commits.
+    ///
+    /// An error is final: every later call returns the same one. The set still remembers what it remembered before.
+    /// `ArenaFull` says that the boundaries of the writes within the window, those of this batch included, exceed the
+    /// limit.
+    pub fn resolve(&mut self, batch: &Batch) -> Result<Reply, SetStop>
+        requires rising { self.old.resolved <ℤ batch.now.version }
+        ensures judged { IfOk result (λ reply. (ws : List Write) → MapCovers self.old.map ws
+            → Judged self.old.window ws batch.now reply) }
+        ensures covers { IfOk result (λ reply. (ws : List Write) → MapCovers self.old.map ws
+            → MapCovers self.new.map (ws ++ writes_of batch.now reply)) }
+        ensures edge { OnOk result (self.new.map.edge ≡ edge self.old.window batch.now) }
+        ensures rooted { IfOk result (λ reply. (ws : List Write) → Rooted self.old.map ws
+            → Rooted self.new.map (ws ++ writes_of batch.now reply)) }
+        ensures swept { IfOk result (λ reply. (ws : List Write) → Rooted self.old.map ws
+            → IsSwept (edge self.old.window batch.now) self.old.map self.new.map (ws ++ writes_of batch.now reply)) }
+        ensures resolved { OnOk result (self.new.resolved ≡ batch.now.version) }
+        ensures unresolved { OnErr result (self.new.resolved ≡ self.old.resolved) }
+        ensures window { self.new.window ≡ self.old.window }
+        ensures limit { self.new.map.limit ≡ self.old.map.limit }
+        ensures goes_on { OnOk result ((self.old.stop ≡ None) × (self.new.stop ≡ None)) }
+        ensures stops { IfErr result (λ stop. self.new.stop ≡ Some stop) }
+        ensures stopped { IfSome self.old.stop (λ stop. (result ≡ Err stop) × (self.new ≡ self.old)) }
+        ensures kept { IfErr result (λ _. (ws : List Write) → Remembers self.old ws → Remembers self.new ws) }
+        ensures full { self.old.stop ≡ None → result ≡ Err SetStop.ArenaFull → (ws : List Write) (reply : Reply)
+            → Remembers self.old ws → Judged self.old.window ws batch.now reply
+            → IsOverLimit self.old.map.limit (edge self.old.window batch.now) (ws ++ writes_of batch.now reply) }
+    {
+        if let Some(stop) = self.stop {
+            return Err(stop);
+        }
+        keyspace::laws::one_reply();
+        stepmap::laws::writing();
+        let edge = edge_of(self.window, batch);
+        match resolve_at(self.alloc, &mut self.map, &mut self.scratch, edge, batch) {
+            Ok(reply) => {
+                self.resolved = batch.version;
+                Ok(reply)
+            }
+            Err(stop) => {
+                self.stop = Some(stop);
+                Err(stop)
+            }
+        }
+    }
+
+    /// Returns the number of boundaries, that at the empty key included. It never exceeds the limit.
+    pub fn boundaries(&self) -> usize
+        ensures count { result ≡ length self.now.map.boundaries }
+        ensures within { result ≤ self.now.map.limit }
+    {
+        self.map.boundaries()
+    }
+}
+
+// Returns the edge of a batch: its version minus the window, or 0 where that is negative.
+fn edge_of(window: i64, batch: &Batch) -> i64
+    requires least_window { pos 1 ≤ℤ window }
+    requires most_window { window ≤ℤ MAX_WINDOW }
+    ensures edge { result ≡ edge window batch.now }
+{
+    (batch.version - window).max(0)
+}
+
+// Judges a batch, raises the edge to this one, writes what the batch commits, and sweeps on.
+fn resolve_at(
+    alloc: Global,
+    steps: &mut StepMap,
+    scratch: &mut Scratch,
+    edge: i64,
+    batch: &Batch,
+) -> Result<Reply, SetStop>
+    requires raised { steps.old.edge ≤ℤ edge }
+    requires late { edge ≤ℤ batch.now.version }
+    requires newest { AreUpTo batch.now.version steps.old.boundaries }
+    ensures version { IfOk result (λ reply. reply.version ≡ batch.now.version) }
+    ensures judged { IfOk result (λ reply. (ws : List Write) → MapCovers steps.old ws
+        → reply.entries ≡ judge_txns edge ws [] batch.now.txns) }
+    ensures covers { IfOk result (λ reply. (ws : List Write) → MapCovers steps.old ws
+        → MapCovers steps.new (ws ++ writes_of batch.now reply)) }
+    ensures rooted { IfOk result (λ reply. (ws : List Write) → Rooted steps.old ws
+        → Rooted steps.new (ws ++ writes_of batch.now reply)) }
+    ensures swept { IfOk result (λ reply. (ws : List Write) → Rooted steps.old ws
+        → IsSwept edge steps.old steps.new (ws ++ writes_of batch.now reply)) }
+    ensures edge { OnOk result (steps.new.edge ≡ edge) }
+    ensures newest { OnOk result (AreUpTo batch.now.version steps.new.boundaries) }
+    ensures limit { steps.new.limit ≡ steps.old.limit }
+    ensures still_covers { OnErr result ((ws : List Write) → MapCovers steps.old ws → MapCovers steps.new ws) }
+    ensures still_rooted { OnErr result ((ws : List Write) → Rooted steps.old ws → Rooted steps.new ws) }
+    ensures full { result ≡ Err SetStop.ArenaFull → (ws : List Write) (entries : List Entry)
+        → MapCovers steps.old ws → Rooted steps.old ws → entries ≡ judge_txns edge ws [] batch.now.txns
+        → IsOverLimit steps.old.limit edge (ws ++ at_version batch.now.version (committed batch.now.txns entries)) }
+{
+    let entries = judge_batch(alloc, steps, scratch, edge, batch)?;
+    steps.raise(edge);
+    let count = write_batch(steps, scratch, batch)?;
+    steps.sweep(3 * count + 10);
+    Ok(Reply::new(batch.version, Sequence::new(entries)))
+}
+
+#[cfg(test)]
+mod tests;

@@ -1,0 +1,62 @@
+//! A transaction that reads what was written at 100, by snapshot and oldest version.
+ghost use Rattle.std.specs.Prelude.{◌≡◌, ◌≤◌, ◌≤ℤ◌, pos, length, IfOk};
+ghost use Rattle.keyspace.specs.Key.{IsBefore, IsAtMost};
+
+use super::judge_by_history;
+use keyspace::{Key, MAX_KEY_LENGTH, Range, Sequence, Txn, Verdict};
+use std::alloc::{AllocError, Global};
+use std::test::Fail;
+use stepmap::{KeyLengths, StepMap};
+
+fn key(alloc: Global, bytes: &[u8]) -> Result<Key, AllocError>
+    requires short { length bytes.now ≤ MAX_KEY_LENGTH }
+    ensures key { IfOk result (λ key. key ≡ bytes.now) }
+{
+    Ok(Key::new(Vec::from_slice(alloc, bytes)?))
+}
+
+fn range(alloc: Global, begin: &[u8], end: &[u8]) -> Result<Range, AllocError>
+    requires begin { length begin.now ≤ MAX_KEY_LENGTH }
+    requires end { length end.now ≤ MAX_KEY_LENGTH }
+    requires ordered { IsAtMost begin.now end.now }
+    ensures begin { IfOk result (λ range. range.begin ≡ begin.now) }
+    ensures end { IfOk result (λ range. range.end ≡ end.now) }
+{
+    let begin = key(alloc, begin)?;
+    let end = key(alloc, end)?;
+    Ok(Range::new(begin, end))
+}
+
+// A marked transaction that reads [c, d) and then [a, b).
+fn reads(alloc: Global, snapshot: i64) -> Result<Txn, AllocError>
+    requires natural { pos 0 ≤ℤ snapshot }
+{
+    let ranges = vec![in alloc; range(alloc, b"c", b"d")?, range(alloc, b"a", b"b")?]?;
+    Ok(Txn::new(
+        snapshot,
+        true,
+        Sequence::new(ranges),
+        Sequence::new(Vec::new(alloc)),
+    ))
+}
+
+#[test]
+fn judged_by_history(rt: HostRuntime) -> Result<(), Fail> {
+    let alloc = rt.alloc();
+    let mut map = StepMap::new(alloc, 10)?;
+    let written = [range(alloc, b"a", b"b")?];
+    map.prepare(&[KeyLengths::of(written[0].as_ref())])?;
+    map.write(written[0].as_ref(), 100);
+    let at_write = judge_by_history(alloc, &map, 0, &reads(alloc, 100)?)?;
+    assert_eq!(rt; at_write.verdict, Verdict::Committed);
+    let before_write = judge_by_history(alloc, &map, 0, &reads(alloc, 99)?)?;
+    assert_eq!(rt; before_write.verdict, Verdict::Conflict);
+    assert_eq!(rt; before_write.places.as_slice(), [1].as_slice());
+    let below_oldest = judge_by_history(alloc, &map, 100, &reads(alloc, 99)?)?;
+    assert_eq!(rt; below_oldest.verdict, Verdict::TooOld);
+    let none = Sequence::new(Vec::new(alloc));
+    let writes = Sequence::new(vec![in alloc; range(alloc, b"a", b"b")?]?);
+    let old_writer = judge_by_history(alloc, &map, 100, &Txn::new(0, true, none, writes))?;
+    assert_eq!(rt; old_writer.verdict, Verdict::Committed);
+    Ok(())
+}

@@ -1,0 +1,37 @@
+ghost use Rattle.std.specs.Prelude.{◌≡◌, []};
+
+use crate::ends::Ends;
+use crate::gaps::Gaps;
+use crate::union::Union;
+use std::alloc::Global;
+use stepmap::KeyLengths;
+
+/// What is made of a batch while it is resolved. The vectors are kept, so that a batch like those before it takes no memory
+/// for them.
+#[derive(Debug, Drop)]
+pub struct Scratch {
+    /// The sorted ends of the ranges of its open transactions.
+    pub ends: Ends,
+    /// The gaps between these ends that it writes.
+    pub gaps: Gaps,
+    /// The runs of those gaps.
+    pub union: Union,
+    /// The lengths of the keys of the ranges that the runs span.
+    pub lengths: Vec<KeyLengths>,
+}
+
+impl Scratch {
+    /// Makes empty vectors, and takes no memory.
+    pub fn new(alloc: Global) -> Self
+        ensures ends { result.ends ≡ [] }
+        ensures gaps { result.gaps ≡ [] }
+        ensures union { result.union ≡ [] }
+    {
+        Scratch {
+            ends: Ends::new(alloc),
+            gaps: Gaps::new(alloc),
+            union: Union::new(alloc),
+            lengths: Vec::new(alloc),
+        }
+    }
+}
