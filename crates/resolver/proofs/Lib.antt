@@ -1,0 +1,11 @@
+pub mod Queues
+pub mod Answered
+pub mod Kept
+pub mod Admitting
+pub mod Growing
+pub mod Exceeding
+pub mod Stops
+pub mod Processing
+pub mod Releasing
+pub mod Finishing
+pub mod Standing

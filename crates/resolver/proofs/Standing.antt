@@ -1,0 +1,128 @@
+-- A core that stands for a log, after one step more and after an answer is given.
+use Rattle.std.proofs.Common.{
+  ◌≡◌,
+  ℕ,
+  ◌==◌,
+  cond,
+  List,
+  [],
+  ◌∷◌,
+  ◌++◌,
+  length,
+  Option,
+  Some,
+  None,
+  append_assoc,
+  sym,
+  ap,
+  subst,
+  ◌∙◌,
+  refl,
+  inl,
+  inr,
+  arith,
+  drop,
+}
+use Rattle.std.specs.Prelude.{ℤ, option_to_list}
+use Rattle.std.proofs.lemmas.Bool.{cases_Bool, eqb-true, eqb-false}
+use Rattle.std.proofs.lemmas.List.{get_or-set_other, length-set}
+use Rattle.keyspace.specs.declared.answer.Answer.{Answer}
+use Rattle.keyspace.specs.Run.{State, Step, step, run_from, run, answers_to, start}
+use Rattle.resolver.specs.declared.stop.Stop.{Stop}
+use Rattle.resolver.specs.Owed.{owed_to, given_oldest}
+use Rattle.resolver.specs.Books.{Books, Given, IsBeginning, AreOf, MadeBetween, made_to}
+use Rattle.resolver.specs.Stands.{StoppedIn, StandsBy, given_also}
+
+run_from-more : (window : ℤ) (log : List Step) (x : Step) (s : State)
+    → run_from window (log ++ x ∷ []) s ≡ step window x (run_from window log s)
+run_from-more window [] x s = refl
+run_from-more window (y ∷ log) x s = run_from-more window log x (step window y s)
+
+-- a run of one step more
+pub run-more : (window : ℤ) (log : List Step) (x : Step)
+    → run window (log ++ x ∷ []) ≡ step window x (run window log)
+run-more window log x = run_from-more window log x start
+
+-- without a stop the books are those of the state after the log
+pub AreOf-standing : (stop : Option Stop) (log : List Step) (given : Given) (books : Books) → stop ≡ None
+    → StandsBy stop log given books → AreOf (run books.set.window log) given books
+AreOf-standing stop log given books none = subst (λ s. StandsBy s log given books) none
+
+module _ (window : ℤ) (log : List Step) (x : Step) (given : Given) (new : Books)
+    (same : new.set.window ≡ window) where
+  -- one step more was taken
+  pub StandsBy-more : (stop : Option Stop) → stop ≡ None → AreOf (step window x (run window log)) given new
+      → StandsBy stop (log ++ x ∷ []) given new
+  StandsBy-more stop none are =
+      subst (λ s. StandsBy s (log ++ x ∷ []) given new) (sym none)
+      (subst (λ w. AreOf (run w (log ++ x ∷ [])) given new) (sym same)
+      (subst (λ s. AreOf s given new) (sym (run-more window log x)) are))
+
+  -- a stop was met in one step more
+  pub StoppedIn-more : MadeBetween (run window log) (step window x (run window log)) given new
+      → StoppedIn (log ++ x ∷ []) given new
+  StoppedIn-more made = record {
+    before = log;
+    last = x;
+    log_is = refl;
+    made =
+        subst (λ w. MadeBetween (run w log) (run w (log ++ x ∷ [])) given new) (sym same)
+        (subst (λ s. MadeBetween (run window log) s given new) (sym (run-more window log x)) made);
+  }
+
+-- an answer is given
+module _ (proxy : ℕ) (answer : Option Answer) (given : Given) (old : Books)
+    (oldest : owed_to proxy old.owed
+    ≡ option_to_list answer ++ owed_to proxy (given_oldest proxy old.owed)) where
+  abbrev owed : List (List Answer)
+  owed = given_oldest proxy old.owed
+
+  abbrev new : Books
+  new = record old { owed = owed }
+
+  made_same : (p : ℕ) → made_to p (given_also proxy answer given) new ≡ made_to p given old
+  made_same p = elim (cases_Bool (p == proxy)) [
+    | inl own ↦
+        ap (λ b. cond b (given p ++ option_to_list answer) (given p) ++ owed_to p owed) own
+        ∙ append_assoc (given p) (option_to_list answer) (owed_to p owed)
+        ∙ ap (λ xs. given p ++ xs)
+        (subst (λ q. option_to_list answer ++ owed_to q owed ≡ owed_to q old.owed)
+        (sym (eqb-true p proxy own)) (sym oldest))
+    | inr other ↦
+        ap (λ b. cond b (given p ++ option_to_list answer) (given p) ++ owed_to p owed) other
+        ∙ ap (λ xs. given p ++ xs)
+        (get_or-set_other old.owed proxy p (drop 1 (owed_to proxy old.owed)) [] (eqb-false p proxy other))
+  ]
+
+  many : length owed ≡ length old.owed
+  many = length-set old.owed proxy (drop 1 (owed_to proxy old.owed))
+
+  pub AreOf-given : (state : State) → AreOf state given old → AreOf state (given_also proxy answer given) new
+  AreOf-given state are = record {
+    version = are.version;
+    held = are.held;
+    kept = are.kept;
+    remembers = are.remembers;
+    answers = λ p inside. made_same p ∙ are.answers p (omega (arith, many));
+  }
+
+  MadeBetween-given : (before after : State) → MadeBetween before after given old
+      → MadeBetween before after (given_also proxy answer given) new
+  MadeBetween-given before after made = record {
+    all_before = λ p inside.
+        subst (IsBeginning (answers_to p before.answered)) (sym (made_same p))
+        (made.all_before p (omega (arith, many)));
+    no_others = λ p inside.
+        subst (λ xs. IsBeginning xs (answers_to p after.answered)) (sym (made_same p))
+        (made.no_others p (omega (arith, many)));
+  }
+
+  pub StandsBy-given : (stop : Option Stop) (log : List Step) → StandsBy stop log given old
+      → StandsBy stop log (given_also proxy answer given) new
+  StandsBy-given None log are = AreOf-given (run old.set.window log) are
+  StandsBy-given (Some stop) log s = record {
+    before = s.before;
+    last = s.last;
+    log_is = s.log_is;
+    made = MadeBetween-given (run old.set.window s.before) (run old.set.window log) s.made;
+  }

@@ -1,0 +1,131 @@
+use Rattle.std.proofs.Common.{rules, w64, SFits, Err, sym, ap, subst, ◌∙◌, arith}
+use Rattle.std.proofs.lemmas.Int.{to_z-of_z, ints}
+use Rattle.keyspace.specs.Leaving.{Held, next_due}
+use Rattle.keyspace.specs.Laws.{Leaves}
+use Rattle.keyspace.specs.Run.{State, admit, leave_all}
+use Rattle.resolver.specs.declared.stop.Stop.TheVariants.{ArenaFull}
+use Rattle.resolver.specs.Books.{Books, Given, books_of, AreOf, GoOn, ExceedsLimit}
+use Rattle.resolver.proofs.Growing.{Grows, grows_leave_all, MadeBetween-grown}
+use Rattle.resolver.proofs.Stops.{OnErr-always, same_stop}
+use Rattle.resolver.proofs.Releasing.{
+  LeavesNext,
+  leaver_known,
+  AreBooks-left,
+  AreOf-left,
+  GoOn-then,
+  Reaches,
+  AreOf-reached,
+  Reaches-left,
+  ExceedsLimit-left,
+}
+use Rattle.resolver.proofs.books.Books.release.Goals as goal
+use Rattle.resolver.proofs.books.Books.release.Goals.{In-Some}
+
+module _ (c : In-Some) where
+  -- the books before
+  abbrev before : Books
+  before = books_of c.self.inside.set c.self.inside.version c.self.inside.gate c.self.inside.replies
+      c.self.inside.owed
+
+  -- the batch that leaves
+  abbrev leaver : Held
+  leaver = (c.in-Some.proxy, c.in-Some.batch)
+
+  leaves_next : LeavesNext before leaver c.next_for.new.self
+  leaves_next =
+      let fits : SFits w64 c.self.inside.version = search rules in
+      record {
+        next =
+            ap (λ v. next_due v c.self.inside.gate) (sym (to_z-of_z w64 c.self.inside.version fits))
+            ∙ c.in-Some.ensures.next;
+        due = omega (arith, ints, c.in-Some.ensures.due);
+        fewer = c.in-Some.ensures.fewer;
+      }
+
+  leaves : Leaves c.self.inside.version c.self.inside.gate leaver c.next_for.new.self
+  leaves =
+      c.leaving.ensures.next_due.some c.self.inside.version c.self.inside.gate leaver c.next_for.new.self
+      leaves_next.next
+
+  -- the books without it
+  abbrev without : Books
+  without = record before { held = c.next_for.new.self }
+
+  goes_on : GoOn c.args.self.now without
+  goes_on =
+      let g = subst (GoOn c.args.self.now) (sym c.self.view_is) c.loop-proxy.invariant.goes_on in
+      record { window = g.window; limit = g.limit; proxies = g.proxies }
+
+  module _ (state : State) (given : Given) (are : AreOf state given c.args.self.now) where
+    reached : Reaches c.args.self.now.set.window state given before
+    reached =
+        subst (Reaches c.args.self.now.set.window state given) (sym c.self.view_is)
+        (c.loop-proxy.invariant.reaches state given are)
+
+    -- the state without it
+    abbrev others : State
+    others = record reached.now { held = c.next_for.new.self }
+
+    are_without : AreOf others given without
+    are_without = AreOf-left reached.now given before c.next_for.new.self reached.are
+
+pub invariant_of-self : goal.invariant_of-self
+invariant_of-self c =
+    let d = (goal.at.invariant_of-self c).In-Some in
+    AreBooks-left (before d) (leaver d) c.next_for.new.self c.self.inside.version (leaves d) c.self.invariant
+
+pub answer-requires-clause-known : goal.answer-requires-clause-known
+answer-requires-clause-known c =
+    let d = (goal.at.answer-requires-clause-known c).In-Some in
+    leaver_known (before d) (leaver d) c.next_for.new.self c.self.inside.version (leaves d) c.self.invariant
+
+pub returns-in_err-answer-clause-err : goal.returns-in_err-answer-clause-err
+returns-in_err-answer-clause-err c =
+    OnErr-always c.from_residual.result (λ state given are.
+    let d = (goal.at.returns-in_err-answer-clause-err c).In-Some in
+    let window = c.args.self.now.set.window in
+    let r = reached d state given are in
+    MadeBetween-grown state r.now (leave_all window state) given (before d) c.answer.new.self r.are
+    c.in_err-answer.ensures.err r.grows (subst (Grows r.now) r.same (grows_leave_all window r.now)))
+
+pub returns-in_err-answer-clause-arena_full : goal.returns-in_err-answer-clause-arena_full
+returns-in_err-answer-clause-arena_full c = λ is state given are.
+    let d = (goal.at.returns-in_err-answer-clause-arena_full c).In-Some in
+    let stop = c.in_err-answer.field-0.0 in
+    let full = same_stop c.from_residual.result stop ArenaFull c.from_residual.ensures.1 is in
+    let set = c.args.self.now.set in
+    let s = others d state given are in
+    let exceeds = c.in_err-answer.ensures.arena_full (ap Err full) s given (are_without d state given are) in
+    ExceedsLimit-left set.window state given (before d) (reached d state given are) (leaver d)
+    c.next_for.new.self (leaves_next d) set.map.limit
+    (subst (λ w. ExceedsLimit set.map.limit w s.processed
+    (admit w c.in-Some.proxy c.in-Some.batch s).processed) (goes_on d).window
+    (subst (λ n. ExceedsLimit n c.self.inside.set.window s.processed
+    (admit c.self.inside.set.window c.in-Some.proxy c.in-Some.batch s).processed) (goes_on d).limit exceeds))
+
+pub loop-proxy-preserved : goal.loop-proxy-preserved
+loop-proxy-preserved c =
+    let d = (goal.at.loop-proxy-preserved c).In-Some in
+    let new = c.answer.new.self in
+    record {
+      reaches = λ state given are.
+          let s = others d state given are in
+          Reaches-left c.args.self.now.set.window state given (before d) (reached d state given are)
+          (leaver d) c.next_for.new.self (leaves_next d) new
+          (subst (λ w. AreOf (admit w c.in-Some.proxy c.in-Some.batch s) given new) (goes_on d).window
+          (c.in_ok-answer.ensures.ok s given (are_without d state given are)));
+      goes_on = GoOn-then c.args.self.now (without d) new (goes_on d) c.answer.ensures.goes_on;
+      still = c.in_ok-answer.ensures.«open»;
+    }
+
+pub returns-clause-ok : goal.returns-clause-ok
+returns-clause-ok c = λ state given are.
+    let fits : SFits w64 c.self.inside.version = search rules in
+    let window = c.args.self.now.set.window in
+    let reached = subst (Reaches window state given) (sym c.self.view_is)
+    (c.loop-proxy.invariant.reaches state given are) in
+    let none = ap (λ v. next_due v c.self.inside.gate) (sym (to_z-of_z w64 c.self.inside.version fits))
+    ∙ c.in_default.ensures.next in
+    subst (λ hs. AreOf (leave_all window state) given (books_of c.self.inside.set c.self.inside.version hs
+    c.self.inside.replies c.self.inside.owed)) (sym c.in_default.ensures.unchanged)
+    (AreOf-reached window state given _ reached none)

@@ -1,0 +1,42 @@
+use Rattle.std.proofs.Common.{List, [], ◌∷◌, ◌++◌, sym, subst}
+use Rattle.keyspace.specs.Run.{Step, Take, run}
+use Rattle.resolver.specs.Books.{Given, AreOf, ExceedsLimit}
+use Rattle.resolver.specs.Stands.{CoreState, Stands}
+use Rattle.resolver.proofs.Standing.{run-more, AreOf-standing, StandsBy-more, StoppedIn-more}
+use Rattle.resolver.proofs.sequential.Core.admit.Goals as goal
+use Rattle.resolver.proofs.sequential.Core.admit.Goals.{After-take-taken}
+
+-- the books before are those of the state after the log
+before : (c : After-take-taken) (log : List Step) (given : Given) → Stands c.args.self.now log given
+    → AreOf (run c.self.inside.books.set.window log) given c.self.inside.books
+before c log given stands =
+    AreOf-standing c.self.inside.stop log given c.self.inside.books c.in_default.is
+    (subst (λ (core : CoreState). Stands core log given) (sym c.self.view_is) stands)
+
+pub returns-in-Err-clause-stands : goal.returns-in-Err-clause-stands
+returns-in-Err-clause-stands c = λ _ log given stands.
+    let d = (goal.at.returns-in-Err-clause-stands c).After-take-taken in
+    let window = c.self.inside.books.set.window in
+    StoppedIn-more window log (Take c.args.proxy c.args.batch) given c.take-taken.new.self
+    c.take-taken.ensures.goes_on.window
+    (c.in-Err.ensures.err (run window log) given (before d log given stands))
+
+pub returns-in-Err-clause-arena_full : goal.returns-in-Err-clause-arena_full
+returns-in-Err-clause-arena_full c = λ _ is log given stands.
+    let d = (goal.at.returns-in-Err-clause-arena_full c).After-take-taken in
+    let x = Take c.args.proxy c.args.batch in
+    let set = c.self.inside.books.set in
+    subst (λ (core : CoreState). ExceedsLimit core.books.set.map.limit core.books.set.window
+    (run core.books.set.window log).processed (run core.books.set.window (log ++ x ∷ [])).processed)
+    c.self.view_is
+    (subst (λ s. ExceedsLimit set.map.limit set.window (run set.window log).processed s.processed)
+    (sym (run-more set.window log x))
+    (c.in-Err.ensures.arena_full is (run set.window log) given (before d log given stands)))
+
+pub returns-in_default-taken-clause-stands : goal.returns-in_default-taken-clause-stands
+returns-in_default-taken-clause-stands c = λ _ log given stands.
+    let d = (goal.at.returns-in_default-taken-clause-stands c).After-take-taken in
+    let window = c.self.inside.books.set.window in
+    StandsBy-more window log (Take c.args.proxy c.args.batch) given c.take-taken.new.self
+    c.take-taken.ensures.goes_on.window c.self.inside.stop c.in_default.is
+    (c.in_default-taken.ensures.ok (run window log) given (before d log given stands))

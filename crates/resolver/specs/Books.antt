@@ -1,0 +1,116 @@
+-- What a core is seen as, and when it is in a state of the reference resolver. This project's own.
+use Rattle.std.specs.Prelude.{
+  ◌≡◌,
+  ℕ,
+  ◌<◌,
+  ◌==◌,
+  ◌&&◌,
+  if◌then◌else◌,
+  ℤ,
+  ◌≤ℤ◌,
+  int_le,
+  List,
+  [],
+  ◌∷◌,
+  ◌++◌,
+  length,
+  All,
+  Option,
+  Some,
+  None,
+}
+use Rattle.std.specs.Ordering.{int_eq}
+use Rattle.keyspace.specs.declared.answer.Answer.{Answer}
+use Rattle.keyspace.specs.declared.reply.Reply.{Reply}
+use Rattle.keyspace.specs.Writes.{Write, writes}
+use Rattle.keyspace.specs.Judged.{edge}
+use Rattle.keyspace.specs.Processed.{Processed, version_of}
+use Rattle.keyspace.specs.Found.{kept}
+use Rattle.keyspace.specs.Leaving.{Held}
+use Rattle.keyspace.specs.Run.{State, answers_to}
+use Rattle.chain.specs.Replies.{Kept, reply_of}
+use Rattle.conflict.specs.ConflictSet.{SetState, Remembers, IsOverLimit}
+use Rattle.resolver.specs.Owed.{OwedView, owed_to}
+
+-- the books of a core
+pub record Books : Type 0 where
+  -- the conflict set
+  pub set : SetState
+  -- the version of the batch processed last, or -1
+  pub version : ℤ
+  -- the batches that wait for their previous version, in order of arrival
+  pub held : List Held
+  -- the replies that may be asked for again
+  pub kept : Kept
+  -- the answers owed to each proxy, at its number, oldest first
+  pub owed : List (List Answer)
+
+-- the first list is a beginning of the second, which may be all of it
+abbrev pub IsBeginning : {T : Type 0} → List T → List T → Type 0
+IsBeginning {T} xs ys = (rest : List T) × (ys ≡ xs ++ rest)
+
+-- the answers given so far to each proxy, by its number
+abbrev pub Given : Type 0
+Given = ℕ → List Answer
+
+-- all answers made to the proxy: those given, and then those still owed
+abbrev pub made_to : ℕ → Given → Books → List Answer
+made_to proxy given books = given proxy ++ owed_to proxy books.owed
+
+-- The books are those of this state of the reference resolver: they have the same version and hold the same batches,
+-- they keep the replies that a repeat finds, they remember what was committed, and the same answers were made.
+pub record AreOf (state : State) (given : Given) (books : Books) : Type 0 where
+  pub version : books.version ≡ version_of state.processed
+  pub held : books.held ≡ state.held
+  pub kept : (proxy : ℕ) (version : ℤ) → reply_of books.kept proxy version ≡ kept state.processed proxy version
+  pub remembers : Remembers books.set (writes state.processed)
+  pub answers :
+      (proxy : ℕ) → proxy < length books.owed → made_to proxy given books ≡ answers_to proxy state.answered
+
+-- the books of the parts of a core
+abbrev pub books_of : SetState → ℤ → List Held → Kept → OwedView → Books
+books_of set version held kept owed =
+    record { set = set; version = version; held = held; kept = kept; owed = owed.answers }
+
+-- what is kept after this reply: it, the proxy's others above the version received, and those of other proxies
+abbrev pub kept_also : ℕ → ℤ → Reply → (ℕ → ℤ → Option Reply) → ℕ → ℤ → Option Reply
+kept_also proxy received reply before p v =
+    if (proxy == p) && int_eq reply.version v then Some reply
+    else (if (proxy == p) && int_le v received then None else before p v)
+
+-- what holds of the books of every core
+pub record AreBooks (b : Books) : Type 0 where
+  -- the conflict set is no further than the version
+  pub resolved : b.set.stop ≡ None → b.set.resolved ≤ℤ b.version
+  -- and remembers some list of writes
+  pub remembers : (ws : List Write) × Remembers b.set ws
+  -- each batch held is of a proxy that the core knows
+  pub known : All (λ h. h.0 < length b.owed) b.held
+  -- no reply is kept of a version still to come
+  pub past :
+      (proxy : ℕ) (version : ℤ) (reply : Reply) → reply_of b.kept proxy version ≡ Some reply →
+      version ≤ℤ b.version
+
+-- what stays the same of a core's books, whatever is done to them
+pub record GoOn (old new : Books) : Type 0 where
+  pub window : new.set.window ≡ old.set.window
+  pub limit : new.set.map.limit ≡ old.set.map.limit
+  pub proxies : length new.owed ≡ length old.owed
+
+-- all answers of the one state were made, and no others than those of the other
+pub record MadeBetween (before after : State) (given : Given) (books : Books) : Type 0 where
+  pub all_before :
+      (proxy : ℕ) → proxy < length books.owed →
+      IsBeginning (answers_to proxy before.answered) (made_to proxy given books)
+  pub no_others :
+      (proxy : ℕ) → proxy < length books.owed →
+      IsBeginning (made_to proxy given books) (answers_to proxy after.answered)
+
+-- Of what was processed after these, some batch exceeds the limit: at its edge, the writes committed up to it, its own
+-- included, may need too many boundaries.
+pub record ExceedsLimit (limit : ℕ) (window : ℤ) (before after : List Processed) : Type 0 where
+  pub between : List Processed
+  pub over : Processed
+  pub later : List Processed
+  pub after_is : after ≡ (before ++ between) ++ over ∷ later
+  pub exceeds : IsOverLimit limit (edge window over.batch) (writes ((before ++ between) ++ over ∷ []))

@@ -1,0 +1,5 @@
+-- In the order in which one reads them aloud.
+pub mod Stop
+pub mod Owed
+pub mod Books
+pub mod Stands

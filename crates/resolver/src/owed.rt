@@ -1,0 +1,86 @@
+ghost use Rattle.std.specs.Prelude.{◌≡◌, ◌<◌, [], ◌∷◌, ◌++◌, length, replicate, IfOk, OnOk, IfNone, IfSome, option_to_list};
+ghost use Rattle.resolver.specs.Owed.{owed_to, owed_also, given_oldest, owed_count, HasRoomFor};
+
+use keyspace::Answer;
+use std::alloc::{AllocError, Global};
+use std::collections::VecDeque;
+use std::marker::Model;
+
+/// The answers owed to each proxy, in a queue of its own.
+#[derive(Debug, Drop)]
+pub struct Owed {
+    queues: Vec<VecDeque<Answer>>,
+    count: usize,
+}
+
+impl Model for Owed {
+    ghost use Rattle.std.specs.Prelude.{◌≡◌, map};
+    ghost use Rattle.resolver.specs.Owed.{OwedView, owed_count, items_of, room_of};
+
+    ghost Value = { OwedView };
+
+    ghost view = { λ o. record { answers = map items_of o.queues.items; room = map room_of o.queues.items } };
+
+    ghost invariant = { λ o. o.count ≡ owed_count (map items_of o.queues.items) };
+}
+
+impl Owed {
+    /// Owes nothing to any of so many proxies.
+    pub fn new(alloc: Global, proxies: usize) -> Result<Self, AllocError>
+        ensures empty { IfOk result (λ owed. owed.answers ≡ replicate proxies []) }
+    {
+        let mut queues = Vec::with_capacity(alloc, proxies)?;
+        for _ in 0..proxies {
+            queues.push(VecDeque::new(alloc))?;
+        }
+        Ok(Owed { queues, count: 0 })
+    }
+
+    /// Returns the number of proxies.
+    pub fn proxies(&self) -> usize
+        ensures count { result ≡ length self.now.answers }
+    {
+        self.queues.len()
+    }
+
+    /// Takes memory for one answer more to the proxy.
+    pub fn reserve(&mut self, proxy: usize) -> Result<(), AllocError>
+        requires known { proxy < length self.old.answers }
+        ensures room { OnOk result (HasRoomFor proxy self.new) }
+        ensures same { self.new.answers ≡ self.old.answers }
+    {
+        if self.count == usize::MAX {
+            return Err(AllocError);
+        }
+        self.queues[proxy].reserve(1)
+    }
+
+    /// Owes the proxy this answer, after the others. Takes no memory.
+    pub fn push(&mut self, proxy: usize, answer: Answer)
+        requires known { proxy < length self.old.answers }
+        requires room { HasRoomFor proxy self.old }
+        ensures answers { self.new.answers ≡ owed_also proxy answer self.old.answers }
+    {
+        self.queues[proxy].push_back_reserved(answer);
+        self.count += 1;
+    }
+
+    /// Removes and returns the oldest answer owed to the proxy, or returns `None` if none is owed.
+    pub fn pop(&mut self, proxy: usize) -> Option<Answer>
+        requires known { proxy < length self.old.answers }
+        ensures oldest { owed_to proxy self.old.answers
+            ≡ option_to_list result ++ owed_to proxy self.new.answers }
+        ensures answers { self.new.answers ≡ given_oldest proxy self.old.answers }
+    {
+        let answer = self.queues[proxy].pop_front()?;
+        self.count -= 1;
+        Some(answer)
+    }
+
+    /// Returns the number of answers owed to all proxies.
+    pub fn count(&self) -> usize
+        ensures count { result ≡ owed_count self.now.answers }
+    {
+        self.count
+    }
+}
