@@ -1,8 +1,3 @@
-pub mod Lists
-pub mod Scanning
-pub mod JudgedAll
-pub mod Admitting
-pub mod Owed
 pub mod OneOrder
 pub mod Ordered
 pub mod Known

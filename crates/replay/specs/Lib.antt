@@ -1,3 +1,1 @@
-pub mod Scan
-pub mod Core
 pub mod Lines

@@ -1,13 +1,11 @@
 //! The program `replay` reads a recorded file of batch frames, resolves the batches in order and prints the verdicts.
 //!
-//! `words` reads the command line, `replay` does all that follows the opening of the file, `admission` takes batches along
-//! the chain of versions, `scan` judges a batch against a plain list of all committed writes, and `lines` prints.
+//! `words` reads the command line, `replay` does all that follows the opening of the file, and `lines` prints. Batches are
+//! resolved by [`resolver::Core`].
 #![tactic(auto)]
 
-mod admission;
 mod lines;
 mod replay;
-mod scan;
 mod words;
 
 use replay::{Status, replay_over};

@@ -1,10 +1,11 @@
 //! All that follows the opening of the file: its frames are read, their batches resolved, the answers printed.
 
-ghost use Rattle.std.specs.Prelude.{◌≢◌};
+ghost use Rattle.std.specs.Prelude.{◌≢◌, ◌<◌, length};
+ghost use Rattle.replay.specs.declared.replay.TheConstants.{PROXY};
 
-use crate::admission::{Core, Stop};
 use crate::lines::{PrintError, print_answers};
-use keyspace::Answer;
+use keyspace::{Answer, WINDOW};
+use resolver::{Core, Stop};
 use std::alloc::Global;
 use std::io;
 use std::io::Write;
@@ -12,6 +13,9 @@ use wire::{Frames, Source, WireError, read_frames};
 
 // The one proxy of this program.
 const PROXY: usize = 0;
+
+// The default limit on boundaries: the conflict set keeps at most so many.
+const DEFAULT_LIMIT: usize = 1_000_000;
 
 /// How the program ends.
 #[derive(Clone, Copy, Debug, PartialEq, Eq)]
@@ -53,25 +57,52 @@ impl Outcome {
     }
 }
 
-// Takes the batches of the frames in order, up to their end, the first fault or a stop.
-fn take_frames<R: Source>(frames: &mut Frames<R>, core: &mut Core, outcome: &mut Outcome) {
+// Keeps all answers that are owed, oldest first.
+fn take_owed(core: &mut Core, outcome: &mut Outcome)
+    requires known { PROXY < length core.old.books.owed }
+    ensures known { PROXY < length core.new.books.owed }
+{
+    while let Some(answer) = core.give(PROXY) {
+        outcome.keep(answer);
+    }
+}
+
+// Takes the batches of the frames in order, up to their end, the first fault or a stop. Answers are kept after each batch, so
+// that few are owed at a time.
+fn take_frames<R: Source>(
+    frames: &mut Frames<R>,
+    core: &mut Core,
+    outcome: &mut Outcome,
+) -> Result<(), Stop>
+    requires known { PROXY < length core.old.books.owed }
+    ensures known { PROXY < length core.new.books.owed }
+{
     for _ in 0..u64::MAX {
-        let batch = match frames.next() {
-            Ok(Some(batch)) => batch,
-            Ok(None) => return,
+        match frames.next() {
+            Ok(Some(batch)) => core.admit(PROXY, batch)?,
+            Ok(None) => return Ok(()),
             Err(fault) => {
                 outcome.fault = Some(fault);
-                return;
+                return Ok(());
             }
-        };
-        if let Err(stop) = core.admit(PROXY, batch) {
-            outcome.stop = Some(stop);
-            return;
         }
-        if let Some(answer) = core.give(PROXY) {
-            outcome.keep(answer);
-        }
+        take_owed(core, outcome);
     }
+    Ok(())
+}
+
+// Resolves the batches of the frames. After their end or a fault, batches that are still held are answered too; after a stop
+// they aren't.
+fn resolve<R: Source>(
+    frames: &mut Frames<R>,
+    core: &mut Core,
+    outcome: &mut Outcome,
+) -> Result<(), Stop>
+    requires known { PROXY < length core.old.books.owed }
+    ensures known { PROXY < length core.new.books.owed }
+{
+    take_frames(frames, core, outcome)?;
+    core.finish()
 }
 
 fn print_faults<W: Write>(error: &mut W, outcome: &Outcome) -> io::Result<()> {
@@ -89,6 +120,8 @@ fn print_faults<W: Write>(error: &mut W, outcome: &Outcome) -> io::Result<()> {
 
 /// Reads frame after frame and resolves their batches in order. Prints one line an answer to `out`, sorted, and one line a
 /// failure to `error`. After a fault of the file, a failed read included, the lines of the frames before it still stand.
+///
+/// A batch that is still held at the end of the file, or at its fault, is answered `Held`. After a stop it isn't answered.
 pub fn replay_over<R: Source + Drop, O: Write, E: Write>(
     alloc: Global,
     reader: R,
@@ -97,20 +130,22 @@ pub fn replay_over<R: Source + Drop, O: Write, E: Write>(
 ) -> Status
     ensures ends { result ≢ Status.Usage }
 {
-    let mut core = match Core::new(alloc) {
+    let mut core = match Core::new(alloc, 1, WINDOW, DEFAULT_LIMIT) {
         Ok(core) => core,
-        Err(stop) => {
-            let _ = write!(error, "replay: start {stop}\n");
+        Err(refused) => {
+            let _ = write!(error, "replay: start {refused}\n");
             return Status::Failed;
         }
     };
     let mut outcome = Outcome::new(alloc);
-    take_frames(&mut read_frames(alloc, reader), &mut core, &mut outcome);
-    finish(alloc, out, error, outcome)
+    outcome.stop = resolve(&mut read_frames(alloc, reader), &mut core, &mut outcome).err();
+    // Answers made before a stop stand.
+    take_owed(&mut core, &mut outcome);
+    print(alloc, out, error, outcome)
 }
 
 // Prints the answers and the failures, and returns how the program ends.
-fn finish<O: Write, E: Write>(
+fn print<O: Write, E: Write>(
     alloc: Global,
     out: &mut O,
     error: &mut E,
