@@ -46,6 +46,11 @@ use Rattle.resolver.specs.Books.{Books, Given, IsBeginning, AreOf, MadeBetween, 
 use Rattle.resolver.proofs.Answered.{answers_to-append}
 use Rattle.resolver.proofs.Admitting.{repeat, admit_now}
 
+-- the second state has all that was processed and answered in the first, and perhaps more
+pub record Grows (before after : State) : Type 0 where
+  pub processed : IsBeginning before.processed after.processed
+  pub answered : IsBeginning before.answered after.answered
+
 -- a list begins itself, and what begins with it
 pub begins_itself : {T : Type 0} (xs : List T) → IsBeginning xs xs
 begins_itself xs = ([], sym (append-nil xs))
@@ -61,12 +66,8 @@ begins_answers_to : (proxy : ℕ) (xs ys : List (ℕ × Answer)) → IsBeginning
 begins_answers_to proxy xs ys b =
     (answers_to proxy b.0, ap (answers_to proxy) b.1 ∙ answers_to-append proxy xs b.0)
 
--- the second state has all that was processed and answered in the first, and perhaps more
-pub record Grows (before after : State) : Type 0 where
-  pub processed : IsBeginning before.processed after.processed
-  pub answered : IsBeginning before.answered after.answered
-
-grows_itself : (s : State) → Grows s s
+-- a state grows into itself, and over two changes
+pub grows_itself : (s : State) → Grows s s
 grows_itself s = record { processed = begins_itself s.processed; answered = begins_itself s.answered }
 
 pub grows_then : (s t u : State) → Grows s t → Grows t u → Grows s u
@@ -110,7 +111,7 @@ grows_leave_then go_on window more s (Some l) =
     let next = admit window l.0.0 l.0.1 (record s { held = l.1 }) in
     grows_then s next (go_on next) (grows_left window s l.0 l.1) (more next)
 
-grows_leave : (turns : ℕ) (window : ℤ) (s : State) → Grows s (leave turns window s)
+pub grows_leave : (turns : ℕ) (window : ℤ) (s : State) → Grows s (leave turns window s)
 grows_leave zero window s = grows_itself s
 grows_leave (suc turns) window s =
     grows_leave_then (leave turns window) window (grows_leave turns window) s
@@ -126,7 +127,7 @@ grows_step window (Take proxy b) s =
 grows_step window Finish s = record { processed = begins_itself s.processed; answered = (_, refl) }
 
 -- where only what is owed counts
-made_then : (state : State) (given : Given) (books new : Books) → AreOf state given books
+pub made_then : (state : State) (given : Given) (books new : Books) → AreOf state given books
     → new.owed ≡ books.owed → (p : ℕ) → p < length new.owed
     → made_to p given new ≡ answers_to p state.answered
 made_then state given books new are same p inside =

@@ -3,7 +3,6 @@ pub mod Answered
 pub mod Kept
 pub mod Admitting
 pub mod Growing
-pub mod Exceeding
 pub mod Stops
 pub mod Processing
 pub mod Releasing

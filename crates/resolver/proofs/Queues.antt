@@ -35,6 +35,7 @@ use Rattle.std.proofs.lemmas.List.{
 }
 use Rattle.std.proofs.lemmas.List.Sums.{sum_by-set}
 use Rattle.keyspace.specs.declared.answer.Answer.{Answer}
+use Rattle.resolver.specs.declared.sequential.TheConstants.{MAX_PROXIES}
 use Rattle.resolver.specs.Owed.{
   owed_to,
   owed_also,
@@ -121,7 +122,7 @@ module _ {Z : Type 0} (queues : List (VecDeque Answer Z)) (proxy : ℕ)
 
   -- a queue with room for one more
   pub HasRoomFor-written : (queue : VecDeque Answer Z) → deque_len queue + 1 ≤ deque_capacity queue
-      → owed_count (answers_of (set queues proxy queue)) + 1 < 2 ^ 64
+      → owed_count (answers_of (set queues proxy queue)) + 1 + MAX_PROXIES < 2 ^ 64
       → HasRoomFor proxy (view_of (set queues proxy queue))
   HasRoomFor-written queue room few =
       let at = get_or-map (room_of {Z = Z}) (set queues proxy queue) proxy queue 0 (still_inside queue) in

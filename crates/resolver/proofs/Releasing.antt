@@ -11,6 +11,7 @@ use Rattle.std.proofs.Common.{
   ◌∷◌,
   ◌++◌,
   length,
+  Option,
   Some,
   None,
   sym,
@@ -27,10 +28,8 @@ use Rattle.keyspace.specs.Processed.{version_of}
 use Rattle.keyspace.specs.Leaving.{Held, next_due}
 use Rattle.keyspace.specs.Laws.{Leaves}
 use Rattle.keyspace.specs.Run.{State, admit, leave, leave_then, leave_all}
-use Rattle.resolver.specs.Books.{Books, Given, IsBeginning, AreBooks, AreOf, GoOn, ExceedsLimit}
+use Rattle.resolver.specs.Books.{Books, Given, AreBooks, AreOf, GoOn, StopsIn, StopsAsTheyLeave}
 use Rattle.resolver.proofs.Admitting.{admit-held}
-use Rattle.resolver.proofs.Growing.{Grows, grows_then, grows_left, grows_leave_all}
-use Rattle.resolver.proofs.Exceeding.{ExceedsLimit-wider}
 
 -- where none is due, none leaves
 leave-none : (turns : ℕ) (window : ℤ) (s : State) → next_due (version_of s.processed) s.held ≡ None
@@ -41,6 +40,30 @@ leave-none (suc turns) window s none = ap (leave_then (leave turns window) windo
 leave_all-none : (window : ℤ) (s : State) → next_due (version_of s.processed) s.held ≡ None
     → leave_all window s ≡ s
 leave_all-none window s none = leave-none (length s.held) window s none
+
+-- the state after one turn
+abbrev turn : ℤ → State → State
+turn window s = leave_then (λ t. t) window s (next_due (version_of s.processed) s.held)
+
+leave-more_by : (turns : ℕ) (window : ℤ)
+    → ((s : State) → leave (suc turns) window s ≡ turn window (leave turns window s)) → (s : State)
+    → (l : Option (Held × List Held)) → next_due (version_of s.processed) s.held ≡ l
+    → leave (suc (suc turns)) window s ≡ turn window (leave (suc turns) window s)
+leave-more_by turns window more s None is =
+    leave-none (suc (suc turns)) window s is
+    ∙ sym (ap (leave_then (λ t. t) window s) is)
+    ∙ ap (turn window) (sym (leave-none (suc turns) window s is))
+leave-more_by turns window more s (Some l) is =
+    ap (leave_then (leave (suc turns) window) window s) is
+    ∙ more (admit window l.0.0 l.0.1 (record s { held = l.1 }))
+    ∙ ap (turn window) (sym (ap (leave_then (leave turns window) window s) is))
+
+-- one turn more is one at the end
+leave-more : (turns : ℕ) (window : ℤ) (s : State)
+    → leave (suc turns) window s ≡ turn window (leave turns window s)
+leave-more zero window s = refl
+leave-more (suc turns) window s =
+    leave-more_by turns window (leave-more turns window) s (next_due (version_of s.processed) s.held) refl
 
 -- the state once the next one has left
 abbrev pub left : ℤ → State → Held → List Held → State
@@ -65,12 +88,11 @@ GoOn-then first second third g h = record {
   proxies = h.proxies ∙ g.proxies;
 }
 
--- the books are those of a state that comes up while the held batches of this state leave
+-- the books are those of the state after so many of the batches held in this state have left
 pub record Reaches (window : ℤ) (state : State) (given : Given) (books : Books) : Type 0 where
-  pub now : State
-  pub are : AreOf now given books
-  pub same : leave_all window now ≡ leave_all window state
-  pub grows : Grows state now
+  pub turns : ℕ
+  pub are : AreOf (leave turns window state) given books
+  pub same : leave_all window (leave turns window state) ≡ leave_all window state
 
 -- one of the batches held leaves next, and the others stay
 pub record LeavesNext (books : Books) (h : Held) (others : List Held) : Type 0 where
@@ -121,38 +143,50 @@ AreOf-left state given books others are = record {
 
 module _ (window : ℤ) (state : State) (given : Given) (books : Books)
     (r : Reaches window state given books) where
+  -- the state that is reached
+  abbrev pub now : State
+  now = leave r.turns window state
+
+  next_now : (l : Option (Held × List Held)) → next_due books.version books.held ≡ l
+      → next_due (version_of now.processed) now.held ≡ l
+  next_now l next =
+      subst (λ v. next_due v now.held ≡ l) r.are.version
+      (subst (λ hs. next_due books.version hs ≡ l) r.are.held next)
+
   -- where none is due, the books are those of the state that all have left
   pub AreOf-reached : next_due books.version books.held ≡ None → AreOf (leave_all window state) given books
   AreOf-reached none =
-      let none_now = subst (λ v. next_due v r.now.held ≡ None) r.are.version
-      (subst (λ hs. next_due books.version hs ≡ None) r.are.held none) in
-      subst (λ s. AreOf s given books) (sym (leave_all-none window r.now none_now) ∙ r.same) r.are
+      subst (λ s. AreOf s given books) (sym (leave_all-none window now (next_now None none)) ∙ r.same) r.are
 
   module _ (h : Held) (others : List Held) (l : LeavesNext books h others) where
-    leaves_same : leave_all window (left window r.now h others) ≡ leave_all window r.now
+    leaves : next_due (version_of now.processed) now.held ≡ Some (h, others)
+    leaves = next_now (Some (h, others)) l.next
+
+    leaves_same : leave_all window (left window now h others) ≡ leave_all window now
     leaves_same =
-        let next = subst (λ v. next_due v r.now.held ≡ Some (h, others)) r.are.version
-        (subst (λ hs. next_due books.version hs ≡ Some (h, others)) r.are.held l.next) in
-        sym (leave_all-next window r.now h others next (omega (arith, ints, r.are.version))
+        sym (leave_all-next window now h others leaves (omega (arith, ints, r.are.version, l.due))
         (sym (ap length r.are.held) ∙ l.fewer))
 
-    -- the state with it admitted comes up next
-    pub Reaches-left : (new : Books) → AreOf (left window r.now h others) given new
+    more : leave (suc r.turns) window state ≡ left window now h others
+    more = leave-more r.turns window state ∙ ap (leave_then (λ t. t) window now) leaves
+
+    -- the state with it admitted is reached next
+    pub Reaches-left : (new : Books) → AreOf (left window now h others) given new
         → Reaches window state given new
     Reaches-left new are = record {
-      now = left window r.now h others;
-      are = are;
-      same = leaves_same ∙ r.same;
-      grows =
-          grows_then state r.now (left window r.now h others) r.grows (grows_left window r.now h others);
+      turns = suc r.turns;
+      are = subst (λ s. AreOf s given new) (sym more) are;
+      same = ap (leave_all window) more ∙ leaves_same ∙ r.same;
     }
 
-    -- what exceeds the limit as it leaves does so while all leave
-    pub ExceedsLimit-left : (limit : ℕ)
-        → ExceedsLimit limit window r.now.processed (left window r.now h others).processed
-        → ExceedsLimit limit window state.processed (leave_all window state).processed
-    ExceedsLimit-left limit =
-        ExceedsLimit-wider limit window state.processed r.now.processed (left window r.now h others).processed
-        (leave_all window state).processed r.grows.processed
-        (subst (λ s. IsBeginning (left window r.now h others).processed s.processed) (leaves_same ∙ r.same)
-        (grows_leave_all window (left window r.now h others)).processed)
+    -- a stop at the one that leaves is one while they leave
+    pub StopsAsTheyLeave-left : (limit : ℕ) (new : Books)
+        → StopsIn limit window (record now { held = others }) h.0 h.1 given new
+        → StopsAsTheyLeave limit window state given new
+    StopsAsTheyLeave-left limit new s = record {
+      turns = r.turns;
+      batch = h;
+      others = others;
+      leaves = leaves;
+      stops = record { next = s.next; made = s.made; exceeds = s.exceeds };
+    }

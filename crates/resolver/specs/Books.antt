@@ -1,33 +1,15 @@
 -- What a core is seen as, and when it is in a state of the reference resolver. This project's own.
-use Rattle.std.specs.Prelude.{
-  ◌≡◌,
-  ℕ,
-  ◌<◌,
-  ◌==◌,
-  ◌&&◌,
-  if◌then◌else◌,
-  ℤ,
-  ◌≤ℤ◌,
-  int_le,
-  List,
-  [],
-  ◌∷◌,
-  ◌++◌,
-  length,
-  All,
-  Option,
-  Some,
-  None,
-}
+use Rattle.std.specs.Prelude.{◌≡◌, ℕ, ◌<◌, ◌==◌, ◌&&◌, if◌then◌else◌, ℤ, ◌≤ℤ◌, int_le, ◌⊎◌, List, ◌++◌, length, All, Option, Some, None}
 use Rattle.std.specs.Ordering.{int_eq}
 use Rattle.keyspace.specs.declared.answer.Answer.{Answer}
+use Rattle.keyspace.specs.declared.batch.Batch.{Batch}
 use Rattle.keyspace.specs.declared.reply.Reply.{Reply}
 use Rattle.keyspace.specs.Writes.{Write, writes}
 use Rattle.keyspace.specs.Judged.{edge}
-use Rattle.keyspace.specs.Processed.{Processed, version_of}
+use Rattle.keyspace.specs.Processed.{version_of}
 use Rattle.keyspace.specs.Found.{kept}
-use Rattle.keyspace.specs.Leaving.{Held}
-use Rattle.keyspace.specs.Run.{State, answers_to}
+use Rattle.keyspace.specs.Leaving.{Held, next_due}
+use Rattle.keyspace.specs.Run.{State, process, admit, leave, answers_to}
 use Rattle.chain.specs.Replies.{Kept, reply_of}
 use Rattle.conflict.specs.ConflictSet.{SetState, Remembers, IsOverLimit}
 use Rattle.resolver.specs.Owed.{OwedView, owed_to}
@@ -106,11 +88,28 @@ pub record MadeBetween (before after : State) (given : Given) (books : Books) : 
       (proxy : ℕ) → proxy < length books.owed →
       IsBeginning (made_to proxy given books) (answers_to proxy after.answered)
 
--- Of what was processed after these, some batch exceeds the limit: at its edge, the writes committed up to it, its own
--- included, may need too many boundaries.
-pub record ExceedsLimit (limit : ℕ) (window : ℤ) (before after : List Processed) : Type 0 where
-  pub between : List Processed
-  pub over : Processed
-  pub later : List Processed
-  pub after_is : after ≡ (before ++ between) ++ over ∷ later
-  pub exceeds : IsOverLimit limit (edge window over.batch) (writes ((before ++ between) ++ over ∷ []))
+-- In this state the reference resolver processes the batch, which exceeds the limit: at its edge, the writes committed up
+-- to it, its own included, may need too many boundaries. All answers before it were made, and no others.
+pub record StopsIn (limit : ℕ) (window : ℤ) (now : State) (proxy : ℕ) (batch : Batch) (given : Given)
+    (books : Books) : Type 0 where
+  pub next : batch.previous ≡ version_of now.processed
+  pub made : (other : ℕ) → other < length books.owed → made_to other given books ≡ answers_to other now.answered
+  pub exceeds : IsOverLimit limit (edge window batch) (writes (process window proxy batch now).processed)
+
+-- While the batches held in this state leave, one that leaves is processed and exceeds the limit.
+pub record StopsAsTheyLeave (limit : ℕ) (window : ℤ) (first : State) (given : Given) (books : Books) : Type 0 where
+  -- so many have left before it
+  pub turns : ℕ
+  pub batch : Held
+  pub others : List Held
+  pub leaves :
+      next_due (version_of (leave turns window first).processed) (leave turns window first).held
+      ≡ Some (batch, others)
+  pub stops : StopsIn limit window (leave turns window first) batch.0 batch.1 given books
+
+-- The core stopped at a batch that exceeds the limit: that of the step, or one that leaves after it.
+abbrev pub StopsAtLimit : (limit : ℕ) (window : ℤ) (proxy : ℕ) (batch : Batch) (state : State) (given : Given)
+    (books : Books) → Type 0
+StopsAtLimit limit window proxy batch state given books =
+    StopsIn limit window state proxy batch given books
+    ⊎ StopsAsTheyLeave limit window (admit window proxy batch state) given books

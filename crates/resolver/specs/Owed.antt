@@ -1,9 +1,10 @@
 -- The answers owed to proxies. This project's own.
-use Rattle.std.specs.Prelude.{ℕ, ◌+◌, ◌-◌, ◌<◌, ◌^◌, List, [], ◌∷◌, ◌++◌, length, drop, set, slice_index_or}
+use Rattle.std.specs.Prelude.{◌≡◌, ℕ, ◌+◌, ◌-◌, ◌<◌, ◌^◌, List, [], ◌∷◌, ◌++◌, length, drop, set, slice_index_or}
 use Rattle.std.specs.List.{sum_by}
 use Rattle.std.specs.VecDeque.{deque_capacity, deque_len}
 use Rattle.std.specs.declared.collections.VecDeque.{VecDeque}
 use Rattle.keyspace.specs.declared.answer.Answer.{Answer}
+use Rattle.resolver.specs.declared.sequential.TheConstants.{MAX_PROXIES}
 
 -- what is owed to the proxy, oldest first
 abbrev pub owed_to : ℕ → List (List Answer) → List Answer
@@ -35,7 +36,12 @@ pub record OwedView : Type 0 where
   -- how many more are owed to each proxy without taking memory
   pub room : List ℕ
 
+-- The answers owed are so many. With one more for each of the most proxies, they are still counted.
+pub record AreCounted (owed : List (List Answer)) (count : ℕ) : Type 0 where
+  pub counted : count ≡ owed_count owed
+  pub few : owed_count owed + MAX_PROXIES < 2 ^ 64
+
 -- one answer more may be owed to the proxy without taking memory
 pub record HasRoomFor (proxy : ℕ) (owed : OwedView) : Type 0 where
   pub line : 0 < slice_index_or owed.room proxy 0
-  pub all : owed_count owed.answers + 1 < 2 ^ 64
+  pub all : owed_count owed.answers + 1 + MAX_PROXIES < 2 ^ 64

@@ -1,19 +1,18 @@
 //! The books of a core: its conflict set, its version, the batches that wait, the replies kept and the answers owed.
 
 ghost use Rattle.std.specs.Prelude.{◌≡◌, ◌≢◌, ℕ, ℤ, ◌<◌, ◌≤◌, ◌≤ℤ◌, ◌<ℤ◌, ◌↔◌, pos, [], length, Some, None, Err};
-ghost use Rattle.std.specs.Prelude.{OnOk, OnErr, IfOk, IfErr, option_to_list, ◌++◌};
-ghost use Rattle.keyspace.specs.Judged.{edge};
-ghost use Rattle.keyspace.specs.Writes.{writes};
+ghost use Rattle.std.specs.Prelude.{OnOk, OnErr, IfOk, IfErr, option_to_list, ◌++◌, ◌+◌, ◌^◌};
 ghost use Rattle.keyspace.specs.Found.{found, reply_or_never};
 ghost use Rattle.keyspace.specs.Run.{State, Take, Finish, start, answer, process, leave_all, step};
 ghost use Rattle.keyspace.specs.Run as reference;
 ghost use Rattle.stepmap.specs.declared.step_map.TheConstants.{MAX_LIMIT};
 ghost use Rattle.conflict.specs.declared.conflict_set.TheConstants.{MAX_WINDOW};
-ghost use Rattle.conflict.specs.ConflictSet.{IsOverLimit};
 ghost use Rattle.chain.specs.declared.gate.TheConstants.{MAX_HELD};
 ghost use Rattle.chain.specs.Replies.{reply_of};
+ghost use Rattle.resolver.specs.declared.sequential.TheConstants.{MAX_PROXIES};
 ghost use Rattle.resolver.specs.Owed.{owed_to, given_oldest, owed_count};
-ghost use Rattle.resolver.specs.Books.{Given, AreOf, GoOn, MadeBetween, ExceedsLimit, kept_also};
+ghost use Rattle.resolver.specs.Books.{Given, AreOf, GoOn, MadeBetween, StopsIn, StopsAsTheyLeave, StopsAtLimit};
+ghost use Rattle.resolver.specs.Books.{kept_also};
 
 use crate::owed::Owed;
 use crate::stop::{OpenError, Stop};
@@ -87,8 +86,7 @@ impl Books {
         ensures gate_full { (result ≡ Err Stop.GateFull)
             ↔ (self.old.version <ℤ batch.previous) × (length self.old.held ≡ MAX_HELD) }
         ensures arena_full { result ≡ Err Stop.ArenaFull → (state : State) (given : Given) → AreOf state given self.old
-            → ExceedsLimit self.old.set.map.limit self.old.set.window state.processed
-            (step self.old.set.window (Take proxy batch) state).processed }
+            → StopsAtLimit self.old.set.map.limit self.old.set.window proxy batch state given self.new }
     {
         if batch.previous > self.version {
             self.hold(proxy, batch)?;
@@ -134,6 +132,7 @@ impl Books {
     /// Returns the number of answers owed to all proxies.
     pub fn owed(&self) -> usize
         ensures count { result ≡ owed_count self.now.owed }
+        ensures few { result + MAX_PROXIES < 2 ^ 64 }
     {
         self.owed.count()
     }
@@ -169,8 +168,7 @@ impl Books {
         ensures goes_on { GoOn self.old self.new }
         ensures not_gate { result ≢ Err Stop.GateFull }
         ensures arena_full { result ≡ Err Stop.ArenaFull → (state : State) (given : Given) → AreOf state given self.old
-            → ExceedsLimit self.old.set.map.limit self.old.set.window state.processed
-            (reference.admit self.old.set.window proxy batch.now state).processed }
+            → StopsIn self.old.set.map.limit self.old.set.window state proxy batch.now given self.new }
     {
         if batch.previous < self.version {
             self.repeat(proxy, batch.version)
@@ -208,8 +206,7 @@ impl Books {
         ensures goes_on { GoOn self.old self.new }
         ensures not_gate { result ≢ Err Stop.GateFull }
         ensures arena_full { result ≡ Err Stop.ArenaFull → (state : State) (given : Given) → AreOf state given self.old
-            → IsOverLimit self.old.set.map.limit (edge self.old.set.window batch.now)
-            (writes (process self.old.set.window proxy batch.now state).processed) }
+            → StopsIn self.old.set.map.limit self.old.set.window state proxy batch.now given self.new }
     {
         laws::one_reply();
         self.owed.reserve(proxy)?;
@@ -231,8 +228,7 @@ impl Books {
         ensures goes_on { GoOn self.old self.new }
         ensures not_gate { result ≢ Err Stop.GateFull }
         ensures arena_full { result ≡ Err Stop.ArenaFull → (state : State) (given : Given) → AreOf state given self.old
-            → ExceedsLimit self.old.set.map.limit self.old.set.window state.processed
-            (leave_all self.old.set.window state).processed }
+            → StopsAsTheyLeave self.old.set.map.limit self.old.set.window state given self.new }
     {
         laws::leaving();
         while let Some((proxy, batch)) = self.gate.next_for(self.version) {

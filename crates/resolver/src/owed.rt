@@ -1,6 +1,8 @@
-ghost use Rattle.std.specs.Prelude.{◌≡◌, ◌<◌, [], ◌∷◌, ◌++◌, length, replicate, IfOk, OnOk, IfNone, IfSome, option_to_list};
+ghost use Rattle.std.specs.Prelude.{◌≡◌, ◌+◌, ◌^◌, ◌<◌, [], ◌∷◌, ◌++◌, length, replicate, IfOk, OnOk, IfNone, IfSome, option_to_list};
 ghost use Rattle.resolver.specs.Owed.{owed_to, owed_also, given_oldest, owed_count, HasRoomFor};
+ghost use Rattle.resolver.specs.declared.sequential.TheConstants.{MAX_PROXIES};
 
+use crate::sequential::MAX_PROXIES;
 use keyspace::Answer;
 use std::alloc::{AllocError, Global};
 use std::collections::VecDeque;
@@ -14,14 +16,14 @@ pub struct Owed {
 }
 
 impl Model for Owed {
-    ghost use Rattle.std.specs.Prelude.{◌≡◌, map};
-    ghost use Rattle.resolver.specs.Owed.{OwedView, owed_count, items_of, room_of};
+    ghost use Rattle.std.specs.Prelude.{map};
+    ghost use Rattle.resolver.specs.Owed.{OwedView, AreCounted, items_of, room_of};
 
     ghost Value = { OwedView };
 
     ghost view = { λ o. record { answers = map items_of o.queues.items; room = map room_of o.queues.items } };
 
-    ghost invariant = { λ o. o.count ≡ owed_count (map items_of o.queues.items) };
+    ghost invariant = { λ o. AreCounted (map items_of o.queues.items) o.count };
 }
 
 impl Owed {
@@ -43,13 +45,13 @@ impl Owed {
         self.queues.len()
     }
 
-    /// Takes memory for one answer more to the proxy.
+    /// Takes memory for one answer more to the proxy. It refuses one with which `MAX_PROXIES` more couldn't be counted.
     pub fn reserve(&mut self, proxy: usize) -> Result<(), AllocError>
         requires known { proxy < length self.old.answers }
         ensures room { OnOk result (HasRoomFor proxy self.new) }
         ensures same { self.new.answers ≡ self.old.answers }
     {
-        if self.count == usize::MAX {
+        if self.count >= usize::MAX - MAX_PROXIES {
             return Err(AllocError);
         }
         self.queues[proxy].reserve(1)
@@ -80,6 +82,7 @@ impl Owed {
     /// Returns the number of answers owed to all proxies.
     pub fn count(&self) -> usize
         ensures count { result ≡ owed_count self.now.answers }
+        ensures few { result + MAX_PROXIES < 2 ^ 64 }
     {
         self.count
     }

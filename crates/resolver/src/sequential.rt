@@ -1,13 +1,13 @@
 //! The resolver over values, which stops for good at the first refusal.
 
 ghost use Rattle.std.specs.Prelude.{◌≡◌, ◌<◌, ◌≤◌, ◌≤ℤ◌, ◌<ℤ◌, ◌↔◌, pos, List, [], ◌∷◌, ◌++◌, length, Some, None, Err};
-ghost use Rattle.std.specs.Prelude.{OnOk, IfOk, IfErr, IfSome, option_to_list};
+ghost use Rattle.std.specs.Prelude.{◌+◌, ◌^◌, OnOk, IfOk, IfErr, IfSome, option_to_list};
 ghost use Rattle.keyspace.specs.Run.{Step, Take, Finish, run};
 ghost use Rattle.stepmap.specs.declared.step_map.TheConstants.{MAX_LIMIT};
 ghost use Rattle.conflict.specs.declared.conflict_set.TheConstants.{MAX_WINDOW};
 ghost use Rattle.chain.specs.declared.gate.TheConstants.{MAX_HELD};
 ghost use Rattle.resolver.specs.Owed.{owed_to, given_oldest, owed_count};
-ghost use Rattle.resolver.specs.Books.{Given, GoOn, ExceedsLimit};
+ghost use Rattle.resolver.specs.Books.{Given, GoOn, StopsAtLimit};
 ghost use Rattle.resolver.specs.Stands.{Stands, given_also};
 
 use crate::books::Books;
@@ -80,9 +80,8 @@ impl Core {
             ↔ (self.old.books.version <ℤ batch.previous) × (length self.old.books.held ≡ MAX_HELD) }
         ensures arena_full { self.old.stop ≡ None → result ≡ Err Stop.ArenaFull → (log : List Step) (given : Given)
             → Stands self.old log given
-            → ExceedsLimit self.old.books.set.map.limit self.old.books.set.window
-            (run self.old.books.set.window log).processed
-            (run self.old.books.set.window (log ++ Take proxy batch ∷ [])).processed }
+            → StopsAtLimit self.old.books.set.map.limit self.old.books.set.window proxy batch
+            (run self.old.books.set.window log) given self.new.books }
     {
         if let Some(stop) = self.stop {
             return Err(stop);
@@ -132,6 +131,7 @@ impl Core {
     /// Returns the number of answers owed to all proxies.
     pub fn owed(&self) -> usize
         ensures count { result ≡ owed_count self.now.books.owed }
+        ensures few { result + MAX_PROXIES < 2 ^ 64 }
     {
         self.books.owed()
     }
@@ -141,5 +141,12 @@ impl Core {
         ensures count { result ≡ length self.now.books.owed }
     {
         self.books.proxies()
+    }
+
+    /// Returns the stop that was met, if any.
+    pub fn stop(&self) -> Option<Stop>
+        ensures stop { result ≡ self.now.stop }
+    {
+        self.stop
     }
 }

@@ -119,9 +119,11 @@ fn takes_reply_of_0(
 fn gate_full(rt: HostRuntime) -> Result<(), Fail> {
     let alloc = rt.alloc();
     let mut core = full_gate(&rt, alloc)?;
+    assert_eq!(rt; core.stop(), None);
     let further = empty(0, 2_000, 2_001, &[]);
     assert_eq!(rt; admit(&mut core, alloc, &further)?, Err(Stop::GateFull));
     assert_eq!(rt; core.finish(), Err(Stop::GateFull));
+    assert_eq!(rt; core.stop(), Some(Stop::GateFull));
     takes_reply_of_0(&rt, alloc, &mut core, 1)
 }
 

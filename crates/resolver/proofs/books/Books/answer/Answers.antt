@@ -4,11 +4,8 @@ use Rattle.std.proofs.lemmas.Int.{to_z-of_z, ints}
 use Rattle.std.proofs.lemmas.Result.{on_ok_weaker}
 use Rattle.keyspace.specs.Found.{found}
 use Rattle.keyspace.specs.Run.{answer}
-use Rattle.keyspace.specs.Judge.{judge}
-use Rattle.keyspace.specs.Writes.{writes}
-use Rattle.resolver.specs.Books.{AreOf, ExceedsLimit}
+use Rattle.resolver.specs.Books.{AreOf}
 use Rattle.resolver.proofs.Admitting.{admit-repeat, admit-process}
-use Rattle.resolver.proofs.Exceeding.{ExceedsLimit-next}
 use Rattle.resolver.proofs.books.Books.answer.Goals as goal
 
 -- the batch's turn has passed
@@ -49,13 +46,3 @@ returns-else-batch-self-clause-ok c =
     let admitted = admit-process window c.args.proxy c.args.batch.now state (next c ∙ are.version) in
     subst (λ s. AreOf s given c.process.new.self) (sym admitted) (ok state given are))
     c.process.ensures.ok
-
-pub returns-else-batch-self-clause-arena_full : goal.returns-else-batch-self-clause-arena_full
-returns-else-batch-self-clause-arena_full c = λ is state given are.
-    let set = c.args.self.now.set in
-    let b = c.args.batch.now in
-    let admitted = admit-process set.window c.args.proxy b state (next c ∙ are.version) in
-    subst (λ s. ExceedsLimit set.map.limit set.window state.processed s.processed) (sym admitted)
-    (ExceedsLimit-next set.map.limit set.window state.processed
-    (record { proxy = c.args.proxy; batch = b; reply = judge set.window (writes state.processed) b })
-    (c.process.ensures.arena_full is state given are))

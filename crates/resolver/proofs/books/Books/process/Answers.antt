@@ -29,6 +29,7 @@ use Rattle.resolver.specs.Stop.{stop_at_set}
 use Rattle.resolver.specs.Owed.{owed_also}
 use Rattle.resolver.specs.Books.{Books, books_of, AreOf, kept_also}
 use Rattle.resolver.proofs.Answered.{length-owed_also}
+use Rattle.resolver.proofs.Growing.{made_then}
 use Rattle.resolver.proofs.Kept.{kept_also_past}
 use Rattle.resolver.proofs.Stops.{set_is_full, same_stop}
 use Rattle.resolver.proofs.Processing.{absent_later, AreBooks-later, AreOf-process, over_processed}
@@ -46,9 +47,17 @@ returns-in_err-reply-clause-arena_full c = λ is state given are.
     let over = c.in_err-reply.ensures.full (ap (λ b. b.set.stop) c.self.view_is ∙ c.requires.«open»)
     (ap Err full) (writes state.processed) (judge set.window (writes state.processed) batch) was.remembers
     (c.one_reply.ensures.right set.window (writes state.processed) batch) in
-    subst (λ (b : Books). IsOverLimit b.set.map.limit (edge b.set.window batch)
-    (writes (process b.set.window c.args.proxy batch state).processed)) c.self.view_is
-    (over_processed set.map.limit set.window state c.args.proxy batch over)
+    let new = books_of c.resolve.new.self c.self.inside.version c.self.inside.gate c.self.inside.replies
+    c.reserve.new.self in
+    let same = c.in_ok-reserve.ensures.same ∙ ap (λ b. b.owed) c.self.view_is in
+    record {
+      next = c.requires.next ∙ are.version;
+      made = made_then state given c.args.self.now new are same;
+      exceeds =
+          subst (λ (b : Books). IsOverLimit b.set.map.limit (edge b.set.window batch)
+          (writes (process b.set.window c.args.proxy batch state).processed)) c.self.view_is
+          (over_processed set.map.limit set.window state c.args.proxy batch over);
+    }
 
 module _ (c : In_ok-reply) where
   -- the books before

@@ -2,10 +2,10 @@ use Rattle.std.proofs.Common.{rules, w64, SFits, Err, sym, ap, subst, ◌∙◌,
 use Rattle.std.proofs.lemmas.Int.{to_z-of_z, ints}
 use Rattle.keyspace.specs.Leaving.{Held, next_due}
 use Rattle.keyspace.specs.Laws.{Leaves}
-use Rattle.keyspace.specs.Run.{State, admit, leave_all}
+use Rattle.keyspace.specs.Run.{State, admit, leave, leave_all}
 use Rattle.resolver.specs.declared.stop.Stop.TheVariants.{ArenaFull}
-use Rattle.resolver.specs.Books.{Books, Given, books_of, AreOf, GoOn, ExceedsLimit}
-use Rattle.resolver.proofs.Growing.{Grows, grows_leave_all, MadeBetween-grown}
+use Rattle.resolver.specs.Books.{Books, Given, books_of, AreOf, GoOn, StopsIn}
+use Rattle.resolver.proofs.Growing.{Grows, grows_leave, grows_leave_all, MadeBetween-grown}
 use Rattle.resolver.proofs.Stops.{OnErr-always, same_stop}
 use Rattle.resolver.proofs.Releasing.{
   LeavesNext,
@@ -16,7 +16,7 @@ use Rattle.resolver.proofs.Releasing.{
   Reaches,
   AreOf-reached,
   Reaches-left,
-  ExceedsLimit-left,
+  StopsAsTheyLeave-left,
 }
 use Rattle.resolver.proofs.books.Books.release.Goals as goal
 use Rattle.resolver.proofs.books.Books.release.Goals.{In-Some}
@@ -62,12 +62,16 @@ module _ (c : In-Some) where
         subst (Reaches c.args.self.now.set.window state given) (sym c.self.view_is)
         (c.loop-proxy.invariant.reaches state given are)
 
+    -- the state that is reached
+    abbrev now : State
+    now = leave reached.turns c.args.self.now.set.window state
+
     -- the state without it
     abbrev others : State
-    others = record reached.now { held = c.next_for.new.self }
+    others = record now { held = c.next_for.new.self }
 
     are_without : AreOf others given without
-    are_without = AreOf-left reached.now given before c.next_for.new.self reached.are
+    are_without = AreOf-left now given before c.next_for.new.self reached.are
 
 pub invariant_of-self : goal.invariant_of-self
 invariant_of-self c =
@@ -85,8 +89,10 @@ returns-in_err-answer-clause-err c =
     let d = (goal.at.returns-in_err-answer-clause-err c).In-Some in
     let window = c.args.self.now.set.window in
     let r = reached d state given are in
-    MadeBetween-grown state r.now (leave_all window state) given (before d) c.answer.new.self r.are
-    c.in_err-answer.ensures.err r.grows (subst (Grows r.now) r.same (grows_leave_all window r.now)))
+    let s = now d state given are in
+    MadeBetween-grown state s (leave_all window state) given (before d) c.answer.new.self r.are
+    c.in_err-answer.ensures.err (grows_leave r.turns window state)
+    (subst (Grows s) r.same (grows_leave_all window s)))
 
 pub returns-in_err-answer-clause-arena_full : goal.returns-in_err-answer-clause-arena_full
 returns-in_err-answer-clause-arena_full c = λ is state given are.
@@ -95,13 +101,13 @@ returns-in_err-answer-clause-arena_full c = λ is state given are.
     let full = same_stop c.from_residual.result stop ArenaFull c.from_residual.ensures.1 is in
     let set = c.args.self.now.set in
     let s = others d state given are in
-    let exceeds = c.in_err-answer.ensures.arena_full (ap Err full) s given (are_without d state given are) in
-    ExceedsLimit-left set.window state given (before d) (reached d state given are) (leaver d)
-    c.next_for.new.self (leaves_next d) set.map.limit
-    (subst (λ w. ExceedsLimit set.map.limit w s.processed
-    (admit w c.in-Some.proxy c.in-Some.batch s).processed) (goes_on d).window
-    (subst (λ n. ExceedsLimit n c.self.inside.set.window s.processed
-    (admit c.self.inside.set.window c.in-Some.proxy c.in-Some.batch s).processed) (goes_on d).limit exceeds))
+    let new = c.answer.new.self in
+    let stops = c.in_err-answer.ensures.arena_full (ap Err full) s given (are_without d state given are) in
+    StopsAsTheyLeave-left set.window state given (before d) (reached d state given are) (leaver d)
+    c.next_for.new.self (leaves_next d) set.map.limit new
+    (subst (λ w. StopsIn set.map.limit w s c.in-Some.proxy c.in-Some.batch given new) (goes_on d).window
+    (subst (λ n. StopsIn n c.self.inside.set.window s c.in-Some.proxy c.in-Some.batch given new)
+    (goes_on d).limit stops))
 
 pub loop-proxy-preserved : goal.loop-proxy-preserved
 loop-proxy-preserved c =

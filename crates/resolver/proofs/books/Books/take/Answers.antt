@@ -1,20 +1,13 @@
-use Rattle.std.proofs.Common.{rules, ◌≡◌, length, false, w64, to_z, of_z, SFits, Err, sym, ap, subst, arith}
+use Rattle.std.proofs.Common.{rules, ◌≡◌, length, false, w64, to_z, of_z, SFits, Err, inl, inr, sym, ap, subst, arith}
 use Rattle.std.specs.Prelude.{ℤ, ◌<ℤ◌, ◌≤ℤ◌, int_lt}
 use Rattle.std.proofs.lemmas.Int.{ints}
 use Rattle.std.proofs.lemmas.Result.{on_ok_weaker, on_err_weaker}
 use Rattle.keyspace.specs.Run.{State, Take, admit, leave_all}
 use Rattle.chain.specs.declared.gate.TheConstants.{MAX_HELD}
 use Rattle.resolver.specs.declared.stop.Stop.TheVariants.{ArenaFull}
-use Rattle.resolver.specs.Books.{Given, AreOf, GoOn, MadeBetween, ExceedsLimit}
+use Rattle.resolver.specs.Books.{Given, AreOf, GoOn, MadeBetween, StopsAsTheyLeave}
 use Rattle.resolver.proofs.Stops.{OnErr-always, same_stop}
-use Rattle.resolver.proofs.Growing.{
-  begins_itself,
-  grows_admit,
-  grows_leave_all,
-  MadeBetween-step,
-  MadeBetween-earlier,
-}
-use Rattle.resolver.proofs.Exceeding.{ExceedsLimit-wider}
+use Rattle.resolver.proofs.Growing.{grows_admit, MadeBetween-step, MadeBetween-earlier}
 use Rattle.resolver.proofs.Releasing.{GoOn-then}
 use Rattle.resolver.proofs.books.Books.take.Goals as goal
 use Rattle.resolver.proofs.books.Books.take.Goals.{
@@ -37,14 +30,9 @@ returns-in_err-answer-clause-err c =
 
 pub returns-in_err-answer-clause-arena_full : goal.returns-in_err-answer-clause-arena_full
 returns-in_err-answer-clause-arena_full c = λ is state given are.
-    let set = c.args.self.now.set in
-    let next = admit set.window c.args.proxy c.args.batch state in
     let full = same_stop c.from_residual-in_err-answer.result c.in_err-answer.field-0.0 ArenaFull
     c.from_residual-in_err-answer.ensures.1 is in
-    ExceedsLimit-wider set.map.limit set.window state.processed state.processed next.processed
-    (leave_all set.window next).processed (begins_itself state.processed)
-    (grows_leave_all set.window next).processed
-    (c.in_err-answer.ensures.arena_full (ap Err full) state given are)
+    inl (c.in_err-answer.ensures.arena_full (ap Err full) state given are)
 
 module _ (c : After-release) where
   -- the batch is held or answered by now
@@ -93,11 +81,9 @@ returns-clause-arena_full c = λ is state given are.
     let set = c.args.self.now.set in
     let limit = c.if-batch-self.self.set.map.limit in
     let next = admit set.window c.args.proxy c.args.batch state in
-    let all = (leave_all set.window next).processed in
-    ExceedsLimit-wider set.map.limit set.window state.processed next.processed all all
-    (grows_admit set.window c.args.proxy c.args.batch state).processed (begins_itself all)
-    (subst (λ n. ExceedsLimit n set.window next.processed all) (goes_on d).limit
-    (subst (λ w. ExceedsLimit limit w next.processed (leave_all w next).processed) (goes_on d).window
+    let new = c.release.new.self in
+    inr (subst (λ n. StopsAsTheyLeave n set.window next given new) (goes_on d).limit
+    (subst (λ w. StopsAsTheyLeave limit w next given new) (goes_on d).window
     (c.release.ensures.arena_full is next given (admitted d state given are))))
 
 pub returns-clause-goes_on : goal.returns-clause-goes_on

@@ -57,7 +57,10 @@ invariant_of-self c =
     let count = counted d in
     let same = ap length c.in_err-answer.ensures.items in
     let fewer = ap length c.pop_front.ensures.rest ∙ length-drop 1 c.index_mut.result.now.items in
-    omega (arith, count, same, fewer, c.self.invariant)
+    record {
+      counted = omega (arith, count, same, fewer, c.self.invariant.counted);
+      few = omega (arith, count, same, fewer, c.self.invariant.few);
+    }
 
 pub returns-in_err-answer-clause-oldest : goal.returns-in_err-answer-clause-oldest
 returns-in_err-answer-clause-oldest c =
@@ -74,14 +77,17 @@ overflow_sub-self c =
     let d = (goal.at.overflow_sub-self c).After-pop_front in
     let few = get_or-le-sum_by length (answers_of c.self.inside.queues.items) c.args.proxy [] (known d) in
     let many = ap length (before d ∙ c.in_ok-answer.ensures.items) in
-    omega (arith, few, many, c.self.invariant)
+    omega (arith, few, many, c.self.invariant.counted)
 
 pub invariant_of-self-2 : goal.invariant_of-self-2
 invariant_of-self-2 c =
     let d = (goal.at.invariant_of-self-2 c).After-pop_front in
     let count = counted d in
     let many = ap length c.in_ok-answer.ensures.items in
-    omega (arith, count, many, c.self.invariant)
+    record {
+      counted = omega (arith, count, many, c.self.invariant.counted);
+      few = omega (arith, count, many, c.self.invariant.few);
+    }
 
 pub returns-clause-oldest : goal.returns-clause-oldest
 returns-clause-oldest c =

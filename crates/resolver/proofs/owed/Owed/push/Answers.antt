@@ -20,7 +20,12 @@ invariant_of-self c =
     let owed = answers_of c.self.inside.queues.items in
     let more = owed_count-also owed c.args.proxy c.args.answer (known d) in
     let count = ap owed_count (also d) in
-    omega (arith, more, count, c.self.invariant)
+    let room = c.requires.room.all in
+    let is = ap (λ o. owed_count o.answers) c.self.view_is in
+    record {
+      counted = omega (arith, more, count, c.self.invariant.counted);
+      few = omega (arith, more, count, is, room);
+    }
 
 pub returns : goal.returns
 returns c = record {

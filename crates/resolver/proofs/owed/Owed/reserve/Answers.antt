@@ -1,6 +1,6 @@
-use Rattle.std.proofs.Common.{◌≡◌, ◌<◌, length, set, sym, ap, ◌∙◌, arith}
+use Rattle.std.proofs.Common.{◌≡◌, ◌<◌, length, set, sym, ap, subst, ◌∙◌, arith}
 use Rattle.std.proofs.lemmas.Result.{on_ok_weaker}
-use Rattle.resolver.specs.Owed.{owed_count}
+use Rattle.resolver.specs.Owed.{owed_count, AreCounted}
 use Rattle.resolver.proofs.Queues.{answers_of, answers_of-same, HasRoomFor-written}
 use Rattle.resolver.proofs.owed.Owed.reserve.Goals as goal
 
@@ -15,7 +15,7 @@ same c =
     c.reserve.new.self c.index_mut.ensures.value c.reserve.ensures.items
 
 pub invariant_of-self : goal.invariant_of-self
-invariant_of-self c = c.self.invariant ∙ sym (ap owed_count (same c))
+invariant_of-self c = subst (λ owed. AreCounted owed c.self.inside.count) (sym (same c)) c.self.invariant
 
 pub returns-clause-room : goal.returns-clause-room
 returns-clause-room c =

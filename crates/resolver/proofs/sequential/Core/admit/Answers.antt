@@ -1,8 +1,8 @@
-use Rattle.std.proofs.Common.{List, [], ◌∷◌, ◌++◌, sym, subst}
+use Rattle.std.proofs.Common.{List, sym, subst}
 use Rattle.keyspace.specs.Run.{Step, Take, run}
-use Rattle.resolver.specs.Books.{Given, AreOf, ExceedsLimit}
+use Rattle.resolver.specs.Books.{Given, AreOf, StopsAtLimit}
 use Rattle.resolver.specs.Stands.{CoreState, Stands}
-use Rattle.resolver.proofs.Standing.{run-more, AreOf-standing, StandsBy-more, StoppedIn-more}
+use Rattle.resolver.proofs.Standing.{AreOf-standing, StandsBy-more, StoppedIn-more}
 use Rattle.resolver.proofs.sequential.Core.admit.Goals as goal
 use Rattle.resolver.proofs.sequential.Core.admit.Goals.{After-take-taken}
 
@@ -24,14 +24,10 @@ returns-in-Err-clause-stands c = λ _ log given stands.
 pub returns-in-Err-clause-arena_full : goal.returns-in-Err-clause-arena_full
 returns-in-Err-clause-arena_full c = λ _ is log given stands.
     let d = (goal.at.returns-in-Err-clause-arena_full c).After-take-taken in
-    let x = Take c.args.proxy c.args.batch in
     let set = c.self.inside.books.set in
-    subst (λ (core : CoreState). ExceedsLimit core.books.set.map.limit core.books.set.window
-    (run core.books.set.window log).processed (run core.books.set.window (log ++ x ∷ [])).processed)
-    c.self.view_is
-    (subst (λ s. ExceedsLimit set.map.limit set.window (run set.window log).processed s.processed)
-    (sym (run-more set.window log x))
-    (c.in-Err.ensures.arena_full is (run set.window log) given (before d log given stands)))
+    subst (λ (core : CoreState). StopsAtLimit core.books.set.map.limit core.books.set.window c.args.proxy
+    c.args.batch (run core.books.set.window log) given c.take-taken.new.self) c.self.view_is
+    (c.in-Err.ensures.arena_full is (run set.window log) given (before d log given stands))
 
 pub returns-in_default-taken-clause-stands : goal.returns-in_default-taken-clause-stands
 returns-in_default-taken-clause-stands c = λ _ log given stands.
