@@ -55,7 +55,7 @@ pub record Grows (before after : State) : Type 0 where
 pub begins_itself : {T : Type 0} (xs : List T) → IsBeginning xs xs
 begins_itself xs = ([], sym (append-nil xs))
 
-begins_then : {T : Type 0} (xs ys zs : List T) → IsBeginning xs ys → IsBeginning ys zs
+pub begins_then : {T : Type 0} (xs ys zs : List T) → IsBeginning xs ys → IsBeginning ys zs
     → IsBeginning xs zs
 begins_then xs ys zs b d =
     (b.0 ++ d.0, d.1 ∙ ap (λ ws. ws ++ d.0) b.1 ∙ append_assoc xs b.0 d.0)

@@ -1,6 +1,6 @@
 -- What is known at a refusal.
 use Rattle.std.proofs.Common.{◌≡◌, Result, Ok, Err, refl}
-use Rattle.std.specs.Prelude.{OnErr, IsErrAnd}
+use Rattle.std.specs.Prelude.{OnErr, IfErr, IsErrAnd}
 use Rattle.std.proofs.lemmas.Result.{err_from_is_err_and}
 use Rattle.conflict.specs.declared.error.SetStop.{SetStop}
 use Rattle.conflict.specs.declared.error.SetStop.TheVariants as set
@@ -22,3 +22,7 @@ same_stop r met stop exit is = let e = err_from_is_err_and r exit in cc (is, e.1
 pub OnErr-always : {T E P : Type 0} (r : Result T E) → P → OnErr r P
 OnErr-always (Ok x) p = tt
 OnErr-always (Err e) p = p
+
+pub IfErr-always : {T E P : Type 0} (r : Result T E) → P → IfErr r (λ _. P)
+IfErr-always (Ok x) p = tt
+IfErr-always (Err e) p = p

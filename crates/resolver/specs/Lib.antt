@@ -3,3 +3,7 @@ pub mod Stop
 pub mod Owed
 pub mod Books
 pub mod Stands
+pub mod Lanes
+pub mod Resolver
+pub mod Links
+pub mod Settled

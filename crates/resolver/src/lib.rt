@@ -5,11 +5,21 @@
 #![tactic(auto)]
 
 mod books;
+mod client;
+mod link;
+mod links;
+mod opening;
+mod over_lanes;
 mod owed;
 mod sequential;
 mod stop;
 #[cfg(test)]
 mod tests;
+mod turn;
 
+pub use client::Client;
+pub use opening::open;
+pub use over_lanes::Resolver;
 pub use sequential::{Core, MAX_PROXIES};
 pub use stop::{OpenError, Stop};
+pub use turn::{Account, Turn};

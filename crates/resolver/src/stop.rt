@@ -3,6 +3,7 @@ ghost use Rattle.resolver.specs.Stop.{stop_at_set, stop_at_chain};
 
 use chain::ChainError;
 use conflict::SetStop;
+use lane::LaneError;
 use std::alloc::AllocError;
 use thiserror::Error;
 
@@ -66,6 +67,16 @@ impl From<AllocError> for OpenError {
     ghost from_gives = { λ _ error. error ≡ Memory };
 
     fn from(_refused: AllocError) -> OpenError {
+        OpenError::Memory
+    }
+}
+
+impl From<LaneError> for OpenError {
+    ghost use Rattle.resolver.specs.declared.stop.OpenError.TheVariants.{Memory};
+
+    ghost from_gives = { λ _ error. error ≡ Memory };
+
+    fn from(_refused: LaneError) -> OpenError {
         OpenError::Memory
     }
 }

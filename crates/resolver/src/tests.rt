@@ -1,8 +1,11 @@
 //! The worked rows, and a refusal of each allocation in turn.
 
 mod fixtures;
+mod lanes;
+mod refusal;
 mod rows;
 mod run;
+mod service;
 
 use crate::{Core, Stop};
 use fixtures::{Admission, batch_of, empty, give, open, text_of};

@@ -6,16 +6,16 @@ use std::alloc::Global;
 use std::process::Abort;
 use std::test::Fail;
 
-// Returns the batch, by a second try where the first is refused memory.
-fn batch_at_last(alloc: Global, row: &Admission) -> Result<Batch, Unmade> {
+/// Returns the batch, by a second try where the first is refused memory.
+pub(super) fn batch_at_last(alloc: Global, row: &Admission) -> Result<Batch, Unmade> {
     match batch_of(alloc, row) {
         Err(Unmade::Memory) => batch_of(alloc, row),
         made => made,
     }
 }
 
-// Returns the answer as text, by a second try where the first is refused memory.
-fn text_at_last(alloc: Global, answer: &Answer) -> Result<String, Unmade> {
+/// Returns the answer as text, by a second try where the first is refused memory.
+pub(super) fn text_at_last(alloc: Global, answer: &Answer) -> Result<String, Unmade> {
     match text_of(alloc, answer) {
         Err(Unmade::Memory) => text_of(alloc, answer),
         made => made,

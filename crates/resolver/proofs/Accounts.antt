@@ -1,0 +1,215 @@
+-- What a client knows of the log, from *Lane* of both of its lanes.
+use Rattle.std.proofs.Common.{◌≡◌, ℕ, suc, eqb, ◌<◌, Bool, true, false, List, [], ◌∷◌, ◌++◌, length, map, Option, Some, None, refl, sym, ap, subst, ◌∙◌, inl, inr, append-nil, length-append, arith}
+use Rattle.std.specs.Prelude.{is_some, option_map, slice_get, slice_index_or}
+use Rattle.std.proofs.lemmas.Bool.{false≢true, eqb-true, eq-eqb}
+use Rattle.std.proofs.lemmas.Option.{slice_get-map, slice_get_within, get_or_from_slice_get}
+use Rattle.std.proofs.lemmas.List.{nil_from_length}
+use Rattle.std.proofs.lemmas.List.Folds.{sum_by-zero}
+use Rattle.std.proofs.lemmas.List.Sums.{AllPass-from_list_all}
+use Rattle.keyspace.specs.declared.answer.Answer.{Answer}
+use Rattle.keyspace.specs.Run.{Step, answers, part}
+use Rattle.keyspace.specs.Laws.{RunsAreChains}
+use Rattle.lane.specs.Lane.{Lane, HasEnded}
+use Rattle.resolver.specs.declared.stop.Stop.{Stop}
+use Rattle.resolver.specs.declared.turn.Account.{Account}
+use Rattle.resolver.specs.declared.client.Client.{Client}
+use Rattle.resolver.specs.Owed.{owed_to, owed_count}
+use Rattle.resolver.specs.Books.{Books, Given, IsBeginning, made_to}
+use Rattle.resolver.specs.Stands.{StandsBy}
+use Rattle.resolver.specs.Lanes.{Lanes, all_ended, sent_to}
+use Rattle.resolver.specs.Resolver.{StandsOver, FinishesBy, FinishesLast}
+use Rattle.resolver.specs.Links.{LinkView, Parts, AreParts, lanes_of, owed_with, resolver_of}
+use Rattle.resolver.specs.Settled.{Settled, SettledFor, IsComplete}
+use Rattle.resolver.proofs.Growing.{begins_itself, begins_then}
+use Rattle.resolver.proofs.Standing.{AreOf-standing}
+use Rattle.resolver.proofs.Settling.{lanes_at}
+use Rattle.resolver.proofs.Unchanged.{LanesHold, slice_get_inside}
+
+pub none_from : {A : Type 0} (o : Option A) → is_some o ≡ false → o ≡ None
+none_from None none = refl
+none_from (Some x) none = absurd (false≢true (sym none))
+
+-- a beginning of the whole length is the whole
+begins_whole : {T : Type 0} (xs ys : List T) → IsBeginning xs ys → length xs ≡ length ys → xs ≡ ys
+begins_whole xs ys begins same =
+    let both = ap length begins.1 ∙ length-append xs begins.0 in
+    let none = nil_from_length begins.0 (omega (arith, both, same)) in
+    sym (append-nil xs) ∙ ap (λ rest. xs ++ rest) (sym none) ∙ sym begins.1
+
+-- the answers made to a proxy begin those of the reference resolver
+made_begins : (stop : Option Stop) (log : List Step) (given : Given) (books : Books)
+    → StandsBy stop log given books → (proxy : ℕ) → proxy < length books.owed
+    → IsBeginning (made_to proxy given books) (answers books.set.window log proxy)
+made_begins None log given books stands proxy inside =
+    subst (IsBeginning (made_to proxy given books)) (stands.answers proxy inside)
+    (begins_itself (made_to proxy given books))
+made_begins (Some stop) log given books stands proxy inside = stands.made.no_others proxy inside
+
+-- where nothing is owed, nothing is owed to the proxy
+owed_none : (owed : List (List Answer)) (proxy : ℕ) → owed_count owed ≡ 0 → proxy < length owed
+    → owed_to proxy owed ≡ []
+owed_none owed proxy none inside =
+    let all = sym (sum_by-zero length owed) ∙ eq-eqb (owed_count owed) 0 none in
+    nil_from_length (owed_to proxy owed)
+    (eqb-true (length (owed_to proxy owed)) 0
+    (AllPass-from_list_all (λ answers. eqb (length answers) 0) owed all proxy [] inside))
+
+-- where all lanes have ended, each has
+ended_at : (lanes : List Lanes) (proxy : ℕ) (l : Lanes) → all_ended lanes ≡ true → slice_get lanes proxy ≡ Some l
+    → l.ended ≡ true
+ended_at lanes proxy l all at =
+    ap (λ k. k.ended) (sym (get_or_from_slice_get lanes proxy l l at))
+    ∙ AllPass-from_list_all (λ k. k.ended) lanes all proxy l (slice_get_within lanes proxy l at)
+
+length-owed_with : (links : List LinkView) (owed : List (List Answer)) → length links ≡ length owed
+    → length (owed_with links owed) ≡ length links
+length-owed_with [] owed same = sym same
+length-owed_with (l ∷ links) [] same = sym same
+length-owed_with (l ∷ links) (answers ∷ owed) same = ap suc (length-owed_with links owed (omega (arith, same)))
+
+-- each client has taken every answer sent to it
+abbrev pub EachTaken : List LinkView → List Client → Type 0
+EachTaken links clients =
+    (proxy : ℕ) (l : LinkView) (c : Client) → slice_get links proxy ≡ Some l → slice_get clients proxy ≡ Some c
+    → c.replies.taken ≡ l.lanes.replies.sent
+
+module _ (p : Parts) (are : AreParts p) (clients : List Client) (count : length clients ≡ length p.links) where
+  abbrev lanes : List Lanes
+  lanes = lanes_of p.links
+
+  abbrev books : Books
+  books = (resolver_of p).core.books
+
+  -- a field of a link's lanes, read from the list of that field
+  field : (proxy : ℕ) (l : LinkView) → slice_get p.links proxy ≡ Some l → {A : Type 0} (f : Lanes → A) (d : A)
+      → slice_index_or (map f lanes) proxy d ≡ f l.lanes
+  field proxy l at f d =
+      get_or_from_slice_get (map f lanes) proxy (f l.lanes) d
+      (slice_get-map f lanes proxy ∙ ap (option_map f) (lanes_at p.links proxy l at))
+
+  -- a client's link
+  link_of : (proxy : ℕ) (c : Client) → slice_get clients proxy ≡ Some c
+      → (l : LinkView) × (slice_get p.links proxy ≡ Some l)
+  link_of proxy c at =
+      let inside = slice_get_within clients proxy c at in
+      slice_get_inside p.links proxy (omega (arith, inside, count))
+
+  -- where all is complete, the reply lanes were closed
+  was_closed : IsComplete (resolver_of p) clients → p.closed ≡ true
+  was_closed complete =
+      let some = are.some in
+      let l = slice_get_inside p.links 0 (omega (arith, some)) in
+      let at = lanes_at p.links 0 l.0 l.1 in
+      sym (are.closed 0 l.0.lanes at) ∙ complete.closed 0 l.0.lanes at
+
+  -- and so all request lanes have ended
+  have_ended : IsComplete (resolver_of p) clients → all_ended lanes ≡ true
+  have_ended complete = elim (are.through (was_closed complete)).no_more [
+    | inl ended ↦ ended
+    | inr stop ↦ absurd (false≢true (ap is_some (sym complete.no_stop) ∙ stop))
+  ]
+
+  -- all is complete, by the parts
+  pub complete_from : p.core.stop ≡ None → p.closed ≡ true → EachTaken p.links clients
+      → IsComplete (resolver_of p) clients
+  complete_from none closed taken = record {
+    no_stop = none;
+    closed = λ proxy k at. are.closed proxy k at ∙ closed;
+    taken = λ proxy c at.
+        let l = link_of proxy c at in
+        taken proxy l.0 c l.1 at ∙ sym (field proxy l.0 l.1 (λ k. k.replies.sent) []);
+  }
+
+  pub complete_then : IsComplete (resolver_of p) clients
+      → (p.core.stop ≡ None) × (p.closed ≡ true) × EachTaken p.links clients
+  complete_then complete = (
+    complete.no_stop,
+    was_closed complete,
+    λ proxy l c l_at c_at. complete.taken proxy c c_at ∙ field proxy l l_at (λ k. k.replies.sent) [],
+  )
+
+  module _ (log : List Step) (stands : StandsOver (resolver_of p) log) where
+    -- the log finishes
+    pub finishes : IsComplete (resolver_of p) clients → FinishesLast log
+    finishes complete =
+        subst (λ ended. FinishesBy ended log) (have_ended complete) (stands.finish complete.no_stop)
+
+    module _ (proxy : ℕ) (c : Client) (l : LinkView) (c_at : slice_get clients proxy ≡ Some c)
+        (l_at : slice_get p.links proxy ≡ Some l) (requests : Lane c.requests l.lanes.requests)
+        (replies : Lane l.lanes.replies c.replies) where
+      at : slice_get lanes proxy ≡ Some l.lanes
+      at = lanes_at p.links proxy l l_at
+
+      inside : proxy < length books.owed
+      inside =
+          let within = slice_get_within p.links proxy l l_at in
+          let many = length-owed_with p.links p.core.books.owed are.count in
+          omega (arith, within, many)
+
+      sent_is : sent_to lanes proxy ≡ l.lanes.replies.sent
+      sent_is = field proxy l l_at (λ k. k.replies.sent) []
+
+      part_is : part log proxy ≡ l.lanes.requests.taken
+      part_is =
+          let within = slice_get_within lanes proxy l.lanes at in
+          stands.parts proxy within ∙ field proxy l l_at (λ k. k.requests.taken) []
+
+      made_is : made_to proxy (sent_to lanes) books ≡ l.lanes.replies.sent ++ owed_to proxy books.owed
+      made_is = ap (λ sent. sent ++ owed_to proxy books.owed) sent_is
+
+      -- what was sent begins the answers of the reference resolver
+      sent_begins : IsBeginning l.lanes.replies.sent (answers books.set.window log proxy)
+      sent_begins =
+          begins_then l.lanes.replies.sent (made_to proxy (sent_to lanes) books) (answers books.set.window log proxy)
+          (owed_to proxy books.owed, made_is)
+          (made_begins p.core.stop log (sent_to lanes) books stands.core proxy inside)
+
+      -- and is all of them, where all is complete
+      sent_all : IsComplete (resolver_of p) clients
+          → l.lanes.replies.sent ≡ answers books.set.window log proxy
+      sent_all complete =
+          let through = are.through (was_closed complete) in
+          let state = AreOf-standing p.core.stop log (sent_to lanes) books complete.no_stop stands.core in
+          sym (append-nil l.lanes.replies.sent)
+          ∙ ap (λ owed. l.lanes.replies.sent ++ owed)
+          (sym (owed_none books.owed proxy through.nothing_owed inside))
+          ∙ sym made_is
+          ∙ state.answers proxy inside
+
+      whole : HasEnded l.lanes.requests → l.lanes.requests.taken ≡ c.requests.sent
+      whole ended =
+          begins_whole l.lanes.requests.taken c.requests.sent requests.in_order
+          (ended.all ∙ requests.all_seen ended.close)
+
+      pub settled_for : (complete : Bool) → (complete ≡ true → IsComplete (resolver_of p) clients)
+          → SettledFor books.set.window log (slice_index_or (map (λ k. k.ended) lanes) proxy true) complete proxy c
+      settled_for complete is = record {
+        batches = subst (λ taken. IsBeginning taken c.requests.sent) (sym part_is) requests.in_order;
+        all_batches = λ ended. part_is ∙ whole (has_ended ended);
+        nothing_after = λ ended. requests.seen_close (has_ended ended).close;
+        received =
+            begins_then c.replies.taken l.lanes.replies.sent (answers books.set.window log proxy) replies.in_order
+            sent_begins;
+        all_received = λ yes. (is yes).taken proxy c c_at ∙ sent_is ∙ sent_all (is yes);
+        all_ended = λ yes. ended_is ∙ ended_at lanes proxy l.lanes (have_ended (is yes)) at;
+      }
+        where
+          ended_is : slice_index_or (map (λ k. k.ended) lanes) proxy true ≡ l.lanes.ended
+          ended_is = field proxy l l_at (λ k. k.ended) true
+
+          has_ended : slice_index_or (map (λ k. k.ended) lanes) proxy true ≡ true → HasEnded l.lanes.requests
+          has_ended ended = are.ended proxy l.lanes at (sym ended_is ∙ ended)
+
+    -- the headline, of all clients
+    pub settled : LanesHold p.links clients → RunsAreChains → (account : Account)
+        → (account.complete ≡ true → IsComplete (resolver_of p) clients) → account.stop ≡ p.core.stop
+        → Settled books.set.window log (map (λ k. k.ended) lanes) clients account
+    settled holds chains account is stop = record {
+      each = λ proxy c at.
+          let l = link_of proxy c at in
+          let both = holds proxy l.0 c l.1 at in
+          settled_for proxy c l.0 at l.1 both.0 both.1 account.complete is;
+      chain = chains books.set.window log;
+      finish = λ yes. finishes (is yes);
+      no_stop = λ yes. stop ∙ (is yes).no_stop;
+    }

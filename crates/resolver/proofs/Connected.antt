@@ -1,0 +1,95 @@
+-- Links and clients that are made together, one of each for a proxy.
+use Rattle.std.proofs.Common.{
+  ◌≡◌,
+  ℕ,
+  zero,
+  suc,
+  ◌+◌,
+  List,
+  [],
+  ◌∷◌,
+  ◌++◌,
+  length,
+  Some,
+  sym,
+  refl,
+  ap,
+  subst,
+  subst₂,
+  ◌∙◌,
+  arith,
+}
+use Rattle.std.specs.Prelude.{All, slice_get}
+use Rattle.std.proofs.lemmas.Option.{none-some, same_Some}
+use Rattle.std.proofs.lemmas.List.{length_push, length-map, map_push}
+use Rattle.std.proofs.lemmas.List.Elements.{All-nil, All-push}
+use Rattle.lane.specs.Lane.{SameLane}
+use Rattle.resolver.specs.declared.client.Client.{Client}
+use Rattle.resolver.specs.Resolver.{AreClients, IsNewClient}
+use Rattle.resolver.specs.Links.{LinkView, IsNewLink, lanes_of}
+
+-- so many links and clients, all new, those of the same lanes at the same index
+pub record AreConnected (capacity count : ℕ) (links : List LinkView) (clients : List Client) : Type 0 where
+  pub link_count : length links ≡ count
+  pub client_count : length clients ≡ count
+  pub new_links : All IsNewLink links
+  pub new_clients : All (IsNewClient capacity) clients
+  pub same : AreClients (lanes_of links) clients
+
+module _ {A B : Type 0} (R : A → B → Type 0) where
+  -- what holds of the elements at the same index
+  abbrev Pairs : List A → List B → Type 0
+  Pairs xs ys = (i : ℕ) (a : A) (b : B) → slice_get xs i ≡ Some a → slice_get ys i ≡ Some b → R a b
+
+  pairs_push : (xs : List A) (ys : List B) (x : A) (y : B) → length xs ≡ length ys → Pairs xs ys → R x y
+      → Pairs (xs ++ x ∷ []) (ys ++ y ∷ [])
+  pairs_push [] [] x y same each here zero a b at_a at_b =
+      subst₂ R (same_Some x a at_a) (same_Some y b at_b) here
+  pairs_push [] [] x y same each here (suc i) a b at_a at_b = absurd (none-some a at_a)
+  pairs_push [] (v ∷ ys) x y same each here i a b at_a at_b = absurd (omega (arith, same))
+  pairs_push (u ∷ xs) [] x y same each here i a b at_a at_b = absurd (omega (arith, same))
+  pairs_push (u ∷ xs) (v ∷ ys) x y same each here zero a b at_a at_b = each zero a b at_a at_b
+  pairs_push (u ∷ xs) (v ∷ ys) x y same each here (suc i) a b at_a at_b =
+      pairs_push xs ys x y (omega (arith, same)) (λ j. each (suc j)) here i a b at_a at_b
+
+pub connected_none : (capacity : ℕ) → AreConnected capacity 0 [] []
+connected_none capacity = record {
+  link_count = refl;
+  client_count = refl;
+  new_links = All-nil IsNewLink;
+  new_clients = All-nil (IsNewClient capacity);
+  same = record {
+    count = refl;
+    requests = λ proxy l c at. absurd (none-some l at);
+    replies = λ proxy l c at. absurd (none-some l at);
+  };
+}
+
+module _ (capacity count : ℕ) (links : List LinkView) (clients : List Client) (l : LinkView) (c : Client)
+    (are : AreConnected capacity count links clients)
+    (requests : SameLane c.requests l.lanes.requests) (replies : SameLane l.lanes.replies c.replies) where
+  many : length (lanes_of links) ≡ length clients
+  many = length-map links (λ k. k.lanes) ∙ are.link_count ∙ sym are.client_count
+
+  same_more : AreClients (lanes_of links ++ l.lanes ∷ []) (clients ++ c ∷ [])
+  same_more = record {
+    count = length_push clients c ∙ ap (λ n. n + 1) (sym many) ∙ sym (length_push (lanes_of links) l.lanes);
+    requests =
+        pairs_push (λ k d. SameLane d.requests k.requests) (lanes_of links) clients l.lanes c many
+        are.same.requests requests;
+    replies =
+        pairs_push (λ k d. SameLane k.replies d.replies) (lanes_of links) clients l.lanes c many
+        are.same.replies replies;
+  }
+
+  -- one more of each
+  pub connected_more : IsNewLink l → IsNewClient capacity c
+      → AreConnected capacity (count + 1) (links ++ l ∷ []) (clients ++ c ∷ [])
+  connected_more new_link new_client = record {
+    link_count = length_push links l ∙ ap (λ n. n + 1) are.link_count;
+    client_count = length_push clients c ∙ ap (λ n. n + 1) are.client_count;
+    new_links = All-push IsNewLink links l are.new_links new_link;
+    new_clients = All-push (IsNewClient capacity) clients c are.new_clients new_client;
+    same =
+        subst (λ lanes. AreClients lanes (clients ++ c ∷ [])) (sym (map_push (λ k. k.lanes) links l)) same_more;
+  }

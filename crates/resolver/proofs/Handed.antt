@@ -1,0 +1,154 @@
+-- Answers move from what is owed to what is given.
+use Rattle.std.proofs.Common.{
+  ◌≡◌,
+  ℕ,
+  ◌<◌,
+  List,
+  [],
+  ◌∷◌,
+  ◌++◌,
+  length,
+  map,
+  Option,
+  Some,
+  None,
+  append_assoc,
+  sym,
+  ap,
+  subst,
+  ◌∙◌,
+  refl,
+  inl,
+  inr,
+  arith,
+}
+use Rattle.std.specs.Prelude.{ℤ, option_to_list, slice_get, slice_index_or}
+use Rattle.std.proofs.lemmas.Option.{slice_get_cases}
+use Rattle.keyspace.specs.declared.batch.Batch.{Batch}
+use Rattle.keyspace.specs.declared.answer.Answer.{Answer}
+use Rattle.keyspace.specs.Run.{State, Step, run, leave, admit, answers_to}
+use Rattle.resolver.specs.declared.stop.Stop.{Stop}
+use Rattle.resolver.specs.Owed.{owed_to}
+use Rattle.resolver.specs.Books.{Books, Given, IsBeginning, AreOf, MadeBetween, made_to, StopsIn, StopsAtLimit}
+use Rattle.resolver.specs.Stands.{CoreState, StoppedIn, StandsBy, Stands}
+use Rattle.resolver.specs.Lanes.{Lanes, sent_to}
+use Rattle.resolver.specs.Links.{LinkView, lanes_of, owed_with, EachLink}
+use Rattle.resolver.proofs.Linked.{field_at, lanes_at, owed_with-at, owed_with-length, both_at, field_same}
+
+module _ (given given_after : Given) (old : Books) (owed : List (List Answer))
+    (many : length owed ≡ length old.owed)
+    (made : (p : ℕ) → p < length old.owed
+    → given_after p ++ owed_to p owed ≡ given p ++ owed_to p old.owed) where
+  abbrev moved : Books
+  moved = record old { owed = owed }
+
+  pub AreOf-moved : (state : State) → AreOf state given old → AreOf state given_after moved
+  AreOf-moved state are = record {
+    version = are.version;
+    held = are.held;
+    kept = are.kept;
+    remembers = are.remembers;
+    answers = λ p inside.
+        let within : p < length old.owed = omega (arith, inside, many) in
+        made p within ∙ are.answers p within;
+  }
+
+  pub MadeBetween-moved : (before after : State) → MadeBetween before after given old
+      → MadeBetween before after given_after moved
+  MadeBetween-moved before after m = record {
+    all_before = λ p inside.
+        let within : p < length old.owed = omega (arith, inside, many) in
+        subst (IsBeginning (answers_to p before.answered)) (sym (made p within)) (m.all_before p within);
+    no_others = λ p inside.
+        let within : p < length old.owed = omega (arith, inside, many) in
+        subst (λ xs. IsBeginning xs (answers_to p after.answered)) (sym (made p within))
+        (m.no_others p within);
+  }
+
+  -- the same log is stood for
+  pub StandsBy-moved : (stop : Option Stop) (log : List Step) → StandsBy stop log given old
+      → StandsBy stop log given_after moved
+  StandsBy-moved None log are = AreOf-moved (run old.set.window log) are
+  StandsBy-moved (Some stop) log s = record {
+    before = s.before;
+    last = s.last;
+    log_is = s.log_is;
+    made = MadeBetween-moved (run old.set.window s.before) (run old.set.window log) s.made;
+  }
+
+  StopsIn-moved : (limit : ℕ) (window : ℤ) (now : State) (proxy : ℕ) (batch : Batch)
+      → StopsIn limit window now proxy batch given old → StopsIn limit window now proxy batch given_after moved
+  StopsIn-moved limit window now proxy batch s = record {
+    next = s.next;
+    made = λ p inside.
+        let within : p < length old.owed = omega (arith, inside, many) in
+        made p within ∙ s.made p within;
+    exceeds = s.exceeds;
+  }
+
+  -- the core stopped at the same batch
+  pub StopsAtLimit-moved : (limit : ℕ) (window : ℤ) (proxy : ℕ) (batch : Batch) (state : State)
+      → StopsAtLimit limit window proxy batch state given old
+      → StopsAtLimit limit window proxy batch state given_after moved
+  StopsAtLimit-moved limit window proxy batch state s =
+      elim s [
+        | inl own ↦ inl (StopsIn-moved limit window state proxy batch own)
+        | inr later ↦ inr record {
+          turns = later.turns;
+          batch = later.batch;
+          others = later.others;
+          leaves = later.leaves;
+          stops =
+              StopsIn-moved limit window (leave later.turns window (admit window proxy batch state)) later.batch.0
+              later.batch.1 later.stops;
+        }
+      ]
+
+-- what was sent over a link, and what waits there
+abbrev pub handed : LinkView → List Answer
+handed l = l.lanes.replies.sent ++ option_to_list l.waiting
+
+-- and to each proxy
+abbrev pub handed_to : List LinkView → Given
+handed_to links p = slice_index_or (map handed links) p []
+
+-- what waits counts as owed, or as given
+pub made_handed : (links : List LinkView) (owed : List (List Answer)) → length links ≡ length owed
+    → (p : ℕ) → p < length owed
+    → sent_to (lanes_of links) p ++ owed_to p (owed_with links owed) ≡ handed_to links p ++ owed_to p owed
+made_handed links owed same p inside =
+    elim (slice_get_cases links p).1 [
+      | inl k ↦
+          ap (λ xs. xs ++ owed_to p (owed_with links owed))
+          (field_at (λ (l : Lanes). l.replies.sent) (lanes_of links) p k.0.lanes (lanes_at links p k.0 k.2))
+          ∙ ap (λ xs. k.0.lanes.replies.sent ++ xs) (owed_with-at links owed p k.0 k.2 inside)
+          ∙ sym (append_assoc k.0.lanes.replies.sent (option_to_list k.0.waiting) (owed_to p owed))
+          ∙ ap (λ xs. xs ++ owed_to p owed) (sym (field_at handed links p k.0 k.2))
+      | inr past ↦ absurd (omega (arith, same, inside, past.0))
+    ]
+
+module _ (core : CoreState) (links : List LinkView) (same : length links ≡ length core.books.owed) where
+  -- the core with what waits owed
+  abbrev pub core_with : CoreState
+  core_with = record core { books = record core.books { owed = owed_with links core.books.owed } }
+
+  -- a resolver stands for a log where its core does
+  pub stands_with : (log : List Step) → Stands core log (handed_to links)
+      → Stands core_with log (sent_to (lanes_of links))
+  stands_with log =
+      StandsBy-moved (handed_to links) (sent_to (lanes_of links)) core.books (owed_with links core.books.owed)
+      (owed_with-length links core.books.owed) (made_handed links core.books.owed same) core.stop log
+
+  pub stands_without : (log : List Step) → Stands core_with log (sent_to (lanes_of links))
+      → Stands core log (handed_to links)
+  stands_without log =
+      StandsBy-moved (sent_to (lanes_of links)) (handed_to links) core_with.books core.books.owed
+      (sym (owed_with-length links core.books.owed))
+      (λ p inside. sym (made_handed links core.books.owed same p
+      (omega (arith, inside, owed_with-length links core.books.owed)))) core.stop log
+
+-- what was handed over links with the same replies is the same
+pub handed_same : (old new : List LinkView) → length new ≡ length old
+    → ((p : ℕ) (k n : LinkView) → slice_get old p ≡ Some k → slice_get new p ≡ Some n → handed n ≡ handed k)
+    → (p : ℕ) → handed_to new p ≡ handed_to old p
+handed_same old new many each = field_same handed old new many each

@@ -1,0 +1,270 @@
+-- A step, after which answers are handed out and reply lanes closed.
+use Rattle.std.proofs.Common.{◌≡◌, ◌≢◌, ℕ, ◌<◌, Bool, true, false, List, [], ◌∷◌, ◌++◌, length, Option, Some, None, Result, Err, sym, ap, subst, ◌∙◌, refl, inl, inr, arith}
+use Rattle.std.specs.Prelude.{ℤ, ◌⊎◌, ◌↔◌, IsSome, is_some, IfSome, slice_get}
+use Rattle.std.proofs.lemmas.Bool.{true≢false, false≢true}
+use Rattle.std.proofs.lemmas.Option.{slice_get_cases, slice_get_past, none-some}
+use Rattle.keyspace.specs.declared.answer.Answer.{Answer}
+use Rattle.keyspace.specs.Run.{State, Step, Take, Finish}
+use Rattle.lane.specs.Lane.{PortGoesOn, IntakeGoesOn}
+use Rattle.resolver.specs.Owed.{owed_to, owed_count}
+use Rattle.resolver.specs.Books.{GoOn, StopsAtLimit}
+use Rattle.resolver.specs.Stands.{CoreState}
+use Rattle.keyspace.specs.declared.batch.Batch.{Batch}
+use Rattle.resolver.proofs.Handed.{StopsAtLimit-moved}
+use Rattle.resolver.specs.Lanes.{Lanes, Each, LanesGoOn, taken_from, sent_to, all_ended, IsLookedThrough, IsFull}
+use Rattle.resolver.specs.Resolver.{ResolverState, StandsOver, IsThrough, TakesFrom, Finishes, TakesNoStep, StepsBy, IfNotTaken}
+use Rattle.resolver.specs.declared.turn.Turn.{Turn}
+use Rattle.resolver.specs.declared.turn.Turn.TheVariants as turn
+use Rattle.resolver.specs.declared.stop.Stop.{Stop}
+use Rattle.resolver.specs.Links.{Parts, AreParts, resolver_of}
+use Rattle.resolver.proofs.Linked.{field_same, both_at, lanes_at}
+use Rattle.resolver.proofs.HandedOut.{HandedOver, list_all-same}
+use Rattle.resolver.proofs.Closing.{ClosedOver}
+
+-- one change after another
+pub Each-then : (P Q R : ℕ → Lanes → Lanes → Type 0) {old mid new : List Lanes}
+    → ((p : ℕ) (l m n : Lanes) → P p l m → Q p m n → R p l n) → Each P old mid → Each Q mid new → Each R old new
+Each-then P Q R {old} {mid} {new} then e f = record {
+  count = f.count ∙ e.count;
+  each = λ p l n at_old at_new.
+      elim (both_at old mid e.count p) [
+        | inl both ↦ then p l both.1 n (e.each p l both.1 at_old both.3) (f.each p both.1 n both.3 at_new)
+        | inr past ↦ absurd (none-some l (sym (slice_get_past old p past.0) ∙ at_old))
+      ];
+}
+
+-- the lanes of a proxy, after answers were handed out and the reply lane perhaps closed
+pub record AnswersLane (owed : List Answer) (old new : Lanes) : Type 0 where
+  pub requests : new.requests ≡ old.requests
+  pub ended : new.ended ≡ old.ended
+  pub replies : PortGoesOn old.replies new.replies
+  pub full : owed ≢ [] → IsFull old new
+
+pub record AnswersOver (old new : ResolverState) : Type 0 where
+  pub stands : (log : List Step) → StandsOver old log → StandsOver new log
+  pub stop : new.core.stop ≡ old.core.stop
+  pub lanes : Each (λ p l m. AnswersLane (owed_to p new.core.books.owed) l m) old.lanes new.lanes
+
+-- once it was handed out and then closed
+closed_lane : (owed : List Answer) (l m n : Lanes) → (owed ≢ [] → IsFull l m)
+    → (m ≡ record l { replies = m.replies }) × PortGoesOn l.replies m.replies
+    → n ≡ record m { replies = record m.replies { closed = n.replies.closed } } → AnswersLane owed l n
+closed_lane owed l m n full handed closed = record {
+  requests = ap (λ (x : Lanes). x.requests) closed ∙ ap (λ (x : Lanes). x.requests) handed.0;
+  ended = ap (λ (x : Lanes). x.ended) closed ∙ ap (λ (x : Lanes). x.ended) handed.0;
+  replies = subst (λ (x : Lanes). PortGoesOn l.replies x.replies) (sym closed) (record {
+    lane = handed.1.lane;
+    capacity = handed.1.capacity;
+    seen_taken = handed.1.seen_taken;
+    looks = handed.1.looks;
+  });
+  full = λ some. subst (IsFull l) (sym closed) (full some);
+}
+
+pub answers_over : (old mid new : ResolverState) → HandedOver old mid → ClosedOver mid new → AnswersOver old new
+answers_over old mid new h k = record {
+  stands = λ log s. k.stands log (h.stands log s);
+  stop = ap (λ c. c.stop) k.core ∙ h.same.stop;
+  lanes =
+      Each-then
+      (λ p l m. (owed_to p new.core.books.owed ≢ [] → IsFull l m)
+      × ((m ≡ record l { replies = m.replies }) × PortGoesOn l.replies m.replies))
+      (λ _ l m. m ≡ record l { replies = record l.replies { closed = m.replies.closed } })
+      (λ p l m. AnswersLane (owed_to p new.core.books.owed) l m)
+      (λ p l m n a b. closed_lane (owed_to p new.core.books.owed) l m n a.0 a.1 b)
+      (record {
+        count = h.lanes.count;
+        each = λ p l m at_old at_new. (
+          λ some. h.owed.each p l m at_old at_new
+              (λ none. some (ap (λ c. owed_to p c.books.owed) k.core ∙ none)),
+          h.lanes.each p l m at_old at_new,
+        );
+      })
+      k.lanes;
+}
+
+module _ (mid new : ResolverState) (a : AnswersOver mid new) where
+  pub none_taken : (p : ℕ) → taken_from new.lanes p ≡ taken_from mid.lanes p
+  none_taken =
+      field_same (λ (l : Lanes). l.requests.taken) mid.lanes new.lanes a.lanes.count
+      (λ p l m at_old at_new. ap (λ r. r.taken) (a.lanes.each p l m at_old at_new).requests)
+
+  pub ended_same : all_ended new.lanes ≡ all_ended mid.lanes
+  ended_same =
+      list_all-same (λ l. l.ended) mid.lanes new.lanes a.lanes.count
+      (λ p l m at_old at_new. (a.lanes.each p l m at_old at_new).ended)
+
+-- what was said of the step holds once answers were handed out and lanes closed
+module _ {old mid given new : ResolverState} (h : HandedOver mid given) (k : ClosedOver given new) where
+  abbrev pub TakesFrom-on : (proxy : ℕ) → TakesFrom proxy old mid → TakesFrom proxy old new
+  TakesFrom-on proxy t =
+      let a = answers_over mid given new h k in
+      record {
+        known = t.known;
+        batch = t.batch;
+        taken = λ other. none_taken mid new a other ∙ t.taken other;
+        adds = λ log s. a.stands (log ++ Take proxy t.batch ∷ []) (t.adds log s);
+      }
+
+  pub Finishes-on : Finishes old mid → Finishes old new
+  Finishes-on f =
+      let a = answers_over mid given new h k in
+      record {
+        before = f.before;
+        after = ended_same mid new a ∙ f.after;
+        taken = λ p. none_taken mid new a p ∙ f.taken p;
+        adds = λ log s. a.stands (log ++ Finish ∷ []) (f.adds log s);
+      }
+
+  pub TakesNoStep-on : TakesNoStep old mid → TakesNoStep old new
+  TakesNoStep-on n =
+      let a = answers_over mid given new h k in
+      record {
+        ended = ended_same mid new a ∙ n.ended;
+        taken = λ p. none_taken mid new a p ∙ n.taken p;
+        adds = λ log s. a.stands log (n.adds log s);
+      }
+
+module _ {before : List Lanes} {mid given new : ResolverState} (h : HandedOver mid given) (k : ClosedOver given new) where
+  -- what was looked through
+  pub looked_on : (Which : ℕ → Type 0) → Each (λ p l m. Which p → IsLookedThrough l m) before mid.lanes
+      → Each (λ p l m. Which p → IsLookedThrough l m) before new.lanes
+  looked_on Which looked =
+      Each-then (λ p l m. Which p → IsLookedThrough l m) (λ p l m. AnswersLane (owed_to p new.core.books.owed) l m)
+      (λ p l m. Which p → IsLookedThrough l m)
+      (λ p l m n first then which.
+      elim (first which) [
+        | inl ended ↦ inl (then.ended ∙ ended)
+        | inr seen ↦
+            inr (subst (λ r. (l.requests.looks < r.looks) × (length r.taken ≡ r.seen_sent)) (sym then.requests) seen)
+      ])
+      looked (answers_over mid given new h k).lanes
+
+  pub full_on : Each (λ _ l m. m.replies ≡ l.replies) before mid.lanes
+      → Each (λ p l m. owed_to p new.core.books.owed ≢ [] → IsFull l m) before new.lanes
+  full_on same =
+      Each-then (λ _ l m. m.replies ≡ l.replies) (λ p l m. AnswersLane (owed_to p new.core.books.owed) l m)
+      (λ p l m. owed_to p new.core.books.owed ≢ [] → IsFull l m)
+      (λ p l m n first then some.
+      elim (then.full some) [
+        | inl worn ↦ inl worn
+        | inr full ↦ inr (omega (arith, ap (λ r. r.looks) first, full.0), full.1)
+      ])
+      same (answers_over mid given new h k).lanes
+
+  pub lanes_on : Each (λ _ l m. LanesGoOn l m) before mid.lanes → Each (λ _ l m. LanesGoOn l m) before new.lanes
+  lanes_on go_on =
+      Each-then (λ _ l m. LanesGoOn l m) (λ p l m. AnswersLane (owed_to p new.core.books.owed) l m)
+      (λ _ l m. LanesGoOn l m)
+      (λ p l m n first then. record {
+        requests = subst (IntakeGoesOn l.requests) (sym then.requests) first.requests;
+        replies = record {
+          lane = then.replies.lane ∙ first.replies.lane;
+          capacity = then.replies.capacity ∙ first.replies.capacity;
+          seen_taken = omega (arith, then.replies.seen_taken, first.replies.seen_taken);
+          looks = omega (arith, then.replies.looks, first.replies.looks);
+        };
+        ended = λ was. then.ended ∙ first.ended was;
+      })
+      go_on (answers_over mid given new h k).lanes
+
+-- of all lanes
+pub all_looked_on : {before : List Lanes} {mid given new : ResolverState} → HandedOver mid given → ClosedOver given new
+    → Each (λ _ l m. IsLookedThrough l m) before mid.lanes → Each (λ _ l m. IsLookedThrough l m) before new.lanes
+all_looked_on h k looked =
+    let on = looked_on h k (λ _. Unit {0}) (record { count = looked.count; each = λ p l m was is _. looked.each p l m was is }) in
+    record { count = on.count; each = λ p l m was is. on.each p l m was is tt }
+
+-- a stop that was met before the turn
+pub stopped_on : {old mid given new : ResolverState} → HandedOver mid given → ClosedOver given new
+    → (stop : Option Stop) (result : Result (Option ℕ) Stop) → IsSome stop
+    → IfSome stop (λ s. (result ≡ Err s) × (mid ≡ old)) → TakesNoStep old new
+stopped_on h k None result some kept = absurd (false≢true some)
+stopped_on {old} {mid} h k (Some stop) result some kept =
+    TakesNoStep-on h k
+    (subst (λ r. TakesNoStep old r) (sym kept.1) (record { ended = refl; taken = λ p. refl; adds = λ log s. s }))
+
+-- what a turn answers, by what the step has taken and whether the reply lanes are closed
+abbrev pub told : Option ℕ → Bool → Turn
+told (Some proxy) closed = turn.Took proxy
+told None true = turn.Done
+told None false = turn.Idle
+
+pub StepsBy-told : (old new : ResolverState) (taken : Option ℕ) (closed : Bool)
+    → ((proxy : ℕ) → taken ≡ Some proxy → TakesFrom proxy old new)
+    → (taken ≡ None → Finishes old new ⊎ TakesNoStep old new) → StepsBy (told taken closed) old new
+StepsBy-told old new (Some proxy) closed took none = took proxy refl
+StepsBy-told old new None true took none = none refl
+StepsBy-told old new None false took none = none refl
+
+pub IfNotTaken-told : (taken : Option ℕ) (closed : Bool) (P : Type 0) → (taken ≡ None → P)
+    → IfNotTaken (told taken closed) P
+IfNotTaken-told (Some proxy) closed P none = tt
+IfNotTaken-told None true P none = none refl
+IfNotTaken-told None false P none = none refl
+
+pub took-told : (taken : Option ℕ) (closed : Bool) (proxy : ℕ) → told taken closed ≡ turn.Took proxy → taken ≡ Some proxy
+took-told (Some other) closed proxy is = cc
+took-told None true proxy is = cc
+took-told None false proxy is = cc
+
+pub done-told : (taken : Option ℕ) (closed : Bool) → told taken closed ≡ turn.Done → (taken ≡ None) × (closed ≡ true)
+done-told (Some other) closed is = cc
+done-told None true is = (refl, refl)
+done-told None false is = cc
+
+-- the reply lanes are closed where the resolver is through
+pub closed_by : (parts : Parts) (new : ResolverState) → AreParts parts → resolver_of parts ≡ new
+    → ((p : ℕ) (l : Lanes) → slice_get new.lanes p ≡ Some l → (l.replies.closed ≡ true) ↔ IsThrough new)
+    → IsThrough new → parts.closed ≡ true
+closed_by parts new are is closed through =
+    elim (slice_get_cases parts.links 0).1 [
+      | inl k ↦
+          let at = lanes_at parts.links 0 k.0 k.2 in
+          sym (are.closed 0 k.0.lanes at)
+          ∙ (closed 0 k.0.lanes (ap (λ (r : ResolverState). slice_get r.lanes 0) (sym is) ∙ at)).1 through
+      | inr past ↦ absurd (omega (arith, past.0, are.some))
+    ]
+
+none_taken_where : (taken : Option ℕ) → ((proxy : ℕ) → taken ≡ Some proxy → ⊥) → taken ≡ None
+none_taken_where None not = refl
+none_taken_where (Some proxy) not = absurd (not proxy refl)
+
+-- when a turn answers that all is done
+module _ (mid new : ResolverState) (a : AnswersOver mid new) (taken : Option ℕ) (closed : Bool)
+    (running : mid.core.stop ≡ None) where
+  pub done_means : (closed ≡ true → IsThrough new) → told taken closed ≡ turn.Done
+      → (all_ended new.lanes ≡ true) × (owed_count new.core.books.owed ≡ 0)
+  done_means through is =
+      let ends = through (done-told taken closed is).1 in (
+        elim ends.no_more [
+          | inl ended ↦ ended
+          | inr stopped ↦ absurd (true≢false (sym stopped ∙ ap is_some (a.stop ∙ running)))
+        ],
+        ends.nothing_owed,
+      )
+
+  pub done_where : (IsThrough new → closed ≡ true) → ((proxy : ℕ) → taken ≡ Some proxy → all_ended mid.lanes ≡ false)
+      → (all_ended new.lanes ≡ true) × (owed_count new.core.books.owed ≡ 0) → told taken closed ≡ turn.Done
+  done_where through still_open both =
+      let is_closed = through (record { nothing_owed = both.1; no_more = inl both.0 }) in
+      let none : taken ≡ None = none_taken_where taken (λ proxy is.
+      true≢false (sym both.0 ∙ ended_same mid new a ∙ still_open proxy is)) in
+      rw (none, is_closed) refl
+
+-- the batch at which the core stopped is the same once answers were handed out and lanes closed
+module _ {mid given new : ResolverState} (h : HandedOver mid given) (k : ClosedOver given new) where
+  sent_same : (p : ℕ) → sent_to new.lanes p ≡ sent_to given.lanes p
+  sent_same =
+      field_same (λ (l : Lanes). l.replies.sent) given.lanes new.lanes k.lanes.count
+      (λ p l m at_old at_new. ap (λ (x : Lanes). x.replies.sent) (k.lanes.each p l m at_old at_new))
+
+  pub stops_on : (limit : ℕ) (window : ℤ) (proxy : ℕ) (batch : Batch) (state : State)
+      → StopsAtLimit limit window proxy batch state (sent_to mid.lanes) mid.core.books
+      → StopsAtLimit limit window proxy batch state (sent_to new.lanes) new.core.books
+  stops_on limit window proxy batch state stops =
+      subst (λ (c : CoreState). StopsAtLimit limit window proxy batch state (sent_to new.lanes) c.books) (sym k.core)
+      (subst (StopsAtLimit limit window proxy batch state (sent_to new.lanes)) (sym h.same.books)
+      (StopsAtLimit-moved (sent_to mid.lanes) (sent_to new.lanes) mid.core.books given.core.books.owed h.same.proxies
+      (λ p inside. ap (λ xs. xs ++ owed_to p given.core.books.owed) (sent_same p) ∙ h.made p) limit window proxy batch
+      state stops))

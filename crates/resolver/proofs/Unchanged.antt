@@ -1,0 +1,195 @@
+-- Links that are settled: no list has changed, and no answer that waits.
+use Rattle.std.proofs.Common.{
+  ◌≡◌,
+  ℕ,
+  zero,
+  suc,
+  ◌<◌,
+  ◌≤◌,
+  ◌&&◌,
+  true,
+  List,
+  [],
+  ◌∷◌,
+  ◌++◌,
+  length,
+  Some,
+  refl,
+  sym,
+  ap,
+  ap₂,
+  subst,
+  subst₂,
+  ◌∙◌,
+  inl,
+  inr,
+  arith,
+}
+use Rattle.std.specs.Prelude.{option_to_list, slice_get}
+use Rattle.std.proofs.lemmas.Option.{none-some, same_Some, slice_get_within}
+use Rattle.std.proofs.lemmas.List.{length-map}
+use Rattle.keyspace.specs.declared.answer.Answer.{Answer}
+use Rattle.lane.specs.Lane.{Lane, HasEnded}
+use Rattle.resolver.specs.declared.client.Client.{Client}
+use Rattle.resolver.specs.declared.sequential.TheConstants.{MAX_PROXIES}
+use Rattle.resolver.specs.Owed.{owed_count}
+use Rattle.resolver.specs.Lanes.{Lanes, Each, LanesGoOn, AreSameLists, all_ended}
+use Rattle.resolver.specs.Resolver.{IsThrough, SameClients}
+use Rattle.resolver.specs.Links.{
+  LinkView,
+  Parts,
+  AreParts,
+  SettlesLink,
+  EachSettled,
+  lanes_of,
+  owed_with,
+  resolver_of,
+}
+use Rattle.resolver.proofs.Settling.{lanes_at}
+
+-- an element stands at each index of a list
+pub slice_get_inside : {A : Type 0} (xs : List A) (i : ℕ) → i < length xs → (x : A) × (slice_get xs i ≡ Some x)
+slice_get_inside [] i inside = absurd (omega (arith, inside))
+slice_get_inside (x ∷ xs) zero inside = (x, refl)
+slice_get_inside (x ∷ xs) (suc i) inside = slice_get_inside xs i (omega (arith, inside))
+
+-- the lanes at an index are those of the link there
+pub link_at : (links : List LinkView) (proxy : ℕ) (k : Lanes) → slice_get (lanes_of links) proxy ≡ Some k
+    → (l : LinkView) × (slice_get links proxy ≡ Some l) × (l.lanes ≡ k)
+link_at [] proxy k at = absurd (none-some k at)
+link_at (l ∷ links) zero k at = (l, refl, same_Some l.lanes k at)
+link_at (l ∷ links) (suc proxy) k at = link_at links proxy k at
+
+-- with the same answers that wait, the same is owed
+owed_with-same : (old new : List LinkView) → length new ≡ length old
+    → ((proxy : ℕ) (l m : LinkView) → slice_get old proxy ≡ Some l → slice_get new proxy ≡ Some m
+    → m.waiting ≡ l.waiting)
+    → (owed : List (List Answer)) → owed_with new owed ≡ owed_with old owed
+owed_with-same [] [] count same owed = refl
+owed_with-same [] (m ∷ new) count same owed = absurd (omega (arith, count))
+owed_with-same (l ∷ old) [] count same owed = absurd (omega (arith, count))
+owed_with-same (l ∷ old) (m ∷ new) count same [] = refl
+owed_with-same (l ∷ old) (m ∷ new) count same (answers ∷ owed) =
+    ap₂ (λ xs ys. xs ∷ ys) (ap (λ waiting. option_to_list waiting ++ answers) (same zero l m refl refl))
+    (owed_with-same old new (omega (arith, count)) (λ proxy. same (suc proxy)) owed)
+
+all_ended-same : (old new : List LinkView) → length new ≡ length old
+    → ((proxy : ℕ) (l m : LinkView) → slice_get old proxy ≡ Some l → slice_get new proxy ≡ Some m
+    → m.lanes.ended ≡ l.lanes.ended)
+    → all_ended (lanes_of new) ≡ all_ended (lanes_of old)
+all_ended-same [] [] count same = refl
+all_ended-same [] (m ∷ new) count same = absurd (omega (arith, count))
+all_ended-same (l ∷ old) [] count same = absurd (omega (arith, count))
+all_ended-same (l ∷ old) (m ∷ new) count same =
+    ap₂ (λ a b. a && b) (same zero l m refl refl)
+    (all_ended-same old new (omega (arith, count)) (λ proxy. same (suc proxy)))
+
+-- *Lane* of both lanes of each link and its client
+abbrev pub LanesHold : List LinkView → List Client → Type 0
+LanesHold links clients =
+    (proxy : ℕ) (l : LinkView) (c : Client) → slice_get links proxy ≡ Some l → slice_get clients proxy ≡ Some c
+    → Lane c.requests l.lanes.requests × Lane l.lanes.replies c.replies
+
+module _ (old new : List LinkView) (before after : List Client) (each : EachSettled old before new after)
+    (count : length before ≡ length (lanes_of old)) where
+  many : length before ≡ length old
+  many = count ∙ length-map old (λ l. l.lanes)
+
+  -- a link and its client, before and after
+  settles_at : (proxy : ℕ) (l m : LinkView) → slice_get old proxy ≡ Some l → slice_get new proxy ≡ Some m
+      → (c d : Client) × SettlesLink l c m d
+  settles_at proxy l m l_at m_at =
+      let inside = slice_get_within old proxy l l_at in
+      let c = slice_get_inside before proxy (omega (arith, inside, many)) in
+      let d = slice_get_inside after proxy (omega (arith, inside, many, each.clients)) in
+      (c.0, d.0, each.each proxy l m c.0 d.0 l_at m_at c.1 d.1)
+
+  pub owed_with-settled : (owed : List (List Answer)) → owed_with new owed ≡ owed_with old owed
+  owed_with-settled =
+      owed_with-same old new each.count (λ proxy l m l_at m_at. (settles_at proxy l m l_at m_at).2.waiting)
+
+  all_ended-settled : all_ended (lanes_of new) ≡ all_ended (lanes_of old)
+  all_ended-settled =
+      all_ended-same old new each.count
+      (λ proxy l m l_at m_at. (settles_at proxy l m l_at m_at).2.same.ended)
+
+  pub lanes_hold : LanesHold old before
+  lanes_hold proxy l c l_at c_at =
+      let inside = slice_get_within old proxy l l_at in
+      let m = slice_get_inside new proxy (omega (arith, inside, each.count)) in
+      let d = slice_get_inside after proxy (omega (arith, inside, many, each.clients)) in
+      let settles = each.each proxy l m.0 c d.0 l_at m.1 c_at d.1 in
+      (settles.requests, settles.replies)
+
+  -- each pair of lanes goes on, with the same lists
+  pub lanes_settled : Each (λ _ l m. LanesGoOn l m × AreSameLists l m) (lanes_of old) (lanes_of new)
+  lanes_settled = record {
+    count = length-map new (λ l. l.lanes) ∙ each.count ∙ sym (length-map old (λ l. l.lanes));
+    each = λ proxy l m l_at m_at.
+        let k = link_at old proxy l l_at in
+        let n = link_at new proxy m m_at in
+        let settles = (settles_at proxy k.0 n.0 k.1 n.1).2 in
+        subst₂ (λ x y. LanesGoOn x y × AreSameLists x y) k.2 n.2 (settles.goes_on, settles.same);
+  }
+
+  -- and each client
+  pub clients_settled : SameClients before after
+  clients_settled = record {
+    count = each.clients;
+    each = λ proxy c d c_at d_at.
+        let inside = slice_get_within before proxy c c_at in
+        let l = slice_get_inside old proxy (omega (arith, inside, many)) in
+        let m = slice_get_inside new proxy (omega (arith, inside, many, each.count)) in
+        (each.each proxy l.0 m.0 c d l.1 m.1 c_at d_at).client;
+  }
+
+-- the parts of a resolver, with these links
+abbrev pub with_links : Parts → List LinkView → Parts
+with_links p links = record p { links = links }
+
+module _ (p : Parts) (new : List LinkView) (before after : List Client)
+    (each : EachSettled p.links before new after) (count : length before ≡ length (lanes_of p.links)) where
+  owed_same : owed_with new p.core.books.owed ≡ owed_with p.links p.core.books.owed
+  owed_same = owed_with-settled p.links new before after each count p.core.books.owed
+
+  ended_same : all_ended (lanes_of new) ≡ all_ended (lanes_of p.links)
+  ended_same = all_ended-settled p.links new before after each count
+
+  through_settled : IsThrough (resolver_of p) → IsThrough (resolver_of (with_links p new))
+  through_settled through = record {
+    nothing_owed = ap owed_count owed_same ∙ through.nothing_owed;
+    no_more = elim through.no_more [ inl ended ↦ inl (ended_same ∙ ended) | inr stop ↦ inr stop ];
+  }
+
+  -- they are still the parts of a resolver
+  pub AreParts-settled : AreParts p → AreParts (with_links p new)
+  AreParts-settled are = record {
+    count = each.count ∙ are.count;
+    few = subst (λ n. n ≤ MAX_PROXIES) (sym each.count) are.few;
+    some = subst (λ n. 1 ≤ n) (sym each.count) are.some;
+    in_range = subst (λ n. p.next ≤ n) (sym each.count) are.in_range;
+    finished = λ none. are.finished none ∙ sym ended_same;
+    ended = λ proxy k at.
+        let m = link_at new proxy k at in
+        let l = old_link proxy m.0 m.1 in
+        subst (λ lanes. lanes.ended ≡ true → HasEnded lanes.requests) m.2
+        ((settled proxy l.0 m.0 l.1 m.1).at_end (are.ended proxy l.0.lanes (lanes_at p.links proxy l.0 l.1)));
+    closed = λ proxy k at.
+        let m = link_at new proxy k at in
+        let l = old_link proxy m.0 m.1 in
+        ap (λ lanes. lanes.replies.closed) (sym m.2) ∙ (settled proxy l.0 m.0 l.1 m.1).same.closed
+        ∙ are.closed proxy l.0.lanes (lanes_at p.links proxy l.0 l.1);
+    through = λ closed. through_settled (are.through closed);
+  }
+    where
+      old_link : (proxy : ℕ) (m : LinkView) → slice_get new proxy ≡ Some m
+          → (l : LinkView) × (slice_get p.links proxy ≡ Some l)
+      old_link proxy m at =
+          let inside = slice_get_within new proxy m at in
+          slice_get_inside p.links proxy (omega (arith, inside, each.count))
+
+      settled : (proxy : ℕ) (l m : LinkView) (l_at : slice_get p.links proxy ≡ Some l)
+          (m_at : slice_get new proxy ≡ Some m)
+          → SettlesLink l (settles_at p.links new before after each count proxy l m l_at m_at).0 m
+          (settles_at p.links new before after each count proxy l m l_at m_at).1
+      settled proxy l m l_at m_at = (settles_at p.links new before after each count proxy l m l_at m_at).2

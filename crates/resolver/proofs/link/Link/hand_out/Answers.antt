@@ -1,0 +1,10 @@
+use Rattle.resolver.specs.Owed.{owed_to}
+use Rattle.resolver.proofs.Handing.{HandsOut-all}
+use Rattle.resolver.proofs.link.Link.hand_out.Goals as goal
+
+pub returns-clause-hands_out : goal.returns-clause-hands_out
+returns-clause-hands_out g c =
+    HandsOut-all c.args.self.now c.loop-answer.self c.next_answer.new.self
+    (owed_to c.args.proxy c.args.core.now.books.owed) (owed_to c.args.proxy c.loop-answer.core.books.owed)
+    (owed_to c.args.proxy c.next_answer.new.core.books.owed) c.loop-answer.invariant.0
+    c.in_default.ensures.next c.in_default.ensures.waiting c.in_default.ensures.none

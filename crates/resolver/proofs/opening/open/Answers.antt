@@ -1,0 +1,17 @@
+use Rattle.std.proofs.Common.{◌+◌, sym, subst₂, arith}
+use Rattle.resolver.proofs.Connected.{AreConnected, connected_more}
+use Rattle.resolver.proofs.opening.open.Goals as goal
+
+pub loop-preserved : goal.loop-preserved
+loop-preserved c =
+    let made = c.in_ok-link in
+    record {
+      connected =
+          subst₂ (AreConnected c.args.capacity (c.loop.counter + 1)) (sym c.push_reserved.ensures.items)
+          (sym c.push_reserved-in-loop.ensures.items)
+          (connected_more c.args.capacity c.loop.counter c.loop.links.items c.loop.clients.items made.link
+          made.client c.loop.invariant.connected made.ensures.requests made.ensures.replies made.ensures.link
+          made.ensures.client);
+      room_links = omega arith;
+      room_clients = omega arith;
+    }

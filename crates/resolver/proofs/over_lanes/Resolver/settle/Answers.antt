@@ -1,0 +1,124 @@
+use Rattle.std.proofs.Common.{◌≡◌, ◌&&◌, ◌++◌, not, List, map, true, length, take, drop, ap, sym, subst, subst₂, ◌∙◌}
+use Rattle.std.specs.Prelude.{◌↔◌, is_some}
+use Rattle.std.proofs.lemmas.Bool.{and_parts, and_from, not-false}
+use Rattle.std.proofs.lemmas.List.{length-map}
+use Rattle.keyspace.specs.Run.{Step}
+use Rattle.resolver.specs.Resolver.{ResolverState, StandsOver, AreClients}
+use Rattle.resolver.specs.Lanes.{Each, LanesGoOn, AreSameLists}
+use Rattle.resolver.specs.Links.{LinkView, Parts, AreParts, EachSettled, lanes_of, owed_with, resolver_of}
+use Rattle.resolver.specs.Settled.{Settled, IsComplete}
+use Rattle.resolver.proofs.Settling.{written_back}
+use Rattle.resolver.proofs.Unchanged.{owed_with-settled, lanes_hold, lanes_settled, clients_settled, with_links, AreParts-settled}
+use Rattle.resolver.proofs.Accounts.{EachTaken, settled, complete_from, complete_then, none_from}
+use Rattle.resolver.proofs.over_lanes.Resolver.settle.Given.{Over}
+use Rattle.resolver.proofs.over_lanes.Resolver.settle.Goals as goal
+use Rattle.resolver.proofs.over_lanes.Resolver.settle.Goals.{then-is_none, else-is_none, then-self, else-self, Joined-self}
+
+module _ (g : Over) (c : Joined-self g) where
+  abbrev parts : Parts
+  parts = record {
+    core = c.self.inside.core;
+    links = c.self.inside.links.items;
+    next = c.self.inside.next;
+    finished = c.self.inside.finished;
+    closed = c.self.inside.closed;
+  }
+
+  abbrev new : List LinkView
+  new = c.settle-all_taken.new.links
+
+  each : EachSettled parts.links c.args.clients.now new c.settle-all_taken.new.clients
+  each =
+      subst (λ links. EachSettled links c.args.clients.now new c.settle-all_taken.new.clients)
+      c.deref_mut.ensures.value c.settle-all_taken.ensures.each
+
+  clients_are : AreClients (lanes_of parts.links) c.args.clients.now
+  clients_are =
+      subst (λ (r : ResolverState). AreClients r.lanes c.args.clients.now) (sym c.self.view_is) c.requires.clients
+
+  links_are : take c.self.inside.links.len (new ++ drop (length new) parts.links) ≡ new
+  links_are = written_back c.self.inside.links.len new parts.links each.count c.self.inside.links.ok.0
+
+  value_is : c.if-is_none.value ≡ (c.is_none.result && c.self.inside.closed)
+  value_is = elim c.if-is_none.branch [
+    | then-is_none w ↦ w.value-is ∙ ap (λ b. b && c.self.inside.closed) (sym w.if-is_none.true)
+    | else-is_none w ↦
+        w.value-is ∙ w.if-is_none.false ∙ ap (λ b. b && c.self.inside.closed) (sym w.if-is_none.false)
+  ]
+
+  result_is : c.if-self.result ≡ (c.if-is_none.value && c.settle-all_taken.result)
+  result_is = elim c.if-self.branch [
+    | then-self w ↦ w.result-is ∙ ap (λ b. b && c.settle-all_taken.result) (sym w.if-self.true)
+    | else-self w ↦
+        w.result-is ∙ w.if-self.false ∙ ap (λ b. b && c.settle-all_taken.result) (sym w.if-self.false)
+  ]
+
+  taken_is : (c.settle-all_taken.result ≡ true) ↔ EachTaken parts.links c.args.clients.now
+  taken_is =
+      subst (λ links. (c.settle-all_taken.result ≡ true) ↔ EachTaken links c.args.clients.now)
+      c.deref_mut.ensures.value c.settle-all_taken.ensures.all_taken
+
+  many : length c.args.clients.now ≡ length parts.links
+  many = clients_are.count ∙ length-map parts.links (λ l. l.lanes)
+
+  complete_is : (c.if-self.result ≡ true) ↔ IsComplete (resolver_of parts) c.args.clients.now
+  complete_is = (
+    λ yes.
+        let both = and_parts c.if-is_none.value c.settle-all_taken.result (sym result_is ∙ yes) in
+        let other = and_parts c.is_none.result c.self.inside.closed (sym value_is ∙ both.0) in
+        complete_from parts c.self.invariant c.args.clients.now many
+        (sym c.stop-stop.ensures.stop ∙ none_from c.stop-stop.result (c.is_none.ensures ∙ ap not other.0)) other.1
+        (taken_is.0 both.1),
+    λ complete.
+        let then = complete_then parts c.self.invariant c.args.clients.now many complete in
+        let none = not-false c.is_none.result
+        (sym c.is_none.ensures ∙ ap is_some (c.stop-stop.ensures.stop ∙ then.0)) in
+        result_is
+        ∙ and_from c.if-is_none.value c.settle-all_taken.result
+        (value_is ∙ and_from c.is_none.result c.self.inside.closed none then.1) (taken_is.1 then.2),
+  )
+
+pub invariant_of-self : goal.invariant_of-self
+invariant_of-self g c =
+    let d = (goal.at.invariant_of-self g c).Joined-self in
+    subst (λ links. AreParts (with_links (parts g d) links)) (sym (links_are g d))
+    (AreParts-settled (parts g d) (new g d) c.args.clients.now c.settle-all_taken.new.clients (each g d)
+    (clients_are g d).count c.self.invariant)
+
+pub returns-clause-settled : goal.returns-clause-settled
+returns-clause-settled g c =
+    let clients = c.args.clients.now in
+    subst
+    (λ (r : ResolverState). (log : List Step) → StandsOver r log → Settled r.core.books.set.window log
+    (map (λ l. l.ended) r.lanes) clients (record { complete = c.if-self.result; stop = c.stop-stop.result }))
+    c.self.view_is
+    (λ log stands. settled (parts g c) c.self.invariant clients (many g c) log stands
+    (lanes_hold (parts g c).links (new g c) clients c.settle-all_taken.new.clients (each g c)
+    (clients_are g c).count)
+    c.runs_are_chains.ensures.chain _ (complete_is g c).0 c.stop-stop.ensures.stop)
+
+pub returns-clause-complete : goal.returns-clause-complete
+returns-clause-complete g c =
+    subst (λ (r : ResolverState). (c.if-self.result ≡ true) ↔ IsComplete r c.args.clients.now) c.self.view_is
+    (complete_is g c)
+
+pub returns-clause-core : goal.returns-clause-core
+returns-clause-core g c =
+    let core = c.self.inside.core in
+    ap (λ owed. record core { books = record core.books { owed = owed } })
+    (ap (λ links. owed_with links core.books.owed) (links_are g c)
+    ∙ owed_with-settled (parts g c).links (new g c) c.args.clients.now c.settle-all_taken.new.clients (each g c)
+    (clients_are g c).count core.books.owed)
+    ∙ ap (λ (r : ResolverState). r.core) c.self.view_is
+
+pub returns-clause-lanes : goal.returns-clause-lanes
+returns-clause-lanes g c =
+    subst₂ (Each (λ _ l m. LanesGoOn l m × AreSameLists l m)) (ap (λ (r : ResolverState). r.lanes) c.self.view_is)
+    (ap lanes_of (sym (links_are g c)))
+    (lanes_settled (parts g c).links (new g c) c.args.clients.now c.settle-all_taken.new.clients (each g c)
+    (clients_are g c).count)
+
+pub returns-clause-clients : goal.returns-clause-clients
+returns-clause-clients g c =
+    clients_settled (parts g c).links (new g c) c.args.clients.now c.settle-all_taken.new.clients (each g c)
+    (clients_are g c).count

@@ -1,0 +1,121 @@
+-- What a resolver over lanes promises: it stands for a log of the reference resolver. This project's own.
+use Rattle.std.specs.Prelude.{◌≡◌, ℕ, ◌<◌, ◌⊎◌, Bool, true, false, List, [], ◌∷◌, ◌++◌, length, Some, None, IsSome, slice_get}
+use Rattle.keyspace.specs.declared.batch.Batch.{Batch}
+use Rattle.keyspace.specs.Run.{Step, Take, Finish, part}
+use Rattle.lane.specs.Lane.{SameLane, PortGoesOn, IntakeGoesOn, new_port, new_intake}
+use Rattle.resolver.specs.declared.client.Client.{Client}
+use Rattle.resolver.specs.declared.turn.Turn.{Turn}
+use Rattle.resolver.specs.declared.turn.Turn.TheVariants as turn
+use Rattle.resolver.specs.Owed.{owed_count}
+use Rattle.resolver.specs.Stands.{CoreState, Stands}
+use Rattle.resolver.specs.Lanes.{Lanes, taken_from, sent_to, all_ended, TakesOne, TakesNone}
+
+-- a resolver over lanes
+pub record ResolverState : Type 0 where
+  -- what it has processed, holds, keeps and owes
+  pub core : CoreState
+  -- its ends of the lanes of each proxy, at its number
+  pub lanes : List Lanes
+  -- the next turn looks for a batch from this lane on, and then at those before it
+  pub next : ℕ
+
+-- each step takes a batch
+abbrev pub HasNoFinish : List Step → Type 0
+HasNoFinish [] = Unit {0}
+HasNoFinish (Take proxy batch ∷ log) = HasNoFinish log
+HasNoFinish (Finish ∷ log) = ⊥
+
+-- the last step finishes, and no other
+abbrev pub FinishesLast : List Step → Type 0
+FinishesLast log = (before : List Step) × (log ≡ before ++ Finish ∷ []) × HasNoFinish before
+
+-- by whether all request lanes have ended
+abbrev pub FinishesBy : Bool → List Step → Type 0
+FinishesBy true log = FinishesLast log
+FinishesBy false log = HasNoFinish log
+
+-- The resolver stands for the log. Its core does, where each proxy was given what was sent to it; the log takes from each
+-- proxy what was taken from its request lane; and without a stop it finishes, last and once, exactly if all request lanes
+-- have ended, and only then are reply lanes closed.
+pub record StandsOver (r : ResolverState) (log : List Step) : Type 0 where
+  pub core : Stands r.core log (sent_to r.lanes)
+  pub parts : (proxy : ℕ) → proxy < length r.lanes → part log proxy ≡ taken_from r.lanes proxy
+  pub finish : r.core.stop ≡ None → FinishesBy (all_ended r.lanes) log
+  pub closed :
+      r.core.stop ≡ None → (proxy : ℕ) (l : Lanes) → slice_get r.lanes proxy ≡ Some l → l.replies.closed ≡ true →
+      all_ended r.lanes ≡ true
+
+-- for every log for which the one stands, the other stands for it with these steps more
+abbrev pub Adds : List Step → ResolverState → ResolverState → Type 0
+Adds steps old new = (log : List Step) → StandsOver old log → StandsOver new (log ++ steps)
+
+-- the next batch of the proxy was taken
+pub record TakesFrom (proxy : ℕ) (old new : ResolverState) : Type 0 where
+  pub known : proxy < length old.lanes
+  pub batch : Batch
+  pub taken : TakesOne proxy batch old.lanes new.lanes
+  pub adds : Adds (Take proxy batch ∷ []) old new
+
+-- the last request lane has ended
+pub record Finishes (old new : ResolverState) : Type 0 where
+  pub before : all_ended old.lanes ≡ false
+  pub after : all_ended new.lanes ≡ true
+  pub taken : TakesNone old.lanes new.lanes
+  pub adds : Adds (Finish ∷ []) old new
+
+-- no step was taken
+pub record TakesNoStep (old new : ResolverState) : Type 0 where
+  pub ended : all_ended new.lanes ≡ all_ended old.lanes
+  pub taken : TakesNone old.lanes new.lanes
+  pub adds : (log : List Step) → StandsOver old log → StandsOver new log
+
+-- by what a turn answers
+abbrev pub StepsBy : Turn → ResolverState → ResolverState → Type 0
+StepsBy (turn.Took proxy) old new = TakesFrom proxy old new
+StepsBy turn.Idle old new = Finishes old new ⊎ TakesNoStep old new
+StepsBy turn.Done old new = Finishes old new ⊎ TakesNoStep old new
+
+-- for an answer that no batch was taken
+abbrev pub IfNotTaken : Turn → Type 0 → Type 0
+IfNotTaken (turn.Took proxy) P = Unit {0}
+IfNotTaken turn.Idle P = P
+IfNotTaken turn.Done P = P
+
+-- Nothing is owed, and no answer is still to come: all request lanes have ended or a stop was met.
+pub record IsThrough (r : ResolverState) : Type 0 where
+  pub nothing_owed : owed_count r.core.books.owed ≡ 0
+  pub no_more : (all_ended r.lanes ≡ true) ⊎ IsSome r.core.stop
+
+-- the clients are those of these lanes, each at its number
+pub record AreClients (lanes : List Lanes) (clients : List Client) : Type 0 where
+  pub count : length clients ≡ length lanes
+  pub requests :
+      (proxy : ℕ) (l : Lanes) (c : Client) → slice_get lanes proxy ≡ Some l → slice_get clients proxy ≡ Some c →
+      SameLane c.requests l.requests
+  pub replies :
+      (proxy : ℕ) (l : Lanes) (c : Client) → slice_get lanes proxy ≡ Some l → slice_get clients proxy ≡ Some c →
+      SameLane l.replies c.replies
+
+-- answers were handed out, and nothing else was done
+pub record SameBut (old new : ResolverState) : Type 0 where
+  pub stop : new.core.stop ≡ old.core.stop
+  pub books : new.core.books ≡ record old.core.books { owed = new.core.books.owed }
+  pub proxies : length new.core.books.owed ≡ length old.core.books.owed
+  pub next : new.next ≡ old.next
+
+-- the clients later: as many, each with the same ends and lists
+pub record SameClient (old new : Client) : Type 0 where
+  pub sent : new.requests.sent ≡ old.requests.sent
+  pub closed : new.requests.closed ≡ old.requests.closed
+  pub taken : new.replies.taken ≡ old.replies.taken
+  pub requests : PortGoesOn old.requests new.requests
+  pub replies : IntakeGoesOn old.replies new.replies
+
+pub record SameClients (old new : List Client) : Type 0 where
+  pub count : length new ≡ length old
+  pub each : (proxy : ℕ) (c d : Client) → slice_get old proxy ≡ Some c → slice_get new proxy ≡ Some d → SameClient c d
+
+-- no batch was sent and no answer taken
+pub record IsNewClient (capacity : ℕ) (c : Client) : Type 0 where
+  pub requests : c.requests ≡ new_port c.requests.lane capacity
+  pub replies : c.replies ≡ new_intake c.replies.lane capacity

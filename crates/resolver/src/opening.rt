@@ -1,0 +1,74 @@
+//! The opening of a resolver and its clients.
+
+ghost use Rattle.std.specs.Prelude.{◌≡◌, ◌≤◌, ◌≤ℤ◌, ◌<◌, pos, [], length, None, All, IfOk};
+ghost use Rattle.stepmap.specs.declared.step_map.TheConstants.{MAX_LIMIT};
+ghost use Rattle.conflict.specs.declared.conflict_set.TheConstants.{MAX_WINDOW};
+ghost use Rattle.lane.specs.Lane.{SameLane};
+ghost use Rattle.lane.specs.declared.ends.TheConstants.{MAX_CAPACITY};
+ghost use Rattle.resolver.specs.declared.sequential.TheConstants.{MAX_PROXIES};
+ghost use Rattle.resolver.specs.Lanes.{Lanes};
+ghost use Rattle.resolver.specs.Resolver.{StandsOver, AreClients, IsNewClient};
+ghost use Rattle.resolver.specs.Links.{IsNewLink};
+
+use crate::client::Client;
+use crate::link::Link;
+use crate::over_lanes::Resolver;
+use crate::sequential::{Core, MAX_PROXIES};
+use crate::stop::OpenError;
+use lane::{LaneError, MAX_CAPACITY, lane};
+use std::alloc::Global;
+
+/// Opens a resolver for so many proxies, and a client for each, at its number. A lane holds at most `capacity` batches or answers.
+/// `window` is how far back writes are remembered, in versions; the conflict set never keeps more boundaries than `limit`.
+pub fn open(
+    alloc: Global,
+    proxies: usize,
+    capacity: usize,
+    window: i64,
+    limit: usize,
+) -> Result<(Resolver, Vec<Client>), OpenError>
+    requires least_proxies { 1 ≤ proxies }
+    requires most_proxies { proxies ≤ MAX_PROXIES }
+    requires least_capacity { 1 ≤ capacity }
+    requires most_capacity { capacity ≤ MAX_CAPACITY }
+    requires least_window { pos 1 ≤ℤ window }
+    requires most_window { window ≤ℤ MAX_WINDOW }
+    requires least_limit { 1 ≤ limit }
+    requires most_limit { limit ≤ MAX_LIMIT }
+    ensures stands { IfOk result (λ opened. StandsOver opened.0 []) }
+    ensures no_stop { IfOk result (λ opened. opened.0.core.stop ≡ None) }
+    ensures next { IfOk result (λ opened. opened.0.next ≡ 0) }
+    ensures window { IfOk result (λ opened. opened.0.core.books.set.window ≡ window) }
+    ensures limit { IfOk result (λ opened. opened.0.core.books.set.map.limit ≡ limit) }
+    ensures proxies { IfOk result (λ opened. length opened.1.items ≡ proxies) }
+    ensures clients { IfOk result (λ opened. AreClients opened.0.lanes opened.1.items) }
+    ensures new_clients { IfOk result (λ opened. All (IsNewClient capacity) opened.1.items) }
+{
+    let core = Core::new(alloc, proxies, window, limit)?;
+    let mut links = Vec::with_capacity(alloc, proxies)?;
+    let mut clients = Vec::with_capacity(alloc, proxies)?;
+    for _ in 0..proxies {
+        let (link, client) = connect(alloc, capacity)?;
+        links.push_reserved(link);
+        clients.push_reserved(client);
+    }
+    Ok((Resolver::new(core, links), clients))
+}
+
+// Makes the two lanes of a proxy.
+fn connect(alloc: Global, capacity: usize) -> Result<(Link, Client), LaneError>
+    requires least_capacity { 1 ≤ capacity }
+    requires most_capacity { capacity ≤ MAX_CAPACITY }
+    ensures link { IfOk result (λ ends. IsNewLink ends.0) }
+    ensures client { IfOk result (λ ends. IsNewClient capacity ends.1) }
+    ensures requests { IfOk result (λ ends. SameLane ends.1.requests ends.0.lanes.requests) }
+    ensures replies { IfOk result (λ ends. SameLane ends.0.lanes.replies ends.1.replies) }
+{
+    let (send_requests, take_requests) = lane(alloc, capacity)?;
+    let (send_replies, take_replies) = lane(alloc, capacity)?;
+    let client = Client {
+        requests: send_requests,
+        replies: take_replies,
+    };
+    Ok((Link::new(take_requests, send_replies), client))
+}
