@@ -19,7 +19,7 @@ use Rattle.std.specs.Prelude.{
 }
 use Rattle.std.proofs.Common.{refl, sym, ap, ◌∙◌, append_assoc, append-nil, add-one, add-zero, arith}
 use Rattle.std.proofs.Math.Seq.{map-set_same}
-use Rattle.std.proofs.lemmas.List.{map-set, get_or-map, length-map}
+use Rattle.std.proofs.lemmas.List.{map-id, map-set, get_or-map, length-map}
 use Rattle.std.specs.List.{flat_map, enumerate_from}
 
 module _ {Y : Type 0} (change : Y → Y) where
@@ -88,3 +88,12 @@ module _ {X Y : Type 0} (view : X → Y) (text_of : ℕ × Y → List ℕ) where
   text_from-more xs i x inside is =
       ap (λ n. text_from 0 (take n xs)) (add-one i) ∙ text-more 0 xs i x inside is
       ∙ ap (λ m. text_from 0 (take i xs) ++ text_of (m, view x)) (omega arith)
+
+-- the same for pieces that are seen as they are
+pub numbered-more : {X : Type 0} (text_of : ℕ × X → List ℕ) (xs : List X) (i : ℕ) (x : X) → i < length xs
+    → x ≡ get_or xs i x → flat_map text_of (enumerate_from 0 (take (i + 1) xs))
+    ≡ flat_map text_of (enumerate_from 0 (take i xs)) ++ text_of (i, x)
+numbered-more {X} text_of xs i x inside is =
+    let text = λ (ys : List X). flat_map text_of (enumerate_from 0 ys) in
+    ap text (sym (map-id (take (i + 1) xs))) ∙ text_from-more (λ (y : X). y) text_of xs i x inside is
+    ∙ ap (λ (ys : List X). text ys ++ text_of (i, x)) (map-id (take i xs))

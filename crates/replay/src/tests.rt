@@ -3,17 +3,23 @@
 //! The contract of `replay_over` also lets a program through that always stops with `Memory`. Each test that wants a line
 //! refuses it, `empty_batch` first; so does `gate_full_through_replay`, which wants another stop.
 
-use crate::replay::{Status, replay_over};
+use crate::status::Status;
+use runs::{Reader, reader, replayed};
 use std::alloc::Global;
-use std::io::Cursor;
 use std::process::Abort;
+use std::sync::Wait;
 use std::test::Fail;
-use wire::StdSource;
+use std::thread::Threads;
 
 mod batches;
+pub mod failing;
 mod files;
+mod meeting;
+mod proxies;
 mod reports;
+mod runs;
 mod verdicts;
+mod workers;
 
 type Range<'a> = (&'a [u8], &'a [u8]);
 
@@ -87,20 +93,7 @@ fn push_txn(out: &mut Vec<u8>, txn: &Txn) -> Result<(), Fail> {
     push_ranges(out, txn.writes)
 }
 
-// What a file gives: the status, standard output and standard error.
-fn outcome_of(alloc: Global, file: &[u8]) -> (Status, Vec<u8>, Vec<u8>) {
-    let mut out = Vec::new(alloc);
-    let mut error = Vec::new(alloc);
-    let status = replay_over(
-        alloc,
-        StdSource::new(Cursor::new(file)),
-        &mut out,
-        &mut error,
-    );
-    (status, out, error)
-}
-
-// A file of batches of proxy 0.
+// A file of batches.
 #[derive(Drop)]
 struct Row {
     file: Vec<u8>,
@@ -109,10 +102,15 @@ struct Row {
 impl Row {
     // Begins with the empty batch of version 0, whose line comes first.
     fn new(alloc: Global) -> Result<Self, Fail> {
-        let file = Vec::new(alloc);
-        let mut row = Row { file };
+        let mut row = Row::empty(alloc);
         row.batch(-1, 0, &[])?;
         Ok(row)
+    }
+
+    fn empty(alloc: Global) -> Self {
+        Row {
+            file: Vec::new(alloc),
+        }
     }
 
     // Adds a batch of a proxy that has received nothing yet.
@@ -143,22 +141,39 @@ impl Row {
         Ok(())
     }
 
-    fn prints(&self, rt: &impl Abort, lines: &str) -> Result<(), Fail> {
+    fn reader(self) -> Reader {
+        reader(self.file)
+    }
+
+    fn prints<R: Abort + Threads + Wait + Copy + Send + 'static>(
+        self,
+        rt: &R,
+        lines: &str,
+    ) -> Result<(), Fail> {
         self.gives(rt, lines, "", Status::Done)
     }
 
     // Prints these lines, and the fault on standard error.
-    fn fails(&self, rt: &impl Abort, lines: &str, fault: &str) -> Result<(), Fail> {
+    fn fails<R: Abort + Threads + Wait + Copy + Send + 'static>(
+        self,
+        rt: &R,
+        lines: &str,
+        fault: &str,
+    ) -> Result<(), Fail> {
         self.gives(rt, lines, fault, Status::Failed)
     }
 
-    fn gives(&self, rt: &impl Abort, lines: &str, fault: &str, wanted: Status) -> Result<(), Fail> {
+    fn gives<R: Abort + Threads + Wait + Copy + Send + 'static>(
+        self,
+        rt: &R,
+        lines: &str,
+        fault: &str,
+        wanted: Status,
+    ) -> Result<(), Fail> {
         let alloc = *self.file.allocator();
-        let (status, out, error) = outcome_of(alloc, &self.file);
         let text = format!(in alloc; "0 0 empty\n{lines}")?;
-        assert_eq!(rt; out.as_slice(), text.as_bytes());
-        assert_eq!(rt; error.as_slice(), fault.as_bytes());
-        assert_eq!(rt; status, wanted);
+        let ended = replayed(rt, alloc, vec![in alloc; self.reader()]?)?;
+        ended.is(rt, text.as_str(), fault, wanted);
         Ok(())
     }
 }

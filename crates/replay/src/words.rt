@@ -1,17 +1,34 @@
-//! The command line, which is the name of one file.
+//! The command line, which is the names of the files.
 
-ghost use Rattle.std.specs.Prelude.{◌≡◌, ◌↔◌, length, IsSome, IfSome, slice_get, Some};
+ghost use Rattle.std.specs.Prelude.{◌≡◌, ◌≤◌, ◌↔◌, length, IsSome, IfSome};
 
-/// The text for a command line that isn't one word.
-pub const USAGE: &str = "replay: usage: replay FILE";
+use resolver::MAX_PROXIES;
 
-/// Returns the file's name if the command line has exactly one word.
-pub fn file_of(words: &[String]) -> Option<&String>
-    ensures one { IsSome result ↔ (length words.now ≡ 1) }
-    ensures file { IfSome result (λ file. slice_get words.now 0 ≡ Some file.now) }
+/// The text for a command line without a file or with too many.
+pub const USAGE: &str = "replay: usage: replay FILE..";
+
+/// Returns the names of the files, of which there are from 1 to [`MAX_PROXIES`].
+pub fn files_of(words: &[String]) -> Option<&[String]>
+    ensures some { IsSome result ↔ ((1 ≤ length words.now) × (length words.now ≤ MAX_PROXIES)) }
+    ensures files { IfSome result (λ files. files.now ≡ words.now) }
 {
-    match words {
-        [file] => Some(file),
-        _ => None,
+    (1..=MAX_PROXIES).contains(&words.len()).then_some(words)
+}
+
+#[cfg(test)]
+mod tests {
+    use super::*;
+    use std::test::Fail;
+
+    #[test]
+    fn from_1_to_64_files(rt: HostRuntime) -> Result<(), Fail> {
+        let mut words = Vec::new(rt.alloc());
+        for count in 0..66_usize {
+            let files = files_of(&words).map(|files| files.len());
+            let wanted = (1..=64).contains(&count).then_some(count);
+            assert_eq!(rt; files, wanted);
+            words.push(String::from_str(rt.alloc(), "file")?)?;
+        }
+        Ok(())
     }
 }

@@ -1,6 +1,6 @@
 use super::*;
+use crate::tests::failing::Failing;
 use keyspace::{Places, Reply, Sequence};
-use std::io::ErrorKind;
 use std::test::Fail;
 
 fn committed(alloc: Global) -> Entry {
@@ -89,27 +89,6 @@ fn forty_answers_of_one_proxy(rt: HostRuntime) -> Result<(), Fail> {
     Ok(())
 }
 
-// A writer that takes this many bytes and then fails.
-#[derive(Drop)]
-struct Failing {
-    room: usize,
-}
-
-impl Write for Failing {
-    fn write(&mut self, buf: &[u8]) -> io::Result<usize> {
-        if self.room == 0 {
-            return Err(io::Error::from(ErrorKind::Other));
-        }
-        let taken = self.room.min(buf.len());
-        self.room -= taken;
-        Ok(taken)
-    }
-
-    fn flush(&mut self) -> io::Result<()> {
-        Ok(())
-    }
-}
-
 #[test]
 fn writer_fails_everywhere(rt: HostRuntime) -> Result<(), Fail> {
     let alloc = rt.alloc();
@@ -117,14 +96,14 @@ fn writer_fails_everywhere(rt: HostRuntime) -> Result<(), Fail> {
     let mut answers = [vec![in alloc; empty(alloc, 0)?, one_write]?];
     let text = "0 0 empty\n0 100 committed\n";
     for room in 0..text.len() {
-        let mut out = Failing { room };
+        let mut out = Failing::after(room);
         let result = print_answers(alloc, &mut out, &mut answers);
         assert!(rt;
             matches!(result, Err(PrintError::Write)),
             "after {room} bytes"
         );
     }
-    let mut out = Failing { room: text.len() };
+    let mut out = Failing::after(text.len());
     print_answers(alloc, &mut out, &mut answers)?;
     Ok(())
 }

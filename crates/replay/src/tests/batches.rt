@@ -1,14 +1,21 @@
 //! Rows of batches and their answers: those off the chain, repeats, held ones and stops.
 
 use super::*;
-use resolver::{OpenError, Stop};
 
 #[test]
 fn empty_batch(rt: HostRuntime) -> Result<(), Fail> {
     let alloc = rt.alloc();
-    let (status, out, error) = outcome_of(alloc, &[]);
-    assert!(rt; out.is_empty() && error.is_empty() && status == Status::Done);
+    let ended = replayed(&rt, alloc, vec![in alloc; Row::empty(alloc).reader()]?)?;
+    ended.is(&rt, "", "", Status::Done);
     Row::new(alloc)?.prints(&rt, "")
+}
+
+// A program that always stops with `Memory` is refused: it prints no line, and status 1.
+#[test]
+fn always_memory_stop(rt: HostRuntime) -> Result<(), Fail> {
+    let mut row = Row::new(rt.alloc())?;
+    row.batch(0, 100, &[])?;
+    row.prints(&rt, "0 100 empty\n")
 }
 
 #[test]
@@ -53,19 +60,4 @@ fn gate_full_through_replay(rt: HostRuntime) -> Result<(), Fail> {
     }
     row.batch(2_000, 2_001, &[])?;
     row.fails(&rt, "", "replay: stop 2 GateFull\n")
-}
-
-#[test]
-fn texts_of_stops(rt: HostRuntime) -> Result<(), Fail> {
-    let alloc = rt.alloc();
-    let table = [
-        (Stop::Memory, "1 Memory"),
-        (Stop::GateFull, "2 GateFull"),
-        (Stop::ArenaFull, "3 ArenaFull"),
-    ];
-    for (stop, text) in table {
-        assert_eq!(rt; stop.to_string(alloc)?.as_str(), text);
-    }
-    assert_eq!(rt; OpenError::Memory.to_string(alloc)?.as_str(), "1 Memory");
-    Ok(())
 }

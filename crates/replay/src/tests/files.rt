@@ -1,8 +1,14 @@
 //! Rows of faulty files, of the second version of the form, and of readers and writers that fail.
 
+use super::failing::Failing;
 use super::*;
+use crate::gatekeeper::AlwaysOpen;
+use crate::options::Options;
+use crate::replay::replay_over;
 use std::io;
-use std::io::{Read, Write};
+use std::io::Read;
+use std::sync::Arc;
+use wire::StdSource;
 
 #[test]
 fn short_second_frame(rt: HostRuntime) -> Result<(), Fail> {
@@ -48,10 +54,8 @@ fn joined(alloc: Global, frames: [&[u8]; 2]) -> Result<Vec<u8>, Fail> {
 #[test]
 fn second_version_in_one_file(rt: HostRuntime) -> Result<(), Fail> {
     let file = joined(rt.alloc(), [EMPTY_BATCH, ONE_WRITE_2])?;
-    let (status, out, error) = outcome_of(rt.alloc(), &file);
-    assert_eq!(rt; out.as_slice(), b"0 0 empty\n0 100 committed\n".as_slice());
-    assert!(rt; error.is_empty());
-    assert_eq!(rt; status, Status::Done);
+    let ended = replayed(&rt, rt.alloc(), vec![in rt.alloc(); reader(file)]?)?;
+    ended.is(&rt, "0 0 empty\n0 100 committed\n", "", Status::Done);
     Ok(())
 }
 
@@ -60,24 +64,48 @@ fn first_run_cut_everywhere(rt: HostRuntime) -> Result<(), Fail> {
     let file = joined(rt.alloc(), [EMPTY_BATCH, ONE_WRITE])?;
     assert_eq!(rt; file.len(), 81);
     for length in 0..82_usize {
-        let (status, out, error) = outcome_of(rt.alloc(), &file[..length]);
+        let cut = Vec::from_slice(rt.alloc(), &file[..length])?;
+        let ended = replayed(&rt, rt.alloc(), vec![in rt.alloc(); reader(cut)]?)?;
         let lines = match length {
             0..=30 => "",
             31..=80 => "0 0 empty\n",
             _ => "0 0 empty\n0 100 committed\n",
         };
-        assert_eq!(rt; out.as_slice(), lines.as_bytes());
         if length == 0 || length == 31 || length == 81 {
-            assert!(rt; error.is_empty() && status == Status::Done);
+            ended.is(&rt, lines, "", Status::Done);
         } else {
-            assert_eq!(rt;
-                error.as_slice(),
-                b"replay: proxy 0: wire 1 Short\n".as_slice()
-            );
-            assert_eq!(rt; status, Status::Failed);
+            let fault = "replay: proxy 0: wire 1 Short\n";
+            ended.is(&rt, lines, fault, Status::Failed);
         }
     }
     Ok(())
+}
+
+// The first file ends inside its second frame, and the second file has one empty batch.
+fn beside_cut_file<R: Abort + Threads + Wait + Copy + Send + 'static>(
+    rt: &R,
+    alloc: Global,
+    (previous, version): (i64, i64),
+    lines: &str,
+) -> Result<(), Fail> {
+    let mut first = Row::new(alloc)?;
+    first.file.extend_from_slice(&ONE_WRITE[..20])?;
+    let mut second = Row::empty(alloc);
+    second.batch(previous, version, &[])?;
+    let ended = replayed(rt, alloc, vec![in alloc; first.reader(), second.reader()]?)?;
+    let fault = "replay: proxy 0: wire 1 Short\n";
+    ended.is(rt, lines, fault, Status::Failed);
+    Ok(())
+}
+
+#[test]
+fn fault_closes_own_lane(rt: HostRuntime) -> Result<(), Fail> {
+    beside_cut_file(&rt, rt.alloc(), (0, 100), "0 0 empty\n1 100 empty\n")
+}
+
+#[test]
+fn fault_leaves_other_held(rt: HostRuntime) -> Result<(), Fail> {
+    beside_cut_file(&rt, rt.alloc(), (100, 200), "0 0 empty\n1 200 held\n")
 }
 
 // A file that can't be read, as a folder.
@@ -91,40 +119,26 @@ impl Read for Unreadable {
 }
 
 #[test]
-fn unreadable_file(rt: HostRuntime) {
-    let mut out = Vec::new(rt.alloc());
-    let mut error = Vec::new(rt.alloc());
-    let status = replay_over(rt.alloc(), StdSource::new(Unreadable), &mut out, &mut error);
-    assert!(rt; out.is_empty());
-    assert_eq!(rt;
-        error.as_slice(),
-        b"replay: proxy 0: wire 12 Read\n".as_slice()
-    );
-    assert_eq!(rt; status, Status::Failed);
-}
-
-// A writer that takes nothing.
-#[derive(Drop)]
-struct Full;
-
-impl Write for Full {
-    fn write(&mut self, _buf: &[u8]) -> io::Result<usize> {
-        Err(io::Error::from(io::ErrorKind::StorageFull))
-    }
-
-    fn flush(&mut self) -> io::Result<()> {
-        Ok(())
-    }
+fn unreadable_file(rt: HostRuntime) -> Result<(), Fail> {
+    let readers = vec![in rt.alloc(); StdSource::new(Unreadable)]?;
+    let ended = replayed(&rt, rt.alloc(), readers)?;
+    let fault = "replay: proxy 0: wire 12 Read\n";
+    ended.is(&rt, "", fault, Status::Failed);
+    Ok(())
 }
 
 #[test]
 fn unwritable_output(rt: HostRuntime) -> Result<(), Fail> {
-    let row = Row::new(rt.alloc())?;
-    let mut error = Vec::new(rt.alloc());
+    let alloc = rt.alloc();
+    let gatekeeper = Arc::new(alloc, AlwaysOpen)?;
+    let mut error = Vec::new(alloc);
     let status = replay_over(
-        rt.alloc(),
-        StdSource::new(Cursor::new(row.file.as_slice())),
-        &mut Full,
+        &rt,
+        alloc,
+        vec![in alloc; Row::new(alloc)?.reader()]?,
+        Options::default(),
+        &gatekeeper,
+        &mut Failing::after(0),
         &mut error,
     );
     assert!(rt; error.is_empty());

@@ -1,0 +1,12 @@
+use Rattle.std.proofs.Common.{◌≡◌, ◌≤◌, ◌+◌, ◌++◌}
+use Rattle.std.specs.Prelude.{map, vec_len, vec_capacity}
+use Rattle.std.specs.Vec.Iter.{into_iter_items, into_iter_len}
+use Rattle.replay.specs.Threads.{client_of}
+use Rattle.replay.proofs.threads.make_tasks.Given as goal
+
+abbrev pub invariant-loop-client : goal.invariant-loop-client
+invariant-loop-client g l = record {
+  clients : map client_of l.tasks.items ++ into_iter_items l.client-iterator ≡ l.fn.clients.items;
+  room : vec_len l.tasks + into_iter_len l.client-iterator ≤ vec_capacity l.tasks;
+  readers : into_iter_len l.readers ≡ into_iter_len l.client-iterator;
+}

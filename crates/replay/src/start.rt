@@ -1,0 +1,88 @@
+//! Why a run could not start, and its line on standard error.
+
+ghost use Rattle.std.specs.Prelude.{◌≡◌, OnOk};
+ghost use Rattle.std.specs.Io.KnownBytes.{Appends};
+ghost use Rattle.replay.specs.Start.{start_line};
+
+use crate::status::Status;
+use resolver::OpenError;
+use std::alloc::AllocError;
+use std::io;
+use std::io::Write;
+
+/// Why a run could not start.
+#[derive(Clone, Copy, Debug, PartialEq, Eq)]
+pub enum StartError {
+    /// The file of this proxy could not be opened.
+    CannotOpen(usize),
+    /// Memory was refused before the first thread was started.
+    Memory,
+    /// A thread could not be started.
+    Thread,
+}
+
+impl From<AllocError> for StartError {
+    ghost use Rattle.replay.specs.declared.start.StartError.TheVariants.{Memory};
+
+    ghost from_gives = { λ _ error. error ≡ Memory };
+
+    fn from(_refused: AllocError) -> StartError {
+        StartError::Memory
+    }
+}
+
+impl From<OpenError> for StartError {
+    ghost use Rattle.replay.specs.declared.start.StartError.TheVariants.{Memory};
+
+    ghost from_gives = { λ _ error. error ≡ Memory };
+
+    fn from(_refused: OpenError) -> StartError {
+        StartError::Memory
+    }
+}
+
+/// Prints the line of the cause, and returns how the program ends. A failed write changes nothing.
+pub fn fail_to_start<W: Write>(error: &mut W, cause: StartError) -> Status
+    ensures { result ≡ Status.Failed }
+{
+    let _ = print_start_error(error, cause);
+    Status::Failed
+}
+
+/// Prints the line of the cause. After an error some of the text may be written.
+pub fn print_start_error<W: Write>(error: &mut W, cause: StartError) -> io::Result<()>
+    ensures text { OnOk result (Appends (W.contents error.old) (W.contents error.new) (start_line cause)) }
+{
+    match cause {
+        StartError::CannotOpen(proxy) => write!(error, "replay: proxy {proxy}: cannot open\n"),
+        StartError::Memory => error.write_all(b"replay: start 1 Memory\n"),
+        StartError::Thread => error.write_all(b"replay: start 2 Thread\n"),
+    }
+}
+
+#[cfg(test)]
+mod tests {
+    use super::*;
+
+    #[test]
+    fn one_line_a_cause(rt: HostRuntime) {
+        let table = [
+            (StartError::CannotOpen(0), "replay: proxy 0: cannot open\n"),
+            (
+                StartError::CannotOpen(63),
+                "replay: proxy 63: cannot open\n",
+            ),
+            (StartError::Memory, "replay: start 1 Memory\n"),
+            (
+                StartError::from(OpenError::Memory),
+                "replay: start 1 Memory\n",
+            ),
+            (StartError::Thread, "replay: start 2 Thread\n"),
+        ];
+        for (cause, line) in table {
+            let mut error = Vec::new(rt.alloc());
+            assert_eq!(rt; fail_to_start(&mut error, cause), Status::Failed);
+            assert_eq!(rt; error.as_slice(), line.as_bytes());
+        }
+    }
+}

@@ -1,0 +1,41 @@
+//! How the program ends.
+
+ghost use Rattle.std.specs.Prelude.{◌≡◌, ◌↔◌, ◌≢◌, IsTrue};
+
+/// How the program ends.
+#[derive(Clone, Copy, Debug, PartialEq, Eq)]
+pub enum Status {
+    /// All was read, resolved and printed.
+    Done,
+    /// A line on standard error says what failed, or a write failed.
+    Failed,
+    /// The command line was refused.
+    Usage,
+}
+
+impl Status {
+    /// Returns the program's exit code.
+    pub fn code(self) -> u8
+        ensures done { self ≡ Status.Done → result ≡ 0 }
+        ensures failed { self ≡ Status.Failed → result ≡ 1 }
+        ensures usage { self ≡ Status.Usage → result ≡ 2 }
+    {
+        match self {
+            Status::Done => 0,
+            Status::Failed => 1,
+            Status::Usage => 2,
+        }
+    }
+
+    /// Returns `Done` for a success, and else `Failed`.
+    pub fn of(success: bool) -> Self
+        ensures done { result ≡ Status.Done ↔ IsTrue success }
+        ensures ends { result ≢ Status.Usage }
+    {
+        if success {
+            Status::Done
+        } else {
+            Status::Failed
+        }
+    }
+}
