@@ -1,9 +1,9 @@
 .PHONY: demo replay test plant
 
-# Runs the program on the recorded files of examples/, unproved.
+# Runs the program on the recorded files of examples/, unproved. A file NAME.args names the further files of a run.
 demo:
 	@echo 'The program runs unproved here: `make replay` proves and builds it.'
-	cd crates/replay && rt try --cases ../../examples -- {}
+	cd crates/replay && rt try --cases ../../examples --data second_proxy=../../examples/second_proxy -- {}
 
 # Proves and builds the program, and runs it once.
 replay:
