@@ -46,68 +46,118 @@ fn takes(
     Ok(())
 }
 
-#[test]
-fn reply_lane_of_one(rt: HostRuntime) -> Result<(), Fail> {
-    let alloc = rt.alloc();
-    let mut service = Service::open(alloc, 1, 1)??;
-    send(&rt, alloc, &mut service, (0, -1, 0))?;
-    assert_eq!(rt; service.turn(&rt), Ok(Turn::Took(0)));
-    assert_eq!(rt; service.owed(), 0);
-    send(&rt, alloc, &mut service, (0, 0, 100))?;
-    assert_eq!(rt; service.turn(&rt), Ok(Turn::Took(0)));
-    assert_eq!(rt; service.owed(), 1);
-    service.close(&rt, 0)?;
-    assert_eq!(rt; service.turn(&rt), Ok(Turn::Idle));
-    assert_eq!(rt; service.owed(), 1);
-    takes(&rt, alloc, &mut service, 0, "0 empty")?;
-    assert_eq!(rt; service.turn(&rt), Ok(Turn::Done));
-    assert_eq!(rt; service.owed(), 0);
-    takes(&rt, alloc, &mut service, 0, "100 empty")?;
-    assert!(rt; matches!(service.take(&rt, 0)?, Taken::End));
-    assert_eq!(rt; service.settle(&rt), COMPLETE);
+// A step of a row, with what it answers.
+#[derive(Drop)]
+enum Step<'a> {
+    // A proxy sends the empty batch of this version, after this previous one.
+    Send(usize, i64, i64),
+    Close(usize),
+    Turn(Turn),
+    Owed(usize),
+    // A proxy takes this answer.
+    Take(usize, &'a str),
+    // A proxy learns that no more answers come.
+    End(usize),
+    Settle(Account),
+}
+
+fn make(
+    rt: &(impl Abort + Wait),
+    alloc: Global,
+    service: &mut Service,
+    step: &Step,
+) -> Result<(), Fail> {
+    match step {
+        Step::Send(proxy, previous, version) => {
+            send(rt, alloc, service, (*proxy, *previous, *version))?
+        }
+        Step::Close(proxy) => service.close(rt, *proxy)?,
+        Step::Turn(turn) => assert_eq!(rt; service.turn(rt), Ok(*turn)),
+        Step::Owed(count) => assert_eq!(rt; service.owed(), *count),
+        Step::Take(proxy, text) => takes(rt, alloc, service, *proxy, text)?,
+        Step::End(proxy) => assert!(rt; matches!(service.take(rt, *proxy)?, Taken::End)),
+        Step::Settle(account) => assert_eq!(rt; service.settle(rt), *account),
+    }
     Ok(())
 }
 
-#[test]
-fn settle_before_and_after_taking(rt: HostRuntime) -> Result<(), Fail> {
-    let alloc = rt.alloc();
-    let mut service = Service::open(alloc, 1, 1)??;
-    send(&rt, alloc, &mut service, (0, -1, 0))?;
-    assert_eq!(rt; service.turn(&rt), Ok(Turn::Took(0)));
-    service.close(&rt, 0)?;
-    assert_eq!(rt; service.turn(&rt), Ok(Turn::Done));
-    assert_eq!(rt; service.settle(&rt), NOT_COMPLETE);
-    takes(&rt, alloc, &mut service, 0, "0 empty")?;
-    assert_eq!(rt; service.settle(&rt), COMPLETE);
-    Ok(())
-}
-
-#[test]
-fn turns_go_round(rt: HostRuntime) -> Result<(), Fail> {
-    let alloc = rt.alloc();
-    let mut service = Service::open(alloc, 2, 2)??;
-    send(&rt, alloc, &mut service, (0, -1, 0))?;
-    send(&rt, alloc, &mut service, (0, 100, 200))?;
-    send(&rt, alloc, &mut service, (1, 0, 100))?;
-    send(&rt, alloc, &mut service, (1, 200, 300))?;
-    for proxy in [0, 1, 0, 1] {
-        assert_eq!(rt; service.turn(&rt), Ok(Turn::Took(proxy)));
+// Makes the steps of a row over new lanes of this capacity.
+fn play(
+    rt: &(impl Abort + Wait),
+    alloc: Global,
+    (proxies, capacity): (usize, usize),
+    steps: &[Step],
+) -> Result<(), Fail> {
+    let mut service = Service::open(alloc, proxies, capacity)??;
+    for step in steps {
+        make(rt, alloc, &mut service, step)?;
     }
     Ok(())
 }
 
 #[test]
+fn reply_lane_of_one(rt: HostRuntime) -> Result<(), Fail> {
+    let steps = [
+        Step::Send(0, -1, 0),
+        Step::Turn(Turn::Took(0)),
+        Step::Owed(0),
+        Step::Send(0, 0, 100),
+        Step::Turn(Turn::Took(0)),
+        Step::Owed(1),
+        Step::Close(0),
+        Step::Turn(Turn::Idle),
+        Step::Owed(1),
+        Step::Take(0, "0 empty"),
+        Step::Turn(Turn::Done),
+        Step::Owed(0),
+        Step::Take(0, "100 empty"),
+        Step::End(0),
+        Step::Settle(COMPLETE),
+    ];
+    play(&rt, rt.alloc(), (1, 1), &steps)
+}
+
+#[test]
+fn settle_before_and_after_taking(rt: HostRuntime) -> Result<(), Fail> {
+    let steps = [
+        Step::Send(0, -1, 0),
+        Step::Turn(Turn::Took(0)),
+        Step::Close(0),
+        Step::Turn(Turn::Done),
+        Step::Settle(NOT_COMPLETE),
+        Step::Take(0, "0 empty"),
+        Step::Settle(COMPLETE),
+    ];
+    play(&rt, rt.alloc(), (1, 1), &steps)
+}
+
+#[test]
+fn turns_go_round(rt: HostRuntime) -> Result<(), Fail> {
+    let steps = [
+        Step::Send(0, -1, 0),
+        Step::Send(0, 100, 200),
+        Step::Send(1, 0, 100),
+        Step::Send(1, 200, 300),
+        Step::Turn(Turn::Took(0)),
+        Step::Turn(Turn::Took(1)),
+        Step::Turn(Turn::Took(0)),
+        Step::Turn(Turn::Took(1)),
+    ];
+    play(&rt, rt.alloc(), (2, 2), &steps)
+}
+
+#[test]
 fn held_at_close(rt: HostRuntime) -> Result<(), Fail> {
-    let alloc = rt.alloc();
-    let mut service = Service::open(alloc, 1, 1)??;
-    send(&rt, alloc, &mut service, (0, 900, 1_000))?;
-    assert_eq!(rt; service.turn(&rt), Ok(Turn::Took(0)));
-    service.close(&rt, 0)?;
-    assert_eq!(rt; service.settle(&rt), NOT_COMPLETE);
-    assert_eq!(rt; service.turn(&rt), Ok(Turn::Done));
-    takes(&rt, alloc, &mut service, 0, "1000 held")?;
-    assert_eq!(rt; service.settle(&rt), COMPLETE);
-    Ok(())
+    let steps = [
+        Step::Send(0, 900, 1_000),
+        Step::Turn(Turn::Took(0)),
+        Step::Close(0),
+        Step::Settle(NOT_COMPLETE),
+        Step::Turn(Turn::Done),
+        Step::Take(0, "1000 held"),
+        Step::Settle(COMPLETE),
+    ];
+    play(&rt, rt.alloc(), (1, 1), &steps)
 }
 
 #[test]
