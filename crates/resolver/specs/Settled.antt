@@ -28,7 +28,7 @@ pub record Settled (window : ℤ) (log : List Step) (ended : List Bool) (clients
   pub chain : IsChain window (run window log).processed
   -- where all is complete, no batch is left unanswered
   pub finish : account.complete ≡ true → FinishesLast log
-  -- where a stop was met, it is told, and all isn't complete
+  -- where all is complete, no stop was met
   pub no_stop : account.complete ≡ true → account.stop ≡ None
 
 -- No stop was met, the reply lanes are closed, and each client has taken every answer sent to it.

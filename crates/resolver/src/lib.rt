@@ -2,6 +2,10 @@
 //!
 //! [`Core`] is the resolver over values. Its contracts say that it stands for a log of steps: what it has answered is what
 //! the reference resolver answers to that log. The definition is `Stands`, in `specs/Stands.antt`.
+//!
+//! [`open`] makes a [`Resolver`] over lanes, and a [`Client`] for each proxy. Each turn takes a batch of some proxy and hands out
+//! answers. With all clients back in one hand, [`Resolver::settle`] says what each of them has sent and received, beside the
+//! reference resolver. The definitions are `StandsOver`, in `specs/Resolver.antt`, and `Settled`, in `specs/Settled.antt`.
 #![tactic(auto)]
 
 mod books;
