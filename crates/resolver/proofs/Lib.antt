@@ -24,3 +24,4 @@ pub mod Settling
 pub mod Unchanged
 pub mod Accounts
 pub mod Later
+pub mod TwoProxies

@@ -7,3 +7,4 @@ pub mod Lanes
 pub mod Resolver
 pub mod Links
 pub mod Settled
+pub mod Served

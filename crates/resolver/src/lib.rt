@@ -6,6 +6,9 @@
 //! [`open`] makes a [`Resolver`] over lanes, and a [`Client`] for each proxy. Each turn takes a batch of some proxy and hands out
 //! answers. With all clients back in one hand, [`Resolver::settle`] says what each of them has sent and received, beside the
 //! reference resolver. The definitions are `StandsOver`, in `specs/Resolver.antt`, and `Settled`, in `specs/Settled.antt`.
+//!
+//! [`serve_two`] shows them used: it serves two proxies in one thread, and its contract says in the reference resolver's words
+//! what they received. The definition is `AreServed`, in `specs/Served.antt`.
 #![tactic(auto)]
 
 mod books;
@@ -16,6 +19,7 @@ mod opening;
 mod over_lanes;
 mod owed;
 mod sequential;
+mod serving;
 mod stop;
 #[cfg(test)]
 mod tests;
@@ -25,5 +29,6 @@ pub use client::Client;
 pub use opening::open;
 pub use over_lanes::Resolver;
 pub use sequential::{Core, MAX_PROXIES};
+pub use serving::{Served, serve_two};
 pub use stop::{OpenError, Stop};
 pub use turn::{Account, Turn};

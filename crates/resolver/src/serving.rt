@@ -1,0 +1,88 @@
+//! An example of use: two proxies served in one thread, from the opening to the account.
+
+ghost use Rattle.std.specs.Prelude.{◌≡◌, true, [], ◌∷◌, List, IfOk, OnOk};
+ghost use Rattle.keyspace.specs.declared.TheConstants.{WINDOW};
+ghost use Rattle.keyspace.specs.Run.{Step};
+ghost use Rattle.lane.specs.Lane.{PortGoesOn, IntakeGoesOn};
+ghost use Rattle.resolver.specs.Resolver.{IsNewClient};
+ghost use Rattle.resolver.specs.Served.{AreServed};
+
+use crate::client::Client;
+use crate::opening::open;
+use crate::stop::OpenError;
+use crate::turn::Account;
+use keyspace::{Answer, Batch, WINDOW};
+use lane::Taken;
+use std::alloc::{AllocError, Global};
+use std::sync::Wait;
+use stepmap::MAX_LIMIT;
+
+/// What two proxies received, and what was found at the end.
+#[derive(Drop)]
+pub struct Served {
+    /// The answers that proxy 0 took, in order.
+    pub first: Vec<Answer>,
+    /// The answers that proxy 1 took, in order.
+    pub second: Vec<Answer>,
+    pub account: Account,
+}
+
+/// Serves two proxies in one thread, by lanes that hold one batch or answer, with the default window.
+///
+/// Proxy 0 sends the first batch and proxy 1 the second, and each closes its lane. Then the resolver takes so many turns. After
+/// each of them each proxy takes an answer, if one has come. A turn that answers a stop doesn't end this: later ones still hand out.
+pub fn serve_two<R: Wait>(
+    alloc: Global,
+    rt: &R,
+    first: Batch,
+    second: Batch,
+    turns: usize,
+) -> Result<Served, OpenError>
+    ensures served { IfOk result (λ served. (log : List Step) × AreServed WINDOW log first second served) }
+{
+    let (mut resolver, mut clients) = open(alloc, 2, 1, WINDOW, MAX_LIMIT)?;
+    send_only(rt, &mut clients[0], first);
+    send_only(rt, &mut clients[1], second);
+    let mut first_received = Vec::new(alloc);
+    let mut second_received = Vec::new(alloc);
+    for _ in 0..turns {
+        let _ = resolver.turn(rt);
+        receive(rt, &mut clients[0], &mut first_received)?;
+        receive(rt, &mut clients[1], &mut second_received)?;
+    }
+    let account = resolver.settle(rt, &mut clients);
+    Ok(Served {
+        first: first_received,
+        second: second_received,
+        account,
+    })
+}
+
+// Sends the only batch of a new client, and closes its lane. An open lane that was never used has room for it.
+fn send_only<R: Wait>(rt: &R, client: &mut Client, batch: Batch)
+    requires new { IsNewClient 1 client.old }
+    ensures sent { client.new.requests.sent ≡ batch ∷ [] }
+    ensures closed { client.new.requests.closed ≡ true }
+    ensures port { PortGoesOn client.old.requests client.new.requests }
+    ensures replies { client.new.replies ≡ client.old.replies }
+{
+    client.requests.send(rt, batch).unwrap();
+    client.requests.close(rt);
+}
+
+// Takes an answer, if one has come, and adds it to those that the client has received.
+fn receive<R: Wait>(
+    rt: &R,
+    client: &mut Client,
+    received: &mut Vec<Answer>,
+) -> Result<(), AllocError>
+    requires so_far { client.old.replies.taken ≡ received.old.items }
+    ensures taken { OnOk result (client.new.replies.taken ≡ received.new.items) }
+    ensures intake { IntakeGoesOn client.old.replies client.new.replies }
+    ensures requests { client.new.requests ≡ client.old.requests }
+{
+    if let Taken::Item(answer) = client.replies.take(rt) {
+        received.push(answer)?;
+    }
+    Ok(())
+}
