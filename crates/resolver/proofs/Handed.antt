@@ -1,27 +1,5 @@
 -- Answers move from what is owed to what is given.
-use Rattle.std.proofs.Common.{
-  ◌≡◌,
-  ℕ,
-  ◌<◌,
-  List,
-  [],
-  ◌∷◌,
-  ◌++◌,
-  length,
-  map,
-  Option,
-  Some,
-  None,
-  append_assoc,
-  sym,
-  ap,
-  subst,
-  ◌∙◌,
-  refl,
-  inl,
-  inr,
-  arith,
-}
+use Rattle.std.proofs.Common.{◌≡◌, ℕ, ◌<◌, List, [], ◌++◌, length, map, Option, Some, None, append_assoc, sym, ap, subst, ◌∙◌, inl, inr, arith}
 use Rattle.std.specs.Prelude.{ℤ, option_to_list, slice_get, slice_index_or}
 use Rattle.std.proofs.lemmas.Option.{slice_get_cases}
 use Rattle.keyspace.specs.declared.batch.Batch.{Batch}
@@ -29,11 +7,11 @@ use Rattle.keyspace.specs.declared.answer.Answer.{Answer}
 use Rattle.keyspace.specs.Run.{State, Step, run, leave, admit, answers_to}
 use Rattle.resolver.specs.declared.stop.Stop.{Stop}
 use Rattle.resolver.specs.Owed.{owed_to}
-use Rattle.resolver.specs.Books.{Books, Given, IsBeginning, AreOf, MadeBetween, made_to, StopsIn, StopsAtLimit}
-use Rattle.resolver.specs.Stands.{CoreState, StoppedIn, StandsBy, Stands}
+use Rattle.resolver.specs.Books.{Books, Given, IsBeginning, AreOf, MadeBetween, StopsIn, StopsAtLimit}
+use Rattle.resolver.specs.Stands.{CoreState, StandsBy, Stands}
 use Rattle.resolver.specs.Lanes.{Lanes, sent_to}
-use Rattle.resolver.specs.Links.{LinkView, lanes_of, owed_with, EachLink}
-use Rattle.resolver.proofs.Linked.{field_at, lanes_at, owed_with-at, owed_with-length, both_at, field_same}
+use Rattle.resolver.specs.Links.{LinkView, lanes_of, owed_with}
+use Rattle.resolver.proofs.Linked.{field_at, lanes_at, owed_with-at, owed_with-length, field_same}
 
 module _ (given given_after : Given) (old : Books) (owed : List (List Answer))
     (many : length owed ≡ length old.owed)

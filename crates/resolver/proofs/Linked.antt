@@ -1,38 +1,12 @@
 -- Links and lanes at an index.
-use Rattle.std.proofs.Common.{
-  ◌≡◌,
-  ℕ,
-  zero,
-  suc,
-  ◌+◌,
-  ◌<◌,
-  ◌≤◌,
-  List,
-  [],
-  ◌∷◌,
-  ◌++◌,
-  length,
-  map,
-  Option,
-  Some,
-  None,
-  sym,
-  ap,
-  subst,
-  ◌∙◌,
-  refl,
-  inl,
-  inr,
-  arith,
-}
+use Rattle.std.proofs.Common.{◌≡◌, ℕ, zero, suc, ◌+◌, ◌<◌, ◌≤◌, List, [], ◌∷◌, ◌++◌, length, map, Some, sym, ap, subst, ◌∙◌, refl, inl, inr, arith}
 use Rattle.std.specs.Prelude.{◌⊎◌, slice_get, slice_index_or, option_to_list}
-use Rattle.std.specs.List.{sum_by}
-use Rattle.std.proofs.lemmas.Option.{slice_get_cases, same_Some, none-some, slice_get_within}
+use Rattle.std.proofs.lemmas.Option.{slice_get_cases, same_Some, none-some}
 use Rattle.std.proofs.lemmas.List.{length-map, length-append}
 use Rattle.std.proofs.lemmas.List.Sums.{sum_by-cons}
 use Rattle.keyspace.specs.declared.answer.Answer.{Answer}
 use Rattle.resolver.specs.Owed.{owed_to, owed_count}
-use Rattle.resolver.specs.Lanes.{Lanes, Each, taken_from, sent_to}
+use Rattle.resolver.specs.Lanes.{Lanes, Each}
 use Rattle.resolver.specs.Links.{LinkView, lanes_of, owed_with, waiting_count, EachLink}
 
 -- the lanes of a link stand at its index

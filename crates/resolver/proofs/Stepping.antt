@@ -34,7 +34,6 @@ use Rattle.std.proofs.Common.{
 use Rattle.std.specs.Prelude.{◌⊎◌, slice_get, IsSome, Result, Ok}
 use Rattle.std.specs.Vec.{with_items}
 use Rattle.std.specs.declared.vec.Vec.{Vec}
-use Rattle.std.specs.List.{list_all}
 use mathlib.Core.Bool.{beq}
 use Rattle.std.proofs.lemmas.Bool.{cases_Bool, cases_lt, eqb-true, eqb-false, true≢false, and_parts, and_from}
 use Rattle.std.proofs.lemmas.List.{length-map, with_items_is}
@@ -58,7 +57,7 @@ use Rattle.resolver.specs.Lanes.{
   ComesBefore,
   IsLookedThrough,
 }
-use Rattle.resolver.specs.Resolver.{ResolverState, StandsOver, TakesFrom, Finishes, TakesNoStep, IsThrough}
+use Rattle.resolver.specs.Resolver.{StandsOver, TakesFrom, Finishes, TakesNoStep, IsThrough}
 use Rattle.resolver.specs.Links.{
   LinkView,
   lanes_of,

@@ -7,7 +7,7 @@ use Rattle.keyspace.specs.declared.answer.Answer.{Answer}
 use Rattle.keyspace.specs.Run.{State, Step, Take, Finish}
 use Rattle.lane.specs.Lane.{PortGoesOn, IntakeGoesOn}
 use Rattle.resolver.specs.Owed.{owed_to, owed_count}
-use Rattle.resolver.specs.Books.{GoOn, StopsAtLimit}
+use Rattle.resolver.specs.Books.{StopsAtLimit}
 use Rattle.resolver.specs.Stands.{CoreState}
 use Rattle.keyspace.specs.declared.batch.Batch.{Batch}
 use Rattle.resolver.proofs.Handed.{StopsAtLimit-moved}

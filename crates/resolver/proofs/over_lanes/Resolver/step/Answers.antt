@@ -1,16 +1,13 @@
-use Rattle.std.proofs.Common.{◌≡◌, ℕ, ◌+◌, ◌<◌, length, Option, Some, None, Result, Ok, Err, sym, ap, subst, ◌∙◌, refl, inl, inr, true, false}
-use Rattle.std.specs.Prelude.{◌⊎◌, ◌<ℤ◌}
+use Rattle.std.proofs.Common.{◌≡◌, ℕ, ◌+◌, ◌<◌, length, None, Err, sym, ap, subst, ◌∙◌, refl, inl, inr, true, false}
+use Rattle.std.specs.Prelude.{◌<ℤ◌}
 use Rattle.chain.specs.declared.gate.TheConstants.{MAX_HELD}
 use Rattle.std.specs.Vec.{with_items}
-use Rattle.std.proofs.lemmas.List.{with_items_is}
-use Rattle.std.proofs.lemmas.Bool.{cases_Bool}
-use Rattle.keyspace.specs.declared.batch.Batch.{Batch}
-use Rattle.keyspace.specs.Run.{Step, run}
+use Rattle.keyspace.specs.Run.{run}
 use Rattle.resolver.specs.declared.stop.Stop.TheVariants.{GateFull, ArenaFull}
 use Rattle.resolver.specs.Books.{GoOn, StopsAtLimit}
 use Rattle.resolver.specs.Lanes.{Each, LanesGoOn, IsLookedThrough, ComesBefore, all_ended, sent_to}
 use Rattle.resolver.specs.Resolver.{ResolverState, StandsOver, TakesFrom, Finishes, TakesNoStep}
-use Rattle.resolver.specs.Links.{LinkView, Parts, resolver_of, lanes_of, AreParts, FindsOne, FindsNone}
+use Rattle.resolver.specs.Links.{Parts, resolver_of, lanes_of, AreParts, FindsOne, FindsNone}
 use Rattle.resolver.proofs.Stops.{same_stop, IfErr-always}
 use Rattle.resolver.proofs.Stepping.{
   none_of,

@@ -1,11 +1,10 @@
 use Rattle.resolver.specs.declared.turn.Turn.{Turn}
 use Rattle.resolver.specs.declared.stop.Stop.{Stop}
 use Rattle.resolver.specs.Links.{Parts}
-use Rattle.std.proofs.Common.{◌≡◌, Result, refl, sym, ap, ◌∙◌, Ok, Err, subst, None, inl, inr}
-use Rattle.std.specs.Prelude.{◌⊎◌}
+use Rattle.std.proofs.Common.{◌≡◌, Result, refl, sym, ap, ◌∙◌, Ok, Err, subst, inl, inr}
 use Rattle.keyspace.specs.Run.{run}
 use Rattle.resolver.specs.Lanes.{Each, IsLookedThrough, ComesBefore}
-use Rattle.resolver.specs.Resolver.{StepsBy, IsThrough, IfNotTaken, Finishes, TakesNoStep}
+use Rattle.resolver.specs.Resolver.{StepsBy, IsThrough, IfNotTaken}
 use Rattle.resolver.proofs.Turning.{TakesFrom-on, Finishes-on, TakesNoStep-on, looked_on, full_on, lanes_on, told, StepsBy-told, IfNotTaken-told, took-told, all_looked_on, stopped_on, done_means, done_where, closed_by, answers_over, stops_on}
 use Rattle.resolver.proofs.Stops.{same_stop, OnErr-always}
 use Rattle.resolver.specs.declared.stop.Stop.TheVariants as stop
