@@ -6,6 +6,7 @@ mod refusal;
 mod rows;
 mod run;
 mod service;
+mod serving;
 
 use crate::{Core, Stop};
 use fixtures::{Admission, batch_of, empty, give, open, text_of};
