@@ -1,5 +1,5 @@
 -- What a client knows of the log, from *Lane* of both of its lanes.
-use Rattle.std.proofs.Common.{◌≡◌, ℕ, suc, eqb, ◌<◌, Bool, true, false, List, [], ◌∷◌, ◌++◌, length, map, Option, Some, None, refl, sym, ap, subst, ◌∙◌, inl, inr, append-nil, length-append, arith}
+use Rattle.std.proofs.Common.{◌≡◌, ℕ, suc, eqb, ◌<◌, Bool, true, List, [], ◌∷◌, ◌++◌, length, map, Option, Some, None, sym, ap, subst, ◌∙◌, inl, inr, append-nil, length-append, arith}
 use Rattle.std.specs.Prelude.{is_some, option_map, slice_get, slice_index_or}
 use Rattle.std.proofs.lemmas.Bool.{false≢true, eqb-true, eq-eqb}
 use Rattle.std.proofs.lemmas.Option.{slice_get-map, slice_get_within, get_or_from_slice_get}
@@ -7,8 +7,8 @@ use Rattle.std.proofs.lemmas.List.{nil_from_length}
 use Rattle.std.proofs.lemmas.List.Folds.{sum_by-zero}
 use Rattle.std.proofs.lemmas.List.Sums.{AllPass-from_list_all}
 use Rattle.keyspace.specs.declared.answer.Answer.{Answer}
-use Rattle.keyspace.specs.Run.{Step, answers, part}
-use Rattle.keyspace.specs.Laws.{RunsAreChains}
+use Rattle.keyspace.specs.Run.{Step, run, answers, part}
+use Rattle.keyspace.specs.Laws.{RunsAreChains, EachBatchIsAnswered, NoneIsHeldAfterFinish, held_of}
 use Rattle.lane.specs.Lane.{Lane, HasEnded}
 use Rattle.resolver.specs.declared.stop.Stop.{Stop}
 use Rattle.resolver.specs.declared.turn.Account.{Account}
@@ -24,10 +24,6 @@ use Rattle.resolver.proofs.Growing.{begins_itself, begins_then}
 use Rattle.resolver.proofs.Standing.{AreOf-standing}
 use Rattle.resolver.proofs.Settling.{lanes_at}
 use Rattle.resolver.proofs.Unchanged.{LanesHold, slice_get_inside}
-
-pub none_from : {A : Type 0} (o : Option A) → is_some o ≡ false → o ≡ None
-none_from None none = refl
-none_from (Some x) none = absurd (false≢true (sym none))
 
 -- a beginning of the whole length is the whole
 begins_whole : {T : Type 0} (xs ys : List T) → IsBeginning xs ys → length xs ≡ length ys → xs ≡ ys
@@ -134,6 +130,12 @@ module _ (p : Parts) (are : AreParts p) (clients : List Client) (count : length 
     finishes complete =
         subst (λ ended. FinishesBy ended log) (have_ended complete) (stands.finish complete.no_stop)
 
+    -- and so no batch is held
+    holds_none : NoneIsHeldAfterFinish → IsComplete (resolver_of p) clients → (run books.set.window log).held ≡ []
+    holds_none none complete =
+        let last = finishes complete in
+        subst (λ steps. (run books.set.window steps).held ≡ []) (sym last.1) (none books.set.window last.0)
+
     module _ (proxy : ℕ) (c : Client) (l : LinkView) (c_at : slice_get clients proxy ≡ Some c)
         (l_at : slice_get p.links proxy ≡ Some l) (requests : Lane c.requests l.lanes.requests)
         (replies : Lane l.lanes.replies c.replies) where
@@ -181,17 +183,31 @@ module _ (p : Parts) (are : AreParts p) (clients : List Client) (count : length 
           begins_whole l.lanes.requests.taken c.requests.sent requests.in_order
           (ended.all ∙ requests.all_seen ended.close)
 
-      pub settled_for : (complete : Bool) → (complete ≡ true → IsComplete (resolver_of p) clients)
+      -- each of its batches has its answer, where none is held
+      one_each : EachBatchIsAnswered → (run books.set.window log).held ≡ []
+          → c.replies.taken ≡ answers books.set.window log proxy → part log proxy ≡ c.requests.sent
+          → length c.replies.taken ≡ length c.requests.sent
+      one_each once none received batches =
+          let told = once books.set.window log proxy in
+          let left = ap (λ held. length (held_of proxy held)) none in
+          let as_answers = ap length received in
+          let as_batches = ap length batches in
+          omega (arith, told, left, as_answers, as_batches)
+
+      pub settled_for : EachBatchIsAnswered → NoneIsHeldAfterFinish → (complete : Bool)
+          → (complete ≡ true → IsComplete (resolver_of p) clients)
           → SettledFor books.set.window log (slice_index_or (map (λ k. k.ended) lanes) proxy true) complete proxy c
-      settled_for complete is = record {
+      settled_for once none complete is = record {
         batches = subst (λ taken. IsBeginning taken c.requests.sent) (sym part_is) requests.in_order;
-        all_batches = λ ended. part_is ∙ whole (has_ended ended);
+        all_batches = all_batches;
         nothing_after = λ ended. requests.seen_close (has_ended ended).close;
         received =
             begins_then c.replies.taken l.lanes.replies.sent (answers books.set.window log proxy) replies.in_order
             sent_begins;
-        all_received = λ yes. (is yes).taken proxy c c_at ∙ sent_is ∙ sent_all (is yes);
-        all_ended = λ yes. ended_is ∙ ended_at lanes proxy l.lanes (have_ended (is yes)) at;
+        all_received = all_received;
+        all_ended = every_ended;
+        each_answered = λ yes.
+            one_each once (holds_none none (is yes)) (all_received yes) (all_batches (every_ended yes));
       }
         where
           ended_is : slice_index_or (map (λ k. k.ended) lanes) proxy true ≡ l.lanes.ended
@@ -200,16 +216,27 @@ module _ (p : Parts) (are : AreParts p) (clients : List Client) (count : length 
           has_ended : slice_index_or (map (λ k. k.ended) lanes) proxy true ≡ true → HasEnded l.lanes.requests
           has_ended ended = are.ended proxy l.lanes at (sym ended_is ∙ ended)
 
+          all_batches : slice_index_or (map (λ k. k.ended) lanes) proxy true ≡ true → part log proxy ≡ c.requests.sent
+          all_batches ended = part_is ∙ whole (has_ended ended)
+
+          all_received : complete ≡ true → c.replies.taken ≡ answers books.set.window log proxy
+          all_received done = (is done).taken proxy c c_at ∙ sent_is ∙ sent_all (is done)
+
+          every_ended : complete ≡ true → slice_index_or (map (λ k. k.ended) lanes) proxy true ≡ true
+          every_ended done = ended_is ∙ ended_at lanes proxy l.lanes (have_ended (is done)) at
+
     -- the headline, of all clients
-    pub settled : LanesHold p.links clients → RunsAreChains → (account : Account)
+    pub settled : LanesHold p.links clients → RunsAreChains → EachBatchIsAnswered → NoneIsHeldAfterFinish
+        → (account : Account)
         → (account.complete ≡ true → IsComplete (resolver_of p) clients) → account.stop ≡ p.core.stop
         → Settled books.set.window log (map (λ k. k.ended) lanes) clients account
-    settled holds chains account is stop = record {
+    settled holds chains once none account is stop = record {
       each = λ proxy c at.
           let l = link_of proxy c at in
           let both = holds proxy l.0 c l.1 at in
-          settled_for proxy c l.0 at l.1 both.0 both.1 account.complete is;
+          settled_for proxy c l.0 at l.1 both.0 both.1 once none account.complete is;
       chain = chains books.set.window log;
       finish = λ yes. finishes (is yes);
+      none_held = λ yes. holds_none none (is yes);
       no_stop = λ yes. stop ∙ (is yes).no_stop;
     }

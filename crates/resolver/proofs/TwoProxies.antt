@@ -213,6 +213,7 @@ served_for window log ended complete proxy c batches told settled done = record 
   all_batches = λ yes. settled.all_batches (settled.all_ended yes) ∙ done.sent;
   in_order = subst (λ taken. IsBeginning taken (answers window log proxy)) done.taken settled.received;
   all_received = λ yes. sym done.taken ∙ settled.all_received yes;
+  each_answered = λ yes. ap length (sym done.taken) ∙ settled.each_answered yes ∙ ap length done.sent;
 }
 
 -- so the account that settles the clients tells of both proxies
@@ -232,6 +233,7 @@ serving_settled window r clients first second served are settled = (
         (are.each 1 client_1.0 (second ∷ []) served.second.items client_1.1 refl refl);
     chain = all.chain;
     finish = all.finish;
+    none_held = all.none_held;
     no_stop = all.no_stop;
   },
 )

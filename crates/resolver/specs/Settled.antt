@@ -1,5 +1,5 @@
 -- What every client knows in the end: its batches and answers beside those of the reference resolver. This project's own.
-use Rattle.std.specs.Prelude.{◌≡◌, ℕ, ℤ, Bool, true, List, Some, None, slice_get, slice_index_or}
+use Rattle.std.specs.Prelude.{◌≡◌, ℕ, ℤ, Bool, true, List, [], length, Some, None, slice_get, slice_index_or}
 use Rattle.keyspace.specs.Chain.{IsChain}
 use Rattle.keyspace.specs.Run.{Step, run, answers, part}
 use Rattle.resolver.specs.declared.client.Client.{Client}
@@ -18,6 +18,8 @@ pub record SettledFor (window : ℤ) (log : List Step) (has_ended complete : Boo
   pub received : IsBeginning client.replies.taken (answers window log proxy)
   pub all_received : complete ≡ true → client.replies.taken ≡ answers window log proxy
   pub all_ended : complete ≡ true → has_ended ≡ true
+  -- where all is complete, it has received one answer a batch that it has sent
+  pub each_answered : complete ≡ true → length client.replies.taken ≡ length client.requests.sent
 
 -- The headline, of one log for all proxies. `ended` tells which request lanes have ended.
 pub record Settled (window : ℤ) (log : List Step) (ended : List Bool) (clients : List Client) (account : Account) : Type 0 where
@@ -26,8 +28,9 @@ pub record Settled (window : ℤ) (log : List Step) (ended : List Bool) (clients
       SettledFor window log (slice_index_or ended proxy true) account.complete proxy client
   -- what was processed follows the chain of versions, and each reply is that of a scan of all writes committed earlier
   pub chain : IsChain window (run window log).processed
-  -- where all is complete, no batch is left unanswered
+  -- where all is complete, the log finishes, and no batch is left held
   pub finish : account.complete ≡ true → FinishesLast log
+  pub none_held : account.complete ≡ true → (run window log).held ≡ []
   -- where all is complete, no stop was met
   pub no_stop : account.complete ≡ true → account.stop ≡ None
 

@@ -156,12 +156,9 @@ impl Resolver {
         ensures clients { SameClients clients.old clients.new }
     {
         laws::runs_are_chains();
+        laws::each_batch_is_answered();
         let all_taken = links::settle(rt, &mut self.links, clients);
-        let stop = self.core.stop();
-        Account {
-            complete: stop.is_none() && self.closed && all_taken,
-            stop,
-        }
+        Account::new(self.core.stop(), self.closed, all_taken)
     }
 
     /// Returns the number of answers owed to all proxies.

@@ -1,5 +1,7 @@
 //! What a turn of the resolver answers, and what is found at the end.
 
+ghost use Rattle.std.specs.Prelude.{◌≡◌, ◌↔◌, true, None};
+
 use crate::stop::Stop;
 
 /// What a turn of the resolver did.
@@ -20,4 +22,17 @@ pub struct Account {
     pub complete: bool,
     /// The stop that was met, if any.
     pub stop: Option<Stop>,
+}
+
+impl Account {
+    /// Puts an account together: all is complete where no stop was met, the reply lanes are closed, and every answer has been taken.
+    pub(crate) fn new(stop: Option<Stop>, closed: bool, all_taken: bool) -> Self
+        ensures complete { (result.complete ≡ true) ↔ ((stop ≡ None) × (closed ≡ true) × (all_taken ≡ true)) }
+        ensures stop { result.stop ≡ stop }
+    {
+        Account {
+            complete: stop.is_none() && closed && all_taken,
+            stop,
+        }
+    }
 }

@@ -1,6 +1,5 @@
-use Rattle.std.proofs.Common.{◌≡◌, ◌&&◌, ◌++◌, not, List, map, true, length, take, drop, ap, sym, subst, subst₂, ◌∙◌}
-use Rattle.std.specs.Prelude.{◌↔◌, is_some}
-use Rattle.std.proofs.lemmas.Bool.{and_parts, and_from, not-false}
+use Rattle.std.proofs.Common.{◌≡◌, ◌++◌, List, map, true, length, take, drop, ap, sym, subst, subst₂, ◌∙◌}
+use Rattle.std.specs.Prelude.{◌↔◌}
 use Rattle.std.proofs.lemmas.List.{length-map}
 use Rattle.keyspace.specs.Run.{Step}
 use Rattle.resolver.specs.Resolver.{ResolverState, StandsOver, AreClients}
@@ -9,12 +8,12 @@ use Rattle.resolver.specs.Links.{LinkView, Parts, AreParts, EachSettled, lanes_o
 use Rattle.resolver.specs.Settled.{Settled, IsComplete}
 use Rattle.resolver.proofs.Settling.{written_back}
 use Rattle.resolver.proofs.Unchanged.{owed_with-settled, lanes_hold, lanes_settled, clients_settled, with_links, AreParts-settled}
-use Rattle.resolver.proofs.Accounts.{EachTaken, settled, complete_from, complete_then, none_from}
+use Rattle.resolver.proofs.Accounts.{EachTaken, settled, complete_from, complete_then}
 use Rattle.resolver.proofs.over_lanes.Resolver.settle.Given.{Over}
 use Rattle.resolver.proofs.over_lanes.Resolver.settle.Goals as goal
-use Rattle.resolver.proofs.over_lanes.Resolver.settle.Goals.{then-is_none, else-is_none, then-self, else-self, Joined-self}
+use Rattle.resolver.proofs.over_lanes.Resolver.settle.Goals.{After-new}
 
-module _ (g : Over) (c : Joined-self g) where
+module _ (g : Over) (c : After-new g) where
   abbrev parts : Parts
   parts = record {
     core = c.self.inside.core;
@@ -39,20 +38,6 @@ module _ (g : Over) (c : Joined-self g) where
   links_are : take c.self.inside.links.len (new ++ drop (length new) parts.links) ≡ new
   links_are = written_back c.self.inside.links.len new parts.links each.count c.self.inside.links.ok.0
 
-  value_is : c.if-is_none.value ≡ (c.is_none.result && c.self.inside.closed)
-  value_is = elim c.if-is_none.branch [
-    | then-is_none w ↦ w.value-is ∙ ap (λ b. b && c.self.inside.closed) (sym w.if-is_none.true)
-    | else-is_none w ↦
-        w.value-is ∙ w.if-is_none.false ∙ ap (λ b. b && c.self.inside.closed) (sym w.if-is_none.false)
-  ]
-
-  result_is : c.if-self.result ≡ (c.if-is_none.value && c.settle-all_taken.result)
-  result_is = elim c.if-self.branch [
-    | then-self w ↦ w.result-is ∙ ap (λ b. b && c.settle-all_taken.result) (sym w.if-self.true)
-    | else-self w ↦
-        w.result-is ∙ w.if-self.false ∙ ap (λ b. b && c.settle-all_taken.result) (sym w.if-self.false)
-  ]
-
   taken_is : (c.settle-all_taken.result ≡ true) ↔ EachTaken parts.links c.args.clients.now
   taken_is =
       subst (λ links. (c.settle-all_taken.result ≡ true) ↔ EachTaken links c.args.clients.now)
@@ -61,26 +46,20 @@ module _ (g : Over) (c : Joined-self g) where
   many : length c.args.clients.now ≡ length parts.links
   many = clients_are.count ∙ length-map parts.links (λ l. l.lanes)
 
-  complete_is : (c.if-self.result ≡ true) ↔ IsComplete (resolver_of parts) c.args.clients.now
+  complete_is : (c.new.result.complete ≡ true) ↔ IsComplete (resolver_of parts) c.args.clients.now
   complete_is = (
-    λ yes.
-        let both = and_parts c.if-is_none.value c.settle-all_taken.result (sym result_is ∙ yes) in
-        let other = and_parts c.is_none.result c.self.inside.closed (sym value_is ∙ both.0) in
-        complete_from parts c.self.invariant c.args.clients.now many
-        (sym c.stop-stop.ensures.stop ∙ none_from c.stop-stop.result (c.is_none.ensures ∙ ap not other.0)) other.1
-        (taken_is.0 both.1),
+    λ all.
+        let each = c.new.ensures.complete.0 all in
+        complete_from parts c.self.invariant c.args.clients.now many (sym c.stop.ensures.stop ∙ each.0) each.1
+        (taken_is.0 each.2),
     λ complete.
         let then = complete_then parts c.self.invariant c.args.clients.now many complete in
-        let none = not-false c.is_none.result
-        (sym c.is_none.ensures ∙ ap is_some (c.stop-stop.ensures.stop ∙ then.0)) in
-        result_is
-        ∙ and_from c.if-is_none.value c.settle-all_taken.result
-        (value_is ∙ and_from c.is_none.result c.self.inside.closed none then.1) (taken_is.1 then.2),
+        c.new.ensures.complete.1 (c.stop.ensures.stop ∙ then.0, then.1, taken_is.1 then.2),
   )
 
 pub invariant_of-self : goal.invariant_of-self
 invariant_of-self g c =
-    let d = (goal.at.invariant_of-self g c).Joined-self in
+    let d = (goal.at.invariant_of-self g c).After-new in
     subst (λ links. AreParts (with_links (parts g d) links)) (sym (links_are g d))
     (AreParts-settled (parts g d) (new g d) c.args.clients.now c.settle-all_taken.new.clients (each g d)
     (clients_are g d).count c.self.invariant)
@@ -90,16 +69,17 @@ returns-clause-settled g c =
     let clients = c.args.clients.now in
     subst
     (λ (r : ResolverState). (log : List Step) → StandsOver r log → Settled r.core.books.set.window log
-    (map (λ l. l.ended) r.lanes) clients (record { complete = c.if-self.result; stop = c.stop-stop.result }))
+    (map (λ l. l.ended) r.lanes) clients c.new.result)
     c.self.view_is
     (λ log stands. settled (parts g c) c.self.invariant clients (many g c) log stands
     (lanes_hold (parts g c).links (new g c) clients c.settle-all_taken.new.clients (each g c)
     (clients_are g c).count)
-    c.runs_are_chains.ensures.chain _ (complete_is g c).0 c.stop-stop.ensures.stop)
+    c.runs_are_chains.ensures.chain c.each_batch_is_answered.ensures.once
+    c.each_batch_is_answered.ensures.none_held _ (complete_is g c).0 (c.new.ensures.stop ∙ c.stop.ensures.stop))
 
 pub returns-clause-complete : goal.returns-clause-complete
 returns-clause-complete g c =
-    subst (λ (r : ResolverState). (c.if-self.result ≡ true) ↔ IsComplete r c.args.clients.now) c.self.view_is
+    subst (λ (r : ResolverState). (c.new.result.complete ≡ true) ↔ IsComplete r c.args.clients.now) c.self.view_is
     (complete_is g c)
 
 pub returns-clause-core : goal.returns-clause-core
