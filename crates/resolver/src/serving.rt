@@ -17,20 +17,22 @@ use std::alloc::{AllocError, Global};
 use std::sync::Wait;
 use stepmap::MAX_LIMIT;
 
-/// What two proxies received, and what was found at the end.
+/// What comes of serving two proxies.
 #[derive(Drop)]
 pub struct Served {
     /// The answers that proxy 0 took, in order.
     pub first: Vec<Answer>,
     /// The answers that proxy 1 took, in order.
     pub second: Vec<Answer>,
+    /// What was found at the end.
     pub account: Account,
 }
 
 /// Serves two proxies in one thread, by lanes that hold one batch or answer, with the default window.
 ///
 /// Proxy 0 sends the first batch and proxy 1 the second, and each closes its lane. Then the resolver takes so many turns. After
-/// each of them each proxy takes an answer, if one has come. A turn that answers a stop doesn't end this: later ones still hand out.
+/// each of them each proxy takes an answer, if one has come. A turn that answers a stop doesn't end this, since later turns still
+/// hand out. The only refusal is that of memory.
 pub fn serve_two<R: Wait>(
     alloc: Global,
     rt: &R,

@@ -52,9 +52,10 @@ pub loop-init : goal.loop-init
 loop-init g c =
     let now = set (set c.in_ok-resolver.clients.items 0 c.send_only.new.client) 1 c.send_only-2.new.client in
     let sent = (c.args.first ∷ []) ∷ (c.args.second ∷ []) ∷ [] in
-    subst (λ taken. AreServing WINDOW c.in_ok-resolver.resolver now sent taken)
-    (ap₂ (λ (a b : List Answer). a ∷ b ∷ []) (sym c.new-first_received.ensures.items) (sym c.new-second_received.ensures.items))
-    (both_sent g c)
+    let none = ap₂ (λ (a b : List Answer). a ∷ b ∷ []) (sym c.new-first_received.ensures.items)
+    (sym c.new-second_received.ensures.items) in
+    subst (λ (taken : List (List Answer)). AreServing WINDOW c.in_ok-resolver.resolver now sent taken)
+    {y = c.new-first_received.result.items ∷ c.new-second_received.result.items ∷ []} none (both_sent g c)
 
 pub index_mut-requires-in-loop : goal.index_mut-requires-in-loop
 index_mut-requires-in-loop g c =
