@@ -21,7 +21,7 @@ pub struct ProxyFailure {
 impl ProxyFailure {
     /// Returns whether nothing failed.
     pub fn is_clean(&self) -> bool
-        ensures { IsTrue result ↔ IsClean self.now }
+        ensures clean { IsTrue result ↔ IsClean self.now }
     {
         self.fault.is_none() && !self.lost
     }
@@ -41,7 +41,7 @@ pub enum Ending {
 impl Ending {
     /// Returns the ending of a run that was complete or not, and that met a stop or none. A stop decides.
     pub fn new(complete: bool, stop: Option<Stop>) -> Self
-        ensures { MatchOption stop
+        ensures ending { MatchOption stop
             (result ≡ (if complete then Ending.Complete else Ending.Incomplete))
             (λ met. result ≡ Ending.Stopped met) }
     {
@@ -55,7 +55,7 @@ impl Ending {
 
 /// Returns whether nothing failed of any proxy, and the run is complete.
 pub fn nothing_failed(failures: &[ProxyFailure], ending: Ending) -> bool
-    ensures { IsTrue result ↔ NothingFailed failures.now ending }
+    ensures nothing { IsTrue result ↔ NothingFailed failures.now ending }
 {
     failures.iter().all(|failure| failure.is_clean()) && matches!(ending, Ending::Complete)
 }
@@ -63,7 +63,7 @@ pub fn nothing_failed(failures: &[ProxyFailure], ending: Ending) -> bool
 /// Notes that an answer to a proxy was lost.
 pub fn note_loss(failures: &mut [ProxyFailure], proxy: usize)
     requires known { proxy < length failures.old }
-    ensures { failures.new ≡ with_loss proxy failures.old }
+    ensures loss { failures.new ≡ with_loss proxy failures.old }
 {
     failures[proxy].lost = true;
 }
@@ -142,7 +142,7 @@ fn print_ending<W: Write>(error: &mut W, ending: Ending) -> io::Result<()>
 
 // The number and the name of a fault, as its `Display` prints them. A contract doesn't see what a derived `Display` prints.
 fn fault_text(fault: WireError) -> &'static str
-    ensures { result.now ≡ fault_name fault }
+    ensures name { result.now ≡ fault_name fault }
 {
     match fault {
         WireError::Short => "1 Short",
@@ -165,7 +165,7 @@ fn fault_text(fault: WireError) -> &'static str
 
 // The number and the name of a stop, likewise.
 fn stop_text(stop: Stop) -> &'static str
-    ensures { result.now ≡ stop_name stop }
+    ensures name { result.now ≡ stop_name stop }
 {
     match stop {
         Stop::Memory => "1 Memory",

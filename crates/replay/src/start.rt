@@ -43,7 +43,7 @@ impl From<OpenError> for StartError {
 
 /// Prints the line of the cause, and returns how the program ends. A failed write changes nothing.
 pub fn fail_to_start<W: Write>(error: &mut W, cause: StartError) -> Status
-    ensures { result ≡ Status.Failed }
+    ensures ends { result ≡ Status.Failed }
 {
     let _ = print_start_error(error, cause);
     Status::Failed

@@ -1,4 +1,4 @@
 use Rattle.replay.proofs.failures.print_fault.Goals as goal
 
 pub returns : goal.returns
-returns g c = record { text = rw (c.in-Some.is, ← c.fault_text-name.ensures) c.write.ensures.bytes }
+returns g c = record { text = rw (c.in-Some.is, ← c.fault_text-name.ensures.name) c.write.ensures.bytes }
