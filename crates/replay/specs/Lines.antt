@@ -1,10 +1,16 @@
 -- The printed text of answers: this project's own format, one line an answer.
-use Rattle.std.specs.Prelude.{ℕ, int_lt, if◌then◌else◌, List, [], ◌∷◌, ◌++◌, codes, fold, map, take, drop}
+use Rattle.std.specs.Prelude.{◌≡◌, ⊤, ℕ, Bool, true, int_lt, if◌then◌else◌, List, [], ◌∷◌, ◌++◌, codes, fold, map, take, drop}
 use Rattle.std.specs.List.{flat_map, join_by, enumerate_from}
 use Rattle.std.specs.Fmt.{decimal, signed_decimal}
+use Rattle.hex.specs.Hex.{encode_lower}
+use Rattle.wire.specs.Fields.{reply_fields}
+use Rattle.wire.specs.Spelling.{frame, reply_body}
+use Rattle.replay.specs.declared.lines.PrintError.{PrintError}
+use Rattle.replay.specs.declared.lines.PrintError.TheVariants as error
 use Rattle.keyspace.specs.declared.answer.Answer.{Answer}
-use Rattle.keyspace.specs.declared.answer.Answer.TheVariants.{Reply, Never, Held}
+use Rattle.keyspace.specs.declared.answer.Answer.TheVariants as answer
 use Rattle.keyspace.specs.Answer.{version_of_answer}
+use Rattle.keyspace.specs.declared.reply.Reply.{Reply}
 use Rattle.keyspace.specs.declared.reply.Entry.{Entry}
 use Rattle.keyspace.specs.declared.reply.Verdict.{Verdict}
 use Rattle.keyspace.specs.declared.reply.Verdict.TheVariants.{Conflict, TooOld, Committed}
@@ -29,16 +35,20 @@ abbrev pub words : List Entry → List ℕ
 words [] = codes "empty"
 words (entry ∷ entries) = join_by entry_word (codes " ") (entry ∷ entries)
 
--- what became of the batch
-abbrev pub outcome : Answer → List ℕ
-outcome (Reply reply) = words reply.entries
-outcome (Never version) = codes "never"
-outcome (Held version) = codes "held"
+-- the frame of a reply, in lower-case hexadecimal
+abbrev pub frame_word : Reply → List ℕ
+frame_word reply = encode_lower (frame (reply_body (reply_fields reply)))
+
+-- what became of the batch; a reply is its frame, or else its words
+abbrev pub outcome : Bool → Answer → List ℕ
+outcome frames (answer.Reply reply) = if frames then frame_word reply else words reply.entries
+outcome frames (answer.Never version) = codes "never"
+outcome frames (answer.Held version) = codes "held"
 
 -- the line of an answer to this proxy
-abbrev pub line : ℕ → Answer → List ℕ
-line proxy answer = decimal proxy ++ codes " " ++ signed_decimal (version_of_answer answer) ++ codes " "
-    ++ outcome answer ++ codes "\n"
+abbrev pub line : Bool → ℕ → Answer → List ℕ
+line frames proxy answer = decimal proxy ++ codes " " ++ signed_decimal (version_of_answer answer) ++ codes " "
+    ++ outcome frames answer ++ codes "\n"
 
 -- an answer put behind those of its version and of lesser ones
 abbrev pub put_in_order : List Answer → Answer → List Answer
@@ -56,13 +66,19 @@ abbrev pub sorted_to : ℕ → List (List Answer) → List (List Answer)
 sorted_to proxy received = map in_order (take proxy received) ++ drop proxy received
 
 -- the lines of a proxy, given its number and its answers in order
-abbrev pub lines_of_proxy : ℕ × List Answer → List ℕ
-lines_of_proxy proxy = flat_map (line proxy.0) proxy.1
+abbrev pub lines_of_proxy : Bool → ℕ × List Answer → List ℕ
+lines_of_proxy frames proxy = flat_map (line frames proxy.0) proxy.1
 
 -- the text of answers that are in order, given those of each proxy
-abbrev pub lines_in_order : List (List Answer) → List ℕ
-lines_in_order answers = flat_map lines_of_proxy (enumerate_from 0 answers)
+abbrev pub lines_in_order : Bool → List (List Answer) → List ℕ
+lines_in_order frames answers = flat_map (lines_of_proxy frames) (enumerate_from 0 answers)
 
 -- the whole text, given each proxy's answers as received; a proxy's number is its index
-abbrev pub lines : List (List Answer) → List ℕ
-lines received = lines_in_order (map in_order received)
+abbrev pub lines : Bool → List (List Answer) → List ℕ
+lines frames received = lines_in_order frames (map in_order received)
+
+-- a line of this proxy failed: the write did, or its frame could not be made
+abbrev pub IsLineError : Bool → ℕ → PrintError → Type 0
+IsLineError frames proxy (error.Memory other) = ⊥
+IsLineError frames proxy (error.Frame other) = (other ≡ proxy) × (frames ≡ true)
+IsLineError frames proxy error.Write = ⊤

@@ -1,35 +1,50 @@
 //! The printed text: one line an answer, in order.
 
-ghost use Rattle.std.specs.Prelude.{◌≡◌, ◌<◌, ℕ, map, length, vec_items, OnOk, OnErr, IfErr};
+ghost use Rattle.std.specs.Prelude.{◌≡◌, ◌<◌, ℕ, map, length, vec_items, OnOk, OnErr, IfErr, IsTrue, false, true};
 ghost use Rattle.std.specs.Io.KnownBytes.{Appends};
 ghost use Rattle.keyspace.specs.Answer.{version_of_answer};
-ghost use Rattle.replay.specs.Lines.{conflict_word, entry_word, words, outcome, line, in_order, sorted_to, lines_of_proxy, lines_in_order, lines};
+ghost use Rattle.replay.specs.Lines.{conflict_word, entry_word, words, frame_word, outcome, IsLineError, line, in_order, sorted_to, lines_of_proxy, lines_in_order, lines};
 
-use keyspace::{Answer, Entry, Verdict};
+use keyspace::{Answer, Entry, Reply, Verdict};
 use std::alloc::{AllocError, Global};
 use std::io;
 use std::io::Write;
+use wire::encode_reply;
 
 /// Why the answers could not be printed.
 #[derive(Debug, Drop)]
 pub enum PrintError {
     /// Memory was refused while the answers of this proxy were sorted.
     Memory(usize),
+    /// A reply to this proxy could not be made a frame, for want of memory or since it exceeds
+    /// [`MAX_BODY_LENGTH`](wire::MAX_BODY_LENGTH). The right reply to a batch that was read doesn't exceed it.
+    Frame(usize),
     /// The writer failed.
     Write,
 }
 
+impl From<io::Error> for PrintError {
+    ghost use Rattle.replay.specs.declared.lines.PrintError.TheVariants.{Write};
+
+    ghost from_gives = { λ _ error. error ≡ Write };
+
+    fn from(_failed: io::Error) -> PrintError {
+        PrintError::Write
+    }
+}
+
 /// Prints a line for each answer, by proxy, then version, then the order received. `answers` holds those of each proxy
-/// at its number, in the order received; it is sorted in place.
+/// at its number, in the order received; it is sorted in place. With `frames` a reply is printed as its frame.
 ///
-/// After `Memory` nothing is printed. After `Write` some of the text may be written.
+/// After `Memory` nothing is printed. After `Frame` and `Write` some of the text may be written.
 pub fn print_answers<W: Write>(
     alloc: Global,
     out: &mut W,
+    frames: bool,
     answers: &mut [Vec<Answer>],
 ) -> Result<(), PrintError>
     ensures lines { OnOk result (Appends (W.contents out.old) (W.contents out.new)
-        (lines (map vec_items answers.old))) }
+        (lines frames (map vec_items answers.old))) }
     ensures sorted { OnOk result (map vec_items answers.new ≡ map in_order (map vec_items answers.old)) }
     ensures write { result ≡ Err PrintError.Write
         → map vec_items answers.new ≡ map in_order (map vec_items answers.old) }
@@ -40,11 +55,16 @@ pub fn print_answers<W: Write>(
     ensures memory_proxy { (proxy : ℕ) → result ≡ Err (PrintError.Memory proxy) → proxy < length answers.old }
     ensures memory_output { (proxy : ℕ) → result ≡ Err (PrintError.Memory proxy)
         → W.contents out.new ≡ W.contents out.old }
+
+    ensures frame { (proxy : ℕ) → result ≡ Err (PrintError.Frame proxy)
+        → map vec_items answers.new ≡ map in_order (map vec_items answers.old) }
+    ensures frame_proxy { (proxy : ℕ) → result ≡ Err (PrintError.Frame proxy) → proxy < length answers.old }
+    ensures frame_asked { (proxy : ℕ) → result ≡ Err (PrintError.Frame proxy) → IsTrue frames }
 {
     if let Err(proxy) = sort_answers(alloc, answers) {
         return Err(PrintError::Memory(proxy));
     }
-    print_sorted(out, answers).map_err(|_| PrintError::Write)
+    print_sorted(alloc, out, frames, answers)
 }
 
 // Sorts the answers of each proxy. An error tells the proxy whose answers could not be sorted.
@@ -62,22 +82,36 @@ fn sort_answers(alloc: Global, answers: &mut [Vec<Answer>]) -> Result<(), usize>
     Ok(())
 }
 
-fn print_sorted<W: Write>(out: &mut W, answers: &[Vec<Answer>]) -> io::Result<()>
+fn print_sorted<W: Write>(
+    alloc: Global,
+    out: &mut W,
+    frames: bool,
+    answers: &[Vec<Answer>],
+) -> Result<(), PrintError>
     ensures text { OnOk result (Appends (W.contents out.old) (W.contents out.new)
-        (lines_in_order (map vec_items answers.now))) }
+        (lines_in_order frames (map vec_items answers.now))) }
+    ensures err { IfErr result (λ error.
+        (proxy : ℕ) × (proxy < length answers.now) × IsLineError frames proxy error) }
 {
     for (proxy, sorted) in answers.iter().enumerate() {
-        print_proxy(out, proxy, sorted)?;
+        print_proxy(alloc, out, frames, proxy, sorted)?;
     }
     Ok(())
 }
 
-fn print_proxy<W: Write>(out: &mut W, proxy: usize, answers: &[Answer]) -> io::Result<()>
+fn print_proxy<W: Write>(
+    alloc: Global,
+    out: &mut W,
+    frames: bool,
+    proxy: usize,
+    answers: &[Answer],
+) -> Result<(), PrintError>
     ensures text { OnOk result (Appends (W.contents out.old) (W.contents out.new)
-        (lines_of_proxy (proxy, answers.now))) }
+        (lines_of_proxy frames (proxy, answers.now))) }
+    ensures err { IfErr result (IsLineError frames proxy) }
 {
     for answer in answers {
-        print_line(out, proxy, answer)?;
+        print_line(alloc, out, frames, proxy, answer)?;
     }
     Ok(())
 }
@@ -98,19 +132,49 @@ fn version(answer: &Answer) -> i64
     }
 }
 
-fn print_line<W: Write>(out: &mut W, proxy: usize, answer: &Answer) -> io::Result<()>
+fn print_line<W: Write>(
+    alloc: Global,
+    out: &mut W,
+    frames: bool,
+    proxy: usize,
+    answer: &Answer,
+) -> Result<(), PrintError>
     ensures text { OnOk result (Appends (W.contents out.old) (W.contents out.new)
-        (line proxy answer.now)) }
+        (line frames proxy answer.now)) }
+    ensures err { IfErr result (IsLineError frames proxy) }
 {
     let version = version(answer);
     write!(out, "{proxy} {version} ")?;
-    print_outcome(out, answer)?;
-    out.write_all(b"\n")
+    match answer {
+        Answer::Reply(reply) if frames => print_frame(alloc, out, proxy, reply)?,
+        _ => print_outcome(out, answer)?,
+    }
+    out.write_all(b"\n")?;
+    Ok(())
+}
+
+fn print_frame<W: Write>(
+    alloc: Global,
+    out: &mut W,
+    proxy: usize,
+    reply: &Reply,
+) -> Result<(), PrintError>
+    ensures text { OnOk result (Appends (W.contents out.old) (W.contents out.new) (frame_word reply.now)) }
+    ensures err { IfErr result (IsLineError true proxy) }
+{
+    let Ok(frame) = encode_reply(alloc, reply) else {
+        return Err(PrintError::Frame(proxy));
+    };
+    let Ok(text) = hex::encode(alloc, frame) else {
+        return Err(PrintError::Frame(proxy));
+    };
+    out.write_all(text.as_bytes())?;
+    Ok(())
 }
 
 fn print_outcome<W: Write>(out: &mut W, answer: &Answer) -> io::Result<()>
     ensures text { OnOk result (Appends (W.contents out.old) (W.contents out.new)
-        (outcome answer.now)) }
+        (outcome false answer.now)) }
 {
     match answer {
         Answer::Reply(reply) => print_words(out, reply.entries.as_slice()),

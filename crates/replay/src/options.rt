@@ -1,12 +1,15 @@
 //! How a run is set up.
 
-ghost use Rattle.std.specs.Prelude.{◌≡◌, ◌≤◌, ◌≤ℤ◌, pos};
+ghost use Rattle.std.specs.Prelude.{◌≡◌, ◌≤◌, ◌≤ℤ◌, ◌↔◌, IfSome, IsSome, false, pos};
 ghost use Rattle.keyspace.specs.declared.TheConstants.{WINDOW};
 ghost use Rattle.lane.specs.declared.ends.TheConstants.{MAX_CAPACITY};
 ghost use Rattle.conflict.specs.declared.conflict_set.TheConstants.{MAX_WINDOW};
 ghost use Rattle.stepmap.specs.declared.step_map.TheConstants.{MAX_LIMIT};
 
+use conflict::MAX_WINDOW;
 use keyspace::WINDOW;
+use lane::MAX_CAPACITY;
+use stepmap::MAX_LIMIT;
 
 /// How a run is set up, each option within its range.
 #[derive(Clone, Copy, Debug, PartialEq, Eq)]
@@ -17,6 +20,8 @@ pub struct Options {
     pub window: i64,
     /// How many boundaries its conflict set keeps at most.
     pub limit: usize,
+    /// Whether replies are printed as frames.
+    pub frames: bool,
     ghost least_capacity: { 1 ≤ capacity },
     ghost most_capacity: { capacity ≤ MAX_CAPACITY },
     ghost least_window: { pos 1 ≤ℤ window },
@@ -25,14 +30,40 @@ pub struct Options {
     ghost most_limit: { limit ≤ MAX_LIMIT },
 }
 
+impl Options {
+    /// Returns these options if each number is within its range.
+    pub fn new(capacity: usize, window: i64, limit: usize, frames: bool) -> Option<Self>
+        ensures some { IsSome result ↔ ((1 ≤ capacity) × (capacity ≤ MAX_CAPACITY) × (pos 1 ≤ℤ window)
+            × (window ≤ℤ MAX_WINDOW) × (1 ≤ limit) × (limit ≤ MAX_LIMIT)) }
+        ensures capacity { IfSome result (λ options. options.capacity ≡ capacity) }
+        ensures window { IfSome result (λ options. options.window ≡ window) }
+        ensures limit { IfSome result (λ options. options.limit ≡ limit) }
+        ensures frames { IfSome result (λ options. options.frames ≡ frames) }
+    {
+        if !(1..=MAX_CAPACITY).contains(&capacity)
+            || !(1..=MAX_WINDOW).contains(&window)
+            || !(1..=MAX_LIMIT).contains(&limit)
+        {
+            return None;
+        }
+        Some(Options {
+            capacity,
+            window,
+            limit,
+            frames,
+        })
+    }
+}
+
 impl Default for Options {
-    ghost is_default = { λ options. (options.capacity ≡ 16) × (options.window ≡ WINDOW) × (options.limit ≡ 1000000) };
+    ghost is_default = { λ options. (options.capacity ≡ 16) × (options.window ≡ WINDOW) × (options.limit ≡ 1000000) × (options.frames ≡ false) };
 
     fn default() -> Self {
         Options {
             capacity: 16,
             window: WINDOW,
             limit: 1_000_000,
+            frames: false,
         }
     }
 }

@@ -51,5 +51,14 @@ pub fn replay_over<
         ..
     } = outcome;
     let ending = Ending::new(account.complete, account.stop);
-    print_report(alloc, out, error, &mut answers, &mut failures, ending).status
+    print_report(
+        alloc,
+        out,
+        error,
+        options.frames,
+        &mut answers,
+        &mut failures,
+        ending,
+    )
+    .status
 }

@@ -39,6 +39,7 @@ pub fn run<
         capacity,
         window,
         limit,
+        ..
     } = options;
     let (mut resolver, clients) = open(alloc, proxies, capacity, window, limit)?;
     let outcome = Outcome::with_room(alloc, proxies)?;

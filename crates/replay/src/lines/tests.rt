@@ -50,7 +50,7 @@ fn one_line_an_answer(rt: HostRuntime) -> Result<(), Fail> {
     ]?;
     for (answer, line) in table {
         let mut out = Vec::new(alloc);
-        print_answers(alloc, &mut out, &mut [vec![in alloc; answer]?])?;
+        print_answers(alloc, &mut out, false, &mut [vec![in alloc; answer]?])?;
         assert_eq!(rt; out.as_slice(), line.as_bytes());
     }
     Ok(())
@@ -67,7 +67,7 @@ fn by_proxy_then_version_then_order_received(rt: HostRuntime) -> Result<(), Fail
     ]?;
     let second = vec![in alloc; Answer::Held(10), empty(alloc, 9)?]?;
     let mut out = Vec::new(alloc);
-    print_answers(alloc, &mut out, &mut [first, second])?;
+    print_answers(alloc, &mut out, false, &mut [first, second])?;
     let text = "0 100 empty\n0 100 never\n0 200 empty\n0 300 empty\n1 9 empty\n1 10 held\n";
     assert_eq!(rt; out.as_slice(), text.as_bytes());
     Ok(())
@@ -84,7 +84,7 @@ fn forty_answers_of_one_proxy(rt: HostRuntime) -> Result<(), Fail> {
         write!(&mut text, "0 {place} held\n")?;
     }
     let mut out = Vec::new(alloc);
-    print_answers(alloc, &mut out, &mut [received])?;
+    print_answers(alloc, &mut out, false, &mut [received])?;
     assert_eq!(rt; out.as_slice(), text.as_slice());
     Ok(())
 }
@@ -97,13 +97,40 @@ fn writer_fails_everywhere(rt: HostRuntime) -> Result<(), Fail> {
     let text = "0 0 empty\n0 100 committed\n";
     for room in 0..text.len() {
         let mut out = Failing::after(room);
-        let result = print_answers(alloc, &mut out, &mut answers);
+        let result = print_answers(alloc, &mut out, false, &mut answers);
         assert!(rt;
             matches!(result, Err(PrintError::Write)),
             "after {room} bytes"
         );
     }
     let mut out = Failing::after(text.len());
-    print_answers(alloc, &mut out, &mut answers)?;
+    print_answers(alloc, &mut out, false, &mut answers)?;
+    Ok(())
+}
+
+// The frames of docs/WIRE.md, and words where there is no reply.
+#[test]
+fn replies_as_frames(rt: HostRuntime) -> Result<(), Fail> {
+    let alloc = rt.alloc();
+    let conflict = Entry::new(Verdict::Conflict, Places::new(vec![in alloc; 0]?));
+    let two = vec![in alloc; committed(alloc), conflict]?;
+    let table = vec![in alloc;
+        (empty(alloc, 0)?, "0 0 0000000b0200000000000000000000\n"),
+        (
+            reply(100, two)?,
+            "0 100 0000001302000000000000006400020200000000010000\n"
+        ),
+        (
+            reply(100, vec![in alloc; committed(alloc)]?)?,
+            "0 100 0000000e0200000000000000640001020000\n"
+        ),
+        (Answer::Never(300), "0 300 never\n"),
+        (Answer::Held(1_000), "0 1000 held\n"),
+    ]?;
+    for (answer, line) in table {
+        let mut out = Vec::new(alloc);
+        print_answers(alloc, &mut out, true, &mut [vec![in alloc; answer]?])?;
+        assert_eq!(rt; out.as_slice(), line.as_bytes());
+    }
     Ok(())
 }

@@ -6,4 +6,4 @@ use Rattle.replay.proofs.lines.print_proxy.Given as goal
 
 abbrev pub invariant-loop-answer : goal.invariant-loop-answer
 invariant-loop-answer g l = Appends (g.W.Write.contents l.initial.out) (g.W.Write.contents l.out)
-    (flat_map (line l.proxy) (take l.answer-index l.answers))
+    (flat_map (line l.frames l.proxy) (take l.answer-index l.answers))

@@ -7,11 +7,12 @@ use Rattle.replay.proofs.lines.print_sorted.Goals as goal
 
 pub loop-proxy-preserved : goal.loop-proxy-preserved
 loop-proxy-preserved g c =
+    let frames = c.args.frames in
     let xs = c.args.answers.now in
     let proxy = c.loop-proxy.proxy in
     let x = c.index-answers-proxy.result in
     subst (Appends (g.W.Write.contents c.args.out.now) (g.W.Write.contents c.print_proxy.new.out))
-    (ap (λ ys. lines_in_order (map vec_items (take proxy xs))
-    ++ lines_of_proxy (proxy, ys)) c.deref.ensures.value
-    ∙ sym (text_from-more vec_items lines_of_proxy xs proxy x (omega arith) c.index-answers-proxy.is))
+    (ap (λ ys. lines_in_order frames (map vec_items (take proxy xs))
+    ++ lines_of_proxy frames (proxy, ys)) c.deref.ensures.value
+    ∙ sym (text_from-more vec_items (lines_of_proxy frames) xs proxy x (omega arith) c.index-answers-proxy.is))
     (Appends-then _ _ _ _ _ c.loop-proxy.invariant c.in_ok-print_proxy.ensures.text)
