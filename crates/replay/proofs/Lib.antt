@@ -5,3 +5,4 @@ pub mod Numbered
 pub mod Clean
 pub mod Reading
 pub mod SameLanes
+pub mod Getters

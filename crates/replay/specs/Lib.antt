@@ -4,3 +4,4 @@ pub mod Start
 pub mod Inbox
 pub mod Worker
 pub mod Threads
+pub mod Words

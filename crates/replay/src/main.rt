@@ -4,6 +4,10 @@
 //! file, in `threads` of their own, and turns the resolver between them; `report` prints the answers and what failed.
 #![tactic(auto)]
 
+ghost use Rattle.std.specs.Prelude.{◌≤◌, vec_len};
+ghost use Rattle.resolver.specs.declared.sequential.TheConstants.{MAX_PROXIES};
+
+mod command;
 mod failures;
 mod gatekeeper;
 mod inbox;
@@ -11,6 +15,7 @@ mod lines;
 mod opening;
 mod options;
 mod outcome;
+mod refusal;
 mod replay;
 mod report;
 mod running;
@@ -22,7 +27,6 @@ mod worker;
 
 use gatekeeper::AlwaysOpen;
 use opening::open_files;
-use options::Options;
 use replay::replay_over;
 use start::{StartError, fail_to_start};
 use status::Status;
@@ -33,50 +37,63 @@ use std::rt::Env;
 use std::sync::{Arc, Wait};
 use std::thread::Threads;
 use std::{env, io};
-use words::{USAGE, files_of};
+use words::{CommandLine, read_words};
 
-// Returns the words of the command line without the program's name. The toolchain opens files by text names alone, so no file
-// is found at a word that isn't UTF-8.
-fn read_command_line(rt: &(impl Env + AllocGlobal)) -> Result<Vec<String>, StartError> {
-    let words = env::args(rt).and_then(|words| Ok(words.skip(1).collect(rt.alloc())?));
+// Returns the words of the command line. The toolchain opens files by text names alone, so no file is found at a word that
+// isn't UTF-8.
+fn command_line(rt: &(impl Env + AllocGlobal)) -> Result<Vec<String>, StartError> {
+    let words = env::args(rt).and_then(|words| Ok(words.collect(rt.alloc())?));
     words.map_err(|cause| match cause.kind() {
         io::ErrorKind::OutOfMemory => StartError::Memory,
         _ => StartError::CannotOpen(0),
     })
 }
 
-// Reads the command line, opens the files that it names and replays them.
-fn run<
-    R: Files<File = File> + Env + AllocGlobal + Threads + Wait + Copy + Send + 'static,
+// Opens the files and replays them.
+fn replay_files<
+    R: Files<File = File> + AllocGlobal + Threads + Wait + Copy + Send + 'static,
     O: Write + Drop,
     E: Write,
->(rt: &R, out: O, error: &mut E) -> Result<Status, StartError> {
-    let words = read_command_line(rt)?;
-    let Some(names) = files_of(&words) else {
-        let _ = write!(error, "{USAGE}\n");
-        return Ok(Status::Usage);
-    };
-    let readers = open_files(rt, names)?;
+>(rt: &R, line: &CommandLine, out: O, error: &mut E) -> Result<Status, StartError>
+    requires least_files { 1 ≤ vec_len line.now.files }
+    requires most_files { vec_len line.now.files ≤ MAX_PROXIES }
+{
+    let readers = open_files(rt, &line.files)?;
     let mut out = BufWriter::new(rt.alloc(), out).map_err(|_| StartError::Memory)?;
     let gatekeeper = Arc::new(rt.alloc(), AlwaysOpen).map_err(|_| StartError::Memory)?;
-    let options = Options::default();
     Ok(replay_over(
         rt,
         rt.alloc(),
         readers,
-        options,
+        line.options,
         &gatekeeper,
         &mut out,
         error,
     ))
 }
 
-fn main(rt: HostRuntime) -> ExitCode {
-    let mut error = rt.stderr();
-    let status = match run(&rt, rt.stdout(), &mut error) {
-        Ok(status) => status,
-        Err(cause) => fail_to_start(&mut error, cause),
+// Reads the command line, and replays the files that it names.
+fn run<
+    R: Files<File = File> + Env + AllocGlobal + Threads + Wait + Copy + Send + 'static,
+    O: Write + Drop,
+    E: Write,
+>(rt: &R, mut out: O, error: &mut E) -> Status {
+    let words = match command_line(rt) {
+        Ok(words) => words,
+        Err(cause) => return fail_to_start(error, cause),
     };
+    let line = match read_words(rt.alloc(), &words) {
+        Ok(line) => line,
+        Err(refusal) => return refusal.end(&mut out, error),
+    };
+    match replay_files(rt, &line, out, error) {
+        Ok(status) => status,
+        Err(cause) => fail_to_start(error, cause),
+    }
+}
+
+fn main(rt: HostRuntime) -> ExitCode {
+    let status = run(&rt, rt.stdout(), &mut rt.stderr());
     ExitCode::from(status.code())
 }
 

@@ -11,7 +11,7 @@ use wire::StdSource;
 /// opens, and fails when it is read.
 pub fn open_files<R: Files + AllocGlobal>(
     rt: &R,
-    names: &[String],
+    names: &[&str],
 ) -> Result<Vec<StdSource<BufReader<R::File>>>, StartError>
     ensures one_each { IfOk result (λ readers. vec_len readers ≡ length names.now) }
     ensures place { (proxy : ℕ) → result ≡ Err (StartError.CannotOpen proxy) → proxy < length names.now }
@@ -34,30 +34,17 @@ pub fn open_files<R: Files + AllocGlobal>(
 #[cfg(test)]
 mod tests {
     use super::*;
-    use std::alloc::Global;
-    use std::test::Fail;
-
-    fn strings(alloc: Global, words: &[&str]) -> Result<Vec<String>, Fail> {
-        let mut names = Vec::new(alloc);
-        for word in words {
-            names.push(String::from_str(alloc, word)?)?;
-        }
-        Ok(names)
-    }
 
     #[test]
-    fn least_place_that_cannot_be_opened(rt: HostRuntime) -> Result<(), Fail> {
-        let names = strings(rt.alloc(), &["/dev/null", "no/such/file", "no/such/other"])?;
+    fn least_place_that_cannot_be_opened(rt: HostRuntime) {
+        let names = ["/dev/null", "no/such/file", "no/such/other"];
         let refused = open_files(&rt, &names).err();
         assert_eq!(rt; refused, Some(StartError::CannotOpen(1)));
-        Ok(())
     }
 
     #[test]
-    fn folder_opens(rt: HostRuntime) -> Result<(), Fail> {
-        let names = strings(rt.alloc(), &["/dev/null", "."])?;
-        let readers = open_files(&rt, &names);
+    fn folder_opens(rt: HostRuntime) {
+        let readers = open_files(&rt, &["/dev/null", "."]);
         assert_eq!(rt; readers.map(|readers| readers.len()), Ok(2));
-        Ok(())
     }
 }

@@ -3,11 +3,13 @@
 //! The contract of `replay_over` also lets a program through that always stops with `Memory`. Each test that wants a line
 //! refuses it, `empty_batch` first; so does `gate_full_through_replay`, which wants another stop.
 
+use crate::gatekeeper::AlwaysOpen;
+use crate::options::Options;
 use crate::status::Status;
-use runs::{Reader, reader, replayed};
+use runs::{Ended, Reader, reader, replayed, replayed_with};
 use std::alloc::Global;
 use std::process::Abort;
-use std::sync::Wait;
+use std::sync::{Arc, Wait};
 use std::test::Fail;
 use std::thread::Threads;
 
@@ -15,6 +17,7 @@ mod batches;
 pub mod failing;
 mod files;
 mod meeting;
+pub mod options;
 mod proxies;
 mod reports;
 mod runs;
@@ -150,7 +153,7 @@ impl Row {
         rt: &R,
         lines: &str,
     ) -> Result<(), Fail> {
-        self.gives(rt, lines, "", Status::Done)
+        self.gives(rt, Options::default(), lines, "", Status::Done)
     }
 
     // Prints these lines, and the fault on standard error.
@@ -160,20 +163,32 @@ impl Row {
         lines: &str,
         fault: &str,
     ) -> Result<(), Fail> {
-        self.gives(rt, lines, fault, Status::Failed)
+        self.gives(rt, Options::default(), lines, fault, Status::Failed)
     }
 
     fn gives<R: Abort + Threads + Wait + Copy + Send + 'static>(
         self,
         rt: &R,
+        options: Options,
         lines: &str,
         fault: &str,
         wanted: Status,
     ) -> Result<(), Fail> {
         let alloc = *self.file.allocator();
         let text = format!(in alloc; "0 0 empty\n{lines}")?;
-        let ended = replayed(rt, alloc, vec![in alloc; self.reader()]?)?;
+        let ended = self.replayed(rt, options)?;
         ended.is(rt, text.as_str(), fault, wanted);
         Ok(())
+    }
+
+    fn replayed<R: Threads + Wait + Copy + Send + 'static>(
+        self,
+        rt: &R,
+        options: Options,
+    ) -> Result<Ended, Fail> {
+        let alloc = *self.file.allocator();
+        let gatekeeper = Arc::new(alloc, AlwaysOpen)?;
+        let readers = vec![in alloc; self.reader()]?;
+        Ok(replayed_with(rt, alloc, readers, options, &gatekeeper))
     }
 }

@@ -2,12 +2,9 @@
 
 use super::failing::Failing;
 use super::*;
-use crate::gatekeeper::AlwaysOpen;
-use crate::options::Options;
 use crate::replay::replay_over;
 use std::io;
 use std::io::Read;
-use std::sync::Arc;
 use wire::StdSource;
 
 #[test]
@@ -59,9 +56,13 @@ fn second_version_in_one_file(rt: HostRuntime) -> Result<(), Fail> {
     Ok(())
 }
 
+pub fn first_run(alloc: Global) -> Result<Vec<u8>, Fail> {
+    joined(alloc, [EMPTY_BATCH, ONE_WRITE])
+}
+
 #[test]
 fn first_run_cut_everywhere(rt: HostRuntime) -> Result<(), Fail> {
-    let file = joined(rt.alloc(), [EMPTY_BATCH, ONE_WRITE])?;
+    let file = first_run(rt.alloc())?;
     assert_eq!(rt; file.len(), 81);
     for length in 0..82_usize {
         let cut = Vec::from_slice(rt.alloc(), &file[..length])?;

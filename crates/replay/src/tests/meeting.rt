@@ -3,12 +3,9 @@
 //! A program that replays its proxies one after another on one thread is refused here: neither proxy would send on before
 //! the other was answered.
 
-use super::runs::replayed_with;
 use super::*;
 use crate::gatekeeper::Gatekeeper;
-use crate::options::Options;
 use lane::MAX_CAPACITY;
-use std::sync::Arc;
 use std::sync::atomic::{AtomicU64, Ordering};
 
 // How many questions are refused before all batches pass.

@@ -1,10 +1,6 @@
 //! Rows of several files.
 
-use super::runs::replayed_with;
 use super::*;
-use crate::gatekeeper::AlwaysOpen;
-use crate::options::Options;
-use std::sync::Arc;
 
 #[test]
 fn second_file_continues_chain(rt: HostRuntime) -> Result<(), Fail> {

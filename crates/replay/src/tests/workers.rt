@@ -1,7 +1,6 @@
 //! A worker alone, over lanes whose other ends are held here.
 
 use super::*;
-use crate::gatekeeper::AlwaysOpen;
 use crate::worker::{Finished, work};
 use keyspace::{Answer, Batch};
 use lane::{Intake, Port, Taken, lane};
