@@ -20,7 +20,8 @@ pub struct CommandLine<'a> {
     pub options: Options,
 }
 
-/// Reads the words of the command line, of which the first is the program's name.
+/// Reads the words of the command line, of which the first is the program's name. An error says how the program ends in place of
+/// replaying, by [`Refusal::end`].
 pub fn read_words<'a>(alloc: Global, words: &'a [String]) -> Result<CommandLine<'a>, Refusal>
     ensures options { IfOk result (λ line.
         HoldsOptions (rows_of_words (map string_bytes words.entry.now)) line.options) }
