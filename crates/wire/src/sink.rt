@@ -24,6 +24,13 @@ pub trait Sink {
         ensures kept { OnErr result (IfSome (given self.new) (λ _. Keeps (given self.old) (given self.new))) }
         ensures ok { OnOk result (failures self.new ≡ failures self.old) }
         ensures failed { OnErr result (failures self.new ≡ failures self.old + 1) };
+
+    /// Passes on what the writer holds back. The bytes given to it stay.
+    fn flush(&mut self) -> Result<(), Failed>
+        ensures given { OnOk result (Keeps (given self.old) (given self.new)) }
+        ensures kept { OnErr result (IfSome (given self.new) (λ _. Keeps (given self.old) (given self.new))) }
+        ensures ok { OnOk result (failures self.new ≡ failures self.old) }
+        ensures failed { OnErr result (failures self.new ≡ failures self.old + 1) };
 }
 
 /// Writes all of the bytes, in as many calls as it takes. After a failure the sink was given a beginning of
@@ -89,6 +96,24 @@ impl<W: Write> Sink for StdSink<W> {
                     }
                     break;
                 }
+                Err(error) => {
+                    if error.kind() != ErrorKind::Interrupted {
+                        break;
+                    }
+                }
+            }
+        }
+        self.failures += 1;
+        Err(Failed)
+    }
+
+    fn flush(&mut self) -> Result<(), Failed> {
+        if self.failures == u64::MAX {
+            return Ok(());
+        }
+        for _ in 0..1 + MAX_RETRIES {
+            match self.writer.flush() {
+                Ok(()) => return Ok(()),
                 Err(error) => {
                     if error.kind() != ErrorKind::Interrupted {
                         break;
