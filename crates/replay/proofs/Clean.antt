@@ -1,8 +1,9 @@
 -- Where nothing failed there is no line of it.
-use Rattle.std.specs.Prelude.{◌≡◌, ℕ, zero, suc, ◌<◌, ◌+◌, List, [], ◌∷◌, ◌++◌, length, Option, None, Some, slice_set, slice_index_or as get_or, true}
+use Rattle.std.specs.Prelude.{◌≡◌, ℕ, zero, suc, ◌<◌, ◌+◌, List, [], ◌∷◌, ◌++◌, length, Option, slice_set, slice_index_or as get_or, true}
 use Rattle.std.specs.List.{All, flat_map, enumerate_from}
-use Rattle.std.proofs.Common.{refl, ap, ◌∙◌, append-nil, arith}
+use Rattle.std.proofs.Common.{refl, ap, ◌∙◌, arith}
 use Rattle.std.specs.Io.KnownBytes.{Appends, Keeps}
+use Rattle.wire.proofs.Given.{appends_nothing}
 use Rattle.replay.specs.declared.failures.ProxyFailure.{ProxyFailure}
 use Rattle.replay.specs.declared.failures.Ending.{Ending}
 use Rattle.replay.specs.Failures.{
@@ -34,15 +35,10 @@ no_lines failures ending nothing =
     ap (λ l. l ++ ending_line ending) (clean_lines 0 failures nothing.proxies)
     ∙ ap ending_line nothing.complete
 
-Keeps-from_Appends : (old new : Option (List ℕ)) → Appends old new [] → Keeps old new
-Keeps-from_Appends None new appends = tt
-Keeps-from_Appends (Some xs) None appends = absurd appends
-Keeps-from_Appends (Some xs) (Some ys) appends = appends ∙ append-nil xs
-
 pub Keeps-from_clean : (old new : Option (List ℕ)) (failures : List ProxyFailure) (ending : Ending)
     → NothingFailed failures ending → Appends old new (failure_lines failures ending) → Keeps old new
 Keeps-from_clean old new failures ending nothing appends =
-    Keeps-from_Appends old new (rw (no_lines failures ending nothing) at appends)
+    appends_nothing old new (rw (no_lines failures ending nothing) at appends)
 
 pub with_loss-set : (failures : List ProxyFailure) (proxy : ℕ) (none : ProxyFailure) → proxy < length failures
     → slice_set failures proxy (record (get_or failures proxy none) { lost = true }) ≡ with_loss proxy failures

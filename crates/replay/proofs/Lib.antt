@@ -1,8 +1,17 @@
 pub mod OneOrder
 pub mod Ordered
 pub mod Known
+pub mod Results
 pub mod Numbered
 pub mod Clean
+pub mod InOrder
+pub mod LineTexts
 pub mod Reading
 pub mod SameLanes
 pub mod Getters
+pub mod Serving
+pub mod Working
+pub mod Turns
+pub mod Runs
+pub mod Keeping
+pub mod Replaying

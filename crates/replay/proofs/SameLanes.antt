@@ -10,7 +10,7 @@ use Rattle.resolver.specs.Lanes.{Lanes, Each, LanesGoOn}
 use Rattle.resolver.specs.Resolver.{AreClients}
 use Rattle.replay.specs.Worker.{ClientGoesOn}
 
-port_goes_on : {T : Type 0} (a b c : PortView T) → PortGoesOn a b → PortGoesOn b c → PortGoesOn a c
+pub port_goes_on : {T : Type 0} (a b c : PortView T) → PortGoesOn a b → PortGoesOn b c → PortGoesOn a c
 port_goes_on a b c first second = record {
   lane = second.lane ∙ first.lane;
   capacity = second.capacity ∙ first.capacity;
@@ -18,7 +18,7 @@ port_goes_on a b c first second = record {
   looks = omega (arith, first.looks, second.looks);
 }
 
-intake_goes_on : {T : Type 0} (a b c : IntakeView T) → IntakeGoesOn a b → IntakeGoesOn b c → IntakeGoesOn a c
+pub intake_goes_on : {T : Type 0} (a b c : IntakeView T) → IntakeGoesOn a b → IntakeGoesOn b c → IntakeGoesOn a c
 intake_goes_on a b c first second = record {
   lane = second.lane ∙ first.lane;
   capacity = second.capacity ∙ first.capacity;
@@ -28,7 +28,7 @@ intake_goes_on a b c first second = record {
 }
 
 -- a list of the same length has an item at the same place
-found : {X Y : Type 0} (xs : List X) (ys : List Y) (place : ℕ) (x : X) → length ys ≡ length xs
+pub found : {X Y : Type 0} (xs : List X) (ys : List Y) (place : ℕ) (x : X) → length ys ≡ length xs
     → slice_get xs place ≡ Some x → (y : Y) × (slice_get ys place ≡ Some y)
 found [] ys place x same at = absurd (none-some x at)
 found (first ∷ xs) [] place x same at = absurd (omega (arith, same))

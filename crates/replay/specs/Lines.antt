@@ -1,12 +1,10 @@
 -- The printed text of answers: this project's own format, one line an answer.
-use Rattle.std.specs.Prelude.{◌≡◌, ⊤, ℕ, Bool, true, int_lt, if◌then◌else◌, List, [], ◌∷◌, ◌++◌, codes, fold, map, take, drop}
+use Rattle.std.specs.Prelude.{ℕ, ℤ, Bool, int_lt, if◌then◌else◌, List, [], ◌∷◌, ◌++◌, codes, fold, map}
 use Rattle.std.specs.List.{flat_map, join_by, enumerate_from}
 use Rattle.std.specs.Fmt.{decimal, signed_decimal}
 use Rattle.hex.specs.Hex.{encode_lower}
 use Rattle.wire.specs.Fields.{reply_fields}
 use Rattle.wire.specs.Spelling.{frame, reply_body}
-use Rattle.replay.specs.declared.lines.PrintError.{PrintError}
-use Rattle.replay.specs.declared.lines.PrintError.TheVariants as error
 use Rattle.keyspace.specs.declared.answer.Answer.{Answer}
 use Rattle.keyspace.specs.declared.answer.Answer.TheVariants as answer
 use Rattle.keyspace.specs.Answer.{version_of_answer}
@@ -50,20 +48,18 @@ abbrev pub line : Bool → ℕ → Answer → List ℕ
 line frames proxy answer = decimal proxy ++ codes " " ++ signed_decimal (version_of_answer answer) ++ codes " "
     ++ outcome frames answer ++ codes "\n"
 
--- an answer put behind those of its version and of lesser ones
-abbrev pub put_in_order : List Answer → Answer → List Answer
-put_in_order [] answer = answer ∷ []
-put_in_order (first ∷ rest) answer =
-    if int_lt (version_of_answer answer) (version_of_answer first) then answer ∷ first ∷ rest else first
-    ∷ put_in_order rest answer
+-- an item put behind those of its version and of lesser ones
+abbrev pub put_in_order : {X : Type 0} → (X → ℤ) → List X → X → List X
+put_in_order version [] item = item ∷ []
+put_in_order version (first ∷ rest) item =
+    if int_lt (version item) (version first) then item ∷ first ∷ rest else first ∷ put_in_order version rest item
 
 -- by version, and those of one version in the order received
-abbrev pub in_order : List Answer → List Answer
-in_order received = fold put_in_order [] received
+abbrev pub in_order_by : {X : Type 0} → (X → ℤ) → List X → List X
+in_order_by version received = fold (put_in_order version) [] received
 
--- the answers of each proxy, in order up to this proxy, and from it on as received
-abbrev pub sorted_to : ℕ → List (List Answer) → List (List Answer)
-sorted_to proxy received = map in_order (take proxy received) ++ drop proxy received
+abbrev pub in_order : List Answer → List Answer
+in_order received = in_order_by version_of_answer received
 
 -- the lines of a proxy, given its number and its answers in order
 abbrev pub lines_of_proxy : Bool → ℕ × List Answer → List ℕ
@@ -76,9 +72,3 @@ lines_in_order frames answers = flat_map (lines_of_proxy frames) (enumerate_from
 -- the whole text, given each proxy's answers as received; a proxy's number is its index
 abbrev pub lines : Bool → List (List Answer) → List ℕ
 lines frames received = lines_in_order frames (map in_order received)
-
--- a line of this proxy failed: the write did, or its frame could not be made
-abbrev pub IsLineError : Bool → ℕ → PrintError → Type 0
-IsLineError frames proxy (error.Memory other) = ⊥
-IsLineError frames proxy (error.Frame other) = (other ≡ proxy) × (frames ≡ true)
-IsLineError frames proxy error.Write = ⊤

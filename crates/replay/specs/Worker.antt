@@ -1,5 +1,5 @@
 -- What a worker does. This project's own.
-use Rattle.std.specs.Prelude.{◌≡◌, ◌≢◌, ℕ, List, [], ◌∷◌, ◌++◌, Option, None, Some, IfSome, option_to_list}
+use Rattle.std.specs.Prelude.{◌≡◌, ◌≢◌, ℕ, Bool, List, [], ◌∷◌, ◌++◌, Option, None, Some, IfSome, option_to_list}
 use Rattle.std.specs.Io.KnownBytes.{IsAtEnd}
 use Rattle.keyspace.specs.declared.batch.Batch.{Batch}
 use Rattle.lane.specs.Lane.{PortGoesOn, IntakeGoesOn}
@@ -7,8 +7,10 @@ use Rattle.wire.specs.declared.error.WireError.{WireError}
 use Rattle.wire.specs.declared.error.WireError.TheVariants as wire
 use Rattle.wire.specs.NextFrame.{TakesFrame, IsFaultOf}
 use Rattle.resolver.specs.declared.client.Client.{Client}
+use Rattle.replay.specs.declared.worker.Finished.{Finished}
 use Rattle.replay.specs.declared.worker.FileEnd.{FileEnd}
 use Rattle.replay.specs.declared.worker.FileEnd.TheVariants.{Reached, Fault, Unsent}
+use Rattle.replay.specs.Inbox.{KeepsLines}
 
 -- the same client later: its ends are of the same lanes
 pub record ClientGoesOn (old new : Client) : Type 0 where
@@ -43,3 +45,13 @@ pub record SendsFrames (bytes : Option (List ℕ)) (before now : List Batch) (fa
   pub all : fault ≡ None → unsent ≡ None → IsAtEnd left
   -- a fault other than these two is that of the bytes left
   pub first_fault : IfSome fault (λ e. e ≢ wire.Memory → e ≢ wire.Read → IfSome left (IsFaultOf e))
+
+-- What a worker has done that was given this proxy's client, and a reader with these bytes left: what it sent is what it
+-- read, and what it took is what its lines tell.
+pub record HasWorked (frames : Bool) (proxy : ℕ) (bytes : Option (List ℕ)) (given : Client) (finished : Finished) :
+    Type 0 where
+  pub client : ClientGoesOn given finished.client
+  pub sends :
+      SendsFrames bytes given.requests.sent finished.client.requests.sent finished.fault finished.unsent
+  pub keeps :
+      KeepsLines frames proxy given.replies.taken finished.client.replies.taken finished.lines.items finished.lost

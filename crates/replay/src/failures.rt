@@ -1,13 +1,12 @@
 //! What failed, and its lines on standard error.
 
-ghost use Rattle.std.specs.Prelude.{◌≡◌, ◌↔◌, ◌<◌, length, IsTrue, MatchOption, OnOk, if◌then◌else◌};
+ghost use Rattle.std.specs.Prelude.{◌≡◌, ◌↔◌, ◌<◌, ◌≤◌, length, IsErr, IsTrue, MatchOption, OnErr, OnOk, if◌then◌else◌};
 ghost use Rattle.std.specs.Io.KnownBytes.{Appends, Keeps};
 ghost use Rattle.replay.specs.Failures.{fault_name, stop_name, fault_line, loss_line, lines_of_failure, proxy_lines, ending_line, failure_lines, with_loss, IsClean, NothingFailed};
 
+use crate::begin_line::begin_line;
 use resolver::Stop;
-use std::io;
-use std::io::Write;
-use wire::WireError;
+use wire::{Failed, Sink, WireError, write_all};
 
 /// What failed of one proxy.
 #[derive(Clone, Copy, Debug, PartialEq, Eq)]
@@ -69,26 +68,30 @@ pub fn note_loss(failures: &mut [ProxyFailure], proxy: usize)
 }
 
 /// Prints a line for each failure: those of each proxy, whose number is its index, and last that of the ending. A proxy's
-/// fault comes before its loss.
+/// fault comes before its loss. Takes no memory.
 ///
 /// After an error some of the text may be written.
-pub fn print_failures<W: Write>(
+pub fn print_failures<W: Sink>(
     error: &mut W,
     failures: &[ProxyFailure],
     ending: Ending,
-) -> io::Result<()>
-    ensures text { OnOk result (Appends (W.contents error.old) (W.contents error.new)
+) -> Result<(), Failed>
+    ensures text { OnOk result (Appends (W.given error.old) (W.given error.new)
         (failure_lines failures.now ending)) }
     ensures nothing { NothingFailed failures.now ending
-        → OnOk result (Keeps (W.contents error.old) (W.contents error.new)) }
+        → OnOk result (Keeps (W.given error.old) (W.given error.new)) }
+    ensures failed { IsErr result ↔ (W.failures error.old < W.failures error.new) }
+    ensures least_failures { W.failures error.old ≤ W.failures error.new }
 {
     print_proxies(error, failures)?;
     print_ending(error, ending)
 }
 
-fn print_proxies<W: Write>(error: &mut W, failures: &[ProxyFailure]) -> io::Result<()>
-    ensures text { OnOk result (Appends (W.contents error.old) (W.contents error.new)
+fn print_proxies<W: Sink>(error: &mut W, failures: &[ProxyFailure]) -> Result<(), Failed>
+    ensures text { OnOk result (Appends (W.given error.old) (W.given error.new)
         (proxy_lines failures.now)) }
+    ensures ok { OnOk result (W.failures error.new ≡ W.failures error.old) }
+    ensures failed { OnErr result (W.failures error.old < W.failures error.new) }
 {
     for (proxy, failure) in failures.iter().enumerate() {
         print_failure(error, proxy, failure)?;
@@ -96,48 +99,66 @@ fn print_proxies<W: Write>(error: &mut W, failures: &[ProxyFailure]) -> io::Resu
     Ok(())
 }
 
-fn print_failure<W: Write>(error: &mut W, proxy: usize, failure: &ProxyFailure) -> io::Result<()>
-    ensures text { OnOk result (Appends (W.contents error.old) (W.contents error.new)
+fn print_failure<W: Sink>(error: &mut W, proxy: usize, failure: &ProxyFailure) -> Result<(), Failed>
+    ensures text { OnOk result (Appends (W.given error.old) (W.given error.new)
         (lines_of_failure (proxy, failure.now))) }
+    ensures ok { OnOk result (W.failures error.new ≡ W.failures error.old) }
+    ensures failed { OnErr result (W.failures error.old < W.failures error.new) }
 {
     print_fault(error, proxy, failure.fault)?;
     print_loss(error, proxy, failure.lost)
 }
 
-fn print_fault<W: Write>(error: &mut W, proxy: usize, fault: Option<WireError>) -> io::Result<()>
-    ensures text { OnOk result (Appends (W.contents error.old) (W.contents error.new)
+fn print_fault<W: Sink>(error: &mut W, proxy: usize, fault: Option<WireError>) -> Result<(), Failed>
+    ensures text { OnOk result (Appends (W.given error.old) (W.given error.new)
         (fault_line proxy fault)) }
+    ensures ok { OnOk result (W.failures error.new ≡ W.failures error.old) }
+    ensures failed { OnErr result (W.failures error.old < W.failures error.new) }
 {
     let Some(fault) = fault else {
         return Ok(());
     };
-    let name = fault_text(fault);
-    write!(error, "replay: proxy {proxy}: wire {name}\n")
+    begin_line(error, proxy)?;
+    write_all(error, b": wire ")?;
+    write_all(error, fault_text(fault).as_bytes())?;
+    write_all(error, b"\n")
 }
 
-fn print_loss<W: Write>(error: &mut W, proxy: usize, lost: bool) -> io::Result<()>
-    ensures text { OnOk result (Appends (W.contents error.old) (W.contents error.new)
+fn print_loss<W: Sink>(error: &mut W, proxy: usize, lost: bool) -> Result<(), Failed>
+    ensures text { OnOk result (Appends (W.given error.old) (W.given error.new)
         (loss_line proxy lost)) }
+    ensures ok { OnOk result (W.failures error.new ≡ W.failures error.old) }
+    ensures failed { OnErr result (W.failures error.old < W.failures error.new) }
 {
-    if lost {
-        write!(error, "replay: proxy {proxy}: memory\n")
-    } else {
-        Ok(())
+    if !lost {
+        return Ok(());
     }
+    begin_line(error, proxy)?;
+    write_all(error, b": memory\n")
 }
 
-fn print_ending<W: Write>(error: &mut W, ending: Ending) -> io::Result<()>
-    ensures text { OnOk result (Appends (W.contents error.old) (W.contents error.new)
+fn print_ending<W: Sink>(error: &mut W, ending: Ending) -> Result<(), Failed>
+    ensures text { OnOk result (Appends (W.given error.old) (W.given error.new)
         (ending_line ending)) }
+    ensures ok { OnOk result (W.failures error.new ≡ W.failures error.old) }
+    ensures failed { OnErr result (W.failures error.old < W.failures error.new) }
 {
     match ending {
         Ending::Complete => Ok(()),
-        Ending::Incomplete => error.write_all(b"replay: incomplete\n"),
-        Ending::Stopped(stop) => {
-            let name = stop_text(stop);
-            write!(error, "replay: stop {name}\n")
-        }
+        Ending::Incomplete => write_all(error, b"replay: incomplete\n"),
+        Ending::Stopped(stop) => print_stop(error, stop),
     }
+}
+
+fn print_stop<W: Sink>(error: &mut W, stop: Stop) -> Result<(), Failed>
+    ensures text { OnOk result (Appends (W.given error.old) (W.given error.new)
+        (ending_line (Ending.Stopped stop))) }
+    ensures ok { OnOk result (W.failures error.new ≡ W.failures error.old) }
+    ensures failed { OnErr result (W.failures error.old < W.failures error.new) }
+{
+    write_all(error, b"replay: stop ")?;
+    write_all(error, stop_text(stop).as_bytes())?;
+    write_all(error, b"\n")
 }
 
 // The number and the name of a fault, as its `Display` prints them. A contract doesn't see what a derived `Display` prints.

@@ -2,39 +2,49 @@
 
 ghost use Rattle.std.specs.Prelude.{◌≡◌, [], ◌∷◌, ◌++◌, true, false};
 ghost use Rattle.lane.specs.Lane.{HasEnded};
-ghost use Rattle.replay.specs.Inbox.{KeepsAll, InboxGoesOn};
+ghost use Rattle.replay.specs.Line.{answer_of, IsLineOf};
+ghost use Rattle.replay.specs.Inbox.{Keeps, InboxGoesOn};
+ghost use Rattle.replay.specs.declared.line.Line.{Line as LineOfAnswer};
 
 use crate::gatekeeper::Gatekeeper;
+use crate::line::Line;
 use keyspace::Answer;
 use lane::{Intake, Taken};
 use std::alloc::Global;
 use std::sync::Wait;
 use std::thread;
 
-/// Takes the answers of one proxy and keeps them.
+/// Takes the answers of one proxy and keeps their lines.
 #[derive(Drop)]
 pub struct Inbox {
     pub replies: Intake<Answer>,
-    /// The answers in the order taken.
-    pub answers: Vec<Answer>,
-    /// An answer could not be kept. Later ones are dropped too.
+    /// The lines of the answers, in the order taken.
+    pub lines: Vec<Line>,
+    /// The line of an answer could not be kept. Later answers are dropped too.
     pub lost: bool,
-    proxy: usize,
+    pub proxy: usize,
+    /// Whether replies are told as frames.
+    pub frames: bool,
+    alloc: Global,
     // The place of the next answer. It stops at `u64::MAX`, which no lane comes to.
     place: u64,
 }
 
 impl Inbox {
     /// Creates an inbox that has kept nothing.
-    pub fn new(alloc: Global, proxy: usize, replies: Intake<Answer>) -> Self
+    pub fn new(alloc: Global, frames: bool, proxy: usize, replies: Intake<Answer>) -> Self
         ensures replies { result.replies ≡ replies }
-        ensures answers { KeepsAll replies.taken result }
+        ensures proxy { result.proxy ≡ proxy }
+        ensures frames { result.frames ≡ frames }
+        ensures lines { Keeps replies.taken result }
     {
         Inbox {
             replies,
-            answers: Vec::new(alloc),
+            lines: Vec::new(alloc),
             lost: false,
             proxy,
+            frames,
+            alloc,
             place: 0,
         }
     }
@@ -47,7 +57,7 @@ impl Inbox {
         for _ in rt.forever() {
             match self.replies.take(rt) {
                 Taken::Item(answer) => {
-                    self.keep(answer);
+                    self.keep(&answer);
                     gatekeeper.answered(self.proxy, self.place);
                     self.place = self.place.saturating_add(1);
                 }
@@ -72,14 +82,24 @@ impl Inbox {
         unreachable!()
     }
 
-    // Keeps an answer, unless one was lost before.
-    fn keep(&mut self, answer: Answer)
+    // Keeps the line of an answer, unless one was lost before.
+    fn keep(&mut self, answer: &Answer)
         ensures replies { self.new.replies ≡ self.old.replies }
+        ensures proxy { self.new.proxy ≡ self.old.proxy }
+        ensures frames { self.new.frames ≡ self.old.frames }
         ensures loss_stays { self.old.lost ≡ true → self.new.lost ≡ true }
-        ensures answers { self.new.lost ≡ false → self.new.answers.items ≡ self.old.answers.items ++ answer ∷ [] }
+        ensures lost { self.new.lost ≡ true → self.new.lines.items ≡ self.old.lines.items }
+        ensures kept { self.new.lost ≡ false → (line : LineOfAnswer)
+            × (self.new.lines.items ≡ self.old.lines.items ++ line ∷ [])
+            × (answer_of line ≡ answer.now) × IsLineOf self.old.frames self.old.proxy line }
     {
-        if !self.lost {
-            self.lost = self.answers.push(answer).is_err();
+        if self.lost {
+            return;
         }
+        let Some(line) = Line::new(self.alloc, self.frames, self.proxy, answer) else {
+            self.lost = true;
+            return;
+        };
+        self.lost = self.lines.push(line).is_err();
     }
 }

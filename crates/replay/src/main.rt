@@ -7,10 +7,12 @@
 ghost use Rattle.std.specs.Prelude.{◌≤◌, vec_len};
 ghost use Rattle.resolver.specs.declared.sequential.TheConstants.{MAX_PROXIES};
 
+mod begin_line;
 mod command;
 mod failures;
 mod gatekeeper;
 mod inbox;
+mod line;
 mod lines;
 mod opening;
 mod options;
@@ -37,6 +39,7 @@ use std::rt::Env;
 use std::sync::{Arc, Wait};
 use std::thread::Threads;
 use std::{env, io};
+use wire::{Sink, StdSink};
 use words::{CommandLine, read_words};
 
 // Returns the words of the command line. The toolchain opens files by text names alone, so no file is found at a word that
@@ -53,13 +56,14 @@ fn command_line(rt: &(impl Env + AllocGlobal)) -> Result<Vec<String>, StartError
 fn replay_files<
     R: Files<File = File> + AllocGlobal + Threads + Wait + Copy + Send + 'static,
     O: Write + Drop,
-    E: Write,
+    E: Sink,
 >(rt: &R, line: &CommandLine, out: O, error: &mut E) -> Result<Status, StartError>
     requires least_files { 1 ≤ vec_len line.now.files }
     requires most_files { vec_len line.now.files ≤ MAX_PROXIES }
 {
     let readers = open_files(rt, &line.files)?;
-    let mut out = BufWriter::new(rt.alloc(), out).map_err(|_| StartError::Memory)?;
+    let out = BufWriter::new(rt.alloc(), out).map_err(|_| StartError::Memory)?;
+    let mut out = StdSink::new(out);
     let gatekeeper = Arc::new(rt.alloc(), AlwaysOpen).map_err(|_| StartError::Memory)?;
     Ok(replay_over(
         rt,
@@ -76,15 +80,15 @@ fn replay_files<
 fn run<
     R: Files<File = File> + Env + AllocGlobal + Threads + Wait + Copy + Send + 'static,
     O: Write + Drop,
-    E: Write,
->(rt: &R, mut out: O, error: &mut E) -> Status {
+    E: Sink,
+>(rt: &R, out: O, error: &mut E) -> Status {
     let words = match command_line(rt) {
         Ok(words) => words,
         Err(cause) => return fail_to_start(error, cause),
     };
     let line = match read_words(rt.alloc(), &words) {
         Ok(line) => line,
-        Err(refusal) => return refusal.end(&mut out, error),
+        Err(refusal) => return refusal.end(&mut StdSink::new(out), error),
     };
     match replay_files(rt, &line, out, error) {
         Ok(status) => status,
@@ -93,7 +97,7 @@ fn run<
 }
 
 fn main(rt: HostRuntime) -> ExitCode {
-    let status = run(&rt, rt.stdout(), &mut rt.stderr());
+    let status = run(&rt, rt.stdout(), &mut StdSink::new(rt.stderr()));
     ExitCode::from(status.code())
 }
 

@@ -1,10 +1,10 @@
 //! What the workers hand back.
 
-ghost use Rattle.std.specs.Prelude.{◌≡◌, ◌≤◌, ◌<◌, [], ◌∷◌, ◌++◌, vec_len, vec_capacity, IfOk};
+ghost use Rattle.std.specs.Prelude.{◌≡◌, ◌≤◌, ◌<◌, [], ◌∷◌, ◌++◌, true, vec_len, vec_capacity, IfOk};
 
 use crate::failures::ProxyFailure;
+use crate::line::Line;
 use crate::worker::Finished;
-use keyspace::Answer;
 use resolver::Client;
 use std::alloc::{AllocError, Global};
 
@@ -12,11 +12,14 @@ use std::alloc::{AllocError, Global};
 #[derive(Drop)]
 pub struct Outcome {
     pub clients: Vec<Client>,
-    pub answers: Vec<Vec<Answer>>,
+    /// The lines of the answers to each proxy, in the order taken.
+    pub lines: Vec<Vec<Line>>,
     pub failures: Vec<ProxyFailure>,
-    ghost answers_each: { vec_len answers ≡ vec_len clients },
+    /// Each worker has sent every batch that it read.
+    pub all_sent: bool,
+    ghost lines_each: { vec_len lines ≡ vec_len clients },
     ghost failures_each: { vec_len failures ≡ vec_len clients },
-    ghost answers_room: { vec_capacity clients ≤ vec_capacity answers },
+    ghost lines_room: { vec_capacity clients ≤ vec_capacity lines },
     ghost failures_room: { vec_capacity clients ≤ vec_capacity failures },
 }
 
@@ -24,12 +27,15 @@ impl Outcome {
     /// Creates an outcome to which nothing was handed back, with room for so many workers.
     pub fn with_room(alloc: Global, workers: usize) -> Result<Self, AllocError>
         ensures room { IfOk result (λ outcome. workers ≤ vec_capacity outcome.clients) }
-        ensures empty { IfOk result (λ outcome. outcome.clients.items ≡ []) }
+        ensures clients { IfOk result (λ outcome. outcome.clients.items ≡ []) }
+        ensures lines { IfOk result (λ outcome. outcome.lines.items ≡ []) }
+        ensures failures { IfOk result (λ outcome. outcome.failures.items ≡ []) }
     {
         Ok(Outcome {
             clients: Vec::with_capacity(alloc, workers)?,
-            answers: Vec::with_capacity(alloc, workers)?,
+            lines: Vec::with_capacity(alloc, workers)?,
             failures: Vec::with_capacity(alloc, workers)?,
+            all_sent: true,
         })
     }
 
@@ -37,20 +43,23 @@ impl Outcome {
     pub fn push(&mut self, finished: Finished)
         requires room { vec_len self.old.clients < vec_capacity self.old.clients }
         ensures clients { self.new.clients.items ≡ self.old.clients.items ++ finished.client ∷ [] }
-        ensures answers { self.new.answers.items ≡ self.old.answers.items ++ finished.answers ∷ [] }
+        ensures lines { self.new.lines.items ≡ self.old.lines.items ++ finished.lines ∷ [] }
         ensures failures { self.new.failures.items ≡ self.old.failures.items
             ++ record { fault = finished.fault; lost = finished.lost } ∷ [] }
+        ensures all_sent { self.new.all_sent ≡ true → (self.old.all_sent ≡ true) × (finished.unsent ≡ None) }
+        ensures sends_all { self.old.all_sent ≡ true → finished.unsent ≡ None → self.new.all_sent ≡ true }
         ensures capacity { vec_capacity self.new.clients ≡ vec_capacity self.old.clients }
     {
         let Finished {
             client,
-            answers,
+            lines,
             fault,
             lost,
-            unsent: _,
+            unsent,
         } = finished;
         self.clients.push_reserved(client);
-        self.answers.push_reserved(answers);
+        self.lines.push_reserved(lines);
         self.failures.push_reserved(ProxyFailure { fault, lost });
+        self.all_sent = self.all_sent && unsent.is_none();
     }
 }

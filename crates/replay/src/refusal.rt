@@ -8,8 +8,7 @@ use crate::start::{StartError, fail_to_start};
 use crate::status::Status;
 use clap::error::ErrorKind;
 use std::alloc::{AllocError, Global};
-use std::io;
-use std::io::Write;
+use wire::{Failed, Sink, write_all};
 
 /// Why nothing is replayed.
 #[derive(Debug, Drop)]
@@ -50,19 +49,19 @@ impl Refusal {
     }
 
     /// Prints the text, and returns how the program ends. A failed write to `error` changes nothing.
-    pub fn end<O: Write, E: Write>(&self, out: &mut O, error: &mut E) -> Status
+    pub fn end<O: Sink, E: Sink>(&self, out: &mut O, error: &mut E) -> Status
         ensures shown { (text : _) → self.now ≡ Refusal.Shown text → result ≡ Status.Done
-            → Appends (O.contents out.old) (O.contents out.new) (string_bytes text) }
+            → Appends (O.given out.old) (O.given out.new) (string_bytes text) }
         ensures not_shown { (text : _) → self.now ≡ Refusal.Shown text → result ≢ Status.Usage }
         ensures refused { (text : _) → self.now ≡ Refusal.Refused text
-            → (result ≡ Status.Usage) × (O.contents out.new ≡ O.contents out.old) }
+            → (result ≡ Status.Usage) × (O.given out.new ≡ O.given out.old) }
         ensures memory { self.now ≡ Refusal.Memory
-            → (result ≡ Status.Failed) × (O.contents out.new ≡ O.contents out.old) }
+            → (result ≡ Status.Failed) × (O.given out.new ≡ O.given out.old) }
     {
         match self {
             Refusal::Shown(text) => Status::of(show(out, text).is_ok()),
             Refusal::Refused(text) => {
-                let _ = error.write_all(text.as_bytes());
+                let _ = write_all(error, text.as_bytes());
                 Status::Usage
             }
             Refusal::Memory => fail_to_start(error, StartError::Memory),
@@ -70,9 +69,9 @@ impl Refusal {
     }
 }
 
-fn show<W: Write>(out: &mut W, text: &str) -> io::Result<()>
-    ensures text { OnOk result (Appends (W.contents out.old) (W.contents out.new) text.now) }
+fn show<W: Sink>(out: &mut W, text: &str) -> Result<(), Failed>
+    ensures text { OnOk result (Appends (W.given out.old) (W.given out.new) text.now) }
 {
-    out.write_all(text.as_bytes())?;
+    write_all(out, text.as_bytes())?;
     out.flush()
 }

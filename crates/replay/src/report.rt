@@ -1,17 +1,17 @@
 //! All that is printed once every file was replayed: the answers, and what failed.
 
-ghost use Rattle.std.specs.Prelude.{◌≡◌, ◌≢◌, ◌↔◌, ◌<◌, ℕ, map, length, vec_items, OnOk, IfErr, IsOk};
+ghost use Rattle.std.specs.Prelude.{◌≡◌, ◌≢◌, ◌↔◌, ◌<◌, ◌≤◌, ℕ, Bool, map, take, length, vec_items, IfSome, IsErr, IsOk, OnOk};
 ghost use Rattle.std.specs.Io.KnownBytes.{Appends, Keeps};
-ghost use Rattle.replay.specs.Lines.{lines};
 ghost use Rattle.replay.specs.Failures.{failure_lines, with_loss, NothingFailed};
+ghost use Rattle.replay.specs.Line.{AreLines, answers_of};
+ghost use Rattle.replay.specs.Lines.{lines};
 
 use crate::failures::{Ending, ProxyFailure, note_loss, nothing_failed, print_failures};
+use crate::line::Line;
 use crate::lines::{PrintError, print_answers};
 use crate::status::Status;
-use keyspace::Answer;
 use std::alloc::Global;
-use std::io;
-use std::io::Write;
+use wire::{Failed, Sink};
 
 /// What was printed, and how the program ends.
 #[derive(Debug, Drop)]
@@ -19,42 +19,49 @@ pub struct Report {
     /// Whether the lines of all answers were written and flushed.
     pub printed: Result<(), PrintError>,
     /// Whether the lines of all failures were written.
-    pub told: io::Result<()>,
+    pub told: Result<(), Failed>,
     pub status: Status,
 }
 
-/// Prints the answers of each proxy to `out`, as [`print_answers`] does, and flushes it. Then prints what failed to `error`,
-/// as [`print_failures`] does. `answers` and `failures` hold those of each proxy at its number.
+/// Prints the lines of the answers to `out`, as [`print_answers`] does, and flushes it. Then prints what failed to `error`,
+/// as [`print_failures`] does. `received` and `failures` hold those of each proxy at its number.
 ///
-/// Where memory is refused while the answers of a proxy are printed, that proxy has a loss from then on. A write that fails
-/// has no line of its own.
-pub fn print_report<O: Write, E: Write>(
+/// Where memory is refused while the lines of a proxy are sorted, that proxy has a loss from then on. A write or a flush that
+/// fails has no line of its own.
+pub fn print_report<O: Sink, E: Sink>(
     alloc: Global,
     out: &mut O,
     error: &mut E,
-    frames: bool,
-    answers: &mut [Vec<Answer>],
+    received: &mut [Vec<Line>],
     failures: &mut [ProxyFailure],
     ending: Ending,
 ) -> Report
-    requires proxies { length failures.old ≡ length answers.old }
-    ensures lines { OnOk result.printed (Appends (O.contents out.old) (O.contents out.new)
-        (lines frames (map vec_items answers.old))) }
-    ensures failure_lines { OnOk result.told (Appends (E.contents error.old) (E.contents error.new)
+    requires proxies { length failures.old ≡ length received.old }
+    ensures lines { (frames : Bool) → AreLines frames (map vec_items received.old)
+        → OnOk result.printed (Appends (O.given out.old) (O.given out.new)
+        (lines frames (map answers_of (map vec_items received.old)))) }
+    ensures memory { (proxy : ℕ) → result.printed ≡ Err (PrintError.Memory proxy) → proxy < length received.old }
+    ensures nothing { (proxy : ℕ) → result.printed ≡ Err (PrintError.Memory proxy)
+        → O.given out.new ≡ O.given out.old }
+    ensures beginning { (frames : Bool) → AreLines frames (map vec_items received.old)
+        → result.printed ≡ Err PrintError.Write → IfSome (O.given out.new) (λ _. (n : ℕ)
+        × Appends (O.given out.old) (O.given out.new)
+        (take n (lines frames (map answers_of (map vec_items received.old))))) }
+    ensures write { (result.printed ≡ Err PrintError.Write) ↔ (O.failures out.old < O.failures out.new) }
+    ensures failure_lines { OnOk result.told (Appends (E.given error.old) (E.given error.new)
         (failure_lines failures.new ending)) }
-    ensures sort_loss { (proxy : ℕ) → result.printed ≡ Err (PrintError.Memory proxy)
+    ensures told { IsErr result.told ↔ (E.failures error.old < E.failures error.new) }
+    ensures loss { (proxy : ℕ) → result.printed ≡ Err (PrintError.Memory proxy)
         → failures.new ≡ with_loss proxy failures.old }
-    ensures frame_loss { (proxy : ℕ) → result.printed ≡ Err (PrintError.Frame proxy)
-        → failures.new ≡ with_loss proxy failures.old }
-    ensures write_failure { result.printed ≡ Err PrintError.Write → failures.new ≡ failures.old }
-    ensures no_loss { OnOk result.printed (failures.new ≡ failures.old) }
+    ensures no_loss { ((proxy : ℕ) → result.printed ≢ Err (PrintError.Memory proxy))
+        → failures.new ≡ failures.old }
     ensures done { result.status ≡ Status.Done
         ↔ (IsOk result.printed × IsOk result.told × NothingFailed failures.old ending) }
-    ensures quiet { result.status ≡ Status.Done → Keeps (E.contents error.old) (E.contents error.new) }
+    ensures quiet { result.status ≡ Status.Done → Keeps (E.given error.old) (E.given error.new) }
     ensures ends { result.status ≢ Status.Usage }
 {
-    let printed = print_and_flush(alloc, out, frames, answers);
-    if let Err(PrintError::Memory(proxy) | PrintError::Frame(proxy)) = printed {
+    let printed = print_and_flush(alloc, out, received);
+    if let Err(PrintError::Memory(proxy)) = printed {
         note_loss(failures, proxy);
     }
     let told = print_failures(error, failures, ending);
@@ -66,30 +73,24 @@ pub fn print_report<O: Write, E: Write>(
     }
 }
 
-fn print_and_flush<W: Write>(
+// A failed flush is a failed write. After an error of `print_answers` nothing is flushed.
+fn print_and_flush<W: Sink>(
     alloc: Global,
     out: &mut W,
-    frames: bool,
-    answers: &mut [Vec<Answer>],
+    received: &mut [Vec<Line>],
 ) -> Result<(), PrintError>
-    ensures lines { OnOk result (Appends (W.contents out.old) (W.contents out.new)
-        (lines frames (map vec_items answers.old))) }
-    ensures memory_proxy { (proxy : ℕ) → result ≡ Err (PrintError.Memory proxy) → proxy < length answers.old }
-    ensures frame_proxy { (proxy : ℕ) → result ≡ Err (PrintError.Frame proxy) → proxy < length answers.old }
+    ensures lines { (frames : Bool) → AreLines frames (map vec_items received.old)
+        → OnOk result (Appends (W.given out.old) (W.given out.new)
+        (lines frames (map answers_of (map vec_items received.old)))) }
+    ensures memory { (proxy : ℕ) → result ≡ Err (PrintError.Memory proxy) → proxy < length received.old }
+    ensures nothing { (proxy : ℕ) → result ≡ Err (PrintError.Memory proxy) → W.given out.new ≡ W.given out.old }
+    ensures beginning { (frames : Bool) → AreLines frames (map vec_items received.old) → result ≡ Err PrintError.Write
+        → IfSome (W.given out.new) (λ _. (n : ℕ) × Appends (W.given out.old) (W.given out.new)
+        (take n (lines frames (map answers_of (map vec_items received.old))))) }
+    ensures write { (result ≡ Err PrintError.Write) ↔ (W.failures out.old < W.failures out.new) }
 {
-    let printed = print_answers(alloc, out, frames, answers);
-    let flushed = out.flush();
-    with_flush(printed, flushed)
-}
-
-// A failed flush is a failed write.
-fn with_flush(printed: Result<(), PrintError>, flushed: io::Result<()>) -> Result<(), PrintError>
-    ensures ok { IsOk result ↔ (IsOk printed × IsOk flushed) }
-    ensures err { IfErr printed (λ cause. result ≡ Err cause) }
-    ensures write { IsOk printed → IfErr result (λ cause. cause ≡ PrintError.Write) }
-{
-    printed?;
-    flushed.map_err(|_| PrintError::Write)
+    print_answers(alloc, out, received)?;
+    out.flush().map_err(|_| PrintError::Write)
 }
 
 #[cfg(test)]

@@ -1,8 +1,9 @@
 //! A run: the workers read, send and take, while this thread turns the resolver.
 
-ghost use Rattle.std.specs.Prelude.{◌≡◌, ◌≤◌, vec_len, IfOk};
+ghost use Rattle.std.specs.Prelude.{◌≡◌, ◌≤◌, map, vec_items, vec_len, IfOk};
 ghost use Rattle.resolver.specs.declared.sequential.TheConstants.{MAX_PROXIES};
 ghost use Rattle.resolver.specs.Lanes.{Each, LanesGoOn};
+ghost use Rattle.replay.specs.Run.{StandsForSome, IsRun, is_complete};
 
 use crate::gatekeeper::Gatekeeper;
 use crate::options::Options;
@@ -33,17 +34,19 @@ pub fn run<
 ) -> Result<(Outcome, Account), StartError>
     requires least_readers { 1 ≤ vec_len readers }
     requires most_readers { vec_len readers ≤ MAX_PROXIES }
+    ensures run { IfOk result (λ ended. IsRun options (map S.remaining readers.items) (map vec_items ended.0.lines.items)
+        ended.0.failures.items (is_complete ended.0 ended.1) ended.1.stop) }
 {
     let proxies = readers.len();
     let Options {
         capacity,
         window,
         limit,
-        ..
+        frames,
     } = options;
     let (mut resolver, clients) = open(alloc, proxies, capacity, window, limit)?;
     let outcome = Outcome::with_room(alloc, proxies)?;
-    let workers = start_workers(rt, alloc, readers, clients, gatekeeper)?;
+    let workers = start_workers(rt, alloc, frames, readers, clients, gatekeeper)?;
     turn_to_end(rt, &mut resolver);
     let mut outcome = join_all(rt, workers, outcome);
     let account = resolver.settle(rt, outcome.clients.as_mut_slice());
@@ -52,6 +55,8 @@ pub fn run<
 
 // Turns the resolver until it is done; after a stop, until a turn leaves nothing owed.
 fn turn_to_end<R: Wait>(rt: &R, resolver: &mut Resolver)
+    ensures log { StandsForSome resolver.old → StandsForSome resolver.new }
+    ensures window { resolver.new.core.books.set.window ≡ resolver.old.core.books.set.window }
     ensures lanes { Each (λ _ l m. LanesGoOn l m) resolver.old.lanes resolver.new.lanes }
 {
     for _ in rt.forever() {

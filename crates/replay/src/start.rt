@@ -1,14 +1,14 @@
 //! Why a run could not start, and its line on standard error.
 
-ghost use Rattle.std.specs.Prelude.{◌≡◌, OnOk};
+ghost use Rattle.std.specs.Prelude.{◌≡◌, ◌<◌, ◌≤◌, ◌↔◌, ◌⊎◌, IsErr, OnOk};
 ghost use Rattle.std.specs.Io.KnownBytes.{Appends};
 ghost use Rattle.replay.specs.Start.{start_line};
 
+use crate::begin_line::begin_line;
 use crate::status::Status;
 use resolver::OpenError;
 use std::alloc::AllocError;
-use std::io;
-use std::io::Write;
+use wire::{Failed, Sink, write_all};
 
 /// Why a run could not start.
 #[derive(Clone, Copy, Debug, PartialEq, Eq)]
@@ -41,28 +41,36 @@ impl From<OpenError> for StartError {
     }
 }
 
-/// Prints the line of the cause, and returns how the program ends. A failed write changes nothing.
-pub fn fail_to_start<W: Write>(error: &mut W, cause: StartError) -> Status
-    ensures ends { result ≡ Status.Failed }
+/// Prints the line of the cause, and returns how the program ends. A failed write changes nothing. Takes no memory.
+pub fn fail_to_start<W: Sink>(error: &mut W, cause: StartError) -> Status
+    ensures status { result ≡ Status.Failed }
+    ensures line { (W.failures error.old < W.failures error.new)
+        ⊎ Appends (W.given error.old) (W.given error.new) (start_line cause) }
 {
     let _ = print_start_error(error, cause);
     Status::Failed
 }
 
 /// Prints the line of the cause. After an error some of the text may be written.
-pub fn print_start_error<W: Write>(error: &mut W, cause: StartError) -> io::Result<()>
-    ensures text { OnOk result (Appends (W.contents error.old) (W.contents error.new) (start_line cause)) }
+pub fn print_start_error<W: Sink>(error: &mut W, cause: StartError) -> Result<(), Failed>
+    ensures text { OnOk result (Appends (W.given error.old) (W.given error.new) (start_line cause)) }
+    ensures failed { IsErr result ↔ (W.failures error.old < W.failures error.new) }
+    ensures least_failures { W.failures error.old ≤ W.failures error.new }
 {
     match cause {
-        StartError::CannotOpen(proxy) => write!(error, "replay: proxy {proxy}: cannot open\n"),
-        StartError::Memory => error.write_all(b"replay: start 1 Memory\n"),
-        StartError::Thread => error.write_all(b"replay: start 2 Thread\n"),
+        StartError::CannotOpen(proxy) => {
+            begin_line(error, proxy)?;
+            write_all(error, b": cannot open\n")
+        }
+        StartError::Memory => write_all(error, b"replay: start 1 Memory\n"),
+        StartError::Thread => write_all(error, b"replay: start 2 Thread\n"),
     }
 }
 
 #[cfg(test)]
 mod tests {
     use super::*;
+    use wire::StdSink;
 
     #[test]
     fn one_line_a_cause(rt: HostRuntime) {
@@ -80,9 +88,9 @@ mod tests {
             (StartError::Thread, "replay: start 2 Thread\n"),
         ];
         for (cause, line) in table {
-            let mut error = Vec::new(rt.alloc());
+            let mut error = StdSink::new(Vec::new(rt.alloc()));
             assert_eq!(rt; fail_to_start(&mut error, cause), Status::Failed);
-            assert_eq!(rt; error.as_slice(), line.as_bytes());
+            assert_eq!(rt; error.into_inner().as_slice(), line.as_bytes());
         }
     }
 }

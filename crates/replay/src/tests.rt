@@ -13,6 +13,7 @@ use std::sync::{Arc, Wait};
 use std::test::Fail;
 use std::thread::Threads;
 
+pub mod answers;
 mod batches;
 pub mod failing;
 mod files;

@@ -1,9 +1,10 @@
 //! The threads: a worker for each file.
 
-ghost use Rattle.std.specs.Prelude.{◌≡◌, ◌≤◌, map, vec_len, vec_capacity, [], IfOk};
+ghost use Rattle.std.specs.Prelude.{◌≡◌, ◌≤◌, List, map, vec_len, vec_capacity, [], IfOk};
 ghost use Rattle.std.specs.List.{AllZip};
-ghost use Rattle.replay.specs.Worker.{ClientGoesOn};
-ghost use Rattle.replay.specs.Threads.{client_of, given_to};
+ghost use Rattle.replay.specs.declared.worker.Finished.{Finished as HandedBack};
+ghost use Rattle.replay.specs.Worker.{HasWorked};
+ghost use Rattle.replay.specs.Threads.{given_each, given_by, given_to, HasWorkedOn, IsOutcomeOf};
 
 use crate::gatekeeper::Gatekeeper;
 use crate::outcome::Outcome;
@@ -17,23 +18,30 @@ use std::thread;
 use std::thread::{Promise, PromisedHandle, Threads};
 use wire::Source;
 
-// Promises that the client handed back is the one given.
+// Promises what a worker does with what it is given.
 #[derive(Drop)]
-struct SameClient(Snapshot<Client>);
-
-impl Promise<Finished> for SameClient {
-    ghost kept_by = { λ promise finished. ClientGoesOn promise.0.value finished.client };
+struct Work<S> {
+    frames: bool,
+    proxy: usize,
+    client: Snapshot<Client>,
+    reader: Snapshot<S>,
 }
 
-/// A worker that was started, and the client given to it.
+impl<S: Source> Promise<Finished> for Work<S> {
+    ghost kept_by = { λ work finished.
+        HasWorked work.frames work.proxy (S.remaining work.reader.value) work.client.value finished };
+}
+
+/// A worker that was started, and what it was given.
 #[derive(Drop)]
-pub struct Started {
-    handle: PromisedHandle<Finished, SameClient>,
+pub struct Started<S: Source> {
+    handle: PromisedHandle<Finished, Work<S>>,
 }
 
 // What a worker is started with.
 #[derive(Drop)]
 struct Task<S, G> {
+    frames: bool,
     proxy: usize,
     client: Client,
     reader: S,
@@ -42,19 +50,21 @@ struct Task<S, G> {
 
 impl<S: Source + Drop, G: Gatekeeper + Drop> Task<S, G> {
     fn run<R: Wait>(self, rt: &R, alloc: Global) -> Finished
-        ensures client { ClientGoesOn self.client result.client }
+        ensures worked { HasWorkedOn S.remaining (given_by self) result }
     {
         let Task {
+            frames,
             proxy,
             client,
             reader,
             gatekeeper,
         } = self;
-        work(rt, alloc, proxy, client, reader, &*gatekeeper)
+        work(rt, alloc, frames, proxy, client, reader, &*gatekeeper)
     }
 }
 
-/// Starts a worker for each reader, with the client at the same place.
+/// Starts a worker for each reader, with the client at the same place, whose number is its proxy's. With `frames` they
+/// make the lines of replies their frames.
 ///
 /// After an error the workers that were started are not joined.
 pub fn start_workers<
@@ -64,14 +74,16 @@ pub fn start_workers<
 >(
     rt: &R,
     alloc: Global,
+    frames: bool,
     readers: Vec<S>,
     clients: Vec<Client>,
     gatekeeper: &Arc<G, Global>,
-) -> Result<Vec<Started>, StartError>
+) -> Result<Vec<Started<S>>, StartError>
     requires each { vec_len readers ≡ vec_len clients }
-    ensures given { IfOk result (λ workers. map given_to workers.items ≡ clients.items) }
+    ensures given { IfOk result (λ workers.
+        map given_to workers.items ≡ given_each frames 0 clients.items readers.items) }
 {
-    let tasks = make_tasks(alloc, readers, clients, gatekeeper)?;
+    let tasks = make_tasks(alloc, frames, readers, clients, gatekeeper)?;
     let mut workers = Vec::with_capacity(alloc, tasks.len())?;
     for task in tasks {
         workers.push_reserved(start(rt, alloc, task)?);
@@ -82,12 +94,13 @@ pub fn start_workers<
 // Takes all memory that main needs before the first thread is started.
 fn make_tasks<S: Drop, G: Drop>(
     alloc: Global,
+    frames: bool,
     readers: Vec<S>,
     clients: Vec<Client>,
     gatekeeper: &Arc<G, Global>,
 ) -> Result<Vec<Task<S, G>>, AllocError>
     requires each { vec_len readers ≡ vec_len clients }
-    ensures clients { IfOk result (λ tasks. map client_of tasks.items ≡ clients.items) }
+    ensures given { IfOk result (λ tasks. map given_by tasks.items ≡ given_each frames 0 clients.items readers.items) }
 {
     let mut tasks = Vec::with_capacity(alloc, clients.len())?;
     let mut readers = readers.into_iter();
@@ -96,6 +109,7 @@ fn make_tasks<S: Drop, G: Drop>(
             unreachable!()
         };
         tasks.push_reserved(Task {
+            frames,
             proxy: tasks.len(),
             client,
             reader,
@@ -109,13 +123,18 @@ fn start<
     S: Source + Send + Drop + 'static,
     G: Gatekeeper + Send + Sync + Drop + 'static,
     R: Threads + Wait + Copy + Send + 'static,
->(rt: &R, alloc: Global, task: Task<S, G>) -> Result<Started, StartError>
-    ensures given { IfOk result (λ worker. given_to worker ≡ task.client) }
+>(rt: &R, alloc: Global, task: Task<S, G>) -> Result<Started<S>, StartError>
+    ensures given { IfOk result (λ worker. given_to worker ≡ given_by task) }
 {
     let there = *rt;
-    let promise = SameClient(Snapshot::of(&task.client));
+    let promise = Work {
+        frames: task.frames,
+        proxy: task.proxy,
+        client: Snapshot::of(&task.client),
+        reader: Snapshot::of(&task.reader),
+    };
     let run = move || -> Finished
-        ensures client { ClientGoesOn task.client result.client }
+        ensures worked { HasWorkedOn S.remaining (given_by task) result }
     { task.run(&there, alloc) };
     match thread::spawn_with(rt, promise, run) {
         Ok(handle) => Ok(Started { handle }),
@@ -124,10 +143,16 @@ fn start<
 }
 
 /// Joins all workers, and puts what they hand back into the outcome, in order. Takes no memory.
-pub fn join_all<R: Threads>(rt: &R, workers: Vec<Started>, outcome: Outcome) -> Outcome
-    requires empty { outcome.clients.items ≡ [] }
+pub fn join_all<S: Source, R: Threads>(
+    rt: &R,
+    workers: Vec<Started<S>>,
+    outcome: Outcome,
+) -> Outcome
+    requires empty { IsOutcomeOf [] outcome }
     requires room { vec_len workers ≤ vec_capacity outcome.clients }
-    ensures clients { AllZip ClientGoesOn (map given_to workers.items) result.clients.items }
+    ensures worked { (finished : List HandedBack)
+        × AllZip (HasWorkedOn S.remaining) (map given_to workers.items) finished
+        × IsOutcomeOf finished result }
 {
     let mut outcome = outcome;
     for worker in workers {

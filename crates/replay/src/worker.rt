@@ -4,12 +4,13 @@ ghost use Rattle.std.specs.Prelude.{◌≡◌, ◌≤◌, [], ◌∷◌, ◌++�
 ghost use Rattle.lane.specs.Lane.{PortGoesOn, HasEnded};
 ghost use Rattle.lane.specs.Refused.{item_of};
 ghost use Rattle.wire.specs.Frames.{frames_reader, refusal_of};
-ghost use Rattle.replay.specs.Inbox.{KeepsAll, InboxGoesOn};
-ghost use Rattle.replay.specs.Worker.{ClientGoesOn, SendsFrames, fault_of, unsent_of};
+ghost use Rattle.replay.specs.Inbox.{Keeps, InboxGoesOn};
+ghost use Rattle.replay.specs.Worker.{HasWorked, SendsFrames, fault_of, unsent_of};
 
 use crate::gatekeeper::Gatekeeper;
 use crate::inbox::Inbox;
-use keyspace::{Answer, Batch};
+use crate::line::Line;
+use keyspace::Batch;
 use lane::{Port, Refused};
 use resolver::Client;
 use std::alloc::Global;
@@ -22,11 +23,11 @@ use wire::{Frames, Source, WireError, read_frames};
 pub struct Finished {
     /// The client that the worker was given.
     pub client: Client,
-    /// The answers in the order taken.
-    pub answers: Vec<Answer>,
+    /// The lines of the answers, in the order taken.
+    pub lines: Vec<Line>,
     /// The fault of the file, which ended it.
     pub fault: Option<WireError>,
-    /// An answer could not be kept. Those after it were dropped.
+    /// The line of an answer could not be kept. The answers after it were dropped.
     pub lost: bool,
     /// The batch that was read last, where the answers ended before it could be sent.
     pub unsent: Option<Batch>,
@@ -54,24 +55,21 @@ struct Worker {
 }
 
 /// Sends the batches of the frames of a file, in order, up to the file's end or its fault, closes the lane and takes answers
-/// to their end. Where the answers end earlier, it stops sending.
+/// to their end. Where the answers end earlier, it stops sending. With `frames` the lines of replies are their frames.
 pub fn work<S: Source + Drop, G: Gatekeeper, R: Wait>(
     rt: &R,
     alloc: Global,
+    frames: bool,
     proxy: usize,
     client: Client,
     reader: S,
     gatekeeper: &G,
 ) -> Finished
-    ensures client { ClientGoesOn client result.client }
-    ensures answers { result.lost ≡ false
-        → result.client.replies.taken ≡ client.replies.taken ++ result.answers.items }
-    ensures sent { SendsFrames (S.remaining reader) client.requests.sent result.client.requests.sent
-        result.fault result.unsent }
+    ensures worked { HasWorked frames proxy (S.remaining reader) client result }
     ensures closed { result.client.requests.closed ≡ true }
     ensures ended { HasEnded result.client.replies }
 {
-    let mut worker = Worker::new(alloc, proxy, client);
+    let mut worker = Worker::new(alloc, frames, proxy, client);
     let end = worker.send_frames(rt, gatekeeper, &mut read_frames(alloc, reader));
     worker.requests.close(rt);
     worker.inbox.take_to_end(rt, gatekeeper);
@@ -79,15 +77,17 @@ pub fn work<S: Source + Drop, G: Gatekeeper, R: Wait>(
 }
 
 impl Worker {
-    fn new(alloc: Global, proxy: usize, client: Client) -> Self
+    fn new(alloc: Global, frames: bool, proxy: usize, client: Client) -> Self
         ensures requests { result.requests ≡ client.requests }
         ensures replies { result.inbox.replies ≡ client.replies }
-        ensures answers { KeepsAll client.replies.taken result.inbox }
+        ensures proxy { result.inbox.proxy ≡ proxy }
+        ensures frames { result.inbox.frames ≡ frames }
+        ensures lines { Keeps client.replies.taken result.inbox }
     {
         let Client { requests, replies } = client;
         Worker {
             requests,
-            inbox: Inbox::new(alloc, proxy, replies),
+            inbox: Inbox::new(alloc, frames, proxy, replies),
             proxy,
             place: 0,
         }
@@ -172,7 +172,7 @@ impl Worker {
 
     fn finish(self, end: FileEnd) -> Finished
         ensures requests { result.client.requests ≡ self.requests }
-        ensures inbox { (result.client.replies ≡ self.inbox.replies) × (result.answers ≡ self.inbox.answers)
+        ensures inbox { (result.client.replies ≡ self.inbox.replies) × (result.lines ≡ self.inbox.lines)
             × (result.lost ≡ self.inbox.lost) }
         ensures fault { result.fault ≡ fault_of end }
         ensures unsent { result.unsent ≡ unsent_of end }
@@ -189,13 +189,13 @@ impl Worker {
         } = self;
         let Inbox {
             replies,
-            answers,
+            lines,
             lost,
             ..
         } = inbox;
         Finished {
             client: Client { requests, replies },
-            answers,
+            lines,
             fault,
             lost,
             unsent,

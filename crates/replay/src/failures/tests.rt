@@ -1,6 +1,7 @@
 use super::*;
 use std::alloc::Global;
 use std::test::Fail;
+use wire::StdSink;
 
 const CLEAN: ProxyFailure = ProxyFailure {
     fault: None,
@@ -15,9 +16,9 @@ const fn faulty(fault: WireError, lost: bool) -> ProxyFailure {
 }
 
 fn printed(alloc: Global, failures: &[ProxyFailure], ending: Ending) -> Result<Vec<u8>, Fail> {
-    let mut error = Vec::new(alloc);
+    let mut error = StdSink::new(Vec::new(alloc));
     print_failures(&mut error, failures, ending)?;
-    Ok(error)
+    Ok(error.into_inner())
 }
 
 #[test]

@@ -1,9 +1,11 @@
 use super::*;
+use crate::tests::answers::lines_of;
 use crate::tests::failing::Failing;
+use keyspace::Answer;
 use resolver::Stop;
-use std::io::BufWriter;
+use std::io::{BufWriter, Write};
 use std::test::Fail;
-use wire::WireError;
+use wire::{StdSink, WireError};
 
 const CLEAN: ProxyFailure = ProxyFailure {
     fault: None,
@@ -22,10 +24,10 @@ const LOST: ProxyFailure = ProxyFailure {
 
 const LINES: &str = "0 7 held\n1 3 never\n1 5 held\n";
 
-// The answers whose lines are `LINES`.
-fn answers(alloc: Global) -> Result<[Vec<Answer>; 2], Fail> {
-    let first = vec![in alloc; Answer::Held(7)]?;
-    let second = vec![in alloc; Answer::Held(5), Answer::Never(3)]?;
+// The lines of the answers of two proxies, in the order received.
+fn received(alloc: Global) -> Result<[Vec<Line>; 2], Fail> {
+    let first = lines_of(alloc, 0, &[Answer::Held(7)])?;
+    let second = lines_of(alloc, 1, &[Answer::Held(5), Answer::Never(3)])?;
     Ok([first, second])
 }
 
@@ -61,40 +63,39 @@ fn answers_and_failures(rt: HostRuntime) -> Result<(), Fail> {
         ),
     ];
     for (mut failures, ending, status, text) in table {
-        let mut out = Vec::new(alloc);
-        let mut error = Vec::new(alloc);
-        let mut answers = answers(alloc)?;
+        let mut out = StdSink::new(Vec::new(alloc));
+        let mut error = StdSink::new(Vec::new(alloc));
+        let mut received = received(alloc)?;
         let report = print_report(
             alloc,
             &mut out,
             &mut error,
-            false,
-            &mut answers,
+            &mut received,
             &mut failures,
             ending,
         );
-        assert_eq!(rt; out.as_slice(), LINES.as_bytes());
-        assert_eq!(rt; error.as_slice(), text.as_bytes());
+        assert_eq!(rt; out.into_inner().as_slice(), LINES.as_bytes());
+        assert_eq!(rt; error.into_inner().as_slice(), text.as_bytes());
         assert_eq!(rt; report.status, status);
     }
     Ok(())
 }
 
 // Prints the answers to this writer where nothing else fails. Returns the status, and what is on standard error.
-fn printed_to<W: Write>(alloc: Global, out: &mut W) -> Result<(Status, Vec<u8>), Fail> {
-    let mut error = Vec::new(alloc);
-    let mut answers = answers(alloc)?;
+fn printed_to<W: Write + Drop>(alloc: Global, out: W) -> Result<(Status, Vec<u8>), Fail> {
+    let mut out = StdSink::new(out);
+    let mut error = StdSink::new(Vec::new(alloc));
+    let mut received = received(alloc)?;
     let mut failures = [CLEAN, CLEAN];
     let report = print_report(
         alloc,
-        out,
+        &mut out,
         &mut error,
-        false,
-        &mut answers,
+        &mut received,
         &mut failures,
         Ending::Complete,
     );
-    Ok((report.status, error))
+    Ok((report.status, error.into_inner()))
 }
 
 #[test]
@@ -102,12 +103,12 @@ fn output_fails_everywhere(rt: HostRuntime) -> Result<(), Fail> {
     let alloc = rt.alloc();
     for room in 0..=LINES.len() {
         let wanted = Status::of(room == LINES.len());
-        let (status, error) = printed_to(alloc, &mut Failing::after(room))?;
+        let (status, error) = printed_to(alloc, Failing::after(room))?;
         assert!(rt; status == wanted && error.is_empty(), "after {room} bytes");
 
         // Behind a buffer the flush meets the failure.
-        let mut buffered = BufWriter::new(alloc, Failing::after(room))?;
-        let (status, error) = printed_to(alloc, &mut buffered)?;
+        let buffered = BufWriter::new(alloc, Failing::after(room))?;
+        let (status, error) = printed_to(alloc, buffered)?;
         assert!(rt;
             status == wanted && error.is_empty(),
             "buffered, after {room} bytes"
@@ -118,11 +119,11 @@ fn output_fails_everywhere(rt: HostRuntime) -> Result<(), Fail> {
 
 #[test]
 fn flush_fails(rt: HostRuntime) -> Result<(), Fail> {
-    let mut out = Failing {
+    let out = Failing {
         room: LINES.len(),
         flushes: false,
     };
-    let (status, error) = printed_to(rt.alloc(), &mut out)?;
+    let (status, error) = printed_to(rt.alloc(), out)?;
     assert!(rt; status == Status::Failed && error.is_empty());
     Ok(())
 }
@@ -132,18 +133,17 @@ fn error_output_fails_everywhere(rt: HostRuntime) -> Result<(), Fail> {
     let alloc = rt.alloc();
     let text = "replay: proxy 0: wire 1 Short\nreplay: incomplete\n";
     for room in 0..=text.len() {
-        let mut out = Vec::new(alloc);
-        let mut answers = answers(alloc)?;
+        let mut out = StdSink::new(Vec::new(alloc));
+        let mut received = received(alloc)?;
         let report = print_report(
             alloc,
             &mut out,
-            &mut Failing::after(room),
-            false,
-            &mut answers,
+            &mut StdSink::new(Failing::after(room)),
+            &mut received,
             &mut [SHORT, CLEAN],
             Ending::Incomplete,
         );
-        assert_eq!(rt; out.as_slice(), LINES.as_bytes());
+        assert_eq!(rt; out.into_inner().as_slice(), LINES.as_bytes());
         assert_eq!(rt; report.told.is_ok(), room == text.len());
         assert_eq!(rt; report.status, Status::Failed);
     }

@@ -5,7 +5,7 @@ use super::*;
 use crate::replay::replay_over;
 use std::io;
 use std::io::Read;
-use wire::StdSource;
+use wire::{StdSink, StdSource};
 
 #[test]
 fn short_second_frame(rt: HostRuntime) -> Result<(), Fail> {
@@ -132,17 +132,18 @@ fn unreadable_file(rt: HostRuntime) -> Result<(), Fail> {
 fn unwritable_output(rt: HostRuntime) -> Result<(), Fail> {
     let alloc = rt.alloc();
     let gatekeeper = Arc::new(alloc, AlwaysOpen)?;
-    let mut error = Vec::new(alloc);
+    let mut out = StdSink::new(Failing::after(0));
+    let mut error = StdSink::new(Vec::new(alloc));
     let status = replay_over(
         &rt,
         alloc,
         vec![in alloc; Row::new(alloc)?.reader()]?,
         Options::default(),
         &gatekeeper,
-        &mut Failing::after(0),
+        &mut out,
         &mut error,
     );
-    assert!(rt; error.is_empty());
+    assert!(rt; error.into_inner().is_empty());
     assert_eq!(rt; status, Status::Failed);
     Ok(())
 }

@@ -13,7 +13,7 @@ use std::process::Abort;
 use std::sync::{Arc, Wait};
 use std::test::Fail;
 use std::thread::Threads;
-use wire::{Source, StdSource};
+use wire::{Source, StdSink, StdSource};
 
 pub type Reader = StdSource<Cursor<Vec<u8>>>;
 
@@ -59,10 +59,14 @@ pub fn replayed_with<
     requires least_files { 1 ≤ vec_len readers }
     requires most_files { vec_len readers ≤ MAX_PROXIES }
 {
-    let mut out = Vec::new(alloc);
-    let mut error = Vec::new(alloc);
+    let mut out = StdSink::new(Vec::new(alloc));
+    let mut error = StdSink::new(Vec::new(alloc));
     let status = replay_over(
         rt, alloc, readers, options, gatekeeper, &mut out, &mut error,
     );
-    Ended { status, out, error }
+    Ended {
+        status,
+        out: out.into_inner(),
+        error: error.into_inner(),
+    }
 }

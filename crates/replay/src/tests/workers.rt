@@ -47,7 +47,7 @@ fn worked<R: Wait>(
         replies.send(rt, answer)?;
     }
     replies.close(rt);
-    let finished = work(rt, alloc, 0, client, row.reader(), &AlwaysOpen);
+    let finished = work(rt, alloc, false, 0, client, row.reader(), &AlwaysOpen);
     Ok((finished, requests))
 }
 
@@ -55,10 +55,13 @@ const ANSWERS: [Answer; 2] = [Answer::Never(1), Answer::Held(2)];
 
 // The answers of the worker are both of those in its lane, and nothing was sent.
 fn has_only_answers<R: Abort + Wait>(rt: &R, finished: &Finished, requests: &mut Intake<Batch>) {
-    let is_both = matches!(
-        finished.answers.as_slice(),
-        [Answer::Never(1), Answer::Held(2)]
-    );
+    let is_both = match finished.lines.as_slice() {
+        [first, second] => {
+            first.text.as_slice() == b"0 1 never\n".as_slice()
+                && second.text.as_slice() == b"0 2 held\n".as_slice()
+        }
+        _ => false,
+    };
     assert!(rt; is_both && !finished.lost);
     assert!(rt; matches!(requests.take(rt), Taken::End));
 }
@@ -130,10 +133,10 @@ fn sends_every_batch_in_order(rt: HostRuntime) -> Result<(), Fail> {
     let file = row.reader();
     let (finished, is_same) = thread::join(
         &rt,
-        move || work(&rt, alloc, 0, client, file, &AlwaysOpen),
+        move || work(&rt, alloc, false, 0, client, file, &AlwaysOpen),
         || takes_versions(&rt, requests, replies, &versions),
     );
-    assert!(rt; is_same && finished.answers.is_empty());
+    assert!(rt; is_same && finished.lines.is_empty());
     assert!(rt; finished.fault.is_none() && finished.unsent.is_none());
     Ok(())
 }

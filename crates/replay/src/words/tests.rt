@@ -4,6 +4,7 @@ use crate::tests::failing::Failing;
 use crate::tests::options::words_of;
 use std::process::Abort;
 use std::test::Fail;
+use wire::StdSink;
 
 // How the program ends in place of replaying: the status, standard output and standard error.
 fn end_of(alloc: Global, given: &[&str]) -> Result<(Status, Vec<u8>, Vec<u8>), Fail> {
@@ -11,10 +12,10 @@ fn end_of(alloc: Global, given: &[&str]) -> Result<(Status, Vec<u8>, Vec<u8>), F
     let Err(refusal) = read_words(alloc, &words) else {
         return Err("the words were read")?;
     };
-    let mut out = Vec::new(alloc);
-    let mut error = Vec::new(alloc);
+    let mut out = StdSink::new(Vec::new(alloc));
+    let mut error = StdSink::new(Vec::new(alloc));
     let status = refusal.end(&mut out, &mut error);
-    Ok((status, out, error))
+    Ok((status, out.into_inner(), error.into_inner()))
 }
 
 fn refuses(rt: &(impl Abort + AllocGlobal), given: &[&str]) -> Result<(), Fail> {
@@ -157,16 +158,20 @@ fn help_fails(rt: HostRuntime) -> Result<(), Fail> {
     let Err(refusal) = read_words(alloc, &words) else {
         return Err("the words were read")?;
     };
-    let mut error = Vec::new(alloc);
+    let mut error = StdSink::new(Vec::new(alloc));
     assert_eq!(rt;
-        refusal.end(&mut Failing::after(10), &mut error),
+        refusal.end(&mut StdSink::new(Failing::after(10)), &mut error),
         Status::Failed
     );
-    assert!(rt; error.is_empty());
+    assert!(rt; error.into_inner().is_empty());
+    let mut error = StdSink::new(Vec::new(alloc));
     assert_eq!(rt;
-        Refusal::Memory.end(&mut Failing::after(0), &mut error),
+        Refusal::Memory.end(&mut StdSink::new(Failing::after(0)), &mut error),
         Status::Failed
     );
-    assert_eq!(rt; error.as_slice(), b"replay: start 1 Memory\n".as_slice());
+    assert_eq!(rt;
+        error.into_inner().as_slice(),
+        b"replay: start 1 Memory\n".as_slice()
+    );
     Ok(())
 }

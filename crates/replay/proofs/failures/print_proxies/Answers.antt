@@ -1,7 +1,7 @@
-use Rattle.std.proofs.Common.{rules, sym, subst, arith}
+use Rattle.std.proofs.Common.{rules, sym, subst, ◌∙◌, arith}
 use Rattle.std.specs.Io.KnownBytes.{Appends}
+use Rattle.wire.proofs.Given.{appends_then}
 use Rattle.replay.specs.Failures.{lines_of_failure}
-use Rattle.replay.proofs.Known.{Appends-then}
 use Rattle.replay.proofs.Numbered.{numbered-more}
 use Rattle.replay.proofs.failures.print_proxies.Goals as goal
 
@@ -9,6 +9,10 @@ pub loop-proxy-preserved : goal.loop-proxy-preserved
 loop-proxy-preserved g c =
     let failures = c.args.failures.now in
     let proxy = c.loop-proxy.proxy in
-    subst (Appends (g.W.Write.contents c.args.error.now) (g.W.Write.contents c.print_failure.new.error))
-    (sym (numbered-more lines_of_failure failures proxy _ (omega arith) (search rules)))
-    (Appends-then _ _ _ _ _ c.loop-proxy.invariant c.in_ok-print_failure.ensures.text)
+    let given = g.W.Sink.given in
+    record {
+      text = subst (Appends (given c.args.error.now) (given c.print_failure.new.error))
+          (sym (numbered-more lines_of_failure failures proxy _ (omega arith) (search rules)))
+          (appends_then _ _ _ _ _ c.loop-proxy.invariant.text c.in_ok-print_failure.ensures.text);
+      ok = c.in_ok-print_failure.ensures.ok ∙ c.loop-proxy.invariant.ok;
+    }

@@ -1,18 +1,17 @@
-use Rattle.std.proofs.Common.{map, ◌++◌, ◌∙◌, ap, sym, subst, vec_items, take, arith}
-use Rattle.std.specs.Io.KnownBytes.{Appends}
-use Rattle.replay.specs.Lines.{lines_of_proxy, lines_in_order}
-use Rattle.replay.proofs.Known.{Appends-then}
-use Rattle.replay.proofs.Numbered.{text_from-more}
+use Rattle.std.proofs.Common.{vec_items, ap, subst, arith}
+use Rattle.replay.specs.Line.{text_of}
+use Rattle.replay.proofs.Known.{Begins, begins_seen, whole_seen}
+use Rattle.replay.proofs.Results.{on_err}
 use Rattle.replay.proofs.lines.print_sorted.Goals as goal
 
-pub loop-proxy-preserved : goal.loop-proxy-preserved
-loop-proxy-preserved g c =
-    let frames = c.args.frames in
-    let xs = c.args.answers.now in
-    let proxy = c.loop-proxy.proxy in
-    let x = c.index-answers-proxy.result in
-    subst (Appends (g.W.Write.contents c.args.out.now) (g.W.Write.contents c.print_proxy.new.out))
-    (ap (λ ys. lines_in_order frames (map vec_items (take proxy xs))
-    ++ lines_of_proxy frames (proxy, ys)) c.deref.ensures.value
-    ∙ sym (text_from-more vec_items (lines_of_proxy frames) xs proxy x (omega arith) c.index-answers-proxy.is))
-    (Appends-then _ _ _ _ _ c.loop-proxy.invariant c.in_ok-print_proxy.ensures.text)
+pub returns-in_err-print_proxy-clause-beginning : goal.returns-in_err-print_proxy-clause-beginning
+returns-in_err-print_proxy-clause-beginning g c =
+    let given = g.W.Sink.given in
+    on_err c.from_residual.result (begins_seen text_of vec_items c.args.sorted.now c.loop-lines.lines-index c.lines-item.result
+    (omega arith) c.lines-item.is (given c.args.out.now) (given c.loop-lines.out) (given c.print_proxy.new.out)
+    c.loop-lines.invariant.whole
+    (subst (Begins (given c.loop-lines.out) (given c.print_proxy.new.out)) (ap text_of c.deref.ensures.value) c.in_err-print_proxy.ensures.beginning))
+
+pub returns-clause-whole : goal.returns-clause-whole
+returns-clause-whole g c =
+    whole_seen text_of vec_items c.args.sorted.now c.loop-lines.lines-index (omega arith) _ _ c.loop-lines.invariant.whole

@@ -1,10 +1,12 @@
 use Rattle.std.proofs.Common.{rules}
 use Rattle.std.proofs.lemmas.Result.{on_ok_weaker}
+use Rattle.replay.specs.Line.{version_of_line}
 use Rattle.replay.proofs.Ordered.{in_order-from_sort_by_key}
 use Rattle.replay.proofs.lines.sort_by_version.Goals as goal
 
-pub returns-clause-ok : goal.returns-clause-ok
-returns-clause-ok c =
-    on_ok_weaker c.sort_by_key.result
-    (λ up. in_order-from_sort_by_key _ _ up c.sort_by_key.ensures.stable (λ a r f' k. search rules))
-    c.sort_by_key.ensures.sorted
+pub returns : goal.returns
+returns c = record {
+  ok = on_ok_weaker c.sort_by_key.result
+      (λ up. in_order-from_sort_by_key version_of_line _ _ up c.sort_by_key.ensures.stable (λ a r f' k. search rules))
+      c.sort_by_key.ensures.sorted;
+}

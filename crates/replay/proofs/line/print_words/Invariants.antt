@@ -3,7 +3,7 @@ use Rattle.std.specs.List.{flat_map}
 use Rattle.std.specs.Io.KnownBytes.{Appends}
 use Rattle.keyspace.specs.declared.reply.Entry.{Entry}
 use Rattle.replay.specs.Lines.{entry_word}
-use Rattle.replay.proofs.lines.print_words.Given as goal
+use Rattle.replay.proofs.line.print_words.Given as goal
 
 abbrev pub invariant-loop-entry : goal.invariant-loop-entry
 invariant-loop-entry g l =
