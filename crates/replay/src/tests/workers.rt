@@ -131,12 +131,14 @@ fn sends_every_batch_in_order(rt: HostRuntime) -> Result<(), Fail> {
         replies,
     } = connect(alloc)?;
     let file = row.reader();
-    let (finished, is_same) = thread::join(
+    let (is_clean, is_same) = thread::join(
         &rt,
-        move || work(&rt, alloc, false, 0, client, file, &AlwaysOpen),
+        move || {
+            let finished = work(&rt, alloc, false, 0, client, file, &AlwaysOpen);
+            finished.lines.is_empty() && finished.fault.is_none() && finished.unsent.is_none()
+        },
         || takes_versions(&rt, requests, replies, &versions),
     );
-    assert!(rt; is_same && finished.lines.is_empty());
-    assert!(rt; finished.fault.is_none() && finished.unsent.is_none());
+    assert!(rt; is_same && is_clean);
     Ok(())
 }
