@@ -81,6 +81,23 @@ impl<H: Copy, A: Allocator + Copy> Arena<H, A> {
         Ok(())
     }
 
+    /// Takes the memory that so many records with keys of this length need, and none where enough slots are spare.
+    pub fn reserve_slots(&mut self, length: usize, count: usize) -> Result<(), ArenaError>
+        requires fits { length ≤ 16384 }
+        ensures room { OnOk result (count ≤ spare_of self.new (size_of length)) }
+        ensures records { self.new.records ≡ self.old.records }
+        ensures spare_stays { spare_of self.old (size_of length) ≤ spare_of self.new (size_of length) }
+        ensures other_sizes { (size : ℕ) → size ≢ size_of length → spare_of self.new size ≡ spare_of self.old size }
+        ensures no_more { count ≤ spare_of self.old (size_of length)
+            → spare_of self.new (size_of length) ≡ spare_of self.old (size_of length) }
+
+        // It is refused `Memory` alone, and only where some is wanted.
+        ensures enough { count ≤ spare_of self.old (size_of length) → IsOk result }
+        ensures memory { IsOkUnless result ArenaError.Memory }
+    {
+        self.fill_up(size_of(length), count)
+    }
+
     /// Adds a record, in a slot that was not live. It takes no memory where a slot of the key's size is spare.
     pub fn place(&mut self, header: H, key: &[u8]) -> Result<Slot, ArenaError>
         ensures was_free { IfOk result (λ slot. record_at self.old slot ≡ None) }

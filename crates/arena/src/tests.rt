@@ -111,6 +111,21 @@ fn arena_chunk_and_refusal(rt: HostRuntime) -> Result<(), Fail> {
     Ok(())
 }
 
+#[test]
+fn arena_reserves_slots(rt: HostRuntime) -> Result<(), Fail> {
+    let heap = LocalHeap::new(rt.alloc(), 200_000)?;
+    let mut arena: Arena<u32, &LocalHeap> = Arena::new(&heap);
+    arena.reserve_slots(33, 300)?;
+    let _rest = rest_of(rt.alloc(), &heap)?;
+    arena.reserve_slots(33, 300)?;
+    for number in 0..300_u32 {
+        arena.place(number, &[0; 33])?;
+    }
+    assert_eq!(rt; arena.live(), 300);
+    assert_eq!(rt; arena.reserve_slots(33, 300), Err(ArenaError::Memory));
+    Ok(())
+}
+
 // Numbers that look random, the same in each run.
 #[derive(Drop)]
 struct Numbers {
