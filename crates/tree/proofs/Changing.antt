@@ -1,0 +1,236 @@
+-- Changes of the slots that are used, by how often each stands in the lists.
+use Rattle.std.proofs.Common.{◌≡◌, ◌≢◌, ◌⊎◌, inl, inr, ℕ, zero, suc, ◌+◌, ◌-◌, ◌≤◌, true, false, cond, List, [], ◌∷◌, length, Option, Some, None, IsSome, is_some, option_map, unwrap_or, refl, sym, ap, subst, ◌∙◌, arith}
+use Rattle.std.specs.Prelude.{IfSome}
+use Rattle.std.specs.FinMap as map
+use Rattle.std.specs.Ordering.{nat_cmp, eq_by_cmp}
+use Rattle.std.specs.Cmp.{nat_cmp_total, eq_by_cmp_equiv}
+use Rattle.std.proofs.lemmas.Bool.Decides.{nat_tests, eqb_tells}
+use Rattle.arena.specs.Arena.{Arena, Record, IsLive, record_at, key_at, spare_of, with_header}
+use Rattle.tree.specs.declared.node.Node.{Node}
+use Rattle.tree.specs.Replace.{Changes, IsKeyless}
+use Rattle.tree.proofs.Times.{times, once, once_same, once_cases, none_or_some, times_if_contains, contains_if_times, times_unless_contains, once_if_distinct, distinct_if_once}
+use Rattle.tree.proofs.Frames.{Agree}
+
+same_or_other : (a b : ℕ) → (a ≡ b) ⊎ (a ≢ b)
+same_or_other a b = elim (eqb_tells a b) [ inl same ↦ inl same.1 | inr other ↦ inr other.1 ]
+
+same_number : (a b : ℕ) → a ≡ b → eq_by_cmp nat_cmp a b ≡ true
+same_number a b e = ap (eq_by_cmp nat_cmp a) (sym e) ∙ (eq_by_cmp_equiv nat_cmp_total).refl a
+
+other_number : (a b : ℕ) → a ≢ b → eq_by_cmp nat_cmp a b ≡ false
+other_number a b other = grind (arith, nat_tests)
+
+none_or_live : {X : Type 0} (o : Option X) → (o ≡ None) ⊎ IsSome o
+none_or_live None = inl refl
+none_or_live (Some x) = inr refl
+
+not_both : {X : Type 0} (o : Option X) → o ≡ None → IsSome o → ⊥
+not_both o none live = let e : is_some o ≡ false = ap is_some none in cc
+
+no_key : (o : Option (List ℕ)) → IfSome o (λ key. key ≡ []) → unwrap_or o [] ≡ []
+no_key None h = refl
+no_key (Some key) h = h
+
+module _ {N : ℕ} where
+  pub record Moves (old new : Arena (Node N)) (was now : List ℕ) : Type 0 where
+    pub few : (s : ℕ) → times s now ≤ 1
+    pub from : (s : ℕ) → 1 ≤ times s now → (1 ≤ times s was) ⊎ (record_at old s ≡ None)
+    pub others : (s : ℕ) → times s was ≡ 0 → IsLive old s → record_at new s ≡ record_at old s
+    pub live : map.len new.records + length was ≡ map.len old.records + length now
+    pub spare : spare_of new 0 + map.len new.records ≡ spare_of old 0 + map.len old.records
+    pub keyless : IsKeyless new
+
+  pub moves_if_changes : (a b : Arena (Node N)) (was now : List ℕ) → Changes a b was now → Moves a b was now
+  moves_if_changes a b was now h = record {
+    few = once_if_distinct now h.distinct;
+    from = λ s some. elim (h.slots s (contains_if_times s now some)) [
+      | inl used ↦ inl (times_if_contains s was used)
+      | inr free ↦ inr free
+    ];
+    others = λ s none. h.others s (λ has. absurd (omega (arith, times_if_contains s was has)));
+    live = h.live;
+    spare = h.spare;
+    keyless = h.keyless;
+  }
+
+  pub changes_if_moves : (a b : Arena (Node N)) (was now : List ℕ) → Moves a b was now → Changes a b was now
+  changes_if_moves a b was now h = record {
+    distinct = distinct_if_once now h.few;
+    slots = λ s has. elim (h.from s (times_if_contains s now has)) [
+      | inl used ↦ inl (contains_if_times s was used)
+      | inr free ↦ inr free
+    ];
+    others = λ s without. h.others s (times_unless_contains s was without);
+    live = h.live;
+    spare = h.spare;
+    keyless = h.keyless;
+  }
+
+  pub moves_trans : (a b c : Arena (Node N)) (xs ys zs : List ℕ) → Moves a b xs ys → Moves b c ys zs
+      → Moves a c xs zs
+  moves_trans a b c xs ys zs h k = record {
+    few = k.few;
+    from = λ s some. elim (k.from s some) [
+      | inl used ↦ h.from s used
+      | inr free ↦ elim (none_or_some (times s xs)) [
+        | inl none ↦ elim (none_or_live (record_at a s)) [
+          | inl dead ↦ inr dead
+          | inr live ↦ inr (sym (h.others s none live) ∙ free)
+        ]
+        | inr used ↦ inl used
+      ]
+    ];
+    others = λ s none live. elim (none_or_some (times s ys)) [
+      | inl apart ↦ k.others s apart (ap is_some (h.others s none live) ∙ live) ∙ h.others s none live
+      | inr used ↦ elim (h.from s used) [
+        | inl was ↦ absurd (omega arith)
+        | inr dead ↦ absurd (not_both (record_at a s) dead live)
+      ]
+    ];
+    live = omega (arith, h.live, k.live);
+    spare = omega (arith, h.spare, k.spare);
+    keyless = k.keyless;
+  }
+
+  pub moves_same : (a : Arena (Node N)) (xs ys : List ℕ) → IsKeyless a → ((s : ℕ) → times s xs ≤ 1)
+      → ((s : ℕ) → times s ys ≡ times s xs) → length ys ≡ length xs → Moves a a xs ys
+  moves_same a xs ys keyless few same len = record {
+    few = λ s. omega (arith, few s, same s);
+    from = λ s some. inl (omega (arith, same s));
+    others = λ s none live. refl;
+    live = omega arith;
+    spare = refl;
+    keyless = keyless;
+  }
+
+  -- slots of others stay
+  pub moves_beside : (a b : Arena (Node N)) (xs ys zs was now : List ℕ) → Moves a b xs ys
+      → ((s : ℕ) → times s was ≡ times s xs + times s zs) → ((s : ℕ) → times s now ≡ times s ys + times s zs)
+      → length was ≡ length xs + length zs → length now ≡ length ys + length zs
+      → ((s : ℕ) → times s was ≤ 1) → ((s : ℕ) → 1 ≤ times s zs → IsLive a s) → Moves a b was now
+  moves_beside a b xs ys zs was now h before after len_was len_now few live = record {
+    few = λ s. elim (none_or_some (times s zs)) [
+      | inl none ↦ omega (arith, h.few s, after s)
+      | inr some ↦ elim (none_or_some (times s ys)) [
+        | inl apart ↦ omega (arith, few s, before s, after s)
+        | inr used ↦ elim (h.from s used) [
+          | inl both ↦ absurd (omega (arith, few s, before s))
+          | inr dead ↦ absurd (not_both (record_at a s) dead (live s some))
+        ]
+      ]
+    ];
+    from = λ s some. elim (none_or_some (times s zs)) [
+      | inl none ↦ elim (h.from s (omega (arith, after s))) [
+        | inl used ↦ inl (omega (arith, before s))
+        | inr dead ↦ inr dead
+      ]
+      | inr other ↦ inl (omega (arith, before s))
+    ];
+    others = λ s none. h.others s (omega (arith, before s));
+    live = omega (arith, h.live);
+    spare = h.spare;
+    keyless = h.keyless;
+  }
+
+  pub moves_agree : (a b : Arena (Node N)) (xs ys zs : List ℕ) → Moves a b xs ys
+      → ((s : ℕ) → 1 ≤ times s zs → IsLive a s) → ((s : ℕ) → times s xs + times s zs ≤ 1) → Agree a b zs
+  moves_agree a b xs ys zs h live few s some = h.others s (omega (arith, few s)) (live s some)
+
+  abbrev key_of : Option (Record (Node N)) → Option (List ℕ)
+  key_of o = option_map (λ r. r.key) o
+
+  module _ (a : Arena (Node N)) (slot : ℕ) (node : Node N) where
+    abbrev put_record : Record (Node N)
+    put_record = record { header = node; key = unwrap_or (key_at a slot) [] }
+
+    pub record_put : record_at (with_header a slot node) slot ≡ Some put_record
+    record_put = map.get-insert nat_cmp_total a.records slot put_record slot
+        ∙ ap (λ b. cond b (Some put_record) (record_at a slot)) (same_number slot slot refl)
+
+    pub record_kept : (s : ℕ) → s ≢ slot → record_at (with_header a slot node) s ≡ record_at a s
+    record_kept s other = map.get-insert nat_cmp_total a.records slot put_record s
+        ∙ ap (λ b. cond b (Some put_record) (record_at a s)) (other_number s slot other)
+
+    pub moves_header : IsLive a slot → IsKeyless a → Moves a (with_header a slot node) (slot ∷ []) (slot ∷ [])
+    moves_header live keyless =
+        let count : map.len (with_header a slot node).records ≡ map.len a.records =
+        map.len-insert nat_cmp_total a.records slot put_record
+        ∙ ap (λ b. cond b (map.len a.records) (map.len a.records + 1)) live in
+        record {
+          few = λ s. elim (once_cases s slot) [
+            | inl same ↦ omega (arith, same.1)
+            | inr other ↦ omega (arith, other.1)
+          ];
+          from = λ s some. inl some;
+          others = λ s none alive. record_kept s (λ same. let e : once s slot ≡ 1 = ap (once s) (sym same) ∙ once_same s in omega arith);
+          live = omega arith;
+          spare = omega arith;
+          keyless = λ s. elim (same_or_other s slot) [
+            | inl same ↦ subst (λ o. IfSome (key_of o) (λ key. key ≡ [])) (sym (ap (record_at (with_header a slot node)) same ∙ record_put))
+                (no_key (key_at a slot) (keyless slot))
+            | inr other ↦ subst (λ o. IfSome (key_of o) (λ key. key ≡ [])) (sym (record_kept s other)) (keyless s)
+          ];
+        }
+
+  -- a record is placed
+  pub moves_placed : (a b : Arena (Node N)) (slot : ℕ) (node : Node N) → IsKeyless a → record_at a slot ≡ None
+      → b.records ≡ map.insert a.records slot (record { header = node; key = [] })
+      → record_at b slot ≡ Some (record { header = node; key = [] })
+      → ((s : ℕ) → s ≢ slot → record_at b s ≡ record_at a s)
+      → spare_of b 0 + 1 ≡ spare_of a 0 → Moves a b [] (slot ∷ [])
+  moves_placed a b slot node keyless free placed here others spare =
+      let r : Record (Node N) = record { header = node; key = [] } in
+      let count : map.len b.records ≡ map.len a.records + 1 =
+      ap map.len placed ∙ map.len-insert nat_cmp_total a.records slot r
+      ∙ ap (λ o. cond (is_some o) (map.len a.records) (map.len a.records + 1)) free in
+      record {
+        few = λ s. elim (once_cases s slot) [
+          | inl same ↦ omega (arith, same.1)
+          | inr other ↦ omega (arith, other.1)
+        ];
+        from = λ s some. elim (once_cases s slot) [
+          | inl same ↦ inr (ap (record_at a) (sym same.0) ∙ free)
+          | inr other ↦ absurd (omega (arith, other.1))
+        ];
+        others = λ s none alive. others s (λ same. not_both (record_at a s) (ap (record_at a) same ∙ free) alive);
+        live = omega arith;
+        spare = omega arith;
+        keyless = λ s. elim (same_or_other s slot) [
+          | inl same ↦ subst (λ o. IfSome (key_of o) (λ key. key ≡ [])) (sym (ap (record_at b) same ∙ here)) refl
+          | inr other ↦ subst (λ o. IfSome (key_of o) (λ key. key ≡ [])) (sym (others s other)) (keyless s)
+        ];
+      }
+
+  -- a record is released
+  pub moves_released : (a b : Arena (Node N)) (slot : ℕ) → IsKeyless a → IsLive a slot
+      → b.records ≡ map.remove a.records slot → ((s : ℕ) → s ≢ slot → record_at b s ≡ record_at a s)
+      → spare_of b 0 ≡ spare_of a 0 + 1 → Moves a b (slot ∷ []) []
+  moves_released a b slot keyless live released others spare =
+      let here : record_at b slot ≡ None =
+      ap (λ m. map.get m slot) released ∙ map.get-remove nat_cmp_total a.records slot slot
+      ∙ ap (λ t. cond t None (record_at a slot)) (same_number slot slot refl) in
+      let count : map.len b.records ≡ map.len a.records - 1 =
+      ap map.len released ∙ map.len-remove nat_cmp_total a.records slot
+      ∙ ap (λ t. cond t (map.len a.records - 1) (map.len a.records)) live in
+      let some : 1 ≤ map.len a.records = some_record a.records slot live in
+      record {
+        few = λ s. omega arith;
+        from = λ s h. absurd (omega arith);
+        others = λ s none alive. others s (λ same. let e : once s slot ≡ 1 = ap (once s) (sym same) ∙ once_same s in omega arith);
+        live = omega arith;
+        spare = omega arith;
+        keyless = λ s. elim (same_or_other s slot) [
+          | inl same ↦ subst (λ o. IfSome (key_of o) (λ key. key ≡ [])) (sym (ap (record_at b) same ∙ here)) tt
+          | inr other ↦ subst (λ o. IfSome (key_of o) (λ key. key ≡ [])) (sym (others s other)) (keyless s)
+        ];
+      }
+    where
+      some_record : (m : map.FinMap nat_cmp (Record (Node N))) (slot : ℕ) → IsSome (map.get m slot) → 1 ≤ map.len m
+      some_record m slot live = by_len (map.len m) refl
+        where
+          by_len : (n : ℕ) → map.len m ≡ n → 1 ≤ map.len m
+          by_len zero none =
+              let empty : map.get m slot ≡ None =
+              ap (λ n. map.get n slot) (map.empty_of_len m none) ∙ map.get-empty nat_cmp slot in
+              absurd (not_both (map.get m slot) empty live)
+          by_len (suc n) some = omega arith

@@ -1,0 +1,171 @@
+-- The child at which a probe goes on, as the code finds it.
+use Rattle.std.proofs.Common.{
+  ◌≡◌,
+  ℕ,
+  suc,
+  ◌+◌,
+  ◌-◌,
+  Bool,
+  true,
+  false,
+  List,
+  [],
+  ◌∷◌,
+  ◌++◌,
+  Some,
+  option_map,
+  unwrap_or,
+  map,
+  take,
+  drop,
+  flat_map,
+  slice_get,
+  slice_index_or,
+  All,
+  sym,
+  ◌∙◌,
+  ap,
+  subst,
+  refl,
+  inl,
+  inr,
+  arith,
+  append_assoc,
+}
+use Rattle.std.proofs.lemmas.Option.{get_or_from_slice_get}
+use Rattle.std.proofs.lemmas.List.Elements.{All-nil, All-cons, All-head, All-tail, All-append}
+use Rattle.arena.specs.Arena.{Arena, header_at}
+use Rattle.tree.specs.declared.entry.Entry.{Entry}
+use Rattle.tree.specs.declared.node.Node.{Node}
+use Rattle.tree.specs.Item.{Item, item_of}
+use Rattle.tree.specs.Node.{entries_of}
+use Rattle.tree.specs.Path.{IsCut, index_in, child_in, leaf_in, before_leaf, behind_leaf}
+use Rattle.tree.specs.Subtree.{entries_at, items_in, IsSubtree}
+use Rattle.tree.proofs.Cuts.{Falls, Falls-from_cut, IsCut-from_falls}
+use Rattle.tree.proofs.Ways.{IsWay, way}
+
+-- the entries at a slot are those of the header that the code has read
+pub entries_read : {N : ℕ} (nodes : Arena (Node N)) (slot : ℕ) (header : Node N) (es : List Entry)
+    → header_at nodes slot ≡ Some header → es ≡ entries_of header → entries_at nodes slot ≡ es
+entries_read nodes slot header es h e = ap (λ o. unwrap_or (option_map entries_of o) []) h ∙ sym e
+
+-- The child is that of the entry that the probe finds.
+pub record IsFound {N : ℕ} (nodes : Arena (Node N)) (least height slot : ℕ) (passes : ℕ → Bool) (child : ℕ)
+    : Type 0 where
+  pub lower : suc (height - 1) ≡ height
+  pub way : IsWay nodes least (height - 1) slot passes
+  pub is : child ≡ way.entry.child
+
+pub found : {N : ℕ} (nodes : Arena (Node N)) (least height slot : ℕ) (passes : ℕ → Bool) (header : Node N)
+    (es : List Entry) (index : ℕ) (d : Entry) → (height ≡ 0 → ⊥) → IsSubtree nodes least height slot
+    → IsCut (λ x. passes x.key) (items_in nodes height slot) → header_at nodes slot ≡ Some header
+    → es ≡ entries_of header → index ≡ index_in passes es
+    → IsFound nodes least height slot passes (slice_index_or es index d).child
+found nodes least height slot passes header es index d some s c h e i =
+    let lower : suc (height - 1) ≡ height = omega arith in
+    let w =
+    way nodes least (height - 1) slot passes (subst (λ n. IsSubtree nodes least n slot) (sym lower) s)
+    (subst (λ n. IsCut (λ (x : Item). passes x.key) (items_in nodes n slot)) (sym lower) c) in
+    let read = entries_read nodes slot header es h e in
+    let at : slice_get es index ≡ Some w.entry =
+    rw i (subst (λ xs. slice_get xs (index_in passes xs) ≡ Some w.entry) read w.is) in
+    record { lower = lower; way = w; is = ap (λ (x : Entry). x.child) (get_or_from_slice_get es index w.entry d at) }
+
+pub cut-entries : (p : Item → Bool) (es : List Entry) → IsCut p (map item_of es) → IsCut (λ e. p (item_of e)) es
+cut-entries p [] c = refl
+cut-entries p (e ∷ es) c =
+    IsCut-from_falls (λ (e : Entry). p (item_of e)) (e ∷ es)
+    (falls (e ∷ es) (Falls-from_cut p (map item_of (e ∷ es)) c))
+  where
+    fails : (es : List Entry) → All (λ x. p x ≡ false) (map item_of es) → All (λ e. p (item_of e) ≡ false) es
+    fails [] a = All-nil (λ (e : Entry). p (item_of e) ≡ false)
+    fails (e ∷ es) a =
+        All-cons (λ (e : Entry). p (item_of e) ≡ false) e es
+        (All-head (λ x. p x ≡ false) (item_of e) (map item_of es) a)
+        (fails es (All-tail (λ x. p x ≡ false) (item_of e) (map item_of es) a))
+
+    falls : (es : List Entry) → Falls p (map item_of es) → Falls (λ e. p (item_of e)) es
+    falls [] f = tt
+    falls (e ∷ es) f = elim f [ inl h ↦ inl (h.0, falls es h.1) | inr h ↦ inr (h.0, fails es h.1) ]
+
+-- The entries of a leaf, as the code has read them, are cut.
+pub leaf_cut : {N : ℕ} (nodes : Arena (Node N)) (height slot : ℕ) (passes : ℕ → Bool) (header : Node N)
+    (es : List Entry) → height ≡ 0 → IsCut (λ x. passes x.key) (items_in nodes height slot)
+    → header_at nodes slot ≡ Some header → es ≡ entries_of header → IsCut (λ e. passes e.key) es
+leaf_cut nodes height slot passes header es z c h e =
+    let at : IsCut (λ (x : Item). passes x.key) (map item_of (entries_at nodes slot)) =
+    subst (λ n. IsCut (λ (x : Item). passes x.key) (items_in nodes n slot)) z c in
+    cut-entries (λ (x : Item). passes x.key) es
+    (subst (λ xs. IsCut (λ (x : Item). passes x.key) (map item_of xs)) (entries_read nodes slot header es h e) at)
+
+-- The entries of a node above the leaves, as the code has read them, are cut.
+pub read_cut : {N : ℕ} (nodes : Arena (Node N)) (least height slot : ℕ) (passes : ℕ → Bool) (header : Node N)
+    (es : List Entry) → (height ≡ 0 → ⊥) → IsSubtree nodes least height slot
+    → IsCut (λ x. passes x.key) (items_in nodes height slot) → header_at nodes slot ≡ Some header
+    → es ≡ entries_of header → IsCut (λ e. passes e.key) es
+read_cut nodes least height slot passes header es some s c h e =
+    let lower : suc (height - 1) ≡ height = omega arith in
+    let w =
+    way nodes least (height - 1) slot passes (subst (λ n. IsSubtree nodes least n slot) (sym lower) s)
+    (subst (λ n. IsCut (λ (x : Item). passes x.key) (items_in nodes n slot)) (sym lower) c) in
+    subst (IsCut (λ (x : Entry). passes x.key)) (entries_read nodes slot header es h e) w.entries
+
+module _ {N : ℕ} (nodes : Arena (Node N)) (least height slot : ℕ) (passes : ℕ → Bool) (child : ℕ)
+    (f : IsFound nodes least height slot passes child) where
+  pub found_subtree : IsSubtree nodes least (height - 1) child
+  found_subtree = subst (IsSubtree nodes least (height - 1)) (sym f.is) f.way.kept.subtree
+
+  pub found_cut : IsCut (λ x. passes x.key) (items_in nodes (height - 1) child)
+  found_cut = subst (λ s. IsCut (λ (x : Item). passes x.key) (items_in nodes (height - 1) s)) (sym f.is) f.way.cut
+
+  is_child : child ≡ child_in passes (entries_at nodes slot)
+  is_child = f.is ∙ f.way.child
+
+  pub found_leaf : (leaf : ℕ) → leaf ≡ leaf_in nodes (height - 1) child passes
+      → leaf ≡ leaf_in nodes height slot passes
+  found_leaf leaf e =
+      subst (λ n. leaf ≡ leaf_in nodes n slot passes) f.lower
+      (subst (λ s. leaf ≡ leaf_in nodes (height - 1) s passes) is_child e)
+
+  pub found_before : All (λ x. passes x.key ≡ true) (before_leaf nodes (height - 1) child passes)
+      → All (λ x. passes x.key ≡ true) (before_leaf nodes height slot passes)
+  found_before a =
+      subst (λ n. All (λ (x : Item). passes x.key ≡ true) (before_leaf nodes n slot passes)) f.lower
+      (All-append (λ (x : Item). passes x.key ≡ true)
+      (flat_map (λ e. items_in nodes (height - 1) e.child)
+      (take (index_in passes (entries_at nodes slot)) (entries_at nodes slot)))
+      (before_leaf nodes (height - 1) (child_in passes (entries_at nodes slot)) passes) f.way.before
+      (subst (λ s. All (λ (x : Item). passes x.key ≡ true) (before_leaf nodes (height - 1) s passes)) is_child a))
+
+  pub found_behind : All (λ x. passes x.key ≡ false) (behind_leaf nodes (height - 1) child passes)
+      → All (λ x. passes x.key ≡ false) (behind_leaf nodes height slot passes)
+  found_behind a =
+      subst (λ n. All (λ (x : Item). passes x.key ≡ false) (behind_leaf nodes n slot passes)) f.lower
+      (All-append (λ (x : Item). passes x.key ≡ false)
+      (behind_leaf nodes (height - 1) (child_in passes (entries_at nodes slot)) passes)
+      (flat_map (λ e. items_in nodes (height - 1) e.child)
+      (drop (index_in passes (entries_at nodes slot) + 1) (entries_at nodes slot)))
+      (subst (λ s. All (λ (x : Item). passes x.key ≡ false) (behind_leaf nodes (height - 1) s passes)) is_child a)
+      f.way.behind)
+
+  regroup : (a b m h r : List Item) → a ++ ((b ++ (m ++ h)) ++ r) ≡ (a ++ b) ++ (m ++ (h ++ r))
+  regroup a b m h r = simp append_assoc
+
+  pub found_items : (m : List Item)
+      → items_in nodes (height - 1) child
+      ≡ before_leaf nodes (height - 1) child passes ++ (m ++ behind_leaf nodes (height - 1) child passes)
+      → items_in nodes height slot
+      ≡ before_leaf nodes height slot passes ++ (m ++ behind_leaf nodes height slot passes)
+  found_items m e =
+      let below = subst (λ s. items_in nodes (height - 1) s
+      ≡ before_leaf nodes (height - 1) s passes ++ (m ++ behind_leaf nodes (height - 1) s passes)) is_child e in
+      let a = flat_map (λ (e : Entry). items_in nodes (height - 1) e.child)
+      (take (index_in passes (entries_at nodes slot)) (entries_at nodes slot)) in
+      let r = flat_map (λ (e : Entry). items_in nodes (height - 1) e.child)
+      (drop (index_in passes (entries_at nodes slot) + 1) (entries_at nodes slot)) in
+      let s = child_in passes (entries_at nodes slot) in
+      subst (λ n. items_in nodes n slot
+      ≡ before_leaf nodes n slot passes ++ (m ++ behind_leaf nodes n slot passes)) f.lower
+      (f.way.items ∙ ap (λ c. a ++ (items_in nodes (height - 1) c ++ r)) f.way.child
+      ∙ ap (λ xs. a ++ (xs ++ r)) below
+      ∙ regroup a (before_leaf nodes (height - 1) s passes) m (behind_leaf nodes (height - 1) s passes) r)

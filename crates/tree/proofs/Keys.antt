@@ -1,0 +1,86 @@
+-- The key of the first item that doesn't pass.
+use Rattle.std.proofs.Common.{◌≡◌, ℕ, ◌+◌, ◌-◌, Bool, true, false, not, List, [], ◌∷◌, ◌++◌, Option, Some, map, take, drop, filter, flat_map, All, refl, sym, ◌∙◌, ap, subst, inl, inr}
+use Rattle.std.proofs.lemmas.Bool.{cases_Bool}
+use Rattle.std.proofs.lemmas.List.Elements.{All-head, All-drop, filter-append}
+use Rattle.arena.specs.Arena.{Arena, header_at}
+use Rattle.tree.specs.declared.entry.Entry.{Entry}
+use Rattle.tree.specs.declared.node.Node.{Node}
+use Rattle.tree.specs.Item.{Item, Tells, item_of}
+use Rattle.tree.specs.Node.{entries_of}
+use Rattle.tree.specs.Path.{index_in, behind, first_key}
+use Rattle.tree.specs.Subtree.{entries_at, items_in}
+use Rattle.tree.proofs.Cuts.{none_pass, none_fail}
+use Rattle.tree.proofs.Found.{IsFound, entries_read}
+
+pub filter-items : (p : Item → Bool) (es : List Entry)
+    → filter p (map item_of es) ≡ map item_of (filter (λ e. p (item_of e)) es)
+filter-items p [] = refl
+filter-items p (e ∷ es) =
+    elim (cases_Bool (p (item_of e))) [
+      | inl t ↦ rw t (ap (λ xs. item_of e ∷ xs) (filter-items p es))
+      | inr f ↦ rw f (filter-items p es)
+    ]
+
+first_key-append : (key : Option ℕ) (xs ys : List Item)
+    → first_key key (xs ++ ys) ≡ first_key (first_key key ys) xs
+first_key-append key [] ys = refl
+first_key-append key (x ∷ xs) ys = refl
+
+-- the first key of children is that of their first entry
+first_key-children : (below : Entry → List Item) (key : Option ℕ) (es : List Entry)
+    → All (λ e. Tells e (below e)) es → first_key key (map item_of es) ≡ first_key key (flat_map below es)
+first_key-children below key [] t = refl
+first_key-children below key (e ∷ es) t =
+    let h = All-head (λ e. Tells e (below e)) e es t in
+    let same : below e ++ flat_map below es ≡ h.first ∷ h.others ++ flat_map below es =
+    ap (λ xs. xs ++ flat_map below es) h.items_are in
+    ap Some h.key ∙ ap (first_key key) (sym same)
+
+-- what stands behind a cut, where all before and none behind a part passes
+behind-parts : (passes : ℕ → Bool) (a c b : List Item) → All (λ x. passes x.key ≡ true) a
+    → All (λ x. passes x.key ≡ false) b → behind passes (a ++ (c ++ b)) ≡ behind passes c ++ b
+behind-parts passes a c b p f =
+    let n = none_fail (λ (x : Item). passes x.key) a p in
+    let m = none_pass (λ (x : Item). passes x.key) b f in
+    filter-append (λ (x : Item). not (passes x.key)) a (c ++ b)
+    ∙ ap (λ xs. xs ++ behind passes (c ++ b)) n.1
+    ∙ filter-append (λ (x : Item). not (passes x.key)) c b
+    ∙ ap (λ xs. behind passes c ++ xs) m.1
+
+-- at a leaf
+pub key_of_leaf : {N : ℕ} (nodes : Arena (Node N)) (height slot : ℕ) (passes : ℕ → Bool) (header : Node N)
+    (es rest : List Entry) (key : Option ℕ) → height ≡ 0 → header_at nodes slot ≡ Some header
+    → es ≡ entries_of header → rest ≡ filter (λ e. not (passes e.key)) es
+    → first_key key (map item_of rest) ≡ first_key key (behind passes (items_in nodes height slot))
+key_of_leaf nodes height slot passes header es rest key z h e r =
+    subst (λ n. first_key key (map item_of rest) ≡ first_key key (behind passes (items_in nodes n slot))) (sym z)
+    (ap (λ xs. first_key key (map item_of xs)) r
+    ∙ ap (first_key key) (sym (filter-items (λ (x : Item). not (passes x.key)) es))
+    ∙ ap (λ xs. first_key key (behind passes (map item_of xs))) (sym (entries_read nodes slot header es h e)))
+
+-- above the leaves: of the child, or else that of the next entry
+pub key_of_child : {N : ℕ} (nodes : Arena (Node N)) (least height slot : ℕ) (passes : ℕ → Bool) (child : ℕ)
+    → IsFound nodes least height slot passes child → (header : Node N) (es : List Entry) (index : ℕ)
+    (key next : Option ℕ) → header_at nodes slot ≡ Some header → es ≡ entries_of header
+    → index ≡ index_in passes es → next ≡ first_key key (map item_of (drop (index + 1) es))
+    → first_key next (behind passes (items_in nodes (height - 1) child))
+    ≡ first_key key (behind passes (items_in nodes height slot))
+key_of_child nodes least height slot passes child f header es index key next h e i n =
+    let below = λ (e : Entry). items_in nodes (height - 1) e.child in
+    let all = entries_at nodes slot in
+    let a = flat_map below (take (index_in passes all) all) in
+    let b = flat_map below (drop (index_in passes all + 1) all) in
+    let c = items_in nodes (height - 1) child in
+    let read = entries_read nodes slot header es h e in
+    let later : next ≡ first_key key b =
+    n ∙ ap (λ k. first_key key (map item_of (drop (k + 1) es))) i
+    ∙ ap (λ xs. first_key key (map item_of (drop (index_in passes xs + 1) xs))) (sym read)
+    ∙ first_key-children below key (drop (index_in passes all + 1) all)
+    (All-drop (λ e. Tells e (below e)) (index_in passes all + 1) all f.way.tell) in
+    let items : items_in nodes height slot ≡ a ++ (c ++ b) =
+    ap (λ n. items_in nodes n slot) (sym f.lower) ∙ f.way.items
+    ∙ ap (λ s. a ++ (items_in nodes (height - 1) s ++ b)) (sym f.is) in
+    ap (λ k. first_key k (behind passes c)) later
+    ∙ sym (first_key-append key (behind passes c) b)
+    ∙ ap (first_key key) (sym (behind-parts passes a c b f.way.before f.way.behind))
+    ∙ ap (λ xs. first_key key (behind passes xs)) (sym items)

@@ -1,0 +1,182 @@
+-- What the leaf that a probe finds says of the items that pass.
+use Rattle.std.proofs.Common.{◌≡◌, ℕ, zero, suc, ◌+◌, ◌-◌, ◌<◌, ◌≤◌, ◌⊎◌, inl, inr, Bool, true, false, not, List, [], ◌∷◌, ◌++◌, Option, Some, length, get_or, slice_get, take, drop, filter, flat_map, map, All, refl, sym, ◌∙◌, ap, subst, arith}
+use Rattle.std.specs.Prelude.{MatchOption}
+use Rattle.std.proofs.lemmas.Bool.{cases_Bool}
+use Rattle.std.proofs.lemmas.Option.{slice_get-get_or}
+use Rattle.std.proofs.lemmas.List.{get_or_append_left, append-nil, append_assoc, map-append}
+use Rattle.std.proofs.lemmas.List.Elements.{All-nil, All-cons, All-head, All-tail, All-append, All-map, filter-append, filter_passes}
+use Rattle.arena.specs.Arena.{Arena}
+use Rattle.tree.specs.declared.entry.Entry.{Entry}
+use Rattle.tree.specs.declared.node.Node.{Node}
+use Rattle.tree.specs.Item.{Item, item_of}
+use Rattle.tree.specs.Path.{IsCut, index_in, child_in, leaf_in, before_leaf, behind_leaf, passing, behind}
+use Rattle.tree.specs.Subtree.{entries_at, items_in, IsSubtree}
+use Rattle.tree.specs.Tree.{IsLast}
+use Rattle.tree.proofs.Times.{none_or_some}
+use Rattle.tree.proofs.Cuts.{not_both, none_pass, none_passed, none_fail, IsCut-parts, IsCut-from_falls, Falls, Falls-from_cut}
+use Rattle.tree.proofs.Ways.{IsWay, way}
+
+-- the last of those that pass does
+index_passes : {X : Type 0} (p : X → Bool) (xs : List X) (x : X) → IsCut p xs → 1 ≤ length (filter p xs)
+    → slice_get xs (length (filter p xs) - 1) ≡ Some x → p x ≡ true
+index_passes p xs x cut some is =
+    let front = filter p xs in
+    let rest = filter (λ y. not (p y)) xs in
+    let i = length front - 1 in
+    let inside : i < length front = omega arith in
+    let within : i < length (front ++ rest) = omega (arith, length-front front rest) in
+    let read : slice_get (front ++ rest) i ≡ Some (get_or (front ++ rest) i x) = slice_get-get_or (front ++ rest) i x within in
+    let here : slice_get (front ++ rest) i ≡ Some x = ap (λ l. slice_get l i) (sym cut) ∙ is in
+    let same : get_or front i x ≡ x = let e : get_or (front ++ rest) i x ≡ x = cc in sym (get_or_append_left front rest x i inside) ∙ e in
+    subst (λ y. p y ≡ true) same (filter_passes p xs i x inside)
+  where
+    length-front : {X : Type 0} (xs ys : List X) → length xs ≤ length (xs ++ ys)
+    length-front [] ys = omega arith
+    length-front (x ∷ xs) ys = omega (arith, length-front xs ys)
+
+-- Where no entry of the leaf passes, no item of the subtree does, and none stands before the leaf.
+pub none_before : {N : ℕ} (nodes : Arena (Node N)) (least height slot : ℕ) (passes : ℕ → Bool) → IsSubtree nodes least height slot
+    → IsCut (λ x. passes x.key) (items_in nodes height slot)
+    → filter (λ e. passes e.key) (entries_at nodes (leaf_in nodes height slot passes)) ≡ []
+    → (before_leaf nodes height slot passes ≡ []) × All (λ x. passes x.key ≡ false) (items_in nodes height slot)
+none_before nodes least zero slot passes s c none =
+    let es = entries_at nodes slot in
+    let fail : All (λ (e : Entry). passes e.key ≡ false) es = none_passed (λ (e : Entry). passes e.key) es none in
+    (refl, All-map (λ (x : Item). passes x.key ≡ false) item_of es fail)
+none_before nodes least (suc height) slot passes s c none =
+    let w = way nodes least height slot passes s c in
+    let es = entries_at nodes slot in
+    let p = λ (e : Entry). passes e.key in
+    let below = λ (e : Entry). items_in nodes height e.child in
+    let child = child_in passes es in
+    let i = none_before nodes least height child passes (subst (IsSubtree nodes least height) w.child w.kept.subtree)
+    (subst (λ t. IsCut (λ (x : Item). passes x.key) (items_in nodes height t)) w.child w.cut) none in
+    let Fail : List Item → Type 0 = All (λ x. passes x.key ≡ false) in
+    let all : Fail (items_in nodes height w.entry.child) = subst (λ t. Fail (items_in nodes height t)) (sym w.child) i.1 in
+    let t = w.kept.tells in
+    let first : passes t.first.key ≡ false = All-head (λ (x : Item). passes x.key ≡ false) t.first t.others (subst Fail t.items_are all) in
+    let fails : passes w.entry.key ≡ false = ap passes t.key ∙ first in
+    elim (none_or_some (length (filter p es))) [
+      | inl zero_pass ↦
+          let at : index_in passes es ≡ 0 = omega arith in
+          let front : flat_map below (take (index_in passes es) es) ≡ [] = ap (λ n. flat_map below (take n es)) at in
+          let items = w.items ∙ ap (λ xs. xs ++ (items_in nodes height w.entry.child ++ flat_map below (drop (index_in passes es + 1) es))) front in (
+            ap (λ xs. xs ++ before_leaf nodes height child passes) front ∙ i.0,
+            subst Fail (sym items)
+                (All-append (λ (x : Item). passes x.key ≡ false) (items_in nodes height w.entry.child) (flat_map below (drop (index_in passes es + 1) es)) all w.behind),
+          )
+      | inr some ↦ absurd (not_both (passes w.entry.key) (index_passes p es w.entry w.entries some w.is) fails)
+    ]
+
+pub filter-items : (q : ℕ → Bool) (es : List Entry) → filter (λ (x : Item). q x.key) (map item_of es) ≡ map item_of (filter (λ (e : Entry). q e.key) es)
+filter-items q [] = refl
+filter-items q (e ∷ es) =
+    elim (cases_Bool (q e.key)) [
+      | inl t ↦ rw t (ap (λ xs. item_of e ∷ xs) (filter-items q es))
+      | inr f ↦ rw f (filter-items q es)
+    ]
+
+-- entries whose items are cut are cut
+pub All-from_map : (passes : ℕ → Bool) (es : List Entry) → All (λ x. passes x.key ≡ false) (map item_of es) → All (λ e. passes e.key ≡ false) es
+All-from_map passes [] a = All-nil (λ (e : Entry). passes e.key ≡ false)
+All-from_map passes (e ∷ es) a = All-cons (λ (e : Entry). passes e.key ≡ false) e es
+    (All-head (λ (x : Item). passes x.key ≡ false) (item_of e) (map item_of es) a)
+    (All-from_map passes es (All-tail (λ (x : Item). passes x.key ≡ false) (item_of e) (map item_of es) a))
+
+falls : (passes : ℕ → Bool) (es : List Entry) → Falls (λ x. passes x.key) (map item_of es) → Falls (λ e. passes e.key) es
+falls passes [] f = tt
+falls passes (e ∷ es) f =
+    elim f [
+      | inl h ↦ inl (h.0, falls passes es h.1)
+      | inr h ↦ inr (h.0, All-from_map passes es h.1)
+    ]
+
+pub entries_of_cut : (passes : ℕ → Bool) (es : List Entry) → IsCut (λ x. passes x.key) (map item_of es) → IsCut (λ e. passes e.key) es
+entries_of_cut passes es c = IsCut-from_falls (λ (e : Entry). passes e.key) es (falls passes es (Falls-from_cut (λ (x : Item). passes x.key) (map item_of es) c))
+
+-- the entries of a leaf, between the items before it, which pass, and those behind it, which fail
+pub record IsLeaf (passes : ℕ → Bool) (items before after : List Item) (es : List Entry) : Type 0 where
+  pub items_are : items ≡ before ++ (map item_of es ++ after)
+  pub pass : All (λ x. passes x.key ≡ true) before
+  pub fail : All (λ x. passes x.key ≡ false) after
+  pub none : filter (λ e. passes e.key) es ≡ [] → before ≡ []
+
+module _ (passes : ℕ → Bool) (items before after : List Item) (es : List Entry) (leaf : IsLeaf passes items before after es) where
+  -- the items that pass, and the others
+  pub passing_is : passing passes items ≡ before ++ map item_of (filter (λ e. passes e.key) es)
+  passing_is =
+      let p = λ (x : Item). passes x.key in
+      let here = filter p (map item_of es) in
+      ap (filter p) leaf.items_are ∙ filter-append p before (map item_of es ++ after)
+      ∙ ap (λ xs. xs ++ filter p (map item_of es ++ after)) (none_fail p before leaf.pass).0
+      ∙ ap (λ xs. before ++ xs) (filter-append p (map item_of es) after ∙ ap (λ xs. here ++ xs) (none_pass p after leaf.fail).0
+      ∙ append-nil here ∙ filter-items passes es)
+
+  pub behind_is : behind passes items ≡ map item_of (filter (λ e. not (passes e.key)) es) ++ after
+  behind_is =
+      let p = λ (x : Item). not (passes x.key) in
+      ap (filter p) leaf.items_are ∙ filter-append p before (map item_of es ++ after)
+      ∙ ap (λ xs. xs ++ filter p (map item_of es ++ after)) (none_fail (λ (x : Item). passes x.key) before leaf.pass).1
+      ∙ filter-append p (map item_of es) after
+      ∙ ap (λ xs. xs ++ filter p after) (filter-items (λ k. not (passes k)) es)
+      ∙ ap (λ xs. map item_of (filter (λ (e : Entry). not (passes e.key)) es) ++ xs) (none_pass (λ (x : Item). passes x.key) after leaf.fail).1
+
+  pub leaf_cut_by_keys : IsCut (λ x. passes x.key) items → IsCut (λ e. passes e.key) es
+  leaf_cut_by_keys cut =
+      let p = λ (x : Item). passes x.key in
+      let rest = (IsCut-parts p before (map item_of es ++ after) (subst (IsCut p) leaf.items_are cut)).1 in
+      entries_of_cut passes es (IsCut-parts p (map item_of es) after rest).0
+
+-- the last of a list that isn't empty
+record LastAt {X : Type 0} (x : X) (xs : List X) : Type 0 where
+  last : X
+  read : slice_get (x ∷ xs) (length xs) ≡ Some last
+  is_last : IsLast last (x ∷ xs)
+
+last_at : {X : Type 0} (x : X) (xs : List X) → LastAt x xs
+last_at x [] = record { last = x; read = refl; is_last = ([], refl) }
+last_at x (y ∷ ys) =
+    let r = last_at y ys in
+    record { last = r.last; read = r.read; is_last = (x ∷ r.is_last.0, ap (λ l. x ∷ l) r.is_last.1) }
+
+match_last : {X : Type 0} (P : Type 0) (Q : X → Type 0) (xs : List X) (result : Option X) → result ≡ slice_get xs (length xs - 1)
+    → (xs ≡ [] → P) → ((x : X) → IsLast x xs → Q x) → MatchOption result P Q
+match_last P Q [] result is none some = subst (λ o. MatchOption o P Q) (sym is) (none refl)
+match_last P Q (x ∷ xs) result is none some =
+    let r = last_at x xs in
+    let less : suc (length xs) - 1 ≡ length xs = omega arith in
+    let e : result ≡ Some r.last = is ∙ ap (slice_get (x ∷ xs)) less ∙ r.read in
+    subst (λ o. MatchOption o P Q) (sym e) (some r.last r.is_last)
+
+-- The last entry that passes is the last item that does.
+pub last_passing : (passes : ℕ → Bool) (items before after : List Item) (es passed : List Entry) (result : Option Entry)
+    → IsLeaf passes items before after es → passed ≡ filter (λ e. passes e.key) es → result ≡ slice_get passed (length passed - 1)
+    → MatchOption result (passing passes items ≡ []) (λ e. IsLast (item_of e) (passing passes items))
+last_passing passes items before after es passed result leaf same is =
+    let front = passing_is passes items before after es leaf ∙ ap (λ xs. before ++ map item_of xs) (sym same) in
+    match_last (passing passes items ≡ []) (λ e. IsLast (item_of e) (passing passes items)) passed result is
+    (λ none. front ∙ ap (λ xs. before ++ map item_of xs) none ∙ ap (λ xs. xs ++ []) (leaf.none (sym same ∙ none)))
+    (λ e last. (
+      before ++ map item_of last.0,
+      front ∙ ap (λ xs. before ++ map item_of xs) last.1 ∙ ap (λ xs. before ++ xs) (map-append item_of last.0 (e ∷ []))
+          ∙ sym (append_assoc before (map item_of last.0) (item_of e ∷ [])),
+    ))
+
+-- the leaf that a probe finds is one
+pub is_leaf : {N : ℕ} (nodes : Arena (Node N)) (least height slot : ℕ) (passes : ℕ → Bool) (leaf : ℕ) (es : List Entry)
+    → IsSubtree nodes least height slot → IsCut (λ x. passes x.key) (items_in nodes height slot)
+    → leaf ≡ leaf_in nodes height slot passes → entries_at nodes leaf ≡ es
+    → items_in nodes height slot ≡ before_leaf nodes height slot passes ++ (map item_of (entries_at nodes leaf) ++ behind_leaf nodes height slot passes)
+    → All (λ x. passes x.key ≡ true) (before_leaf nodes height slot passes)
+    → All (λ x. passes x.key ≡ false) (behind_leaf nodes height slot passes)
+    → IsLeaf passes (items_in nodes height slot) (before_leaf nodes height slot passes) (behind_leaf nodes height slot passes) es
+is_leaf nodes least height slot passes leaf es s c way same items pass fail =
+    let before = before_leaf nodes height slot passes in
+    let after = behind_leaf nodes height slot passes in
+    let there : entries_at nodes (leaf_in nodes height slot passes) ≡ es = ap (entries_at nodes) (sym way) ∙ same in
+    record {
+      items_are = items ∙ ap (λ xs. before ++ (map item_of xs ++ after)) same;
+      pass = pass;
+      fail = fail;
+      none = λ none. (none_before nodes least height slot passes s c (ap (filter (λ e. passes e.key)) there ∙ none)).0;
+    }

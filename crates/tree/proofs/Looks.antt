@@ -1,0 +1,240 @@
+-- A look at the items from one cut to another, below a node.
+use Rattle.std.proofs.Common.{◌≡◌, ℕ, zero, suc, ◌+◌, ◌-◌, ◌<◌, ◌≤◌, Bool, true, false, List, ◌++◌, Option, Some, None, option_map, length, get_or, take, drop, filter, flat_map, map, All, IfSome, sym, refl, not, ◌&&◌, ◌∙◌, ap, subst, arith}
+use Rattle.std.specs.Prelude.{slice_range}
+use Rattle.std.proofs.lemmas.List.{get_or_read}
+use Rattle.std.proofs.lemmas.List.Elements.{All-weaker}
+use Rattle.arena.specs.Arena.{Arena, header_at}
+use Rattle.tree.specs.declared.entry.Entry.{Entry}
+use Rattle.tree.specs.declared.node.Node.{Node}
+use Rattle.tree.specs.Item.{Item, Tells, item_of}
+use Rattle.tree.specs.Node.{entries_of}
+use Rattle.tree.specs.Path.{IsCut, from_cut, to_cut}
+use Rattle.tree.specs.Subtree.{entries_at, items_in, IsChild, IsSubtree}
+use Rattle.tree.proofs.Ways.{
+  entries_cut,
+  children_cut,
+  pass_before,
+  fail_behind_index,
+  index_inside,
+}
+use Rattle.tree.proofs.Found.{cut-entries, entries_read}
+use Rattle.tree.proofs.Keys.{filter-items}
+use Rattle.tree.proofs.Spans.{
+  IsCut-none,
+  IsCut-all,
+  span,
+  span_range,
+  span_of_child,
+  span_of_two,
+  fewer_before,
+}
+
+-- What `requires` says of a probe that may be missing, as a cut, and back.
+module _ {A : Type 0} (lets : A → ℕ → Bool) (items : List Item) where
+  pub from_asked : (o : Option A) → IfSome o (λ p. IsCut (λ x. lets p x.key) items)
+      → IsCut (λ x. from_cut (option_map lets o) x.key) items
+  from_asked None h = IsCut-none items
+  from_asked (Some p) h = h
+
+  pub to_asked : (o : Option A) → IfSome o (λ p. IsCut (λ x. lets p x.key) items)
+      → IsCut (λ x. to_cut (option_map lets o) x.key) items
+  to_asked None h = IsCut-all items
+  to_asked (Some p) h = h
+
+  pub ask_from : (o : Option A) → IsCut (λ x. from_cut (option_map lets o) x.key) items
+      → IfSome o (λ p. IsCut (λ x. lets p x.key) items)
+  ask_from None h = tt
+  ask_from (Some p) h = h
+
+  pub ask_to : (o : Option A) → IsCut (λ x. to_cut (option_map lets o) x.key) items
+      → IfSome o (λ p. IsCut (λ x. lets p x.key) items)
+  ask_to None h = tt
+  ask_to (Some p) h = h
+
+pub ask_any : {A : Type 0} (o : Option A) (P : A → Type 0) → ((p : A) → P p) → IfSome o P
+ask_any None P h = tt
+ask_any (Some p) P h = h p
+
+pub nested_asked : {A B : Type 0} (f : A → ℕ → Bool) (t : B → ℕ → Bool) (o : Option A) (u : Option B)
+    → IfSome o (λ p. IfSome u (λ q. (key : ℕ) → f p key ≡ true → t q key ≡ true))
+    → (key : ℕ) → from_cut (option_map f o) key ≡ true → to_cut (option_map t u) key ≡ true
+nested_asked f t None u h key e = absurd (cc)
+nested_asked f t (Some p) None h key e = refl
+nested_asked f t (Some p) (Some q) h key e = h key e
+
+-- a node with its entries, and two cuts through its items
+pub record IsLook {N : ℕ} (nodes : Arena (Node N)) (least height slot : ℕ) (f t : ℕ → Bool) (es : List Entry)
+    (begin end : ℕ) : Type 0 where
+  pub subtree : IsSubtree nodes least height slot
+  pub from : IsCut (λ x. f x.key) (items_in nodes height slot)
+  pub to : IsCut (λ x. t x.key) (items_in nodes height slot)
+  pub nested : (key : ℕ) → f key ≡ true → t key ≡ true
+  pub read : entries_at nodes slot ≡ es
+  pub begin_is : begin ≡ length (filter (λ e. f e.key) es)
+  pub end_is : end ≡ length (filter (λ e. t e.key) es)
+
+-- The entries are cut as the items are.
+pub look_cut : {N : ℕ} (nodes : Arena (Node N)) (least height slot : ℕ) (passes : ℕ → Bool) (header : Node N)
+    (es : List Entry) → IsSubtree nodes least height slot
+    → IsCut (λ x. passes x.key) (items_in nodes height slot) → header_at nodes slot ≡ Some header
+    → es ≡ entries_of header → IsCut (λ e. passes e.key) es
+look_cut nodes least zero slot passes header es s c h e =
+    cut-entries (λ (x : Item). passes x.key) es
+    (subst (λ xs. IsCut (λ (x : Item). passes x.key) (map item_of xs)) (entries_read nodes slot header es h e) c)
+look_cut nodes least (suc height) slot passes header es s c h e =
+    let tell = All-weaker (IsChild nodes least height (IsSubtree nodes least height))
+    (λ (e : Entry). Tells e (items_in nodes height e.child)) (λ e k. k.tells) (entries_at nodes slot) s.2 in
+    subst (IsCut (λ (x : Entry). passes x.key)) (entries_read nodes slot header es h e)
+    (entries_cut passes (λ e. items_in nodes height e.child) (entries_at nodes slot) tell c)
+
+pub look_of : {N : ℕ} {A B : Type 0} (nodes : Arena (Node N)) (least height slot : ℕ) (f : A → ℕ → Bool)
+    (t : B → ℕ → Bool) (from : Option A) (to : Option B) (header : Node N) (es : List Entry) (begin end : ℕ)
+    → IsSubtree nodes least height slot
+    → IfSome from (λ p. IsCut (λ x. f p x.key) (items_in nodes height slot))
+    → IfSome to (λ q. IsCut (λ x. t q x.key) (items_in nodes height slot))
+    → IfSome from (λ p. IfSome to (λ q. (key : ℕ) → f p key ≡ true → t q key ≡ true))
+    → header_at nodes slot ≡ Some header → es ≡ entries_of header
+    → begin ≡ length (filter (λ e. from_cut (option_map f from) e.key) es)
+    → end ≡ length (filter (λ e. to_cut (option_map t to) e.key) es)
+    → IsLook nodes least height slot (from_cut (option_map f from)) (to_cut (option_map t to)) es begin end
+look_of nodes least height slot f t from to header es begin end s c d n h e b l = record {
+  subtree = s;
+  from = from_asked f (items_in nodes height slot) from c;
+  to = to_asked t (items_in nodes height slot) to d;
+  nested = nested_asked f t from to n;
+  read = entries_read nodes slot header es h e;
+  begin_is = b;
+  end_is = l;
+}
+
+module _ {N : ℕ} (nodes : Arena (Node N)) (least height slot : ℕ) (f t : ℕ → Bool) (es : List Entry)
+    (begin end : ℕ) (k : IsLook nodes least height slot f t es begin end) where
+  pub look_ordered : begin ≤ end
+  look_ordered =
+      let le = fewer_before (λ (e : Entry). f e.key) (λ (e : Entry). t e.key) (λ e h. k.nested e.key h) es in
+      let b = k.begin_is in let e = k.end_is in omega arith
+
+  -- at a leaf
+  pub leaf_look : height ≡ 0
+      → span (λ x. f x.key) (λ x. t x.key) (items_in nodes height slot) ≡ map item_of (slice_range es begin end)
+  leaf_look z =
+      let p = λ (x : Item). f x.key in
+      let q = λ (x : Item). t x.key in
+      let at : items_in nodes height slot ≡ map item_of es =
+      ap (λ n. items_in nodes n slot) z ∙ ap (map item_of) k.read in
+      let c = cut-entries p es (subst (IsCut p) at k.from) in
+      let d = cut-entries q es (subst (IsCut q) at k.to) in
+      ap (span p q) at ∙ filter-items (λ (x : Item). not (p x) && q x) es
+      ∙ ap (map item_of)
+      (span_range (λ (e : Entry). f e.key) (λ (e : Entry). t e.key) es begin end c d look_ordered k.begin_is k.end_is)
+
+  module _ (some : height ≡ 0 → ⊥) where
+    abbrev pub below : Entry → List Item
+    below e = items_in nodes (height - 1) e.child
+
+    lower : suc (height - 1) ≡ height
+    lower = omega arith
+
+    node : (1 ≤ length es) × All (IsChild nodes least (height - 1) (IsSubtree nodes least (height - 1))) es
+    node =
+        let s = subst (λ n. IsSubtree nodes least n slot) (sym lower) k.subtree in (
+          subst (λ xs. 1 ≤ length xs) k.read s.1,
+          subst (All (IsChild nodes least (height - 1) (IsSubtree nodes least (height - 1)))) k.read s.2,
+        )
+
+    pub look_tell : All (λ e. Tells e (below e)) es
+    look_tell =
+        All-weaker (IsChild nodes least (height - 1) (IsSubtree nodes least (height - 1)))
+        (λ (e : Entry). Tells e (below e)) (λ e c. c.tells) es node.1
+
+    look_items : items_in nodes height slot ≡ flat_map below es
+    look_items = ap (λ n. items_in nodes n slot) (sym lower) ∙ ap (flat_map below) k.read
+
+    from_items : IsCut (λ x. f x.key) (flat_map below es)
+    from_items = subst (IsCut (λ (x : Item). f x.key)) look_items k.from
+
+    to_items : IsCut (λ x. t x.key) (flat_map below es)
+    to_items = subst (IsCut (λ (x : Item). t x.key)) look_items k.to
+
+    pub last_inside : end - 1 < length es
+    last_inside =
+        let i = index_inside t below es node.0 in
+        let e = k.end_is in omega arith
+
+    pub first_inside : begin - 1 < length es
+    first_inside = let l = last_inside in let o = look_ordered in omega arith
+
+    -- what is asked of the search in a child
+    module _ (i : ℕ) (e : Entry) (inside : i < length es) (is : e ≡ get_or es i e) where
+      pub child_subtree : IsSubtree nodes least (height - 1) e.child
+      child_subtree =
+          let c = subst (IsChild nodes least (height - 1) (IsSubtree nodes least (height - 1))) (sym is)
+          (node.1 i e inside) in c.subtree
+
+      pub child_tells : Tells e (below e)
+      child_tells = subst (λ (e : Entry). Tells e (below e)) (sym is) (look_tell i e inside)
+
+      pub child_from : IsCut (λ x. f x.key) (below e)
+      child_from =
+          subst (λ e. IsCut (λ (x : Item). f x.key) (below e)) (sym is)
+          (children_cut f below es from_items i e inside)
+
+      pub child_to : IsCut (λ x. t x.key) (below e)
+      child_to =
+          subst (λ e. IsCut (λ (x : Item). t x.key) (below e)) (sym is)
+          (children_cut t below es to_items i e inside)
+
+    module _ (first last : ℕ) (fi : first ≡ begin - 1) (la : last ≡ end - 1) where
+      front : All (λ x. f x.key ≡ true) (flat_map below (take first es))
+      front =
+          subst (λ n. All (λ (x : Item). f x.key ≡ true) (flat_map below (take n es)))
+          (ap (λ n. n - 1) (sym k.begin_is) ∙ sym fi) (pass_before f below es look_tell from_items)
+
+      later : All (λ x. f x.key ≡ false) (flat_map below (drop (first + 1) es))
+      later =
+          subst (λ n. All (λ (x : Item). f x.key ≡ false) (flat_map below (drop (n + 1) es)))
+          (ap (λ n. n - 1) (sym k.begin_is) ∙ sym fi) (fail_behind_index f below es look_tell from_items)
+
+      sooner : All (λ x. t x.key ≡ true) (flat_map below (take last es))
+      sooner =
+          subst (λ n. All (λ (x : Item). t x.key ≡ true) (flat_map below (take n es)))
+          (ap (λ n. n - 1) (sym k.end_is) ∙ sym la) (pass_before t below es look_tell to_items)
+
+      back : All (λ x. t x.key ≡ false) (flat_map below (drop (last + 1) es))
+      back =
+          subst (λ n. All (λ (x : Item). t x.key ≡ false) (flat_map below (drop (n + 1) es)))
+          (ap (λ n. n - 1) (sym k.end_is) ∙ sym la) (fail_behind_index t below es look_tell to_items)
+
+      pub look_apart : (first ≡ last → ⊥) → first + 1 ≤ last
+      look_apart ne = let o = look_ordered in omega arith
+
+      pub look_one : (left : Entry) → left ≡ get_or es first left → first ≡ last
+          → span (λ x. f x.key) (λ x. t x.key) (items_in nodes height slot)
+          ≡ span (λ x. f x.key) (λ x. t x.key) (below left)
+      look_one left li same =
+          let p = λ (x : Item). f x.key in
+          let q = λ (x : Item). t x.key in
+          let inside : first < length es = let i = first_inside in omega arith in
+          ap (span p q) look_items
+          ∙ span_of_child below p q es first last left front later sooner back same inside
+          ∙ ap (λ e. span p q (below e)) (sym li)
+
+      pub look_two : (left right : Entry) → left ≡ get_or es first left → right ≡ get_or es last right
+          → (first ≡ last → ⊥)
+          → span (λ x. f x.key) (λ x. t x.key) (items_in nodes height slot)
+          ≡ span (λ x. f x.key) (λ x. true) (below left)
+          ++ (flat_map below (slice_range es (first + 1) last)
+          ++ span (λ x. false) (λ x. t x.key) (below right))
+      look_two left right li ri ne =
+          let p = λ (x : Item). f x.key in
+          let q = λ (x : Item). t x.key in
+          let inside : last < length es = let i = last_inside in omega arith in
+          let lt : first < last = let a = look_apart ne in omega arith in
+          let same : get_or es last left ≡ right = sym (get_or_read es last right inside ri left) in
+          ap (span p q) look_items
+          ∙ span_of_two below p q es first last left front later sooner back lt inside
+          ∙ ap (λ e. span p (λ x. true) (below e)
+          ++ (flat_map below (slice_range es (first + 1) last) ++ span (λ x. false) q (below (get_or es last left))))
+          (sym li)
+          ∙ ap (λ e. span p (λ x. true) (below left)
+          ++ (flat_map below (slice_range es (first + 1) last) ++ span (λ x. false) q (below e))) same

@@ -1,0 +1,102 @@
+-- What a node's slot is seen as once a header is put, placed or released.
+use Rattle.std.proofs.Common.{◌≡◌, ◌≢◌, inl, inr, ℕ, ◌+◌, ◌<◌, ◌≤◌, cond, List, [], ◌∷◌, length, Option, Some, None, IsSome, is_some, option_map, unwrap_or, refl, sym, ap, subst, ◌∙◌, arith}
+use Rattle.std.specs.Prelude.{IfSome, nat_eq}
+use Rattle.std.proofs.lemmas.Bool.{ne_eqb}
+use Rattle.arena.specs.Arena.{Arena, Record, IsLive, record_at, header_at, key_at, spare_of, size_of, slots_of, with_header}
+use Rattle.tree.specs.declared.node.Node.{Node}
+use Rattle.tree.specs.Node.{entries_of}
+use Rattle.tree.specs.Subtree.{entries_at}
+use Rattle.tree.specs.Replace.{IsKeyless}
+use Rattle.tree.proofs.Times.{times, once, once_cases, once_same}
+use Rattle.tree.proofs.Changing.{Moves, moves_beside, moves_header, record_put, record_kept}
+
+one_spare : (spare slots then : ℕ) → 0 < spare → then + 1 ≡ cond (nat_eq spare 0) slots spare → then + 1 ≡ spare
+one_spare spare slots then some e = e ∙ ap (λ b. cond b slots spare) (ne_eqb spare 0 (λ none. omega arith))
+
+-- slots that differ stand once in the list of both
+pub pair_once : (x y : ℕ) → x ≢ y → (s : ℕ) → times s (x ∷ y ∷ []) ≤ 1
+pair_once x y apart s = elim (once_cases s x) [
+  | inl same ↦ elim (once_cases s y) [
+    | inl both ↦ absurd (apart (same.0 ∙ sym both.0))
+    | inr other ↦ omega (arith, same.1, other.1)
+  ]
+  | inr one ↦ elim (once_cases s y) [
+    | inl same ↦ omega (arith, one.1, same.1)
+    | inr other ↦ omega (arith, one.1, other.1)
+  ]
+]
+
+pub apart_if_once : (x y : ℕ) (more : ℕ → ℕ) → ((s : ℕ) → once s x + (once s y + more s) ≤ 1) → x ≢ y
+apart_if_once x y more few same =
+    let e : once y x ≡ 1 = ap (once y) same ∙ once_same y in omega (arith, few y, once_same y)
+
+module _ {N : ℕ} where
+  pub entries_from_header : (a : Arena (Node N)) (slot : ℕ) (node : Node N) → header_at a slot ≡ Some node
+      → entries_at a slot ≡ entries_of node
+  entries_from_header a slot node e = ap (λ o. unwrap_or (option_map entries_of o) []) e
+
+  pub live_if_some : (a : Arena (Node N)) (slot : ℕ) → 1 ≤ length (entries_at a slot) → IsLive a slot
+  live_if_some a slot some = by_record (record_at a slot) some
+    where
+      by_record : (o : Option (Record (Node N)))
+          → 1 ≤ length (unwrap_or (option_map entries_of (option_map (λ r. r.header) o)) []) → IsSome o
+      by_record None h = absurd (omega arith)
+      by_record (Some r) h = refl
+
+  pub live_one : (a : Arena (Node N)) (slot : ℕ) → IsLive a slot → (s : ℕ) → 1 ≤ times s (slot ∷ []) → IsLive a s
+  live_one a slot live s some = elim (once_cases s slot) [
+    | inl same ↦ subst (IsLive a) same.0 live
+    | inr other ↦ absurd (omega (arith, other.1))
+  ]
+
+  -- a header is put
+  module _ (a b : Arena (Node N)) (slot : ℕ) (node : Node N) (e : b ≡ with_header a slot node) where
+    pub put_record_is : record_at b slot ≡ Some (record { header = node; key = unwrap_or (key_at a slot) [] })
+    put_record_is = ap (λ z. record_at z slot) e ∙ record_put a slot node
+
+    pub put_entries : entries_at b slot ≡ entries_of node
+    put_entries = entries_from_header b slot node (ap (option_map (λ r. r.header)) put_record_is)
+
+    pub put_live : IsLive b slot
+    put_live = ap is_some put_record_is
+
+    pub put_others : (s : ℕ) → s ≢ slot → record_at b s ≡ record_at a s
+    put_others s other = ap (λ z. record_at z s) e ∙ record_kept a slot node s other
+
+    pub put_moves : IsLive a slot → IsKeyless a → Moves a b (slot ∷ []) (slot ∷ [])
+    put_moves live keyless = subst (λ z. Moves a z (slot ∷ []) (slot ∷ [])) (sym e) (moves_header a slot node live keyless)
+
+  -- the spare slots after a release
+  more_spare : (a b : Arena (Node N)) (o : Option (List ℕ)) → IsSome o → IfSome o (λ key. key ≡ [])
+      → IfSome o (λ key. spare_of b (size_of (length key)) ≡ spare_of a (size_of (length key)) + 1)
+      → spare_of b 0 ≡ spare_of a 0 + 1
+  more_spare a b None live empty h = absurd (cc)
+  more_spare a b (Some key) live empty h =
+      subst (λ key. spare_of b (size_of (length key)) ≡ spare_of a (size_of (length key)) + 1) empty h
+
+  key_if_live : (o : Option (Record (Node N))) → IsSome o → IsSome (option_map (λ r. r.key) o)
+  key_if_live None live = live
+  key_if_live (Some r) live = refl
+
+  pub released_spare : (a b : Arena (Node N)) (slot : ℕ) → IsLive a slot → IsKeyless a
+      → IfSome (key_at a slot) (λ key. spare_of b (size_of (length key)) ≡ spare_of a (size_of (length key)) + 1)
+      → spare_of b 0 ≡ spare_of a 0 + 1
+  released_spare a b slot live keyless h =
+      more_spare a b (key_at a slot) (key_if_live (record_at a slot) live) (keyless slot) h
+
+  pub placed_spare : (a b : Arena (Node N)) → 0 < spare_of a 0
+      → spare_of b 0 + 1 ≡ cond (nat_eq (spare_of a 0) 0) (slots_of 0) (spare_of a 0) → spare_of b 0 + 1 ≡ spare_of a 0
+  placed_spare a b some e = one_spare (spare_of a 0) (slots_of 0) (spare_of b 0) some e
+
+  -- one of two slots is changed
+  pub moves_first : (a b : Arena (Node N)) (x y : ℕ) → x ≢ y → IsLive a y → Moves a b (x ∷ []) (x ∷ [])
+      → Moves a b (x ∷ y ∷ []) (x ∷ y ∷ [])
+  moves_first a b x y apart live h =
+      moves_beside a b (x ∷ []) (x ∷ []) (y ∷ []) (x ∷ y ∷ []) (x ∷ y ∷ []) h (λ s. omega arith) (λ s. omega arith)
+      (omega arith) (omega arith) (pair_once x y apart) (live_one a y live)
+
+  pub moves_second : (a b : Arena (Node N)) (x y : ℕ) (now : List ℕ) → x ≢ y → IsLive a x → Moves a b (y ∷ []) now
+      → Moves a b (x ∷ y ∷ []) (x ∷ now)
+  moves_second a b x y now apart live h =
+      moves_beside a b (y ∷ []) now (x ∷ []) (x ∷ y ∷ []) (x ∷ now) h (λ s. omega arith) (λ s. omega arith)
+      (omega arith) (omega arith) (pair_once x y apart) (live_one a x live)

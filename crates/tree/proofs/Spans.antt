@@ -1,0 +1,227 @@
+-- What lies from one cut to another, in parts.
+use Rattle.std.proofs.Common.{◌≡◌, ℕ, suc, ◌+◌, ◌-◌, ◌<◌, ◌≤◌, Bool, true, false, not, ◌&&◌, List, [], ◌∷◌, ◌++◌, length, get_or, take, drop, filter, flat_map, All, refl, sym, ◌∙◌, ap, subst, inl, inr, arith, drop-cons, take-add, take_at, drop_at, take-append-drop, append-nil, length-drop}
+use Rattle.std.specs.Prelude.{slice_range}
+use Rattle.std.proofs.lemmas.Bool.{cases_Bool}
+use Rattle.std.proofs.lemmas.Grind.{flat_map-append}
+use Rattle.std.proofs.lemmas.List.{drop-drop, drop-take, get_or-drop}
+use Rattle.std.proofs.lemmas.List.Elements.{
+  All-head,
+  All-tail,
+  All-take,
+  All-drop,
+  filter-append,
+}
+use Rattle.tree.specs.declared.entry.Entry.{Entry}
+use Rattle.tree.specs.Path.{IsCut}
+use Rattle.tree.proofs.Cuts.{passed, failed, All-front, All-back}
+use Rattle.tree.proofs.Ways.{around_element}
+
+module _ {X : Type 0} where
+  -- those that don't pass the one test and pass the other
+  abbrev pub span : (X → Bool) → (X → Bool) → List X → List X
+  span p q xs = filter (λ x. not (p x) && q x) xs
+
+  pub none_before : (xs : List X) → filter (λ (x : X). false) xs ≡ []
+  none_before [] = refl
+  none_before (x ∷ xs) = none_before xs
+
+  pub all_before : (xs : List X) → filter (λ (x : X). true) xs ≡ xs
+  all_before [] = refl
+  all_before (x ∷ xs) = ap (λ ys. x ∷ ys) (all_before xs)
+
+  pub IsCut-none : (xs : List X) → IsCut (λ x. false) xs
+  IsCut-none xs = rw (none_before xs) (sym (all_before xs))
+
+  pub IsCut-all : (xs : List X) → IsCut (λ x. true) xs
+  IsCut-all [] = refl
+  IsCut-all (x ∷ xs) = ap (λ ys. x ∷ ys) (IsCut-all xs)
+
+  module _ (p q : X → Bool) where
+    pub span-append : (xs ys : List X) → span p q (xs ++ ys) ≡ span p q xs ++ span p q ys
+    span-append xs ys = filter-append (λ x. not (p x) && q x) xs ys
+
+    pub span_before : (xs : List X) → All (λ x. p x ≡ true) xs → span p q xs ≡ []
+    span_before [] a = refl
+    span_before (x ∷ xs) a =
+        let t = All-head (λ x. p x ≡ true) x xs a in
+        rw t (span_before xs (All-tail (λ x. p x ≡ true) x xs a))
+
+    pub span_behind : (xs : List X) → All (λ x. q x ≡ false) xs → span p q xs ≡ []
+    span_behind [] a = refl
+    span_behind (x ∷ xs) a =
+        let f = All-head (λ x. q x ≡ false) x xs a in
+        let i = span_behind xs (All-tail (λ x. q x ≡ false) x xs a) in
+        elim (cases_Bool (p x)) [ inl t ↦ rw t i | inr t ↦ rw (t, f) i ]
+
+    pub span_all : (xs : List X) → All (λ x. p x ≡ false) xs → All (λ x. q x ≡ true) xs → span p q xs ≡ xs
+    span_all [] a b = refl
+    span_all (x ∷ xs) a b =
+        let f = All-head (λ x. p x ≡ false) x xs a in
+        let t = All-head (λ x. q x ≡ true) x xs b in
+        rw (f, t)
+        (ap (λ ys. x ∷ ys) (span_all xs (All-tail (λ x. p x ≡ false) x xs a) (All-tail (λ x. q x ≡ true) x xs b)))
+
+    pub span_to_end : (xs : List X) → All (λ x. q x ≡ true) xs → span p q xs ≡ span p (λ x. true) xs
+    span_to_end [] b = refl
+    span_to_end (x ∷ xs) b =
+        let t = All-head (λ x. q x ≡ true) x xs b in
+        let i = span_to_end xs (All-tail (λ x. q x ≡ true) x xs b) in
+        elim (cases_Bool (p x)) [
+          | inl h ↦ rw (t, h) i
+          | inr h ↦ rw (t, h) (ap (λ ys. x ∷ ys) i)
+        ]
+
+    pub span_from_begin : (xs : List X) → All (λ x. p x ≡ false) xs → span p q xs ≡ span (λ x. false) q xs
+    span_from_begin [] a = refl
+    span_from_begin (x ∷ xs) a =
+        let f = All-head (λ x. p x ≡ false) x xs a in
+        let i = span_from_begin xs (All-tail (λ x. p x ≡ false) x xs a) in
+        elim (cases_Bool (q x)) [
+          | inl h ↦ rw (f, h) (ap (λ ys. x ∷ ys) i)
+          | inr h ↦ rw (f, h) i
+        ]
+
+    pub fewer_before : ((x : X) → p x ≡ true → q x ≡ true) → (xs : List X)
+        → length (filter p xs) ≤ length (filter q xs)
+    fewer_before n [] = omega arith
+    fewer_before n (x ∷ xs) =
+        let i = fewer_before n xs in
+        elim (cases_Bool (p x)) [
+          | inl t ↦ let u = n x t in rw (t, u) (omega arith)
+          | inr f ↦
+              elim (cases_Bool (q x)) [
+                | inl u ↦ rw (f, u) (omega arith)
+                | inr u ↦ rw (f, u) (omega arith)
+              ]
+        ]
+
+  -- what stands before and behind a cut
+  pub before_cut : (p : X → Bool) (xs : List X) → IsCut p xs
+      → All (λ x. p x ≡ true) (take (length (filter p xs)) xs)
+  before_cut p xs c =
+      let e : take (length (filter p xs)) xs ≡ filter p xs =
+      ap (take (length (filter p xs))) c
+      ∙ take_at (filter p xs) (filter (λ x. not (p x)) xs) (length (filter p xs)) refl in
+      subst (All (λ x. p x ≡ true)) (sym e) (passed p xs)
+
+  pub behind_cut : (p : X → Bool) (xs : List X) → IsCut p xs
+      → All (λ x. p x ≡ false) (drop (length (filter p xs)) xs)
+  behind_cut p xs c =
+      let e : drop (length (filter p xs)) xs ≡ filter (λ x. not (p x)) xs =
+      ap (drop (length (filter p xs))) c
+      ∙ drop_at (filter p xs) (filter (λ x. not (p x)) xs) (length (filter p xs)) refl in
+      subst (All (λ x. p x ≡ false)) (sym e) (failed p xs)
+
+  in_parts : (xs : List X) (i j : ℕ) → i ≤ j → xs ≡ take i xs ++ (slice_range xs i j ++ drop j xs)
+  in_parts xs i j le =
+      let up : i + (j - i) ≡ j = omega arith in
+      sym (take-append-drop i xs)
+      ∙ ap (λ ys. take i xs ++ ys)
+      (sym (take-append-drop (j - i) (drop i xs))
+      ∙ ap (λ ys. slice_range xs i j ++ ys) (drop-drop (j - i) i xs ∙ ap (λ n. drop n xs) up))
+
+  -- the part of a list from one cut to another
+  pub span_range : (p q : X → Bool) (xs : List X) (i j : ℕ) → IsCut p xs → IsCut q xs → i ≤ j
+      → i ≡ length (filter p xs) → j ≡ length (filter q xs) → span p q xs ≡ slice_range xs i j
+  span_range p q xs i j c d le m n =
+      let front = subst (λ k. All (λ x. p x ≡ true) (take k xs)) (sym m) (before_cut p xs c) in
+      let later = subst (λ k. All (λ x. p x ≡ false) (drop k xs)) (sym m) (behind_cut p xs c) in
+      let sooner = subst (λ k. All (λ x. q x ≡ true) (take k xs)) (sym n) (before_cut q xs d) in
+      let back = subst (λ k. All (λ x. q x ≡ false) (drop k xs)) (sym n) (behind_cut q xs d) in
+      let up : i + (j - i) ≡ j = omega arith in
+      let is : drop i (take j xs) ≡ slice_range xs i j =
+      ap (λ k. drop i (take k xs)) (sym up) ∙ drop-take i (j - i) xs in
+      let inside = subst (All (λ x. q x ≡ true)) is (All-drop (λ x. q x ≡ true) i (take j xs) sooner) in
+      let outside = All-take (λ x. p x ≡ false) (j - i) (drop i xs) later in
+      ap (span p q) (in_parts xs i j le)
+      ∙ span-append p q (take i xs) (slice_range xs i j ++ drop j xs)
+      ∙ ap (λ ys. ys ++ span p q (slice_range xs i j ++ drop j xs)) (span_before p q (take i xs) front)
+      ∙ span-append p q (slice_range xs i j) (drop j xs)
+      ∙ ap (λ ys. span p q (slice_range xs i j) ++ ys) (span_behind p q (drop j xs) back)
+      ∙ append-nil (span p q (slice_range xs i j))
+      ∙ span_all p q (slice_range xs i j) outside inside
+
+-- the items of children from one cut to another
+module _ {X : Type 0} (below : Entry → List X) (p q : X → Bool) (es : List Entry) (i j : ℕ) (d : Entry)
+    (front : All (λ x. p x ≡ true) (flat_map below (take i es)))
+    (later : All (λ x. p x ≡ false) (flat_map below (drop (i + 1) es)))
+    (sooner : All (λ x. q x ≡ true) (flat_map below (take j es)))
+    (back : All (λ x. q x ≡ false) (flat_map below (drop (j + 1) es))) where
+  -- where both cuts lie in one child
+  pub span_of_child : i ≡ j → i < length es → span p q (flat_map below es) ≡ span p q (below (get_or es i d))
+  span_of_child same inside =
+      let c = below (get_or es i d) in
+      let a = flat_map below (take i es) in
+      let b = flat_map below (drop (i + 1) es) in
+      let behind = subst (λ k. All (λ x. q x ≡ false) (flat_map below (drop (k + 1) es))) (sym same) back in
+      ap (λ xs. span p q (flat_map below xs)) (around_element es i d inside)
+      ∙ ap (span p q) (flat_map-append below (take i es) (get_or es i d ∷ drop (i + 1) es))
+      ∙ span-append p q a (c ++ b)
+      ∙ ap (λ ys. ys ++ span p q (c ++ b)) (span_before p q a front)
+      ∙ span-append p q c b
+      ∙ ap (λ ys. span p q c ++ ys) (span_behind p q b behind)
+      ∙ append-nil (span p q c)
+
+  two_elements : i < j → j < length es
+      → drop (i + 1) es ≡ slice_range es (i + 1) j ++ get_or es j d ∷ drop (j + 1) es
+  two_elements lt inside =
+      let k = j - (i + 1) in
+      let rest = drop (i + 1) es in
+      let at : i + 1 + k ≡ j = omega arith in
+      let past : i + 1 + (k + 1) ≡ j + 1 = omega arith in
+      let some : k < length rest = rw (length-drop (i + 1) es) (omega arith) in
+      around_element rest k d some
+      ∙ ap (λ e. take k rest ++ e ∷ drop (k + 1) rest) (get_or-drop (i + 1) es k d ∙ ap (λ n. get_or es n d) at)
+      ∙ ap (λ ys. take k rest ++ get_or es j d ∷ ys) (drop-drop (k + 1) (i + 1) es ∙ ap (λ n. drop n es) past)
+
+  up_to_second : i < j → j < length es → take j es ≡ take i es ++ get_or es i d ∷ slice_range es (i + 1) j
+  up_to_second lt inside =
+      let k = j - (i + 1) in
+      let at : i + suc k ≡ j = omega arith in
+      let next : suc i ≡ i + 1 = omega arith in
+      let within : i < length es = omega arith in
+      ap (λ n. take n es) (sym at) ∙ take-add i (suc k) es
+      ∙ ap (λ ys. take i es ++ take (suc k) ys) (drop-cons es i d within)
+      ∙ ap (λ n. take i es ++ get_or es i d ∷ take k (drop n es)) next
+
+  -- where they lie in two
+  pub span_of_two : i < j → j < length es
+      → span p q (flat_map below es)
+      ≡ span p (λ x. true) (below (get_or es i d))
+      ++ (flat_map below (slice_range es (i + 1) j) ++ span (λ x. false) q (below (get_or es j d)))
+  span_of_two lt inside =
+      let a = flat_map below (take i es) in
+      let l = below (get_or es i d) in
+      let m = flat_map below (slice_range es (i + 1) j) in
+      let r = below (get_or es j d) in
+      let b = flat_map below (drop (j + 1) es) in
+      let rest : flat_map below (drop (i + 1) es) ≡ m ++ (r ++ b) =
+      ap (flat_map below) (two_elements lt inside)
+      ∙ flat_map-append below (slice_range es (i + 1) j) (get_or es j d ∷ drop (j + 1) es) in
+      let begin : flat_map below (take j es) ≡ a ++ (l ++ m) =
+      ap (flat_map below) (up_to_second lt inside)
+      ∙ flat_map-append below (take i es) (get_or es i d ∷ slice_range es (i + 1) j) in
+      let within : i < length es = omega arith in
+      let whole : flat_map below es ≡ a ++ (l ++ (m ++ (r ++ b))) =
+      ap (flat_map below) (around_element es i d within)
+      ∙ flat_map-append below (take i es) (get_or es i d ∷ drop (i + 1) es)
+      ∙ ap (λ ys. a ++ (l ++ ys)) rest in
+      let after = subst (All (λ x. p x ≡ false)) rest later in
+      let before = All-back (λ x. q x ≡ true) a (l ++ m) (subst (All (λ x. q x ≡ true)) begin sooner) in
+      let m_after = All-front (λ x. p x ≡ false) m (r ++ b) after in
+      let r_after = All-front (λ x. p x ≡ false) r b (All-back (λ x. p x ≡ false) m (r ++ b) after) in
+      let l_before = All-front (λ x. q x ≡ true) l m before in
+      let m_before = All-back (λ x. q x ≡ true) l m before in
+      ap (span p q) whole
+      ∙ span-append p q a (l ++ (m ++ (r ++ b)))
+      ∙ ap (λ ys. ys ++ span p q (l ++ (m ++ (r ++ b)))) (span_before p q a front)
+      ∙ span-append p q l (m ++ (r ++ b))
+      ∙ ap (λ ys. ys ++ span p q (m ++ (r ++ b))) (span_to_end p q l l_before)
+      ∙ ap (λ ys. span p (λ x. true) l ++ ys)
+      (span-append p q m (r ++ b)
+      ∙ ap (λ ys. ys ++ span p q (r ++ b)) (span_all p q m m_after m_before)
+      ∙ ap (λ ys. m ++ ys)
+      (span-append p q r b
+      ∙ ap (λ ys. span p q r ++ ys) (span_behind p q b back)
+      ∙ append-nil (span p q r)
+      ∙ span_from_begin p q r r_after))

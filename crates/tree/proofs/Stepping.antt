@@ -1,0 +1,126 @@
+-- A replacement at a node above the leaves: what is known of the node, and what holds of it afterwards.
+use Rattle.std.proofs.Common.{◌≡◌, ℕ, suc, ◌+◌, ◌*◌, ◌<◌, ◌≤◌, Bool, List, [], ◌∷◌, ◌++◌, length, length-append, append-nil, get_or, take, drop, Option, Some, None, sym, ap, subst, ◌∙◌, arith}
+use Rattle.std.specs.Prelude.{IfSome, IsSomeAnd, MatchOption, nat_eq}
+use Rattle.std.specs.List.{IsDistinct}
+use Rattle.std.proofs.lemmas.List.{length-take-le, length-drop}
+use Rattle.arena.specs.Arena.{Arena, IsLive, header_at}
+use Rattle.tree.specs.declared.entry.Entry.{Entry}
+use Rattle.tree.specs.declared.node.Node.{Node}
+use Rattle.tree.specs.Item.{Item}
+use Rattle.tree.specs.Node.{entries_of}
+use Rattle.tree.specs.Path.{index_in, child_in, before_leaf, behind_leaf}
+use Rattle.tree.specs.Subtree.{entries_at, slots_in, IsSubtree}
+use Rattle.tree.specs.Replace.{child_at, entries_with, items_with, slots_with, items_of, slots_of, AreChildren, Changes}
+use Rattle.tree.proofs.Times.{times, once_same, once_if_distinct}
+use Rattle.tree.proofs.Frames.{live_same}
+use Rattle.tree.proofs.Changing.{Moves, changes_if_moves}
+use Rattle.tree.proofs.Families.{times-slots_of}
+use Rattle.tree.proofs.Placing.{entries_from_header}
+use Rattle.tree.proofs.Sharing.{child_is, around_one}
+use Rattle.tree.proofs.Replacing.{IsStep}
+use Rattle.tree.proofs.Storing.{IsStored, above}
+
+module _ {N : ℕ} where
+  -- the node at a slot, and the child at an index, at which a probe goes on
+  pub record IsAt (a : Arena (Node N)) (least height slot : ℕ) (passes : ℕ → Bool) (es : List Entry) (i x : ℕ) (d : Entry) : Type 0 where
+    pub read : entries_at a slot ≡ es
+    pub slots_are : slots_in a (suc height) slot ≡ slot ∷ slots_of a height es
+    pub few : (s : ℕ) → times s (slots_in a (suc height) slot) ≤ 1
+    pub few_below : (s : ℕ) → times s (slots_of a height es) ≤ 1
+    pub right : AreChildren a least height es
+    pub within : i < length es
+    pub x_is : x ≡ (get_or es i d).child
+    pub x_at : x ≡ child_at es i
+    pub index : i ≡ index_in passes (entries_at a slot)
+    pub child : x ≡ child_in passes (entries_at a slot)
+    pub live : IsLive a slot
+
+  pub is_at : (a : Arena (Node N)) (least height lower slot : ℕ) (passes : ℕ → Bool) (node : Node N) (us vs : List Entry) (i : ℕ) (d : Entry)
+      → suc lower ≡ height → IsSubtree a least height slot → IsDistinct nat_eq (slots_in a height slot) → header_at a slot ≡ Some node
+      → us ≡ entries_of node → vs ≡ entries_of node → i ≡ index_in passes us → i < length us
+      → IsAt a least lower slot passes (entries_of node) i (get_or vs i d).child d
+  is_at a least height lower slot passes node us vs i d next subtree distinct header us_is vs_is index within =
+      let es = entries_of node in
+      let read : entries_at a slot ≡ es = entries_from_header a slot node header in
+      let tree : IsSubtree a least (suc lower) slot = subst (λ n. IsSubtree a least n slot) (sym next) subtree in
+      let few : (s : ℕ) → times s (slots_in a (suc lower) slot) ≤ 1 =
+      once_if_distinct (slots_in a (suc lower) slot) (subst (λ n. IsDistinct nat_eq (slots_in a n slot)) (sym next) distinct) in
+      let slots_are : slots_in a (suc lower) slot ≡ slot ∷ slots_of a lower es = ap (λ l. slot ∷ slots_of a lower l) read in
+      let inside : i < length es = subst (λ l. i < length l) us_is within in
+      let x_is : (get_or vs i d).child ≡ (get_or es i d).child = ap (λ (l : List Entry). (get_or l i d).child) vs_is in
+      let x_at : (get_or vs i d).child ≡ child_at es i = x_is ∙ sym (child_is es i d inside) in
+      let at : i ≡ index_in passes (entries_at a slot) = index ∙ ap (index_in passes) (us_is ∙ sym read) in
+      record {
+        read = read;
+        slots_are = slots_are;
+        few = few;
+        few_below = λ s. (let all : times s (slot ∷ slots_of a lower es) ≤ 1 = subst (λ l. times s l ≤ 1) slots_are (few s) in omega arith);
+        right = subst (AreChildren a least lower) read tree.2;
+        within = inside;
+        x_is = x_is;
+        x_at = x_at;
+        index = at;
+        child = x_at ∙ ap (λ l. child_at l i) (sym read) ∙ ap (child_at (entries_at a slot)) at;
+        live = tree.0;
+      }
+
+  -- the node's own slot stays
+  pub live_beside : (a b : Arena (Node N)) (least height slot : ℕ) (passes : ℕ → Bool) (es : List Entry) (i x : ℕ) (d : Entry) (now : List ℕ)
+      → IsAt a least height slot passes es i x d → Moves a b (slots_in a height x) now → IsLive b slot
+  live_beside a b least height slot passes es i x d now at moves =
+      let all : times slot (slot ∷ slots_of a height es) ≤ 1 = subst (λ l. times slot l ≤ 1) at.slots_are (at.few slot) in
+      let A = get_or es i d in
+      let split : times slot (slots_of a height es) ≡ times slot (slots_of a height (take i es ++ (A ∷ [] ++ drop (i + 1) es))) =
+      ap (λ l. times slot (slots_of a height l)) (around_one es i d at.within) in
+      let parts = times-slots_of a height slot (take i es) (A ∷ [] ++ drop (i + 1) es) in
+      let more = times-slots_of a height slot (A ∷ []) (drop (i + 1) es) in
+      let last = times-slots_of a height slot (A ∷ []) [] in
+      let one : times slot (slots_of a height (A ∷ [])) ≡ times slot (slots_in a height x) =
+      one_slot a height A slot ∙ ap (λ z. times slot (slots_in a height z)) (sym at.x_is) in
+      live_same a b slot (moves.others slot (omega (arith, once_same slot)) at.live) at.live
+    where
+      one_slot : (a : Arena (Node N)) (height : ℕ) (e : Entry) (s : ℕ) → times s (slots_of a height (e ∷ [])) ≡ times s (slots_in a height e.child)
+      one_slot a height e s = ap (times s) (append-nil (slots_in a height e.child))
+
+  -- what holds afterwards
+  pub record IsDone (a w : Arena (Node N)) (least height slot : ℕ) (passes : ℕ → Bool) (leaf : List Item) (added : Option ℕ) : Type 0 where
+    pub items : items_with w height slot added ≡ before_leaf a height slot passes ++ (leaf ++ behind_leaf a height slot passes)
+    pub subtree : IsSubtree w least height slot
+    pub neighbour : IfSome added (λ s. IsSubtree w least height s)
+    pub changes : Changes a w (slots_in a height slot) (slots_with w height slot added)
+
+  pub done : (a b w : Arena (Node N)) (least height lower slot : ℕ) (passes : ℕ → Bool) (es now : List Entry) (i x : ℕ) (d : Entry)
+      (middle leaf : List Item) (added : Option ℕ) → suc lower ≡ height → IsAt a least lower slot passes es i x d
+      → IsStep a b least lower es now i middle → IsStored a w least lower slot added (items_of b lower now)
+      → middle ≡ before_leaf a lower x passes ++ (leaf ++ behind_leaf a lower x passes)
+      → IsDone a w least height slot passes leaf added
+  done a b w least height lower slot passes es now i x d middle leaf added next at step stored middle_is =
+      subst (λ n. IsDone a w least n slot passes leaf added) next (record {
+        items = stored.items_are ∙ step.items
+            ∙ ap (λ l. items_of a lower (take i l) ++ (middle ++ items_of a lower (drop (i + 1) l))) (sym at.read)
+            ∙ above a lower slot passes i x middle leaf at.index at.child middle_is;
+        subtree = stored.subtree;
+        neighbour = stored.neighbour;
+        changes = changes_if_moves a w (slots_in a (suc lower) slot) (slots_with w (suc lower) slot added) stored.moves;
+      })
+
+  -- the two parts of a node that was split have entries, and so has one that wasn't
+  pub some_left : (node : Node N) (other : Option (Node N)) (p q : List Entry) (t u : Entry) → 4 ≤ N
+      → entries_with node other ≡ p ++ (t ∷ u ∷ q) → IfSome other (λ _. N ≤ 2 * length (entries_of node)) → 1 ≤ length (entries_of node)
+  some_left node None p q t u four is half = omega (arith, ap length is, length-append p (t ∷ u ∷ q))
+  some_left node (Some r) p q t u four is half = omega (arith, half)
+
+  pub some_right : (other : Option (Node N)) → 4 ≤ N → IfSome other (λ r. N ≤ 2 * length (entries_of r))
+      → IfSome other (λ r. 1 ≤ length (entries_of r))
+  some_right None four half = tt
+  some_right (Some r) four half = omega (arith, half)
+
+  -- a node that wasn't split has one more entry
+  pub one_more : (node : Node N) (other : Option (Node N)) (added : Option ℕ) (es : List Entry) (i : ℕ) (t u : Entry) (w : Arena (Node N))
+      → i < length es → entries_with node other ≡ take i es ++ (t ∷ u ∷ drop (i + 1) es)
+      → MatchOption other (added ≡ None) (λ r. IsSomeAnd added (λ s. entries_at w s ≡ entries_of r)) → added ≡ None
+      → length es ≤ length (entries_of node) + 1
+  one_more node None added es i t u w within is matched none =
+      omega (arith, ap length is, length-append (take i es) (t ∷ u ∷ drop (i + 1) es), length-take-le i es (omega arith), length-drop (i + 1) es)
+  one_more node (Some r) None es i t u w within is matched none = absurd matched
+  one_more node (Some r) (Some s) es i t u w within is matched none = absurd (cc)

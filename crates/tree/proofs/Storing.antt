@@ -1,0 +1,116 @@
+-- A node above a replaced leaf, once it is stored.
+use Rattle.std.proofs.Common.{◌≡◌, ℕ, suc, ◌+◌, ◌≤◌, Bool, List, [], ◌∷◌, ◌++◌, length, length-append, take, drop, Option, Some, None, sym, ap, ap₂, subst, ◌∙◌, arith, append_assoc}
+use Rattle.std.specs.Prelude.{IfSome, IsSomeAnd, MatchOption}
+use Rattle.arena.specs.Arena.{Arena, IsLive}
+use Rattle.tree.specs.declared.entry.Entry.{Entry}
+use Rattle.tree.specs.declared.node.Node.{Node}
+use Rattle.tree.specs.Item.{Item}
+use Rattle.tree.specs.Node.{entries_of}
+use Rattle.tree.specs.Path.{index_in, child_in, before_leaf, behind_leaf}
+use Rattle.tree.specs.Subtree.{entries_at, slots_in, IsSubtree}
+use Rattle.tree.specs.Replace.{entries_with, items_with, slots_with, slot_taken, items_of, slots_of, AreChildren}
+use Rattle.tree.proofs.Times.{times, once, once_same, times-append}
+use Rattle.tree.proofs.Frames.{Agree, IsRight, live_same}
+use Rattle.tree.proofs.Changing.{Moves, moves_beside, moves_agree, moves_trans}
+use Rattle.tree.proofs.Families.{items_of-append, times-slots_of, length-slots_of, live_children, holds}
+use Rattle.tree.proofs.Placing.{live_one}
+use Rattle.tree.proofs.Cuts.{All-front, All-back}
+
+module _ {N : ℕ} where
+  pub record IsStored (a w : Arena (Node N)) (least height slot : ℕ) (added : Option ℕ) (items : List Item) : Type 0 where
+    pub items_are : items_with w (suc height) slot added ≡ items
+    pub subtree : IsSubtree w least (suc height) slot
+    pub neighbour : IfSome added (λ s. IsSubtree w least (suc height) s)
+    pub moves : Moves a w (slots_in a (suc height) slot) (slots_with w (suc height) slot added)
+
+  module _ (a b w : Arena (Node N)) (least height slot : ℕ) (es : List Entry) (slots_are : slots_in a (suc height) slot ≡ slot ∷ slots_of a height es)
+      (few : (s : ℕ) → times s (slots_in a (suc height) slot) ≤ 1) (live : IsLive a slot) where
+    few_of : (s : ℕ) → times s (slot ∷ slots_of a height es) ≤ 1
+    few_of s = subst (λ l. times s l ≤ 1) slots_are (few s)
+
+    -- the node's own slot isn't touched below
+    module _ (now : List Entry) (moves : Moves a b (slots_of a height es) (slots_of b height now)) where
+      pub live_own : IsLive b slot
+      live_own = live_same a b slot (moves.others slot (own_apart (few_of slot) (once_here slot)) live) live
+        where
+          own_apart : {n m : ℕ} → n + m ≤ 1 → 1 ≤ n → m ≡ 0
+          own_apart h k = omega arith
+
+          once_here : (s : ℕ) → 1 ≤ once s s
+          once_here s = omega (arith, once_same s)
+
+      moves_own : Moves a b (slot ∷ slots_of a height es) (slot ∷ slots_of b height now)
+      moves_own = moves_beside a b (slots_of a height es) (slots_of b height now) (slot ∷ []) (slot ∷ slots_of a height es)
+          (slot ∷ slots_of b height now) moves (λ s. omega arith) (λ s. omega arith) (omega arith) (omega arith) few_of
+          (live_one a slot live)
+
+      pub stored : (right : AreChildren b least height now) (node : Node N) (other : Option (Node N)) (added : Option ℕ)
+          → now ≡ entries_with node other → 1 ≤ length (entries_of node) → IfSome other (λ r. 1 ≤ length (entries_of r))
+          → entries_at w slot ≡ entries_of node → IsLive w slot
+          → MatchOption other (added ≡ None) (λ r. IsSomeAnd added (λ s. entries_at w s ≡ entries_of r))
+          → IfSome added (λ s. IsLive w s) → Moves b w (slot ∷ []) (slot ∷ slot_taken added)
+          → IsStored a w least height slot added (items_of b height now)
+      stored right node None None now_is some some_other here live_here matched live_added changes =
+          let agree : Agree b w (slots_of b height now) = moves_agree b w (slot ∷ []) (slot ∷ []) (slots_of b height now) changes
+          (live_children b least height now right) (λ s. omega (arith, moves_own.few s)) in
+          let h = holds b w least height slot now live_here (here ∙ sym now_is) (subst (λ l. 1 ≤ length l) (sym now_is) some) right agree in
+          record {
+            items_are = h.items;
+            subtree = h.subtree;
+            neighbour = tt;
+            moves = subst (λ l. Moves a w l (slots_in w (suc height) slot)) (sym slots_are)
+                (subst (Moves a w (slot ∷ slots_of a height es)) (sym h.slots)
+                (moves_trans a b w (slot ∷ slots_of a height es) (slot ∷ slots_of b height now) (slot ∷ slots_of b height now) moves_own
+                (moves_beside b w (slot ∷ []) (slot ∷ []) (slots_of b height now) (slot ∷ slots_of b height now) (slot ∷ slots_of b height now)
+                changes (λ s. omega arith) (λ s. omega arith) (omega arith) (omega arith) moves_own.few
+                (live_children b least height now right))));
+          }
+      stored right node None (Some s) now_is some some_other here live_here matched live_added changes = absurd (cc)
+      stored right node (Some r) None now_is some some_other here live_here matched live_added changes = absurd matched
+      stored right node (Some r) (Some s) now_is some some_other here live_here matched live_added changes =
+          let us = entries_of node in
+          let vs = entries_of r in
+          let xs = slots_of b height us in
+          let ys = slots_of b height vs in
+          let both : AreChildren b least height (us ++ vs) = subst (AreChildren b least height) now_is right in
+          let agree : Agree b w (slots_of b height now) = moves_agree b w (slot ∷ []) (slot ∷ s ∷ []) (slots_of b height now) changes
+          (live_children b least height now right) (λ q. omega (arith, moves_own.few q)) in
+          let count : (q : ℕ) → times q (slots_of b height now) ≡ times q xs + times q ys =
+          λ (q : ℕ). ap (λ l. times q (slots_of b height l)) now_is ∙ times-slots_of b height q us vs in
+          let len : length (slots_of b height now) ≡ length xs + length ys =
+          ap (λ l. length (slots_of b height l)) now_is ∙ length-slots_of b height us vs in
+          let h = holds b w least height slot us live_here here some (All-front (IsRight b least height) us vs both)
+          (λ q some. agree q (omega (arith, count q))) in
+          let k = holds b w least height s vs live_added matched some_other (All-back (IsRight b least height) us vs both)
+          (λ q some. agree q (omega (arith, count q))) in
+          record {
+            items_are = ap₂ (λ l m. l ++ m) h.items k.items ∙ sym (items_of-append b height us vs) ∙ ap (items_of b height) (sym now_is);
+            subtree = h.subtree;
+            neighbour = k.subtree;
+            moves = subst (λ l. Moves a w l (slots_in w (suc height) slot ++ slots_in w (suc height) s)) (sym slots_are)
+                (subst (Moves a w (slot ∷ slots_of a height es)) (sym (ap₂ (λ l m. l ++ m) h.slots k.slots))
+                (moves_trans a b w (slot ∷ slots_of a height es) (slot ∷ slots_of b height now) (slot ∷ xs ++ (s ∷ ys)) moves_own
+                (moves_beside b w (slot ∷ []) (slot ∷ s ∷ []) (slots_of b height now) (slot ∷ slots_of b height now) (slot ∷ xs ++ (s ∷ ys))
+                changes (λ q. omega arith) (λ q. omega (arith, count q, times-append q xs (s ∷ ys))) (omega arith)
+                (omega (arith, len, length-append xs (s ∷ ys))) moves_own.few
+                (live_children b least height now right))));
+          }
+
+-- the items before the leaf, of the leaf and behind it, one level up
+pub above : {N : ℕ} (a : Arena (Node N)) (height slot : ℕ) (passes : ℕ → Bool) (i x : ℕ) (middle leaf : List Item)
+    → i ≡ index_in passes (entries_at a slot) → x ≡ child_in passes (entries_at a slot)
+    → middle ≡ before_leaf a height x passes ++ (leaf ++ behind_leaf a height x passes)
+    → items_of a height (take i (entries_at a slot)) ++ (middle ++ items_of a height (drop (i + 1) (entries_at a slot)))
+    ≡ before_leaf a (suc height) slot passes ++ (leaf ++ behind_leaf a (suc height) slot passes)
+above a height slot passes i x middle leaf i_is x_is middle_is =
+    let es = entries_at a slot in
+    let j = index_in passes es in
+    let y = child_in passes es in
+    let front = items_of a height (take j es) in
+    let back = items_of a height (drop (j + 1) es) in
+    ap (λ n. items_of a height (take n es) ++ (middle ++ items_of a height (drop (n + 1) es))) i_is
+    ∙ ap (λ m. front ++ (m ++ back)) (middle_is ∙ ap (λ z. before_leaf a height z passes ++ (leaf ++ behind_leaf a height z passes)) x_is)
+    ∙ regroup front (before_leaf a height y passes) leaf (behind_leaf a height y passes) back
+  where
+    regroup : (p b m h r : List Item) → p ++ ((b ++ (m ++ h)) ++ r) ≡ (p ++ b) ++ (m ++ (h ++ r))
+    regroup p b m h r = simp append_assoc

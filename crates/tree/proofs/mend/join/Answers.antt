@@ -1,0 +1,43 @@
+use Rattle.std.proofs.Common.{[], ◌∷◌, ◌++◌, sym, ap₂, ◌∙◌}
+use Rattle.tree.proofs.Frames.{entries_same, live_same}
+use Rattle.tree.proofs.Changing.{changes_if_moves, moves_trans, moves_released}
+use Rattle.tree.proofs.Placing.{entries_from_header, put_entries, put_live, put_others, put_moves, moves_first, moves_second, released_spare}
+use Rattle.tree.proofs.mend.join.Goals as goal
+
+pub release-requires : goal.release-requires
+release-requires g c =
+    let a = c.args.nodes.now in
+    let b = c.set_header.new.self in
+    record {
+      live = live_same a b c.args.second
+          (put_others a b c.args.first c.append.new.self c.set_header.ensures.replaced c.args.second (λ same. c.requires.apart (sym same)))
+          c.requires.second;
+    }
+
+pub returns-clause-entries : goal.returns-clause-entries
+returns-clause-entries g c =
+    let a = c.args.nodes.now in
+    let b = c.set_header.new.self in
+    entries_same b c.release.new.self c.args.first (c.release.ensures.others c.args.first c.requires.apart)
+    ∙ put_entries a b c.args.first c.append.new.self c.set_header.ensures.replaced
+    ∙ c.append.ensures.entries
+    ∙ ap₂ (λ xs ys. xs ++ ys) (sym (entries_from_header a c.args.first c.header-joined.result c.header-joined.ensures.header))
+    (sym (entries_from_header a c.args.second c.header_ref.result.now c.header_ref.ensures.header))
+
+pub returns-clause-changes : goal.returns-clause-changes
+returns-clause-changes g c =
+    let a = c.args.nodes.now in
+    let b = c.set_header.new.self in
+    let d = c.release.new.self in
+    let x = c.args.first in
+    let y = c.args.second in
+    let put = put_moves a b x c.append.new.self c.set_header.ensures.replaced c.requires.first c.requires.keyless in
+    let live_x = put_live a b x c.append.new.self c.set_header.ensures.replaced in
+    let live_y =
+    live_same a b y (put_others a b x c.append.new.self c.set_header.ensures.replaced y (λ same. c.requires.apart (sym same)))
+    c.requires.second in
+    let gone = moves_released b d y put.keyless live_y c.release.ensures.released c.release.ensures.others
+    (released_spare b d y live_y put.keyless c.release.ensures.spare) in
+    changes_if_moves a d (x ∷ y ∷ []) (x ∷ [])
+    (moves_trans a b d (x ∷ y ∷ []) (x ∷ y ∷ []) (x ∷ []) (moves_first a b x y c.requires.apart c.requires.second put)
+    (moves_second b d x y [] c.requires.apart live_x gone))

@@ -1,0 +1,74 @@
+use Rattle.std.proofs.Common.{◌≡◌, ◌≤◌, ◌-◌, List, length, get_or, sym, ap, subst, ◌∙◌, arith, rules}
+use Rattle.tree.specs.declared.entry.Entry.{Entry}
+use Rattle.tree.specs.Node.{entries_of}
+use Rattle.tree.specs.Subtree.{entries_at, IsSubtree}
+use Rattle.tree.specs.Tree.{least_of}
+use Rattle.tree.proofs.Placing.{entries_from_header}
+use Rattle.tree.proofs.Sharing.{set_one}
+use Rattle.tree.proofs.Mending.{live_subtree, mended_by_summary, widened, filled_pair}
+use Rattle.tree.proofs.mend.mend.Goals as goal
+
+pub header_ref-requires : goal.header_ref-requires
+header_ref-requires g c =
+    let a = c.args.nodes.now in
+    let es = entries_of c.args.node.now in
+    let i = c.args.index in
+    let d = c.index-entries-index.result in
+    let x = (get_or c.entries.result.now i d).child in
+    let x_is : x ≡ (get_or es i d).child = ap (λ (l : List Entry). (get_or l i d).child) c.entries.ensures.entries in
+    let f = c.requires.family in
+    record {
+      live = live_subtree a (least_of g.row.N) f.0 x
+          (subst (IsSubtree a (least_of g.row.N) f.0) (sym x_is) (f.1.below i d c.requires.within));
+    }
+
+pub returns-then-len-least-clause-mended : goal.returns-then-len-least-clause-mended
+returns-then-len-least-clause-mended g c height family =
+    let a = c.args.nodes.now in
+    let es = entries_of c.args.node.now in
+    let i = c.args.index in
+    let d = c.index-entries-index.result in
+    let x = (get_or c.entries.result.now i d).child in
+    let x_is : x ≡ (get_or es i d).child = ap (λ (l : List Entry). (get_or l i d).child) c.entries.ensures.entries in
+    let f = c.requires.family in
+    let t = c.summary.result in
+    let len : length (entries_at a x) ≡ c.len.result =
+    ap length (entries_from_header a x c.header_ref.result.now c.header_ref.ensures.header) ∙ sym c.len.ensures.len in
+    let filled : least_of g.row.N ≤ length (entries_at a x) =
+    subst (λ n. n ≤ length (entries_at a x)) c.least.ensures.least (omega (arith, len, c.if-len-least.true)) in
+    mended_by_summary a (least_of g.row.N) height es (entries_of c.set.new.self) i x d t c.requires.within x_is family c.requires.keyless
+    c.summary.ensures.child (c.summary.ensures.tells height (least_of g.row.N)) filled
+    (c.set.ensures.entries ∙ set_one es i t c.requires.within)
+
+pub share-requires : goal.share-requires
+share-requires g c =
+    let a = c.args.nodes.now in
+    let es = entries_of c.args.node.now in
+    let i = c.args.index in
+    let d = c.index-entries-index.result in
+    let x = (get_or c.entries.result.now i d).child in
+    let x_is : x ≡ (get_or es i d).child = ap (λ (l : List Entry). (get_or l i d).child) c.entries.ensures.entries in
+    let f = c.requires.family in
+    let j = c.saturating_sub.result in
+    let j_is : j ≡ i - 1 = c.saturating_sub.ensures in (
+      search rules,
+      (
+        c.requires.fan_out,
+        (
+          omega (arith, c.requires.within, c.requires.several, j_is),
+          (
+            filled_pair a (least_of g.row.N) f.0 es i j d c.requires.within c.requires.several j_is f.1,
+            (
+              c.requires.keyless,
+              (f.0, widened a (least_of g.row.N) f.0 es i j c.requires.within c.requires.several j_is f.1),
+            ),
+          ),
+        ),
+      ),
+    )
+
+pub returns-clause-mended : goal.returns-clause-mended
+returns-clause-mended g c height family =
+    c.share.ensures.mended height
+    (widened c.args.nodes.now (least_of g.row.N) height (entries_of c.args.node.now) c.args.index c.saturating_sub.result
+    c.requires.within c.requires.several c.saturating_sub.ensures family)

@@ -1,0 +1,33 @@
+use Rattle.std.proofs.Common.{◌≡◌, ◌<◌, List, [], ◌∷◌, length, get_or, drop, sym, ap, subst, ◌∙◌, arith, rules}
+use Rattle.std.specs.Prelude.{ℤ}
+use mir.Val.{SFits}
+use mir.Syntax.{w64}
+use Rattle.std.proofs.lemmas.Int.{to_z-of_z}
+use Rattle.tree.specs.declared.entry.Entry.{Entry}
+use Rattle.tree.specs.Item.{version_of, IsGreatest}
+use Rattle.tree.specs.Node.{entries_of}
+use Rattle.tree.specs.Subtree.{entries_at}
+use Rattle.tree.proofs.Placing.{entries_from_header}
+use Rattle.tree.proofs.Telling.{tells_items}
+use Rattle.tree.proofs.mend.summary.Goals as goal
+
+first_and_rest : (xs : List Entry) (x : Entry) → 0 < length xs → x ≡ get_or xs 0 x → xs ≡ x ∷ drop 1 xs
+first_and_rest [] x some is = absurd (omega arith)
+first_and_rest (y ∷ ys) x some is = ap (λ z. z ∷ ys) (sym is)
+
+pub returns-clause-tells : goal.returns-clause-tells
+returns-clause-tells g c height least h =
+    let a = c.args.nodes.now in
+    let node = c.header_ref-node.result.now in
+    let e = c.index-entries-0.result in
+    let xs = c.entries.result.now in
+    let here : entries_at a c.args.child ≡ entries_of node = entries_from_header a c.args.child node c.header_ref-node.ensures.header in
+    let same : xs ≡ entries_at a c.args.child = c.entries.ensures.entries ∙ sym here in
+    let some : 0 < length xs = subst (λ l. 0 < length l) (sym same) c.requires.some in
+    let parts : xs ≡ e ∷ drop 1 xs = first_and_rest xs e some c.index-entries-0.is in
+    let r = c.greatest.result in
+    let fits : SFits w64 r = search rules in
+    let greatest : IsGreatest version_of r (e ∷ drop 1 xs) =
+    subst (λ (l : List Entry). IsGreatest version_of r l) (sym c.entries.ensures.entries ∙ parts) c.greatest.ensures.greatest in
+    tells_items a least height c.args.child _ e (drop 1 xs) (sym same ∙ parts) (ap (λ (z : Entry). z.key) (sym c.index-entries-0.is))
+    (subst (λ (v : ℤ). IsGreatest version_of v (e ∷ drop 1 xs)) (sym (to_z-of_z w64 r fits)) greatest) h

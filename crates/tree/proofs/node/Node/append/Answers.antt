@@ -1,0 +1,18 @@
+use Rattle.std.proofs.Common.{arith, ◌≡◌, ◌+◌, ◌-◌, ◌++◌, ◌∙◌, ap, length}
+use Rattle.std.proofs.lemmas.List.{length-take-le}
+use Rattle.std.proofs.lemmas.Slice.{take-put_mid}
+use Rattle.tree.specs.Node.{entries_of}
+use Rattle.tree.proofs.node.Node.append.Goals as goal
+
+pub returns : goal.returns
+returns g c =
+    let node = c.args.self.now in
+    let others = c.copy_from_slice.new.self in
+    let full : length node.entries ≡ g.row.N = omega arith in
+    let sum = node.len + c.len.result in
+    let same : others ≡ entries_of c.args.other.now = c.copy_from_slice.ensures.after ∙ c.entries.ensures.entries in
+    record {
+      entries =
+          take-put_mid node.len (sum - node.len) node.entries others sum (omega (arith, ap length same)) (omega arith)
+          ∙ ap (λ q. entries_of node ++ q) same;
+    }

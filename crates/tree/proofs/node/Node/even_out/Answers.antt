@@ -1,0 +1,17 @@
+use Rattle.std.proofs.Common.{arith, ◌≡◌, ◌/◌, ◌+◌, ◌++◌, ◌∙◌, sym, ap, append_assoc, take, drop}
+use Rattle.std.proofs.lemmas.List.{take-append-drop}
+use Rattle.tree.specs.Node.{entries_of}
+use Rattle.tree.proofs.node.Node.even_out.Goals as goal
+
+pub returns-then-self-half-clause-entries : goal.returns-then-self-half-clause-entries
+returns-then-self-half-clause-entries g c =
+    let left = c.args.self.now in
+    let right = c.args.right.now in
+    let half = (left.len + right.len) / 2 in
+    let all = entries_of left in
+    let new = c.prepend.new.self in
+    ap (λ p. p ++ entries_of new) c.split_off-moved.ensures.left
+    ∙ ap (λ q. take half all ++ q) c.prepend.ensures.entries
+    ∙ ap (λ q. take half all ++ (q ++ entries_of right)) c.split_off-moved.ensures.right
+    ∙ sym (append_assoc (take half all) (drop half all) (entries_of right))
+    ∙ ap (λ p. p ++ entries_of right) (take-append-drop half all)

@@ -1,0 +1,78 @@
+use Rattle.std.proofs.Common.{arith, ◌≡◌, suc, ◌+◌, List, [], ◌∷◌, ◌++◌, ◌∙◌, ap, ap₂, sym, subst, length, take, drop}
+use Rattle.std.specs.Prelude.{nat_eq}
+use Rattle.std.specs.List.{IsDistinct}
+use Rattle.std.proofs.lemmas.List.{append-nil}
+use Rattle.std.proofs.lemmas.List.Elements.{All-nil, All-cons}
+use Rattle.tree.specs.declared.entry.Entry.{Entry}
+use Rattle.tree.specs.Node.{entries_of}
+use Rattle.tree.specs.Subtree.{items_in, slots_in}
+use Rattle.tree.specs.Replace.{AreChildren, items_of, slots_of}
+use Rattle.tree.specs.Tree.{least_of, IsRooted}
+use Rattle.tree.proofs.Frames.{IsRight}
+use Rattle.tree.proofs.Changing.{moves_if_changes}
+use Rattle.tree.proofs.Rooting.{right_entry, grown}
+use Rattle.tree.proofs.root.grow.Goals as goal
+
+pub returns-clause-items : goal.returns-clause-items
+returns-clause-items g c =
+    let a = c.args.nodes.now in
+    let b = c.place.new.nodes in
+    let h = c.args.root.height in
+    let first = c.summary.result in
+    let second = c.summary-2.result in
+    let least = least_of g.row.N in
+    let es : List Entry = first ∷ second ∷ [] in
+    let node : entries_of c.insert.new.self ≡ es =
+    c.insert.ensures.entries ∙ ap (λ l. take 1 l ++ second ∷ drop 1 l) c.of-node.ensures.entries in
+    let right : AreChildren a least h es =
+    All-cons (IsRight a least h) first (second ∷ [])
+    (right_entry a least h c.args.root.slot first c.summary.ensures.child c.requires.first c.requires.filled.0
+    (c.summary.ensures.tells h least c.requires.first))
+    (All-cons (IsRight a least h) second []
+    (right_entry a least h c.args.added second c.summary-2.ensures.child c.requires.second c.requires.filled.1
+    (c.summary-2.ensures.tells h least c.requires.second))
+    (All-nil (IsRight a least h))) in
+    let slots : slots_of a h es ≡ slots_in a h c.args.root.slot ++ slots_in a h c.args.added =
+    ap₂ (λ x y. slots_in a h x ++ (slots_in a h y ++ [])) c.summary.ensures.child c.summary-2.ensures.child
+    ∙ ap (λ l. slots_in a h c.args.root.slot ++ l) (append-nil (slots_in a h c.args.added)) in
+    let items : items_of a h es ≡ items_in a h c.args.root.slot ++ items_in a h c.args.added =
+    ap₂ (λ x y. items_in a h x ++ (items_in a h y ++ [])) c.summary.ensures.child c.summary-2.ensures.child
+    ∙ ap (λ l. items_in a h c.args.root.slot ++ l) (append-nil (items_in a h c.args.added)) in
+    let moves = moves_if_changes a b [] (c.place.result ∷ []) c.place.ensures.changes in
+    let new =
+    grown a b h c.place.result es moves c.place.ensures.live (c.place.ensures.entries ∙ node) (omega arith) right
+    (subst (IsDistinct nat_eq) (sym slots) c.requires.distinct) (c.requires.linked ∙ ap length (sym slots)) in
+    let one : suc h ≡ h + 1 = omega arith in
+    ap (λ n. items_in b n c.place.result) (sym one) ∙ new.items_are ∙ items
+
+pub returns-clause-rooted : goal.returns-clause-rooted
+returns-clause-rooted g c =
+    let a = c.args.nodes.now in
+    let b = c.place.new.nodes in
+    let h = c.args.root.height in
+    let first = c.summary.result in
+    let second = c.summary-2.result in
+    let least = least_of g.row.N in
+    let es : List Entry = first ∷ second ∷ [] in
+    let node : entries_of c.insert.new.self ≡ es =
+    c.insert.ensures.entries ∙ ap (λ l. take 1 l ++ second ∷ drop 1 l) c.of-node.ensures.entries in
+    let right : AreChildren a least h es =
+    All-cons (IsRight a least h) first (second ∷ [])
+    (right_entry a least h c.args.root.slot first c.summary.ensures.child c.requires.first c.requires.filled.0
+    (c.summary.ensures.tells h least c.requires.first))
+    (All-cons (IsRight a least h) second []
+    (right_entry a least h c.args.added second c.summary-2.ensures.child c.requires.second c.requires.filled.1
+    (c.summary-2.ensures.tells h least c.requires.second))
+    (All-nil (IsRight a least h))) in
+    let slots : slots_of a h es ≡ slots_in a h c.args.root.slot ++ slots_in a h c.args.added =
+    ap₂ (λ x y. slots_in a h x ++ (slots_in a h y ++ [])) c.summary.ensures.child c.summary-2.ensures.child
+    ∙ ap (λ l. slots_in a h c.args.root.slot ++ l) (append-nil (slots_in a h c.args.added)) in
+    let items : items_of a h es ≡ items_in a h c.args.root.slot ++ items_in a h c.args.added =
+    ap₂ (λ x y. items_in a h x ++ (items_in a h y ++ [])) c.summary.ensures.child c.summary-2.ensures.child
+    ∙ ap (λ l. items_in a h c.args.root.slot ++ l) (append-nil (items_in a h c.args.added)) in
+    let moves = moves_if_changes a b [] (c.place.result ∷ []) c.place.ensures.changes in
+    let new =
+    grown a b h c.place.result es moves c.place.ensures.live (c.place.ensures.entries ∙ node) (omega arith) right
+    (subst (IsDistinct nat_eq) (sym slots) c.requires.distinct) (c.requires.linked ∙ ap length (sym slots)) in
+    let one : suc h ≡ h + 1 = omega arith in
+    subst (λ n. IsRooted b c.place.result n) one new.rooted

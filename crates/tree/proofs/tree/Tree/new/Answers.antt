@@ -1,0 +1,20 @@
+use Rattle.std.proofs.Common.{arith, ◌≡◌, ◌+◌, ◌-◌, ◌*◌, ◌≤◌, ◌∙◌, ap, cond}
+use Rattle.std.proofs.lemmas.Bool.{ne_eqb}
+use Rattle.arena.specs.Arena.{spare_of, slots_of}
+use Rattle.tree.proofs.Trees.{tree_of_one}
+use Rattle.tree.proofs.tree.Tree.new.Goals as goal
+
+pub of-requires : goal.of-requires
+of-requires g c = (omega arith, omega arith)
+
+pub invariant_of-result : goal.invariant_of-result
+invariant_of-result g c =
+    let a = c.reserve_slots.new.self in
+    let b = c.place.new.self in
+    let slot = c.in_ok-slot.slot in
+    let enough : 67 ≤ spare_of a 0 = c.in_ok-reserve_slots.ensures.room in
+    let spare : spare_of b 0 + 1 ≡ spare_of a 0 =
+    c.in_ok-slot.ensures.spare ∙ ap (λ t. cond t (slots_of 0) (spare_of a 0)) (ne_eqb (spare_of a 0) 0 (omega arith)) in
+    tree_of_one a b slot c.of.result c.item.result c.requires.fan_out c.requires.few
+    (c.reserve_slots.ensures.records ∙ c.new-nodes.ensures.empty) enough c.in_ok-slot.ensures.was_free c.in_ok-slot.ensures.placed
+    c.in_ok-slot.ensures.record c.in_ok-slot.ensures.others spare c.of.ensures.entries

@@ -1,0 +1,35 @@
+-- The items of a tree, in the order of their keys. A key is the slot of its bytes. This project's own.
+use Rattle.std.specs.Prelude.{◌≡◌, ℕ, ℤ, ◌≤ℤ◌, List, ◌∷◌, Option, Some, None}
+use Rattle.std.specs.Int.{int_max}
+use Rattle.std.specs.List.{All, Any}
+use Rattle.tree.specs.declared.entry.Entry.{Entry}
+
+pub record Item : Type 0 where
+  pub key : ℕ
+  pub version : ℤ
+
+-- the item of a leaf's entry
+abbrev pub item_of : Entry → Item
+item_of e = record { key = e.key; version = e.version }
+
+abbrev pub version_of : Entry → ℤ
+version_of e = e.version
+
+-- none of these has a greater version, and one has this one
+pub record IsGreatest {X : Type 0} (version_at : X → ℤ) (version : ℤ) (xs : List X) : Type 0 where
+  pub bound : All (λ x. version_at x ≤ℤ version) xs
+  pub reached : Any (λ x. version_at x ≡ version) xs
+
+-- the greater of two versions, of which either may be missing
+abbrev pub greater_of : Option ℤ → Option ℤ → Option ℤ
+greater_of None other = other
+greater_of (Some a) None = Some a
+greater_of (Some a) (Some b) = Some (int_max a b)
+
+-- the first of these items has the entry's key, and its version is the greatest of theirs
+pub record Tells (e : Entry) (items : List Item) : Type 0 where
+  pub first : Item
+  pub others : List Item
+  pub items_are : items ≡ first ∷ others
+  pub key : e.key ≡ first.key
+  pub greatest : IsGreatest (λ x. x.version) e.version items

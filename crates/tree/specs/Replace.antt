@@ -1,0 +1,83 @@
+-- The replacement of a leaf, and of entries above it. This project's own.
+use Rattle.std.specs.Prelude.{◌≡◌, ℕ, ◌+◌, List, [], ◌++◌, ◌⊎◌, length, ◌∷◌, take, drop, nat_eq, slice_get, option_map, unwrap_or, Option, None, Some, IfSome}
+use Rattle.std.specs.List.{All, Contains, IsDistinct, flat_map}
+use Rattle.std.specs.FinMap as map
+use Rattle.arena.specs.Arena.{Arena, IsLive, record_at, key_at, spare_of}
+use Rattle.tree.specs.declared.entry.Entry.{Entry}
+use Rattle.tree.specs.declared.node.Node.{Node}
+use Rattle.tree.specs.Item.{Item, Tells}
+use Rattle.tree.specs.Node.{entries_of}
+use Rattle.tree.specs.Subtree.{items_in, slots_in, IsChild, IsSubtree}
+
+-- the child of the entry at an index
+abbrev pub child_at : List Entry → ℕ → ℕ
+child_at entries index = unwrap_or (option_map (λ e. e.child) (slice_get entries index)) 0
+
+-- a slot that was taken, if any
+abbrev pub slot_taken : Option ℕ → List ℕ
+slot_taken None = []
+slot_taken (Some slot) = slot ∷ []
+
+module _ {N : ℕ} where
+  -- A subtree and the right neighbour that it was split from, if any: the items of both.
+  abbrev pub items_with : Arena (Node N) → ℕ → ℕ → Option ℕ → List Item
+  items_with nodes height slot None = items_in nodes height slot
+  items_with nodes height slot (Some added) = items_in nodes height slot ++ items_in nodes height added
+
+  -- the slots of both
+  abbrev pub slots_with : Arena (Node N) → ℕ → ℕ → Option ℕ → List ℕ
+  slots_with nodes height slot None = slots_in nodes height slot
+  slots_with nodes height slot (Some added) = slots_in nodes height slot ++ slots_in nodes height added
+
+  -- Entries and the subtrees of this height of their children: the items of all.
+  abbrev pub items_of : Arena (Node N) → ℕ → List Entry → List Item
+  items_of nodes height entries = flat_map (λ e. items_in nodes height e.child) entries
+
+  -- the slots of all
+  abbrev pub slots_of : Arena (Node N) → ℕ → List Entry → List ℕ
+  slots_of nodes height entries = flat_map (λ e. slots_in nodes height e.child) entries
+
+  -- the entries are right
+  abbrev pub AreChildren : Arena (Node N) → ℕ → ℕ → List Entry → Type 0
+  AreChildren nodes least height entries = All (IsChild nodes least height (IsSubtree nodes least height)) entries
+
+  -- no record has key bytes
+  abbrev pub IsKeyless : Arena (Node N) → Type 0
+  IsKeyless nodes = (s : ℕ) → IfSome (key_at nodes s) (λ key. key ≡ [])
+
+  -- These slots were used and those are used now. New ones weren't live, and all others stay as they were.
+  pub record Changes (old new : Arena (Node N)) (was now : List ℕ) : Type 0 where
+    pub distinct : IsDistinct nat_eq now
+    pub slots : (s : ℕ) → Contains now s → Contains was s ⊎ (record_at old s ≡ None)
+    pub others : (s : ℕ) → ¬ Contains was s → IsLive old s → record_at new s ≡ record_at old s
+    pub live : map.len new.records + length was ≡ map.len old.records + length now
+    pub spare : spare_of new 0 + map.len new.records ≡ spare_of old 0 + map.len old.records
+    pub keyless : IsKeyless new
+
+  -- The entries of a node of which those from one index up to another lead to changed subtrees. The others are right.
+  pub record IsFamily (nodes : Arena (Node N)) (least height : ℕ) (entries : List Entry) (from to : ℕ) : Type 0 where
+    pub distinct : IsDistinct nat_eq (slots_of nodes height entries)
+    pub below : All (λ e. IsSubtree nodes least height e.child) entries
+    pub before : AreChildren nodes least height (take from entries)
+    pub behind : AreChildren nodes least height (drop to entries)
+
+  -- the entries of a node, made right
+  pub record IsMended (old new : Arena (Node N)) (least height : ℕ) (was now : List Entry) : Type 0 where
+    pub children : AreChildren new least height now
+    pub items : items_of new height now ≡ items_of old height was
+    pub changes : Changes old new (slots_of old height was) (slots_of new height now)
+
+  -- the entries of a node and of the right neighbour that it was split from, if any
+  abbrev pub entries_with : Node N → Option (Node N) → List Entry
+  entries_with node None = entries_of node
+  entries_with node (Some right) = entries_of node ++ entries_of right
+
+  -- Between these entries stand two others: for a child and for its right neighbour.
+  pub record IsLinked (nodes : Arena (Node N)) (child added : ℕ) (before behind now : List Entry) : Type 0 where
+    pub first : Entry
+    pub second : Entry
+    pub entries : now ≡ before ++ (first ∷ second ∷ behind)
+    pub first_child : first.child ≡ child
+    pub first_tells : (height least : ℕ) → IsSubtree nodes least height child → Tells first (items_in nodes height child)
+    pub second_child : second.child ≡ added
+    pub second_tells : (height least : ℕ) → IsSubtree nodes least height added → Tells second (items_in nodes height added)

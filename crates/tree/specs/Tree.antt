@@ -1,0 +1,62 @@
+-- What a tree is seen as. This project's own.
+use Rattle.std.specs.Prelude.{◌≡◌, ℕ, ◌+◌, ◌-◌, ◌*◌, ◌/◌, ◌≤◌, ◌<◌, ℤ, int_lt, ◌&&◌, if◌then◌else◌, List, [], ◌∷◌, ◌++◌, length, max, nat_eq}
+use Rattle.std.specs.List.{IsDistinct}
+use Rattle.std.specs.FinMap as map
+use Rattle.arena.specs.Arena.{Arena, spare_of}
+use Rattle.tree.specs.declared.node.Node.{Node}
+use Rattle.tree.specs.Item.{Item}
+use Rattle.tree.specs.Subtree.{entries_at, items_in, slots_in, IsSubtree}
+use Rattle.tree.specs.Replace.{IsKeyless}
+
+-- a tree
+pub record Items : Type 0 where
+  -- in the order of their keys
+  pub items : List Item
+  -- for how many items nodes are reserved
+  pub room : ℕ
+
+-- the last of a list
+abbrev pub IsLast : {X : Type 0} → X → List X → Type 0
+IsLast {X} x xs = (before : List X) × (xs ≡ before ++ x ∷ [])
+
+-- The items that stay of a run. One goes if its version and its predecessor's are below the edge.
+abbrev pub thin : ℤ → ℤ → List Item → List Item
+thin edge before [] = []
+thin edge before (x ∷ xs) =
+    if int_lt before edge && int_lt x.version edge then thin edge x.version xs else x ∷ thin edge x.version xs
+
+-- those that go, in order
+abbrev pub gone : ℤ → ℤ → List Item → List Item
+gone edge before [] = []
+gone edge before (x ∷ xs) =
+    if int_lt before edge && int_lt x.version edge then x ∷ gone edge x.version xs else gone edge x.version xs
+
+-- the least number of entries of a node that isn't the root
+abbrev pub least_of : ℕ → ℕ
+least_of fan_out = max (fan_out / 4) 2
+
+-- how many nodes a tree of the greatest height uses at most for a change, its root's right neighbour and its new root among them
+abbrev pub way : ℕ
+way = 66
+
+-- the nodes of a tree
+pub record IsRooted {N : ℕ} (nodes : Arena (Node N)) (root height : ℕ) : Type 0 where
+  pub subtree : IsSubtree nodes (least_of N) height root
+  -- a root that isn't a leaf has two children at least
+  pub branches : 1 ≤ height → 2 ≤ length (entries_at nodes root)
+  -- no node is linked twice, and each node is linked
+  pub distinct : IsDistinct nat_eq (slots_in nodes height root)
+  pub linked : map.len nodes.records ≡ length (slots_in nodes height root)
+  pub keyless : IsKeyless nodes
+
+-- what a tree keeps
+pub record IsTree {N : ℕ} (nodes : Arena (Node N)) (root height len room : ℕ) : Type 0 where
+  pub fan_out : 4 ≤ N
+  pub few : N ≤ 65536
+  pub rooted : IsRooted nodes root height
+  pub counted : len ≡ length (items_in nodes height root)
+  pub some : 1 ≤ len
+  pub within : len ≤ room
+  -- Nodes for so many items, and for one change more. Other than the root, each node has so many entries that it takes the place
+  -- of `least_of N - 1` items.
+  pub reserved : room + (least_of N - 1) * way ≤ (least_of N - 1) * (map.len nodes.records + spare_of nodes 0)

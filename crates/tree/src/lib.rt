@@ -1,0 +1,26 @@
+//! A B+-tree of items in the order of their keys, each with a version.
+//!
+//! Keys are slots of another arena: the tree never looks at their bytes. What is looked for is a [`Probe`], a cut through the
+//! items: those before it pass. Nodes are records of an arena of their own, named by slots. All leaves are at one depth. An entry
+//! for a child has the first key and the greatest version of its subtree.
+#![tactic(auto)]
+
+mod entry;
+mod mend;
+mod node;
+mod probe;
+mod replace;
+mod root;
+mod search;
+mod span;
+mod thin;
+mod tree;
+
+pub use entry::Entry;
+pub use node::Node;
+pub use probe::Probe;
+pub use thin::Thinned;
+pub use tree::Tree;
+
+#[cfg(test)]
+mod tests;

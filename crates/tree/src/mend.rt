@@ -1,0 +1,118 @@
+//! The entries of a node, made right where a child has changed.
+
+ghost use Rattle.std.specs.Prelude.{◌≡◌, ◌≢◌, ◌≤◌, ◌<◌, ◌+◌, ◌*◌, ◌++◌, ◌∷◌, ℕ, [], length};
+ghost use Rattle.arena.specs.Arena.{IsLive, spare_of};
+ghost use Rattle.tree.specs.Item.{Tells};
+ghost use Rattle.tree.specs.Node.{entries_of};
+ghost use Rattle.tree.specs.Subtree.{entries_at, items_in, IsSubtree};
+ghost use Rattle.tree.specs.Tree.{least_of};
+ghost use Rattle.tree.specs.Replace.{child_at, Changes, IsFamily, IsKeyless, IsMended};
+
+use crate::entry::Entry;
+use crate::node::Node;
+use arena::{Arena, Slot};
+
+/// Returns the least number of entries of a node that isn't the root: a quarter, but two at least.
+pub fn least(fan_out: usize) -> usize
+    ensures least { result ≡ least_of fan_out }
+{
+    (fan_out / 4).max(2)
+}
+
+/// Returns the entry for a child.
+pub fn summary<const N: usize>(nodes: &Arena<Node<N>>, child: Slot) -> Entry
+    requires live { IsLive nodes.now child }
+    requires some { 0 < length (entries_at nodes.now child) }
+    ensures child { result.child ≡ child }
+    ensures tells { (height least : ℕ) → IsSubtree nodes.now least height child → Tells result (items_in nodes.now height child) }
+{
+    let node = nodes.header_ref(child);
+    Entry {
+        key: node.entries()[0].key,
+        child,
+        version: node.greatest(),
+    }
+}
+
+/// Makes the entry for a changed child right. A child with too few entries is joined with a neighbour, or takes some of its entries.
+pub fn mend<const N: usize>(nodes: &mut Arena<Node<N>>, node: &mut Node<N>, index: usize)
+    requires fan_out { 4 ≤ N }
+    requires within { index < length (entries_of node.old) }
+    requires several { 2 ≤ length (entries_of node.old) }
+    requires keyless { IsKeyless nodes.old }
+    requires family { (height : ℕ) × IsFamily nodes.old (least_of N) height (entries_of node.old) index (index + 1) }
+    ensures mended { (height : ℕ) → IsFamily nodes.old (least_of N) height (entries_of node.old) index (index + 1)
+        → IsMended nodes.old nodes.new (least_of N) height (entries_of node.old) (entries_of node.new) }
+    ensures few_less { length (entries_of node.old) ≤ length (entries_of node.new) + 1 }
+    ensures spare { spare_of nodes.old 0 ≤ spare_of nodes.new 0 }
+{
+    let child = node.entries()[index].child;
+    if nodes.header_ref(child).len() >= least(N) {
+        node.set(index, summary(nodes, child));
+        return;
+    }
+    share(nodes, node, index.saturating_sub(1));
+}
+
+// Joins the children at an index and behind it, or shares their entries evenly where there are too many for one node.
+fn share<const N: usize>(nodes: &mut Arena<Node<N>>, node: &mut Node<N>, index: usize)
+    requires fan_out { 4 ≤ N }
+    requires within { index + 1 < length (entries_of node.old) }
+    requires filled { least_of N ≤ length (entries_at nodes.old (child_at (entries_of node.old) index))
+        + length (entries_at nodes.old (child_at (entries_of node.old) (index + 1))) }
+    requires keyless { IsKeyless nodes.old }
+    requires family { (height : ℕ) × IsFamily nodes.old (least_of N) height (entries_of node.old) index (index + 2) }
+    ensures mended { (height : ℕ) → IsFamily nodes.old (least_of N) height (entries_of node.old) index (index + 2)
+        → IsMended nodes.old nodes.new (least_of N) height (entries_of node.old) (entries_of node.new) }
+    ensures few_less { length (entries_of node.old) ≤ length (entries_of node.new) + 1 }
+    ensures spare { spare_of nodes.old 0 ≤ spare_of nodes.new 0 }
+{
+    let first = node.entries()[index].child;
+    let second = node.entries()[index + 1].child;
+    let count = nodes.header_ref(first).len() + nodes.header_ref(second).len();
+    if count <= N {
+        join(nodes, first, second);
+        node.set(index, summary(nodes, first));
+        node.remove(index + 1, index + 2);
+        return;
+    }
+    even_out(nodes, first, second);
+    node.set(index, summary(nodes, first));
+    node.set(index + 1, summary(nodes, second));
+}
+
+// Puts the entries of the second node behind those of the first one, and releases the second.
+fn join<const N: usize>(nodes: &mut Arena<Node<N>>, first: Slot, second: Slot)
+    requires first { IsLive nodes.old first }
+    requires second { IsLive nodes.old second }
+    requires apart { first ≢ second }
+    requires room { length (entries_at nodes.old first) + length (entries_at nodes.old second) ≤ N }
+    requires keyless { IsKeyless nodes.old }
+    ensures entries { entries_at nodes.new first ≡ entries_at nodes.old first ++ entries_at nodes.old second }
+    ensures changes { Changes nodes.old nodes.new (first ∷ second ∷ []) (first ∷ []) }
+{
+    let mut joined = nodes.header(first);
+    joined.append(nodes.header_ref(second));
+    nodes.set_header(first, joined);
+    nodes.release(second);
+}
+
+// Moves entries between two nodes so that they have as many, but for one.
+fn even_out<const N: usize>(nodes: &mut Arena<Node<N>>, first: Slot, second: Slot)
+    requires first { IsLive nodes.old first }
+    requires second { IsLive nodes.old second }
+    requires apart { first ≢ second }
+    requires many { N < length (entries_at nodes.old first) + length (entries_at nodes.old second) }
+    requires keyless { IsKeyless nodes.old }
+    ensures entries { entries_at nodes.new first ++ entries_at nodes.new second
+        ≡ entries_at nodes.old first ++ entries_at nodes.old second }
+    ensures left { N ≤ 2 * length (entries_at nodes.new first) }
+    ensures right { N ≤ 2 * length (entries_at nodes.new second) }
+    ensures changes { Changes nodes.old nodes.new (first ∷ second ∷ []) (first ∷ second ∷ []) }
+{
+    let mut left = nodes.header(first);
+    let mut right = nodes.header(second);
+    left.even_out(&mut right);
+    nodes.set_header(first, left);
+    nodes.set_header(second, right);
+}

@@ -1,0 +1,168 @@
+//! A node: a short list of entries, in place.
+
+ghost use Rattle.std.specs.Prelude.{◌≤◌};
+
+use crate::entry::Entry;
+
+#[cfg(test)]
+mod tests;
+
+/// Up to `N` entries. Contracts see them as the list `entries_of`.
+#[derive(Clone, Copy, Debug)]
+pub struct Node<const N: usize> {
+    len: usize,
+    entries: [Entry; N],
+    ghost within: { len ≤ N },
+}
+
+impl<const N: usize> Node<N> {
+    ghost use Rattle.std.specs.Prelude.{◌≡◌, ◌<◌, ◌+◌, ◌*◌, ◌∷◌, ◌++◌, [], length, take, drop, slice_set, Some, None, IfSome, MatchOption};
+    ghost use Rattle.tree.specs.Item.{IsGreatest, version_of};
+    ghost use Rattle.tree.specs.Node.{entries_of};
+
+    /// Returns a node of one entry.
+    pub fn of(entry: Entry) -> Self
+        requires room { 1 ≤ N }
+        ensures entries { entries_of result ≡ entry ∷ [] }
+    {
+        Node {
+            len: 1,
+            entries: [entry; N],
+        }
+    }
+
+    /// Returns the entries.
+    pub fn entries(&self) -> &[Entry]
+        ensures entries { result.now ≡ entries_of self.now }
+        ensures most { length (entries_of self.now) ≤ N }
+    {
+        &self.entries[..self.len]
+    }
+
+    /// Returns the number of entries.
+    pub fn len(&self) -> usize
+        ensures len { result ≡ length (entries_of self.now) }
+        ensures most { length (entries_of self.now) ≤ N }
+    {
+        self.entries().len()
+    }
+
+    /// Replaces the entry at an index.
+    pub fn set(&mut self, index: usize, entry: Entry)
+        requires within { index < length (entries_of self.old) }
+        ensures entries { (entries_of self.new) ≡ slice_set (entries_of self.old) index entry }
+    {
+        self.entries[index] = entry;
+    }
+
+    /// Inserts an entry at an index.
+    pub fn insert(&mut self, index: usize, entry: Entry)
+        requires within { index ≤ length (entries_of self.old) }
+        requires room { length (entries_of self.old) < N }
+        ensures entries { (entries_of self.new) ≡ take index (entries_of self.old) ++ entry ∷ drop index (entries_of self.old) }
+    {
+        self.entries.copy_within(index..self.len, index + 1);
+        self.entries[index] = entry;
+        self.len += 1;
+    }
+
+    /// Removes the entries from one index up to another.
+    pub fn remove(&mut self, from: usize, to: usize)
+        requires ordered { from ≤ to }
+        requires within { to ≤ length (entries_of self.old) }
+        ensures entries { (entries_of self.new) ≡ take from (entries_of self.old) ++ drop to (entries_of self.old) }
+    {
+        self.entries.copy_within(to..self.len, from);
+        self.len -= to - from;
+    }
+
+    /// Puts the entries of another node behind these.
+    pub fn append(&mut self, other: &Node<N>)
+        requires room { length (entries_of self.old) + length (entries_of other.now) ≤ N }
+        ensures entries { (entries_of self.new) ≡ (entries_of self.old) ++ entries_of other.now }
+    {
+        let len = self.len + other.len();
+        let entries = &mut self.entries[..];
+        entries[self.len..len].copy_from_slice(other.entries());
+        self.len = len;
+    }
+
+    /// Puts the entries of another node before these.
+    pub fn prepend(&mut self, other: &Node<N>)
+        requires room { length (entries_of self.old) + length (entries_of other.now) ≤ N }
+        ensures entries { (entries_of self.new) ≡ entries_of other.now ++ (entries_of self.old) }
+    {
+        let more = other.len();
+        self.entries.copy_within(0..self.len, more);
+        let entries = &mut self.entries[..];
+        entries[0..more].copy_from_slice(other.entries());
+        self.len += more;
+    }
+
+    /// Takes the entries from an index on out, and returns them.
+    pub fn split_off(&mut self, at: usize) -> Node<N>
+        requires within { at ≤ length (entries_of self.old) }
+        ensures left { (entries_of self.new) ≡ take at (entries_of self.old) }
+        ensures right { entries_of result ≡ drop at (entries_of self.old) }
+    {
+        let mut right = *self;
+        right.remove(0, at);
+        self.len = at;
+        right
+    }
+
+    /// Inserts an entry at an index. A full node is split: the entries of its second half are returned.
+    pub fn insert_or_split(&mut self, index: usize, entry: Entry) -> Option<Node<N>>
+        requires within { index ≤ length (entries_of self.old) }
+        requires sized { 4 ≤ N }
+        ensures entries { MatchOption result ((entries_of self.new) ≡ take index (entries_of self.old) ++ entry ∷ drop index (entries_of self.old))
+            (λ right. entries_of self.new ++ entries_of right ≡ take index (entries_of self.old) ++ entry ∷ drop index (entries_of self.old)) }
+        ensures left { IfSome result (λ _. N ≤ 2 * length (entries_of self.new)) }
+        ensures right { IfSome result (λ right. N ≤ 2 * length (entries_of right)) }
+    {
+        if self.len < N {
+            self.insert(index, entry);
+            return None;
+        }
+        let half = (N + 1) / 2;
+        if index < half {
+            let right = self.split_off(half - 1);
+            self.insert(index, entry);
+            Some(right)
+        } else {
+            let mut right = self.split_off(half);
+            right.insert(index - half, entry);
+            Some(right)
+        }
+    }
+
+    /// Moves entries between two neighbours so that they have as many, but for one. The first of these is the left one.
+    pub fn even_out(&mut self, right: &mut Node<N>)
+        requires many { N < length (entries_of self.old) + length (entries_of right.old) }
+        ensures entries { (entries_of self.new) ++ (entries_of right.new) ≡ (entries_of self.old) ++ (entries_of right.old) }
+        ensures left { N ≤ 2 * length (entries_of self.new) }
+        ensures right { N ≤ 2 * length (entries_of right.new) }
+    {
+        let half = (self.len + right.len) / 2;
+        if self.len > half {
+            let moved = self.split_off(half);
+            right.prepend(&moved);
+        } else {
+            let kept = right.split_off(half - self.len);
+            self.append(right);
+            *right = kept;
+        }
+    }
+
+    /// Returns the greatest version of the entries.
+    pub fn greatest(&self) -> i64
+        requires some { 0 < length (entries_of self.now) }
+        ensures greatest { IsGreatest version_of result (entries_of self.now) }
+    {
+        let mut greatest = self.entries[0].version;
+        for entry in &self.entries()[1..] {
+            greatest = greatest.max(entry.version);
+        }
+        greatest
+    }
+}

@@ -1,0 +1,128 @@
+//! The replacement of a leaf.
+
+ghost use Rattle.std.specs.Prelude.{◌≡◌, ◌≢◌, ◌≤◌, ◌<◌, ◌+◌, ◌*◌, ◌++◌, ◌∷◌, ◌⊎◌, ℕ, [], length, take, drop, map, nat_eq, MatchOption, IfSome, IsSome, IsSomeAnd, None, Some};
+ghost use Rattle.std.specs.List.{Contains, IsDistinct};
+ghost use Rattle.std.specs.FinMap as map_of;
+ghost use Rattle.arena.specs.Arena.{IsLive, record_at, spare_of};
+ghost use Rattle.tree.specs.Item.{item_of};
+ghost use Rattle.tree.specs.Node.{entries_of};
+ghost use Rattle.tree.specs.Subtree.{entries_at, items_in, slots_in, IsSubtree};
+ghost use Rattle.tree.specs.Path.{IsCut, before_leaf, behind_leaf};
+ghost use Rattle.tree.specs.Tree.{least_of};
+ghost use Rattle.tree.specs.Replace.{child_at, entries_with, items_with, slot_taken, slots_with, Changes, IsKeyless, IsLinked};
+
+use crate::mend::{mend, summary};
+use crate::node::Node;
+use crate::probe::Probe;
+use crate::search::index_of;
+use arena::{Arena, Slot};
+
+/// Puts nodes in place of the leaf that [`leaf_of`](crate::search::leaf_of) finds, and mends the nodes above it. Returns the slot
+/// of the right neighbour where the subtree is split in two. Takes at most one slot at each height.
+pub fn replace_leaf<P: Probe, const N: usize>(
+    nodes: &mut Arena<Node<N>>,
+    slot: Slot,
+    height: usize,
+    probe: &P,
+    left: Node<N>,
+    right: Option<Node<N>>,
+) -> Option<Slot>
+    requires fan_out { 4 ≤ N }
+    requires subtree { IsSubtree nodes.old (least_of N) height slot }
+    requires branches { 1 ≤ height → 2 ≤ length (entries_at nodes.old slot) }
+    requires distinct { IsDistinct nat_eq (slots_in nodes.old height slot) }
+    requires keyless { IsKeyless nodes.old }
+    requires cut { IsCut (λ x. P.lets_pass probe.now x.key) (items_in nodes.old height slot) }
+    requires room { height < spare_of nodes.old 0 }
+    requires filled { IfSome right (λ r. (least_of N ≤ length (entries_of left)) × (least_of N ≤ length (entries_of r))) }
+
+    // What the subtree holds afterwards, with its right neighbour.
+    ensures items { items_with nodes.new height slot result ≡ before_leaf nodes.old height slot (P.lets_pass probe.now)
+        ++ (map item_of (entries_with left.entry right.entry)
+        ++ behind_leaf nodes.old height slot (P.lets_pass probe.now)) }
+    ensures subtree { IsSubtree nodes.new (least_of N) height slot }
+    ensures neighbour { IfSome result (λ added. IsSubtree nodes.new (least_of N) height added) }
+    ensures filled { IfSome result (λ added. (least_of N ≤ length (entries_at nodes.new slot))
+        × (least_of N ≤ length (entries_at nodes.new added))) }
+    ensures leaf { height ≡ 0 → entries_at nodes.new slot ≡ entries_of left.entry }
+    ensures few_less { 1 ≤ height → result ≡ None → length (entries_at nodes.old slot) ≤ length (entries_at nodes.new slot) + 1 }
+
+    // Which slots it uses, and what stays.
+    ensures changes { Changes nodes.old nodes.new (slots_in nodes.old height slot) (slots_with nodes.new height slot result) }
+    ensures taken { spare_of nodes.old 0 ≤ spare_of nodes.new 0 + (height + 1) }
+{
+    if height == 0 {
+        return store(nodes, slot, left, right);
+    }
+    let mut node = nodes.header(slot);
+    let index = index_of(node.entries(), probe);
+    let child = node.entries()[index].child;
+    match replace_leaf(nodes, child, height - 1, probe, left, right) {
+        Some(added) => {
+            let split = link(nodes, &mut node, index, added);
+            store(nodes, slot, node, split)
+        }
+        None => {
+            mend(nodes, &mut node, index);
+            store(nodes, slot, node, None)
+        }
+    }
+}
+
+// Makes the entry for a changed child right, and puts one for the child's new right neighbour behind it. A full node is split.
+fn link<const N: usize>(
+    nodes: &Arena<Node<N>>,
+    node: &mut Node<N>,
+    index: usize,
+    added: Slot,
+) -> Option<Node<N>>
+    requires fan_out { 4 ≤ N }
+    requires within { index < length (entries_of node.old) }
+    requires child { IsLive nodes.now (child_at (entries_of node.old) index) }
+    requires some { 0 < length (entries_at nodes.now (child_at (entries_of node.old) index)) }
+    requires added { IsLive nodes.now added }
+    requires some_added { 0 < length (entries_at nodes.now added) }
+    ensures linked { IsLinked nodes.now (child_at (entries_of node.old) index) added (take index (entries_of node.old))
+        (drop (index + 1) (entries_of node.old)) (entries_with node.new result) }
+    ensures left { IfSome result (λ _. N ≤ 2 * length (entries_of node.new)) }
+    ensures right { IfSome result (λ right. N ≤ 2 * length (entries_of right)) }
+{
+    let child = node.entries()[index].child;
+    node.set(index, summary(nodes, child));
+    node.insert_or_split(index + 1, summary(nodes, added))
+}
+
+// Puts a node at a slot, and its right neighbour, if any, in a spare one, which is returned.
+fn store<const N: usize>(
+    nodes: &mut Arena<Node<N>>,
+    slot: Slot,
+    node: Node<N>,
+    right: Option<Node<N>>,
+) -> Option<Slot>
+    requires live { IsLive nodes.old slot }
+    requires keyless { IsKeyless nodes.old }
+    requires room { IsSome right → 0 < spare_of nodes.old 0 }
+    ensures node { entries_at nodes.new slot ≡ entries_of node.entry }
+    ensures live { IsLive nodes.new slot }
+    ensures right { MatchOption right.entry (result ≡ None) (λ r. IsSomeAnd result (λ added. entries_at nodes.new added ≡ entries_of r)) }
+    ensures added { IfSome result (λ added. IsLive nodes.new added) }
+    ensures changes { Changes nodes.old nodes.new (slot ∷ []) (slot ∷ slot_taken result) }
+    ensures taken { spare_of nodes.old 0 ≤ spare_of nodes.new 0 + 1 }
+{
+    nodes.set_header(slot, node);
+    match right {
+        Some(right) => Some(place(nodes, right)),
+        None => None,
+    }
+}
+
+/// Stores a node in a spare slot.
+pub fn place<const N: usize>(nodes: &mut Arena<Node<N>>, node: Node<N>) -> Slot
+    requires keyless { IsKeyless nodes.old }
+    requires room { 0 < spare_of nodes.old 0 }
+    ensures entries { entries_at nodes.new result ≡ entries_of node.entry }
+    ensures live { IsLive nodes.new result }
+    ensures changes { Changes nodes.old nodes.new [] (result ∷ []) }
+{
+    nodes.place(node, &[]).unwrap()
+}

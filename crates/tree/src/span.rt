@@ -1,0 +1,59 @@
+//! The entries from one cut to another.
+
+ghost use Rattle.std.specs.Prelude.{◌≡◌, ◌≤◌, ◌<ℤ◌, ◌↔◌, [], length, filter, option_map, IsTrue, MatchOption};
+ghost use Rattle.std.specs.List.{Any};
+ghost use Rattle.tree.specs.Item.{IsGreatest, version_of, greater_of};
+ghost use Rattle.tree.specs.Path.{IsCut, from_cut, to_cut};
+
+use crate::entry::Entry;
+use crate::probe::Probe;
+use crate::search::passing;
+
+/// Returns how many of the entries stand before the first cut: none where it is missing.
+pub fn begin_of<P: Probe>(entries: &[Entry], from: Option<&P>) -> usize
+    requires cut { IsCut (λ e. from_cut (option_map (λ p. P.lets_pass p.now) from) e.key) entries.now }
+    ensures within { result ≤ length entries.now }
+    ensures count { result ≡ length (filter (λ e. from_cut (option_map (λ p. P.lets_pass p.now) from.entry) e.key) entries.now) }
+{
+    match from {
+        Some(probe) => passing(entries, probe),
+        None => 0,
+    }
+}
+
+/// Returns how many of the entries stand before the last cut: all where it is missing.
+pub fn end_of<P: Probe>(entries: &[Entry], to: Option<&P>) -> usize
+    requires cut { IsCut (λ e. to_cut (option_map (λ p. P.lets_pass p.now) to) e.key) entries.now }
+    ensures within { result ≤ length entries.now }
+    ensures count { result ≡ length (filter (λ e. to_cut (option_map (λ p. P.lets_pass p.now) to.entry) e.key) entries.now) }
+{
+    match to {
+        Some(probe) => passing(entries, probe),
+        None => entries.len(),
+    }
+}
+
+/// Returns whether the version of some entry is above this one.
+pub fn any_above(entries: &[Entry], version: i64) -> bool
+    ensures above { IsTrue result ↔ Any (λ e. version <ℤ e.version) entries.now }
+{
+    entries.iter().any(|entry| entry.version > version)
+}
+
+/// Returns the greatest version of the entries, or none if there is no entry.
+pub fn greatest_of(entries: &[Entry]) -> Option<i64>
+    ensures greatest { MatchOption result (entries.now ≡ []) (λ version. IsGreatest version_of version entries.now) }
+{
+    entries.iter().map(|entry| entry.version).max()
+}
+
+/// Returns the greater of two versions, of which either may be missing.
+pub fn greater(one: Option<i64>, other: Option<i64>) -> Option<i64>
+    ensures greater { result ≡ greater_of one other }
+{
+    match (one, other) {
+        (Some(a), Some(b)) => Some(a.max(b)),
+        (Some(_), None) => one,
+        (None, _) => other,
+    }
+}

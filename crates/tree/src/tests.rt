@@ -1,0 +1,67 @@
+//! A tree of many items. What calls do to the items is their contracts; these tests show that they come to an end and do it.
+
+use crate::{Probe, Tree};
+use arena::{Arena, Slot};
+use std::alloc::Global;
+use std::process::Abort;
+use std::test::Fail;
+
+// Every item passes.
+struct All;
+
+impl Probe for All {
+    ghost use Rattle.std.specs.Prelude.{true};
+
+    ghost lets_pass = { λ _ _. true };
+
+    fn passes(&self, _key: Slot) -> bool {
+        true
+    }
+}
+
+// No item passes.
+struct Nothing;
+
+impl Probe for Nothing {
+    ghost use Rattle.std.specs.Prelude.{false};
+
+    ghost lets_pass = { λ _ _. false };
+
+    fn passes(&self, _key: Slot) -> bool {
+        false
+    }
+}
+
+// Adds an item at the end.
+fn append(tree: &mut Tree<4>, key: Slot, version: i64) -> Result<(), Fail> {
+    let Some(room) = tree.len().checked_add(1) else {
+        return Err("the tree is full")?;
+    };
+    tree.reserve(room)?;
+    tree.insert(&All, key, version);
+    Ok(())
+}
+
+// A tree of items whose versions are 0, 1, and so on.
+fn tree_of(alloc: Global, keys: &mut Arena<()>, count: i64) -> Result<Tree<4>, Fail> {
+    let first = keys.place((), &[])?;
+    let mut tree = Tree::new(alloc, first, 0)?;
+    for version in 1..count {
+        let key = keys.place((), &[])?;
+        append(&mut tree, key, version)?;
+    }
+    Ok(tree)
+}
+
+#[test]
+fn hundred_items(rt: HostRuntime) -> Result<(), Fail> {
+    let alloc = rt.alloc();
+    let mut keys = Arena::new(alloc);
+    let tree = tree_of(alloc, &mut keys, 100)?;
+    assert_eq!(rt; tree.len(), 100);
+    assert_eq!(rt; tree.last(&All).map(|entry| entry.version), Some(99));
+    assert!(rt; tree.last(&Nothing).is_none());
+    assert!(rt; tree.key_behind(&All).is_none());
+    assert!(rt; tree.key_behind(&Nothing).is_some());
+    Ok(())
+}

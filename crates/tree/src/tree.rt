@@ -1,0 +1,268 @@
+//! The tree.
+
+ghost use Rattle.std.specs.Prelude.{◌≡◌, ◌≢◌, ◌<◌, ◌≤◌, ◌<ℤ◌, ◌≤ℤ◌, ◌↔◌, ◌++◌, ◌∷◌, ℕ, List, [], true, not, filter, length, map, OnErr, OnOk, IfOk, IsOkUnless, IsTrue, MatchOption};
+ghost use Rattle.std.specs.List.{Any};
+ghost use Rattle.tree.specs.Item.{Item, item_of, IsGreatest};
+ghost use Rattle.tree.specs.Node.{entries_of};
+ghost use Rattle.tree.specs.Path.{IsCut, passing as passing_of, behind, first_key, between};
+ghost use Rattle.tree.specs.Tree.{IsLast, thin as thin_of, gone};
+
+use crate::entry::Entry;
+use crate::mend::least;
+use crate::node::Node;
+use crate::probe::Probe;
+use crate::root::{Root, leaf, put};
+use crate::search::{exceeds, greatest, key_behind, leaf_of, passing};
+use crate::thin::{Thinned, thin};
+use arena::{Arena, ArenaError, Slot};
+use std::alloc::Global;
+use std::marker::Model;
+
+// How many nodes a change may use beyond those that the items need. No tree is higher than 63 nodes above a leaf.
+const WAY: usize = 66;
+
+/// Items in the order of their keys, at least one. Contracts see the items, and for how many nodes are reserved.
+#[derive(Drop)]
+pub struct Tree<const N: usize> {
+    nodes: Arena<Node<N>>,
+    root: Root,
+    len: usize,
+    // for how many items nodes are reserved
+    room: usize,
+}
+
+impl<const N: usize> Model for Tree<N> {
+    ghost use Rattle.tree.specs.Tree.{Items, IsTree};
+    ghost use Rattle.tree.specs.Subtree.{items_in};
+
+    ghost Value = { Items };
+
+    ghost view = { λ t. record { items = items_in t.nodes t.root.height t.root.slot; room = t.room } };
+
+    ghost invariant = { λ t. IsTree t.nodes t.root.slot t.root.height t.len t.room };
+}
+
+// Returns the entry of an item.
+fn item(key: Slot, version: i64) -> Entry
+    ensures item { item_of result ≡ record { key = key; version = version } }
+{
+    Entry {
+        key,
+        child: key,
+        version,
+    }
+}
+
+impl<const N: usize> Tree<N> {
+    /// Makes a tree of one item, with room for it. Its nodes have at most `N` entries each.
+    pub fn new(alloc: Global, key: Slot, version: i64) -> Result<Self, ArenaError>
+        requires fan_out { 4 ≤ N }
+        requires few { N ≤ 65536 }
+        ensures items { IfOk result (λ tree. tree.items ≡ (record { key = key; version = version }) ∷ []) }
+        ensures room { IfOk result (λ tree. tree.room ≡ 1) }
+        ensures memory { IsOkUnless result ArenaError.Memory }
+    {
+        let mut nodes = Arena::new(alloc);
+        nodes.reserve_slots(0, WAY + 1)?;
+        let slot = nodes.place(Node::of(item(key, version)), &[])?;
+        Ok(Tree {
+            nodes,
+            root: Root { slot, height: 0 },
+            len: 1,
+            room: 1,
+        })
+    }
+
+    /// Takes the memory for so many items, those that the tree has among them. None is given back.
+    pub fn reserve(&mut self, room: usize) -> Result<(), ArenaError>
+        ensures room { OnOk result (room ≤ self.new.room) }
+        ensures room_stays { self.old.room ≤ self.new.room }
+        ensures items { self.new.items ≡ self.old.items }
+        ensures unchanged { OnErr result (self.new ≡ self.old) }
+        ensures enough { room ≤ self.old.room → self.new ≡ self.old }
+        ensures memory { IsOkUnless result ArenaError.Memory }
+    {
+        if room <= self.room {
+            return Ok(());
+        }
+        let Some(wanted) = (room / (least(N) - 1)).checked_add(WAY + 1) else {
+            return Err(ArenaError::Memory);
+        };
+        let missing = wanted.saturating_sub(self.nodes.live());
+        self.nodes.reserve_slots(0, missing)?;
+        self.room = room;
+        Ok(())
+    }
+
+    /// Returns the number of items.
+    pub fn len(&self) -> usize
+        ensures len { result ≡ length self.now.items }
+        ensures some { 1 ≤ result }
+        ensures within { result ≤ self.now.room }
+    {
+        self.len
+    }
+
+    /// Returns the last item that passes.
+    pub fn last<P: Probe>(&self, probe: &P) -> Option<Entry>
+        requires cut { IsCut (λ x. P.lets_pass probe.now x.key) self.now.items }
+        ensures last { MatchOption result (passing_of (P.lets_pass probe.now) self.now.items ≡ [])
+            (λ e. IsLast (item_of e) (passing_of (P.lets_pass probe.now) self.now.items)) }
+    {
+        let leaf = leaf_of(&self.nodes, self.root.slot, self.root.height, probe);
+        let entries = self.nodes.header_ref(leaf).entries();
+        let count = passing(entries, probe);
+        entries[..count].last().copied()
+    }
+
+    /// Returns the key of the first item that doesn't pass.
+    pub fn key_behind<P: Probe>(&self, probe: &P) -> Option<Slot>
+        requires cut { IsCut (λ x. P.lets_pass probe.now x.key) self.now.items }
+        ensures key { result ≡ first_key None (behind (P.lets_pass probe.now) self.now.items) }
+    {
+        key_behind(&self.nodes, self.root.slot, self.root.height, probe, None)
+    }
+
+    /// Returns whether a version of the items from one cut to another is above this one.
+    pub fn exceeds<'a, P: Probe, Q: Probe>(&self, from: &'a P, to: &'a Q, version: i64) -> bool
+        requires from { IsCut (λ x. P.lets_pass from.now x.key) self.now.items }
+        requires to { IsCut (λ x. Q.lets_pass to.now x.key) self.now.items }
+        requires nested { (key : ℕ) → P.lets_pass from.now key ≡ true → Q.lets_pass to.now key ≡ true }
+        ensures above { IsTrue result ↔ Any (λ x. version <ℤ x.version)
+            (between (Some (P.lets_pass from.now)) (Some (Q.lets_pass to.now)) self.now.items) }
+    {
+        exceeds(
+            &self.nodes,
+            self.root.slot,
+            self.root.height,
+            Some(from),
+            Some(to),
+            version,
+        )
+    }
+
+    /// Returns the greatest version of the items from one cut to another, or none if there is no item.
+    pub fn greatest<'a, P: Probe, Q: Probe>(&self, from: &'a P, to: &'a Q) -> Option<i64>
+        requires from { IsCut (λ x. P.lets_pass from.now x.key) self.now.items }
+        requires to { IsCut (λ x. Q.lets_pass to.now x.key) self.now.items }
+        requires nested { (key : ℕ) → P.lets_pass from.now key ≡ true → Q.lets_pass to.now key ≡ true }
+        ensures greatest { let items = between (Some (P.lets_pass from.now)) (Some (Q.lets_pass to.now)) self.now.items in
+            MatchOption result (items ≡ []) (λ version. IsGreatest (λ x. x.version) version items) }
+    {
+        greatest(
+            &self.nodes,
+            self.root.slot,
+            self.root.height,
+            Some(from),
+            Some(to),
+        )
+    }
+
+    /// Inserts an item behind those that pass.
+    pub fn insert<P: Probe>(&mut self, probe: &P, key: Slot, version: i64)
+        requires cut { IsCut (λ x. P.lets_pass probe.now x.key) self.old.items }
+        requires room { length self.old.items < self.old.room }
+        ensures items { self.new.items ≡ passing_of (P.lets_pass probe.now) self.old.items
+            ++ ((record { key = key; version = version }) ∷ behind (P.lets_pass probe.now) self.old.items) }
+        ensures room { self.new.room ≡ self.old.room }
+    {
+        let mut leaf = leaf(&self.nodes, self.root, probe);
+        let index = passing(leaf.entries(), probe);
+        let right = leaf.insert_or_split(index, item(key, version));
+        self.root = put(&mut self.nodes, self.root, probe, leaf, right);
+        self.len += 1;
+    }
+
+    /// Gives the last item that passes this version.
+    pub fn set_last<P: Probe>(&mut self, probe: &P, version: i64)
+        requires cut { IsCut (λ x. P.lets_pass probe.now x.key) self.old.items }
+        requires some { passing_of (P.lets_pass probe.now) self.old.items ≢ [] }
+        ensures items { (before : List Item) → (last : Item)
+            → passing_of (P.lets_pass probe.now) self.old.items ≡ before ++ last ∷ []
+            → self.new.items ≡ before ++ ((record { key = last.key; version = version }) ∷ behind (P.lets_pass probe.now) self.old.items) }
+        ensures room { self.new.room ≡ self.old.room }
+    {
+        let mut leaf = leaf(&self.nodes, self.root, probe);
+        set_passing(&mut leaf, probe, version);
+        self.root = put(&mut self.nodes, self.root, probe, leaf, None);
+    }
+
+    /// Takes some of the items from one cut to another out, the last of these among them, and returns them. Returns none where
+    /// there is none.
+    pub fn take_run<P: Probe, Q: Probe>(&mut self, from: &P, to: &Q) -> Option<Node<N>>
+        requires from { IsCut (λ x. P.lets_pass from.now x.key) self.old.items }
+        requires to { IsCut (λ x. Q.lets_pass to.now x.key) self.old.items }
+        requires nested { (key : ℕ) → P.lets_pass from.now key ≡ true → Q.lets_pass to.now key ≡ true }
+        requires some { passing_of (P.lets_pass from.now) self.old.items ≢ [] }
+        ensures run { MatchOption result
+            ((between (Some (P.lets_pass from.now)) (Some (Q.lets_pass to.now)) self.old.items ≡ []) × (self.new ≡ self.old))
+            (λ run. (kept : List Item) × (between (Some (P.lets_pass from.now)) (Some (Q.lets_pass to.now)) self.old.items
+            ≡ kept ++ map item_of (entries_of run)) × (entries_of run ≢ [])
+            × (self.new.items ≡ passing_of (P.lets_pass from.now) self.old.items
+            ++ (kept ++ behind (Q.lets_pass to.now) self.old.items))) }
+        ensures room { self.new.room ≡ self.old.room }
+    {
+        let mut leaf = leaf(&self.nodes, self.root, to);
+        let end = passing(leaf.entries(), to);
+        let begin = passing(leaf.entries(), from);
+        if begin >= end {
+            return None;
+        }
+        let mut run = leaf;
+        run.remove(end, leaf.len());
+        run.remove(0, begin);
+        leaf.remove(begin, end);
+        self.root = put(&mut self.nodes, self.root, to, leaf, None);
+        self.len -= end - begin;
+        Some(run)
+    }
+
+    /// Looks at a run of items that begins with the last one that passes, at most `count` of them, and takes out each whose
+    /// version and predecessor's version are below `edge`. `before` is the version of the item before the run.
+    pub fn thin_run<P: Probe>(
+        &mut self,
+        probe: &P,
+        count: usize,
+        edge: i64,
+        before: i64,
+    ) -> Thinned<N>
+        requires cut { IsCut (λ x. P.lets_pass probe.now x.key) self.old.items }
+        requires some { passing_of (P.lets_pass probe.now) self.old.items ≢ [] }
+        requires count { 1 ≤ count }
+        // The first item of all stays.
+        requires first { length (passing_of (P.lets_pass probe.now) self.old.items) ≡ 1 → edge ≤ℤ before }
+        ensures looked_at { (1 ≤ result.looked_at) × (result.looked_at ≤ count) }
+        ensures thinned { (front : List Item) → (first : Item)
+            → passing_of (P.lets_pass probe.now) self.old.items ≡ front ++ first ∷ []
+            → (looked rest : List Item) × (first ∷ behind (P.lets_pass probe.now) self.old.items ≡ looked ++ rest)
+            × (length looked ≡ result.looked_at)
+            × (self.new.items ≡ front ++ (thin_of edge before looked ++ rest))
+            × MatchOption result.removed (gone edge before looked ≡ []) (λ run. map item_of (entries_of run) ≡ gone edge before looked)
+            × IsLast result.last (map (λ x. x.version) looked) }
+        ensures room { self.new.room ≡ self.old.room }
+    {
+        let mut leaf = leaf(&self.nodes, self.root, probe);
+        let begin = passing(leaf.entries(), probe) - 1;
+        let end = begin + count.min(leaf.len() - begin);
+        let thinned = thin(&mut leaf, begin, end, edge, before);
+        if let Some(run) = &thinned.removed {
+            self.root = put(&mut self.nodes, self.root, probe, leaf, None);
+            self.len -= run.len();
+        }
+        thinned
+    }
+}
+
+// Gives the last entry that passes this version.
+fn set_passing<P: Probe, const N: usize>(leaf: &mut Node<N>, probe: &P, version: i64)
+    requires cut { IsCut (λ e. P.lets_pass probe.now e.key) (entries_of leaf.old) }
+    requires some { filter (λ e. P.lets_pass probe.now e.key) (entries_of leaf.old) ≢ [] }
+    ensures items { (before : List Entry) → (last : Entry)
+        → filter (λ e. P.lets_pass probe.now e.key) (entries_of leaf.old) ≡ before ++ last ∷ []
+        → map item_of (entries_of leaf.new) ≡ map item_of before ++ ((record { key = last.key; version = version })
+        ∷ map item_of (filter (λ e. not (P.lets_pass probe.now e.key)) (entries_of leaf.old))) }
+{
+    let index = passing(leaf.entries(), probe) - 1;
+    let key = leaf.entries()[index].key;
+    leaf.set(index, item(key, version));
+}
