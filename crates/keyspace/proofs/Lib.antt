@@ -8,3 +8,4 @@ pub mod Judging
 pub mod Chaining
 pub mod Waiting
 pub mod Answered
+pub mod Digests

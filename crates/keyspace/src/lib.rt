@@ -3,12 +3,15 @@
 //! `specs/` holds the reference definitions, in reading order: all that has to be believed about verdicts and about the
 //! chain of versions. The contracts of the crates above cite them. A crate above may use the contracts of the types here
 //! and the laws of [`laws`].
+//!
+//! [`digest()`] and [`common`] tell keys apart quickly: by the first eight bytes, and by how far two keys begin alike.
 #![tactic(auto)]
 
 mod answer;
 mod batch;
 mod key;
 pub mod laws;
+mod prefix;
 mod range;
 mod range_ref;
 mod reply;
@@ -18,6 +21,7 @@ mod txn;
 pub use answer::Answer;
 pub use batch::{Batch, MAX_TXNS};
 pub use key::{Key, MAX_KEY_LENGTH};
+pub use prefix::{common, digest};
 pub use range::Range;
 pub use range_ref::RangeRef;
 pub use reply::{Entry, Places, Reply, Verdict};

@@ -65,3 +65,24 @@ fn copies_a_reply(rt: HostRuntime) -> Result<(), Fail> {
     assert_eq!(rt; second.places.as_slice(), [0, 2].as_slice());
     Ok(())
 }
+
+#[test]
+fn digests_of_short_keys(rt: HostRuntime) -> Result<(), Fail> {
+    assert_eq!(rt; digest(b""), 0);
+    assert_eq!(rt; digest(b"a"), 0x6100_0000_0000_0000);
+    assert_eq!(rt; digest(b"abcdefg"), 0x6162_6364_6566_6700);
+    assert_eq!(rt; digest(b"abcdefgh"), 0x6162_6364_6566_6768);
+    assert_eq!(rt; digest(b"abcdefghi"), 0x6162_6364_6566_6768);
+    Ok(())
+}
+
+#[test]
+fn common_of_keys(rt: HostRuntime) -> Result<(), Fail> {
+    assert_eq!(rt; common(b"", b"a"), 0);
+    assert_eq!(rt; common(b"abc", b"xbc"), 0);
+    assert_eq!(rt; common(b"abc", b"abd"), 2);
+    assert_eq!(rt; common(b"abc", b"abc"), 3);
+    assert_eq!(rt; common(b"abc", b"abcd"), 3);
+    assert_eq!(rt; common(b"abcd", b"abc"), 3);
+    Ok(())
+}

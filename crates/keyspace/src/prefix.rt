@@ -1,0 +1,28 @@
+ghost use Rattle.std.specs.Prelude.{◌≡◌, ◌≢◌, ◌<◌, ◌≤◌, length, take, slice_index};
+ghost use Rattle.keyspace.specs.Digest.{digest_of};
+
+/// Returns the first eight bytes as one big-endian number. Missing bytes count as zeros.
+///
+/// The key with the lesser digest comes first. Keys with the same digest have the same first eight bytes, where missing
+/// ones count as zeros. [`crate::laws::digests`] states both.
+pub fn digest(bytes: &[u8]) -> u64
+    ensures digest { result ≡ digest_of bytes.now }
+{
+    let mut first = [0; 8];
+    let length = bytes.len().min(first.len());
+    first[..length].copy_from_slice(&bytes[..length]);
+    u64::from_be_bytes(first)
+}
+
+/// Returns how many bytes both begin with.
+///
+/// Behind these the next bytes differ, or one of the keys ends. So they tell which key comes first, as
+/// [`crate::laws::beginnings`] states.
+pub fn common(a: &[u8], b: &[u8]) -> usize
+    ensures within { (result ≤ length a.now) × (result ≤ length b.now) }
+    ensures same { take result a.now ≡ take result b.now }
+    ensures differ { result < length a.now → result < length b.now
+        → slice_index a.now result ≢ slice_index b.now result }
+{
+    a.iter().zip(b).take_while(|(x, y)| x == y).count()
+}
