@@ -7,7 +7,7 @@ use Rattle.tree.specs.declared.entry.Entry.{Entry}
 use Rattle.tree.specs.declared.node.Node.{Node}
 use Rattle.tree.specs.Item.{Item, Tells, item_of}
 use Rattle.tree.specs.Node.{entries_of}
-use Rattle.tree.specs.Path.{index_in, behind, first_key}
+use Rattle.tree.specs.Path.{index_in, child_in, behind, behind_leaf, first_key}
 use Rattle.tree.specs.Subtree.{entries_at, items_in}
 use Rattle.tree.proofs.Cuts.{none_pass, none_fail}
 use Rattle.tree.proofs.Found.{IsFound, entries_read}
@@ -21,13 +21,13 @@ filter-items p (e ∷ es) =
       | inr f ↦ rw f (filter-items p es)
     ]
 
-first_key-append : (key : Option ℕ) (xs ys : List Item)
+pub first_key-append : (key : Option ℕ) (xs ys : List Item)
     → first_key key (xs ++ ys) ≡ first_key (first_key key ys) xs
 first_key-append key [] ys = refl
 first_key-append key (x ∷ xs) ys = refl
 
 -- the first key of children is that of their first entry
-first_key-children : (below : Entry → List Item) (key : Option ℕ) (es : List Entry)
+pub first_key-children : (below : Entry → List Item) (key : Option ℕ) (es : List Entry)
     → All (λ e. Tells e (below e)) es → first_key key (map item_of es) ≡ first_key key (flat_map below es)
 first_key-children below key [] t = refl
 first_key-children below key (e ∷ es) t =
@@ -58,6 +58,22 @@ key_of_leaf nodes height slot passes header es rest key z h e r =
     ∙ ap (first_key key) (sym (filter-items (λ (x : Item). not (passes x.key)) es))
     ∙ ap (λ xs. first_key key (behind passes (map item_of xs))) (sym (entries_read nodes slot header es h e)))
 
+-- that of the entry behind the child is that of the first item behind the child's
+key_of_next : {N : ℕ} (nodes : Arena (Node N)) (least height slot : ℕ) (passes : ℕ → Bool) (child : ℕ)
+    → IsFound nodes least height slot passes child → (header : Node N) (es : List Entry) (index : ℕ)
+    (key next : Option ℕ) → header_at nodes slot ≡ Some header → es ≡ entries_of header
+    → index ≡ index_in passes es → next ≡ first_key key (map item_of (drop (index + 1) es))
+    → next ≡ first_key key (flat_map (λ e. items_in nodes (height - 1) e.child)
+    (drop (index_in passes (entries_at nodes slot) + 1) (entries_at nodes slot)))
+key_of_next nodes least height slot passes child f header es index key next h e i n =
+    let below = λ (e : Entry). items_in nodes (height - 1) e.child in
+    let all = entries_at nodes slot in
+    let read = entries_read nodes slot header es h e in
+    n ∙ ap (λ k. first_key key (map item_of (drop (k + 1) es))) i
+    ∙ ap (λ xs. first_key key (map item_of (drop (index_in passes xs + 1) xs))) (sym read)
+    ∙ first_key-children below key (drop (index_in passes all + 1) all)
+    (All-drop (λ e. Tells e (below e)) (index_in passes all + 1) all f.way.tell)
+
 -- above the leaves: of the child, or else that of the next entry
 pub key_of_child : {N : ℕ} (nodes : Arena (Node N)) (least height slot : ℕ) (passes : ℕ → Bool) (child : ℕ)
     → IsFound nodes least height slot passes child → (header : Node N) (es : List Entry) (index : ℕ)
@@ -71,12 +87,8 @@ key_of_child nodes least height slot passes child f header es index key next h e
     let a = flat_map below (take (index_in passes all) all) in
     let b = flat_map below (drop (index_in passes all + 1) all) in
     let c = items_in nodes (height - 1) child in
-    let read = entries_read nodes slot header es h e in
     let later : next ≡ first_key key b =
-    n ∙ ap (λ k. first_key key (map item_of (drop (k + 1) es))) i
-    ∙ ap (λ xs. first_key key (map item_of (drop (index_in passes xs + 1) xs))) (sym read)
-    ∙ first_key-children below key (drop (index_in passes all + 1) all)
-    (All-drop (λ e. Tells e (below e)) (index_in passes all + 1) all f.way.tell) in
+    key_of_next nodes least height slot passes child f header es index key next h e i n in
     let items : items_in nodes height slot ≡ a ++ (c ++ b) =
     ap (λ n. items_in nodes n slot) (sym f.lower) ∙ f.way.items
     ∙ ap (λ s. a ++ (items_in nodes (height - 1) s ++ b)) (sym f.is) in
@@ -84,3 +96,26 @@ key_of_child nodes least height slot passes child f header es index key next h e
     ∙ sym (first_key-append key (behind passes c) b)
     ∙ ap (first_key key) (sym (behind-parts passes a c b f.way.before f.way.behind))
     ∙ ap (λ xs. first_key key (behind passes xs)) (sym items)
+
+-- behind the leaf: there is none in the leaf itself
+pub key_behind_no_child : {N : ℕ} (nodes : Arena (Node N)) (height slot : ℕ) (passes : ℕ → Bool) (key : Option ℕ)
+    → height ≡ 0 → key ≡ first_key key (behind_leaf nodes height slot passes)
+key_behind_no_child nodes height slot passes key z =
+    subst (λ n. key ≡ first_key key (behind_leaf nodes n slot passes)) (sym z) refl
+
+-- behind the leaf, above it: of the child, or else that of the next entry
+pub key_behind_child : {N : ℕ} (nodes : Arena (Node N)) (least height slot : ℕ) (passes : ℕ → Bool) (child : ℕ)
+    → IsFound nodes least height slot passes child → (header : Node N) (es : List Entry) (index : ℕ)
+    (key next : Option ℕ) → header_at nodes slot ≡ Some header → es ≡ entries_of header
+    → index ≡ index_in passes es → next ≡ first_key key (map item_of (drop (index + 1) es))
+    → first_key next (behind_leaf nodes (height - 1) child passes)
+    ≡ first_key key (behind_leaf nodes height slot passes)
+key_behind_child nodes least height slot passes child f header es index key next h e i n =
+    let all = entries_at nodes slot in
+    let b = flat_map (λ (e : Entry). items_in nodes (height - 1) e.child) (drop (index_in passes all + 1) all) in
+    let c = behind_leaf nodes (height - 1) (child_in passes all) passes in
+    let later : next ≡ first_key key b =
+    key_of_next nodes least height slot passes child f header es index key next h e i n in
+    subst (λ m. first_key next (behind_leaf nodes (height - 1) child passes) ≡ first_key key (behind_leaf nodes m slot passes)) f.lower
+    (ap (λ s. first_key next (behind_leaf nodes (height - 1) s passes)) (f.is ∙ f.way.child)
+    ∙ ap (λ k. first_key k c) later ∙ sym (first_key-append key c b))

@@ -2,12 +2,13 @@
 use Rattle.std.proofs.Common.{◌≡◌, ◌≢◌, ℕ, zero, suc, ℤ, ◌+◌, ◌-◌, ◌<◌, ◌≤◌, ◌≤ℤ◌, int_lt, ◌&&◌, Bool, false, not, ◌⊎◌, inl, inr, List, Option, Some, None, [], ◌∷◌, ◌++◌, length, take, drop, filter, map, refl, sym, ◌∙◌, ap, subst, arith, length-append, length-drop, append_assoc}
 use Rattle.std.specs.Prelude.{MatchOption}
 use Rattle.std.proofs.lemmas.Int.{ints}
-use Rattle.std.proofs.lemmas.List.{map-append, length-map, length-take-le, take-append-drop}
+use Rattle.std.proofs.lemmas.List.{map-append, length-map, length-take-le, take-append-drop, drop-append-le, drop-map}
 use Rattle.tree.specs.declared.entry.Entry.{Entry}
 use Rattle.tree.specs.Item.{Item, item_of, version_of}
-use Rattle.tree.specs.Path.{passing, behind}
+use Rattle.tree.specs.Path.{passing, behind, first_key}
 use Rattle.tree.specs.Tree.{thin, gone}
 use Rattle.tree.proofs.Leaves.{IsLeaf, passing_is, behind_is}
+use Rattle.tree.proofs.Keys.{first_key-append}
 use Rattle.tree.proofs.Times.{none_or_some}
 use Rattle.tree.proofs.Thinning.{run, stays, gone_or_kept, all_stay}
 use Rattle.tree.proofs.Runs.{drop-drop_at}
@@ -101,6 +102,26 @@ module _ (p : ℕ → Bool) (items before after : List Item) (es : List Entry) (
 
   pub length-looked : length (map item_of (run es begin end)) ≡ end - begin
   length-looked = omega (arith, length-map (run es begin end) item_of, length-take-le (end - begin) (drop begin es) (omega (arith, length-drop begin es)))
+
+  -- of those that don't pass, the ones behind the run
+  behind_run : drop (end - begin - 1) (behind p items) ≡ map item_of (drop end es) ++ after
+  behind_run =
+      let n = end - begin - 1 in
+      let rest = drop (begin + 1) es in
+      let add : begin + 1 + n ≡ end = omega arith in
+      let inside : n ≤ length (map item_of rest) = omega (arith, length-map rest item_of, length-drop (begin + 1) es) in
+      ap (drop n) (behind_is p items before after es leaf ∙ ap (λ xs. map item_of xs ++ after) (sym rest_is))
+      ∙ drop-append-le n (map item_of rest) after inside
+      ∙ ap (λ xs. xs ++ after) (drop-map item_of n rest ∙ ap (map item_of) (drop-drop_at (begin + 1) n end es add))
+
+  -- the key of the first of them
+  pub key_behind_run : (otherwise key next : Option ℕ) (looked_at : ℕ) → key ≡ first_key otherwise after
+      → next ≡ first_key key (map item_of (drop end es)) → looked_at ≡ end - begin
+      → next ≡ first_key otherwise (drop (looked_at - 1) (behind p items))
+  key_behind_run otherwise key next looked_at key_is next_is count =
+      next_is ∙ ap (λ k. first_key k (map item_of (drop end es))) key_is
+      ∙ sym (first_key-append otherwise (map item_of (drop end es)) after) ∙ ap (first_key otherwise) (sym behind_run)
+      ∙ ap (λ n. first_key otherwise (drop (n - 1) (behind p items))) (sym count)
 
   -- where none goes
   pub unthinned : (front : List Item) → front ≡ before ++ map item_of (take begin es)

@@ -9,9 +9,11 @@ pub mod Trees
 pub mod Counting
 pub mod Ways
 pub mod Leaves
+pub mod PartsAt
 pub mod Inserting
 pub mod Found
 pub mod Keys
+pub mod Reaching
 pub mod Spans
 pub mod SomeElement
 pub mod Looks
@@ -29,4 +31,7 @@ pub mod Stepping
 pub mod Constant
 pub mod Thinning
 pub mod Runs
+pub mod Splicing
 pub mod LastRun
+pub mod FromLast
+pub mod Guessing

@@ -147,10 +147,10 @@ module _ {N : ℕ} (nodes : Arena (Node N)) (least height slot : ℕ) (f t : ℕ
         All-weaker (IsChild nodes least (height - 1) (IsSubtree nodes least (height - 1)))
         (λ (e : Entry). Tells e (below e)) (λ e c. c.tells) es node.1
 
-    look_items : items_in nodes height slot ≡ flat_map below es
+    pub look_items : items_in nodes height slot ≡ flat_map below es
     look_items = ap (λ n. items_in nodes n slot) (sym lower) ∙ ap (flat_map below) k.read
 
-    from_items : IsCut (λ x. f x.key) (flat_map below es)
+    pub from_items : IsCut (λ x. f x.key) (flat_map below es)
     from_items = subst (IsCut (λ (x : Item). f x.key)) look_items k.from
 
     to_items : IsCut (λ x. t x.key) (flat_map below es)

@@ -1,35 +1,14 @@
 -- The run of a leaf from one cut to another, which is taken out.
-use Rattle.std.proofs.Common.{◌≡◌, ◌≢◌, ℕ, zero, suc, ◌+◌, ◌-◌, ◌*◌, ◌<◌, ◌≤◌, ◌⊎◌, inl, inr, Bool, true, false, not, ◌&&◌, List, [], ◌∷◌, ◌++◌, Some, length, get_or, take, drop, filter, map, All, refl, sym, ◌∙◌, ap, subst, arith, length-append, length-drop, append_assoc}
-use Rattle.std.specs.FinMap as finite
+use Rattle.std.proofs.Common.{◌≡◌, ◌≢◌, ℕ, zero, suc, ◌+◌, ◌-◌, ◌<◌, ◌≤◌, ◌⊎◌, inl, inr, Bool, true, false, not, ◌&&◌, List, [], ◌∷◌, ◌++◌, Some, length, get_or, take, drop, filter, map, All, refl, sym, ◌∙◌, ap, subst, arith, length-append, length-drop, append_assoc}
 use Rattle.std.proofs.Math.Seq.{take-add, drop-length}
 use Rattle.std.proofs.lemmas.Bool.{cases_Bool}
 use Rattle.std.proofs.lemmas.List.{append-nil, map-append, length-map, length-take-le, take-append-drop, drop-take}
 use Rattle.std.proofs.lemmas.List.Elements.{All-head, All-tail, All-append, All-map, All-weaker, filter-append, filter_passes}
-use Rattle.arena.specs.Arena.{Arena, spare_of}
 use Rattle.tree.specs.declared.entry.Entry.{Entry}
-use Rattle.tree.specs.declared.node.Node.{Node}
 use Rattle.tree.specs.Item.{Item, item_of}
 use Rattle.tree.specs.Path.{IsCut, passing, behind, between}
-use Rattle.tree.specs.Subtree.{items_in}
-use Rattle.tree.specs.Tree.{IsTree, IsRooted, least_of, way}
 use Rattle.tree.proofs.Cuts.{All-front, All-back, not_both, not_true, none_pass, none_fail, IsCut-parts}
 use Rattle.tree.proofs.Leaves.{IsLeaf, behind_is, entries_of_cut, All-from_map, filter-items}
-
--- a tree whose leaf is put, with other items
-pub tree_with : {N : ℕ} (a b : Arena (Node N)) (root height slot above len now room : ℕ) → IsTree a root height len room → IsRooted b slot above
-    → spare_of b 0 + finite.len b.records ≡ spare_of a 0 + finite.len a.records → now ≡ length (items_in b above slot)
-    → 1 ≤ now → now ≤ room → IsTree b slot above now room
-tree_with {N} a b root height slot above len now room t rooted spare counted some within =
-    let same : finite.len a.records + spare_of a 0 ≡ finite.len b.records + spare_of b 0 = omega (arith, spare) in
-    record {
-      fan_out = t.fan_out;
-      few = t.few;
-      rooted = rooted;
-      counted = counted;
-      some = some;
-      within = within;
-      reserved = subst (λ m. room + (least_of N - 1) * way ≤ (least_of N - 1) * m) same t.reserved;
-    }
 
 inside : (p q : Bool) → p ≡ true → (not p && q) ≡ false
 inside p q t = rw t refl

@@ -3,5 +3,6 @@ pub mod Item
 pub mod Node
 pub mod Subtree
 pub mod Path
+pub mod Leaf
 pub mod Tree
 pub mod Replace

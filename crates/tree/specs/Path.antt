@@ -35,6 +35,10 @@ to_cut to = unwrap_or to (λ _. true)
 abbrev pub between : Option (ℕ → Bool) → Option (ℕ → Bool) → List Item → List Item
 between from to items = filter (λ x. not (from_cut from x.key) && to_cut to x.key) items
 
+-- the items before the second cut, of those before the first one the last alone
+abbrev pub from_last : (ℕ → Bool) → Option (ℕ → Bool) → List Item → List Item
+from_last from to items = drop (length (passing from items) - 1) (filter (λ x. to_cut to x.key) items)
+
 -- the index of the last entry that passes, or of the first one
 abbrev pub index_in : (ℕ → Bool) → List Entry → ℕ
 index_in passes entries = length (filter (λ e. passes e.key) entries) - 1

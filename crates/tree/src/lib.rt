@@ -6,6 +6,7 @@
 #![tactic(auto)]
 
 mod entry;
+mod guess;
 mod mend;
 mod node;
 mod probe;
@@ -20,7 +21,7 @@ pub use entry::Entry;
 pub use node::Node;
 pub use probe::Probe;
 pub use thin::Thinned;
-pub use tree::Tree;
+pub use tree::{Tree, item};
 
 #[cfg(test)]
 mod tests;

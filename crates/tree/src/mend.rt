@@ -10,6 +10,7 @@ ghost use Rattle.tree.specs.Replace.{child_at, Changes, IsFamily, IsKeyless, IsM
 
 use crate::entry::Entry;
 use crate::node::Node;
+use crate::probe::Probe;
 use arena::{Arena, Slot};
 
 /// Returns the least number of entries of a node that isn't the root: a quarter, but two at least.
@@ -35,7 +36,12 @@ pub fn summary<const N: usize>(nodes: &Arena<Node<N>>, child: Slot) -> Entry
 }
 
 /// Makes the entry for a changed child right. A child with too few entries is joined with a neighbour, or takes some of its entries.
-pub fn mend<const N: usize>(nodes: &mut Arena<Node<N>>, node: &mut Node<N>, index: usize)
+pub fn mend<P: Probe, const N: usize>(
+    nodes: &mut Arena<Node<N>>,
+    node: &mut Node<N>,
+    index: usize,
+    probe: &P,
+)
     requires fan_out { 4 ≤ N }
     requires within { index < length (entries_of node.old) }
     requires several { 2 ≤ length (entries_of node.old) }
@@ -51,11 +57,16 @@ pub fn mend<const N: usize>(nodes: &mut Arena<Node<N>>, node: &mut Node<N>, inde
         node.set(index, summary(nodes, child));
         return;
     }
-    share(nodes, node, index.saturating_sub(1));
+    share(nodes, node, index.saturating_sub(1), probe);
 }
 
 // Joins the children at an index and behind it, or shares their entries evenly where there are too many for one node.
-fn share<const N: usize>(nodes: &mut Arena<Node<N>>, node: &mut Node<N>, index: usize)
+fn share<P: Probe, const N: usize>(
+    nodes: &mut Arena<Node<N>>,
+    node: &mut Node<N>,
+    index: usize,
+    probe: &P,
+)
     requires fan_out { 4 ≤ N }
     requires within { index + 1 < length (entries_of node.old) }
     requires filled { least_of N ≤ length (entries_at nodes.old (child_at (entries_of node.old) index))
@@ -71,18 +82,18 @@ fn share<const N: usize>(nodes: &mut Arena<Node<N>>, node: &mut Node<N>, index: 
     let second = node.entries()[index + 1].child;
     let count = nodes.header_ref(first).len() + nodes.header_ref(second).len();
     if count <= N {
-        join(nodes, first, second);
+        join(nodes, first, second, probe);
         node.set(index, summary(nodes, first));
         node.remove(index + 1, index + 2);
         return;
     }
-    even_out(nodes, first, second);
+    even_out(nodes, first, second, probe);
     node.set(index, summary(nodes, first));
     node.set(index + 1, summary(nodes, second));
 }
 
 // Puts the entries of the second node behind those of the first one, and releases the second.
-fn join<const N: usize>(nodes: &mut Arena<Node<N>>, first: Slot, second: Slot)
+fn join<P: Probe, const N: usize>(nodes: &mut Arena<Node<N>>, first: Slot, second: Slot, probe: &P)
     requires first { IsLive nodes.old first }
     requires second { IsLive nodes.old second }
     requires apart { first ≢ second }
@@ -93,12 +104,18 @@ fn join<const N: usize>(nodes: &mut Arena<Node<N>>, first: Slot, second: Slot)
 {
     let mut joined = nodes.header(first);
     joined.append(nodes.header_ref(second));
+    joined.renew_hints(probe);
     nodes.set_header(first, joined);
     nodes.release(second);
 }
 
 // Moves entries between two nodes so that they have as many, but for one.
-fn even_out<const N: usize>(nodes: &mut Arena<Node<N>>, first: Slot, second: Slot)
+fn even_out<P: Probe, const N: usize>(
+    nodes: &mut Arena<Node<N>>,
+    first: Slot,
+    second: Slot,
+    probe: &P,
+)
     requires first { IsLive nodes.old first }
     requires second { IsLive nodes.old second }
     requires apart { first ≢ second }
@@ -113,6 +130,8 @@ fn even_out<const N: usize>(nodes: &mut Arena<Node<N>>, first: Slot, second: Slo
     let mut left = nodes.header(first);
     let mut right = nodes.header(second);
     left.even_out(&mut right);
+    left.renew_hints(probe);
+    right.renew_hints(probe);
     nodes.set_header(first, left);
     nodes.set_header(second, right);
 }

@@ -4,19 +4,26 @@ ghost use Rattle.std.specs.Prelude.{◌≤◌};
 
 use crate::entry::Entry;
 
+mod hints;
 #[cfg(test)]
 mod tests;
+
+pub use hints::Guess;
 
 /// Up to `N` entries. Contracts see them as the list `entries_of`.
 #[derive(Clone, Copy, Debug)]
 pub struct Node<const N: usize> {
     len: usize,
     entries: [Entry; N],
+    // How many bytes the keys begin with in common, or fewer.
+    skip: usize,
+    // The digest of each key, behind these.
+    digests: [u64; N],
     ghost within: { len ≤ N },
 }
 
 impl<const N: usize> Node<N> {
-    ghost use Rattle.std.specs.Prelude.{◌≡◌, ◌<◌, ◌+◌, ◌*◌, ◌∷◌, ◌++◌, [], length, take, drop, slice_set, Some, None, IfSome, MatchOption};
+    ghost use Rattle.std.specs.Prelude.{◌≡◌, ◌<◌, ◌+◌, ◌-◌, ◌*◌, ◌∷◌, ◌++◌, [], length, take, drop, slice_set, Some, None, IfSome, MatchOption};
     ghost use Rattle.tree.specs.Item.{IsGreatest, version_of};
     ghost use Rattle.tree.specs.Node.{entries_of};
 
@@ -28,6 +35,8 @@ impl<const N: usize> Node<N> {
         Node {
             len: 1,
             entries: [entry; N],
+            skip: 0,
+            digests: [0; N],
         }
     }
 
@@ -74,6 +83,20 @@ impl<const N: usize> Node<N> {
     {
         self.entries.copy_within(to..self.len, from);
         self.len -= to - from;
+    }
+
+    /// Puts these entries in place of those from one index up to another.
+    pub fn splice(&mut self, from: usize, to: usize, new: &[Entry])
+        requires ordered { from ≤ to }
+        requires within { to ≤ length (entries_of self.old) }
+        requires room { from + length new.now + (length (entries_of self.old) - to) ≤ N }
+        ensures entries { (entries_of self.new) ≡ take from (entries_of self.old) ++ (new.now ++ drop to (entries_of self.old)) }
+    {
+        let end = from + new.len();
+        self.entries.copy_within(to..self.len, end);
+        let entries = &mut self.entries[..];
+        entries[from..end].copy_from_slice(new);
+        self.len = end + (self.len - to);
     }
 
     /// Puts the entries of another node behind these.

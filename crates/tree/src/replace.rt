@@ -11,10 +11,10 @@ ghost use Rattle.tree.specs.Path.{IsCut, before_leaf, behind_leaf};
 ghost use Rattle.tree.specs.Tree.{least_of};
 ghost use Rattle.tree.specs.Replace.{child_at, entries_with, items_with, slot_taken, slots_with, Changes, IsKeyless, IsLinked};
 
+use crate::guess::index_near;
 use crate::mend::{mend, summary};
 use crate::node::Node;
 use crate::probe::Probe;
-use crate::search::index_of;
 use arena::{Arena, Slot};
 
 /// Puts nodes in place of the leaf that [`leaf_of`](crate::search::leaf_of) finds, and mends the nodes above it. Returns the slot
@@ -52,19 +52,20 @@ pub fn replace_leaf<P: Probe, const N: usize>(
     ensures taken { spare_of nodes.old 0 ≤ spare_of nodes.new 0 + (height + 1) }
 {
     if height == 0 {
-        return store(nodes, slot, left, right);
+        return store(nodes, slot, left, right, probe);
     }
     let mut node = nodes.header(slot);
-    let index = index_of(node.entries(), probe);
+    let guess = node.guess(probe, usize::MAX);
+    let index = index_near(node.entries(), guess.index, probe);
     let child = node.entries()[index].child;
     match replace_leaf(nodes, child, height - 1, probe, left, right) {
         Some(added) => {
             let split = link(nodes, &mut node, index, added);
-            store(nodes, slot, node, split)
+            store(nodes, slot, node, split, probe)
         }
         None => {
-            mend(nodes, &mut node, index);
-            store(nodes, slot, node, None)
+            mend(nodes, &mut node, index, probe);
+            store(nodes, slot, node, None, probe)
         }
     }
 }
@@ -93,11 +94,12 @@ fn link<const N: usize>(
 }
 
 // Puts a node at a slot, and its right neighbour, if any, in a spare one, which is returned.
-fn store<const N: usize>(
+fn store<P: Probe, const N: usize>(
     nodes: &mut Arena<Node<N>>,
     slot: Slot,
     node: Node<N>,
     right: Option<Node<N>>,
+    probe: &P,
 ) -> Option<Slot>
     requires live { IsLive nodes.old slot }
     requires keyless { IsKeyless nodes.old }
@@ -109,20 +111,24 @@ fn store<const N: usize>(
     ensures changes { Changes nodes.old nodes.new (slot ∷ []) (slot ∷ slot_taken result) }
     ensures taken { spare_of nodes.old 0 ≤ spare_of nodes.new 0 + 1 }
 {
-    nodes.set_header(slot, node);
+    let mut left = node;
+    left.take_hints(nodes.header_ref(slot), probe);
+    nodes.set_header(slot, left);
     match right {
-        Some(right) => Some(place(nodes, right)),
+        Some(right) => Some(place(nodes, right, probe)),
         None => None,
     }
 }
 
 /// Stores a node in a spare slot.
-pub fn place<const N: usize>(nodes: &mut Arena<Node<N>>, node: Node<N>) -> Slot
+pub fn place<P: Probe, const N: usize>(nodes: &mut Arena<Node<N>>, node: Node<N>, probe: &P) -> Slot
     requires keyless { IsKeyless nodes.old }
     requires room { 0 < spare_of nodes.old 0 }
     ensures entries { entries_at nodes.new result ≡ entries_of node.entry }
     ensures live { IsLive nodes.new result }
     ensures changes { Changes nodes.old nodes.new [] (result ∷ []) }
 {
-    nodes.place(node, &[]).unwrap()
+    let mut placed = node;
+    placed.renew_hints(probe);
+    nodes.place(placed, &[]).unwrap()
 }

@@ -11,11 +11,11 @@ ghost use Rattle.tree.specs.Path.{IsCut, before_leaf, behind_leaf};
 ghost use Rattle.tree.specs.Replace.{entries_with, items_with, slots_with, IsKeyless};
 ghost use Rattle.tree.specs.Tree.{least_of, IsRooted};
 
+use crate::guess::find_leaf;
 use crate::mend::summary;
 use crate::node::Node;
 use crate::probe::Probe;
 use crate::replace::{place, replace_leaf};
-use crate::search::leaf_of;
 use arena::{Arena, Slot};
 
 /// Where a tree begins.
@@ -40,7 +40,7 @@ pub fn leaf<P: Probe, const N: usize>(nodes: &Arena<Node<N>>, root: Root, probe:
         → before_leaf nodes.now root.height root.slot (P.lets_pass probe.now) ≡ [] }
     ensures cut { IsCut (λ e. P.lets_pass probe.now e.key) (entries_of result) }
 {
-    let slot = leaf_of(nodes, root.slot, root.height, probe);
+    let slot = find_leaf(nodes, root.slot, root.height, probe);
     nodes.header(slot)
 }
 
@@ -67,13 +67,18 @@ pub fn put<P: Probe, const N: usize>(
     ensures spare { spare_of nodes.new 0 + map_of.len nodes.new.records ≡ spare_of nodes.old 0 + map_of.len nodes.old.records }
 {
     match replace_leaf(nodes, root.slot, root.height, probe, left, right) {
-        Some(added) => grow(nodes, root, added),
+        Some(added) => grow(nodes, root, added, probe),
         None => shrink(nodes, root),
     }
 }
 
 // Puts a new root over the old one and its right neighbour.
-fn grow<const N: usize>(nodes: &mut Arena<Node<N>>, root: Root, added: Slot) -> Root
+fn grow<P: Probe, const N: usize>(
+    nodes: &mut Arena<Node<N>>,
+    root: Root,
+    added: Slot,
+    probe: &P,
+) -> Root
     requires fan_out { 4 ≤ N }
     requires few { N ≤ 65536 }
     requires low { root.height < 63 }
@@ -91,7 +96,7 @@ fn grow<const N: usize>(nodes: &mut Arena<Node<N>>, root: Root, added: Slot) -> 
     let mut node = Node::of(summary(nodes, root.slot));
     node.insert(1, summary(nodes, added));
     Root {
-        slot: place(nodes, node),
+        slot: place(nodes, node, probe),
         height: root.height + 1,
     }
 }

@@ -1,12 +1,12 @@
 //! The way down a tree.
 
-ghost use Rattle.std.specs.Prelude.{◌≡◌, ◌<◌, ◌≤◌, ◌<ℤ◌, ◌↔◌, ◌++◌, ℕ, Bool, true, false, not, List, length, take, drop, filter, map, option_map, [], IfSome, IsTrue, MatchOption};
+ghost use Rattle.std.specs.Prelude.{◌≡◌, ◌≢◌, ◌<◌, ◌≤◌, ◌<ℤ◌, ◌↔◌, ◌++◌, ℕ, Bool, true, false, not, List, length, take, drop, filter, map, option_map, [], IfSome, IsTrue, MatchOption};
 ghost use Rattle.std.specs.List.{All, Any};
 ghost use Rattle.arena.specs.Arena.{IsLive};
 ghost use Rattle.tree.specs.Item.{item_of, IsGreatest};
 ghost use Rattle.tree.specs.Subtree.{entries_at, items_in, IsSubtree};
 ghost use Rattle.tree.specs.Tree.{least_of};
-ghost use Rattle.tree.specs.Path.{IsCut, behind as behind_cut, index_in, leaf_in, before_leaf, behind_leaf, first_key, between};
+ghost use Rattle.tree.specs.Path.{IsCut, passing as passing_cut, behind as behind_cut, from_last, index_in, leaf_in, before_leaf, behind_leaf, first_key, between};
 
 use crate::entry::Entry;
 use crate::node::Node;
@@ -80,8 +80,8 @@ pub fn key_behind<P: Probe, const N: usize>(
     key_behind(nodes, entries[index].child, height - 1, probe, next)
 }
 
-// Returns the key of the entry at an index, or `behind` if there is none.
-fn key_at(entries: &[Entry], index: usize, behind: Option<Slot>) -> Option<Slot>
+/// Returns the key of the entry at an index, or `behind` if there is none.
+pub fn key_at(entries: &[Entry], index: usize, behind: Option<Slot>) -> Option<Slot>
     ensures key { result ≡ first_key behind (map item_of (drop index entries.now)) }
 {
     match entries.get(index) {
@@ -126,6 +126,44 @@ pub fn exceeds<'a, P: Probe, Q: Probe, const N: usize>(
         || right.version > version && exceeds(nodes, right.child, height - 1, without, to, version)
 }
 
+/// Returns whether a version of the items before a cut, of those before another cut the last alone, is above this one.
+pub fn exceeds_from_last<'a, P: Probe, Q: Probe, const N: usize>(
+    nodes: &Arena<Node<N>>,
+    slot: Slot,
+    height: usize,
+    from: &'a P,
+    to: Option<&'a Q>,
+    version: i64,
+) -> bool
+    requires subtree { IsSubtree nodes.now (least_of N) height slot }
+    requires from { IsCut (λ x. P.lets_pass from.now x.key) (items_in nodes.now height slot) }
+    requires to { IfSome to (λ q. IsCut (λ x. Q.lets_pass q.now x.key) (items_in nodes.now height slot)) }
+    requires nested { IfSome to (λ q. (key : ℕ) → P.lets_pass from.now key ≡ true → Q.lets_pass q.now key ≡ true) }
+    requires some { passing_cut (P.lets_pass from.now) (items_in nodes.now height slot) ≢ [] }
+    ensures above { IsTrue result ↔ Any (λ x. version <ℤ x.version)
+        (from_last (P.lets_pass from.now) (option_map (λ q. Q.lets_pass q.now) to.entry)
+        (items_in nodes.now height slot)) }
+{
+    let entries = nodes.header_ref(slot).entries();
+    let first = index_of(entries, from);
+    let end = end_of(entries, to);
+    if height == 0 {
+        return any_above(&entries[first..end], version);
+    }
+    let last = end.saturating_sub(1);
+    let (left, right) = (entries[first], entries[last]);
+    if first == last {
+        return left.version > version
+            && exceeds_from_last(nodes, left.child, height - 1, from, to, version);
+    }
+    let none: Option<&'a Q> = None;
+    let without: Option<&'a P> = None;
+    any_above(&entries[first + 1..last], version)
+        || left.version > version
+            && exceeds_from_last(nodes, left.child, height - 1, from, none, version)
+        || right.version > version && exceeds(nodes, right.child, height - 1, without, to, version)
+}
+
 /// Returns the greatest version of the items from one cut to another, or none if there is no item.
 pub fn greatest<'a, P: Probe, Q: Probe, const N: usize>(
     nodes: &Arena<Node<N>>,
@@ -160,4 +198,25 @@ pub fn greatest<'a, P: Probe, Q: Probe, const N: usize>(
     let inner = greatest_of(&entries[first + 1..last]);
     let later = greatest(nodes, right.child, height - 1, without, to);
     greater(sooner, greater(inner, later))
+}
+
+/// Returns the key of the first item behind the leaf that has the last item that passes, or `behind` if there is none.
+pub fn key_behind_leaf<P: Probe, const N: usize>(
+    nodes: &Arena<Node<N>>,
+    slot: Slot,
+    height: usize,
+    probe: &P,
+    behind: Option<Slot>,
+) -> Option<Slot>
+    requires subtree { IsSubtree nodes.now (least_of N) height slot }
+    requires cut { IsCut (λ x. P.lets_pass probe.now x.key) (items_in nodes.now height slot) }
+    ensures key { result ≡ first_key behind (behind_leaf nodes.now height slot (P.lets_pass probe.now)) }
+{
+    if height == 0 {
+        return behind;
+    }
+    let entries = nodes.header_ref(slot).entries();
+    let index = index_of(entries, probe);
+    let next = key_at(entries, index + 1, behind);
+    key_behind_leaf(nodes, entries[index].child, height - 1, probe, next)
 }

@@ -17,6 +17,22 @@ impl Probe for All {
     fn passes(&self, _key: Slot) -> bool {
         true
     }
+
+    fn digest(&self, _skip: usize) -> u64 {
+        0
+    }
+
+    fn digest_of(&self, _key: Slot, _skip: usize) -> u64 {
+        0
+    }
+
+    fn common(&self, _one: Slot, _other: Slot) -> usize {
+        0
+    }
+
+    fn common_with(&self, _key: Slot) -> usize {
+        0
+    }
 }
 
 // No item passes.
@@ -29,6 +45,22 @@ impl Probe for Nothing {
 
     fn passes(&self, _key: Slot) -> bool {
         false
+    }
+
+    fn digest(&self, _skip: usize) -> u64 {
+        0
+    }
+
+    fn digest_of(&self, _key: Slot, _skip: usize) -> u64 {
+        0
+    }
+
+    fn common(&self, _one: Slot, _other: Slot) -> usize {
+        0
+    }
+
+    fn common_with(&self, _key: Slot) -> usize {
+        0
     }
 }
 

@@ -3,10 +3,13 @@
 ghost use Rattle.std.specs.Prelude.{◌≡◌, ◌-◌, ◌≤◌, ◌<◌, ◌++◌, ◌∷◌, [], take, drop, length, map, MatchOption};
 ghost use Rattle.tree.specs.Item.{item_of, version_of};
 ghost use Rattle.tree.specs.Node.{entries_of};
+ghost use Rattle.tree.specs.Path.{first_key};
 ghost use Rattle.tree.specs.Tree.{IsLast, thin as thin_of, gone};
 
 use crate::entry::Entry;
 use crate::node::Node;
+use crate::search::key_at;
+use arena::Slot;
 
 /// How the thinning of a run ended.
 #[derive(Debug, Drop)]
@@ -17,16 +20,19 @@ pub struct Thinned<const N: usize> {
     pub last: i64,
     /// The items that were taken out.
     pub removed: Option<Node<N>>,
+    /// The key of the item behind those that were looked at, if there is one.
+    pub next: Option<Slot>,
 }
 
 /// Looks at the entries of a leaf from one index up to another, and takes out each whose version and predecessor's version are
-/// below `edge`. `before` is the version of the entry before the first of them.
+/// below `edge`. `before` is the version of the entry before the first of them, and `behind` the key of the item behind the leaf.
 pub fn thin<const N: usize>(
     node: &mut Node<N>,
     from: usize,
     to: usize,
     edge: i64,
     before: i64,
+    behind: Option<Slot>,
 ) -> Thinned<N>
     requires some { from < to }
     requires within { to ≤ length (entries_of node.old) }
@@ -38,6 +44,7 @@ pub fn thin<const N: usize>(
     ensures removed { MatchOption result.removed
         (gone edge before (map item_of (take (to - from) (drop from (entries_of node.old)))) ≡ [])
         (λ run. map item_of (entries_of run) ≡ gone edge before (map item_of (take (to - from) (drop from (entries_of node.old))))) }
+    ensures next { result.next ≡ first_key behind (map item_of (drop to (entries_of node.old))) }
 {
     let mut last = before;
     let mut kept = from;
@@ -53,11 +60,13 @@ pub fn thin<const N: usize>(
         }
         last = version;
     }
+    let next = key_at(node.entries(), to, behind);
     node.remove(kept, to);
     Thinned {
         looked_at: to - from,
         last,
         removed,
+        next,
     }
 }
 

@@ -1,21 +1,23 @@
 //! The tree.
 
-ghost use Rattle.std.specs.Prelude.{◌≡◌, ◌≢◌, ◌<◌, ◌≤◌, ◌<ℤ◌, ◌≤ℤ◌, ◌↔◌, ◌++◌, ◌∷◌, ℕ, List, [], true, not, filter, length, map, OnErr, OnOk, IfOk, IsOkUnless, IsTrue, MatchOption};
+ghost use Rattle.std.specs.Prelude.{◌≡◌, ◌≢◌, ◌<◌, ◌≤◌, ◌<ℤ◌, ◌≤ℤ◌, ◌↔◌, ◌+◌, ◌-◌, ◌++◌, ◌∷◌, ℕ, List, [], true, not, drop, filter, length, map, OnErr, OnOk, IfOk, IsOkUnless, IsTrue, MatchOption};
 ghost use Rattle.std.specs.List.{Any};
 ghost use Rattle.tree.specs.Item.{Item, item_of, IsGreatest};
 ghost use Rattle.tree.specs.Node.{entries_of};
-ghost use Rattle.tree.specs.Path.{IsCut, passing as passing_of, behind, first_key, between};
+ghost use Rattle.tree.specs.Path.{IsCut, passing as passing_of, behind, first_key, between, from_last};
 ghost use Rattle.tree.specs.Tree.{IsLast, thin as thin_of, gone};
 
 use crate::entry::Entry;
+use crate::guess::{find_leaf, guess_exceeds, passing_near};
 use crate::mend::least;
 use crate::node::Node;
 use crate::probe::Probe;
 use crate::root::{Root, leaf, put};
-use crate::search::{exceeds, greatest, key_behind, leaf_of, passing};
+use crate::search::{exceeds, exceeds_from_last, greatest, key_behind, key_behind_leaf, passing};
 use crate::thin::{Thinned, thin};
 use arena::{Arena, ArenaError, Slot};
 use std::alloc::Global;
+use std::fmt;
 use std::marker::Model;
 
 // How many nodes a change may use beyond those that the items need. No tree is higher than 63 nodes above a leaf.
@@ -42,8 +44,8 @@ impl<const N: usize> Model for Tree<N> {
     ghost invariant = { λ t. IsTree t.nodes t.root.slot t.root.height t.len t.room };
 }
 
-// Returns the entry of an item.
-fn item(key: Slot, version: i64) -> Entry
+/// Returns the entry of an item.
+pub fn item(key: Slot, version: i64) -> Entry
     ensures item { item_of result ≡ record { key = key; version = version } }
 {
     Entry {
@@ -109,9 +111,10 @@ impl<const N: usize> Tree<N> {
         ensures last { MatchOption result (passing_of (P.lets_pass probe.now) self.now.items ≡ [])
             (λ e. IsLast (item_of e) (passing_of (P.lets_pass probe.now) self.now.items)) }
     {
-        let leaf = leaf_of(&self.nodes, self.root.slot, self.root.height, probe);
+        let leaf = find_leaf(&self.nodes, self.root.slot, self.root.height, probe);
+        let guess = self.nodes.header_ref(leaf).guess(probe, usize::MAX);
         let entries = self.nodes.header_ref(leaf).entries();
-        let count = passing(entries, probe);
+        let count = passing_near(entries, guess.index, probe);
         entries[..count].last().copied()
     }
 
@@ -141,6 +144,28 @@ impl<const N: usize> Tree<N> {
         )
     }
 
+    /// Returns whether a version of the items before the second cut, of those before the first one the last alone, is above this
+    /// one.
+    pub fn exceeds_from_last<'a, P: Probe, Q: Probe>(
+        &self,
+        from: &'a P,
+        to: &'a Q,
+        version: i64,
+    ) -> bool
+        requires from { IsCut (λ x. P.lets_pass from.now x.key) self.now.items }
+        requires to { IsCut (λ x. Q.lets_pass to.now x.key) self.now.items }
+        requires nested { (key : ℕ) → P.lets_pass from.now key ≡ true → Q.lets_pass to.now key ≡ true }
+        requires some { passing_of (P.lets_pass from.now) self.now.items ≢ [] }
+        ensures above { IsTrue result ↔ Any (λ x. version <ℤ x.version)
+            (from_last (P.lets_pass from.now) (Some (Q.lets_pass to.now)) self.now.items) }
+    {
+        let (slot, height) = (self.root.slot, self.root.height);
+        match guess_exceeds(&self.nodes, slot, height, from, to, version, 0, None) {
+            Some(told) => told,
+            None => exceeds_from_last(&self.nodes, slot, height, from, Some(to), version),
+        }
+    }
+
     /// Returns the greatest version of the items from one cut to another, or none if there is no item.
     pub fn greatest<'a, P: Probe, Q: Probe>(&self, from: &'a P, to: &'a Q) -> Option<i64>
         requires from { IsCut (λ x. P.lets_pass from.now x.key) self.now.items }
@@ -167,7 +192,8 @@ impl<const N: usize> Tree<N> {
         ensures room { self.new.room ≡ self.old.room }
     {
         let mut leaf = leaf(&self.nodes, self.root, probe);
-        let index = passing(leaf.entries(), probe);
+        let guess = leaf.guess(probe, usize::MAX);
+        let index = passing_near(leaf.entries(), guess.index, probe);
         let right = leaf.insert_or_split(index, item(key, version));
         self.root = put(&mut self.nodes, self.root, probe, leaf, right);
         self.len += 1;
@@ -203,8 +229,10 @@ impl<const N: usize> Tree<N> {
         ensures room { self.new.room ≡ self.old.room }
     {
         let mut leaf = leaf(&self.nodes, self.root, to);
-        let end = passing(leaf.entries(), to);
-        let begin = passing(leaf.entries(), from);
+        let guess = leaf.guess(to, usize::MAX);
+        let end = passing_near(leaf.entries(), guess.index, to);
+        let guess = leaf.guess(from, usize::MAX);
+        let begin = passing_near(leaf.entries(), guess.index, from);
         if begin >= end {
             return None;
         }
@@ -214,6 +242,41 @@ impl<const N: usize> Tree<N> {
         leaf.remove(begin, end);
         self.root = put(&mut self.nodes, self.root, to, leaf, None);
         self.len -= end - begin;
+        Some(run)
+    }
+
+    /// Puts these items in place of those from one cut to another, and returns those. Does nothing and returns none unless one leaf
+    /// has them, the item before them and room for the new ones.
+    pub fn replace_run<P: Probe, Q: Probe>(
+        &mut self,
+        from: &P,
+        to: &Q,
+        new: &[Entry],
+    ) -> Option<Node<N>>
+        requires from { IsCut (λ x. P.lets_pass from.now x.key) self.old.items }
+        requires to { IsCut (λ x. Q.lets_pass to.now x.key) self.old.items }
+        requires nested { (key : ℕ) → P.lets_pass from.now key ≡ true → Q.lets_pass to.now key ≡ true }
+        requires room { length self.old.items + length new.now ≤ self.old.room }
+        ensures run { MatchOption result (self.new ≡ self.old)
+            (λ run. (between (Some (P.lets_pass from.now)) (Some (Q.lets_pass to.now)) self.old.items ≡ map item_of (entries_of run))
+            × (self.new.items ≡ passing_of (P.lets_pass from.now) self.old.items
+            ++ (map item_of new.now ++ behind (Q.lets_pass to.now) self.old.items))) }
+        ensures room { self.new.room ≡ self.old.room }
+    {
+        let mut leaf = leaf(&self.nodes, self.root, to);
+        let guess = leaf.guess(to, usize::MAX);
+        let end = passing_near(leaf.entries(), guess.index, to);
+        let guess = leaf.guess(from, usize::MAX);
+        let begin = passing_near(leaf.entries(), guess.index, from);
+        if begin == 0 || begin > end || begin + new.len() > N - (leaf.len() - end) {
+            return None;
+        }
+        let mut run = leaf;
+        run.remove(end, leaf.len());
+        run.remove(0, begin);
+        leaf.splice(begin, end, new);
+        self.root = put(&mut self.nodes, self.root, to, leaf, None);
+        self.len = self.len - (end - begin) + new.len();
         Some(run)
     }
 
@@ -239,12 +302,16 @@ impl<const N: usize> Tree<N> {
             × (self.new.items ≡ front ++ (thin_of edge before looked ++ rest))
             × MatchOption result.removed (gone edge before looked ≡ []) (λ run. map item_of (entries_of run) ≡ gone edge before looked)
             × IsLast result.last (map (λ x. x.version) looked) }
+        ensures next { result.next
+            ≡ first_key None (drop (result.looked_at - 1) (behind (P.lets_pass probe.now) self.old.items)) }
         ensures room { self.new.room ≡ self.old.room }
     {
         let mut leaf = leaf(&self.nodes, self.root, probe);
-        let begin = passing(leaf.entries(), probe) - 1;
+        let guess = leaf.guess(probe, usize::MAX);
+        let begin = passing_near(leaf.entries(), guess.index, probe) - 1;
         let end = begin + count.min(leaf.len() - begin);
-        let thinned = thin(&mut leaf, begin, end, edge, before);
+        let behind = key_behind_leaf(&self.nodes, self.root.slot, self.root.height, probe, None);
+        let thinned = thin(&mut leaf, begin, end, edge, before, behind);
         if let Some(run) = &thinned.removed {
             self.root = put(&mut self.nodes, self.root, probe, leaf, None);
             self.len -= run.len();
@@ -265,4 +332,10 @@ fn set_passing<P: Probe, const N: usize>(leaf: &mut Node<N>, probe: &P, version:
     let index = passing(leaf.entries(), probe) - 1;
     let key = leaf.entries()[index].key;
     leaf.set(index, item(key, version));
+}
+
+impl<const N: usize> fmt::Debug for Tree<N> {
+    fn fmt<W: fmt::Write>(&self, f: &mut fmt::Formatter<W>) -> fmt::Result {
+        f.debug_struct("Tree").field("len", &self.len).finish()
+    }
 }

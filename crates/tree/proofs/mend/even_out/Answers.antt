@@ -6,57 +6,69 @@ use Rattle.tree.proofs.mend.even_out.Goals as goal
 
 pub set_header-requires-2 : goal.set_header-requires-2
 set_header-requires-2 g c =
+    let left = c.renew_hints.new.self in
     let a = c.args.nodes.now in
     let b = c.set_header.new.self in
     record {
       live = live_same a b c.args.second
-          (put_others a b c.args.first c.even_out.new.self c.set_header.ensures.replaced c.args.second (λ same. c.requires.apart (sym same)))
+          (put_others a b c.args.first left c.set_header.ensures.replaced c.args.second (λ same. c.requires.apart (sym same)))
           c.requires.second;
     }
 
 pub returns-clause-entries : goal.returns-clause-entries
 returns-clause-entries g c =
+    let left = c.renew_hints.new.self in
+    let right = c.renew_hints-2.new.self in
     let a = c.args.nodes.now in
     let b = c.set_header.new.self in
     let d = c.set_header-2.new.self in
     ap₂ (λ xs ys. xs ++ ys)
-    (entries_same b d c.args.first (put_others b d c.args.second c.even_out.new.right c.set_header-2.ensures.replaced c.args.first c.requires.apart)
-    ∙ put_entries a b c.args.first c.even_out.new.self c.set_header.ensures.replaced)
-    (put_entries b d c.args.second c.even_out.new.right c.set_header-2.ensures.replaced)
+    (entries_same b d c.args.first (put_others b d c.args.second right c.set_header-2.ensures.replaced c.args.first c.requires.apart)
+    ∙ put_entries a b c.args.first left c.set_header.ensures.replaced
+    ∙ c.renew_hints.ensures.entries)
+    (put_entries b d c.args.second right c.set_header-2.ensures.replaced
+    ∙ c.renew_hints-2.ensures.entries)
     ∙ c.even_out.ensures.entries
     ∙ ap₂ (λ xs ys. xs ++ ys) (sym (entries_from_header a c.args.first c.header-left.result c.header-left.ensures.header))
     (sym (entries_from_header a c.args.second c.header-right.result c.header-right.ensures.header))
 
 pub returns-clause-left : goal.returns-clause-left
 returns-clause-left g c =
+    let left = c.renew_hints.new.self in
+    let right = c.renew_hints-2.new.self in
     let a = c.args.nodes.now in
     let b = c.set_header.new.self in
     let d = c.set_header-2.new.self in
     subst (λ xs. g.row.N ≤ 2 * length xs)
-    (sym (entries_same b d c.args.first (put_others b d c.args.second c.even_out.new.right c.set_header-2.ensures.replaced c.args.first c.requires.apart)
-    ∙ put_entries a b c.args.first c.even_out.new.self c.set_header.ensures.replaced))
+    (sym (entries_same b d c.args.first (put_others b d c.args.second right c.set_header-2.ensures.replaced c.args.first c.requires.apart)
+    ∙ put_entries a b c.args.first left c.set_header.ensures.replaced
+    ∙ c.renew_hints.ensures.entries))
     c.even_out.ensures.left
 
 pub returns-clause-right : goal.returns-clause-right
 returns-clause-right g c =
+    let right = c.renew_hints-2.new.self in
     let b = c.set_header.new.self in
     let d = c.set_header-2.new.self in
     subst (λ xs. g.row.N ≤ 2 * length xs)
-    (sym (put_entries b d c.args.second c.even_out.new.right c.set_header-2.ensures.replaced)) c.even_out.ensures.right
+    (sym (put_entries b d c.args.second right c.set_header-2.ensures.replaced
+    ∙ c.renew_hints-2.ensures.entries)) c.even_out.ensures.right
 
 pub returns-clause-changes : goal.returns-clause-changes
 returns-clause-changes g c =
+    let left = c.renew_hints.new.self in
+    let right = c.renew_hints-2.new.self in
     let a = c.args.nodes.now in
     let b = c.set_header.new.self in
     let d = c.set_header-2.new.self in
     let x = c.args.first in
     let y = c.args.second in
-    let put = put_moves a b x c.even_out.new.self c.set_header.ensures.replaced c.requires.first c.requires.keyless in
-    let live_x = put_live a b x c.even_out.new.self c.set_header.ensures.replaced in
+    let put = put_moves a b x left c.set_header.ensures.replaced c.requires.first c.requires.keyless in
+    let live_x = put_live a b x left c.set_header.ensures.replaced in
     let live_y =
-    live_same a b y (put_others a b x c.even_out.new.self c.set_header.ensures.replaced y (λ same. c.requires.apart (sym same)))
+    live_same a b y (put_others a b x left c.set_header.ensures.replaced y (λ same. c.requires.apart (sym same)))
     c.requires.second in
-    let then = put_moves b d y c.even_out.new.right c.set_header-2.ensures.replaced live_y put.keyless in
+    let then = put_moves b d y right c.set_header-2.ensures.replaced live_y put.keyless in
     changes_if_moves a d (x ∷ y ∷ []) (x ∷ y ∷ [])
     (moves_trans a b d (x ∷ y ∷ []) (x ∷ y ∷ []) (x ∷ y ∷ []) (moves_first a b x y c.requires.apart c.requires.second put)
     (moves_second b d x y (y ∷ []) c.requires.apart live_x then))

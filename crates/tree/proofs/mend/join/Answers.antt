@@ -6,35 +6,39 @@ use Rattle.tree.proofs.mend.join.Goals as goal
 
 pub release-requires : goal.release-requires
 release-requires g c =
+    let joined = c.renew_hints.new.self in
     let a = c.args.nodes.now in
     let b = c.set_header.new.self in
     record {
       live = live_same a b c.args.second
-          (put_others a b c.args.first c.append.new.self c.set_header.ensures.replaced c.args.second (λ same. c.requires.apart (sym same)))
+          (put_others a b c.args.first joined c.set_header.ensures.replaced c.args.second (λ same. c.requires.apart (sym same)))
           c.requires.second;
     }
 
 pub returns-clause-entries : goal.returns-clause-entries
 returns-clause-entries g c =
+    let joined = c.renew_hints.new.self in
     let a = c.args.nodes.now in
     let b = c.set_header.new.self in
     entries_same b c.release.new.self c.args.first (c.release.ensures.others c.args.first c.requires.apart)
-    ∙ put_entries a b c.args.first c.append.new.self c.set_header.ensures.replaced
+    ∙ put_entries a b c.args.first joined c.set_header.ensures.replaced
+    ∙ c.renew_hints.ensures.entries
     ∙ c.append.ensures.entries
     ∙ ap₂ (λ xs ys. xs ++ ys) (sym (entries_from_header a c.args.first c.header-joined.result c.header-joined.ensures.header))
     (sym (entries_from_header a c.args.second c.header_ref.result.now c.header_ref.ensures.header))
 
 pub returns-clause-changes : goal.returns-clause-changes
 returns-clause-changes g c =
+    let joined = c.renew_hints.new.self in
     let a = c.args.nodes.now in
     let b = c.set_header.new.self in
     let d = c.release.new.self in
     let x = c.args.first in
     let y = c.args.second in
-    let put = put_moves a b x c.append.new.self c.set_header.ensures.replaced c.requires.first c.requires.keyless in
-    let live_x = put_live a b x c.append.new.self c.set_header.ensures.replaced in
+    let put = put_moves a b x joined c.set_header.ensures.replaced c.requires.first c.requires.keyless in
+    let live_x = put_live a b x joined c.set_header.ensures.replaced in
     let live_y =
-    live_same a b y (put_others a b x c.append.new.self c.set_header.ensures.replaced y (λ same. c.requires.apart (sym same)))
+    live_same a b y (put_others a b x joined c.set_header.ensures.replaced y (λ same. c.requires.apart (sym same)))
     c.requires.second in
     let gone = moves_released b d y put.keyless live_y c.release.ensures.released c.release.ensures.others
     (released_spare b d y live_y put.keyless c.release.ensures.spare) in

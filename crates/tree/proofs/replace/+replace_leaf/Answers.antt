@@ -14,8 +14,8 @@ use Rattle.tree.proofs.Storing.{live_own, stored}
 use Rattle.tree.proofs.Stepping.{is_at, live_beside, done, some_left, some_right, one_more}
 use Rattle.tree.proofs.replace.+replace_leaf.Goals as goal
 
-pub index_of-index-requires-clause-cut : goal.index_of-index-requires-clause-cut
-index_of-index-requires-clause-cut g t c =
+pub index_near-index-requires-clause-cut : goal.index_near-index-requires-clause-cut
+index_near-index-requires-clause-cut g t c =
     read_cut c.args.nodes.now (least_of g.row.N) c.args.height c.args.slot (g.P.Probe.lets_pass c.args.probe.now)
     c.header-node.result c.entries.result.now c.if-height-eq0.false c.requires.subtree c.requires.cut
     c.header-node.ensures.header c.entries.ensures.entries
@@ -31,14 +31,14 @@ replace_leaf-requires g t c κs within =
     let passes = g.P.Probe.lets_pass c.args.probe.now in
     let node = c.header-node.result in
     let es = entries_of node in
-    let i = c.index_of-index.result in
+    let i = c.index_near-index.result in
     let d = c.index-entries-index.result in
     let vs = c.entries-2.result.now in
     let x = (get_or vs i d).child in
     let at = is_at a L n h slot passes node c.entries.result.now vs i d next c.requires.subtree c.requires.distinct
-    c.header-node.ensures.header c.entries.ensures.entries c.entries-2.ensures.entries c.index_of-index.ensures.index
-    c.index_of-index.ensures.within in
-    let index : i ≡ index_in passes vs = c.index_of-index.ensures.index
+    c.header-node.ensures.header c.entries.ensures.entries c.entries-2.ensures.entries c.index_near-index.ensures.index
+    c.index_near-index.ensures.within in
+    let index : i ≡ index_in passes vs = c.index_near-index.ensures.index
     ∙ ap (index_in passes) (c.entries.ensures.entries ∙ sym c.entries-2.ensures.entries) in
     let f = found a L n slot passes node vs i d c.if-height-eq0.false c.requires.subtree c.requires.cut c.header-node.ensures.header
     c.entries-2.ensures.entries index in
@@ -80,13 +80,13 @@ link-split-requires g t c =
     let passes = g.P.Probe.lets_pass c.args.probe.now in
     let node = c.header-node.result in
     let es = entries_of node in
-    let i = c.index_of-index.result in
+    let i = c.index_near-index.result in
     let d = c.index-entries-index.result in
     let vs = c.entries-2.result.now in
     let x = (get_or vs i d).child in
     let at = is_at a L n h slot passes node c.entries.result.now vs i d next c.requires.subtree c.requires.distinct
-    c.header-node.ensures.header c.entries.ensures.entries c.entries-2.ensures.entries c.index_of-index.ensures.index
-    c.index_of-index.ensures.within in
+    c.header-node.ensures.header c.entries.ensures.entries c.entries-2.ensures.entries c.index_near-index.ensures.index
+    c.index_near-index.ensures.within in
     let b = c.replace_leaf.new.nodes in
     let s = c.in-Some.added in
     let moves = moves_if_changes a b (slots_in a h x) (slots_in b h x ++ slots_in b h s) c.in-Some.ensures.changes in
@@ -106,13 +106,13 @@ store-requires-in-Some g t c =
     let passes = g.P.Probe.lets_pass c.args.probe.now in
     let node = c.header-node.result in
     let es = entries_of node in
-    let i = c.index_of-index.result in
+    let i = c.index_near-index.result in
     let d = c.index-entries-index.result in
     let vs = c.entries-2.result.now in
     let x = (get_or vs i d).child in
     let at = is_at a L n h slot passes node c.entries.result.now vs i d next c.requires.subtree c.requires.distinct
-    c.header-node.ensures.header c.entries.ensures.entries c.entries-2.ensures.entries c.index_of-index.ensures.index
-    c.index_of-index.ensures.within in
+    c.header-node.ensures.header c.entries.ensures.entries c.entries-2.ensures.entries c.index_near-index.ensures.index
+    c.index_near-index.ensures.within in
     let b = c.replace_leaf.new.nodes in
     let s = c.in-Some.added in
     let moves = moves_if_changes a b (slots_in a h x) (slots_in b h x ++ slots_in b h s) c.in-Some.ensures.changes in (
@@ -134,13 +134,13 @@ mend-requires g t c =
     let passes = g.P.Probe.lets_pass c.args.probe.now in
     let node = c.header-node.result in
     let es = entries_of node in
-    let i = c.index_of-index.result in
+    let i = c.index_near-index.result in
     let d = c.index-entries-index.result in
     let vs = c.entries-2.result.now in
     let x = (get_or vs i d).child in
     let at = is_at a L n h slot passes node c.entries.result.now vs i d next c.requires.subtree c.requires.distinct
-    c.header-node.ensures.header c.entries.ensures.entries c.entries-2.ensures.entries c.index_of-index.ensures.index
-    c.index_of-index.ensures.within in
+    c.header-node.ensures.header c.entries.ensures.entries c.entries-2.ensures.entries c.index_near-index.ensures.index
+    c.index_near-index.ensures.within in
     let b = c.replace_leaf.new.nodes in
     let moves = moves_if_changes a b (slots_in a h x) (slots_in b h x) c.in-None.ensures.changes in
     let several : 2 ≤ length es = subst (λ l. 2 ≤ length l) at.read (c.requires.branches (omega arith)) in
@@ -158,13 +158,13 @@ store-requires-in-None g t c =
     let passes = g.P.Probe.lets_pass c.args.probe.now in
     let node = c.header-node.result in
     let es = entries_of node in
-    let i = c.index_of-index.result in
+    let i = c.index_near-index.result in
     let d = c.index-entries-index.result in
     let vs = c.entries-2.result.now in
     let x = (get_or vs i d).child in
     let at = is_at a L n h slot passes node c.entries.result.now vs i d next c.requires.subtree c.requires.distinct
-    c.header-node.ensures.header c.entries.ensures.entries c.entries-2.ensures.entries c.index_of-index.ensures.index
-    c.index_of-index.ensures.within in
+    c.header-node.ensures.header c.entries.ensures.entries c.entries-2.ensures.entries c.index_near-index.ensures.index
+    c.index_near-index.ensures.within in
     let b = c.replace_leaf.new.nodes in
     let moves = moves_if_changes a b (slots_in a h x) (slots_in b h x) c.in-None.ensures.changes in
     let z = c.mend.new.nodes in
@@ -186,13 +186,13 @@ returns-in-Some-clause-items g t c =
     let passes = g.P.Probe.lets_pass c.args.probe.now in
     let node = c.header-node.result in
     let es = entries_of node in
-    let i = c.index_of-index.result in
+    let i = c.index_near-index.result in
     let d = c.index-entries-index.result in
     let vs = c.entries-2.result.now in
     let x = (get_or vs i d).child in
     let at = is_at a L n h slot passes node c.entries.result.now vs i d next c.requires.subtree c.requires.distinct
-    c.header-node.ensures.header c.entries.ensures.entries c.entries-2.ensures.entries c.index_of-index.ensures.index
-    c.index_of-index.ensures.within in
+    c.header-node.ensures.header c.entries.ensures.entries c.entries-2.ensures.entries c.index_near-index.ensures.index
+    c.index_near-index.ensures.within in
     let b = c.replace_leaf.new.nodes in
     let s = c.in-Some.added in
     let moves = moves_if_changes a b (slots_in a h x) (slots_in b h x ++ slots_in b h s) c.in-Some.ensures.changes in
@@ -224,13 +224,13 @@ returns-in-Some-clause-subtree g t c =
     let passes = g.P.Probe.lets_pass c.args.probe.now in
     let node = c.header-node.result in
     let es = entries_of node in
-    let i = c.index_of-index.result in
+    let i = c.index_near-index.result in
     let d = c.index-entries-index.result in
     let vs = c.entries-2.result.now in
     let x = (get_or vs i d).child in
     let at = is_at a L n h slot passes node c.entries.result.now vs i d next c.requires.subtree c.requires.distinct
-    c.header-node.ensures.header c.entries.ensures.entries c.entries-2.ensures.entries c.index_of-index.ensures.index
-    c.index_of-index.ensures.within in
+    c.header-node.ensures.header c.entries.ensures.entries c.entries-2.ensures.entries c.index_near-index.ensures.index
+    c.index_near-index.ensures.within in
     let b = c.replace_leaf.new.nodes in
     let s = c.in-Some.added in
     let moves = moves_if_changes a b (slots_in a h x) (slots_in b h x ++ slots_in b h s) c.in-Some.ensures.changes in
@@ -262,13 +262,13 @@ returns-in-Some-clause-neighbour g t c =
     let passes = g.P.Probe.lets_pass c.args.probe.now in
     let node = c.header-node.result in
     let es = entries_of node in
-    let i = c.index_of-index.result in
+    let i = c.index_near-index.result in
     let d = c.index-entries-index.result in
     let vs = c.entries-2.result.now in
     let x = (get_or vs i d).child in
     let at = is_at a L n h slot passes node c.entries.result.now vs i d next c.requires.subtree c.requires.distinct
-    c.header-node.ensures.header c.entries.ensures.entries c.entries-2.ensures.entries c.index_of-index.ensures.index
-    c.index_of-index.ensures.within in
+    c.header-node.ensures.header c.entries.ensures.entries c.entries-2.ensures.entries c.index_near-index.ensures.index
+    c.index_near-index.ensures.within in
     let b = c.replace_leaf.new.nodes in
     let s = c.in-Some.added in
     let moves = moves_if_changes a b (slots_in a h x) (slots_in b h x ++ slots_in b h s) c.in-Some.ensures.changes in
@@ -300,13 +300,13 @@ returns-in-Some-clause-changes g t c =
     let passes = g.P.Probe.lets_pass c.args.probe.now in
     let node = c.header-node.result in
     let es = entries_of node in
-    let i = c.index_of-index.result in
+    let i = c.index_near-index.result in
     let d = c.index-entries-index.result in
     let vs = c.entries-2.result.now in
     let x = (get_or vs i d).child in
     let at = is_at a L n h slot passes node c.entries.result.now vs i d next c.requires.subtree c.requires.distinct
-    c.header-node.ensures.header c.entries.ensures.entries c.entries-2.ensures.entries c.index_of-index.ensures.index
-    c.index_of-index.ensures.within in
+    c.header-node.ensures.header c.entries.ensures.entries c.entries-2.ensures.entries c.index_near-index.ensures.index
+    c.index_near-index.ensures.within in
     let b = c.replace_leaf.new.nodes in
     let s = c.in-Some.added in
     let moves = moves_if_changes a b (slots_in a h x) (slots_in b h x ++ slots_in b h s) c.in-Some.ensures.changes in
@@ -338,13 +338,13 @@ returns-in-Some-clause-few_less g t c branch none =
     let passes = g.P.Probe.lets_pass c.args.probe.now in
     let node = c.header-node.result in
     let es = entries_of node in
-    let i = c.index_of-index.result in
+    let i = c.index_near-index.result in
     let d = c.index-entries-index.result in
     let vs = c.entries-2.result.now in
     let x = (get_or vs i d).child in
     let at = is_at a L n h slot passes node c.entries.result.now vs i d next c.requires.subtree c.requires.distinct
-    c.header-node.ensures.header c.entries.ensures.entries c.entries-2.ensures.entries c.index_of-index.ensures.index
-    c.index_of-index.ensures.within in
+    c.header-node.ensures.header c.entries.ensures.entries c.entries-2.ensures.entries c.index_near-index.ensures.index
+    c.index_near-index.ensures.within in
     let b = c.replace_leaf.new.nodes in
     let s = c.in-Some.added in
     let moves = moves_if_changes a b (slots_in a h x) (slots_in b h x ++ slots_in b h s) c.in-Some.ensures.changes in
@@ -380,13 +380,13 @@ returns-in-None-clause-items g t c =
     let passes = g.P.Probe.lets_pass c.args.probe.now in
     let node = c.header-node.result in
     let es = entries_of node in
-    let i = c.index_of-index.result in
+    let i = c.index_near-index.result in
     let d = c.index-entries-index.result in
     let vs = c.entries-2.result.now in
     let x = (get_or vs i d).child in
     let at = is_at a L n h slot passes node c.entries.result.now vs i d next c.requires.subtree c.requires.distinct
-    c.header-node.ensures.header c.entries.ensures.entries c.entries-2.ensures.entries c.index_of-index.ensures.index
-    c.index_of-index.ensures.within in
+    c.header-node.ensures.header c.entries.ensures.entries c.entries-2.ensures.entries c.index_near-index.ensures.index
+    c.index_near-index.ensures.within in
     let b = c.replace_leaf.new.nodes in
     let moves = moves_if_changes a b (slots_in a h x) (slots_in b h x) c.in-None.ensures.changes in
     let z = c.mend.new.nodes in
@@ -417,13 +417,13 @@ returns-in-None-clause-subtree g t c =
     let passes = g.P.Probe.lets_pass c.args.probe.now in
     let node = c.header-node.result in
     let es = entries_of node in
-    let i = c.index_of-index.result in
+    let i = c.index_near-index.result in
     let d = c.index-entries-index.result in
     let vs = c.entries-2.result.now in
     let x = (get_or vs i d).child in
     let at = is_at a L n h slot passes node c.entries.result.now vs i d next c.requires.subtree c.requires.distinct
-    c.header-node.ensures.header c.entries.ensures.entries c.entries-2.ensures.entries c.index_of-index.ensures.index
-    c.index_of-index.ensures.within in
+    c.header-node.ensures.header c.entries.ensures.entries c.entries-2.ensures.entries c.index_near-index.ensures.index
+    c.index_near-index.ensures.within in
     let b = c.replace_leaf.new.nodes in
     let moves = moves_if_changes a b (slots_in a h x) (slots_in b h x) c.in-None.ensures.changes in
     let z = c.mend.new.nodes in
@@ -454,13 +454,13 @@ returns-in-None-clause-changes g t c =
     let passes = g.P.Probe.lets_pass c.args.probe.now in
     let node = c.header-node.result in
     let es = entries_of node in
-    let i = c.index_of-index.result in
+    let i = c.index_near-index.result in
     let d = c.index-entries-index.result in
     let vs = c.entries-2.result.now in
     let x = (get_or vs i d).child in
     let at = is_at a L n h slot passes node c.entries.result.now vs i d next c.requires.subtree c.requires.distinct
-    c.header-node.ensures.header c.entries.ensures.entries c.entries-2.ensures.entries c.index_of-index.ensures.index
-    c.index_of-index.ensures.within in
+    c.header-node.ensures.header c.entries.ensures.entries c.entries-2.ensures.entries c.index_near-index.ensures.index
+    c.index_near-index.ensures.within in
     let b = c.replace_leaf.new.nodes in
     let moves = moves_if_changes a b (slots_in a h x) (slots_in b h x) c.in-None.ensures.changes in
     let z = c.mend.new.nodes in

@@ -13,13 +13,14 @@ pub returns-clause-changes : goal.returns-clause-changes
 returns-clause-changes g c =
     let a = c.args.nodes.now in
     let b = c.place.new.self in
+    let node = c.renew_hints.new.self in
     let slot = c.unwrap.result in
     let r = c.place.result in
     let e = c.unwrap.ensures in
     let free = at_ok (λ slot. record_at a slot ≡ None) r slot e c.place.ensures.was_free in
-    let placed = at_ok (λ slot. b.records ≡ map.insert a.records slot (record { header = c.args.node; key = [] })) r slot e c.place.ensures.placed in
-    let here = at_ok (λ slot. record_at b slot ≡ Some (record { header = c.args.node; key = [] })) r slot e c.place.ensures.record in
+    let placed = at_ok (λ slot. b.records ≡ map.insert a.records slot (record { header = node; key = [] })) r slot e c.place.ensures.placed in
+    let here = at_ok (λ slot. record_at b slot ≡ Some (record { header = node; key = [] })) r slot e c.place.ensures.record in
     let others = at_ok (λ slot. (other : ℕ) → other ≢ slot → record_at b other ≡ record_at a other) r slot e c.place.ensures.others in
     let spare = at_ok (λ _. spare_of b 0 + 1 ≡ cond (nat_eq (spare_of a 0) 0) (slots_of 0) (spare_of a 0)) r slot e c.place.ensures.spare in
     changes_if_moves a b [] (slot ∷ [])
-    (moves_placed a b slot c.args.node c.requires.keyless free placed here others (placed_spare a b c.requires.room spare))
+    (moves_placed a b slot node c.requires.keyless free placed here others (placed_spare a b c.requires.room spare))

@@ -11,9 +11,9 @@ pub returns-clause-none : goal.returns-clause-none
 returns-clause-none g c =
     let passes = g.P.Probe.lets_pass c.args.probe.now in
     let nodes = c.args.nodes.now in
-    let slot = c.leaf_of-slot.result in
+    let slot = c.find_leaf-slot.result in
     let es = entries_of c.header.result in
-    let found = c.leaf_of-slot.ensures in
+    let found = c.find_leaf-slot.ensures in
     let leaf = is_leaf nodes (least_of g.row.N) c.args.root.height c.args.root.slot passes slot es c.requires.subtree c.requires.cut found.leaf
     (entries_read nodes slot c.header.result es c.header.ensures.header refl) found.items found.before found.behind in
     leaf.none
@@ -23,9 +23,9 @@ returns-clause-cut g c =
     let passes = g.P.Probe.lets_pass c.args.probe.now in
     let nodes = c.args.nodes.now in
     let root = c.args.root in
-    let slot = c.leaf_of-slot.result in
+    let slot = c.find_leaf-slot.result in
     let es = entries_of c.header.result in
-    let found = c.leaf_of-slot.ensures in
+    let found = c.find_leaf-slot.ensures in
     let leaf = is_leaf nodes (least_of g.row.N) root.height root.slot passes slot es c.requires.subtree c.requires.cut found.leaf
     (entries_read nodes slot c.header.result es c.header.ensures.header refl) found.items found.before found.behind in
     leaf_cut_by_keys passes (items_in nodes root.height root.slot) (before_leaf nodes root.height root.slot passes)

@@ -49,7 +49,7 @@ invariant_of-self g c =
     let found = c.leaf-leaf.ensures in
     let split = c.insert_or_split-right in
     let es = entries_of c.leaf-leaf.result in
-    let i = c.passing-index.result in
+    let i = c.passing_near-index.result in
     let e = c.item.result in
     let before = before_leaf t.nodes t.root.height t.root.slot passes in
     let after = behind_leaf t.nodes t.root.height t.root.slot passes in
@@ -61,7 +61,7 @@ invariant_of-self g c =
     let made = c.item.ensures.item ∙ ap item_at (to_z-of_z w64 c.args.version c.ranges.version) in
     let now = c.put-self-inside.ensures.items
     ∙ inserted passes items before after es c.entries.result.now (entries_with split.new.self split.result) i e x is_one
-    c.entries.ensures.entries (split_entries split.new.self split.result _ split.ensures.entries) c.passing-index.ensures.first c.passing-index.ensures.rest
+    c.entries.ensures.entries (split_entries split.new.self split.result _ split.ensures.entries) c.passing_near-index.ensures.first c.passing_near-index.ensures.rest
     made in
     let more : length (items_in b to.height to.slot) ≡ length items + 1 = ap length now ∙ length-inserted passes items x in
     let room : length items < t.room = subst (λ (v : Items). length v.items < v.room) (sym c.self.view_is) c.requires.room in
@@ -76,7 +76,7 @@ returns-clause-items g c =
     let found = c.leaf-leaf.ensures in
     let split = c.insert_or_split-right in
     let es = entries_of c.leaf-leaf.result in
-    let i = c.passing-index.result in
+    let i = c.passing_near-index.result in
     let e = c.item.result in
     let before = before_leaf t.nodes t.root.height t.root.slot passes in
     let after = behind_leaf t.nodes t.root.height t.root.slot passes in
@@ -88,6 +88,6 @@ returns-clause-items g c =
     let made = c.item.ensures.item ∙ ap item_at (to_z-of_z w64 c.args.version c.ranges.version) in
     c.put-self-inside.ensures.items
     ∙ inserted passes items before after es c.entries.result.now (entries_with split.new.self split.result) i e x is_one
-    c.entries.ensures.entries (split_entries split.new.self split.result _ split.ensures.entries) c.passing-index.ensures.first c.passing-index.ensures.rest
+    c.entries.ensures.entries (split_entries split.new.self split.result _ split.ensures.entries) c.passing_near-index.ensures.first c.passing_near-index.ensures.rest
     made
     ∙ ap (λ (v : Items). passing passes v.items ++ (x ∷ behind passes v.items)) c.self.view_is

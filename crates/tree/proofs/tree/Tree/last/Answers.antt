@@ -8,15 +8,15 @@ use Rattle.tree.proofs.Found.{entries_read}
 use Rattle.tree.proofs.Leaves.{is_leaf, leaf_cut_by_keys, last_passing}
 use Rattle.tree.proofs.tree.Tree.last.Goals as goal
 
-pub passing-count-requires : goal.passing-count-requires
-passing-count-requires g c =
+pub passing_near-count-requires : goal.passing_near-count-requires
+passing_near-count-requires g c =
     let passes = g.P.Probe.lets_pass c.args.probe.now in
     let t = c.self.inside in
-    let found = c.leaf_of-leaf.ensures in
+    let found = c.find_leaf-leaf.ensures in
     let es = c.entries-entries.result.now in
     let cut = subst (λ items. IsCut (λ (x : Item). passes x.key) items) (sym (ap (λ v. v.items) c.self.view_is)) c.requires.cut in
-    let leaf = is_leaf t.nodes (least_of g.row.N) t.root.height t.root.slot passes c.leaf_of-leaf.result es c.self.invariant.rooted.subtree cut
-    found.leaf (entries_read t.nodes c.leaf_of-leaf.result c.header_ref.result.now es c.header_ref.ensures.header c.entries-entries.ensures.entries)
+    let leaf = is_leaf t.nodes (least_of g.row.N) t.root.height t.root.slot passes c.find_leaf-leaf.result es c.self.invariant.rooted.subtree cut
+    found.leaf (entries_read t.nodes c.find_leaf-leaf.result c.header_ref-2.result.now es c.header_ref-2.ensures.header c.entries-entries.ensures.entries)
     found.items found.before found.behind in
     let before = before_leaf t.nodes t.root.height t.root.slot passes in
     let after = behind_leaf t.nodes t.root.height t.root.slot passes in
@@ -27,11 +27,11 @@ pub returns : goal.returns
 returns g c =
     let passes = g.P.Probe.lets_pass c.args.probe.now in
     let t = c.self.inside in
-    let found = c.leaf_of-leaf.ensures in
+    let found = c.find_leaf-leaf.ensures in
     let es = c.entries-entries.result.now in
     let cut = subst (λ items. IsCut (λ (x : Item). passes x.key) items) (sym (ap (λ v. v.items) c.self.view_is)) c.requires.cut in
-    let leaf = is_leaf t.nodes (least_of g.row.N) t.root.height t.root.slot passes c.leaf_of-leaf.result es c.self.invariant.rooted.subtree cut
-    found.leaf (entries_read t.nodes c.leaf_of-leaf.result c.header_ref.result.now es c.header_ref.ensures.header c.entries-entries.ensures.entries)
+    let leaf = is_leaf t.nodes (least_of g.row.N) t.root.height t.root.slot passes c.find_leaf-leaf.result es c.self.invariant.rooted.subtree cut
+    found.leaf (entries_read t.nodes c.find_leaf-leaf.result c.header_ref-2.result.now es c.header_ref-2.ensures.header c.entries-entries.ensures.entries)
     found.items found.before found.behind in
     let before = before_leaf t.nodes t.root.height t.root.slot passes in
     let after = behind_leaf t.nodes t.root.height t.root.slot passes in
@@ -39,5 +39,5 @@ returns g c =
     let Last = λ (v : Items). MatchOption c.copied.result (passing passes v.items ≡ []) (λ e. IsLast (item_of e) (passing passes v.items)) in
     record {
       last = subst Last c.self.view_is
-          (last_passing passes items before after es _ c.copied.result leaf c.passing-count.ensures.first (c.copied.ensures ∙ c.last.ensures.value));
+          (last_passing passes items before after es _ c.copied.result leaf c.passing_near-count.ensures.first (c.copied.ensures ∙ c.last.ensures.value));
     }

@@ -6,12 +6,13 @@ use Rattle.tree.specs.Path.{IsCut, before_leaf, behind_leaf, passing, behind, be
 use Rattle.tree.specs.Subtree.{items_in}
 use Rattle.tree.specs.Tree.{Items}
 use Rattle.tree.proofs.Counting.{low, enough_spare}
+use Rattle.tree.proofs.Inserting.{tree_put}
 use Rattle.tree.proofs.Leaves.{IsLeaf}
-use Rattle.tree.proofs.Runs.{IsRun, tree_with, run_of, first_cut, none_between, run_between, run_taken, fewer, run_is, length-run, some_left}
+use Rattle.tree.proofs.Runs.{IsRun, run_of, first_cut, none_between, run_between, run_taken, fewer, run_is, length-run, some_left}
 use Rattle.tree.proofs.tree.Tree.take_run.Goals as goal
 
-pub passing-begin-requires : goal.passing-begin-requires
-passing-begin-requires g c =
+pub passing_near-begin-requires : goal.passing_near-begin-requires
+passing_near-begin-requires g c =
     let p = g.P.Probe.lets_pass c.args.from.now in
     let q = g.Q.Probe.lets_pass c.args.to.now in
     let t = c.self.inside in
@@ -38,13 +39,13 @@ returns-then-begin-end-clause-run g c =
     let leaf : IsLeaf q items before after es =
     record { items_are = found.items; pass = found.before; fail = found.behind; none = found.none } in
     let cut = subst (λ items. IsCut (λ (x : Item). p x.key) items) (sym (ap (λ v. v.items) c.self.view_is)) c.requires.from in
-    let begin = c.passing-begin.result in
-    let end = c.passing-end.result in
-    let first = subst (λ xs. take begin xs ≡ filter (λ (e : Entry). p e.key) xs) c.entries-2.ensures.entries c.passing-begin.ensures.first in
-    let rest = subst (λ xs. drop begin xs ≡ filter (λ (e : Entry). not (p e.key)) xs) c.entries-2.ensures.entries c.passing-begin.ensures.rest in
-    let last = subst (λ xs. take end xs ≡ filter (λ (e : Entry). q e.key) xs) c.entries.ensures.entries c.passing-end.ensures.first in
-    let others = subst (λ xs. drop end xs ≡ filter (λ (e : Entry). not (q e.key)) xs) c.entries.ensures.entries c.passing-end.ensures.rest in
-    let count = subst (λ xs. begin ≡ length (filter (λ (e : Entry). p e.key) xs)) c.entries-2.ensures.entries c.passing-begin.ensures.count in
+    let begin = c.passing_near-begin.result in
+    let end = c.passing_near-end.result in
+    let first = subst (λ xs. take begin xs ≡ filter (λ (e : Entry). p e.key) xs) c.entries-2.ensures.entries c.passing_near-begin.ensures.first in
+    let rest = subst (λ xs. drop begin xs ≡ filter (λ (e : Entry). not (p e.key)) xs) c.entries-2.ensures.entries c.passing_near-begin.ensures.rest in
+    let last = subst (λ xs. take end xs ≡ filter (λ (e : Entry). q e.key) xs) c.entries.ensures.entries c.passing_near-end.ensures.first in
+    let others = subst (λ xs. drop end xs ≡ filter (λ (e : Entry). not (q e.key)) xs) c.entries.ensures.entries c.passing_near-end.ensures.rest in
+    let count = subst (λ xs. begin ≡ length (filter (λ (e : Entry). p e.key) xs)) c.entries-2.ensures.entries c.passing_near-begin.ensures.count in
     let none = none_between p q c.requires.nested items before after es leaf cut begin end c.if-begin-end.true count first last others in
     (ap (λ (v : Items). between (Some p) (Some q) v.items) (sym c.self.view_is) ∙ none, refl)
 
@@ -86,13 +87,13 @@ invariant_of-self g c =
     let leaf : IsLeaf q items before after es =
     record { items_are = found.items; pass = found.before; fail = found.behind; none = found.none } in
     let cut = subst (λ items. IsCut (λ (x : Item). p x.key) items) (sym (ap (λ v. v.items) c.self.view_is)) c.requires.from in
-    let begin = c.passing-begin.result in
-    let end = c.passing-end.result in
-    let first = subst (λ xs. take begin xs ≡ filter (λ (e : Entry). p e.key) xs) c.entries-2.ensures.entries c.passing-begin.ensures.first in
-    let rest = subst (λ xs. drop begin xs ≡ filter (λ (e : Entry). not (p e.key)) xs) c.entries-2.ensures.entries c.passing-begin.ensures.rest in
-    let last = subst (λ xs. take end xs ≡ filter (λ (e : Entry). q e.key) xs) c.entries.ensures.entries c.passing-end.ensures.first in
-    let others = subst (λ xs. drop end xs ≡ filter (λ (e : Entry). not (q e.key)) xs) c.entries.ensures.entries c.passing-end.ensures.rest in
-    let most : end ≤ length es = subst (λ (xs : List Entry). end ≤ length xs) c.entries.ensures.entries c.passing-end.ensures.within in
+    let begin = c.passing_near-begin.result in
+    let end = c.passing_near-end.result in
+    let first = subst (λ xs. take begin xs ≡ filter (λ (e : Entry). p e.key) xs) c.entries-2.ensures.entries c.passing_near-begin.ensures.first in
+    let rest = subst (λ xs. drop begin xs ≡ filter (λ (e : Entry). not (p e.key)) xs) c.entries-2.ensures.entries c.passing_near-begin.ensures.rest in
+    let last = subst (λ xs. take end xs ≡ filter (λ (e : Entry). q e.key) xs) c.entries.ensures.entries c.passing_near-end.ensures.first in
+    let others = subst (λ xs. drop end xs ≡ filter (λ (e : Entry). not (q e.key)) xs) c.entries.ensures.entries c.passing_near-end.ensures.rest in
+    let most : end ≤ length es = subst (λ (xs : List Entry). end ≤ length xs) c.entries.ensures.entries c.passing_near-end.ensures.within in
     let middle = drop begin (take end es) in
     let run : IsRun p q es (take begin es) middle (drop end es) = run_of p q es begin end (omega arith) most first rest last others in
     let stay = entries_of c.remove-3.new.self in
@@ -112,7 +113,7 @@ invariant_of-self g c =
       some_left (passing p items) some,
       length-append (passing p items) (filter (λ (x : Item). not (p x.key) && q x.key) before ++ behind q items),
     ) in
-    tree_with t.nodes b t.root.slot t.root.height to.slot to.height t.len (t.len - (end - begin)) t.room c.self.invariant
+    tree_put t.nodes b t.root.slot t.root.height to.slot to.height t.len (t.len - (end - begin)) t.room c.self.invariant
     c.put-self-inside.ensures.rooted c.put-self-inside.ensures.spare (omega (arith, left, c.self.invariant.counted))
     (omega (arith, left, many, c.self.invariant.counted)) (omega (arith, c.self.invariant.within))
 
@@ -129,13 +130,13 @@ returns-clause-run g c =
     let leaf : IsLeaf q items before after es =
     record { items_are = found.items; pass = found.before; fail = found.behind; none = found.none } in
     let cut = subst (λ items. IsCut (λ (x : Item). p x.key) items) (sym (ap (λ v. v.items) c.self.view_is)) c.requires.from in
-    let begin = c.passing-begin.result in
-    let end = c.passing-end.result in
-    let first = subst (λ xs. take begin xs ≡ filter (λ (e : Entry). p e.key) xs) c.entries-2.ensures.entries c.passing-begin.ensures.first in
-    let rest = subst (λ xs. drop begin xs ≡ filter (λ (e : Entry). not (p e.key)) xs) c.entries-2.ensures.entries c.passing-begin.ensures.rest in
-    let last = subst (λ xs. take end xs ≡ filter (λ (e : Entry). q e.key) xs) c.entries.ensures.entries c.passing-end.ensures.first in
-    let others = subst (λ xs. drop end xs ≡ filter (λ (e : Entry). not (q e.key)) xs) c.entries.ensures.entries c.passing-end.ensures.rest in
-    let most : end ≤ length es = subst (λ (xs : List Entry). end ≤ length xs) c.entries.ensures.entries c.passing-end.ensures.within in
+    let begin = c.passing_near-begin.result in
+    let end = c.passing_near-end.result in
+    let first = subst (λ xs. take begin xs ≡ filter (λ (e : Entry). p e.key) xs) c.entries-2.ensures.entries c.passing_near-begin.ensures.first in
+    let rest = subst (λ xs. drop begin xs ≡ filter (λ (e : Entry). not (p e.key)) xs) c.entries-2.ensures.entries c.passing_near-begin.ensures.rest in
+    let last = subst (λ xs. take end xs ≡ filter (λ (e : Entry). q e.key) xs) c.entries.ensures.entries c.passing_near-end.ensures.first in
+    let others = subst (λ xs. drop end xs ≡ filter (λ (e : Entry). not (q e.key)) xs) c.entries.ensures.entries c.passing_near-end.ensures.rest in
+    let most : end ≤ length es = subst (λ (xs : List Entry). end ≤ length xs) c.entries.ensures.entries c.passing_near-end.ensures.within in
     let middle = drop begin (take end es) in
     let run : IsRun p q es (take begin es) middle (drop end es) = run_of p q es begin end (omega arith) most first rest last others in
     let stay = entries_of c.remove-3.new.self in

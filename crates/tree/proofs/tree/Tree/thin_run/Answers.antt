@@ -1,4 +1,4 @@
-use Rattle.std.proofs.Common.{arith, ◌≡◌, ◌≢◌, ℕ, ℤ, ◌+◌, ◌-◌, ◌<◌, ◌≤◌, ◌≤ℤ◌, ◌∙◌, ap, sym, subst, [], ◌∷◌, ◌++◌, not, length, filter, map, take, drop, List, Option, to_z, of_z, w64}
+use Rattle.std.proofs.Common.{arith, ◌≡◌, ◌≢◌, ℕ, ℤ, ◌+◌, ◌-◌, ◌<◌, ◌≤◌, ◌≤ℤ◌, ◌∙◌, ap, sym, subst, [], ◌∷◌, ◌++◌, not, length, filter, map, take, drop, List, Option, None, to_z, of_z, w64}
 use Rattle.std.specs.Prelude.{MatchOption}
 use Rattle.std.proofs.lemmas.Int.{to_z-of_z}
 use Rattle.std.proofs.lemmas.List.{length-map}
@@ -6,14 +6,14 @@ use Rattle.tree.specs.declared.entry.Entry.{Entry}
 use Rattle.tree.specs.declared.node.Node.{Node}
 use Rattle.tree.specs.Item.{Item, item_of}
 use Rattle.tree.specs.Node.{entries_of}
-use Rattle.tree.specs.Path.{IsCut, before_leaf, behind_leaf, passing, behind}
+use Rattle.tree.specs.Path.{IsCut, before_leaf, behind_leaf, passing, behind, first_key}
 use Rattle.tree.specs.Subtree.{items_in}
 use Rattle.tree.specs.Tree.{Items, IsLast, thin, gone}
 use Rattle.tree.proofs.Counting.{low, enough_spare}
+use Rattle.tree.proofs.Inserting.{tree_put}
 use Rattle.tree.proofs.Leaves.{IsLeaf}
-use Rattle.tree.proofs.Runs.{tree_with}
 use Rattle.tree.proofs.Thinning.{run, all_stay}
-use Rattle.tree.proofs.LastRun.{some_passes, run_found, length-looked, thinned_items, thinned_count, thinned_some, unthinned, none_gone, versions}
+use Rattle.tree.proofs.LastRun.{some_passes, run_found, length-looked, key_behind_run, thinned_items, thinned_count, thinned_some, unthinned, none_gone, versions}
 use Rattle.tree.proofs.tree.Tree.thin_run.Goals as goal
 
 pub overflow_sub-begin : goal.overflow_sub-begin
@@ -28,7 +28,7 @@ overflow_sub-begin g c =
     let leaf : IsLeaf p items before after es =
     record { items_are = found.items; pass = found.before; fail = found.behind; none = found.none } in
     let some : passing p items ≢ [] = λ none. c.requires.some (ap (λ (v : Items). passing p v.items) (sym c.self.view_is) ∙ none) in
-    let count = subst (λ xs. c.passing-begin.result ≡ length (filter (λ (e : Entry). p e.key) xs)) c.entries.ensures.entries c.passing-begin.ensures.count in
+    let count = subst (λ xs. c.passing_near-begin.result ≡ length (filter (λ (e : Entry). p e.key) xs)) c.entries.ensures.entries c.passing_near-begin.ensures.count in
     omega (arith, count, some_passes p items before after es leaf some)
 
 pub put-self-inside-requires : goal.put-self-inside-requires
@@ -68,9 +68,9 @@ thin-thinned-requires g c =
     let leaf : IsLeaf p items before after es =
     record { items_are = found.items; pass = found.before; fail = found.behind; none = found.none } in
     let some : passing p items ≢ [] = λ none. c.requires.some (ap (λ (v : Items). passing p v.items) (sym c.self.view_is) ∙ none) in
-    let count = subst (λ xs. c.passing-begin.result ≡ length (filter (λ (e : Entry). p e.key) xs)) c.entries.ensures.entries c.passing-begin.ensures.count in
+    let count = subst (λ xs. c.passing_near-begin.result ≡ length (filter (λ (e : Entry). p e.key) xs)) c.entries.ensures.entries c.passing_near-begin.ensures.count in
     let many = some_passes p items before after es leaf some in
-    let within : c.passing-begin.result ≤ length es = subst (λ (xs : List Entry). c.passing-begin.result ≤ length xs) c.entries.ensures.entries c.passing-begin.ensures.within in
+    let within : c.passing_near-begin.result ≤ length es = subst (λ (xs : List Entry). c.passing_near-begin.result ≤ length xs) c.entries.ensures.entries c.passing_near-begin.ensures.within in
     (omega (arith, c.self.invariant.few), (omega (arith, c.self.invariant.few), (omega (arith, many, count, within), omega (arith, many, count, within))))
 
 pub overflow_sub-self : goal.overflow_sub-self
@@ -85,16 +85,16 @@ overflow_sub-self g c =
     let leaf : IsLeaf p items before after es =
     record { items_are = found.items; pass = found.before; fail = found.behind; none = found.none } in
     let some : passing p items ≢ [] = λ none. c.requires.some (ap (λ (v : Items). passing p v.items) (sym c.self.view_is) ∙ none) in
-    let count = subst (λ xs. c.passing-begin.result ≡ length (filter (λ (e : Entry). p e.key) xs)) c.entries.ensures.entries c.passing-begin.ensures.count in
+    let count = subst (λ xs. c.passing_near-begin.result ≡ length (filter (λ (e : Entry). p e.key) xs)) c.entries.ensures.entries c.passing_near-begin.ensures.count in
     let many = some_passes p items before after es leaf some in
-    let within : c.passing-begin.result ≤ length es = subst (λ (xs : List Entry). c.passing-begin.result ≤ length xs) c.entries.ensures.entries c.passing-begin.ensures.within in
-    let begin = c.passing-begin.result - 1 in
+    let within : c.passing_near-begin.result ≤ length es = subst (λ (xs : List Entry). c.passing_near-begin.result ≤ length xs) c.entries.ensures.entries c.passing_near-begin.ensures.within in
+    let begin = c.passing_near-begin.result - 1 in
     let end = begin + c.min.result in
-    let one : begin + 1 ≡ c.passing-begin.result = omega (arith, many, count) in
+    let one : begin + 1 ≡ c.passing_near-begin.result = omega (arith, many, count) in
     let front_is = ap (λ (n : ℕ). take n es) one
-    ∙ subst (λ xs. take c.passing-begin.result xs ≡ filter (λ (e : Entry). p e.key) xs) c.entries.ensures.entries c.passing-begin.ensures.first in
+    ∙ subst (λ xs. take c.passing_near-begin.result xs ≡ filter (λ (e : Entry). p e.key) xs) c.entries.ensures.entries c.passing_near-begin.ensures.first in
     let rest_is = ap (λ (n : ℕ). drop n es) one
-    ∙ subst (λ xs. drop c.passing-begin.result xs ≡ filter (λ (e : Entry). not (p e.key)) xs) c.entries.ensures.entries c.passing-begin.ensures.rest in
+    ∙ subst (λ xs. drop c.passing_near-begin.result xs ≡ filter (λ (e : Entry). not (p e.key)) xs) c.entries.ensures.entries c.passing_near-begin.ensures.rest in
     let less : begin < end = omega (arith, many, count, within) in
     let most : end ≤ length es = omega (arith, many, count, within) in
     let looked = map item_of (run es begin end) in
@@ -124,16 +124,16 @@ invariant_of-self g c =
     let leaf : IsLeaf p items before after es =
     record { items_are = found.items; pass = found.before; fail = found.behind; none = found.none } in
     let some : passing p items ≢ [] = λ none. c.requires.some (ap (λ (v : Items). passing p v.items) (sym c.self.view_is) ∙ none) in
-    let count = subst (λ xs. c.passing-begin.result ≡ length (filter (λ (e : Entry). p e.key) xs)) c.entries.ensures.entries c.passing-begin.ensures.count in
+    let count = subst (λ xs. c.passing_near-begin.result ≡ length (filter (λ (e : Entry). p e.key) xs)) c.entries.ensures.entries c.passing_near-begin.ensures.count in
     let many = some_passes p items before after es leaf some in
-    let within : c.passing-begin.result ≤ length es = subst (λ (xs : List Entry). c.passing-begin.result ≤ length xs) c.entries.ensures.entries c.passing-begin.ensures.within in
-    let begin = c.passing-begin.result - 1 in
+    let within : c.passing_near-begin.result ≤ length es = subst (λ (xs : List Entry). c.passing_near-begin.result ≤ length xs) c.entries.ensures.entries c.passing_near-begin.ensures.within in
+    let begin = c.passing_near-begin.result - 1 in
     let end = begin + c.min.result in
-    let one : begin + 1 ≡ c.passing-begin.result = omega (arith, many, count) in
+    let one : begin + 1 ≡ c.passing_near-begin.result = omega (arith, many, count) in
     let front_is = ap (λ (n : ℕ). take n es) one
-    ∙ subst (λ xs. take c.passing-begin.result xs ≡ filter (λ (e : Entry). p e.key) xs) c.entries.ensures.entries c.passing-begin.ensures.first in
+    ∙ subst (λ xs. take c.passing_near-begin.result xs ≡ filter (λ (e : Entry). p e.key) xs) c.entries.ensures.entries c.passing_near-begin.ensures.first in
     let rest_is = ap (λ (n : ℕ). drop n es) one
-    ∙ subst (λ xs. drop c.passing-begin.result xs ≡ filter (λ (e : Entry). not (p e.key)) xs) c.entries.ensures.entries c.passing-begin.ensures.rest in
+    ∙ subst (λ xs. drop c.passing_near-begin.result xs ≡ filter (λ (e : Entry). not (p e.key)) xs) c.entries.ensures.entries c.passing_near-begin.ensures.rest in
     let less : begin < end = omega (arith, many, count, within) in
     let most : end ≤ length es = omega (arith, many, count, within) in
     let looked = map item_of (run es begin end) in
@@ -158,7 +158,7 @@ invariant_of-self g c =
     let left = thinned_some p items before after es leaf begin end front_is rest_is less most edge last stay thinned.kept first_stays in
     let size : length (items_in b to.height to.slot) + c.len-in-Some.result ≡ length items = omega (arith, ap length now, counted, out) in
     let many_left : 1 ≤ length (items_in b to.height to.slot) = omega (arith, ap length now, left) in
-    tree_with t.nodes b t.root.slot t.root.height to.slot to.height t.len (t.len - c.len-in-Some.result) t.room c.self.invariant
+    tree_put t.nodes b t.root.slot t.root.height to.slot to.height t.len (t.len - c.len-in-Some.result) t.room c.self.invariant
     c.put-self-inside.ensures.rooted c.put-self-inside.ensures.spare (omega (arith, size, c.self.invariant.counted))
     (omega (arith, size, many_left, c.self.invariant.counted)) (omega (arith, c.self.invariant.within))
 
@@ -174,16 +174,16 @@ returns-in-Some-clause-thinned g c =
     let leaf : IsLeaf p items before after es =
     record { items_are = found.items; pass = found.before; fail = found.behind; none = found.none } in
     let some : passing p items ≢ [] = λ none. c.requires.some (ap (λ (v : Items). passing p v.items) (sym c.self.view_is) ∙ none) in
-    let count = subst (λ xs. c.passing-begin.result ≡ length (filter (λ (e : Entry). p e.key) xs)) c.entries.ensures.entries c.passing-begin.ensures.count in
+    let count = subst (λ xs. c.passing_near-begin.result ≡ length (filter (λ (e : Entry). p e.key) xs)) c.entries.ensures.entries c.passing_near-begin.ensures.count in
     let many = some_passes p items before after es leaf some in
-    let within : c.passing-begin.result ≤ length es = subst (λ (xs : List Entry). c.passing-begin.result ≤ length xs) c.entries.ensures.entries c.passing-begin.ensures.within in
-    let begin = c.passing-begin.result - 1 in
+    let within : c.passing_near-begin.result ≤ length es = subst (λ (xs : List Entry). c.passing_near-begin.result ≤ length xs) c.entries.ensures.entries c.passing_near-begin.ensures.within in
+    let begin = c.passing_near-begin.result - 1 in
     let end = begin + c.min.result in
-    let one : begin + 1 ≡ c.passing-begin.result = omega (arith, many, count) in
+    let one : begin + 1 ≡ c.passing_near-begin.result = omega (arith, many, count) in
     let front_is = ap (λ (n : ℕ). take n es) one
-    ∙ subst (λ xs. take c.passing-begin.result xs ≡ filter (λ (e : Entry). p e.key) xs) c.entries.ensures.entries c.passing-begin.ensures.first in
+    ∙ subst (λ xs. take c.passing_near-begin.result xs ≡ filter (λ (e : Entry). p e.key) xs) c.entries.ensures.entries c.passing_near-begin.ensures.first in
     let rest_is = ap (λ (n : ℕ). drop n es) one
-    ∙ subst (λ xs. drop c.passing-begin.result xs ≡ filter (λ (e : Entry). not (p e.key)) xs) c.entries.ensures.entries c.passing-begin.ensures.rest in
+    ∙ subst (λ xs. drop c.passing_near-begin.result xs ≡ filter (λ (e : Entry). not (p e.key)) xs) c.entries.ensures.entries c.passing_near-begin.ensures.rest in
     let less : begin < end = omega (arith, many, count, within) in
     let most : end ≤ length es = omega (arith, many, count, within) in
     let looked = map item_of (run es begin end) in
@@ -222,16 +222,16 @@ returns-in_default-clause-thinned g c =
     let leaf : IsLeaf p items before after es =
     record { items_are = found.items; pass = found.before; fail = found.behind; none = found.none } in
     let some : passing p items ≢ [] = λ none. c.requires.some (ap (λ (v : Items). passing p v.items) (sym c.self.view_is) ∙ none) in
-    let count = subst (λ xs. c.passing-begin.result ≡ length (filter (λ (e : Entry). p e.key) xs)) c.entries.ensures.entries c.passing-begin.ensures.count in
+    let count = subst (λ xs. c.passing_near-begin.result ≡ length (filter (λ (e : Entry). p e.key) xs)) c.entries.ensures.entries c.passing_near-begin.ensures.count in
     let many = some_passes p items before after es leaf some in
-    let within : c.passing-begin.result ≤ length es = subst (λ (xs : List Entry). c.passing-begin.result ≤ length xs) c.entries.ensures.entries c.passing-begin.ensures.within in
-    let begin = c.passing-begin.result - 1 in
+    let within : c.passing_near-begin.result ≤ length es = subst (λ (xs : List Entry). c.passing_near-begin.result ≤ length xs) c.entries.ensures.entries c.passing_near-begin.ensures.within in
+    let begin = c.passing_near-begin.result - 1 in
     let end = begin + c.min.result in
-    let one : begin + 1 ≡ c.passing-begin.result = omega (arith, many, count) in
+    let one : begin + 1 ≡ c.passing_near-begin.result = omega (arith, many, count) in
     let front_is = ap (λ (n : ℕ). take n es) one
-    ∙ subst (λ xs. take c.passing-begin.result xs ≡ filter (λ (e : Entry). p e.key) xs) c.entries.ensures.entries c.passing-begin.ensures.first in
+    ∙ subst (λ xs. take c.passing_near-begin.result xs ≡ filter (λ (e : Entry). p e.key) xs) c.entries.ensures.entries c.passing_near-begin.ensures.first in
     let rest_is = ap (λ (n : ℕ). drop n es) one
-    ∙ subst (λ xs. drop c.passing-begin.result xs ≡ filter (λ (e : Entry). not (p e.key)) xs) c.entries.ensures.entries c.passing-begin.ensures.rest in
+    ∙ subst (λ xs. drop c.passing_near-begin.result xs ≡ filter (λ (e : Entry). not (p e.key)) xs) c.entries.ensures.entries c.passing_near-begin.ensures.rest in
     let less : begin < end = omega (arith, many, count, within) in
     let most : end ≤ length es = omega (arith, many, count, within) in
     let looked = map item_of (run es begin end) in
@@ -260,3 +260,61 @@ returns-in_default-clause-thinned g c =
       subst (λ (e : ℤ). Removed e c.args.before) edge_is (subst (λ (b : ℤ). Removed edge b) before_is thinned.removed),
       subst (λ (xs : List ℤ). IsLast c.thin-thinned.result.last xs) (sym (versions (run es begin end))) thinned.last,
     )
+
+pub returns-in-Some-clause-next : goal.returns-in-Some-clause-next
+returns-in-Some-clause-next g c =
+    let p = g.P.Probe.lets_pass c.args.probe.now in
+    let t = c.self.inside in
+    let es = entries_of c.leaf-leaf.result in
+    let found = c.leaf-leaf.ensures in
+    let before = before_leaf t.nodes t.root.height t.root.slot p in
+    let after = behind_leaf t.nodes t.root.height t.root.slot p in
+    let items = items_in t.nodes t.root.height t.root.slot in
+    let leaf : IsLeaf p items before after es =
+    record { items_are = found.items; pass = found.before; fail = found.behind; none = found.none } in
+    let some : passing p items ≢ [] = λ none. c.requires.some (ap (λ (v : Items). passing p v.items) (sym c.self.view_is) ∙ none) in
+    let count = subst (λ xs. c.passing_near-begin.result ≡ length (filter (λ (e : Entry). p e.key) xs)) c.entries.ensures.entries c.passing_near-begin.ensures.count in
+    let many = some_passes p items before after es leaf some in
+    let within : c.passing_near-begin.result ≤ length es = subst (λ (xs : List Entry). c.passing_near-begin.result ≤ length xs) c.entries.ensures.entries c.passing_near-begin.ensures.within in
+    let begin = c.passing_near-begin.result - 1 in
+    let end = begin + c.min.result in
+    let one : begin + 1 ≡ c.passing_near-begin.result = omega (arith, many, count) in
+    let front_is = ap (λ (n : ℕ). take n es) one
+    ∙ subst (λ xs. take c.passing_near-begin.result xs ≡ filter (λ (e : Entry). p e.key) xs) c.entries.ensures.entries c.passing_near-begin.ensures.first in
+    let rest_is = ap (λ (n : ℕ). drop n es) one
+    ∙ subst (λ xs. drop c.passing_near-begin.result xs ≡ filter (λ (e : Entry). not (p e.key)) xs) c.entries.ensures.entries c.passing_near-begin.ensures.rest in
+    let less : begin < end = omega (arith, many, count, within) in
+    let most : end ≤ length es = omega (arith, many, count, within) in
+    let thinned = c.thin-thinned.ensures in
+    key_behind_run p items before after es leaf begin end front_is rest_is less most None c.key_behind_leaf-behind.result
+    c.thin-thinned.result.next c.thin-thinned.result.looked_at c.key_behind_leaf-behind.ensures.key thinned.next thinned.looked_at
+    ∙ ap (λ (v : Items). first_key None (drop (c.thin-thinned.result.looked_at - 1) (behind p v.items))) c.self.view_is
+
+pub returns-in_default-clause-next : goal.returns-in_default-clause-next
+returns-in_default-clause-next g c =
+    let p = g.P.Probe.lets_pass c.args.probe.now in
+    let t = c.self.inside in
+    let es = entries_of c.leaf-leaf.result in
+    let found = c.leaf-leaf.ensures in
+    let before = before_leaf t.nodes t.root.height t.root.slot p in
+    let after = behind_leaf t.nodes t.root.height t.root.slot p in
+    let items = items_in t.nodes t.root.height t.root.slot in
+    let leaf : IsLeaf p items before after es =
+    record { items_are = found.items; pass = found.before; fail = found.behind; none = found.none } in
+    let some : passing p items ≢ [] = λ none. c.requires.some (ap (λ (v : Items). passing p v.items) (sym c.self.view_is) ∙ none) in
+    let count = subst (λ xs. c.passing_near-begin.result ≡ length (filter (λ (e : Entry). p e.key) xs)) c.entries.ensures.entries c.passing_near-begin.ensures.count in
+    let many = some_passes p items before after es leaf some in
+    let within : c.passing_near-begin.result ≤ length es = subst (λ (xs : List Entry). c.passing_near-begin.result ≤ length xs) c.entries.ensures.entries c.passing_near-begin.ensures.within in
+    let begin = c.passing_near-begin.result - 1 in
+    let end = begin + c.min.result in
+    let one : begin + 1 ≡ c.passing_near-begin.result = omega (arith, many, count) in
+    let front_is = ap (λ (n : ℕ). take n es) one
+    ∙ subst (λ xs. take c.passing_near-begin.result xs ≡ filter (λ (e : Entry). p e.key) xs) c.entries.ensures.entries c.passing_near-begin.ensures.first in
+    let rest_is = ap (λ (n : ℕ). drop n es) one
+    ∙ subst (λ xs. drop c.passing_near-begin.result xs ≡ filter (λ (e : Entry). not (p e.key)) xs) c.entries.ensures.entries c.passing_near-begin.ensures.rest in
+    let less : begin < end = omega (arith, many, count, within) in
+    let most : end ≤ length es = omega (arith, many, count, within) in
+    let thinned = c.thin-thinned.ensures in
+    key_behind_run p items before after es leaf begin end front_is rest_is less most None c.key_behind_leaf-behind.result
+    c.thin-thinned.result.next c.thin-thinned.result.looked_at c.key_behind_leaf-behind.ensures.key thinned.next thinned.looked_at
+    ∙ ap (λ (v : Items). first_key None (drop (c.thin-thinned.result.looked_at - 1) (behind p v.items))) c.self.view_is

@@ -1,0 +1,23 @@
+use Rattle.std.proofs.Common.{arith, ◌≡◌, ◌+◌, ◌-◌, ◌++◌, ◌∙◌, ap, length, take, drop}
+use Rattle.std.proofs.lemmas.List.{length-take-le}
+use Rattle.tree.specs.Node.{entries_of}
+use Rattle.tree.proofs.Splicing.{take-spliced}
+use Rattle.tree.proofs.node.Node.splice.Goals as goal
+
+pub returns : goal.returns
+returns g c =
+    let node = c.args.self.now in
+    let from = c.args.from in
+    let to = c.args.to in
+    let new = c.args.new.now in
+    let moved = c.copy_within.new.self in
+    let end = from + length new in
+    let full : length node.entries ≡ g.row.N = omega arith in
+    let len : length (entries_of node) ≡ node.len = length-take-le node.len node.entries (omega arith) in
+    let written : c.copy_from_slice.new.self ≡ new = c.copy_from_slice.ensures.after in
+    record {
+      entries =
+          ap (λ xs. take (end + (node.len - to)) (take from moved ++ (xs ++ drop (end - from) (drop from moved)))) written
+          ∙ take-spliced node.entries moved new node.len from to (omega arith) c.requires.ordered (omega arith) (omega arith)
+          c.copy_within.ensures.after;
+    }
