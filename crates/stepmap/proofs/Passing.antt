@@ -1,35 +1,38 @@
--- A sweep, as the code makes it: between two indexes.
+-- A sweep, as the code makes it: up to the key of the first boundary that is left.
 use Rattle.std.proofs.Common.{
   ◌≡◌,
+  ◌≢◌,
   ℕ,
-  ◌+◌,
-  ◌-◌,
   ◌<◌,
   ◌≤◌,
-  min,
+  true,
+  false,
+  not,
+  ◌==◌,
   List,
   [],
   ◌∷◌,
-  ◌++◌,
   length,
-  get_or,
-  take,
   drop,
   refl,
   sym,
   ◌∙◌,
   ap,
   arith,
+  tests,
   length-drop,
 }
-use Rattle.std.specs.Prelude.{ℤ, negsuc, Option, Some, None, slice_range, unwrap_or}
-use Rattle.std.proofs.lemmas.List.{take_min, drop_min, drop-drop, drop_all, drop_more}
-use Rattle.stepmap.specs.Boundary.{Boundary, last_version}
+use Rattle.std.specs.Prelude.{ℤ, All, Option, Some, None, unwrap_or}
+use Rattle.std.proofs.lemmas.List.Elements.{All-head, All-drop, All-weaker, filter_passes}
+use Rattle.keyspace.specs.Key.{is_before}
+use Rattle.keyspace.proofs.Booleans.{and_left}
+use Rattle.stepmap.specs.Boundary.{Boundary}
 use Rattle.stepmap.specs.StepMap.{Round, Steps}
+use Rattle.stepmap.specs.Stored.{first_key}
 use Rattle.stepmap.specs.Sweeping.{
-  thinned,
   cursor_of,
   round_edge,
+  is_left,
   left_from,
   passed_to,
   rest,
@@ -38,107 +41,93 @@ use Rattle.stepmap.specs.Sweeping.{
   after_sweep,
 }
 use Rattle.stepmap.specs.Kept.{round_of}
+use Rattle.stepmap.proofs.Order.{not_empty_if_after}
 
--- the boundaries were looked at from `from` on before `to`, and the first that wasn't is at `next` now
-pub record IsPass (edge : ℤ) (cursor : List ℕ) (count : ℕ) (old new : List Boundary)
-    (from to next : ℕ) : Type 0 where
-  pub from_in : from ≤ length old
-  pub before : take from old ≡ passed_to cursor old
-  pub left : drop from old ≡ left_from cursor old
-  pub to_is : to ≡ from + min count (length old - from)
-  pub items : new ≡ take from old
-      ++ (thinned edge (last_version (negsuc 0) (take from old)) (slice_range old from to) ++ drop to old)
-  pub unseen : drop next new ≡ drop to old
-  pub next_in : next ≤ length new
+-- so many boundaries were looked at, and the cursor is at the first that is left
+pub record IsPass (edge : ℤ) (began : List ℕ) (count : ℕ) (old new : List Boundary) (at : List ℕ) : Type 0 where
+  pub boundaries : new ≡ swept edge count (passed_to began old) (left_from began old)
+  pub cursor : at ≡ first_key (drop count (left_from began old))
 
-module _ (edge : ℤ) (cursor : List ℕ) (count : ℕ) (old new : List Boundary) (from to next : ℕ)
-    (h : IsPass edge cursor count old new from to next) where
-  left_length : length (left_from cursor old) ≡ length old - from
-  left_length = ap length (sym h.left) ∙ length-drop from old
+-- the keys of those that are left have some length
+left_filled : (cursor : List ℕ) (bs : List Boundary) → All (λ b. b.key ≢ []) (left_from cursor bs)
+left_filled cursor bs =
+    All-weaker (λ b. is_left cursor b ≡ true) (λ b. b.key ≢ [])
+    (λ b l. not_empty_if_after b.key [] (and_left (is_before [] b.key) (not (is_before b.key cursor)) l))
+    (left_from cursor bs) (filter_passes (is_left cursor) bs)
 
-  looked_is : slice_range old from to ≡ take count (left_from cursor old)
-  looked_is =
-      let e : to - from ≡ min count (length (left_from cursor old)) = omega (arith, h.to_is, left_length) in
-      ap (λ n. take n (drop from old)) e ∙ ap (take (min count (length (left_from cursor old)))) h.left
-      ∙ take_min count (left_from cursor old)
+-- where the cursor is empty, none is left
+none_at : (bs : List Boundary) → All (λ b. b.key ≢ []) bs → first_key bs ≡ [] → bs ≡ []
+none_at [] filled e = refl
+none_at (b ∷ bs) filled e = absurd (All-head (λ b. b.key ≢ []) b bs filled e)
 
-  unseen_is : drop to old ≡ drop count (left_from cursor old)
-  unseen_is =
-      let e : to ≡ from + min count (length (left_from cursor old)) = omega (arith, h.to_is, left_length) in
-      ap (λ n. drop n old) e ∙ sym (drop-drop (min count (length (left_from cursor old))) from old)
-      ∙ ap (drop (min count (length (left_from cursor old)))) h.left
-      ∙ drop_min count (left_from cursor old)
+-- where it isn't, the round goes on there
+goes_on : (edge : ℤ) (bs : List Boundary) (cursor : List ℕ) → cursor ≡ first_key bs → cursor ≢ []
+    → (round_at edge bs ≡ Some (record { cursor = cursor; edge = edge })) × (0 < length bs)
+goes_on edge [] cursor e later = absurd (later e)
+goes_on edge (b ∷ bs) cursor e later =
+    (ap (λ (k : List ℕ). Some (record { cursor = k; edge = edge })) (sym e), omega arith)
 
-  pub pass_items : new ≡ swept edge count (passed_to cursor old) (left_from cursor old)
-  pass_items =
-      h.items
-      ∙ ap (λ xs. xs ++ (thinned edge (last_version (negsuc 0) xs) (slice_range old from to)
-      ++ drop to old)) h.before
-      ∙ ap (λ xs. passed_to cursor old
-      ++ (thinned edge (last_version (negsuc 0) (passed_to cursor old)) xs ++ drop to old)) looked_is
-      ∙ ap (λ xs. passed_to cursor old
-      ++ (thinned edge (last_version (negsuc 0) (passed_to cursor old))
-      (take count (left_from cursor old)) ++ xs)) unseen_is
+module _ (m : Steps) (count : ℕ) (new : List Boundary) (cursor : List ℕ)
+    (h : IsPass m.edge (cursor_of m.round) count m.boundaries new cursor) where
+  unseen : List Boundary
+  unseen = drop count (left_from (cursor_of m.round) m.boundaries)
 
-  pub pass_ended : next ≡ length new → (drop count (left_from cursor old) ≡ [])
-      × (length (left_from cursor old) ≤ count)
-  pass_ended e =
-      let none : drop count (left_from cursor old) ≡ [] =
-      sym unseen_is ∙ sym h.unseen ∙ drop_all next new (omega arith) in
-      (none, omega (arith, length-drop count (left_from cursor old), ap length none))
-
-  pub pass_stopped : (x : Boundary) → next < length new → x ≡ get_or new next x
-      → (drop count (left_from cursor old) ≡ x ∷ drop (next + 1) new)
-      × (count < length (left_from cursor old))
-  pass_stopped x lt is =
-      let some : drop count (left_from cursor old) ≡ x ∷ drop (next + 1) new =
-      sym unseen_is ∙ sym h.unseen ∙ drop_more new next x lt
-      ∙ ap (λ y. y ∷ drop (next + 1) new) (sym is) in
-      (some, omega (arith, length-drop count (left_from cursor old), ap length some))
-
-module _ (m : Steps) (count : ℕ) (new : List Boundary) (from to next : ℕ)
-    (h : IsPass m.edge (cursor_of m.round) count m.boundaries new from to next) where
-  pub ended_map : next ≡ length new → record m { boundaries = new; round = None } ≡ after_sweep count m
-  ended_map e =
-      let none = (pass_ended m.edge (cursor_of m.round) count m.boundaries new from to next h e).0 in
-      let items = pass_items m.edge (cursor_of m.round) count m.boundaries new from to next h in
-      ap (λ (xs : List Boundary). record m { boundaries = xs; round = None }) items
+  swept_to : (round : Option Round) → round_at (round_edge m.edge m.round) unseen ≡ round
+      → record m { boundaries = new; round = round } ≡ after_sweep count m
+  unfolding unseen
+  swept_to round e =
+      ap (λ (xs : List Boundary). record m { boundaries = xs; round = round }) h.boundaries
       ∙ ap (λ (r : Option Round). record m {
         boundaries =
             swept m.edge count (passed_to (cursor_of m.round) m.boundaries)
             (left_from (cursor_of m.round) m.boundaries);
         round = r;
-      })
-      (ap (round_at (round_edge m.edge m.round)) (sym none))
+      }) (sym e)
 
-  pub ended_rest : next ≡ length new → rest m ≤ count
-  ended_rest e = (pass_ended m.edge (cursor_of m.round) count m.boundaries new from to next h e).1
+  ended : cursor ≡ [] → unseen ≡ []
+  unfolding unseen
+  ended e =
+      none_at unseen
+      (All-drop (λ b. b.key ≢ []) count (left_from (cursor_of m.round) m.boundaries)
+      (left_filled (cursor_of m.round) m.boundaries)) (sym h.cursor ∙ e)
 
-  pub stopped_map : (x : Boundary) → next < length new → x ≡ get_or new next x
-      → record m {
-        boundaries = new;
-        round =
-            Some (record { cursor = x.key; edge = round_edge m.edge m.round });
-      } ≡ after_sweep count m
-  stopped_map x lt is =
-      let some = (pass_stopped m.edge (cursor_of m.round) count m.boundaries new from to next h x lt is).0 in
-      let items = pass_items m.edge (cursor_of m.round) count m.boundaries new from to next h in
-      ap (λ (xs : List Boundary). record m {
-        boundaries = xs;
-        round =
-            Some (record { cursor = x.key; edge = round_edge m.edge m.round });
-      }) items
-      ∙ ap (λ (r : Option Round). record m {
-        boundaries =
-            swept m.edge count (passed_to (cursor_of m.round) m.boundaries)
-            (left_from (cursor_of m.round) m.boundaries);
-        round = r;
-      })
-      (ap (round_at (round_edge m.edge m.round)) (sym some))
+  pub ended_map : cursor ≡ [] → record m { boundaries = new; round = None } ≡ after_sweep count m
+  unfolding unseen
+  ended_map e = swept_to None (ap (round_at (round_edge m.edge m.round)) (ended e))
 
-  pub stopped_rest : (x : Boundary) → next < length new → x ≡ get_or new next x → count < rest m
-  stopped_rest x lt is =
-      (pass_stopped m.edge (cursor_of m.round) count m.boundaries new from to next h x lt is).1
+  pub ended_rest : cursor ≡ [] → rest m ≤ count
+  unfolding unseen
+  ended_rest e =
+      omega (arith, length-drop count (left_from (cursor_of m.round) m.boundaries), ap length (ended e))
+
+  pub stopped_map : cursor ≢ [] → record m {
+    boundaries = new;
+    round =
+        Some (record { cursor = cursor; edge = round_edge m.edge m.round });
+  } ≡ after_sweep count m
+  unfolding unseen
+  stopped_map later =
+      swept_to (Some (record { cursor = cursor; edge = round_edge m.edge m.round }))
+      (goes_on (round_edge m.edge m.round) unseen cursor h.cursor later).0
+
+  pub stopped_rest : cursor ≢ [] → count < rest m
+  unfolding unseen
+  stopped_rest later =
+      omega (
+        arith,
+        length-drop count (left_from (cursor_of m.round) m.boundaries),
+        (goes_on (round_edge m.edge m.round) unseen cursor h.cursor later).1,
+      )
+
+-- what a test tells whether there is no byte
+pub empty_if : (xs : List ℕ) (n : ℕ) → length xs ≡ n → (n == 0) ≡ true → xs ≡ []
+empty_if [] n len e = refl
+empty_if (x ∷ xs) n len e = absurd (grind (arith, tests))
+
+pub some_if : (xs : List ℕ) (n : ℕ) → length xs ≡ n → (n == 0) ≡ false → xs ≢ []
+some_if xs n len e none =
+    let zero : length xs ≡ 0 = ap length none in
+    grind (arith, tests)
 
 -- the edge with which the round began, as the code finds it
 pub began_is : (edge : ℤ) (cursor : List ℕ) (round : Option ℤ)

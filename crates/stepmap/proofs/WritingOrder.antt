@@ -35,7 +35,7 @@ below_empty [] = refl
 below_empty (b ∷ bs) = rw (not_before_empty b.key) (below_empty bs)
 
 -- a new boundary and those that rise from it, after those below its key
-join_in_order : (bs : List Boundary) (y : Boundary) (ys : List Boundary) → AreInOrder bs → RiseFrom y.key ys
+pub join_in_order : (bs : List Boundary) (y : Boundary) (ys : List Boundary) → AreInOrder bs → RiseFrom y.key ys
     → AreInOrder (below y.key bs ++ y ∷ ys)
 join_in_order [] y ys o r = absurd o
 join_in_order (b ∷ bs) y ys o r =

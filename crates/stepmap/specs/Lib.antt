@@ -10,4 +10,6 @@ pub mod Counting
 pub mod Uniting
 pub mod Laws
 pub mod Indexes
+pub mod Cut
+pub mod Stored
 pub mod Kept

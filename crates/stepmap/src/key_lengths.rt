@@ -1,7 +1,10 @@
-ghost use Rattle.std.specs.Prelude.{◌≡◌};
+ghost use Rattle.std.specs.Prelude.{◌≡◌, IfOk, OnOk};
 ghost use Rattle.stepmap.specs.StepMap.{lengths};
+ghost use Rattle.stepmap.specs.Stored.{each_length};
 
 use keyspace::RangeRef;
+use std::alloc::{AllocError, Global};
+use std::collections::VecDeque;
 use std::marker::Model;
 
 /// The lengths in bytes of a range's begin and end, each at most [`MAX_KEY_LENGTH`](keyspace::MAX_KEY_LENGTH). Contracts
@@ -49,4 +52,30 @@ impl KeyLengths {
     {
         self.end as usize
     }
+}
+
+// Returns the lengths one by one, the begin's before the end's.
+pub(crate) fn each_length(alloc: Global, lengths: &[KeyLengths]) -> Result<Vec<usize>, AllocError>
+    ensures each { IfOk result (λ each. each.items ≡ each_length lengths.now) }
+{
+    let mut each = Vec::new(alloc);
+    for pair in lengths {
+        each.push(pair.begin())?;
+        each.push(pair.end())?;
+    }
+    Ok(each)
+}
+
+// Keeps these lengths in place of those that there are.
+pub(crate) fn keep(
+    kept: &mut VecDeque<KeyLengths>,
+    lengths: &[KeyLengths],
+) -> Result<(), AllocError>
+    ensures lengths { OnOk result (kept.new.items ≡ lengths.now) }
+{
+    kept.clear();
+    for pair in lengths {
+        kept.push_back(*pair)?;
+    }
+    Ok(())
 }

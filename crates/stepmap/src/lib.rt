@@ -10,16 +10,14 @@
 //! these to lists of writes. How the boundaries are kept shows nowhere.
 #![tactic(auto)]
 
-mod boundary;
+mod boundaries;
+mod cut;
 mod error;
-mod greatest;
-mod indexes;
 mod key_lengths;
 pub mod laws;
-mod room;
+mod release;
 mod step_map;
-mod thinning;
-mod writing;
+mod sweeping;
 
 pub use error::StepError;
 pub use key_lengths::KeyLengths;

@@ -13,21 +13,19 @@ ghost use Rattle.stepmap.specs.Covers.{SameFrom, MapCovers, IsAbove};
 ghost use Rattle.stepmap.specs.Rooted.{Ends, Rooted};
 ghost use Rattle.stepmap.specs.Counting.{live_count};
 
-use crate::boundary::Boundary;
+use crate::boundaries::Boundaries;
 use crate::error::StepError;
-use crate::greatest::{greatest_version, is_above};
-use crate::indexes::{index_left, version_at};
-use crate::key_lengths::KeyLengths;
-use crate::room::{Room, make_rooms};
-use crate::thinning::thin;
-use crate::writing::write_range;
-use keyspace::{Key, MAX_KEY_LENGTH, Range, RangeRef};
+use crate::key_lengths::{KeyLengths, keep};
+use keyspace::{MAX_KEY_LENGTH, Range, RangeRef};
 use std::alloc::{AllocError, Global};
 use std::collections::VecDeque;
 use std::marker::Model;
 
 /// The greatest limit on the boundaries of a step map: this project's own.
 pub const MAX_LIMIT: usize = 16_777_216;
+
+// How many entries a node of the tree has at most.
+const FAN_OUT: usize = 32;
 
 /// How a sweep ended.
 #[derive(Clone, Copy, Debug, PartialEq, Eq, Hash)]
@@ -44,26 +42,27 @@ pub enum SweepEnd {
 #[derive(Debug, Drop)]
 pub struct StepMap {
     alloc: Global,
-    boundaries: Vec<Boundary>,
+    boundaries: Boundaries<FAN_OUT>,
     edge: i64,
-    rooms: VecDeque<Room>,
+    // The lengths of the ranges that may be written next.
+    ready: VecDeque<KeyLengths>,
     cursor: Vec<u8>,
     round: Option<i64>,
     limit: usize,
 }
 
 impl Model for StepMap {
-    ghost use Rattle.std.specs.Prelude.{vec_len, vec_capacity};
+    ghost use Rattle.std.specs.Prelude.{vec_capacity};
     ghost use Rattle.stepmap.specs.StepMap.{Steps};
     ghost use Rattle.stepmap.specs.Kept.{steps_of, IsKept};
 
     ghost Value = { Steps };
 
-    ghost view = { λ m. steps_of m.boundaries.items m.edge m.rooms.items m.cursor.items m.round m.limit };
+    ghost view = { λ m. steps_of m.boundaries m.edge m.ready.items m.cursor.items m.round m.limit };
 
     ghost invariant = { λ m. IsKept
-        (steps_of m.boundaries.items m.edge m.rooms.items m.cursor.items m.round m.limit)
-        m.cursor.items (vec_len m.boundaries) (vec_capacity m.boundaries) (vec_capacity m.cursor) };
+        (steps_of m.boundaries m.edge m.ready.items m.cursor.items m.round m.limit)
+        m.boundaries m.cursor.items (vec_capacity m.cursor) };
 }
 
 impl StepMap {
@@ -79,14 +78,12 @@ impl StepMap {
         ensures err { IfErr result (λ error. error ≡ StepError.Memory) }
     {
         let cursor = Vec::with_capacity(alloc, MAX_KEY_LENGTH)?;
-        let mut boundaries = Vec::with_capacity(alloc, 1)?;
-        let empty = Key::new(Vec::new(alloc));
-        boundaries.push(Boundary::new(empty, -1)).unwrap();
+        let boundaries = Boundaries::new(alloc).map_err(|_| AllocError)?;
         Ok(StepMap {
             alloc,
             boundaries,
             edge: 0,
-            rooms: VecDeque::new(alloc),
+            ready: VecDeque::new(alloc),
             cursor,
             round: None,
             limit,
@@ -97,7 +94,7 @@ impl StepMap {
     pub fn at(&self, key: &[u8]) -> i64
         ensures value { result ≡ value_at self.now.boundaries key.now }
     {
-        version_at(&self.boundaries, key)
+        self.boundaries.version_at(key)
     }
 
     /// Returns the greatest version at a key of the range, or -1 if it is empty.
@@ -110,14 +107,14 @@ impl StepMap {
         if range.is_empty() {
             return -1;
         }
-        greatest_version(&self.boundaries, range)
+        self.boundaries.greatest(range)
     }
 
     /// Returns whether the version at some key of the range is above this one; false if the range is empty.
     pub fn exceeds(&self, range: &Range, version: i64) -> bool
         ensures above { IsTrue result ↔ IsAbove self.now range.now version }
     {
-        !range.is_empty() && is_above(&self.boundaries, range, version)
+        !range.is_empty() && self.boundaries.is_above(range, version)
     }
 
     /// Returns the number of boundaries, that at the empty key included.
@@ -158,7 +155,7 @@ impl StepMap {
     {
         self.make_room(lengths.len());
         if !self.has_room_for(lengths.len()) {
-            self.rooms.clear();
+            self.ready.clear();
             return Err(StepError::Full);
         }
         self.reserve(lengths)?;
@@ -186,9 +183,8 @@ impl StepMap {
         ensures rest { rest self.new ≤ rest self.old + 2 }
         ensures count { length self.new.boundaries ≤ length self.old.boundaries + 2 }
     {
-        let room = self.rooms.pop_front().unwrap();
-        let (begin, end) = room.fill(&range);
-        write_range(&mut self.boundaries, &range, begin, end, version);
+        self.ready.pop_front();
+        self.boundaries.write(&range, version);
     }
 
     /// Raises the edge to this one. Nothing else changes. It takes no memory.
@@ -221,18 +217,12 @@ impl StepMap {
         ensures fewer { result ≡ SweepEnd.Stopped → rest self.new + count ≡ rest self.old }
         ensures count { length self.new.boundaries ≤ length self.old.boundaries }
     {
-        let from = index_left(&self.boundaries, &self.cursor);
-        let to = from + count.min(self.boundaries.len() - from);
         let began = self.round.unwrap_or(self.edge);
-        let next = thin(&mut self.boundaries, from, to, self.edge);
-        self.cursor.clear();
-        if next == self.boundaries.len() {
+        self.boundaries.thin(&mut self.cursor, count, self.edge);
+        if self.cursor.is_empty() {
             self.round = None;
             return SweepEnd::Round;
         }
-        self.cursor
-            .extend_from_slice(self.boundaries[next].key())
-            .unwrap();
         self.round = Some(began);
         SweepEnd::Stopped
     }
@@ -278,13 +268,13 @@ impl StepMap {
         ensures ok { OnOk result (self.new ≡ record self.old { ready = lengths.now }) }
         ensures err { OnErr result (self.new ≡ record self.old { ready = [] }) }
     {
-        let made = make_rooms(&mut self.rooms, self.alloc, lengths);
-        let reserved = match made {
-            Ok(()) => self.boundaries.reserve(2 * lengths.len()),
+        let kept = keep(&mut self.ready, lengths);
+        let reserved = match kept {
+            Ok(()) => self.boundaries.reserve(lengths),
             Err(refused) => Err(refused),
         };
         if reserved.is_err() {
-            self.rooms.clear();
+            self.ready.clear();
         }
         reserved
     }

@@ -9,7 +9,7 @@ use Rattle.stepmap.proofs.step_map.StepMap.prepare.Goals.{After-clear, After-fro
 -- where there is no room
 full : (c : After-clear)
     → RoomKeeps (length c.args.lengths.now) c.args.self.now
-    (steps_of c.self.inside.boundaries.items c.self.inside.edge c.clear.new.self.items
+    (steps_of c.self.inside.boundaries c.self.inside.edge c.clear.new.self.items
     c.self.inside.cursor.items c.self.inside.round c.self.inside.limit)
 full c =
     let i = c.self.inside in

@@ -1,12 +1,13 @@
 use Rattle.std.proofs.Common.{
   ◌≡◌,
-  ℕ,
-  ◌+◌,
+  ◌≢◌,
   ◌≤◌,
   ◌<◌,
-  List,
-  length,
-  ◌++◌,
+  true,
+  false,
+  [],
+  drop,
+  Option,
   Some,
   None,
   refl,
@@ -17,171 +18,125 @@ use Rattle.std.proofs.Common.{
   rules,
   arith,
 }
-use Rattle.std.specs.Prelude.{ℤ, unwrap_or}
+use Rattle.std.specs.Prelude.{ℤ, unwrap_or, vec_len, vec_capacity}
 use Rattle.std.proofs.lemmas.Int.{to_z-of_z}
 use mir.Syntax.{w64}
 use mir.Val.{SFits, to_z, of_z}
 use Rattle.stepmap.specs.StepMap.{Steps, AreSteps}
-use Rattle.stepmap.specs.Sweeping.{cursor_of, round_edge, rest, after_sweep, passed_to, left_from}
-use Rattle.stepmap.specs.Kept.{round_of}
+use Rattle.stepmap.specs.Sweeping.{cursor_of, round_edge, rest, after_sweep, passed_to, left_from, swept}
+use Rattle.stepmap.specs.Stored.{first_key}
+use Rattle.stepmap.specs.Kept.{round_of, steps_of, IsKept}
 use Rattle.stepmap.proofs.Changes.{sweep_keeps}
-use Rattle.stepmap.proofs.Passing.{IsPass, ended_map, ended_rest, stopped_map, stopped_rest, began_is}
+use Rattle.stepmap.proofs.Passing.{
+  IsPass,
+  ended_map,
+  ended_rest,
+  stopped_map,
+  stopped_rest,
+  empty_if,
+  some_if,
+  began_is,
+}
 use Rattle.stepmap.proofs.step_map.StepMap.sweep.Goals as goal
-use Rattle.stepmap.proofs.step_map.StepMap.sweep.Goals.{After-len-2, After-unwrap}
+use Rattle.stepmap.proofs.step_map.StepMap.sweep.Goals.{After-is_empty}
 
 -- the map before, as the fields say
-old : (c : After-len-2) → Steps
-old c = record {
-  boundaries = c.self.inside.boundaries.items;
-  edge = c.self.inside.edge;
-  ready = c.self.inside.rooms.items;
-  round = round_of c.self.inside.cursor.items c.self.inside.round;
-  limit = c.self.inside.limit;
-}
+old : (c : After-is_empty) → Steps
+old c = steps_of c.self.inside.boundaries c.self.inside.edge c.self.inside.ready.items c.self.inside.cursor.items
+    c.self.inside.round c.self.inside.limit
 
-edge_is : (c : After-len-2) → to_z w64 (of_z w64 c.self.inside.edge) ≡ c.self.inside.edge
+edge_is : (c : After-is_empty) → to_z w64 (of_z w64 c.self.inside.edge) ≡ c.self.inside.edge
 edge_is c = let fits : SFits w64 c.self.inside.edge = search rules in to_z-of_z w64 c.self.inside.edge fits
 
-pass : (c : After-len-2)
-    → IsPass (old c).edge (cursor_of (old c).round) c.args.count
-    (old c).boundaries c.thin-next.new.boundaries.items c.index_left-from.result
-    (c.index_left-from.result + c.min.result) c.thin-next.result
+pass : (c : After-is_empty)
+    → IsPass (old c).edge (cursor_of (old c).round) c.args.count (old c).boundaries c.thin.new.self.boundaries
+    c.thin.new.cursor.items
 unfolding old
 pass c =
-    let bs = c.self.inside.boundaries.items in
+    let bs = c.self.inside.boundaries.boundaries in
+    let at = sym c.self.invariant.at_cursor in
     record {
-      from_in = rw c.deref.ensures.value at c.index_left-from.ensures.bound;
-      before = (rw (c.deref.ensures.value, c.deref-2.ensures.value) at c.index_left-from.ensures.before)
-          ∙ ap (λ p. passed_to p bs) (sym c.self.invariant.at_cursor);
-      left = (rw (c.deref.ensures.value, c.deref-2.ensures.value) at c.index_left-from.ensures.rest)
-          ∙ ap (λ p. left_from p bs) (sym c.self.invariant.at_cursor);
-      to_is = omega (arith, c.min.ensures, c.len.ensures, c.self.inside.boundaries.ok.0);
-      items = rw (edge_is c) at c.thin-next.ensures.items;
-      unseen = c.thin-next.ensures.unseen;
-      next_in = omega (arith, c.thin-next.ensures.next, c.thin-next.new.boundaries.ok.0);
+      boundaries = (rw (edge_is c) at c.thin.ensures.boundaries)
+          ∙ ap (λ k. swept c.self.inside.edge c.args.count (passed_to k bs) (left_from k bs)) at;
+      cursor = c.thin.ensures.cursor ∙ ap (λ k. first_key (drop c.args.count (left_from k bs))) at;
     }
 
 -- where the round has ended
-ended_is : (c : After-len-2) → c.thin-next.result ≡ c.len-2.result
-    → record (old c) {
-      boundaries = c.thin-next.new.boundaries.items;
-      round =
-          None;
-    } ≡ after_sweep c.args.count (old c)
-ended_is c e =
-    ended_map (old c) c.args.count c.thin-next.new.boundaries.items _ _ c.thin-next.result (pass c)
-    (omega (arith, c.len-2.ensures, c.thin-next.new.boundaries.ok.0))
-
-ended_few : (c : After-len-2) → c.thin-next.result ≡ c.len-2.result → rest (old c) ≤ c.args.count
-ended_few c e =
-    ended_rest (old c) c.args.count c.thin-next.new.boundaries.items _ _ c.thin-next.result (pass c)
-    (omega (arith, c.len-2.ensures, c.thin-next.new.boundaries.ok.0))
+ended : (c : After-is_empty) → c.is_empty.result ≡ true → c.thin.new.cursor.items ≡ []
+ended c e =
+    empty_if c.thin.new.cursor.items (vec_len c.thin.new.cursor) (omega (arith, c.thin.new.cursor.ok.0))
+    (sym c.is_empty.ensures ∙ e)
 
 -- where it has stopped
-stop_in : (c : After-unwrap) → c.thin-next.result < length c.thin-next.new.boundaries.items
-stop_in c = let le = c.thin-next.ensures.next in let ne = c.if-next-len.false in
-    omega (arith, c.len-2.ensures, c.thin-next.new.boundaries.ok.0)
+stopped : (c : After-is_empty) → c.is_empty.result ≡ false → c.thin.new.cursor.items ≢ []
+stopped c e =
+    some_if c.thin.new.cursor.items (vec_len c.thin.new.cursor) (omega (arith, c.thin.new.cursor.ok.0))
+    (sym c.is_empty.ensures ∙ e)
 
-cursor_is : (c : After-unwrap) → c.extend_from_slice.new.self.items ≡ c.index.result.now.key
-cursor_is c = (rw c.unwrap.ensures at c.extend_from_slice.ensures.items)
-    ∙ ap (λ xs. xs ++ c.key.result.now) c.clear.ensures.items ∙ c.key.ensures.bytes
-
-began : (c : After-unwrap)
+began : (c : After-is_empty)
     → to_z w64 (of_z w64 c.unwrap_or-began.result)
     ≡ round_edge c.self.inside.edge (round_of c.self.inside.cursor.items c.self.inside.round)
 began c =
     let fits : SFits w64 c.unwrap_or-began.result = search rules in
-    let fits_edge : SFits w64 c.self.inside.edge = search rules in
     to_z-of_z w64 c.unwrap_or-began.result fits ∙ c.unwrap_or-began.ensures
-    ∙ ap (unwrap_or c.self.inside.round) (to_z-of_z w64 c.self.inside.edge fits_edge)
+    ∙ ap (unwrap_or c.self.inside.round) (edge_is c)
     ∙ began_is c.self.inside.edge c.self.inside.cursor.items c.self.inside.round
 
-stopped : (c : After-unwrap) → Steps
-stopped c = record {
-  boundaries = c.thin-next.new.boundaries.items;
-  edge = c.self.inside.edge;
-  ready = c.self.inside.rooms.items;
-  round = Some (record {
-    cursor = c.extend_from_slice.new.self.items;
-    edge =
-        to_z w64 (of_z w64 c.unwrap_or-began.result);
-  });
-  limit = c.self.inside.limit;
-}
+-- the map after, as the fields say
+new_map : (c : After-is_empty) → Option ℤ → Steps
+new_map c round = steps_of c.thin.new.self c.self.inside.edge c.self.inside.ready.items c.thin.new.cursor.items round
+    c.self.inside.limit
 
-before : (c : After-unwrap) → Steps
-before c = record {
-  boundaries = c.self.inside.boundaries.items;
-  edge = c.self.inside.edge;
-  ready = c.self.inside.rooms.items;
-  round = round_of c.self.inside.cursor.items c.self.inside.round;
-  limit = c.self.inside.limit;
-}
+ended_is : (c : After-is_empty) → c.thin.new.cursor.items ≡ [] → new_map c None ≡ after_sweep c.args.count (old c)
+unfolding old new_map
+ended_is c e = ended_map (old c) c.args.count c.thin.new.self.boundaries c.thin.new.cursor.items (pass c) e
 
-stopped_is : (c : After-unwrap)
-    → (at : IsPass (before c).edge (cursor_of (before c).round) c.args.count
-    (before c).boundaries c.thin-next.new.boundaries.items c.index_left-from.result
-    (c.index_left-from.result + c.min.result) c.thin-next.result)
-    → stopped c ≡ after_sweep c.args.count (before c)
-unfolding stopped before
-stopped_is c at =
-    ap (λ (p : List ℕ). record (stopped c) {
-      round =
-          Some (record { cursor = p; edge = to_z w64 (of_z w64 c.unwrap_or-began.result) });
-    }) (cursor_is c)
-    ∙ ap (λ (e : ℤ). record (stopped c) {
-      round =
-          Some (record { cursor = c.index.result.now.key; edge = e });
-    }) (began c)
-    ∙ stopped_map
-    (before c) c.args.count c.thin-next.new.boundaries.items _ _ c.thin-next.result at c.index.result.now
-    (stop_in c) c.index.ensures
+stopped_is : (c : After-is_empty) → c.thin.new.cursor.items ≢ []
+    → new_map c (Some (to_z w64 (of_z w64 c.unwrap_or-began.result))) ≡ after_sweep c.args.count (old c)
+unfolding old new_map
+stopped_is c later =
+    ap (λ (e : ℤ). new_map c (Some e)) (began c)
+    ∙ stopped_map (old c) c.args.count c.thin.new.self.boundaries c.thin.new.cursor.items (pass c) later
 
-pub index-requires : goal.index-requires
-index-requires c = let le = c.thin-next.ensures.next in let ne = c.if-next-len.false in
-    omega (arith, c.len-2.ensures)
+-- what is kept beside the map stays
+stays : (c : After-is_empty) (round : Option ℤ) → cursor_of (new_map c round).round ≡ c.thin.new.cursor.items
+    → new_map c round ≡ after_sweep c.args.count (old c)
+    → IsKept (new_map c round) c.thin.new.self c.thin.new.cursor.items (vec_capacity c.thin.new.cursor)
+unfolding old new_map
+stays c round at is =
+    let keeps = sweep_keeps c.args.count (old c) c.self.invariant.steps _ is in
+    record {
+      steps = keeps.steps;
+      boundaries = omega (arith, c.self.invariant.boundaries, keeps.no_more, c.thin.ensures.room);
+      keys = λ size lt. omega (arith, c.self.invariant.keys size lt, c.thin.ensures.spare size);
+      any_key = omega (arith, c.self.invariant.any_key, c.thin.ensures.capacity);
+      at_cursor = at;
+    }
 
 pub invariant_of-self : goal.invariant_of-self
-unfolding old
+unfolding old new_map
 invariant_of-self c =
-    let at = (goal.at.invariant_of-self c).After-len-2 in
-    record {
-      steps = (sweep_keeps c.args.count (old at) c.self.invariant.steps _
-          (ended_is at c.if-next-len.true)).steps;
-      boundaries =
-          omega (arith, c.self.invariant.boundaries, c.thin-next.ensures.len, c.thin-next.ensures.capacity);
-      any_key = omega (arith, c.self.invariant.any_key, c.clear.ensures.capacity);
-      at_cursor = sym c.clear.ensures.items;
-    }
+    let at = (goal.at.invariant_of-self c).After-is_empty in
+    let e = ended at c.if-is_empty.true in
+    stays at None (sym e) (ended_is at e)
 
 pub invariant_of-self-2 : goal.invariant_of-self-2
-unfolding old stopped before
+unfolding old new_map
 invariant_of-self-2 c =
-    let at = (goal.at.invariant_of-self-2 c).After-unwrap in
-    let pass = pass (goal.at.invariant_of-self-2 c).After-len-2 in
-    record {
-      steps = (sweep_keeps c.args.count (before at) c.self.invariant.steps _ (stopped_is at pass)).steps;
-      boundaries =
-          omega (arith, c.self.invariant.boundaries, c.thin-next.ensures.len, c.thin-next.ensures.capacity);
-      any_key =
-          omega (
-            arith,
-            c.self.invariant.any_key,
-            c.clear.ensures.capacity,
-            c.extend_from_slice.ensures.capacity,
-          );
-      at_cursor = refl;
-    }
+    let at = (goal.at.invariant_of-self-2 c).After-is_empty in
+    stays at (Some (to_z w64 (of_z w64 c.unwrap_or-began.result))) refl (stopped_is at (stopped at c.if-is_empty.false))
 
-pub returns-then-next-len : goal.returns-then-next-len
-unfolding old
-returns-then-next-len c =
-    let at = (goal.at.returns-then-next-len c).After-len-2 in
-    let is = ended_is at c.if-next-len.true ∙ ap (after_sweep c.args.count) c.self.view_is in
-    let few = subst (λ (m : Steps). rest m ≤ c.args.count) c.self.view_is (ended_few at c.if-next-len.true) in
+pub returns-then-is_empty : goal.returns-then-is_empty
+unfolding old new_map
+returns-then-is_empty c =
+    let at = (goal.at.returns-then-is_empty c).After-is_empty in
+    let e = ended at c.if-is_empty.true in
+    let is = ended_is at e ∙ ap (after_sweep c.args.count) c.self.view_is in
+    let few =
+    subst (λ (m : Steps). rest m ≤ c.args.count) c.self.view_is
+    (ended_rest (old at) c.args.count c.thin.new.self.boundaries c.thin.new.cursor.items (pass at) e) in
     let keeps =
-    sweep_keeps c.args.count c.args.self.now
-    (subst AreSteps c.self.view_is c.self.invariant.steps) _ is in
+    sweep_keeps c.args.count c.args.self.now (subst AreSteps c.self.view_is c.self.invariant.steps) _ is in
     record {
       map = is;
       round = (λ _. few, λ _. refl);
@@ -197,19 +152,16 @@ returns-then-next-len c =
     }
 
 pub returns : goal.returns
-unfolding old stopped before
+unfolding old new_map
 returns c =
-    let at = (goal.at.returns c).After-unwrap in
-    let pass = pass (goal.at.returns c).After-len-2 in
-    let is = stopped_is at pass ∙ ap (after_sweep c.args.count) c.self.view_is in
+    let at = (goal.at.returns c).After-is_empty in
+    let later = stopped at c.if-is_empty.false in
+    let is = stopped_is at later ∙ ap (after_sweep c.args.count) c.self.view_is in
     let more =
     subst (λ (m : Steps). c.args.count < rest m) c.self.view_is
-    (stopped_rest
-    (before at) c.args.count c.thin-next.new.boundaries.items _ _ c.thin-next.result pass
-    c.index.result.now (stop_in at) c.index.ensures) in
+    (stopped_rest (old at) c.args.count c.thin.new.self.boundaries c.thin.new.cursor.items (pass at) later) in
     let keeps =
-    sweep_keeps c.args.count c.args.self.now
-    (subst AreSteps c.self.view_is c.self.invariant.steps) _ is in
+    sweep_keeps c.args.count c.args.self.now (subst AreSteps c.self.view_is c.self.invariant.steps) _ is in
     record {
       map = is;
       round = (λ other. cc, λ few. absurd (omega (arith, more, few)));

@@ -10,7 +10,7 @@ returns c =
     let front = c.self.view_is ∙ c.end_round.ensures.map in
     let same = ap (λ (m : Steps). length m.boundaries) front in
     let count : c.len-count.result ≡ length old.boundaries =
-    omega (arith, c.len-count.ensures, c.self.inside.boundaries.ok.0, same) in
+    omega (arith, c.len-count.ensures.len, same) in
     let swept = c.sweep.ensures.map ∙ ap (after_sweep c.len-count.result) c.end_round.ensures.map in
     record {
       map = swept ∙ ap (λ (n : ℕ). after_sweep n (at_front old)) count

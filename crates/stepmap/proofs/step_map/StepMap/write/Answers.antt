@@ -1,81 +1,79 @@
-use Rattle.std.proofs.Common.{◌≡◌, ℕ, suc, ◌<◌, List, length, ◌∙◌, ap, subst, arith}
+use Rattle.std.proofs.Common.{◌≡◌, ℕ, ◌+◌, ◌<◌, ◌≤◌, List, length, Some, sym, ◌∙◌, ap, subst, arith, length-drop}
+use Rattle.std.specs.Prelude.{slice_get}
 use Rattle.std.proofs.lemmas.Int.{to_z-of_z}
-use Rattle.std.proofs.lemmas.Option.{slice_get_within}
 use mir.Syntax.{w64}
 use Rattle.stepmap.specs.Boundary.{Boundary}
 use Rattle.stepmap.specs.StepMap.{Steps, AreSteps, lengths}
 use Rattle.stepmap.specs.Writing.{written, after_write}
-use Rattle.stepmap.specs.Kept.{round_of}
+use Rattle.stepmap.specs.Kept.{steps_of}
+use Rattle.stepmap.specs.Stored.{spare_in, each_length}
+use Rattle.arena.specs.Arena.{wanted_of}
 use Rattle.stepmap.proofs.Changes.{WriteKeeps, write_keeps}
+use Rattle.stepmap.proofs.NextReady.{some_ready, next_fits, others_fit}
 use Rattle.stepmap.proofs.step_map.StepMap.write.Goals as goal
-use Rattle.stepmap.proofs.step_map.StepMap.write.Goals.{After-write_range}
+use Rattle.stepmap.proofs.step_map.StepMap.write.Goals.{After-pop_front, After-write}
 
-new_map : (c : After-write_range) → Steps
-new_map c = record {
-  boundaries = c.write_range.new.boundaries.items;
-  edge = c.self.inside.edge;
-  ready =
-      c.pop_front.new.self.items;
-  round = round_of c.self.inside.cursor.items c.self.inside.round;
-  limit =
-      c.self.inside.limit;
-}
+-- the range is the next that was prepared
+is_next : (c : After-pop_front) → slice_get c.self.inside.ready.items 0 ≡ Some (lengths c.args.range)
+is_next c = ap (λ (m : Steps). slice_get m.ready 0) c.self.view_is ∙ c.requires.ready
 
-new_is : (c : After-write_range) → new_map c ≡ after_write c.args.range c.args.version c.args.self.now
+some : (c : After-pop_front) → 0 < length c.self.inside.ready.items
+some c = some_ready c.self.inside.ready.items (lengths c.args.range) (is_next c)
+
+pub write-requires : goal.write-requires
+write-requires c =
+    let at = (goal.at.write-requires c).After-pop_front in
+    (omega arith, (c.self.invariant.steps.boundaries, (c.requires.filled, (λ size lt. next_fits c.self.inside.ready.items
+    (lengths c.args.range) size (spare_in c.self.inside.boundaries size) (is_next at) (c.self.invariant.keys size lt),
+    omega (arith, c.self.invariant.boundaries, some at)))))
+
+new_map : (c : After-write) → Steps
+new_map c = steps_of c.write.new.self c.self.inside.edge c.pop_front.new.self.items c.self.inside.cursor.items
+    c.self.inside.round c.self.inside.limit
+
+new_is : (c : After-write) → new_map c ≡ after_write c.args.range c.args.version c.args.self.now
 unfolding new_map
 new_is c =
-    ap (λ (xs : List Boundary). record {
-      boundaries = xs;
-      edge = c.self.inside.edge;
-      ready =
-          c.pop_front.new.self.items;
-      round = round_of c.self.inside.cursor.items c.self.inside.round;
-      limit =
-          c.self.inside.limit;
-    }) (c.write_range.ensures.items
-    ∙ ap (λ v. written c.args.range v c.self.inside.boundaries.items)
+    ap (λ (xs : List Boundary). record (new_map c) { boundaries = xs }) (c.write.ensures.boundaries
+    ∙ ap (λ v. written c.args.range v c.self.inside.boundaries.boundaries)
     (to_z-of_z w64 c.args.version c.ranges.version))
-    ∙ ap (λ (rs : List (ℕ × ℕ)). record {
+    ∙ ap (λ (rs : List (ℕ × ℕ)). record (new_map c) {
       boundaries =
-          written c.args.range c.args.version c.self.inside.boundaries.items;
-      edge = c.self.inside.edge;
+          written c.args.range c.args.version c.self.inside.boundaries.boundaries;
       ready = rs;
-      round = round_of c.self.inside.cursor.items c.self.inside.round;
-      limit =
-          c.self.inside.limit;
     }) c.pop_front.ensures.rest
     ∙ ap (after_write c.args.range c.args.version) c.self.view_is
 
--- one range at least is ready
-some_ready : (c : After-write_range) → 0 < length c.args.self.now.ready
-some_ready c = slice_get_within c.args.self.now.ready 0 (lengths c.args.range) c.requires.ready
-
-keeps : (c : After-write_range) → WriteKeeps c.args.range c.args.version c.args.self.now (new_map c)
+keeps : (c : After-write) → WriteKeeps c.args.range c.args.version c.args.self.now (new_map c)
 unfolding new_map
 keeps c =
     write_keeps c.args.range c.requires.filled c.args.version c.args.self.now
-    (subst AreSteps c.self.view_is c.self.invariant.steps) c.requires.newest c.requires.late (some_ready c)
-    (new_map c) (new_is c)
+    (subst AreSteps c.self.view_is c.self.invariant.steps) c.requires.newest c.requires.late
+    (some_ready c.args.self.now.ready (lengths c.args.range) c.requires.ready) (new_map c) (new_is c)
 
 pub invariant_of-self : goal.invariant_of-self
 unfolding new_map
 invariant_of-self c =
-    let at = (goal.at.invariant_of-self c).After-write_range in
-    let count = (keeps at).count in
-    let same : length c.self.inside.boundaries.items ≡ length c.args.self.now.boundaries =
+    let at = goal.at.invariant_of-self c in
+    let keeps = keeps at.After-write in
+    let same : length c.self.inside.boundaries.boundaries ≡ length c.args.self.now.boundaries =
     ap (λ (m : Steps). length m.boundaries) c.self.view_is in
-    let rooms : length c.self.inside.rooms.items ≡ suc (length c.pop_front.new.self.items) =
-    ap length (rw c.unwrap-room.ensures at c.pop_front.ensures.items) in
+    let fewer : length c.pop_front.new.self.items + 1 ≡ length c.self.inside.ready.items =
+    omega (
+      arith,
+      ap length c.pop_front.ensures.rest,
+      length-drop 1 c.self.inside.ready.items,
+      some at.After-pop_front,
+    ) in
     record {
-      steps = (keeps at).steps;
+      steps = keeps.steps;
       boundaries =
-          omega (
-            arith,
-            c.self.invariant.boundaries,
-            c.write_range.ensures.capacity,
-            c.self.inside.boundaries.ok.0,
-            c.write_range.new.boundaries.ok.0,
-          );
+          omega (arith, c.self.invariant.boundaries, keeps.count, same, fewer, c.write.ensures.room);
+      keys = λ size lt. subst (λ (rs : List (ℕ × ℕ)). wanted_of (each_length rs) size ≤ spare_in c.write.new.self size)
+          (sym c.pop_front.ensures.rest)
+          (others_fit c.self.inside.ready.items (lengths c.args.range) size (spare_in c.self.inside.boundaries size)
+          (spare_in c.write.new.self size) (is_next at.After-pop_front) (c.self.invariant.keys size lt)
+          (c.write.ensures.spare size));
       any_key = c.self.invariant.any_key;
       at_cursor = c.self.invariant.at_cursor;
     }
@@ -83,15 +81,14 @@ invariant_of-self c =
 pub returns : goal.returns
 unfolding new_map
 returns c =
-    let at = (goal.at.returns c).After-write_range in
+    let at = (goal.at.returns c).After-write in
     let k = keeps at in
     record {
       map = new_is at;
       on_range = k.on_range;
       elsewhere = k.elsewhere;
       newest = k.newest;
-      covers =
-          k.covers;
+      covers = k.covers;
       rooted = k.rooted;
       ends = k.ends;
       rest = k.rest_grows;

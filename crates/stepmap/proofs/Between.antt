@@ -1,0 +1,263 @@
+-- The boundaries between two cuts, and what they say of the values in a range.
+use Rattle.std.proofs.Common.{
+  ◌≡◌,
+  ℕ,
+  ◌+◌,
+  ◌-◌,
+  Bool,
+  true,
+  false,
+  not,
+  ◌&&◌,
+  List,
+  [],
+  ◌∷◌,
+  ◌++◌,
+  length,
+  Option,
+  None,
+  Some,
+  take,
+  drop,
+  map,
+  filter,
+  fold,
+  refl,
+  sym,
+  ◌∙◌,
+  ap,
+  subst,
+  inl,
+  inr,
+  arith,
+  unwrap_or,
+  option_map,
+  length-append,
+}
+use Rattle.std.specs.Prelude.{ℤ, negsuc, ◌≤ℤ◌, ◌<ℤ◌, All, Any, slice_range}
+use Rattle.std.specs.Int.{int_max}
+use Rattle.std.proofs.Math.Seq.{take-append_seam, drop-append_seam}
+use Rattle.std.proofs.lemmas.Int.{ints, clamps, fold-int_max_bounds, fold-int_max_reached}
+use Rattle.std.proofs.lemmas.List.{drop-take}
+use Rattle.std.proofs.lemmas.Simd.{map-map}
+use Rattle.std.proofs.lemmas.List.Elements.{All-head, All-tail, All-map, All-weaker, filter_agree}
+use Rattle.arena.specs.Arena.{Arena, IsLive, key_at}
+use Rattle.tree.specs.Item.{Item, IsGreatest}
+use Rattle.tree.specs.Path.{between}
+use Rattle.tree.specs.Tree.{Items}
+use Rattle.keyspace.specs.Key.{IsBytes, is_before, IsBefore}
+use Rattle.keyspace.specs.Range.{Holds, IsEmpty}
+use Rattle.keyspace.specs.declared.range.Range.{Range}
+use Rattle.keyspace.proofs.KeyOrder.{at_most_before, before_trans}
+use Rattle.keyspace.proofs.Booleans.{true_or_false}
+use Rattle.stepmap.specs.Boundary.{Boundary, AreBoundaries, AreInOrder, value_at, last_version, below, from_on}
+use Rattle.stepmap.specs.Indexes.{up_to, after}
+use Rattle.stepmap.specs.Cut.{passes_at, slot_passes}
+use Rattle.stepmap.specs.Stored.{boundary_of, boundaries_of, IsStored}
+use Rattle.stepmap.proofs.Order.{rising_in_order, rising_filter}
+use Rattle.stepmap.proofs.Looking.{not_not}
+use Rattle.stepmap.proofs.Parting.{parted}
+use Rattle.stepmap.proofs.Values.{parted_below}
+use Rattle.stepmap.proofs.IndexFound.{up_to_falls, value_up_to}
+use Rattle.stepmap.proofs.WritingValues.{begins_before_end}
+use Rattle.stepmap.proofs.SomeElement.{Any-map}
+use Rattle.stepmap.proofs.Cutting.{slot_passes_live}
+use Rattle.stepmap.proofs.LastFound.{parted_up_to, some_of_all}
+use Rattle.stepmap.proofs.GreatestFound.{
+  IsInside,
+  inside_ordered,
+  greatest_bound,
+  greatest_reached,
+  above_at_begin,
+  above_inside,
+  above_found,
+}
+
+-- the boundaries after the begin and before the end
+abbrev pub inside : List ℕ → List ℕ → List Boundary → List Boundary
+inside begin end bs = filter (λ b. is_before begin b.key && is_before b.key end) bs
+
+-- what comes before a cut at a key comes before each later key
+passes_sooner : (up_to : Bool) (begin end k : List ℕ) → IsBefore begin end → passes_at up_to begin k ≡ true
+    → is_before k end ≡ true
+passes_sooner true begin end k l h = at_most_before k begin end h l
+passes_sooner false begin end k l h = before_trans k begin end h l
+
+module _ {H : Type 0} (keys : Arena H) where
+  -- a slot that passes a cut at a key passes the cut before a later key
+  pub nested : (up_to : Bool) (begin end : List ℕ) → IsBefore begin end → (slot : ℕ)
+      → slot_passes keys up_to begin slot ≡ true → slot_passes keys false end slot ≡ true
+  nested up_to begin end l slot = of_key (key_at keys slot)
+    where
+      of_key : (k : Option (List ℕ)) → unwrap_or (option_map (passes_at up_to begin) k) false ≡ true
+          → unwrap_or (option_map (passes_at false end) k) false ≡ true
+      of_key None h = h
+      of_key (Some k) h = passes_sooner up_to begin end k l h
+
+  -- the boundaries of items picked by a test are picked by the same test
+  picked : (p : Item → Bool) (q : Boundary → Bool) (xs : List Item) → All (λ x. p x ≡ q (boundary_of keys x)) xs
+      → boundaries_of keys (filter p xs) ≡ filter q (boundaries_of keys xs)
+  picked p q [] a = refl
+  picked p q (x ∷ xs) a =
+      let e = All-head (λ x. p x ≡ q (boundary_of keys x)) x xs a in
+      let i = picked p q xs (All-tail (λ x. p x ≡ q (boundary_of keys x)) x xs a) in
+      elim (true_or_false (q (boundary_of keys x))) [
+        | inl t ↦ let t' : p x ≡ true = e ∙ t in rw (t', t) (ap (λ ys. boundary_of keys x ∷ ys) i)
+        | inr n ↦ let n' : p x ≡ false = e ∙ n in rw (n', n) i
+      ]
+
+  -- the items between two cuts have the boundaries between them
+  pub between_cuts : (tree : Items) → IsStored keys tree → (from_up_to to_up_to : Bool) (begin end : List ℕ)
+      → boundaries_of keys
+      (between (Some (slot_passes keys from_up_to begin)) (Some (slot_passes keys to_up_to end)) tree.items)
+      ≡ filter (λ b. not (passes_at from_up_to begin b.key) && passes_at to_up_to end b.key)
+      (boundaries_of keys tree.items)
+  between_cuts tree s u v begin end =
+      let p = λ (x : Item). not (slot_passes keys u begin x.key) && slot_passes keys v end x.key in
+      let q = λ (b : Boundary). not (passes_at u begin b.key) && passes_at v end b.key in
+      picked p q tree.items
+      (All-weaker (λ x. IsLive keys x.key) (λ x. p x ≡ q (boundary_of keys x))
+      (λ x l. rw (slot_passes_live keys u begin x.key l, slot_passes_live keys v end x.key l) refl) tree.items s.live)
+
+  -- up to one key and before another
+  pub between_inside : (tree : Items) → IsStored keys tree → (begin end : List ℕ)
+      → boundaries_of keys (between (Some (slot_passes keys true begin)) (Some (slot_passes keys false end)) tree.items)
+      ≡ inside begin end (boundaries_of keys tree.items)
+  between_inside tree s begin end =
+      between_cuts tree s true false begin end
+      ∙ filter_agree (λ b. not (passes_at true begin b.key) && passes_at false end b.key)
+      (λ b. is_before begin b.key && is_before b.key end)
+      (λ b. ap (λ t. t && is_before b.key end) (sym (not_not (is_before begin b.key)))) (boundaries_of keys tree.items)
+
+-- one test after the other is both
+filter_both : {X : Type 0} (p q : X → Bool) (xs : List X) → filter p (filter q xs) ≡ filter (λ x. p x && q x) xs
+filter_both p q [] = refl
+filter_both p q (x ∷ xs) =
+    let i = filter_both p q xs in
+    elim (true_or_false (q x)) [
+      | inl t ↦ elim (true_or_false (p x)) [
+        | inl u ↦ rw (t, u) (ap (λ ys. x ∷ ys) i)
+        | inr n ↦ rw (t, n) i
+      ]
+      | inr n ↦ elim (true_or_false (p x)) [ inl u ↦ rw (n, u) i | inr m ↦ rw (n, m) i ]
+    ]
+
+and_weaker : (a b : Bool) → (a ≡ true → b ≡ true) → (a && b) ≡ a
+and_weaker true b f = f refl
+and_weaker false b f = refl
+
+-- those before the end are those up to the begin and those inside
+below_parts : (begin end : List ℕ) (bs : List Boundary) → AreInOrder bs → IsBefore begin end
+    → below end bs ≡ up_to begin bs ++ inside begin end bs
+below_parts begin end bs o l =
+    let p = λ (b : Boundary). not (is_before begin b.key) in
+    let q = λ (b : Boundary). is_before b.key end in
+    let front : filter p (below end bs) ≡ up_to begin bs =
+    filter_both p q bs
+    ∙ filter_agree (λ b. p b && q b) p (λ b. and_weaker (p b) (q b) (λ h. at_most_before b.key begin end h l)) bs in
+    parted p (λ b. is_before begin b.key) (λ b. not_not (is_before begin b.key)) (up_to_falls begin) (below end bs)
+    (rising_filter q bs (rising_in_order bs o))
+    ∙ ap (λ xs. xs ++ filter (λ b. is_before begin b.key) (below end bs)) front
+    ∙ ap (λ xs. up_to begin bs ++ xs) (filter_both (λ b. is_before begin b.key) q bs)
+
+-- the greater one of a version and the greatest of some is what a fold finds
+greatest_fold : {X : Type 0} (f : X → ℤ) (v m : ℤ) (xs : List X) → IsGreatest f m xs
+    → int_max m v ≡ fold int_max v (map f xs)
+greatest_fold f v m xs g =
+    let ys = map f xs in
+    let r = fold int_max v ys in
+    let bounds = fold-int_max_bounds v ys r refl in
+    let top = bounds.0 in
+    let under : All (λ y. y ≤ℤ m) ys = All-map (λ y. y ≤ℤ m) f xs g.bound in
+    let own = some_of_all (λ y. y ≤ℤ r) (λ y. y ≡ m) ys bounds.1 (Any-map f (λ y. y ≡ m) xs g.reached) in
+    let least : m ≤ℤ r = subst (λ y. y ≤ℤ r) own.2 own.1 in
+    elim (fold-int_max_reached v ys r refl) [
+      | inl e ↦ omega (arith, ints, clamps)
+      | inr at ↦
+          let le : r ≤ℤ m = subst (λ y. y ≤ℤ m) at.2 (under at.0 r at.1) in
+          omega (arith, ints, clamps)
+    ]
+
+-- the same of items, by their boundaries
+module _ {H : Type 0} (keys : Arena H) (xs : List Item) (bs : List Boundary) (are : boundaries_of keys xs ≡ bs) where
+  pub greatest_of_some : (v m : ℤ) → IsGreatest (λ x. x.version) m xs
+      → int_max m v ≡ fold int_max v (map (λ b. b.version) bs)
+  greatest_of_some v m g =
+      greatest_fold (λ (x : Item). x.version) v m xs g
+      ∙ ap (fold int_max v)
+      (sym (map-map (λ b. b.version) (boundary_of keys) xs) ∙ ap (map (λ (b : Boundary). b.version)) are)
+
+  pub greatest_of_none : (v : ℤ) → xs ≡ [] → v ≡ fold int_max v (map (λ b. b.version) bs)
+  greatest_of_none v none =
+      ap (λ ys. fold int_max v (map (λ (b : Boundary). b.version) (boundaries_of keys ys))) (sym none)
+      ∙ ap (λ ys. fold int_max v (map (λ (b : Boundary). b.version) ys)) are
+
+module _ (range : Range) (filled : ¬ IsEmpty range) (bs : List Boundary) (h : AreBoundaries bs) where
+  abbrev from : ℕ
+  from = length (up_to range.begin bs)
+
+  abbrev to : ℕ
+  to = length (below range.end bs)
+
+  is_inside : IsInside range bs from to
+  is_inside =
+      let before = up_to range.begin bs in
+      let later = after range.begin bs in
+      let sooner = below range.end bs in
+      let back = from_on range.end bs in
+      let cut = parted_up_to range.begin bs h.in_order in
+      let end = parted_below range.end bs (rising_in_order bs h.in_order) in
+      record {
+        from_in = omega (arith, ap length cut, length-append before later);
+        to_in = omega (arith, ap length end, length-append sooner back);
+        front = ap (take (length before)) cut ∙ take-append_seam before later;
+        later = ap (drop (length before)) cut ∙ drop-append_seam before later;
+        sooner = ap (take (length sooner)) end ∙ take-append_seam sooner back;
+        back = ap (drop (length sooner)) end ∙ drop-append_seam sooner back;
+      }
+
+  slice_inside : slice_range bs from to ≡ inside range.begin range.end bs
+  slice_inside =
+      let le = inside_ordered range filled bs h from to is_inside in
+      let add : from + (to - from) ≡ to = omega arith in
+      let found : slice_range bs from to ≡ drop from (take to bs) =
+      sym (ap (λ n. drop from (take n bs)) (sym add) ∙ drop-take from (to - from) bs) in
+      found
+      ∙ ap (drop from)
+      (is_inside.sooner ∙ below_parts range.begin range.end bs h.in_order (begins_before_end range filled))
+      ∙ drop-append_seam (up_to range.begin bs) (inside range.begin range.end bs)
+
+  module _ (v : ℤ) (at_begin : v ≡ value_at bs range.begin) where
+    first : v ≡ last_version (negsuc 0) (take from bs)
+    first =
+        at_begin ∙ value_up_to bs range.begin (parted_up_to range.begin bs h.in_order)
+        ∙ ap (last_version (negsuc 0)) (sym is_inside.front)
+
+    module _ (r : ℤ) (is : r ≡ fold int_max v (map (λ b. b.version) (inside range.begin range.end bs))) where
+      greatest : r ≡ fold int_max v (map (λ b. b.version) (slice_range bs from to))
+      greatest = is ∙ ap (λ (ys : List Boundary). fold int_max v (map (λ b. b.version) ys)) (sym slice_inside)
+
+      -- it is the greatest value in the range
+      pub range_bound : (key : List ℕ) → Holds range key → value_at bs key ≤ℤ r
+      range_bound = greatest_bound range filled bs h from to is_inside v r first greatest
+
+      pub range_reached : (key : List ℕ) × IsBytes key × Holds range key × (value_at bs key ≡ r)
+      range_reached = greatest_reached range filled bs h from to is_inside v r first greatest
+
+    -- the function is above the number at the begin, or at a boundary inside, or nowhere in the range
+    pub above_by_begin : (s : ℤ) → s <ℤ v
+        → (key : List ℕ) × IsBytes key × Holds range key × (s <ℤ value_at bs key)
+    above_by_begin s = above_at_begin range filled bs h from to is_inside v s first
+
+    pub above_by_inside : (s : ℤ) → Any (λ b. s <ℤ b.version) (inside range.begin range.end bs)
+        → (key : List ℕ) × IsBytes key × Holds range key × (s <ℤ value_at bs key)
+    above_by_inside s a =
+        above_inside range filled bs h from to is_inside v s first
+        (subst (Any (λ b. s <ℤ b.version)) (sym slice_inside) a)
+
+    pub inside_if_above : (s : ℤ) → v ≤ℤ s
+        → (key : List ℕ) × IsBytes key × Holds range key × (s <ℤ value_at bs key)
+        → Any (λ b. s <ℤ b.version) (inside range.begin range.end bs)
+    inside_if_above s le a =
+        subst (Any (λ b. s <ℤ b.version)) slice_inside
+        (above_found range filled bs h from to is_inside v s first a le)

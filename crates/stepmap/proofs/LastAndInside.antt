@@ -1,0 +1,135 @@
+-- The last boundary up to the begin of a range and those inside it: whether one of them is above a number.
+use Rattle.std.proofs.Common.{
+  ◌≡◌,
+  ◌≢◌,
+  ◌-◌,
+  Bool,
+  true,
+  false,
+  not,
+  ◌&&◌,
+  List,
+  [],
+  ◌∷◌,
+  ◌++◌,
+  length,
+  length-append,
+  Some,
+  drop,
+  refl,
+  sym,
+  ◌∙◌,
+  ap,
+  subst,
+  inl,
+  inr,
+  ◌⊎◌,
+  arith,
+}
+use Rattle.std.specs.Prelude.{ℕ, ℤ, int_lt, ◌<ℤ◌, ◌≤ℤ◌, Any, ◌↔◌}
+use Rattle.std.proofs.Math.Seq.{drop-append_seam}
+use Rattle.std.proofs.lemmas.Bool.{cases_Bool}
+use Rattle.arena.specs.Arena.{Arena}
+use Rattle.tree.specs.Item.{Item}
+use Rattle.tree.specs.Path.{passing, between, from_last}
+use Rattle.tree.specs.Tree.{Items, IsLast}
+use Rattle.tree.proofs.FromLast.{last_passing, last_and_between}
+use Rattle.keyspace.specs.Key.{IsBytes, IsBefore}
+use Rattle.keyspace.specs.Range.{Holds, IsEmpty}
+use Rattle.keyspace.specs.declared.range.Range.{Range}
+use Rattle.stepmap.specs.Boundary.{Boundary, AreBoundaries, value_at}
+use Rattle.stepmap.specs.Cut.{slot_passes}
+use Rattle.stepmap.specs.Stored.{boundary_of, boundaries_of, IsStored}
+use Rattle.stepmap.proofs.Between.{inside, nested, between_inside, above_by_begin, above_by_inside, inside_if_above}
+use Rattle.stepmap.proofs.Cutting.{stored_cut}
+use Rattle.stepmap.proofs.LastFound.{some_passes, last_boundary, value_of_last}
+use Rattle.stepmap.proofs.SomeElement.{Any-first, Any-later, Any-cases, Any-map, Any-unmap}
+use Rattle.stepmap.proofs.Thinned.{lt_from_test, le_from_test}
+use Rattle.stepmap.proofs.WritingValues.{begins_before_end}
+
+-- a list with an element has a last one
+last_of : {X : Type 0} (xs : List X) → xs ≢ [] → (x : X) × IsLast x xs
+last_of [] some = absurd (some refl)
+last_of (x ∷ xs) some = from x xs
+  where
+    from : {X : Type 0} (x : X) (xs : List X) → (y : X) × IsLast y (x ∷ xs)
+    from x [] = (x, ([], refl))
+    from x (y ∷ ys) = let l = from y ys in (l.0, (x ∷ l.1.0, ap (λ zs. x ∷ zs) l.1.1))
+
+-- the last element alone
+last_alone : {X : Type 0} (x : X) (xs : List X) → IsLast x xs → drop (length xs - 1) xs ≡ x ∷ []
+last_alone x xs last =
+    let before = last.0 in
+    let count : length (before ++ x ∷ []) - 1 ≡ length before = omega (arith, length-append before (x ∷ [])) in
+    ap (λ ys. drop (length ys - 1) ys) last.1
+    ∙ ap (λ n. drop n (before ++ x ∷ [])) count
+    ∙ drop-append_seam before (x ∷ [])
+
+above_or_not : (s v : ℤ) → (s <ℤ v) ⊎ (v ≤ℤ s)
+above_or_not s v = elim (cases_Bool (int_lt s v)) [
+  | inl t ↦ inl (lt_from_test s v t)
+  | inr f ↦ inr (le_from_test s v f)
+]
+
+module _ {H : Type 0} (keys : Arena H) (tree : Items) (stored : IsStored keys tree) (range : Range)
+    (filled : ¬ IsEmpty range) where
+  abbrev p : ℕ → Bool
+  p = slot_passes keys true range.begin
+
+  abbrev q : ℕ → Bool
+  q = slot_passes keys false range.end
+
+  abbrev bs : List Boundary
+  bs = boundaries_of keys tree.items
+
+  abbrev inner : List Item
+  inner = between (Some p) (Some q) tree.items
+
+  last_up_to : (x : Item) × IsLast x (passing p tree.items)
+  last_up_to = last_of (passing p tree.items) (some_passes keys tree stored range.begin)
+
+  found_are : from_last p (Some q) tree.items ≡ last_up_to.0 ∷ inner
+  found_are =
+      last_and_between (λ (x : Item). p x.key) (λ (x : Item). q x.key)
+      (λ x. nested keys true range.begin range.end (begins_before_end range filled) x.key) tree.items
+      (stored_cut keys tree stored true range.begin).cut
+      ∙ ap (λ xs. xs ++ inner) (last_alone last_up_to.0 (passing p tree.items) last_up_to.1)
+
+  at_begin : last_up_to.0.version ≡ value_at bs range.begin
+  at_begin =
+      let x = last_up_to.0 in
+      sym (value_of_last range.begin bs stored.in_order (boundary_of keys x)
+      (last_boundary keys tree stored true range.begin x last_up_to.1))
+
+  module _ (are : AreBoundaries bs) (s : ℤ) where
+    abbrev IsAbove : Item → Type 0
+    IsAbove x = s <ℤ x.version
+
+    abbrev Above : Boundary → Type 0
+    Above b = s <ℤ b.version
+
+    abbrev AboveSomewhere : Type 0
+    AboveSomewhere = (key : List ℕ) × IsBytes key × Holds range key × (s <ℤ value_at bs key)
+
+    -- the function is above the number in the range exactly where one of them is
+    pub above_told : Any IsAbove (from_last p (Some q) tree.items) ↔ AboveSomewhere
+    above_told = (told, found)
+      where
+        told : Any IsAbove (from_last p (Some q) tree.items) → AboveSomewhere
+        told a = elim (Any-cases IsAbove last_up_to.0 inner (subst (Any IsAbove) found_are a)) [
+          | inl first ↦ above_by_begin range filled bs are last_up_to.0.version at_begin s first
+          | inr later ↦ above_by_inside range filled bs are last_up_to.0.version at_begin s
+              (subst (Any Above) (between_inside keys tree stored range.begin range.end)
+              (Any-map (boundary_of keys) Above inner later))
+        ]
+
+        found : AboveSomewhere → Any IsAbove (from_last p (Some q) tree.items)
+        found a =
+            subst (Any IsAbove) (sym found_are)
+            (elim (above_or_not s last_up_to.0.version) [
+              | inl first ↦ Any-first IsAbove last_up_to.0 inner first
+              | inr le ↦ Any-later IsAbove last_up_to.0 inner
+                  (Any-unmap (boundary_of keys) Above inner
+                  (subst (Any Above) (sym (between_inside keys tree stored range.begin range.end))
+                  (inside_if_above range filled bs are last_up_to.0.version at_begin s le a)))
+            ])

@@ -1,0 +1,49 @@
+-- How boundaries are stored: their versions in a tree of items, and their keys in an arena. This project's own.
+use Rattle.std.specs.Prelude.{◌≡◌, ℕ, List, [], ◌∷◌, length, map, nat_eq, slice_index, unwrap_or}
+use Rattle.std.specs.List.{All, IsDistinct, flat_map}
+use Rattle.std.specs.FinMap as finite
+use Rattle.arena.specs.Arena.{Arena, IsLive, key_at}
+use Rattle.tree.specs.Item.{Item}
+use Rattle.tree.specs.Tree.{Items}
+use Rattle.stepmap.specs.Boundary.{Boundary, AreInOrder}
+
+-- boundaries, and the memory that more of them may use
+pub record Stored : Type 0 where
+  -- in the order of their keys
+  pub boundaries : List Boundary
+  -- for each of the ten sizes of slots, how many keys
+  pub spare : List ℕ
+  -- how many boundaries there may be in the tree
+  pub room : ℕ
+
+-- how many keys of the size may be stored
+abbrev pub spare_in : Stored → ℕ → ℕ
+spare_in stored size = slice_index stored.spare size
+
+-- the lengths of begins and ends, one by one
+abbrev pub each_length : List (ℕ × ℕ) → List ℕ
+each_length lengths = flat_map (λ p. p.0 ∷ p.1 ∷ []) lengths
+
+-- the key of the first of these boundaries, or the empty key if there is none
+abbrev pub first_key : List Boundary → List ℕ
+first_key [] = []
+first_key (b ∷ bs) = b.key
+
+module _ {H : Type 0} where
+  -- the bytes of the key of a slot
+  abbrev pub bytes_at : Arena H → ℕ → List ℕ
+  bytes_at keys slot = unwrap_or (key_at keys slot) []
+
+  abbrev pub boundary_of : Arena H → Item → Boundary
+  boundary_of keys x = record { key = bytes_at keys x.key; version = x.version }
+
+  -- what is stored
+  abbrev pub boundaries_of : Arena H → List Item → List Boundary
+  boundaries_of keys items = map (boundary_of keys) items
+
+  -- Each key is that of a live slot, no slot is used twice, and none is live beside those used.
+  pub record IsStored (keys : Arena H) (tree : Items) : Type 0 where
+    pub in_order : AreInOrder (boundaries_of keys tree.items)
+    pub live : All (λ x. IsLive keys x.key) tree.items
+    pub distinct : IsDistinct nat_eq (map (λ x. x.key) tree.items)
+    pub counted : finite.len keys.records ≡ length tree.items

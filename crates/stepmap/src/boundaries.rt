@@ -1,0 +1,322 @@
+//! The boundaries of a step function: their versions in a tree, and their keys in an arena.
+ghost use Rattle.std.specs.Prelude.{◌≡◌, ℕ, ◌+◌, ◌*◌, ◌<◌, ◌≤◌, ◌<ℤ◌, ◌≤ℤ◌, negsuc, ◌↔◌};
+ghost use Rattle.std.specs.Prelude.{List, [], ◌∷◌, ◌++◌, length, Any, IsTrue, IfOk, OnOk, IsOkUnless};
+ghost use Rattle.arena.specs.Arena.{size_of, wanted_of};
+ghost use Rattle.keyspace.specs.Key.{IsBytes};
+ghost use Rattle.keyspace.specs.Range.{Holds, IsEmpty};
+ghost use Rattle.stepmap.specs.Boundary.{AreBoundaries, value_at, below, from_on};
+ghost use Rattle.stepmap.specs.Indexes.{after};
+ghost use Rattle.stepmap.specs.Stored.{spare_in, each_length};
+ghost use Rattle.stepmap.specs.Sweeping.{passed_to};
+ghost use Rattle.stepmap.specs.Writing.{written};
+
+use crate::cut::Cut;
+use crate::key_lengths::{KeyLengths, each_length};
+use crate::release::release;
+use crate::step_map::MAX_LIMIT;
+use arena::{Arena, ArenaError};
+use keyspace::{Range, RangeRef};
+use std::alloc::{AllocError, Global};
+use std::marker::Model;
+use tree::{Tree, item};
+
+// The boundaries of a step function, in the order of their keys, the empty key first. Contracts see them, and for how
+// many more there is memory.
+#[derive(Debug, Drop)]
+pub struct Boundaries<const N: usize> {
+    pub alloc: Global,
+    pub keys: Arena<()>,
+    pub tree: Tree<N>,
+    // A node that is taken out of the tree fits into memory.
+    ghost few: { N ≤ 65536 },
+}
+
+impl<const N: usize> Model for Boundaries<N> {
+    ghost use Rattle.stepmap.specs.Stored.{Stored, boundaries_of, IsStored};
+
+    ghost Value = { Stored };
+
+    ghost view = { λ b. record {
+      boundaries = boundaries_of b.keys b.tree.items;
+      spare = b.keys.spare;
+      room = b.tree.room;
+    } };
+
+    ghost invariant = { λ b. IsStored b.keys b.tree };
+}
+
+// What is found where a key is looked up.
+#[derive(Drop)]
+pub struct Found {
+    // The version at the key.
+    pub version: i64,
+    // Whether a boundary stands at the key.
+    pub is_there: bool,
+}
+
+impl<const N: usize> Boundaries<N> {
+    // Makes the one boundary of the function that is -1 everywhere. Nodes of the tree have at most `N` entries each.
+    pub fn new(alloc: Global) -> Result<Self, ArenaError>
+        requires fan_out { 4 ≤ N }
+        requires few { N ≤ 65536 }
+        ensures first { IfOk result (λ b. b.boundaries ≡ (record { key = []; version = negsuc 0 }) ∷ []) }
+        ensures room { IfOk result (λ b. 1 ≤ b.room) }
+        ensures memory { IsOkUnless result ArenaError.Memory }
+    {
+        let mut keys = Arena::new(alloc);
+        let empty = keys.place((), &[])?;
+        let tree = Tree::new(alloc, empty, -1)?;
+        Ok(Boundaries { alloc, keys, tree })
+    }
+
+    // Returns the number of boundaries.
+    pub fn len(&self) -> usize
+        ensures len { result ≡ length self.now.boundaries }
+        ensures within { result ≤ self.now.room }
+    {
+        self.tree.len()
+    }
+
+    // Returns the version at the key.
+    pub fn version_at(&self, key: &[u8]) -> i64
+        ensures value { result ≡ value_at self.now.boundaries key.now }
+    {
+        self.look_up(key).version
+    }
+
+    // Returns the version at the key, and whether a boundary stands there.
+    pub fn look_up(&self, key: &[u8]) -> Found
+        ensures version { result.version ≡ value_at self.now.boundaries key.now }
+        ensures is_there { IsTrue result.is_there ↔ Any (λ b. b.key ≡ key.now) self.now.boundaries }
+    {
+        let cut = Cut {
+            keys: &self.keys,
+            key,
+            up_to: true,
+        };
+        let last = self.tree.last(&cut).unwrap();
+        Found {
+            version: last.version,
+            is_there: self.keys.key(last.key) == key,
+        }
+    }
+
+    // Returns the greatest version at a key of the range, which isn't empty.
+    pub fn greatest(&self, range: &Range) -> i64
+        requires boundaries { AreBoundaries self.now.boundaries }
+        requires filled { ¬ IsEmpty range.now }
+        ensures bound { (key : List ℕ) → Holds range.now key → value_at self.now.boundaries key ≤ℤ result }
+        ensures reached { (key : List ℕ) × IsBytes key × Holds range.now key
+            × (value_at self.now.boundaries key ≡ result) }
+    {
+        let at_begin = self.version_at(range.begin.as_bytes());
+        let begin = Cut {
+            keys: &self.keys,
+            key: range.begin.as_bytes(),
+            up_to: true,
+        };
+        let end = Cut {
+            keys: &self.keys,
+            key: range.end.as_bytes(),
+            up_to: false,
+        };
+        match self.tree.greatest(&begin, &end) {
+            Some(inside) => inside.max(at_begin),
+            None => at_begin,
+        }
+    }
+
+    // Returns whether the version at some key of the range, which isn't empty, is above this one.
+    pub fn is_above(&self, range: &Range, version: i64) -> bool
+        requires boundaries { AreBoundaries self.now.boundaries }
+        requires filled { ¬ IsEmpty range.now }
+        ensures above { IsTrue result ↔ ((key : List ℕ) × IsBytes key × Holds range.now key
+            × (version <ℤ value_at self.now.boundaries key)) }
+    {
+        let begin = Cut {
+            keys: &self.keys,
+            key: range.begin.as_bytes(),
+            up_to: true,
+        };
+        let end = Cut {
+            keys: &self.keys,
+            key: range.end.as_bytes(),
+            up_to: false,
+        };
+        self.tree.exceeds_from_last(&begin, &end, version)
+    }
+
+    // Takes the memory for the boundaries of ranges with keys of these lengths.
+    pub fn reserve(&mut self, lengths: &[KeyLengths]) -> Result<(), AllocError>
+        requires few { length self.old.boundaries + 2 * length lengths.now ≤ MAX_LIMIT }
+        ensures keys { OnOk result ((size : ℕ) → size < 10
+            → wanted_of (each_length lengths.now) size ≤ spare_in self.new size) }
+        ensures nodes { OnOk result (length self.new.boundaries + 2 * length lengths.now ≤ self.new.room) }
+        ensures boundaries { self.new.boundaries ≡ self.old.boundaries }
+        ensures room { self.old.room ≤ self.new.room }
+    {
+        let wanted = each_length(self.alloc, lengths)?;
+        self.keys.reserve(&wanted).map_err(|_| AllocError)?;
+        let room = self.tree.len() + 2 * lengths.len();
+        self.tree.reserve(room).map_err(|_| AllocError)
+    }
+
+    // Writes the version on the range, which isn't empty. It takes no memory.
+    pub fn write(&mut self, range: &RangeRef<'_>, version: i64)
+        requires boundaries { AreBoundaries self.old.boundaries }
+        requires filled { ¬ IsEmpty range.now }
+        requires keys { (size : ℕ) → size < 10
+            → wanted_of (length range.now.begin ∷ length range.now.end ∷ []) size ≤ spare_in self.old size }
+        requires nodes { length self.old.boundaries + 2 ≤ self.old.room }
+        ensures boundaries { self.new.boundaries ≡ written range.now version self.old.boundaries }
+        ensures spare { (size : ℕ) → spare_in self.old size
+            ≤ spare_in self.new size + wanted_of (length range.now.begin ∷ length range.now.end ∷ []) size }
+        ensures room { self.new.room ≡ self.old.room }
+    {
+        let end = self.look_up(range.end());
+        if self.write_in_leaf(range, version, &end) {
+            return;
+        }
+        self.clear(range);
+        self.begin_with(range.begin(), version);
+        if !end.is_there {
+            self.insert(range.end(), end.version);
+        }
+    }
+
+    // Writes the version on the range, if one leaf of the tree has the boundaries of the range, the one before them and
+    // room for the new ones. Returns whether it did; else nothing has changed. `end` is what is found at the range's end.
+    pub fn write_in_leaf(&mut self, range: &RangeRef<'_>, version: i64, end: &Found) -> bool
+        requires filled { ¬ IsEmpty range.now }
+        requires version { end.now.version ≡ value_at self.old.boundaries range.now.end }
+        requires is_there { IsTrue end.now.is_there ↔ Any (λ b. b.key ≡ range.now.end) self.old.boundaries }
+        requires keys { (size : ℕ) → size < 10
+            → wanted_of (length range.now.begin ∷ length range.now.end ∷ []) size ≤ spare_in self.old size }
+        requires nodes { length self.old.boundaries + 2 ≤ self.old.room }
+        ensures written { IsTrue result → self.new.boundaries ≡ written range.now version self.old.boundaries }
+        ensures spare { (size : ℕ) → spare_in self.old size
+            ≤ spare_in self.new size + wanted_of (length range.now.begin ∷ length range.now.end ∷ []) size }
+        ensures unchanged { ¬ IsTrue result → self.new.boundaries ≡ self.old.boundaries }
+        ensures none_used { ¬ IsTrue result → (size : ℕ) → spare_in self.old size ≤ spare_in self.new size }
+        ensures room { self.new.room ≡ self.old.room }
+    {
+        if range.begin().is_empty() {
+            return false;
+        }
+        let begin_key = self.keys.place((), range.begin()).unwrap();
+        let end_key = if end.is_there {
+            None
+        } else {
+            Some(self.keys.place((), range.end()).unwrap())
+        };
+        let from = Cut {
+            keys: &self.keys,
+            key: range.begin(),
+            up_to: false,
+        };
+        let to = Cut {
+            keys: &self.keys,
+            key: range.end(),
+            up_to: false,
+        };
+        let first = item(begin_key, version);
+        let run = match end_key {
+            None => self.tree.replace_run(&from, &to, &[first]),
+            Some(slot) => self
+                .tree
+                .replace_run(&from, &to, &[first, item(slot, end.version)]),
+        };
+        let Some(run) = run else {
+            self.keys.release(begin_key);
+            if let Some(slot) = end_key {
+                self.keys.release(slot);
+            }
+            return false;
+        };
+        release(&mut self.keys, run.entries());
+        true
+    }
+
+    // Takes the boundaries of the range out, but for that at the empty key.
+    pub fn clear(&mut self, range: &RangeRef<'_>)
+        requires filled { ¬ IsEmpty range.now }
+        ensures boundaries { self.new.boundaries
+            ≡ passed_to range.now.begin self.old.boundaries ++ from_on range.now.end self.old.boundaries }
+        ensures spare { (size : ℕ) → spare_in self.old size ≤ spare_in self.new size }
+        ensures room { self.new.room ≡ self.old.room }
+    {
+        while self.clear_run(range) {}
+    }
+
+    // Takes some of the boundaries of the range out, but for that at the empty key. Returns whether there were any.
+    pub fn clear_run(&mut self, range: &RangeRef<'_>) -> bool
+        requires filled { ¬ IsEmpty range.now }
+        ensures some { IsTrue result → length self.new.boundaries < length self.old.boundaries }
+        ensures none { ¬ IsTrue result → self.new.boundaries
+            ≡ passed_to range.now.begin self.old.boundaries ++ from_on range.now.end self.old.boundaries }
+        ensures before { passed_to range.now.begin self.new.boundaries ≡ passed_to range.now.begin self.old.boundaries }
+        ensures behind { from_on range.now.end self.new.boundaries ≡ from_on range.now.end self.old.boundaries }
+        ensures spare { (size : ℕ) → spare_in self.old size ≤ spare_in self.new size }
+        ensures room { self.new.room ≡ self.old.room }
+    {
+        let begin = Cut {
+            keys: &self.keys,
+            key: range.begin(),
+            up_to: range.begin().is_empty(),
+        };
+        let end = Cut {
+            keys: &self.keys,
+            key: range.end(),
+            up_to: false,
+        };
+        let Some(run) = self.tree.take_run(&begin, &end) else {
+            return false;
+        };
+        release(&mut self.keys, run.entries());
+        true
+    }
+
+    // Sets the version at the key, where no boundary but that of the empty key stands.
+    pub fn begin_with(&mut self, key: &[u8], version: i64)
+        requires gap { ¬ (key.now ≡ []) → ¬ Any (λ b. b.key ≡ key.now) self.old.boundaries }
+        requires short { length key.now ≤ 16384 }
+        requires spare { 0 < spare_in self.old (size_of (length key.now)) }
+        requires room { length self.old.boundaries < self.old.room }
+        ensures boundaries { self.new.boundaries ≡ below key.now self.old.boundaries
+            ++ (record { key = key.now; version = version }) ∷ after key.now self.old.boundaries }
+        ensures spare { (size : ℕ) → spare_in self.old size
+            ≤ spare_in self.new size + wanted_of (length key.now ∷ []) size }
+        ensures room { self.new.room ≡ self.old.room }
+    {
+        if !key.is_empty() {
+            return self.insert(key, version);
+        }
+        let first = Cut {
+            keys: &self.keys,
+            key,
+            up_to: true,
+        };
+        self.tree.set_last(&first, version);
+    }
+
+    // Inserts a boundary at a key where none stands.
+    pub fn insert(&mut self, key: &[u8], version: i64)
+        requires gap { ¬ Any (λ b. b.key ≡ key.now) self.old.boundaries }
+        requires short { length key.now ≤ 16384 }
+        requires spare { 0 < spare_in self.old (size_of (length key.now)) }
+        requires room { length self.old.boundaries < self.old.room }
+        ensures boundaries { self.new.boundaries ≡ below key.now self.old.boundaries
+            ++ (record { key = key.now; version = version }) ∷ after key.now self.old.boundaries }
+        ensures spare { (size : ℕ) → spare_in self.old size
+            ≤ spare_in self.new size + wanted_of (length key.now ∷ []) size }
+        ensures room { self.new.room ≡ self.old.room }
+    {
+        let slot = self.keys.place((), key).unwrap();
+        let cut = Cut {
+            keys: &self.keys,
+            key,
+            up_to: true,
+        };
+        self.tree.insert(&cut, slot, version);
+    }
+}

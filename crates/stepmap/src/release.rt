@@ -1,0 +1,21 @@
+ghost use Rattle.std.specs.Prelude.{◌≡◌, ℕ, ◌+◌, ◌≤◌, List, length, map, nat_eq};
+ghost use Rattle.std.specs.List.{All, Contains, IsDistinct};
+ghost use Rattle.std.specs.FinMap as finite;
+ghost use Rattle.arena.specs.Arena.{IsLive, record_at, spare_of};
+
+use arena::Arena;
+use tree::Entry;
+
+// Releases the keys of entries that were taken out of a tree.
+pub fn release(keys: &mut Arena<()>, entries: &[Entry])
+    requires live { All (λ e. IsLive keys.old e.key) entries.now }
+    requires distinct { IsDistinct nat_eq (map (λ e. e.key) entries.now) }
+    ensures others { (slot : ℕ) → ¬ Contains (map (λ e. e.key) entries.now) slot
+        → record_at keys.new slot ≡ record_at keys.old slot }
+    ensures counted { finite.len keys.new.records + length entries.now ≡ finite.len keys.old.records }
+    ensures spare { (size : ℕ) → spare_of keys.old size ≤ spare_of keys.new size }
+{
+    for entry in entries {
+        keys.release(entry.key);
+    }
+}
