@@ -1,38 +1,5 @@
 -- Items placed in a tree in place of those of a range, whose slots are released: what is stored then.
-use Rattle.std.proofs.Common.{
-  ◌≡◌,
-  ◌≢◌,
-  ℕ,
-  ◌+◌,
-  ◌<◌,
-  ◌≤◌,
-  ◌==◌,
-  ◌&&◌,
-  Bool,
-  true,
-  false,
-  not,
-  List,
-  [],
-  ◌∷◌,
-  ◌++◌,
-  length,
-  length-append,
-  get_or,
-  Some,
-  is_some,
-  map,
-  filter,
-  refl,
-  sym,
-  ◌∙◌,
-  ap,
-  ap₂,
-  subst,
-  inl,
-  inr,
-  arith,
-}
+use Rattle.std.proofs.Common.{◌≡◌, ℕ, ◌+◌, ◌<◌, ◌≤◌, ◌==◌, ◌&&◌, Bool, false, not, List, [], ◌++◌, length, length-append, get_or, Some, is_some, map, sym, ◌∙◌, ap, ap₂, subst, inl, inr, arith}
 use Rattle.std.specs.Prelude.{nat_eq}
 use Rattle.std.specs.List.{All, Contains, IsDistinct}
 use Rattle.std.specs.FinMap as finite
@@ -46,7 +13,7 @@ use Rattle.tree.specs.Item.{Item, item_of}
 use Rattle.tree.specs.Path.{passing, behind, between}
 use Rattle.tree.specs.Tree.{Items}
 use Rattle.tree.proofs.Times.{times, times_if_contains, once_if_distinct, distinct_if_once, none_or_some}
-use Rattle.stepmap.specs.Boundary.{Boundary, AreInOrder, below, from_on}
+use Rattle.stepmap.specs.Boundary.{AreInOrder, below, from_on}
 use Rattle.stepmap.specs.Cut.{slot_passes}
 use Rattle.stepmap.specs.Stored.{boundaries_of, IsStored}
 use Rattle.stepmap.proofs.Clearing.{run_parted}

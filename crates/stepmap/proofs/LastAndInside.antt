@@ -1,31 +1,5 @@
 -- The last boundary up to the begin of a range and those inside it: whether one of them is above a number.
-use Rattle.std.proofs.Common.{
-  ◌≡◌,
-  ◌≢◌,
-  ◌-◌,
-  Bool,
-  true,
-  false,
-  not,
-  ◌&&◌,
-  List,
-  [],
-  ◌∷◌,
-  ◌++◌,
-  length,
-  length-append,
-  Some,
-  drop,
-  refl,
-  sym,
-  ◌∙◌,
-  ap,
-  subst,
-  inl,
-  inr,
-  ◌⊎◌,
-  arith,
-}
+use Rattle.std.proofs.Common.{◌≡◌, ◌≢◌, ◌-◌, Bool, true, false, List, [], ◌∷◌, ◌++◌, length, length-append, Some, drop, refl, sym, ◌∙◌, ap, subst, inl, inr, ◌⊎◌, arith}
 use Rattle.std.specs.Prelude.{ℕ, ℤ, int_lt, ◌<ℤ◌, ◌≤ℤ◌, Any, ◌↔◌}
 use Rattle.std.proofs.Math.Seq.{drop-append_seam}
 use Rattle.std.proofs.lemmas.Bool.{cases_Bool}
@@ -33,14 +7,14 @@ use Rattle.arena.specs.Arena.{Arena}
 use Rattle.tree.specs.Item.{Item}
 use Rattle.tree.specs.Path.{passing, between, from_last}
 use Rattle.tree.specs.Tree.{Items, IsLast}
-use Rattle.tree.proofs.FromLast.{last_passing, last_and_between}
-use Rattle.keyspace.specs.Key.{IsBytes, IsBefore}
+use Rattle.tree.proofs.FromLast.{last_and_between}
+use Rattle.keyspace.specs.Key.{IsBytes}
 use Rattle.keyspace.specs.Range.{Holds, IsEmpty}
 use Rattle.keyspace.specs.declared.range.Range.{Range}
 use Rattle.stepmap.specs.Boundary.{Boundary, AreBoundaries, value_at}
 use Rattle.stepmap.specs.Cut.{slot_passes}
 use Rattle.stepmap.specs.Stored.{boundary_of, boundaries_of, IsStored}
-use Rattle.stepmap.proofs.Between.{inside, nested, between_inside, above_by_begin, above_by_inside, inside_if_above}
+use Rattle.stepmap.proofs.Between.{nested, between_inside, above_by_begin, above_by_inside, inside_if_above}
 use Rattle.stepmap.proofs.Cutting.{stored_cut}
 use Rattle.stepmap.proofs.LastFound.{some_passes, last_boundary, value_of_last}
 use Rattle.stepmap.proofs.SomeElement.{Any-first, Any-later, Any-cases, Any-map, Any-unmap}

@@ -158,7 +158,7 @@ module _ {H : Type 0} (old new : Arena H) where
 
     module _ (version : ℤ) (gap : ¬ Any (λ b. b.key ≡ key) (boundaries_of old tree.items)) (next : Items)
         (items_are : next.items ≡ passing (slot_passes new true key) tree.items
-            ++ (record { key = slot; version = version } ∷ behind (slot_passes new true key) tree.items)) where
+        ++ (record { key = slot; version = version } ∷ behind (slot_passes new true key) tree.items)) where
       -- then a boundary stands at its key
       pub placed_boundaries : boundaries_of new next.items ≡ with_boundary key version (boundaries_of old tree.items)
       placed_boundaries =
@@ -283,7 +283,7 @@ module _ {H : Type 0} (keys : Arena H) where
   module _ (tree next : Items) (stored : IsStored keys tree) (key : List ℕ) (empty : key ≡ []) (version : ℤ)
       (first : Item) (others : List Item) (is_first : IsFirst key tree.items first others)
       (items_are : next.items
-          ≡ record { key = first.key; version = version } ∷ behind (slot_passes keys true key) tree.items) where
+      ≡ record { key = first.key; version = version } ∷ behind (slot_passes keys true key) tree.items) where
     -- the boundary at the empty key has the version then
     pub first_boundaries : boundaries_of keys next.items ≡ with_boundary key version (boundaries_of keys tree.items)
     first_boundaries =

@@ -68,13 +68,7 @@ impl<const N: usize> Boundaries<N> {
     // Looks at some boundaries from the one at the cursor on, at most `count`, and takes out each whose version and
     // predecessor's version are below `edge`. `before` is the version of the boundary before them. The cursor is then at
     // the first one not looked at, or empty.
-    pub fn thin_run(
-        &mut self,
-        cursor: &mut Vec<u8>,
-        count: usize,
-        edge: i64,
-        before: i64,
-    ) -> Looked
+    pub fn thin_run(&mut self, cursor: &mut Vec<u8>, count: usize, edge: i64, before: i64) -> Looked
         requires keys { All (λ b. IsKey b.key) self.old.boundaries }
         requires any_key { MAX_KEY_LENGTH ≤ vec_capacity cursor.old }
         requires later { cursor.old.items ≢ [] }

@@ -1,16 +1,15 @@
 -- How many nodes a tree of so many items has, and how high it is.
-use Rattle.std.proofs.Common.{◌≡◌, ℕ, zero, suc, ◌+◌, ◌-◌, ◌*◌, ◌^◌, ◌<◌, ◌≤◌, ◌⊎◌, inl, inr, List, [], ◌∷◌, ◌++◌, length, map, flat_map, All, refl, sym, ap, subst, arith, length-append, lit<}
+use Rattle.std.proofs.Common.{◌≡◌, ℕ, zero, suc, ◌+◌, ◌-◌, ◌*◌, ◌^◌, ◌<◌, ◌≤◌, inl, inr, List, [], ◌∷◌, length, flat_map, All, ap, subst, arith, length-append, lit<}
 use Rattle.std.proofs.lemmas.List.{length-map}
 use Rattle.std.proofs.Math.Nat.{mul-le-mul_left, pow-le-pow_right, two-pow-succ}
 use Rattle.std.proofs.lemmas.Bool.{cases_lt}
 use Rattle.std.proofs.lemmas.List.Elements.{All-head, All-tail}
-use Rattle.std.specs.FinMap as finite
 use Rattle.arena.specs.Arena.{Arena, spare_of}
 use Rattle.tree.specs.declared.entry.Entry.{Entry}
 use Rattle.tree.specs.declared.node.Node.{Node}
 use Rattle.tree.specs.Item.{item_of}
 use Rattle.tree.specs.Subtree.{entries_at, items_in, slots_in, IsSubtree, IsChild}
-use Rattle.tree.specs.Tree.{IsTree, IsRooted, least_of}
+use Rattle.tree.specs.Tree.{IsTree, least_of}
 
 module _ {N : ℕ} (nodes : Arena (Node N)) (k least : ℕ) (one_less : k + 1 ≡ least) where
   abbrev Right : ℕ → Entry → Type 0

@@ -1,5 +1,5 @@
 -- What the moves of a node's entries leave, of lists alone.
-use Rattle.std.proofs.Common.{◌≡◌, ℕ, ◌+◌, ◌-◌, ◌<◌, ◌≤◌, List, ◌∷◌, ◌++◌, length, take, drop, slice_set, suc, refl, sym, ap, ◌∙◌, arith, append_assoc, add-one}
+use Rattle.std.proofs.Common.{◌≡◌, ℕ, ◌+◌, ◌-◌, ◌<◌, ◌≤◌, List, ◌∷◌, ◌++◌, length, take, drop, slice_set, suc, sym, ap, ◌∙◌, arith, append_assoc}
 use Rattle.std.specs.List.{copy_within}
 use Rattle.std.proofs.lemmas.List.{take-take, take-append-drop, drop-append-le, drop-drop, drop-take, take_at, drop_at, length-take-le, length-drop, length-append, set_split, take-append-le}
 

@@ -1,5 +1,5 @@
 -- A run that begins with the last item that passes, and what is left of the tree where it is thinned.
-use Rattle.std.proofs.Common.{◌≡◌, ◌≢◌, ℕ, zero, suc, ℤ, ◌+◌, ◌-◌, ◌<◌, ◌≤◌, ◌≤ℤ◌, int_lt, ◌&&◌, Bool, false, not, ◌⊎◌, inl, inr, List, Option, Some, None, [], ◌∷◌, ◌++◌, length, take, drop, filter, map, refl, sym, ◌∙◌, ap, subst, arith, length-append, length-drop, append_assoc}
+use Rattle.std.proofs.Common.{◌≡◌, ◌≢◌, ℕ, zero, suc, ℤ, ◌+◌, ◌-◌, ◌<◌, ◌≤◌, ◌≤ℤ◌, int_lt, ◌&&◌, Bool, false, not, inl, inr, List, Option, Some, None, [], ◌∷◌, ◌++◌, length, take, drop, filter, map, refl, sym, ◌∙◌, ap, arith, length-append, length-drop, append_assoc}
 use Rattle.std.specs.Prelude.{MatchOption}
 use Rattle.std.proofs.lemmas.Int.{ints}
 use Rattle.std.proofs.lemmas.List.{map-append, length-map, length-take-le, take-append-drop, drop-append-le, drop-map}
@@ -10,7 +10,7 @@ use Rattle.tree.specs.Tree.{thin, gone}
 use Rattle.tree.proofs.Leaves.{IsLeaf, passing_is, behind_is}
 use Rattle.tree.proofs.Keys.{first_key-append}
 use Rattle.tree.proofs.Times.{none_or_some}
-use Rattle.tree.proofs.Thinning.{run, stays, gone_or_kept, all_stay}
+use Rattle.tree.proofs.Thinning.{run, stays, gone_or_kept}
 use Rattle.tree.proofs.Runs.{drop-drop_at}
 
 -- the entry at an index, and those around it

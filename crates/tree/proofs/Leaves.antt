@@ -1,5 +1,5 @@
 -- What the leaf that a probe finds says of the items that pass.
-use Rattle.std.proofs.Common.{◌≡◌, ℕ, zero, suc, ◌+◌, ◌-◌, ◌<◌, ◌≤◌, ◌⊎◌, inl, inr, Bool, true, false, not, List, [], ◌∷◌, ◌++◌, Option, Some, length, get_or, slice_get, take, drop, filter, flat_map, map, All, refl, sym, ◌∙◌, ap, subst, arith}
+use Rattle.std.proofs.Common.{◌≡◌, ℕ, zero, suc, ◌+◌, ◌-◌, ◌<◌, ◌≤◌, inl, inr, Bool, true, false, not, List, [], ◌∷◌, ◌++◌, Option, Some, length, get_or, slice_get, take, drop, filter, flat_map, map, All, refl, sym, ◌∙◌, ap, subst, arith}
 use Rattle.std.specs.Prelude.{MatchOption}
 use Rattle.std.proofs.lemmas.Bool.{cases_Bool}
 use Rattle.std.proofs.lemmas.Option.{slice_get-get_or}
@@ -14,7 +14,7 @@ use Rattle.tree.specs.Subtree.{entries_at, items_in, IsSubtree}
 use Rattle.tree.specs.Tree.{IsLast}
 use Rattle.tree.proofs.Times.{none_or_some}
 use Rattle.tree.proofs.Cuts.{not_both, none_pass, none_passed, none_fail, IsCut-parts, IsCut-from_falls, Falls, Falls-from_cut}
-use Rattle.tree.proofs.Ways.{IsWay, way}
+use Rattle.tree.proofs.Ways.{way}
 
 -- the last of those that pass does
 index_passes : {X : Type 0} (p : X → Bool) (xs : List X) (x : X) → IsCut p xs → 1 ≤ length (filter p xs)

@@ -1,5 +1,5 @@
 -- A root over two subtrees, and the only child of a root in its place.
-use Rattle.std.proofs.Common.{◌≡◌, ℕ, suc, ◌+◌, ◌≤◌, List, [], ◌∷◌, ◌++◌, length, get_or, All, refl, sym, ap, subst, ◌∙◌, arith}
+use Rattle.std.proofs.Common.{◌≡◌, ℕ, suc, ◌≤◌, List, [], ◌∷◌, length, get_or, refl, sym, ap, subst, ◌∙◌, arith}
 use Rattle.std.specs.Prelude.{nat_eq}
 use Rattle.std.specs.List.{IsDistinct}
 use Rattle.std.specs.FinMap as map
@@ -9,10 +9,10 @@ use Rattle.arena.specs.Arena.{Arena, IsLive}
 use Rattle.tree.specs.declared.entry.Entry.{Entry}
 use Rattle.tree.specs.declared.node.Node.{Node}
 use Rattle.tree.specs.Item.{Item, Tells}
-use Rattle.tree.specs.Subtree.{entries_at, items_in, slots_in, IsChild, IsSubtree}
+use Rattle.tree.specs.Subtree.{entries_at, items_in, slots_in, IsSubtree}
 use Rattle.tree.specs.Replace.{AreChildren, items_of, slots_of}
 use Rattle.tree.specs.Tree.{IsRooted, least_of}
-use Rattle.tree.proofs.Times.{times, once_if_distinct, distinct_if_once}
+use Rattle.tree.proofs.Times.{once_if_distinct, distinct_if_once}
 use Rattle.tree.proofs.Frames.{IsRight, agree_own, items_same, slots_same, subtree_same, live_in}
 use Rattle.tree.proofs.Changing.{Moves, moves_beside, moves_agree}
 use Rattle.tree.proofs.Families.{live_children, holds}

@@ -1,11 +1,11 @@
 -- A tree of one node, and more spare nodes.
-use Rattle.std.proofs.Common.{◌≡◌, ◌≢◌, ℕ, zero, suc, ◌+◌, ◌-◌, ◌*◌, ◌/◌, ◌<◌, ◌≤◌, List, [], ◌∷◌, length, map, Option, Some, None, is_some, option_map, unwrap_or, refl, sym, ap, subst, ◌∙◌, arith}
+use Rattle.std.proofs.Common.{◌≡◌, ◌≢◌, ℕ, ◌+◌, ◌-◌, ◌*◌, ◌/◌, ◌≤◌, List, [], ◌∷◌, length, map, Option, Some, None, is_some, option_map, unwrap_or, sym, ap, subst, ◌∙◌, arith}
 use Rattle.std.specs.Prelude.{IfSome, nat_eq}
 use Rattle.std.specs.List.{IsDistinct}
 use Rattle.std.specs.FinMap as finite
 use Rattle.std.specs.Ordering.{nat_cmp}
 use Rattle.std.proofs.Math.Nat.{mul-le-mul_left}
-use Rattle.arena.specs.Arena.{Arena, Record, IsLive, record_at, key_at, spare_of}
+use Rattle.arena.specs.Arena.{Arena, Record, record_at, spare_of}
 use Rattle.tree.specs.declared.entry.Entry.{Entry}
 use Rattle.tree.specs.declared.node.Node.{Node}
 use Rattle.tree.specs.Item.{item_of}
@@ -15,7 +15,7 @@ use Rattle.tree.specs.Replace.{IsKeyless}
 use Rattle.tree.specs.Tree.{IsTree, IsRooted, least_of, way}
 use Rattle.tree.proofs.Times.{distinct_if_once}
 use Rattle.tree.proofs.Frames.{Agree, agree_own, items_same, slots_same, subtree_same}
-use Rattle.tree.proofs.Changing.{Moves, moves_placed}
+use Rattle.tree.proofs.Changing.{moves_placed}
 
 -- so many nodes are enough for the items and a change
 pub enough_nodes : (k room total : ℕ) → 1 ≤ k → room / k + 67 ≤ total → room + k * 66 ≤ k * total

@@ -1,5 +1,5 @@
 -- A subtree: the nodes below a slot, all leaves at one depth. This project's own.
-use Rattle.std.specs.Prelude.{◌≡◌, ℕ, zero, suc, ◌≤◌, List, [], ◌∷◌, length, map, option_map, unwrap_or}
+use Rattle.std.specs.Prelude.{ℕ, zero, suc, ◌≤◌, List, [], ◌∷◌, length, map, option_map, unwrap_or}
 use Rattle.std.specs.List.{All, flat_map}
 use Rattle.arena.specs.Arena.{Arena, IsLive, header_at}
 use Rattle.tree.specs.declared.entry.Entry.{Entry}

@@ -1,4 +1,4 @@
-use Rattle.std.proofs.Common.{◌≡◌, ◌-◌, ◌≤◌, true, IsTrue, not, length, filter, take, drop, sym, ◌∙◌, subst, rules, arith}
+use Rattle.std.proofs.Common.{◌≡◌, ◌-◌, ◌≤◌, IsTrue, not, length, filter, take, drop, sym, ◌∙◌, subst, rules}
 use Rattle.tree.specs.declared.entry.Entry.{Entry}
 use Rattle.tree.proofs.PartsAt.{PassesAt, FailsAt, passes_there, fails_there, parted_here}
 use Rattle.tree.proofs.guess.parts_at.Given as given

@@ -1,4 +1,4 @@
-use Rattle.std.proofs.Common.{arith, ◌≡◌, suc, ◌-◌, [], ◌∷◌, ◌∙◌, ap, sym, subst, length, get_or}
+use Rattle.std.proofs.Common.{arith, ◌≡◌, suc, ◌-◌, ◌∙◌, ap, sym, subst, length, get_or}
 use Rattle.std.specs.Prelude.{nat_eq}
 use Rattle.std.specs.List.{IsDistinct}
 use Rattle.tree.specs.Subtree.{items_in, slots_in, IsSubtree}

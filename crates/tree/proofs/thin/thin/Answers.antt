@@ -1,7 +1,7 @@
-use Rattle.std.proofs.Common.{rules, ◌≡◌, ◌-◌, ◌≤◌, ◌<◌, ◌++◌, ◌∷◌, [], take, drop, length, map, get_or, set, ℕ, ◌+◌, ◌∙◌, ap, sym, subst, true, false, List, w64, ℤ, to_z, of_z, SFits, ◌&&◌, int_lt, int_le, arith, refl}
+use Rattle.std.proofs.Common.{rules, ◌≡◌, ◌<◌, ◌++◌, ◌∷◌, [], take, drop, map, get_or, set, ℕ, ◌+◌, ◌∙◌, ap, sym, subst, true, false, List, w64, ℤ, to_z, of_z, SFits, ◌&&◌, int_lt, int_le, arith, refl}
 use Rattle.std.proofs.lemmas.Int.{to_z-of_z}
 use Rattle.tree.specs.declared.entry.Entry.{Entry}
-use Rattle.tree.specs.Item.{item_of, version_of}
+use Rattle.tree.specs.Item.{item_of}
 use Rattle.tree.specs.Node.{entries_of}
 use Rattle.tree.specs.Tree.{thin}
 use Rattle.tree.proofs.Thinning.{IsThinned, run, removed_in, one_stays, one_goes, one_more, not_below, is_below, one_not_below, last_seen, all_kept}

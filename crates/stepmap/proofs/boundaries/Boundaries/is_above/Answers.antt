@@ -1,4 +1,4 @@
-use Rattle.std.proofs.Common.{arith, true, false, ℤ, Some, ◌≡◌, ◌∙◌, ap, sym, subst, List, ℕ}
+use Rattle.std.proofs.Common.{arith, true, false, Some, sym, subst, List, ℕ}
 use Rattle.std.specs.Prelude.{IsTrue, Any, ◌↔◌, ◌<ℤ◌}
 use Rattle.std.proofs.lemmas.Int.{to_z-of_z}
 use Rattle.std.proofs.Common.{w64}

@@ -72,8 +72,7 @@ begin_with-requires g c =
     let short : length range.begin ≤ 16384 = omega (arith, range.begin_is_key.short) in
     let spare = spare_for_begin (length range.begin) (length range.end) (spare_in c.args.self.now)
     (spare_in c.clear.new.self) c.requires.keys e.spare short in
-    let count = cleared_shorter range c.requires.filled bs in
-    (
+    let count = cleared_shorter range c.requires.filled bs in (
       omega arith,
       (
         subst (λ ds. key ≢ [] → ¬ Any (λ (b : Boundary). b.key ≡ key) ds) (sym e.boundaries)
@@ -108,8 +107,7 @@ insert-requires g c =
     ≤ spare_in c.begin_with.new.self size + wanted_of (length k ∷ []) size) c.begin.ensures.bytes f.spare in
     let spare = spare_for_end (length range.begin) (length range.end) (spare_in c.args.self.now)
     (spare_in c.clear.new.self) c.requires.keys e.spare (spare_in c.begin_with.new.self) used short in
-    let count = begun_longer range c.requires.filled bs c.args.version in
-    (
+    let count = begun_longer range c.requires.filled bs c.args.version in (
       omega arith,
       (
         subst (λ ds. ¬ Any (λ (b : Boundary). b.key ≡ key) ds) (sym now)

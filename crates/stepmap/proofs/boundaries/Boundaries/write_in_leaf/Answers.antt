@@ -1,13 +1,12 @@
-use Rattle.std.proofs.Common.{arith, rules, true, false, ℕ, ◌≤◌, ◌<◌, ◌+◌, ◌≡◌, ◌∙◌, ap, sym, subst, List, [], ◌∷◌, length, Some, None, w64, SFits, ap₂, Bool, Option, map}
+use Rattle.std.proofs.Common.{arith, rules, false, ℕ, ◌≤◌, ◌<◌, ◌+◌, ◌≡◌, ◌∙◌, ap, sym, subst, List, [], ◌∷◌, length, Some, None, w64, SFits, Bool, map}
 use Rattle.std.specs.Prelude.{nat_eq, ◌==◌}
 use Rattle.std.specs.List.{All, Contains, IsDistinct}
 use Rattle.std.specs.FinMap as finite
 use Rattle.stepmap.specs.Writing.{written}
 use Rattle.std.proofs.lemmas.Int.{to_z-of_z}
 use Rattle.std.proofs.lemmas.List.{length-map}
-use Rattle.tree.specs.Item.{Item, item_of}
+use Rattle.tree.specs.Item.{item_of}
 use Rattle.tree.specs.declared.entry.Entry.{Entry}
-use Rattle.tree.specs.declared.node.Node.{Node}
 use Rattle.tree.specs.Path.{IsCut}
 use Rattle.tree.specs.Tree.{Items}
 use Rattle.arena.specs.Arena.{Arena, IsLive, record_at, spare_of, size_of, wanted_of}
@@ -20,7 +19,7 @@ use Rattle.stepmap.proofs.Exchanged.{cut_still}
 use Rattle.stepmap.proofs.WritingValues.{begins_before_end}
 use Rattle.stepmap.proofs.PlacedKeys.{Placed, item_at, ArePlaced, none_placed, one_more_by, taken_by_place, still_stored, still_boundaries}
 use Rattle.stepmap.proofs.WrittenInParts.{spare_for_begin, spare_for_end}
-use Rattle.stepmap.proofs.WrittenInLeaf.{at_begin, at_end, both, IsEndedBy, Exchange, IsReady, IsTried, tried_one, tried_two, begin_live, tree_stays, begin_released, none_left, end_live, end_released, replaced_live, replaced_distinct, replaced_stored, replaced_boundaries, used_at_most}
+use Rattle.stepmap.proofs.WrittenInLeaf.{at_begin, at_end, both, IsEndedBy, IsReady, IsTried, tried_one, tried_two, begin_live, tree_stays, begin_released, none_left, end_live, end_released, replaced_live, replaced_distinct, replaced_stored, replaced_boundaries, used_at_most}
 use Rattle.stepmap.proofs.boundaries.Boundaries.write_in_leaf.Goals as goal
 use Rattle.stepmap.proofs.boundaries.Boundaries.write_in_leaf.Given as given
 use Rattle.stepmap.proofs.boundaries.Boundaries.write_in_leaf.Goals.{After-item-first, In_default, In-Some-run, After-release, After-release-in-Some-end_key, In_default-end_key, After-entries, then-end, else-end, in-None, in-Some}
@@ -83,15 +82,15 @@ ready_at g c =
     c.item-first.ensures.item ∙ ap (λ v. record { key = slot; version = v }) (to_z-of_z w64 v c.ranges.version) in
     elim c.if-end.branch [
       | then-end h ↦ record {
-          placed = subst (λ keys'. ArePlaced keys keys' (both range v w slot c.if-end.end_key))
-              (sym (ap (λ s. s.1.1.0) h.self-inside-is))
-              (subst (λ end. ArePlaced keys c.place.new.self (both range v w slot end)) (sym h.end_key-is) begin);
-          begin_is = c.begin-3.ensures.bytes;
-          end_is = c.end-2.ensures.bytes;
-          first_is = first;
-          ended = subst (λ end. IsEndedBy range v w slot end bs) (sym h.end_key-is)
-              (c.requires.is_there.0 h.if-end.true);
-        }
+        placed = subst (λ keys'. ArePlaced keys keys' (both range v w slot c.if-end.end_key))
+            (sym (ap (λ s. s.1.1.0) h.self-inside-is))
+            (subst (λ end. ArePlaced keys c.place.new.self (both range v w slot end)) (sym h.end_key-is) begin);
+        begin_is = c.begin-3.ensures.bytes;
+        end_is = c.end-2.ensures.bytes;
+        first_is = first;
+        ended = subst (λ end. IsEndedBy range v w slot end bs) (sym h.end_key-is)
+            (c.requires.is_there.0 h.if-end.true);
+      }
       | else-end h ↦
           let f = h.place-else-end.ensures in
           let end : Placed = record { slot = h.unwrap.result; key = range.end; version = w } in
@@ -105,8 +104,8 @@ ready_at g c =
                 (subst (λ end. ArePlaced keys h.place-else-end.new.self (both range v w slot end)) (sym h.end_key-is)
                 placed);
             begin_is = c.begin-3.ensures.bytes;
-          end_is = c.end-2.ensures.bytes;
-          first_is = first;
+            end_is = c.end-2.ensures.bytes;
+            first_is = first;
             ended = subst (λ end. IsEndedBy range v w slot end bs) (sym h.end_key-is)
                 (λ there. not_both_ways _ (c.requires.is_there.1 there) h.if-end.false);
           }
@@ -132,8 +131,7 @@ room g c =
 pub replace_run-run-requires : goal.replace_run-run-requires
 replace_run-run-requires g c =
     let at = (goal.at.replace_run-run-requires g c).After-item-first in
-    let p = ready_at g at in
-    (
+    let p = ready_at g at in (
       omega arith,
       (
         omega (arith, c.self.inside.few),
@@ -153,8 +151,7 @@ replace_run-run-requires g c =
 pub replace_run-run-requires-in-Some : goal.replace_run-run-requires-in-Some
 replace_run-run-requires-in-Some g c =
     let at = (goal.at.replace_run-run-requires-in-Some g c).After-item-first in
-    let p = ready_at g at in
-    (
+    let p = ready_at g at in (
       omega arith,
       (
         omega (arith, c.self.inside.few),
@@ -232,7 +229,6 @@ put g c ready =
           h.end_key-is (ap (λ s. s.1.1.0) h.self-inside-is) h.run-is (ap (λ s. s.1.1.1.0) h.self-inside-is)
           h.replace_run-run-in-Some.ensures.run
     ]
-
 
 pub release-requires : goal.release-requires
 release-requires g c =
@@ -407,13 +403,12 @@ replaced g c tried =
           now run next tried node c.in-Some-run.is es c.entries.ensures.entries;
       distinct = replaced_distinct keys tree c.self.invariant bs are range c.requires.filled some v w c.requires.version
           slot end now run next tried node c.in-Some-run.is es c.entries.ensures.entries;
-      after_release = λ final others counted.
-          (
-            replaced_stored keys tree c.self.invariant bs are range c.requires.filled some v w c.requires.version slot end
-                now run next tried node c.in-Some-run.is es c.entries.ensures.entries final others counted,
-            replaced_boundaries keys tree c.self.invariant bs are range c.requires.filled some v w c.requires.version slot
-                end now run next tried node c.in-Some-run.is es c.entries.ensures.entries final others counted,
-          );
+      after_release = λ final others counted. (
+        replaced_stored keys tree c.self.invariant bs are range c.requires.filled some v w c.requires.version slot end
+            now run next tried node c.in-Some-run.is es c.entries.ensures.entries final others counted,
+        replaced_boundaries keys tree c.self.invariant bs are range c.requires.filled some v w c.requires.version slot
+            end now run next tried node c.in-Some-run.is es c.entries.ensures.entries final others counted,
+      );
     }
 
 pub release-requires-2-clause-live : goal.release-requires-2-clause-live

@@ -1,4 +1,4 @@
-use Rattle.std.proofs.Common.{arith, ◌≡◌, ◌/◌, ◌+◌, ◌++◌, ◌∙◌, sym, ap, append_assoc, take, drop}
+use Rattle.std.proofs.Common.{◌/◌, ◌+◌, ◌++◌, ◌∙◌, sym, ap, append_assoc, take, drop}
 use Rattle.std.proofs.lemmas.List.{take-append-drop}
 use Rattle.tree.specs.Node.{entries_of}
 use Rattle.tree.proofs.node.Node.even_out.Goals as goal

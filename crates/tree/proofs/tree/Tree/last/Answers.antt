@@ -3,7 +3,7 @@ use Rattle.std.specs.Prelude.{MatchOption}
 use Rattle.tree.specs.Item.{Item, item_of}
 use Rattle.tree.specs.Tree.{least_of, Items, IsLast}
 use Rattle.tree.specs.Path.{IsCut, before_leaf, behind_leaf, passing}
-use Rattle.tree.specs.Subtree.{entries_at, items_in}
+use Rattle.tree.specs.Subtree.{items_in}
 use Rattle.tree.proofs.Found.{entries_read}
 use Rattle.tree.proofs.Leaves.{is_leaf, leaf_cut_by_keys, last_passing}
 use Rattle.tree.proofs.tree.Tree.last.Goals as goal

@@ -1,4 +1,4 @@
-use Rattle.std.proofs.Common.{arith, ◌≡◌, ◌+◌, ◌-◌, ◌*◌, ◌≤◌, ◌∙◌, ap, cond}
+use Rattle.std.proofs.Common.{arith, ◌≡◌, ◌+◌, ◌≤◌, ◌∙◌, ap, cond}
 use Rattle.std.proofs.lemmas.Bool.{ne_eqb}
 use Rattle.arena.specs.Arena.{spare_of, slots_of}
 use Rattle.tree.proofs.Trees.{tree_of_one}

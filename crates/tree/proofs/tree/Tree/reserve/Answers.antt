@@ -1,8 +1,8 @@
-use Rattle.std.proofs.Common.{arith, ◌≡◌, ◌+◌, ◌-◌, ◌*◌, ◌/◌, ◌≤◌, ap}
+use Rattle.std.proofs.Common.{arith, ◌≡◌, ◌+◌, ◌-◌, ◌/◌, ◌≤◌, ap}
 use Rattle.std.specs.FinMap as finite
 use Rattle.std.proofs.Math.Nat.{mul-le-mul_left}
 use Rattle.arena.specs.Arena.{spare_of}
-use Rattle.tree.specs.Tree.{least_of, way}
+use Rattle.tree.specs.Tree.{least_of}
 use Rattle.tree.proofs.Trees.{enough_nodes, tree_stays}
 use Rattle.tree.proofs.tree.Tree.reserve.Goals as goal
 
