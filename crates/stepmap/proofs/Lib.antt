@@ -11,6 +11,7 @@ pub mod WritingRooted
 pub mod Thinned
 pub mod Looking
 pub mod Sweeps
+pub mod SweptBoundaries
 pub mod SweptMap
 pub mod WrittenMap
 pub mod IndexFound

@@ -3,6 +3,8 @@ ghost use Rattle.std.specs.Prelude.{◌≡◌, ◌≤◌, ℤ, ◌≤ℤ◌, pos
 ghost use Rattle.keyspace.specs.Key.{IsBefore, IsAtMost};
 ghost use Rattle.stepmap.specs.Boundary.{AreUpTo};
 
+mod beside;
+
 use crate::{KeyLengths, MAX_LIMIT, StepError, StepMap, SweepEnd};
 use keyspace::{Key, MAX_KEY_LENGTH, Range};
 use std::alloc::Global;
