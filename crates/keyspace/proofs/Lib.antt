@@ -9,3 +9,4 @@ pub mod Chaining
 pub mod Waiting
 pub mod Answered
 pub mod Digests
+pub mod Words

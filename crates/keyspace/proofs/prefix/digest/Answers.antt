@@ -1,15 +1,16 @@
-use Rattle.std.proofs.Common.{ap, ◌∙◌, ◌++◌, drop, replicate}
+use Rattle.std.proofs.Common.{ap, sym, ◌∙◌, ◌≡◌, replicate, take, length, rules, ◌≤◌}
 use Rattle.std.specs.Int.{w64, from_be_bytes}
+use Rattle.std.proofs.lemmas.List.{take-append-le}
 use Rattle.keyspace.specs.Digest.{digest_of}
-use Rattle.keyspace.proofs.Digests.{filled_up}
 use Rattle.keyspace.proofs.prefix.digest.Goals as goal
 
-pub returns : goal.returns
+pub returns-in-Some : goal.returns-in-Some
 unfolding digest_of
-returns c =
-    let n = c.min-length.result in
+returns-in-Some c =
+    let bytes = c.args.bytes.now in
+    let long : 8 ≤ length bytes = search rules in
+    let front : c.in-Some.first.now ≡ take 8 bytes = search rules in
     record {
-      digest = c.from_be_bytes.ensures ∙ ap (from_be_bytes w64)
-          (ap (λ front. front ++ drop n (replicate 8 0)) c.copy_from_slice.ensures.after
-          ∙ filled_up n c.args.bytes.now c.min-length.ensures);
+      digest = c.from_be_bytes.ensures
+          ∙ ap (from_be_bytes w64) (front ∙ sym (take-append-le 8 bytes (replicate 8 0) long));
     }
