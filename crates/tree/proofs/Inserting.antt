@@ -1,6 +1,8 @@
 -- A change to the leaf that a probe finds, and what it makes of the tree.
-use Rattle.std.proofs.Common.{◌≡◌, ◌≢◌, ℕ, ℤ, ◌+◌, ◌-◌, ◌*◌, ◌≤◌, Bool, not, List, [], ◌∷◌, ◌++◌, Option, Some, None, length, take, drop, filter, map, set, get_or, refl, sym, ◌∙◌, ap, subst, arith, length-append}
-use Rattle.std.specs.Prelude.{IfSome, MatchOption}
+use Rattle.std.proofs.Common.{◌≡◌, ◌≢◌, ℕ, ℤ, ◌+◌, ◌-◌, ◌*◌, ◌≤◌, Bool, not, List, [], ◌∷◌, ◌++◌, Option, Some, None}
+use Rattle.std.proofs.Common.{length, take, drop, filter, map, set, get_or, Bor, refl, sym, ◌∙◌, ap, subst, arith}
+use Rattle.std.proofs.Common.{length-append}
+use Rattle.std.specs.Prelude.{IfSome, MatchOption, option_copied, option_map}
 use Rattle.std.specs.FinMap as finite
 use Rattle.std.proofs.lemmas.List.{append_assoc, map-append, take-append-drop}
 use Rattle.std.proofs.Math.Seq.{set-append_seam}
@@ -17,18 +19,30 @@ use Rattle.tree.specs.Tree.{IsTree, IsRooted, least_of, way}
 use Rattle.tree.proofs.Leaves.{IsLeaf, passing_is, behind_is}
 
 module _ {N : ℕ} where
-  -- the entries of a node and of its right neighbour, if any
-  pub split_entries : (left : Node N) (right : Option (Node N)) (es : List Entry)
-      → MatchOption right (entries_of left ≡ es) (λ r. entries_of left ++ entries_of r ≡ es) → entries_with left right ≡ es
-  split_entries left None es same = same
-  split_entries left (Some r) es same = same
+  -- the entries of a node and of its right neighbour, if any, in whatever copies
+  pub split_entries : (left same : Node N) (right : Option (Node N)) (lent : Option (Bor (Node N))) (es : List Entry)
+      → option_copied lent ≡ right → entries_of same ≡ entries_of left
+      → MatchOption right (entries_of left ≡ es) (λ r. entries_of left ++ entries_of r ≡ es)
+      → entries_with same (option_map (λ r. r.now) lent) ≡ es
+  split_entries left same None None es is entries all = entries ∙ all
+  split_entries left same None (Some l) es is entries all = absurd (cc)
+  split_entries left same (Some r) None es is entries all = absurd (cc)
+  split_entries left same (Some r) (Some l) es is entries all =
+      let there : l.now ≡ r = cc in
+      ap (λ xs. xs ++ entries_of l.now) entries ∙ ap (λ n. entries_of left ++ entries_of n) there ∙ all
 
   -- the halves of a full node have enough entries
-  pub split_filled : (left : Node N) (right : Option (Node N)) → 4 ≤ N → IfSome right (λ _. N ≤ 2 * length (entries_of left))
+  pub split_filled : (left same : Node N) (right : Option (Node N)) (lent : Option (Bor (Node N))) → 4 ≤ N
+      → option_copied lent ≡ right → entries_of same ≡ entries_of left
+      → IfSome right (λ _. N ≤ 2 * length (entries_of left))
       → IfSome right (λ r. N ≤ 2 * length (entries_of r))
-      → IfSome right (λ r. (least_of N ≤ length (entries_of left)) × (least_of N ≤ length (entries_of r)))
-  split_filled left None wide first second = tt
-  split_filled left (Some r) wide first second = (omega arith, omega arith)
+      → IfSome lent (λ r. (least_of N ≤ length (entries_of same)) × (least_of N ≤ length (entries_of r.now)))
+  split_filled left same None None wide is entries first second = tt
+  split_filled left same None (Some l) wide is entries first second = absurd (cc)
+  split_filled left same (Some r) None wide is entries first second = tt
+  split_filled left same (Some r) (Some l) wide is entries first second =
+      let there : l.now ≡ r = cc in
+      (omega (arith, ap length entries), omega (arith, ap (λ n. length (entries_of n)) there))
 
   -- the tree after a change that puts other items in its nodes
   pub tree_put : (a b : Arena (Node N)) (root height slot above len now room : ℕ) → IsTree a root height len room → IsRooted b slot above
@@ -115,7 +129,7 @@ some_passes passes items before after es leaf some none =
     some (passing_is passes items before after es leaf ∙ ap (λ xs. before ++ map item_of xs) none ∙ ap (λ xs. xs ++ []) (leaf.none none))
 
 -- lists with one element behind them that are the same
-same_ends : {X : Type 0} (xs ys : List X) (x y : X) → xs ++ x ∷ [] ≡ ys ++ y ∷ [] → (xs ≡ ys) × (x ≡ y)
+pub same_ends : {X : Type 0} (xs ys : List X) (x y : X) → xs ++ x ∷ [] ≡ ys ++ y ∷ [] → (xs ≡ ys) × (x ≡ y)
 same_ends [] [] x y e = (refl, cc)
 same_ends [] (b ∷ ys) x y e = absurd (omega (arith, ap length e, length-append ys (y ∷ [])))
 same_ends (a ∷ xs) [] x y e = absurd (omega (arith, ap length e, length-append xs (x ∷ [])))

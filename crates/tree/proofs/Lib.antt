@@ -32,6 +32,7 @@ pub mod Constant
 pub mod Thinning
 pub mod Runs
 pub mod Splicing
+pub mod Overwriting
 pub mod LastRun
 pub mod FromLast
 pub mod Guessing

@@ -1,5 +1,7 @@
 -- The leaf to which hints lead: where an item of it passes, and the one behind fails, it is the one that a probe finds.
-use Rattle.std.proofs.Common.{◌≡◌, ◌⊎◌, ℕ, zero, suc, ◌+◌, ◌-◌, ◌<◌, ◌≤◌, Bool, true, false, List, [], ◌∷◌, ◌++◌, Option, Some, None, IfSome, option_map, unwrap_or, length, get_or, slice_get, map, take, drop, filter, flat_map, All, Any, refl, sym, ◌∙◌, ap, subst, inl, inr, arith}
+use Rattle.std.proofs.Common.{◌≡◌, ◌⊎◌, ℕ, zero, suc, ◌+◌, ◌-◌, ◌<◌, ◌≤◌, Bool, true, false, List, [], ◌∷◌, ◌++◌}
+use Rattle.std.proofs.Common.{Option, Some, None, IfSome, option_map, unwrap_or, length, get_or, slice_get, map, take}
+use Rattle.std.proofs.Common.{drop, filter, flat_map, All, Any, refl, sym, ◌∙◌, ap, subst, inl, inr, arith}
 use Rattle.std.proofs.lemmas.Bool.{cases_Bool}
 use Rattle.std.proofs.lemmas.Grind.{flat_map-append}
 use Rattle.std.proofs.lemmas.List.{append_assoc, append-nil, take-append-drop}
@@ -53,6 +55,14 @@ at_front : {X : Type 0} (front : List X) (x : X) (rest : List X) → slice_get (
 at_front [] x rest = refl
 at_front (y ∷ front) x rest = at_front front x rest
 
+-- and those behind it
+behind_front : {X : Type 0} (front : List X) (x : X) (rest : List X)
+    → drop (length front + 1) (front ++ x ∷ rest) ≡ rest
+behind_front [] x rest = refl
+behind_front (y ∷ front) x rest =
+    let more : suc (length front) + 1 ≡ suc (length front + 1) = omega arith in
+    rw more (behind_front front x rest)
+
 length-front : {X : Type 0} (front : List X) (x : X) → length (front ++ x ∷ []) - 1 ≡ length front
 length-front {X} front x = omega (arith, longer front)
   where
@@ -91,9 +101,10 @@ module _ (passes : ℕ → Bool) (below : Entry → List Item) where
       (subst (KeyFails passes) (sym (first_key-children below None (e ∷ rest) t)) h)
 
   -- the entry that passes, before those that fail, is the one at which a probe goes on
-  goes_on : (front : List Entry) (e : Entry) (rest : List Entry) → IsCut (λ e. passes e.key) (front ++ e ∷ rest)
-      → passes e.key ≡ true → All (λ e. passes e.key ≡ false) rest → child_in passes (front ++ e ∷ rest) ≡ e.child
-  goes_on front e rest c h a =
+  goes_at : (front : List Entry) (e : Entry) (rest : List Entry) → IsCut (λ e. passes e.key) (front ++ e ∷ rest)
+      → passes e.key ≡ true → All (λ e. passes e.key ≡ false) rest
+      → index_in passes (front ++ e ∷ rest) ≡ length front
+  goes_at front e rest c h a =
       let p = λ (e : Entry). passes e.key in
       let before : All (λ e. p e ≡ true) front =
       elim (IsCut-parts p front (e ∷ rest) c).2 [
@@ -104,10 +115,18 @@ module _ (passes : ℕ → Bool) (below : Entry → List Item) where
       let passed : filter p (front ++ e ∷ rest) ≡ front ++ e ∷ [] =
       filter-append p front (e ∷ rest) ∙ ap (λ es. es ++ filter p (e ∷ rest)) (none_fail p front before).0
       ∙ ap (λ es. front ++ es) last in
-      let index : index_in passes (front ++ e ∷ rest) ≡ length front =
-      ap (λ es. length es - 1) passed ∙ length-front front e in
-      ap (λ i. unwrap_or (option_map (λ (e : Entry). e.child) (slice_get (front ++ e ∷ rest) i)) 0) index
-      ∙ ap (λ o. unwrap_or (option_map (λ (e : Entry). e.child) o) 0) (at_front front e rest)
+      ap (λ es. length es - 1) passed ∙ length-front front e
+
+  -- so it goes on at the entry's child, and leaves the entries behind it
+  goes_on : (es front : List Entry) (e : Entry) (rest : List Entry) → es ≡ front ++ e ∷ rest
+      → index_in passes es ≡ length front
+      → (child_in passes es ≡ e.child) × (drop (index_in passes es + 1) es ≡ rest)
+  goes_on es front e rest split index =
+      let child = λ (o : Option Entry). unwrap_or (option_map (λ (e : Entry). e.child) o) 0 in (
+        ap (λ i. child (slice_get es i)) index ∙ ap (λ xs. child (slice_get xs (length front))) split
+            ∙ ap child (at_front front e rest),
+        ap (λ i. drop (i + 1) es) index ∙ ap (drop (length front + 1)) split ∙ behind_front front e rest,
+      )
 
   -- The first item behind a child fails: one of the child's does, or it is the first of those behind one of them.
   next_fails : (e : Entry) (rest : List Entry) (inner : List Item)
@@ -171,12 +190,13 @@ module _ {N : ℕ} (nodes : Arena (Node N)) where
       (Any-left Has here behind (Any-map item_of Has (entries_at nodes leaf) some)))
 
   -- The leaf is the one that a probe finds: an item of it passes, and an item of it or the first one behind it fails.
+  -- So the items behind it are those behind the leaf that the probe finds.
   pub is_leaf_in : (least height slot leaf : ℕ) (passes : ℕ → Bool) (before behind : List Item)
       → IsSubtree nodes least height slot → IsCut (λ x. passes x.key) (items_in nodes height slot)
       → IsLeafOf nodes height slot leaf before behind → Any (λ e. passes e.key ≡ true) (entries_at nodes leaf)
       → Any (λ e. passes e.key ≡ false) (entries_at nodes leaf) ⊎ KeyFails passes (first_key None behind)
-      → leaf ≡ leaf_in nodes height slot passes
-  is_leaf_in least zero slot leaf passes before behind s c l some ends = l.0
+      → (leaf ≡ leaf_in nodes height slot passes) × (behind ≡ behind_leaf nodes height slot passes)
+  is_leaf_in least zero slot leaf passes before behind s c l some ends = (l.0, l.2)
   is_leaf_in least (suc height) slot leaf passes before behind s c
       (front, e, rest, inner_before, inner_behind, es, inner, b, h) some ends =
       let p = λ (x : Item). passes x.key in
@@ -208,16 +228,21 @@ module _ {N : ℕ} (nodes : Arena (Node N)) where
       (All-back (λ e. Tells e (below e)) front (e ∷ rest) tell) in
       let entry_cut = λ (e : Entry). passes e.key in
       let rest_cut = (IsCut-parts entry_cut (e ∷ []) rest (IsCut-parts entry_cut front (e ∷ rest) entries).1).1 in
-      let on : child_in passes (entries_at nodes slot) ≡ e.child =
-      ap (child_in passes) es
-      ∙ goes_on passes below front e rest entries passing (rest_fail passes below rest behind_tell rest_cut next) in
-      is_leaf_in least height e.child leaf passes inner_before inner_behind child.subtree child_cut inner some
-      (elim ends [
+      let index = goes_at passes below front e rest entries passing
+      (rest_fail passes below rest behind_tell rest_cut next) in
+      let on = goes_on passes below (entries_at nodes slot) front e rest es (ap (index_in passes) es ∙ index) in
+      let found = is_leaf_in least height e.child leaf passes inner_before inner_behind child.subtree child_cut inner
+      some (elim ends [
         | inl f ↦ inl f
         | inr n ↦ inr (inner_fails passes below inner_behind (flat_map below rest)
             (subst (λ xs. KeyFails passes (first_key None xs)) h n))
-      ])
-      ∙ ap (λ s. leaf_in nodes height s passes) (sym on)
+      ]) in (
+        found.0 ∙ ap (λ s. leaf_in nodes height s passes) (sym on.0),
+        h ∙ ap (λ xs. xs ++ flat_map below rest) found.1
+            ∙ ap (λ s. behind_leaf nodes height s passes ++ flat_map below rest) (sym on.0)
+            ∙ ap (λ xs. behind_leaf nodes height (child_in passes (entries_at nodes slot)) passes ++ flat_map below xs)
+            (sym on.1),
+      )
 
   -- what the leaf that a probe finds says of the items of the subtree
   pub record IsFoundLeaf (height slot leaf : ℕ) (passes : ℕ → Bool) : Type 0 where

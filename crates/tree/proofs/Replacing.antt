@@ -7,10 +7,10 @@ use Rattle.tree.specs.declared.entry.Entry.{Entry}
 use Rattle.tree.specs.declared.node.Node.{Node}
 use Rattle.tree.specs.Item.{Item}
 use Rattle.tree.specs.Subtree.{entries_at, items_in, slots_in, IsSubtree}
-use Rattle.tree.specs.Replace.{items_of, slots_of, AreChildren, IsFamily, IsLinked, IsMended}
+use Rattle.tree.specs.Replace.{items_of, slots_of, AreChildren, IsFamily, IsLinked}
 use Rattle.tree.proofs.Times.{times, distinct_if_once}
 use Rattle.tree.proofs.Frames.{IsRight, below_of}
-use Rattle.tree.proofs.Changing.{Moves, moves_trans, moves_if_changes}
+use Rattle.tree.proofs.Changing.{Moves}
 use Rattle.tree.proofs.Families.{times-slots_of, loose, replaced}
 use Rattle.tree.proofs.Sharing.{around_one}
 use Rattle.tree.proofs.Mending.{right_child}
@@ -107,16 +107,3 @@ module _ {N : ℕ} where
           ap (items_of b height) split ∙ l.items
               ∙ ap (λ l. items_of a height (take i es) ++ (l ++ items_of a height (drop (i + 1) es))) then_items,
         )
-
-    -- and is made right
-    pub step_mended : (z : Arena (Node N)) (now : List Entry) → Moves a b (slots_in a height x) (slots_in b height x)
-        → IsSubtree b least height x → IsMended b z least height es now
-        → IsStep a z least height es now i (items_in b height x)
-    step_mended z now moves below mended =
-        let f = family_loose moves below in
-        record {
-          children = mended.children;
-          items = mended.items ∙ f.2;
-          moves = moves_trans a b z (slots_of a height es) (slots_of b height es) (slots_of z height now) f.1
-              (moves_if_changes b z (slots_of b height es) (slots_of z height now) mended.changes);
-        }

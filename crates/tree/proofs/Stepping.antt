@@ -1,24 +1,24 @@
 -- A replacement at a node above the leaves: what is known of the node, and what holds of it afterwards.
-use Rattle.std.proofs.Common.{◌≡◌, ℕ, suc, ◌+◌, ◌*◌, ◌<◌, ◌≤◌, Bool, List, [], ◌∷◌, ◌++◌, length, length-append, append-nil, get_or, take, drop, Option, Some, None, sym, ap, subst, ◌∙◌, arith}
-use Rattle.std.specs.Prelude.{IfSome, IsSomeAnd, MatchOption, nat_eq}
-use Rattle.std.specs.List.{IsDistinct}
+use Rattle.std.proofs.Common.{◌≡◌, ℕ, suc, ◌+◌, ◌*◌, ◌<◌, ◌≤◌, Bool, List, [], ◌∷◌, ◌++◌, length, length-append, append-nil, get_or, take, drop, Option, Some, None, refl, sym, ap, subst, ◌∙◌, arith}
+use Rattle.std.specs.Prelude.{IfSome, nat_eq}
+use Rattle.std.specs.List.{Contains, IsDistinct}
 use Rattle.std.proofs.lemmas.List.{length-take-le, length-drop}
-use Rattle.arena.specs.Arena.{Arena, IsLive, header_at}
+use Rattle.arena.specs.Arena.{Arena, IsLive, header_at, record_at}
 use Rattle.tree.specs.declared.entry.Entry.{Entry}
 use Rattle.tree.specs.declared.node.Node.{Node}
 use Rattle.tree.specs.Item.{Item}
 use Rattle.tree.specs.Node.{entries_of}
 use Rattle.tree.specs.Path.{index_in, child_in, before_leaf, behind_leaf}
-use Rattle.tree.specs.Subtree.{entries_at, slots_in, IsSubtree}
-use Rattle.tree.specs.Replace.{child_at, entries_with, items_with, slots_with, items_of, slots_of, AreChildren, Changes}
-use Rattle.tree.proofs.Times.{times, once_same, once_if_distinct}
-use Rattle.tree.proofs.Frames.{live_same}
-use Rattle.tree.proofs.Changing.{Moves, changes_if_moves}
+use Rattle.tree.specs.Subtree.{entries_at, items_in, slots_in, IsSubtree}
+use Rattle.tree.specs.Replace.{child_at, entries_at_both, items_with, slots_with, slot_taken, items_of, slots_of, AreChildren, Changes, IsFamily, IsFamilyAt, IsLinked, IsMendedAt}
+use Rattle.tree.proofs.Times.{times, once_same, once_if_distinct, times_if_contains}
+use Rattle.tree.proofs.Frames.{entries_same, live_same}
+use Rattle.tree.proofs.Changing.{Moves, changes_if_moves, moves_if_changes, moves_trans}
 use Rattle.tree.proofs.Families.{times-slots_of}
 use Rattle.tree.proofs.Placing.{entries_from_header}
 use Rattle.tree.proofs.Sharing.{child_is, around_one}
-use Rattle.tree.proofs.Replacing.{IsStep}
-use Rattle.tree.proofs.Storing.{IsStored, above}
+use Rattle.tree.proofs.Replacing.{family_loose, step_linked}
+use Rattle.tree.proofs.Storing.{IsStored, moves_own, stored, above}
 
 module _ {N : ℕ} where
   -- the node at a slot, and the child at an index, at which a probe goes on
@@ -65,9 +65,10 @@ module _ {N : ℕ} where
       }
 
   -- the node's own slot stays
-  pub live_beside : (a b : Arena (Node N)) (least height slot : ℕ) (passes : ℕ → Bool) (es : List Entry) (i x : ℕ) (d : Entry) (now : List ℕ)
-      → IsAt a least height slot passes es i x d → Moves a b (slots_in a height x) now → IsLive b slot
-  live_beside a b least height slot passes es i x d now at moves =
+  kept_beside : (a b : Arena (Node N)) (least height slot : ℕ) (passes : ℕ → Bool) (es : List Entry) (i x : ℕ)
+      (d : Entry) (now : List ℕ) → IsAt a least height slot passes es i x d → Moves a b (slots_in a height x) now
+      → record_at b slot ≡ record_at a slot
+  kept_beside a b least height slot passes es i x d now at moves =
       let all : times slot (slot ∷ slots_of a height es) ≤ 1 = subst (λ l. times slot l ≤ 1) at.slots_are (at.few slot) in
       let A = get_or es i d in
       let split : times slot (slots_of a height es) ≡ times slot (slots_of a height (take i es ++ (A ∷ [] ++ drop (i + 1) es))) =
@@ -77,10 +78,22 @@ module _ {N : ℕ} where
       let last = times-slots_of a height slot (A ∷ []) [] in
       let one : times slot (slots_of a height (A ∷ [])) ≡ times slot (slots_in a height x) =
       one_slot a height A slot ∙ ap (λ z. times slot (slots_in a height z)) (sym at.x_is) in
-      live_same a b slot (moves.others slot (omega (arith, once_same slot)) at.live) at.live
+      moves.others slot (omega (arith, once_same slot)) at.live
     where
       one_slot : (a : Arena (Node N)) (height : ℕ) (e : Entry) (s : ℕ) → times s (slots_of a height (e ∷ [])) ≡ times s (slots_in a height e.child)
       one_slot a height e s = ap (times s) (append-nil (slots_in a height e.child))
+
+  pub live_beside : (a b : Arena (Node N)) (least height slot : ℕ) (passes : ℕ → Bool) (es : List Entry) (i x : ℕ)
+      (d : Entry) (now : List ℕ)
+      → IsAt a least height slot passes es i x d → Moves a b (slots_in a height x) now → IsLive b slot
+  live_beside a b least height slot passes es i x d now at moves =
+      live_same a b slot (kept_beside a b least height slot passes es i x d now at moves) at.live
+
+  pub read_beside : (a b : Arena (Node N)) (least height slot : ℕ) (passes : ℕ → Bool) (es : List Entry) (i x : ℕ)
+      (d : Entry) (now : List ℕ)
+      → IsAt a least height slot passes es i x d → Moves a b (slots_in a height x) now → entries_at b slot ≡ es
+  read_beside a b least height slot passes es i x d now at moves =
+      entries_same a b slot (kept_beside a b least height slot passes es i x d now at moves) ∙ at.read
 
   -- what holds afterwards
   pub record IsDone (a w : Arena (Node N)) (least height slot : ℕ) (passes : ℕ → Bool) (leaf : List Item) (added : Option ℕ) : Type 0 where
@@ -89,14 +102,16 @@ module _ {N : ℕ} where
     pub neighbour : IfSome added (λ s. IsSubtree w least height s)
     pub changes : Changes a w (slots_in a height slot) (slots_with w height slot added)
 
-  pub done : (a b w : Arena (Node N)) (least height lower slot : ℕ) (passes : ℕ → Bool) (es now : List Entry) (i x : ℕ) (d : Entry)
+  done : (a b w : Arena (Node N)) (least height lower slot : ℕ) (passes : ℕ → Bool) (es now : List Entry) (i x : ℕ)
+      (d : Entry)
       (middle leaf : List Item) (added : Option ℕ) → suc lower ≡ height → IsAt a least lower slot passes es i x d
-      → IsStep a b least lower es now i middle → IsStored a w least lower slot added (items_of b lower now)
+      → items_of b lower now ≡ items_of a lower (take i es) ++ (middle ++ items_of a lower (drop (i + 1) es))
+      → IsStored a w least lower slot added (items_of b lower now)
       → middle ≡ before_leaf a lower x passes ++ (leaf ++ behind_leaf a lower x passes)
       → IsDone a w least height slot passes leaf added
-  done a b w least height lower slot passes es now i x d middle leaf added next at step stored middle_is =
+  done a b w least height lower slot passes es now i x d middle leaf added next at items stored middle_is =
       subst (λ n. IsDone a w least n slot passes leaf added) next (record {
-        items = stored.items_are ∙ step.items
+        items = stored.items_are ∙ items
             ∙ ap (λ l. items_of a lower (take i l) ++ (middle ++ items_of a lower (drop (i + 1) l))) (sym at.read)
             ∙ above a lower slot passes i x middle leaf at.index at.child middle_is;
         subtree = stored.subtree;
@@ -105,22 +120,97 @@ module _ {N : ℕ} where
       })
 
   -- the two parts of a node that was split have entries, and so has one that wasn't
-  pub some_left : (node : Node N) (other : Option (Node N)) (p q : List Entry) (t u : Entry) → 4 ≤ N
-      → entries_with node other ≡ p ++ (t ∷ u ∷ q) → IfSome other (λ _. N ≤ 2 * length (entries_of node)) → 1 ≤ length (entries_of node)
-  some_left node None p q t u four is half = omega (arith, ap length is, length-append p (t ∷ u ∷ q))
-  some_left node (Some r) p q t u four is half = omega (arith, half)
+  pub some_left : (w : Arena (Node N)) (slot : ℕ) (added : Option ℕ) (p q : List Entry) (t u : Entry) → 4 ≤ N
+      → entries_at_both w slot added ≡ p ++ (t ∷ u ∷ q) → IfSome added (λ _. N ≤ 2 * length (entries_at w slot))
+      → 1 ≤ length (entries_at w slot)
+  some_left w slot None p q t u four is half = omega (arith, ap length is, length-append p (t ∷ u ∷ q))
+  some_left w slot (Some s) p q t u four is half = omega (arith, half)
 
-  pub some_right : (other : Option (Node N)) → 4 ≤ N → IfSome other (λ r. N ≤ 2 * length (entries_of r))
-      → IfSome other (λ r. 1 ≤ length (entries_of r))
-  some_right None four half = tt
-  some_right (Some r) four half = omega (arith, half)
+  pub some_right : (w : Arena (Node N)) (added : Option ℕ) → 4 ≤ N → IfSome added (λ s. N ≤ 2 * length (entries_at w s))
+      → IfSome added (λ s. 1 ≤ length (entries_at w s))
+  some_right w None four half = tt
+  some_right w (Some s) four half = omega (arith, half)
 
   -- a node that wasn't split has one more entry
-  pub one_more : (node : Node N) (other : Option (Node N)) (added : Option ℕ) (es : List Entry) (i : ℕ) (t u : Entry) (w : Arena (Node N))
-      → i < length es → entries_with node other ≡ take i es ++ (t ∷ u ∷ drop (i + 1) es)
-      → MatchOption other (added ≡ None) (λ r. IsSomeAnd added (λ s. entries_at w s ≡ entries_of r)) → added ≡ None
-      → length es ≤ length (entries_of node) + 1
-  one_more node None added es i t u w within is matched none =
+  pub one_more : (w : Arena (Node N)) (slot : ℕ) (added : Option ℕ) (es : List Entry) (i : ℕ) (t u : Entry)
+      → i < length es → entries_at_both w slot added ≡ take i es ++ (t ∷ u ∷ drop (i + 1) es) → added ≡ None
+      → length es ≤ length (entries_at w slot) + 1
+  one_more w slot None es i t u within is none =
       omega (arith, ap length is, length-append (take i es) (t ∷ u ∷ drop (i + 1) es), length-take-le i es (omega arith), length-drop (i + 1) es)
-  one_more node (Some r) None es i t u w within is matched none = absurd matched
-  one_more node (Some r) (Some s) es i t u w within is matched none = absurd (cc)
+  one_more w slot (Some s) es i t u within is none = absurd (cc)
+
+  module _ (a b w : Arena (Node N)) (least height lower slot : ℕ) (passes : ℕ → Bool) (es : List Entry) (i x : ℕ)
+      (d : Entry) (leaf : List Item) (next : suc lower ≡ height) (at : IsAt a least lower slot passes es i x d)
+      (below : IsSubtree b least lower x) where
+    -- the child was split, and the node linked to both parts
+    module _ (s : ℕ) (added : Option ℕ)
+        (moves : Moves a b (slots_in a lower x) (slots_in b lower x ++ slots_in b lower s)) (four : 4 ≤ N)
+        (linked : IsLinked b (child_at (entries_at b slot) i) s (take i (entries_at b slot))
+        (drop (i + 1) (entries_at b slot)) (entries_at_both w slot added)) where
+      link : IsLinked b x s (take i es) (drop (i + 1) es) (entries_at_both w slot added)
+      link =
+          subst (λ z. IsLinked b z s (take i es) (drop (i + 1) es) (entries_at_both w slot added)) (sym at.x_at)
+          (subst (λ l. IsLinked b (child_at l i) s (take i l) (drop (i + 1) l) (entries_at_both w slot added))
+          (read_beside a b least lower slot passes es i x d (slots_in b lower x ++ slots_in b lower s) at moves) linked)
+
+      pub one_less : added ≡ None → length (entries_at a slot) ≤ length (entries_at w slot) + 1
+      one_less none =
+          let more = one_more w slot added es i link.first link.second at.within link.entries none in
+          omega (arith, ap length at.read, more)
+
+      pub done_linked : IsSubtree b least lower s → least ≤ length (entries_at b x) → least ≤ length (entries_at b s)
+          → IfSome added (λ _. N ≤ 2 * length (entries_at w slot)) → IfSome added (λ s. N ≤ 2 * length (entries_at w s))
+          → IsLive w slot → IfSome added (λ s. IsLive w s) → Changes b w (slot ∷ []) (slot ∷ slot_taken added)
+          → items_in b lower x ++ items_in b lower s
+          ≡ before_leaf a lower x passes ++ (leaf ++ behind_leaf a lower x passes)
+          → IsDone a w least height slot passes leaf added
+      done_linked below_added filled_x filled_added left right live live_added changes middle_is =
+          let now = entries_at_both w slot added in
+          let middle = items_in b lower x ++ items_in b lower s in
+          let step = step_linked a b least lower es i x d at.within at.x_is at.few_below at.right s now link below
+          below_added filled_x filled_added moves in
+          let some = some_left w slot added (take i es) (drop (i + 1) es) link.first link.second four link.entries
+          left in
+          done a b w least height lower slot passes es now i x d middle leaf added next at step.items
+          (stored a b w least lower slot es at.slots_are at.few at.live now step.moves step.children added refl some
+          (some_right w added four right) live live_added
+          (moves_if_changes b w (slot ∷ []) (slot ∷ slot_taken added) changes))
+          middle_is
+
+    -- the child was changed
+    module _ (moves : Moves a b (slots_in a lower x) (slots_in b lower x)) where
+      changed : IsFamily b least lower es i (i + 1) × Moves a b (slots_of a lower es) (slots_of b lower es)
+          × (items_of b lower es
+          ≡ items_of a lower (take i es) ++ (items_in b lower x ++ items_of a lower (drop (i + 1) es)))
+      changed = family_loose a b least lower es i x d at.within at.x_is at.few_below at.right moves below
+
+      read : entries_at b slot ≡ es
+      read = read_beside a b least lower slot passes es i x d (slots_in b lower x) at moves
+
+      own : Moves a b (slot ∷ slots_of a lower es) (slot ∷ slots_of b lower es)
+      own = moves_own a b w least lower slot es at.slots_are at.few at.live es changed.1
+
+      pub family_at : IsFamilyAt b least lower slot i
+      family_at = record {
+        family = subst (λ l. IsFamily b least lower l i (i + 1)) (sym read) changed.0;
+        apart = subst (λ l. ¬ Contains (slots_of b lower l) slot) (sym read)
+            (λ has. let below = times_if_contains slot (slots_of b lower es) has in
+            absurd (omega (arith, own.few slot, once_same slot, below)));
+      }
+
+      -- and the node mended
+      pub done_mended : IsMendedAt b w least lower slot
+          → items_in b lower x ≡ before_leaf a lower x passes ++ (leaf ++ behind_leaf a lower x passes)
+          → IsDone a w least height slot passes leaf None
+      done_mended mended middle_is =
+          done a b w least height lower slot passes es es i x d (items_in b lower x) leaf None next at changed.2
+          (record {
+            items_are = mended.items ∙ ap (items_of b lower) read;
+            subtree = mended.subtree;
+            neighbour = tt;
+            moves = moves_trans a b w (slots_in a (suc lower) slot) (slots_in b (suc lower) slot)
+                (slots_in w (suc lower) slot)
+                (subst (Moves a b (slots_in a (suc lower) slot)) (ap (λ l. slot ∷ slots_of b lower l) (sym read))
+                (subst (λ l. Moves a b l (slot ∷ slots_of b lower es)) (sym at.slots_are) own))
+                (moves_if_changes b w (slots_in b (suc lower) slot) (slots_in w (suc lower) slot) mended.changes);
+          }) middle_is

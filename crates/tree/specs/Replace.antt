@@ -1,5 +1,5 @@
 -- The replacement of a leaf, and of entries above it. This project's own.
-use Rattle.std.specs.Prelude.{◌≡◌, ℕ, ◌+◌, List, [], ◌++◌, ◌⊎◌, length, ◌∷◌, take, drop, nat_eq, slice_get, option_map, unwrap_or, Option, None, Some, IfSome}
+use Rattle.std.specs.Prelude.{◌≡◌, ℕ, suc, ◌+◌, List, [], ◌++◌, ◌⊎◌, length, ◌∷◌, take, drop, nat_eq, slice_get, option_map, unwrap_or, Option, None, Some, IfSome}
 use Rattle.std.specs.List.{All, Contains, IsDistinct, flat_map}
 use Rattle.std.specs.FinMap as map
 use Rattle.arena.specs.Arena.{Arena, IsLive, record_at, key_at, spare_of}
@@ -7,7 +7,7 @@ use Rattle.tree.specs.declared.entry.Entry.{Entry}
 use Rattle.tree.specs.declared.node.Node.{Node}
 use Rattle.tree.specs.Item.{Item, Tells}
 use Rattle.tree.specs.Node.{entries_of}
-use Rattle.tree.specs.Subtree.{items_in, slots_in, IsChild, IsSubtree}
+use Rattle.tree.specs.Subtree.{entries_at, items_in, slots_in, IsChild, IsSubtree}
 
 -- the child of the entry at an index
 abbrev pub child_at : List Entry → ℕ → ℕ
@@ -81,3 +81,20 @@ module _ {N : ℕ} where
     pub first_tells : (height least : ℕ) → IsSubtree nodes least height child → Tells first (items_in nodes height child)
     pub second_child : second.child ≡ added
     pub second_tells : (height least : ℕ) → IsSubtree nodes least height added → Tells second (items_in nodes height added)
+
+  -- the entries of the nodes at a slot and at that of the right neighbour that it was split from, if any
+  abbrev pub entries_at_both : Arena (Node N) → ℕ → Option ℕ → List Entry
+  entries_at_both nodes slot None = entries_at nodes slot
+  entries_at_both nodes slot (Some added) = entries_at nodes slot ++ entries_at nodes added
+
+  -- The node at a slot leads to subtrees of this height, of which the one at an index is changed. Its other entries are
+  -- right.
+  pub record IsFamilyAt (nodes : Arena (Node N)) (least height slot index : ℕ) : Type 0 where
+    pub family : IsFamily nodes least height (entries_at nodes slot) index (index + 1)
+    pub apart : ¬ Contains (slots_of nodes height (entries_at nodes slot)) slot
+
+  -- the node at a slot, made right
+  pub record IsMendedAt (old new : Arena (Node N)) (least height slot : ℕ) : Type 0 where
+    pub subtree : IsSubtree new least (suc height) slot
+    pub items : items_in new (suc height) slot ≡ items_in old (suc height) slot
+    pub changes : Changes old new (slots_in old (suc height) slot) (slots_in new (suc height) slot)

@@ -1,5 +1,5 @@
 -- What a tree is seen as. This project's own.
-use Rattle.std.specs.Prelude.{◌≡◌, ℕ, ◌+◌, ◌-◌, ◌*◌, ◌/◌, ◌≤◌, ℤ, int_lt, ◌&&◌, if◌then◌else◌, List, [], ◌∷◌, ◌++◌, length, max, nat_eq}
+use Rattle.std.specs.Prelude.{◌≡◌, ℕ, ◌+◌, ◌-◌, ◌*◌, ◌/◌, ◌≤◌, Bool, ℤ, int_lt, ◌&&◌, if◌then◌else◌, List, [], ◌∷◌, ◌++◌, length, max, nat_eq}
 use Rattle.std.specs.List.{IsDistinct}
 use Rattle.std.specs.FinMap as map
 use Rattle.arena.specs.Arena.{Arena, spare_of}
@@ -18,6 +18,10 @@ pub record Items : Type 0 where
 -- the last of a list
 abbrev pub IsLast : {X : Type 0} → X → List X → Type 0
 IsLast {X} x xs = (before : List X) × (xs ≡ before ++ x ∷ [])
+
+-- an item that ends a run, unless the run is ended already
+abbrev pub ended_by : Bool → Item → List Item
+ended_by ended item = if ended then [] else item ∷ []
 
 -- The items that stay of a run. One goes if its version and its predecessor's are below the edge.
 abbrev pub thin : ℤ → ℤ → List Item → List Item

@@ -12,7 +12,7 @@ ghost use Rattle.tree.specs.Path.{IsCut, index_in, leaf_in, before_leaf, behind_
 use crate::entry::Entry;
 use crate::node::Node;
 use crate::probe::Probe;
-use crate::search::{key_at, leaf_of, passing};
+use crate::search::{key_at, key_behind_leaf, leaf_of, passing};
 use arena::{Arena, Slot};
 
 // Where a search by hints has come to.
@@ -90,6 +90,24 @@ pub fn find_leaf<P: Probe, const N: usize>(
         return reached.leaf;
     }
     leaf_of(nodes, slot, height, probe)
+}
+
+/// Returns the key of the first item behind the leaf that [`find_leaf`] finds, if there is one.
+pub fn find_behind<P: Probe, const N: usize>(
+    nodes: &Arena<Node<N>>,
+    slot: Slot,
+    height: usize,
+    probe: &P,
+) -> Option<Slot>
+    requires subtree { IsSubtree nodes.now (least_of N) height slot }
+    requires cut { IsCut (λ x. P.lets_pass probe.now x.key) (items_in nodes.now height slot) }
+    ensures key { result ≡ first_key None (behind_leaf nodes.now height slot (P.lets_pass probe.now)) }
+{
+    let reached = guess_leaf(nodes, slot, height, probe, 0, None);
+    if is_reached(nodes, &reached, probe) {
+        return reached.behind;
+    }
+    key_behind_leaf(nodes, slot, height, probe, None)
 }
 
 // Returns whether an entry of the leaf passes, and the one behind it doesn't.

@@ -21,7 +21,7 @@ pub use entry::Entry;
 pub use node::Node;
 pub use probe::Probe;
 pub use thin::Thinned;
-pub use tree::{Tree, item};
+pub use tree::{Overwritten, Tree, item};
 
 #[cfg(test)]
 mod tests;

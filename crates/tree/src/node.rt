@@ -14,11 +14,11 @@ pub use hints::Guess;
 #[derive(Clone, Copy, Debug)]
 pub struct Node<const N: usize> {
     len: usize,
-    entries: [Entry; N],
     // How many bytes the keys begin with in common, or fewer.
     skip: usize,
     // The digest of each key, behind these.
     digests: [u64; N],
+    entries: [Entry; N],
     ghost within: { len ≤ N },
 }
 

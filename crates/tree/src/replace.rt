@@ -1,6 +1,6 @@
 //! The replacement of a leaf.
 
-ghost use Rattle.std.specs.Prelude.{◌≡◌, ◌≢◌, ◌≤◌, ◌<◌, ◌+◌, ◌*◌, ◌++◌, ◌∷◌, ◌⊎◌, ℕ, [], length, take, drop, map, nat_eq, MatchOption, IfSome, IsSome, IsSomeAnd, None, Some};
+ghost use Rattle.std.specs.Prelude.{◌≡◌, ◌≢◌, ◌≤◌, ◌<◌, ◌+◌, ◌*◌, ◌++◌, ◌∷◌, ◌⊎◌, ℕ, [], length, take, drop, map, option_map, nat_eq, MatchOption, IfSome, IsSome, IsSomeAnd, None, Some};
 ghost use Rattle.std.specs.List.{Contains, IsDistinct};
 ghost use Rattle.std.specs.FinMap as map_of;
 ghost use Rattle.arena.specs.Arena.{IsLive, record_at, spare_of};
@@ -9,10 +9,10 @@ ghost use Rattle.tree.specs.Node.{entries_of};
 ghost use Rattle.tree.specs.Subtree.{entries_at, items_in, slots_in, IsSubtree};
 ghost use Rattle.tree.specs.Path.{IsCut, before_leaf, behind_leaf};
 ghost use Rattle.tree.specs.Tree.{least_of};
-ghost use Rattle.tree.specs.Replace.{child_at, entries_with, items_with, slot_taken, slots_with, Changes, IsKeyless, IsLinked};
+ghost use Rattle.tree.specs.Replace.{child_at, entries_at_both, entries_with, items_with, slot_taken, slots_with, Changes, IsFamilyAt, IsKeyless, IsLinked, IsMendedAt};
 
 use crate::guess::index_near;
-use crate::mend::{mend, summary};
+use crate::mend::{least, mend, summary};
 use crate::node::Node;
 use crate::probe::Probe;
 use arena::{Arena, Slot};
@@ -24,8 +24,8 @@ pub fn replace_leaf<P: Probe, const N: usize>(
     slot: Slot,
     height: usize,
     probe: &P,
-    left: Node<N>,
-    right: Option<Node<N>>,
+    left: &Node<N>,
+    right: Option<&Node<N>>,
 ) -> Option<Slot>
     requires fan_out { 4 ≤ N }
     requires subtree { IsSubtree nodes.old (least_of N) height slot }
@@ -34,17 +34,17 @@ pub fn replace_leaf<P: Probe, const N: usize>(
     requires keyless { IsKeyless nodes.old }
     requires cut { IsCut (λ x. P.lets_pass probe.now x.key) (items_in nodes.old height slot) }
     requires room { height < spare_of nodes.old 0 }
-    requires filled { IfSome right (λ r. (least_of N ≤ length (entries_of left)) × (least_of N ≤ length (entries_of r))) }
+    requires filled { IfSome right (λ r. (least_of N ≤ length (entries_of left.now)) × (least_of N ≤ length (entries_of r.now))) }
 
     // What the subtree holds afterwards, with its right neighbour.
     ensures items { items_with nodes.new height slot result ≡ before_leaf nodes.old height slot (P.lets_pass probe.now)
-        ++ (map item_of (entries_with left.entry right.entry)
+        ++ (map item_of (entries_with left.now (option_map (λ r. r.now) right.entry))
         ++ behind_leaf nodes.old height slot (P.lets_pass probe.now)) }
     ensures subtree { IsSubtree nodes.new (least_of N) height slot }
     ensures neighbour { IfSome result (λ added. IsSubtree nodes.new (least_of N) height added) }
     ensures filled { IfSome result (λ added. (least_of N ≤ length (entries_at nodes.new slot))
         × (least_of N ≤ length (entries_at nodes.new added))) }
-    ensures leaf { height ≡ 0 → entries_at nodes.new slot ≡ entries_of left.entry }
+    ensures leaf { height ≡ 0 → entries_at nodes.new slot ≡ entries_of left.now }
     ensures few_less { 1 ≤ height → result ≡ None → length (entries_at nodes.old slot) ≤ length (entries_at nodes.new slot) + 1 }
 
     // Which slots it uses, and what stays.
@@ -54,20 +54,79 @@ pub fn replace_leaf<P: Probe, const N: usize>(
     if height == 0 {
         return store(nodes, slot, left, right, probe);
     }
-    let mut node = nodes.header(slot);
+    let node = nodes.header_ref(slot);
     let guess = node.guess(probe, usize::MAX);
     let index = index_near(node.entries(), guess.index, probe);
     let child = node.entries()[index].child;
     match replace_leaf(nodes, child, height - 1, probe, left, right) {
-        Some(added) => {
-            let split = link(nodes, &mut node, index, added);
-            store(nodes, slot, node, split, probe)
-        }
+        Some(added) => link_child(nodes, slot, index, added, probe),
         None => {
-            mend(nodes, &mut node, index, probe);
-            store(nodes, slot, node, None, probe)
+            mend_child(nodes, slot, index, probe);
+            None
         }
     }
+}
+
+// Makes the entry at an index right in the node at a slot, whose child was split, and puts one for the child's right neighbour
+// behind it. Returns the slot of the node's own right neighbour where it is split, too.
+fn link_child<P: Probe, const N: usize>(
+    nodes: &mut Arena<Node<N>>,
+    slot: Slot,
+    index: usize,
+    added: Slot,
+    probe: &P,
+) -> Option<Slot>
+    requires fan_out { 4 ≤ N }
+    requires live { IsLive nodes.old slot }
+    requires within { index < length (entries_at nodes.old slot) }
+    requires some { 0 < length (entries_at nodes.old (child_at (entries_at nodes.old slot) index)) }
+    requires some_added { 0 < length (entries_at nodes.old added) }
+    requires keyless { IsKeyless nodes.old }
+    requires room { 0 < spare_of nodes.old 0 }
+    ensures linked { IsLinked nodes.old (child_at (entries_at nodes.old slot) index) added (take index (entries_at nodes.old slot))
+        (drop (index + 1) (entries_at nodes.old slot)) (entries_at_both nodes.new slot result) }
+    ensures left { IfSome result (λ _. N ≤ 2 * length (entries_at nodes.new slot)) }
+    ensures right { IfSome result (λ right. N ≤ 2 * length (entries_at nodes.new right)) }
+    ensures live { IsLive nodes.new slot }
+    ensures right_live { IfSome result (λ right. IsLive nodes.new right) }
+    ensures changes { Changes nodes.old nodes.new (slot ∷ []) (slot ∷ slot_taken result) }
+    ensures taken { spare_of nodes.old 0 ≤ spare_of nodes.new 0 + 1 }
+{
+    let mut node = nodes.header(slot);
+    let right = link(nodes, &mut node, index, added);
+    node.take_hints(nodes.header_ref(slot), probe);
+    store(nodes, slot, &node, right.as_ref(), probe)
+}
+
+// Makes the entry at an index right in the node at a slot, whose child has changed: where the node lies, unless the child has
+// too few entries.
+fn mend_child<P: Probe, const N: usize>(
+    nodes: &mut Arena<Node<N>>,
+    slot: Slot,
+    index: usize,
+    probe: &P,
+)
+    requires fan_out { 4 ≤ N }
+    requires live { IsLive nodes.old slot }
+    requires within { index < length (entries_at nodes.old slot) }
+    requires several { 2 ≤ length (entries_at nodes.old slot) }
+    requires keyless { IsKeyless nodes.old }
+    requires family { (height : ℕ) × IsFamilyAt nodes.old (least_of N) height slot index }
+    ensures mended { (height : ℕ) → IsFamilyAt nodes.old (least_of N) height slot index
+        → IsMendedAt nodes.old nodes.new (least_of N) height slot }
+    ensures few_less { length (entries_at nodes.old slot) ≤ length (entries_at nodes.new slot) + 1 }
+    ensures spare { spare_of nodes.old 0 ≤ spare_of nodes.new 0 }
+{
+    let child = nodes.header_ref(slot).entries()[index].child;
+    if nodes.header_ref(child).len() >= least(N) {
+        let entry = summary(nodes, child);
+        nodes.header_mut(slot).set_hinted(index, entry, probe);
+        return;
+    }
+    let mut node = nodes.header(slot);
+    mend(nodes, &mut node, index, probe);
+    node.take_hints(nodes.header_ref(slot), probe);
+    nodes.set_header(slot, node);
 }
 
 // Makes the entry for a changed child right, and puts one for the child's new right neighbour behind it. A full node is split.
@@ -97,25 +156,23 @@ fn link<const N: usize>(
 fn store<P: Probe, const N: usize>(
     nodes: &mut Arena<Node<N>>,
     slot: Slot,
-    node: Node<N>,
-    right: Option<Node<N>>,
+    node: &Node<N>,
+    right: Option<&Node<N>>,
     probe: &P,
 ) -> Option<Slot>
     requires live { IsLive nodes.old slot }
     requires keyless { IsKeyless nodes.old }
     requires room { IsSome right → 0 < spare_of nodes.old 0 }
-    ensures node { entries_at nodes.new slot ≡ entries_of node.entry }
+    ensures node { entries_at nodes.new slot ≡ entries_of node.now }
     ensures live { IsLive nodes.new slot }
-    ensures right { MatchOption right.entry (result ≡ None) (λ r. IsSomeAnd result (λ added. entries_at nodes.new added ≡ entries_of r)) }
+    ensures right { MatchOption right.entry (result ≡ None) (λ r. IsSomeAnd result (λ added. entries_at nodes.new added ≡ entries_of r.now)) }
     ensures added { IfSome result (λ added. IsLive nodes.new added) }
     ensures changes { Changes nodes.old nodes.new (slot ∷ []) (slot ∷ slot_taken result) }
     ensures taken { spare_of nodes.old 0 ≤ spare_of nodes.new 0 + 1 }
 {
-    let mut left = node;
-    left.take_hints(nodes.header_ref(slot), probe);
-    nodes.set_header(slot, left);
+    nodes.set_header(slot, *node);
     match right {
-        Some(right) => Some(place(nodes, right, probe)),
+        Some(right) => Some(place(nodes, *right, probe)),
         None => None,
     }
 }

@@ -1,6 +1,6 @@
 //! The root of a tree, and what becomes of it where a leaf changes.
 
-ghost use Rattle.std.specs.Prelude.{◌≡◌, ◌≤◌, ◌<◌, ◌+◌, ◌++◌, true, false, [], filter, length, map, nat_eq, IfSome, Some};
+ghost use Rattle.std.specs.Prelude.{◌≡◌, ◌≤◌, ◌<◌, ◌+◌, ◌++◌, true, false, [], filter, length, map, option_map, nat_eq, IfSome, Some};
 ghost use Rattle.std.specs.List.{All, IsDistinct};
 ghost use Rattle.std.specs.FinMap as map_of;
 ghost use Rattle.arena.specs.Arena.{spare_of};
@@ -50,8 +50,8 @@ pub fn put<P: Probe, const N: usize>(
     nodes: &mut Arena<Node<N>>,
     root: Root,
     probe: &P,
-    left: Node<N>,
-    right: Option<Node<N>>,
+    left: &Node<N>,
+    right: Option<&Node<N>>,
 ) -> Root
     requires fan_out { 4 ≤ N }
     requires few { N ≤ 65536 }
@@ -59,9 +59,9 @@ pub fn put<P: Probe, const N: usize>(
     requires rooted { IsRooted nodes.old root.slot root.height }
     requires cut { IsCut (λ x. P.lets_pass probe.now x.key) (items_in nodes.old root.height root.slot) }
     requires room { root.height + 1 < spare_of nodes.old 0 }
-    requires filled { IfSome right (λ r. (least_of N ≤ length (entries_of left)) × (least_of N ≤ length (entries_of r))) }
+    requires filled { IfSome right (λ r. (least_of N ≤ length (entries_of left.now)) × (least_of N ≤ length (entries_of r.now))) }
     ensures items { items_in nodes.new result.height result.slot ≡ before_leaf nodes.old root.height root.slot (P.lets_pass probe.now)
-        ++ (map item_of (entries_with left.entry right.entry)
+        ++ (map item_of (entries_with left.now (option_map (λ r. r.now) right.entry))
         ++ behind_leaf nodes.old root.height root.slot (P.lets_pass probe.now)) }
     ensures rooted { IsRooted nodes.new result.slot result.height }
     ensures spare { spare_of nodes.new 0 + map_of.len nodes.new.records ≡ spare_of nodes.old 0 + map_of.len nodes.old.records }

@@ -1,19 +1,19 @@
 //! The tree.
 
-ghost use Rattle.std.specs.Prelude.{◌≡◌, ◌≢◌, ◌<◌, ◌≤◌, ◌<ℤ◌, ◌≤ℤ◌, ◌↔◌, ◌+◌, ◌-◌, ◌++◌, ◌∷◌, ℕ, List, [], true, not, drop, filter, length, map, OnErr, OnOk, IfOk, IsOkUnless, IsTrue, MatchOption};
+ghost use Rattle.std.specs.Prelude.{◌≡◌, ◌≢◌, ◌<◌, ◌≤◌, ◌<ℤ◌, ◌≤ℤ◌, ◌↔◌, ◌+◌, ◌-◌, ◌++◌, ◌∷◌, ℕ, List, [], true, not, drop, filter, length, map, OnErr, OnOk, IfOk, IfSome, IsOkUnless, IsTrue, MatchOption};
 ghost use Rattle.std.specs.List.{Any};
 ghost use Rattle.tree.specs.Item.{Item, item_of, IsGreatest};
 ghost use Rattle.tree.specs.Node.{entries_of};
 ghost use Rattle.tree.specs.Path.{IsCut, passing as passing_of, behind, first_key, between, from_last};
-ghost use Rattle.tree.specs.Tree.{IsLast, thin as thin_of, gone};
+ghost use Rattle.tree.specs.Tree.{IsLast, ended_by, thin as thin_of, gone};
 
 use crate::entry::Entry;
-use crate::guess::{find_leaf, guess_exceeds, passing_near};
+use crate::guess::{find_behind, find_leaf, guess_exceeds, passing_near};
 use crate::mend::least;
 use crate::node::Node;
 use crate::probe::Probe;
 use crate::root::{Root, leaf, put};
-use crate::search::{exceeds, exceeds_from_last, greatest, key_behind, key_behind_leaf, passing};
+use crate::search::{exceeds, exceeds_from_last, greatest, key_at, key_behind, passing};
 use crate::thin::{Thinned, thin};
 use arena::{Arena, ArenaError, Slot};
 use std::alloc::Global;
@@ -42,6 +42,15 @@ impl<const N: usize> Model for Tree<N> {
     ghost view = { λ t. record { items = items_in t.nodes t.root.height t.root.slot; room = t.room } };
 
     ghost invariant = { λ t. IsTree t.nodes t.root.slot t.root.height t.len t.room };
+}
+
+/// What [`Tree::overwrite`] did.
+#[derive(Debug, Drop)]
+pub struct Overwritten<const N: usize> {
+    /// The items that were taken out.
+    pub run: Node<N>,
+    /// Whether an item stood between the second and the third cut, and no second one was put in.
+    pub ended: bool,
 }
 
 /// Returns the entry of an item.
@@ -191,11 +200,13 @@ impl<const N: usize> Tree<N> {
             ++ ((record { key = key; version = version }) ∷ behind (P.lets_pass probe.now) self.old.items) }
         ensures room { self.new.room ≡ self.old.room }
     {
-        let mut leaf = leaf(&self.nodes, self.root, probe);
-        let guess = leaf.guess(probe, usize::MAX);
-        let index = passing_near(leaf.entries(), guess.index, probe);
+        let old = leaf(&self.nodes, self.root, probe);
+        let guess = old.guess(probe, usize::MAX);
+        let index = passing_near(old.entries(), guess.index, probe);
+        let mut leaf = old;
         let right = leaf.insert_or_split(index, item(key, version));
-        self.root = put(&mut self.nodes, self.root, probe, leaf, right);
+        leaf.take_hints(&old, probe);
+        self.root = put(&mut self.nodes, self.root, probe, &leaf, right.as_ref());
         self.len += 1;
     }
 
@@ -210,7 +221,7 @@ impl<const N: usize> Tree<N> {
     {
         let mut leaf = leaf(&self.nodes, self.root, probe);
         set_passing(&mut leaf, probe, version);
-        self.root = put(&mut self.nodes, self.root, probe, leaf, None);
+        self.root = put(&mut self.nodes, self.root, probe, &leaf, None);
     }
 
     /// Takes some of the items from one cut to another out, the last of these among them, and returns them. Returns none where
@@ -239,28 +250,37 @@ impl<const N: usize> Tree<N> {
         let mut run = leaf;
         run.remove(end, leaf.len());
         run.remove(0, begin);
-        leaf.remove(begin, end);
-        self.root = put(&mut self.nodes, self.root, to, leaf, None);
+        leaf.splice_hinted(begin, end, &[], to);
+        self.root = put(&mut self.nodes, self.root, to, &leaf, None);
         self.len -= end - begin;
         Some(run)
     }
 
-    /// Puts these items in place of those from one cut to another, and returns those. Does nothing and returns none unless one leaf
-    /// has them, the item before them and room for the new ones.
-    pub fn replace_run<P: Probe, Q: Probe>(
+    /// Puts an item in place of those from one cut to another, and returns those. Puts a second one behind it, with the version of
+    /// the last item before the other cut, unless an item stands between that cut and a third one. Does nothing and returns none
+    /// unless one leaf has those items, the one before them and room for the new ones.
+    pub fn overwrite<P: Probe, Q: Probe, R: Probe>(
         &mut self,
         from: &P,
         to: &Q,
-        new: &[Entry],
-    ) -> Option<Node<N>>
+        past: &R,
+        first: Entry,
+        second: Slot,
+    ) -> Option<Overwritten<N>>
         requires from { IsCut (λ x. P.lets_pass from.now x.key) self.old.items }
         requires to { IsCut (λ x. Q.lets_pass to.now x.key) self.old.items }
+        requires past { IsCut (λ x. R.lets_pass past.now x.key) self.old.items }
         requires nested { (key : ℕ) → P.lets_pass from.now key ≡ true → Q.lets_pass to.now key ≡ true }
-        requires room { length self.old.items + length new.now ≤ self.old.room }
+        requires outer { (key : ℕ) → Q.lets_pass to.now key ≡ true → R.lets_pass past.now key ≡ true }
+        requires room { length self.old.items + 2 ≤ self.old.room }
         ensures run { MatchOption result (self.new ≡ self.old)
-            (λ run. (between (Some (P.lets_pass from.now)) (Some (Q.lets_pass to.now)) self.old.items ≡ map item_of (entries_of run))
-            × (self.new.items ≡ passing_of (P.lets_pass from.now) self.old.items
-            ++ (map item_of new.now ++ behind (Q.lets_pass to.now) self.old.items))) }
+            (λ done. between (Some (P.lets_pass from.now)) (Some (Q.lets_pass to.now)) self.old.items ≡ map item_of (entries_of done.run)) }
+        ensures ended { IfSome result (λ done. IsTrue done.ended
+            ↔ (between (Some (Q.lets_pass to.now)) (Some (R.lets_pass past.now)) self.old.items ≢ [])) }
+        ensures items { IfSome result (λ done. (last : Item) → IsLast last (passing_of (Q.lets_pass to.now) self.old.items)
+            → self.new.items ≡ passing_of (P.lets_pass from.now) self.old.items
+            ++ (item_of first ∷ ended_by done.ended (record { key = second; version = last.version })
+            ++ behind (Q.lets_pass to.now) self.old.items)) }
         ensures room { self.new.room ≡ self.old.room }
     {
         let mut leaf = leaf(&self.nodes, self.root, to);
@@ -268,16 +288,28 @@ impl<const N: usize> Tree<N> {
         let end = passing_near(leaf.entries(), guess.index, to);
         let guess = leaf.guess(from, usize::MAX);
         let begin = passing_near(leaf.entries(), guess.index, from);
-        if begin == 0 || begin > end || begin + new.len() > N - (leaf.len() - end) {
+        if begin == 0 || begin > end {
+            return None;
+        }
+        let behind = if end < leaf.len() {
+            None
+        } else {
+            find_behind(&self.nodes, self.root.slot, self.root.height, to)
+        };
+        let ended = key_at(leaf.entries(), end, behind).is_some_and(|key| past.passes(key));
+        let last = leaf.entries()[end - 1].version;
+        let new = [first, item(second, last)];
+        let new = if ended { &new[..1] } else { &new[..] };
+        if begin + new.len() > N - (leaf.len() - end) {
             return None;
         }
         let mut run = leaf;
         run.remove(end, leaf.len());
         run.remove(0, begin);
-        leaf.splice(begin, end, new);
-        self.root = put(&mut self.nodes, self.root, to, leaf, None);
+        leaf.splice_hinted(begin, end, new, to);
+        self.root = put(&mut self.nodes, self.root, to, &leaf, None);
         self.len = self.len - (end - begin) + new.len();
-        Some(run)
+        Some(Overwritten { run, ended })
     }
 
     /// Looks at a run of items that begins with the last one that passes, at most `count` of them, and takes out each whose
@@ -306,14 +338,16 @@ impl<const N: usize> Tree<N> {
             ≡ first_key None (drop (result.looked_at - 1) (behind (P.lets_pass probe.now) self.old.items)) }
         ensures room { self.new.room ≡ self.old.room }
     {
-        let mut leaf = leaf(&self.nodes, self.root, probe);
-        let guess = leaf.guess(probe, usize::MAX);
-        let begin = passing_near(leaf.entries(), guess.index, probe) - 1;
-        let end = begin + count.min(leaf.len() - begin);
-        let behind = key_behind_leaf(&self.nodes, self.root.slot, self.root.height, probe, None);
+        let old = leaf(&self.nodes, self.root, probe);
+        let guess = old.guess(probe, usize::MAX);
+        let begin = passing_near(old.entries(), guess.index, probe) - 1;
+        let end = begin + count.min(old.len() - begin);
+        let behind = find_behind(&self.nodes, self.root.slot, self.root.height, probe);
+        let mut leaf = old;
         let thinned = thin(&mut leaf, begin, end, edge, before, behind);
         if let Some(run) = &thinned.removed {
-            self.root = put(&mut self.nodes, self.root, probe, leaf, None);
+            leaf.take_hints(&old, probe);
+            self.root = put(&mut self.nodes, self.root, probe, &leaf, None);
             self.len -= run.len();
         }
         thinned

@@ -1,9 +1,10 @@
 //! What a node knows of the bytes of its keys: hints for a search, which finds the same whatever they are.
 
-ghost use Rattle.std.specs.Prelude.{◌≡◌, ◌<◌, length};
+ghost use Rattle.std.specs.Prelude.{◌≡◌, ◌<◌, ◌≤◌, ◌+◌, ◌-◌, ◌++◌, length, take, drop, slice_set};
 ghost use Rattle.tree.specs.Node.{entries_of};
 
 use super::Node;
+use crate::entry::Entry;
 use crate::probe::Probe;
 use arena::Slot;
 
@@ -31,7 +32,7 @@ impl<const N: usize> Node<N> {
         }
         let digest = probe.digest(self.skip);
         let digests = &self.digests[..len];
-        let below = digests.iter().filter(|other| **other < digest).count();
+        let below = count_below(digests, digest);
         let tied = &self.entries()[below..];
         let tied = tied
             .iter()
@@ -81,6 +82,46 @@ impl<const N: usize> Node<N> {
         }
     }
 
+    /// Sets the entry at an index, and takes the hints anew unless its key stays.
+    pub fn set_hinted<P: Probe>(&mut self, index: usize, entry: Entry, probe: &P)
+        requires within { index < length (entries_of self.old) }
+        ensures entries { (entries_of self.new) ≡ slice_set (entries_of self.old) index entry }
+    {
+        let stays = self.entries[index].key == entry.key;
+        self.set(index, entry);
+        if !stays {
+            self.renew_hints(probe);
+        }
+    }
+
+    /// Puts these entries in place of those from one index up to another, and takes their hints.
+    pub fn splice_hinted<P: Probe>(&mut self, from: usize, to: usize, new: &[Entry], probe: &P)
+        requires ordered { from ≤ to }
+        requires within { to ≤ length (entries_of self.old) }
+        requires room { from + length new.now + (length (entries_of self.old) - to) ≤ N }
+        ensures entries { (entries_of self.new) ≡ take from (entries_of self.old) ++ (new.now ++ drop to (entries_of self.old)) }
+    {
+        let has_ends = from > 0 && to < self.len;
+        let end = from + new.len();
+        self.digests.copy_within(to..self.len, end);
+        self.splice(from, to, new);
+        if !has_ends && !self.keeps_skip(probe) {
+            return self.renew_hints(probe);
+        }
+        for index in from..end {
+            self.digests[index] = probe.digest_of(self.entries[index].key, self.skip);
+        }
+    }
+
+    // Returns whether the first and the last key begin with so many bytes in common as the node says.
+    fn keeps_skip<P: Probe>(&self, probe: &P) -> bool {
+        let entries = self.entries();
+        match (entries.first(), entries.last()) {
+            (Some(first), Some(last)) => probe.common(first.key, last.key) == self.skip,
+            _ => false,
+        }
+    }
+
     /// Takes the hints of keys that another node has, too, from there, and those of the others anew.
     pub fn take_hints<P: Probe>(&mut self, other: &Node<N>, probe: &P)
         ensures entries { entries_of self.new ≡ entries_of self.old }
@@ -122,4 +163,15 @@ impl<const N: usize> Node<N> {
         }
         None
     }
+}
+
+// Returns how many of the digests are below this one.
+fn count_below(digests: &[u64], digest: u64) -> usize
+    ensures within { result ≤ length digests.now }
+{
+    let mut below = 0;
+    for other in digests {
+        below += usize::from(*other < digest);
+    }
+    below
 }

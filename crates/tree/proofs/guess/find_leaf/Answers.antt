@@ -15,8 +15,8 @@ returns-then-is_reached-clause-leaf g c =
     let Fails = λ (e : Entry). passes e.key ≡ false in
     let ends = subst (λ o. Any Fails (entries_at nodes reached.leaf) ⊎ KeyFails passes o) next
     (c.if-is_reached.ensures.last refl) in
-    is_leaf_in nodes (least_of g.row.N) c.args.height c.args.slot reached.leaf passes before behind
-    c.requires.subtree c.requires.cut is_leaf (c.if-is_reached.ensures.some refl) ends
+    (is_leaf_in nodes (least_of g.row.N) c.args.height c.args.slot reached.leaf passes before behind
+    c.requires.subtree c.requires.cut is_leaf (c.if-is_reached.ensures.some refl) ends).0
 
 found : (g : given.Over) (c : goal.Then-is_reached g) → IsFoundLeaf c.args.nodes.now c.args.height c.args.slot
     c.guess_leaf-reached.result.leaf (g.P.Probe.lets_pass c.args.probe.now)

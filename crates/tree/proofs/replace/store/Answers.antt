@@ -7,7 +7,7 @@ use Rattle.tree.proofs.replace.store.Goals as goal
 
 pub place-requires : goal.place-requires
 place-requires g c =
-    let left = c.take_hints.new.self in
+    let left = c.args.node.now in
     let a = c.args.nodes.now in
     let b = c.set_header.new.self in
     let x = c.args.slot in
@@ -17,7 +17,7 @@ place-requires g c =
 
 pub returns-in-Some-clause-node : goal.returns-in-Some-clause-node
 returns-in-Some-clause-node g c =
-    let left = c.take_hints.new.self in
+    let left = c.args.node.now in
     let a = c.args.nodes.now in
     let b = c.set_header.new.self in
     let x = c.args.slot in
@@ -27,11 +27,10 @@ returns-in-Some-clause-node g c =
     let live = put_live a b x left c.set_header.ensures.replaced in
     let placed = moves_if_changes b z [] (y ∷ []) c.place.ensures.changes in
     entries_same b z x (placed.others x refl live) ∙ put_entries a b x left c.set_header.ensures.replaced
-    ∙ c.take_hints.ensures.entries
 
 pub returns-in-Some-clause-live : goal.returns-in-Some-clause-live
 returns-in-Some-clause-live g c =
-    let left = c.take_hints.new.self in
+    let left = c.args.node.now in
     let a = c.args.nodes.now in
     let b = c.set_header.new.self in
     let x = c.args.slot in
@@ -44,7 +43,7 @@ returns-in-Some-clause-live g c =
 
 pub returns-in-Some-clause-changes : goal.returns-in-Some-clause-changes
 returns-in-Some-clause-changes g c =
-    let left = c.take_hints.new.self in
+    let left = c.args.node.now in
     let a = c.args.nodes.now in
     let b = c.set_header.new.self in
     let x = c.args.slot in
@@ -60,16 +59,15 @@ returns-in-Some-clause-changes g c =
 
 pub returns-in-None-clause-node : goal.returns-in-None-clause-node
 returns-in-None-clause-node g c =
-    put_entries c.args.nodes.now c.set_header.new.self c.args.slot c.take_hints.new.self c.set_header.ensures.replaced
-    ∙ c.take_hints.ensures.entries
+    put_entries c.args.nodes.now c.set_header.new.self c.args.slot c.args.node.now c.set_header.ensures.replaced
 
 pub returns-in-None-clause-live : goal.returns-in-None-clause-live
 returns-in-None-clause-live g c =
-    put_live c.args.nodes.now c.set_header.new.self c.args.slot c.take_hints.new.self c.set_header.ensures.replaced
+    put_live c.args.nodes.now c.set_header.new.self c.args.slot c.args.node.now c.set_header.ensures.replaced
 
 pub returns-in-None-clause-changes : goal.returns-in-None-clause-changes
 returns-in-None-clause-changes g c =
-    let left = c.take_hints.new.self in
+    let left = c.args.node.now in
     let a = c.args.nodes.now in
     let b = c.set_header.new.self in
     let x = c.args.slot in

@@ -1,4 +1,4 @@
-use Rattle.std.proofs.Common.{rules, arith, ◌≡◌, ◌-◌, ◌≤◌, length, take, drop, ap, sym, subst, ◌∙◌}
+use Rattle.std.proofs.Common.{rules, arith, ◌≡◌, ◌-◌, ◌≤◌, length, take, drop, ap, sym, ◌∙◌}
 use Rattle.std.specs.Iterator.Adapters.{zip_first, take_while_source}
 use Rattle.std.specs.Slice.Iter.{iter_rest}
 use Rattle.tree.proofs.node.Node.guess.Goals as goal
@@ -10,12 +10,9 @@ returns-then-known-self g c =
 pub slice_bounds-tied-count : goal.slice_bounds-tied-count
 slice_bounds-tied-count g c =
     let len = c.len-len.result in
-    let below = c.count-below.result in
     let digests = take len c.args.self.now.digests in
     let all : length digests ≡ len = search rules in
-    let within : below ≤ length (iter_rest c.iter.result) =
-    subst (λ it. below ≤ length (iter_rest it)) c.filter.ensures.source c.count-below.ensures.bound in
-    omega (arith, within, ap length c.iter.ensures.rest, all, c.len-len.ensures.len, ap length c.entries.ensures.entries)
+    omega (arith, c.count_below-below.ensures.within, all, c.len-len.ensures.len, ap length c.entries.ensures.entries)
 
 pub slice_bounds-tied-start : goal.slice_bounds-tied-start
 slice_bounds-tied-start g c = slice_bounds-tied-count g c
@@ -23,22 +20,30 @@ slice_bounds-tied-start g c = slice_bounds-tied-count g c
 pub returns : goal.returns
 returns g c =
     let len = c.len-len.result in
-    let below = c.count-below.result in
+    let below = c.count_below-below.result in
     let tied = c.count-tied.result in
     let digests = take len c.args.self.now.digests in
     let es = c.entries.result.now in
     let rest = take (length es - below) (drop below es) in
     let pairs = take_while_source c.take_while.result in
     let all : length digests ≡ len = search rules in
-    let few_below : below ≤ length (iter_rest c.iter.result) =
-    subst (λ it. below ≤ length (iter_rest it)) c.filter.ensures.source c.count-below.ensures.bound in
     let few_tied : tied ≤ length (iter_rest (zip_first pairs)) = omega (arith, c.count-tied.ensures.bound) in
     let is : iter_rest (zip_first pairs) ≡ rest =
     ap (λ z. iter_rest (zip_first z)) c.take_while.ensures.source ∙ ap iter_rest c.zip.ensures.first
-    ∙ c.iter-2.ensures.rest in
+    ∙ c.iter.ensures.rest in
     let count : length rest ≡ length es - below = search rules in
-    let below_of = ap length c.iter.ensures.rest ∙ all in
     let tied_of = ap length is ∙ count in
     let read = ap length c.entries.ensures.entries ∙ sym c.len-len.ensures.len in
     let index = c.saturating_sub-index.ensures in
-    record { within = λ some. omega (arith, some, few_below, few_tied, below_of, tied_of, read, index) }
+    record {
+      within = λ some. omega (
+        arith,
+        some,
+        c.count_below-below.ensures.within,
+        all,
+        few_tied,
+        tied_of,
+        read,
+        index,
+      );
+    }

@@ -1,4 +1,5 @@
 use Rattle.std.proofs.Common.{arith, w64, ℤ, ◌≡◌, ◌+◌, ◌<◌, ◌++◌, ◌∷◌, ◌∙◌, ap, sym, subst, length}
+use Rattle.std.specs.Prelude.{option_map}
 use Rattle.std.proofs.lemmas.Int.{to_z-of_z}
 use Rattle.tree.specs.Item.{Item}
 use Rattle.tree.specs.Node.{entries_of}
@@ -31,7 +32,9 @@ put-self-inside-requires g c =
                 subst (λ items. IsCut (λ (x : Item). passes x.key) items) (sym (ap (λ v. v.items) c.self.view_is)) c.requires.cut,
                 (
                   omega (arith, height, spare),
-                  split_filled split.new.self split.result c.self.invariant.fan_out split.ensures.left split.ensures.right,
+                  split_filled split.new.self c.take_hints.new.self split.result c.as_ref.result
+                      c.self.invariant.fan_out
+                      c.as_ref.ensures.value c.take_hints.ensures.entries split.ensures.left split.ensures.right,
                 ),
               ),
             ),
@@ -46,9 +49,10 @@ invariant_of-self g c =
     let t = c.self.inside in
     let b = c.put-self-inside.new.nodes in
     let to = c.put-self-inside.result in
-    let found = c.leaf-leaf.ensures in
+    let found = c.leaf-old.ensures in
     let split = c.insert_or_split-right in
-    let es = entries_of c.leaf-leaf.result in
+    let hinted = c.take_hints.new.self in
+    let es = entries_of c.leaf-old.result in
     let i = c.passing_near-index.result in
     let e = c.item.result in
     let before = before_leaf t.nodes t.root.height t.root.slot passes in
@@ -60,8 +64,12 @@ invariant_of-self g c =
     let x = item_at c.args.version in
     let made = c.item.ensures.item ∙ ap item_at (to_z-of_z w64 c.args.version c.ranges.version) in
     let now = c.put-self-inside.ensures.items
-    ∙ inserted passes items before after es c.entries.result.now (entries_with split.new.self split.result) i e x is_one
-    c.entries.ensures.entries (split_entries split.new.self split.result _ split.ensures.entries) c.passing_near-index.ensures.first c.passing_near-index.ensures.rest
+    ∙ inserted passes items before after es c.entries.result.now
+    (entries_with hinted (option_map (λ r. r.now) c.as_ref.result)) i e x is_one
+    c.entries.ensures.entries
+    (split_entries split.new.self hinted split.result c.as_ref.result _ c.as_ref.ensures.value
+    c.take_hints.ensures.entries split.ensures.entries)
+    c.passing_near-index.ensures.first c.passing_near-index.ensures.rest
     made in
     let more : length (items_in b to.height to.slot) ≡ length items + 1 = ap length now ∙ length-inserted passes items x in
     let room : length items < t.room = subst (λ (v : Items). length v.items < v.room) (sym c.self.view_is) c.requires.room in
@@ -73,9 +81,10 @@ pub returns-clause-items : goal.returns-clause-items
 returns-clause-items g c =
     let passes = g.P.Probe.lets_pass c.args.probe.now in
     let t = c.self.inside in
-    let found = c.leaf-leaf.ensures in
+    let found = c.leaf-old.ensures in
     let split = c.insert_or_split-right in
-    let es = entries_of c.leaf-leaf.result in
+    let hinted = c.take_hints.new.self in
+    let es = entries_of c.leaf-old.result in
     let i = c.passing_near-index.result in
     let e = c.item.result in
     let before = before_leaf t.nodes t.root.height t.root.slot passes in
@@ -87,7 +96,11 @@ returns-clause-items g c =
     let x = item_at c.args.version in
     let made = c.item.ensures.item ∙ ap item_at (to_z-of_z w64 c.args.version c.ranges.version) in
     c.put-self-inside.ensures.items
-    ∙ inserted passes items before after es c.entries.result.now (entries_with split.new.self split.result) i e x is_one
-    c.entries.ensures.entries (split_entries split.new.self split.result _ split.ensures.entries) c.passing_near-index.ensures.first c.passing_near-index.ensures.rest
+    ∙ inserted passes items before after es c.entries.result.now
+    (entries_with hinted (option_map (λ r. r.now) c.as_ref.result)) i e x is_one
+    c.entries.ensures.entries
+    (split_entries split.new.self hinted split.result c.as_ref.result _ c.as_ref.ensures.value
+    c.take_hints.ensures.entries split.ensures.entries)
+    c.passing_near-index.ensures.first c.passing_near-index.ensures.rest
     made
     ∙ ap (λ (v : Items). passing passes v.items ++ (x ∷ behind passes v.items)) c.self.view_is

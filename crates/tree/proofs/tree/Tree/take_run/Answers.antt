@@ -96,12 +96,14 @@ invariant_of-self g c =
     let most : end ≤ length es = subst (λ (xs : List Entry). end ≤ length xs) c.entries.ensures.entries c.passing_near-end.ensures.within in
     let middle = drop begin (take end es) in
     let run : IsRun p q es (take begin es) middle (drop end es) = run_of p q es begin end (omega arith) most first rest last others in
-    let stay = entries_of c.remove-3.new.self in
-    let taken = run_taken p q c.requires.nested items before after es leaf cut (take begin es) middle (drop end es) run stay c.remove-3.ensures.entries in
+    let stay = entries_of c.splice_hinted.new.self in
+    let taken = run_taken p q c.requires.nested items before after es leaf cut (take begin es) middle (drop end es) run
+    stay c.splice_hinted.ensures.entries in
     let b = c.put-self-inside.new.nodes in
     let to = c.put-self-inside.result in
     let now = c.put-self-inside.ensures.items in
-    let less = fewer p q c.requires.nested items before after es leaf cut (take begin es) middle (drop end es) run stay c.remove-3.ensures.entries in
+    let less = fewer p q c.requires.nested items before after es leaf cut (take begin es) middle (drop end es) run stay
+    c.splice_hinted.ensures.entries in
     let left : length (items_in b to.height to.slot) + (end - begin) ≡ length items =
     omega (arith, ap length now, less, length-run es begin end (omega arith) most) in
     let some : passing p items ≢ [] = λ none. c.requires.some (ap (λ (v : Items). passing p v.items) (sym c.self.view_is) ∙ none) in
@@ -139,8 +141,9 @@ returns-clause-run g c =
     let most : end ≤ length es = subst (λ (xs : List Entry). end ≤ length xs) c.entries.ensures.entries c.passing_near-end.ensures.within in
     let middle = drop begin (take end es) in
     let run : IsRun p q es (take begin es) middle (drop end es) = run_of p q es begin end (omega arith) most first rest last others in
-    let stay = entries_of c.remove-3.new.self in
-    let taken = run_taken p q c.requires.nested items before after es leaf cut (take begin es) middle (drop end es) run stay c.remove-3.ensures.entries in
+    let stay = entries_of c.splice_hinted.new.self in
+    let taken = run_taken p q c.requires.nested items before after es leaf cut (take begin es) middle (drop end es) run
+    stay c.splice_hinted.ensures.entries in
     let out = entries_of c.remove-2.new.self in
     let is : out ≡ middle =
     run_is es (entries_of c.remove.new.self) out begin end c.len.result c.remove.ensures.entries c.len.ensures.len c.remove-2.ensures.entries in

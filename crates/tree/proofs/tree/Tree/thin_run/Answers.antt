@@ -20,8 +20,8 @@ pub overflow_sub-begin : goal.overflow_sub-begin
 overflow_sub-begin g c =
     let p = g.P.Probe.lets_pass c.args.probe.now in
     let t = c.self.inside in
-    let es = entries_of c.leaf-leaf.result in
-    let found = c.leaf-leaf.ensures in
+    let es = entries_of c.leaf-old.result in
+    let found = c.leaf-old.ensures in
     let before = before_leaf t.nodes t.root.height t.root.slot p in
     let after = behind_leaf t.nodes t.root.height t.root.slot p in
     let items = items_in t.nodes t.root.height t.root.slot in
@@ -60,8 +60,8 @@ pub thin-thinned-requires : goal.thin-thinned-requires
 thin-thinned-requires g c =
     let p = g.P.Probe.lets_pass c.args.probe.now in
     let t = c.self.inside in
-    let es = entries_of c.leaf-leaf.result in
-    let found = c.leaf-leaf.ensures in
+    let es = entries_of c.leaf-old.result in
+    let found = c.leaf-old.ensures in
     let before = before_leaf t.nodes t.root.height t.root.slot p in
     let after = behind_leaf t.nodes t.root.height t.root.slot p in
     let items = items_in t.nodes t.root.height t.root.slot in
@@ -77,8 +77,8 @@ pub overflow_sub-self : goal.overflow_sub-self
 overflow_sub-self g c =
     let p = g.P.Probe.lets_pass c.args.probe.now in
     let t = c.self.inside in
-    let es = entries_of c.leaf-leaf.result in
-    let found = c.leaf-leaf.ensures in
+    let es = entries_of c.leaf-old.result in
+    let found = c.leaf-old.ensures in
     let before = before_leaf t.nodes t.root.height t.root.slot p in
     let after = behind_leaf t.nodes t.root.height t.root.slot p in
     let items = items_in t.nodes t.root.height t.root.slot in
@@ -116,8 +116,8 @@ pub invariant_of-self : goal.invariant_of-self
 invariant_of-self g c =
     let p = g.P.Probe.lets_pass c.args.probe.now in
     let t = c.self.inside in
-    let es = entries_of c.leaf-leaf.result in
-    let found = c.leaf-leaf.ensures in
+    let es = entries_of c.leaf-old.result in
+    let found = c.leaf-old.ensures in
     let before = before_leaf t.nodes t.root.height t.root.slot p in
     let after = behind_leaf t.nodes t.root.height t.root.slot p in
     let items = items_in t.nodes t.root.height t.root.slot in
@@ -141,21 +141,23 @@ invariant_of-self g c =
     let edge_is : to_z w64 (of_z w64 c.args.edge) ≡ c.args.edge = to_z-of_z w64 c.args.edge c.ranges.edge in
     let before_is : to_z w64 (of_z w64 c.args.before) ≡ c.args.before = to_z-of_z w64 c.args.before c.ranges.before in
     let thinned = c.thin-thinned.ensures in
-    let stay = entries_of c.thin-thinned.new.node in
+    let stay = entries_of c.take_hints.new.self in
+    let kept = ap (map item_of) c.take_hints.ensures.entries ∙ thinned.kept in
     let edge = to_z w64 (of_z w64 c.args.edge) in
     let last = to_z w64 (of_z w64 c.args.before) in
     let removed : map item_of (entries_of c.in-Some.run') ≡ gone edge last looked =
     subst (λ (o : Option (Node g.row.N)). MatchOption o (gone edge last looked ≡ []) (λ r. map item_of (entries_of r) ≡ gone edge last looked)) c.in-Some.is thinned.removed in
     let out : c.len-in-Some.result ≡ length (gone edge last looked) =
     c.len-in-Some.ensures.len ∙ sym (length-map (entries_of c.in-Some.run') item_of) ∙ ap length removed in
-    let counted = thinned_count p items before after es leaf begin end front_is rest_is less most edge last stay thinned.kept in
+    let counted = thinned_count p items before after es leaf begin end front_is rest_is less most edge last stay kept in
     let b = c.put-self-inside.new.nodes in
     let to = c.put-self-inside.result in
     let now = c.put-self-inside.ensures.items in
     let first : length (passing p items) ≡ 1 → c.args.edge ≤ℤ c.args.before = λ e.
     c.requires.first (ap (λ (v : Items). length (passing p v.items)) (sym c.self.view_is) ∙ e) in
     let first_stays : length (passing p items) ≡ 1 → edge ≤ℤ last = λ e. rw (edge_is, before_is) (first e) in
-    let left = thinned_some p items before after es leaf begin end front_is rest_is less most edge last stay thinned.kept first_stays in
+    let left = thinned_some p items before after es leaf begin end front_is rest_is less most edge last stay kept
+    first_stays in
     let size : length (items_in b to.height to.slot) + c.len-in-Some.result ≡ length items = omega (arith, ap length now, counted, out) in
     let many_left : 1 ≤ length (items_in b to.height to.slot) = omega (arith, ap length now, left) in
     tree_put t.nodes b t.root.slot t.root.height to.slot to.height t.len (t.len - c.len-in-Some.result) t.room c.self.invariant
@@ -166,8 +168,8 @@ pub returns-in-Some-clause-thinned : goal.returns-in-Some-clause-thinned
 returns-in-Some-clause-thinned g c =
     let p = g.P.Probe.lets_pass c.args.probe.now in
     let t = c.self.inside in
-    let es = entries_of c.leaf-leaf.result in
-    let found = c.leaf-leaf.ensures in
+    let es = entries_of c.leaf-old.result in
+    let found = c.leaf-old.ensures in
     let before = before_leaf t.nodes t.root.height t.root.slot p in
     let after = behind_leaf t.nodes t.root.height t.root.slot p in
     let items = items_in t.nodes t.root.height t.root.slot in
@@ -191,7 +193,8 @@ returns-in-Some-clause-thinned g c =
     let edge_is : to_z w64 (of_z w64 c.args.edge) ≡ c.args.edge = to_z-of_z w64 c.args.edge c.ranges.edge in
     let before_is : to_z w64 (of_z w64 c.args.before) ≡ c.args.before = to_z-of_z w64 c.args.before c.ranges.before in
     let thinned = c.thin-thinned.ensures in
-    let stay = entries_of c.thin-thinned.new.node in
+    let stay = entries_of c.take_hints.new.self in
+    let kept = ap (map item_of) c.take_hints.ensures.entries ∙ thinned.kept in
     let edge = to_z w64 (of_z w64 c.args.edge) in
     let last = to_z w64 (of_z w64 c.args.before) in
     let Removed : ℤ → ℤ → Type 0 = λ e b. MatchOption c.thin-thinned.result.removed (gone e b looked ≡ []) (λ r. map item_of (entries_of r) ≡ gone e b looked) in
@@ -204,7 +207,8 @@ returns-in-Some-clause-thinned g c =
       ap (λ (v : Items). first ∷ behind p v.items) (sym c.self.view_is) ∙ found_run.1,
       length-looked p items before after es leaf begin end front_is rest_is less most ∙ sym thinned.looked_at,
       c.put-self-inside.ensures.items
-          ∙ thinned_items p items before after es leaf begin end front_is rest_is less most edge last stay thinned.kept front found_run.0
+          ∙ thinned_items p items before after es leaf begin end front_is rest_is less most edge last stay kept front
+          found_run.0
           ∙ ap (λ (e : ℤ). front ++ (thin e last looked ++ rest)) edge_is ∙ ap (λ (b : ℤ). front ++ (thin c.args.edge b looked ++ rest)) before_is,
       subst (λ (e : ℤ). Removed e c.args.before) edge_is (subst (λ (b : ℤ). Removed edge b) before_is thinned.removed),
       subst (λ (xs : List ℤ). IsLast c.thin-thinned.result.last xs) (sym (versions (run es begin end))) thinned.last,
@@ -214,8 +218,8 @@ pub returns-in_default-clause-thinned : goal.returns-in_default-clause-thinned
 returns-in_default-clause-thinned g c =
     let p = g.P.Probe.lets_pass c.args.probe.now in
     let t = c.self.inside in
-    let es = entries_of c.leaf-leaf.result in
-    let found = c.leaf-leaf.ensures in
+    let es = entries_of c.leaf-old.result in
+    let found = c.leaf-old.ensures in
     let before = before_leaf t.nodes t.root.height t.root.slot p in
     let after = behind_leaf t.nodes t.root.height t.root.slot p in
     let items = items_in t.nodes t.root.height t.root.slot in
@@ -265,8 +269,8 @@ pub returns-in-Some-clause-next : goal.returns-in-Some-clause-next
 returns-in-Some-clause-next g c =
     let p = g.P.Probe.lets_pass c.args.probe.now in
     let t = c.self.inside in
-    let es = entries_of c.leaf-leaf.result in
-    let found = c.leaf-leaf.ensures in
+    let es = entries_of c.leaf-old.result in
+    let found = c.leaf-old.ensures in
     let before = before_leaf t.nodes t.root.height t.root.slot p in
     let after = behind_leaf t.nodes t.root.height t.root.slot p in
     let items = items_in t.nodes t.root.height t.root.slot in
@@ -286,16 +290,16 @@ returns-in-Some-clause-next g c =
     let less : begin < end = omega (arith, many, count, within) in
     let most : end ≤ length es = omega (arith, many, count, within) in
     let thinned = c.thin-thinned.ensures in
-    key_behind_run p items before after es leaf begin end front_is rest_is less most None c.key_behind_leaf-behind.result
-    c.thin-thinned.result.next c.thin-thinned.result.looked_at c.key_behind_leaf-behind.ensures.key thinned.next thinned.looked_at
+    key_behind_run p items before after es leaf begin end front_is rest_is less most None c.find_behind-behind.result
+    c.thin-thinned.result.next c.thin-thinned.result.looked_at c.find_behind-behind.ensures.key thinned.next thinned.looked_at
     ∙ ap (λ (v : Items). first_key None (drop (c.thin-thinned.result.looked_at - 1) (behind p v.items))) c.self.view_is
 
 pub returns-in_default-clause-next : goal.returns-in_default-clause-next
 returns-in_default-clause-next g c =
     let p = g.P.Probe.lets_pass c.args.probe.now in
     let t = c.self.inside in
-    let es = entries_of c.leaf-leaf.result in
-    let found = c.leaf-leaf.ensures in
+    let es = entries_of c.leaf-old.result in
+    let found = c.leaf-old.ensures in
     let before = before_leaf t.nodes t.root.height t.root.slot p in
     let after = behind_leaf t.nodes t.root.height t.root.slot p in
     let items = items_in t.nodes t.root.height t.root.slot in
@@ -315,6 +319,6 @@ returns-in_default-clause-next g c =
     let less : begin < end = omega (arith, many, count, within) in
     let most : end ≤ length es = omega (arith, many, count, within) in
     let thinned = c.thin-thinned.ensures in
-    key_behind_run p items before after es leaf begin end front_is rest_is less most None c.key_behind_leaf-behind.result
-    c.thin-thinned.result.next c.thin-thinned.result.looked_at c.key_behind_leaf-behind.ensures.key thinned.next thinned.looked_at
+    key_behind_run p items before after es leaf begin end front_is rest_is less most None c.find_behind-behind.result
+    c.thin-thinned.result.next c.thin-thinned.result.looked_at c.find_behind-behind.ensures.key thinned.next thinned.looked_at
     ∙ ap (λ (v : Items). first_key None (drop (c.thin-thinned.result.looked_at - 1) (behind p v.items))) c.self.view_is

@@ -1,0 +1,108 @@
+use Rattle.std.proofs.Common.{◌≡◌, ◌≤◌, ◌+◌, ◌∷◌, List, length, length-append, length-take-le, length-drop, get_or, take, drop, refl, sym, ap, subst, ◌∙◌, arith}
+use Rattle.std.specs.Prelude.{slice_set}
+use Rattle.arena.specs.Arena.{with_header}
+use Rattle.tree.specs.declared.entry.Entry.{Entry}
+use Rattle.tree.specs.Node.{entries_of}
+use Rattle.tree.specs.Subtree.{entries_at, IsSubtree}
+use Rattle.tree.specs.Tree.{least_of}
+use Rattle.tree.specs.Replace.{IsFamily, IsMended}
+use Rattle.tree.proofs.Placing.{entries_from_header, put_entries}
+use Rattle.tree.proofs.Sharing.{set_one}
+use Rattle.tree.proofs.Mending.{live_subtree, mended_by_summary}
+use Rattle.tree.proofs.Storing.{mended_at}
+use Rattle.tree.proofs.replace.mend_child.Goals as goal
+
+pub header_ref-requires-2 : goal.header_ref-requires-2
+header_ref-requires-2 g c =
+    let a = c.args.nodes.now in
+    let es = entries_at a c.args.slot in
+    let i = c.args.index in
+    let d = c.index-entries-index.result in
+    let x = (get_or c.entries.result.now i d).child in
+    let read = entries_from_header a c.args.slot c.header_ref.result.now c.header_ref.ensures.header in
+    let x_is : x ≡ (get_or es i d).child =
+    ap (λ (l : List Entry). (get_or l i d).child) (c.entries.ensures.entries ∙ sym read) in
+    let f = c.requires.family in
+    record {
+      live = live_subtree a (least_of g.row.N) f.0 x
+          (subst (IsSubtree a (least_of g.row.N) f.0) (sym x_is) (f.1.family.below i d c.requires.within));
+    }
+
+pub returns-then-len-least-clause-mended : goal.returns-then-len-least-clause-mended
+returns-then-len-least-clause-mended g c height family =
+    let a = c.args.nodes.now in
+    let slot = c.args.slot in
+    let es = entries_at a slot in
+    let i = c.args.index in
+    let d = c.index-entries-index.result in
+    let L = least_of g.row.N in
+    let x = (get_or c.entries.result.now i d).child in
+    let read = entries_from_header a slot c.header_ref.result.now c.header_ref.ensures.header in
+    let x_is : x ≡ (get_or es i d).child =
+    ap (λ (l : List Entry). (get_or l i d).child) (c.entries.ensures.entries ∙ sym read) in
+    let t = c.summary-entry.result in
+    let len : length (entries_at a x) ≡ c.len.result =
+    ap length (entries_from_header a x c.header_ref-2.result.now c.header_ref-2.ensures.header)
+    ∙ sym c.len.ensures.len in
+    let filled : L ≤ length (entries_at a x) =
+    subst (λ n. n ≤ length (entries_at a x)) c.least.ensures.least (omega (arith, len, c.if-len-least.true)) in
+    let node = c.set_hinted.new.self in
+    let here = entries_from_header a slot c.header_mut.result.now c.header_mut.ensures.header in
+    let now_is : entries_of node ≡ slice_set es i t =
+    c.set_hinted.ensures.entries ∙ ap (λ (l : List Entry). slice_set l i t) (sym here) in
+    let parts = now_is ∙ set_one es i t c.requires.within in
+    let mended =
+    mended_by_summary a L height es (entries_of node) i x d t c.requires.within x_is family.family c.requires.keyless
+    c.summary-entry.ensures.child (c.summary-entry.ensures.tells height L) filled parts in
+    let some : 1 ≤ length (entries_of node) =
+    omega (arith, ap length parts, length-append (take i es) (t ∷ drop (i + 1) es)) in
+    mended_at a a (with_header a slot node) L height slot i node (entries_of node) c.requires.live family mended some
+    refl refl
+
+pub returns-then-len-least-clause-few_less : goal.returns-then-len-least-clause-few_less
+returns-then-len-least-clause-few_less g c =
+    let a = c.args.nodes.now in
+    let slot = c.args.slot in
+    let es = entries_at a slot in
+    let i = c.args.index in
+    let t = c.summary-entry.result in
+    let node = c.set_hinted.new.self in
+    let here = entries_from_header a slot c.header_mut.result.now c.header_mut.ensures.header in
+    let now_is : entries_of node ≡ slice_set es i t =
+    c.set_hinted.ensures.entries ∙ ap (λ (l : List Entry). slice_set l i t) (sym here) in
+    let after : entries_at (with_header a slot node) slot ≡ entries_of node =
+    put_entries a (with_header a slot node) slot node refl in
+    let parts = after ∙ now_is ∙ set_one es i t c.requires.within in
+    omega (
+      arith,
+      c.requires.within,
+      ap length parts,
+      length-append (take i es) (t ∷ drop (i + 1) es),
+      length-take-le i es (omega (arith, c.requires.within)),
+      length-drop (i + 1) es,
+    )
+
+pub returns-clause-mended : goal.returns-clause-mended
+returns-clause-mended g c height family =
+    let a = c.args.nodes.now in
+    let slot = c.args.slot in
+    let es = entries_at a slot in
+    let L = least_of g.row.N in
+    let read = entries_from_header a slot c.header-node.result c.header-node.ensures.header in
+    let same = ap length read in
+    let loose = subst (λ l. IsFamily a L height l c.args.index (c.args.index + 1)) read family.family in
+    let mended =
+    subst (λ l. IsMended a c.mend.new.nodes L height l (entries_of c.mend.new.node)) (sym read)
+    (c.mend.ensures.mended height loose) in
+    mended_at a c.mend.new.nodes c.set_header.new.self L height slot c.args.index c.take_hints.new.self
+    (entries_of c.mend.new.node) c.requires.live family mended
+    (omega (arith, c.mend.ensures.few_less, c.requires.several, same)) c.take_hints.ensures.entries c.set_header.ensures.replaced
+
+pub returns-clause-few_less : goal.returns-clause-few_less
+returns-clause-few_less g c =
+    let a = c.args.nodes.now in
+    let slot = c.args.slot in
+    let read = ap length (entries_from_header a slot c.header-node.result c.header-node.ensures.header) in
+    let here = put_entries c.mend.new.nodes c.set_header.new.self slot c.take_hints.new.self
+    c.set_header.ensures.replaced in
+    omega (arith, c.mend.ensures.few_less, read, ap length here, ap length c.take_hints.ensures.entries)
