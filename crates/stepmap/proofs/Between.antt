@@ -48,7 +48,7 @@ use Rattle.tree.specs.Tree.{Items}
 use Rattle.keyspace.specs.Key.{IsBytes, is_before, IsBefore}
 use Rattle.keyspace.specs.Range.{Holds, IsEmpty}
 use Rattle.keyspace.specs.declared.range.Range.{Range}
-use Rattle.keyspace.proofs.KeyOrder.{at_most_before, before_trans}
+use Rattle.keyspace.proofs.KeyOrder.{at_most_before, before_at_most_same, before_trans}
 use Rattle.keyspace.proofs.Booleans.{true_or_false}
 use Rattle.stepmap.specs.Boundary.{Boundary, AreBoundaries, AreInOrder, value_at, last_version, below, from_on}
 use Rattle.stepmap.specs.Indexes.{up_to, after}
@@ -93,6 +93,16 @@ module _ {H : Type 0} (keys : Arena H) where
           → unwrap_or (option_map (passes_at false end) k) false ≡ true
       of_key None h = h
       of_key (Some k) h = passes_sooner up_to begin end k l h
+
+  -- one that passes the cut before a key passes the cut up to it
+  pub nested_around : (key : List ℕ) (slot : ℕ)
+      → slot_passes keys false key slot ≡ true → slot_passes keys true key slot ≡ true
+  nested_around key slot = of_key (key_at keys slot)
+    where
+      of_key : (k : Option (List ℕ)) → unwrap_or (option_map (passes_at false key) k) false ≡ true
+          → unwrap_or (option_map (passes_at true key) k) false ≡ true
+      of_key None h = h
+      of_key (Some k) h = before_at_most_same k key h
 
   -- the boundaries of items picked by a test are picked by the same test
   picked : (p : Item → Bool) (q : Boundary → Bool) (xs : List Item) → All (λ x. p x ≡ q (boundary_of keys x)) xs

@@ -49,6 +49,31 @@ module _ {H : Type 0} (old now : Arena H) (ps : List Placed) (placed : ArePlaced
   pub cut_still : (up_to : Bool) (key : List ℕ) → AreCut now tree.items up_to key
   cut_still up_to key = cut_same old now tree.items same_records up_to key (stored_cut old tree stored up_to key)
 
+  -- the same items come before and behind each, and stand between two of them
+  pub passing_still : (up_to : Bool) (key : List ℕ)
+      → passing (slot_passes now up_to key) tree.items ≡ passing (slot_passes old up_to key) tree.items
+  passing_still up_to key =
+      filter_same (λ (x : Item). slot_passes now up_to key x.key) (λ (x : Item). slot_passes old up_to key x.key)
+      tree.items (passes_same old now tree.items same_records up_to key)
+
+  pub behind_still : (up_to : Bool) (key : List ℕ)
+      → behind (slot_passes now up_to key) tree.items ≡ behind (slot_passes old up_to key) tree.items
+  behind_still up_to key =
+      let q = λ (x : Item). slot_passes now up_to key x.key in
+      let q_old = λ (x : Item). slot_passes old up_to key x.key in
+      filter_same (λ x. not (q x)) (λ x. not (q_old x)) tree.items
+      (All-weaker (λ x. q x ≡ q_old x) (λ x. not (q x) ≡ not (q_old x)) (λ x e. ap not e) tree.items
+      (passes_same old now tree.items same_records up_to key))
+
+  pub between_still : (u v : Bool) (begin end : List ℕ)
+      → between (Some (slot_passes old u begin)) (Some (slot_passes old v end)) tree.items
+      ≡ between (Some (slot_passes now u begin)) (Some (slot_passes now v end)) tree.items
+  between_still u v begin end =
+      filter_same (λ (x : Item). not (slot_passes old u begin x.key) && slot_passes old v end x.key)
+      (λ (x : Item). not (slot_passes now u begin x.key) && slot_passes now v end x.key) tree.items
+      (λ k d lt. sym (ap₂ (λ s t. not s && t) (passes_same old now tree.items same_records u begin k d lt)
+      (passes_same old now tree.items same_records v end k d lt)))
+
   module _ (begin end : List ℕ) (not_empty : false ≡ (length begin == 0)) (filled : IsBefore begin end) where
     abbrev p : ℕ → Bool
     p = slot_passes now false begin
@@ -68,27 +93,12 @@ module _ {H : Type 0} (old now : Arena H) (ps : List Placed) (placed : ArePlaced
     abbrev rest : List Item
     rest = behind q_old tree.items
 
-    passing_still : passing p tree.items ≡ front
-    passing_still =
-        filter_same (λ (x : Item). p x.key) (λ (x : Item). p_old x.key) tree.items
-        (passes_same old now tree.items same_records false begin)
-
-    behind_still : behind q tree.items ≡ rest
-    behind_still =
-        filter_same (λ (x : Item). not (q x.key)) (λ (x : Item). not (q_old x.key)) tree.items
-        (All-weaker (λ x. q x.key ≡ q_old x.key) (λ x. not (q x.key) ≡ not (q_old x.key)) (λ x e. ap not e) tree.items
-        (passes_same old now tree.items same_records false end))
-
-    between_still : between (Some p_old) (Some q_old) tree.items ≡ between (Some p) (Some q) tree.items
-    between_still =
-        filter_same (λ (x : Item). not (p_old x.key) && q_old x.key) (λ (x : Item). not (p x.key) && q x.key) tree.items
-        (λ k d lt. sym (ap₂ (λ s t. not s && t) (passes_same old now tree.items same_records false begin k d lt)
-        (passes_same old now tree.items same_records false end k d lt)))
-
     module _ (run : List Entry) (is : between (Some p) (Some q) tree.items ≡ map item_of run) (next : Items)
         (next_is : next.items ≡ passing p tree.items ++ (map item_at ps ++ behind q tree.items)) where
       parts : AreParted tree.items (front ++ rest) (map item_of run)
-      parts = run_parted old tree stored false begin end not_empty filled [] run (between_still ∙ is)
+      parts =
+          run_parted old tree stored false begin end not_empty filled [] run
+          (between_still false false begin end ∙ is)
 
       -- what was taken out may be released
       pub taken_live : All (λ e. IsLive now e.key) run
@@ -101,7 +111,8 @@ module _ {H : Type 0} (old now : Arena H) (ps : List Placed) (placed : ArePlaced
       taken_distinct = run_distinct old tree stored (front ++ rest) run parts
 
       items_are : next.items ≡ front ++ (map item_at ps ++ rest)
-      items_are = next_is ∙ ap₂ (λ xs ys. xs ++ (map item_at ps ++ ys)) passing_still behind_still
+      items_are = next_is ∙ ap₂ (λ xs ys. xs ++ (map item_at ps ++ ys))
+          (passing_still false begin) (behind_still false end)
 
       front_live : All (λ x. IsLive old x.key) front
       front_live = All-filter (λ (x : Item). p_old x.key) (λ (x : Item). IsLive old x.key) tree.items stored.live

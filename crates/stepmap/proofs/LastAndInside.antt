@@ -22,7 +22,7 @@ use Rattle.stepmap.proofs.Thinned.{lt_from_test, le_from_test}
 use Rattle.stepmap.proofs.WritingValues.{begins_before_end}
 
 -- a list with an element has a last one
-last_of : {X : Type 0} (xs : List X) → xs ≢ [] → (x : X) × IsLast x xs
+pub last_of : {X : Type 0} (xs : List X) → xs ≢ [] → (x : X) × IsLast x xs
 last_of [] some = absurd (some refl)
 last_of (x ∷ xs) some = from x xs
   where

@@ -302,6 +302,33 @@ module _ {H : Type 0} (old : Arena H) where
         );
       }
 
+  -- two of them, in the other order
+  swapped : (now : Arena H) (p q : Placed) → ArePlaced now (p ∷ q ∷ []) → ArePlaced now (q ∷ p ∷ [])
+  swapped now p q h = record {
+    free = swap (λ p. record_at old p.slot ≡ None) h.free;
+    keys = swap (λ p. key_at now p.slot ≡ Some p.key) h.keys;
+    distinct = λ s. omega (arith, h.distinct s);
+    others = λ s none. h.others s (omega (arith, none));
+    counted = h.counted;
+    spare = λ size. omega (arith, h.spare size);
+  }
+    where
+      swap : (P : Placed → Type 0) → All P (p ∷ q ∷ []) → All P (q ∷ p ∷ [])
+      swap P a =
+          All-cons P q (p ∷ []) (All-head P q [] (All-tail P p (q ∷ []) a))
+          (All-cons P p [] (All-head P p (q ∷ []) a) (All-nil P))
+
+  -- the second of two is released
+  pub second_released : (mid now : Arena H) (p q : Placed) → ArePlaced mid (p ∷ q ∷ [])
+      → now.records ≡ finite.remove mid.records q.slot
+      → ((s : ℕ) → s ≢ q.slot → record_at now s ≡ record_at mid s)
+      → IfSome (key_at mid q.slot)
+      (λ key. spare_of now (size_of (length key)) ≡ spare_of mid (size_of (length key)) + 1)
+      → IfSome (key_at mid q.slot)
+      (λ key. (size : ℕ) → size ≢ size_of (length key) → spare_of now size ≡ spare_of mid size)
+      → ArePlaced now (p ∷ [])
+  second_released mid now p q h = first_released mid now q (p ∷ []) (swapped mid p q h)
+
   module _ (tree : Items) (stored : IsStored old tree) (now : Arena H) (h : ArePlaced now []) where
     -- where all of them were released, the boundaries are as they were
     pub still_boundaries : boundaries_of now tree.items ≡ boundaries_of old tree.items

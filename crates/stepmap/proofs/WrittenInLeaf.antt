@@ -1,25 +1,34 @@
--- A range that is written by putting a boundary at its begin, and one at its end where none stands, in place of those in it.
-use Rattle.std.proofs.Common.{◌≡◌, ℕ, ◌+◌, ◌≤◌, ◌==◌, arith, List, [], ◌∷◌, ◌++◌, length, Option, None, Some, map, false, sym, ◌∙◌, ap, ap₂, subst}
-use Rattle.std.specs.Prelude.{ℤ, ◌≢◌, Any, IfSome, MatchOption, nat_eq}
+-- A range that is written by putting a boundary at its begin, and one at its end where none stands, in place of those
+-- in it.
+use Rattle.std.proofs.Common.{◌≡◌, ℕ, ◌+◌, ◌≤◌, ◌==◌, ◌&&◌, if◌then◌else◌, arith, Bool, true, false, not, List, [], ◌∷◌, ◌++◌, length, Option, None, Some, map, filter, refl, sym, ◌∙◌, ap, ap₂, subst, inl, inr}
+use Rattle.std.specs.Prelude.{ℤ, ◌≢◌, ◌↔◌, Any, IfSome, IsTrue, nat_eq}
 use Rattle.std.specs.List.{All, Contains, IsDistinct}
 use Rattle.std.specs.FinMap as finite
-use Rattle.std.proofs.lemmas.List.Elements.{All-head}
+use Rattle.std.proofs.lemmas.List.Elements.{All-cons, All-head, All-nil}
 use Rattle.arena.specs.Arena.{Arena, wanted_of, IsLive, record_at, key_at, spare_of, size_of}
+use Rattle.keyspace.specs.Key.{is_before, IsBefore, IsAtMost}
 use Rattle.keyspace.specs.Range.{IsEmpty}
 use Rattle.keyspace.specs.declared.range.Range.{Range}
+use Rattle.keyspace.proofs.Booleans.{true_or_false, and_left, and_right, not_both_ways}
+use Rattle.keyspace.proofs.KeyOrder.{before_or_same, not_before_itself}
 use Rattle.tree.specs.declared.entry.Entry.{Entry}
-use Rattle.tree.specs.declared.node.Node.{Node}
 use Rattle.tree.specs.Item.{Item, item_of}
-use Rattle.tree.specs.Node.{entries_of}
 use Rattle.tree.specs.Path.{passing, behind, between}
-use Rattle.tree.specs.Tree.{Items}
+use Rattle.tree.specs.Tree.{Items, IsLast, ended_by}
 use Rattle.stepmap.specs.Boundary.{Boundary, AreInOrder, below, from_on, value_at}
+use Rattle.stepmap.specs.Indexes.{up_to}
 use Rattle.stepmap.specs.Cut.{slot_passes}
-use Rattle.stepmap.specs.Stored.{boundaries_of, IsStored}
+use Rattle.stepmap.specs.Stored.{boundary_of, boundaries_of, IsStored}
 use Rattle.stepmap.specs.Writing.{written}
-use Rattle.stepmap.proofs.Exchanged.{taken_live, taken_distinct, exchanged_boundaries, exchanged_stored}
-use Rattle.stepmap.proofs.PlacedKeys.{Placed, item_at, boundary_at, used, ArePlaced, placed_live, first_released}
-use Rattle.stepmap.proofs.WrittenInParts.{closed_before, after_end, written_there}
+use Rattle.stepmap.proofs.Between.{between_cuts}
+use Rattle.stepmap.proofs.Cutting.{stored_cut}
+use Rattle.stepmap.proofs.Exchanged.{passing_still, behind_still, between_still, taken_live, taken_distinct, exchanged_boundaries, exchanged_stored}
+use Rattle.stepmap.proofs.Inserted.{up_to_below}
+use Rattle.stepmap.proofs.LastAndInside.{last_of}
+use Rattle.stepmap.proofs.LastFound.{last_boundary, value_of_last}
+use Rattle.stepmap.proofs.PlacedKeys.{Placed, item_at, boundary_at, used, ArePlaced, placed_live, first_released, second_released}
+use Rattle.stepmap.proofs.SomeElement.{Any-first, Any-later}
+use Rattle.stepmap.proofs.WrittenInParts.{none_of, after_empty, closed_before, after_end, written_there}
 use Rattle.stepmap.proofs.WritingOrder.{written_in_order}
 use Rattle.stepmap.proofs.WritingValues.{begins_before_end}
 
@@ -58,163 +67,272 @@ module _ (range : Range) (v w : ℤ) (slot : ℕ) where
         ∙ ap (λ ys. below range.begin bs ++ begin ∷ ys)
         (sym (closed_before range.end (value_at bs range.end) (from_on range.end bs) (after_end range filled bs v gap)))
 
--- what is known of a try to put items in place of those of a range
-abbrev pub Exchange : {N : ℕ} {H : Type 0} → Arena H → Items → List ℕ → List ℕ → List Item → Option (Node N) → Items
-    → Type 0
-Exchange keys tree begin end news run next =
-    let p = slot_passes keys false begin in
-    let q = slot_passes keys false end in
-    MatchOption run (next ≡ tree)
-    (λ run. (between (Some p) (Some q) tree.items ≡ map item_of (entries_of run))
-    × (next.items ≡ passing p tree.items ++ (news ++ behind q tree.items)))
+-- the slot of the end's key, unless a boundary stands there
+abbrev pub unless_ended : Bool → ℕ → Option ℕ
+unless_ended ended end = if ended then None else Some end
 
-module _ {H : Type 0} (old : Arena H) (bs : List Boundary) (range : Range) (v w : ℤ) (slot : ℕ) where
-  -- The keys are placed, and the cuts and the first item are made.
-  pub record IsReady (end : Option ℕ) (now : Arena H) (begin_key end_key : List ℕ) (first : Item) : Type 0 where
-    pub placed : ArePlaced old now (both range v w slot end)
-    pub ended : IsEndedBy range v w slot end bs
-    pub begin_is : begin_key ≡ range.begin
-    pub end_is : end_key ≡ range.end
-    pub first_is : first ≡ record { key = slot; version = v }
+-- What is known where an item was put in place of those of a range, and one behind it unless the range was ended
+-- already.
+pub record IsPut {H : Type 0} (now : Arena H) (tree : Items) (end : ℕ) (es : List Entry) (ended : Bool) (next : Items)
+    (begin_key end_key : List ℕ) (first : Item) : Type 0 where
+  pub taken :
+      between (Some (slot_passes now false begin_key)) (Some (slot_passes now false end_key)) tree.items
+      ≡ map item_of es
+  pub ended_is :
+      IsTrue ended
+      ↔ (between (Some (slot_passes now false end_key)) (Some (slot_passes now true end_key)) tree.items ≢ [])
+  pub items_are :
+      (last : Item) → IsLast last (passing (slot_passes now false end_key) tree.items)
+      → next.items ≡ passing (slot_passes now false begin_key) tree.items
+      ++ (first ∷ ended_by ended (record { key = end; version = last.version })
+      ++ behind (slot_passes now false end_key) tree.items)
 
--- a match on what is known
-match_none : {X : Type 0} (P : Type 0) (Q : X → Type 0) (o : Option X) → o ≡ None → MatchOption o P Q → P
-match_none P Q o e m = subst (λ o. MatchOption o P Q) e m
+-- the boundaries at a key
+abbrev standing_at : List ℕ → List Boundary → List Boundary
+standing_at key bs = filter (λ b. not (is_before b.key key) && not (is_before key b.key)) bs
 
-match_some : {X : Type 0} (P : Type 0) (Q : X → Type 0) (o : Option X) (x : X) → o ≡ Some x → MatchOption o P Q → Q x
-match_some P Q o x e m = subst (λ o. MatchOption o P Q) e m
+module _ (key : List ℕ) where
+  -- none stands there where there are none
+  none_at : (bs : List Boundary) → standing_at key bs ≡ [] → ¬ Any (λ b. b.key ≡ key) bs
+  none_at bs none =
+      let At = λ (b : Boundary). not (is_before b.key key) && not (is_before key b.key) in
+      none_of (λ (b : Boundary). b.key ≡ key) bs (each bs none)
+    where
+      same : (k : List ℕ) → k ≡ key → (not (is_before k key) && not (is_before key k)) ≡ true
+      same k e =
+          let n : is_before key key ≡ false = not_before_itself key in
+          let f : is_before k key ≡ false = ap (λ k. is_before k key) e ∙ n in
+          let g : is_before key k ≡ false = ap (λ k. is_before key k) e ∙ n in
+          rw (f, g) refl
 
-module _ {N : ℕ} {H : Type 0} (old : Arena H) (tree : Items) (bs : List Boundary) (range : Range) (v w : ℤ) (slot : ℕ) where
-  -- The keys were placed, and their items were put in place of those of the range, or were not.
-  pub record IsTried (end : Option ℕ) (now : Arena H) (run : Option (Node N)) (next : Items) : Type 0 where
-    pub placed : ArePlaced old now (both range v w slot end)
-    pub ended : IsEndedBy range v w slot end bs
-    pub told : Exchange now tree range.begin range.end (map item_at (both range v w slot end)) run next
+      each : (bs : List Boundary) → standing_at key bs ≡ [] → All (λ b. ¬ (b.key ≡ key)) bs
+      each [] none = All-nil (λ (b : Boundary). ¬ (b.key ≡ key))
+      each (b ∷ bs) none =
+          let Apart = λ (b : Boundary). ¬ (b.key ≡ key) in
+          elim (true_or_false (not (is_before b.key key) && not (is_before key b.key))) [
+            | inl t ↦ absurd (let k : b ∷ standing_at key bs ≡ [] = rw t at none in cc)
+            | inr f ↦
+                let later : standing_at key bs ≡ [] = rw f at none in
+                All-cons Apart b bs (λ e. not_both_ways _ (same b.key e) f) (each bs later)
+          ]
 
-  module _ (end end' : Option ℕ) (now now' : Arena H) (run run' : Option (Node N)) (next next' : Items)
-      (begin_key end_key : List ℕ) (first : Item) (ready : IsReady old bs range v w slot end now begin_key end_key first) where
-    tried_by : (news : List Item) → end' ≡ end → now' ≡ now → run' ≡ run → next' ≡ next
-        → news ≡ map item_at (both range v w slot end)
-        → Exchange now tree begin_key end_key news run next → IsTried end' now' run' next'
-    tried_by news e f g h k told =
-        let same : Exchange now tree range.begin range.end (map item_at (both range v w slot end)) run next =
-        subst (λ news. Exchange now tree range.begin range.end news run next) k
-        (subst (λ end_key. Exchange now tree range.begin end_key news run next) ready.end_is
-        (subst (λ begin_key. Exchange now tree begin_key end_key news run next) ready.begin_is told)) in
-        subst (λ end. IsTried end now' run' next') (sym e)
-        (subst (λ now. IsTried end now run' next') (sym f)
-        (subst (λ run. IsTried end now run next') (sym g)
-        (subst (λ next. IsTried end now run next) (sym h)
-        (record { placed = ready.placed; ended = ready.ended; told = same }))))
+  -- and else one does
+  some_at : (bs : List Boundary) → standing_at key bs ≢ [] → Any (λ b. b.key ≡ key) bs
+  some_at [] some = absurd (some refl)
+  some_at (b ∷ bs) some =
+      let At = λ (b : Boundary). b.key ≡ key in
+      elim (true_or_false (not (is_before b.key key) && not (is_before key b.key))) [
+        | inl t ↦ Any-first At b bs (same b.key (and_left _ _ t) (and_right _ _ t))
+        | inr f ↦ Any-later At b bs (some_at bs (λ none. some (let k : standing_at key (b ∷ bs) ≡ [] = rw f none in k)))
+      ]
+    where
+      same : (k : List ℕ) → IsAtMost key k → IsAtMost k key → k ≡ key
+      same k le ge = elim (before_or_same key k le) [
+        | inl l ↦ absurd (not_both_ways _ ge (ap not l))
+        | inr e ↦ sym e
+      ]
 
-    -- one item, where no key was placed for the end
-    pub tried_one : end ≡ None → end' ≡ end → now' ≡ now → run' ≡ run → next' ≡ next
-        → Exchange now tree begin_key end_key (first ∷ []) run next → IsTried end' now' run' next'
-    tried_one none e f g h told =
-        tried_by (first ∷ []) e f g h
-        (ap (λ x. x ∷ []) ready.first_is ∙ ap (λ end. map item_at (both range v w slot end)) (sym none)) told
+-- one passes the cut before a key behind another
+some_below : (begin key : List ℕ) → IsBefore begin key → (bs : List Boundary) → AreInOrder bs → below key bs ≢ []
+some_below begin key l [] o e = absurd o
+some_below begin key l (b ∷ bs) o e =
+    let t : is_before b.key key ≡ true = ap (λ k. is_before k key) o.0 ∙ after_empty begin key l in
+    let k : b ∷ below key bs ≡ [] = rw t at e in cc
 
-    -- two, where one was
-    pub tried_two : (at : ℕ) (last : Item) → last ≡ record { key = at; version = w } → end ≡ Some at → end' ≡ Some at
-        → now' ≡ now → run' ≡ run → next' ≡ next
-        → Exchange now tree begin_key end_key (first ∷ last ∷ []) run next → IsTried end' now' run' next'
-    tried_two at last last_is some e f g h told =
-        tried_by (first ∷ last ∷ []) (e ∙ sym some) f g h
-        (ap₂ (λ x y. x ∷ y ∷ []) ready.first_is last_is ∙ ap (λ end. map item_at (both range v w slot end)) (sym some)) told
+module _ {H : Type 0} (old : Arena H) (tree : Items) (stored : IsStored old tree) (range : Range)
+    (filled : ¬ IsEmpty range) (v : ℤ) (slot end : ℕ) where
+  abbrev bs : List Boundary
+  bs = boundaries_of old tree.items
 
-module _ {N : ℕ} {H : Type 0} (old : Arena H) (tree : Items) (bs : List Boundary) (range : Range) (v w : ℤ) (slot : ℕ)
-    (end : Option ℕ) (now : Arena H) (run : Option (Node N)) (next : Items)
-    (tried : IsTried old tree bs range v w slot end now run next) where
-  -- the slot of the begin's key is live
-  pub begin_live : IsLive now slot
-  begin_live =
-      All-head (λ (p : Placed). IsLive now p.slot) (at_begin range v w slot) (at_end range v w slot end)
-      (placed_live old now (both range v w slot end) tried.placed)
+  -- the version that a boundary at the end gets
+  abbrev w : ℤ
+  w = value_at bs range.end
 
-  -- where nothing was put into the tree, it is as it was
-  pub tree_stays : run ≡ None → next ≡ tree
-  tree_stays none = match_none _ _ run none tried.told
+  -- both keys are placed
+  abbrev pub AreReady : Arena H → Type 0
+  AreReady now = ArePlaced old now (both range v w slot (Some end))
 
-  -- once it is released, the end's key alone is placed
-  pub begin_released : (then : Arena H) → then.records ≡ finite.remove now.records slot
-      → ((s : ℕ) → s ≢ slot → record_at then s ≡ record_at now s)
-      → IfSome (key_at now slot) (λ key. spare_of then (size_of (length key)) ≡ spare_of now (size_of (length key)) + 1)
-      → IfSome (key_at now slot)
-      (λ key. (size : ℕ) → size ≢ size_of (length key) → spare_of then size ≡ spare_of now size)
-      → ArePlaced old then (at_end range v w slot end)
-  begin_released then =
-      first_released old now then (at_begin range v w slot) (at_end range v w slot end) tried.placed
+  -- those that the new boundaries have are
+  abbrev pub AreLeft : Bool → Arena H → Type 0
+  AreLeft ended later = ArePlaced old later (both range v w slot (unless_ended ended end))
 
-module _ {H : Type 0} (old now : Arena H) (range : Range) (v w : ℤ) (slot : ℕ) (end : Option ℕ)
-    (placed : ArePlaced old now (at_end range v w slot end)) where
-  -- where no key was placed for the end, none is left
-  pub none_left : end ≡ None → ArePlaced old now []
-  none_left none = subst (λ end. ArePlaced old now (at_end range v w slot end)) none placed
+  -- where a boundary stands at the end, its key is released again
+  pub left_if_ended : (ended : Bool) (now later : Arena H) → AreReady now → ended ≡ true
+      → later.records ≡ finite.remove now.records end
+      → ((s : ℕ) → s ≢ end → record_at later s ≡ record_at now s)
+      → IfSome (key_at now end)
+      (λ key. spare_of later (size_of (length key)) ≡ spare_of now (size_of (length key)) + 1)
+      → IfSome (key_at now end)
+      (λ key. (size : ℕ) → size ≢ size_of (length key) → spare_of later size ≡ spare_of now size)
+      → AreLeft ended later
+  left_if_ended ended now later ready is removed others more same =
+      subst (λ t. AreLeft t later) (sym is)
+      (second_released old now later (at_begin range v w slot) (record { slot = end; key = range.end; version = w })
+      ready removed others more same)
 
-  module _ (at : ℕ) (some : end ≡ Some at) where
-    end_left : ArePlaced old now (at_end range v w slot (Some at))
-    end_left = subst (λ end. ArePlaced old now (at_end range v w slot end)) some placed
+  pub left_unless_ended : (ended : Bool) (now : Arena H) → AreReady now → ended ≡ false → AreLeft ended now
+  left_unless_ended ended now ready is = subst (λ t. AreLeft t now) (sym is) ready
 
-    -- else its slot is live
-    pub end_live : IsLive now at
-    end_live =
-        All-head (λ (p : Placed). IsLive now p.slot) (record { slot = at; key = range.end; version = w }) []
-        (placed_live old now (at_end range v w slot (Some at)) end_left)
+  module _ (now : Arena H) (ready : AreReady now) where
+    -- the begin's key is released
+    begin_released : (mid : Arena H) → mid.records ≡ finite.remove now.records slot
+        → ((s : ℕ) → s ≢ slot → record_at mid s ≡ record_at now s)
+        → IfSome (key_at now slot)
+        (λ key. spare_of mid (size_of (length key)) ≡ spare_of now (size_of (length key)) + 1)
+        → IfSome (key_at now slot)
+        (λ key. (size : ℕ) → size ≢ size_of (length key) → spare_of mid size ≡ spare_of now size)
+        → ArePlaced old mid (at_end range v w slot (Some end))
+    begin_released mid =
+        first_released old now mid (at_begin range v w slot) (at_end range v w slot (Some end)) ready
 
-    -- and once that is released too, none is left
-    pub end_released : (then : Arena H) → then.records ≡ finite.remove now.records at
-        → ((s : ℕ) → s ≢ at → record_at then s ≡ record_at now s)
-        → IfSome (key_at now at) (λ key. spare_of then (size_of (length key)) ≡ spare_of now (size_of (length key)) + 1)
-        → IfSome (key_at now at)
-        (λ key. (size : ℕ) → size ≢ size_of (length key) → spare_of then size ≡ spare_of now size)
-        → ArePlaced old then []
-    end_released then =
-        first_released old now then (record { slot = at; key = range.end; version = w }) [] end_left
+    -- where nothing was put into the tree, both are released
+    pub both_released : (mid later : Arena H) → mid.records ≡ finite.remove now.records slot
+        → ((s : ℕ) → s ≢ slot → record_at mid s ≡ record_at now s)
+        → IfSome (key_at now slot)
+        (λ key. spare_of mid (size_of (length key)) ≡ spare_of now (size_of (length key)) + 1)
+        → IfSome (key_at now slot)
+        (λ key. (size : ℕ) → size ≢ size_of (length key) → spare_of mid size ≡ spare_of now size)
+        → later.records ≡ finite.remove mid.records end
+        → ((s : ℕ) → s ≢ end → record_at later s ≡ record_at mid s)
+        → IfSome (key_at mid end)
+        (λ key. spare_of later (size_of (length key)) ≡ spare_of mid (size_of (length key)) + 1)
+        → IfSome (key_at mid end)
+        (λ key. (size : ℕ) → size ≢ size_of (length key) → spare_of later size ≡ spare_of mid size)
+        → ArePlaced old later []
+    both_released mid later removed others more same =
+        first_released old mid later (record { slot = end; key = range.end; version = w }) []
+        (begin_released mid removed others more same)
 
-module _ {N : ℕ} {H : Type 0} (old : Arena H) (tree : Items) (stored : IsStored old tree) (bs : List Boundary)
-    (are : boundaries_of old tree.items ≡ bs) (range : Range) (filled : ¬ IsEmpty range)
-    (not_empty : false ≡ (length range.begin == 0)) (v w : ℤ) (value : w ≡ value_at bs range.end) (slot : ℕ)
-    (end : Option ℕ) (now : Arena H) (run : Option (Node N)) (next : Items)
-    (tried : IsTried old tree bs range v w slot end now run next) where
-  abbrev ps : List Placed
-  ps = both range v w slot end
+    -- once the begin's is, the end's is live
+    pub end_live : (mid : Arena H) → mid.records ≡ finite.remove now.records slot
+        → ((s : ℕ) → s ≢ slot → record_at mid s ≡ record_at now s)
+        → IfSome (key_at now slot)
+        (λ key. spare_of mid (size_of (length key)) ≡ spare_of now (size_of (length key)) + 1)
+        → IfSome (key_at now slot)
+        (λ key. (size : ℕ) → size ≢ size_of (length key) → spare_of mid size ≡ spare_of now size)
+        → IsLive mid end
+    end_live mid removed others more same =
+        All-head (λ (p : Placed). IsLive mid p.slot) (record { slot = end; key = range.end; version = w }) []
+        (placed_live old mid (at_end range v w slot (Some end)) (begin_released mid removed others more same))
 
-  module _ (node : Node N) (some : run ≡ Some node) (es : List Entry) (entries : es ≡ entries_of node) where
-    between_is : between (Some (slot_passes now false range.begin)) (Some (slot_passes now false range.end)) tree.items
-        ≡ map item_of es
-    between_is = (match_some _ _ run node some tried.told).0 ∙ ap (map item_of) (sym entries)
-
-    next_is : next.items ≡ passing (slot_passes now false range.begin) tree.items
-        ++ (map item_at ps ++ behind (slot_passes now false range.end) tree.items)
-    next_is = (match_some _ _ run node some tried.told).1
-
-    -- else those that were taken out may be released
-    pub replaced_live : All (λ e. IsLive now e.key) es
-    replaced_live =
-        taken_live old now ps tried.placed tree stored range.begin range.end not_empty (begins_before_end range filled) es
-        between_is next next_is
-
-    pub replaced_distinct : IsDistinct nat_eq (map (λ e. e.key) es)
-    replaced_distinct =
-        taken_distinct old now ps tried.placed tree stored range.begin range.end not_empty
-        (begins_before_end range filled) es between_is next next_is
-
-    module _ (final : Arena H)
-        (others : (slot : ℕ) → ¬ Contains (map (λ e. e.key) es) slot → record_at final slot ≡ record_at now slot)
-        (counted : finite.len final.records + length es ≡ finite.len now.records) where
+    module _ (es : List Entry) (ended : Bool) (next : Items)
+        (put : IsPut now tree end es ended next range.begin range.end (item_at (at_begin range v w slot))) where
       order : AreInOrder bs
-      order = subst AreInOrder are stored.in_order
+      order = stored.in_order
 
-      -- the range is written then
-      pub replaced_boundaries : boundaries_of final next.items ≡ written range v bs
-      replaced_boundaries =
-          exchanged_boundaries old now ps tried.placed tree stored range.begin range.end not_empty
-          (begins_before_end range filled) es between_is next next_is final others counted
-          ∙ ap (λ bs. below range.begin bs ++ (map boundary_at ps ++ from_on range.end bs)) are
-          ∙ written_at_once range v w slot filled bs order value end tried.ended
+      ordered : IsBefore range.begin range.end
+      ordered = begins_before_end range filled
 
-      pub replaced_stored : IsStored final next
-      replaced_stored =
-          exchanged_stored old now ps tried.placed tree stored range.begin range.end not_empty
-          (begins_before_end range filled) es between_is next next_is final others counted
-          (subst AreInOrder (sym replaced_boundaries) (written_in_order range filled v bs order))
+      -- the items between the cuts around the end have the boundary that stands there
+      around_end : boundaries_of old
+          (between (Some (slot_passes now false range.end)) (Some (slot_passes now true range.end)) tree.items)
+          ≡ standing_at range.end bs
+      around_end =
+          ap (boundaries_of old)
+          (sym (between_still old now (both range v w slot (Some end)) ready tree stored false true range.end
+          range.end))
+          ∙ between_cuts old tree stored false true range.end range.end
+
+      ended_told : IsEndedBy range v w slot (unless_ended ended end) bs
+      ended_told = by_test ended put.ended_is
+        where
+          xs : List Item
+          xs = between (Some (slot_passes now false range.end)) (Some (slot_passes now true range.end)) tree.items
+
+          false_is_not_true : false ≡ true → ⊥
+          false_is_not_true e = cc
+
+          no_items : (xs : List Item) → boundaries_of old xs ≡ [] → xs ≡ []
+          no_items [] e = refl
+          no_items (x ∷ xs) e = absurd (let k : boundary_of old x ∷ boundaries_of old xs ≡ [] = e in cc)
+
+          no_more : (xs : List Item) → ¬ (xs ≢ []) → xs ≡ []
+          no_more [] n = refl
+          no_more (x ∷ xs) n = absurd (n (λ e. cc))
+
+          by_test : (t : Bool) → IsTrue t ↔ (xs ≢ []) → IsEndedBy range v w slot (unless_ended t end) bs
+          by_test true is =
+              some_at range.end bs (λ none. is.0 refl (no_items xs (around_end ∙ none)))
+          by_test false is =
+              none_at range.end bs (sym around_end
+              ∙ ap (boundaries_of old) (no_more xs (λ some. absurd (false_is_not_true (is.1 some)))))
+
+      -- the last item before the end
+      last_before : (x : Item) × IsLast x (passing (slot_passes old false range.end) tree.items)
+      last_before =
+          last_of (passing (slot_passes old false range.end) tree.items)
+          (λ none. some_below range.begin range.end ordered bs order
+          (sym (stored_cut old tree stored false range.end).before ∙ ap (boundaries_of old) none))
+
+      -- what was put behind the first item
+      second_is : (t : Bool) → IsEndedBy range v w slot (unless_ended t end) bs
+          → ended_by t (record { key = end; version = last_before.0.version })
+          ≡ map item_at (at_end range v w slot (unless_ended t end))
+      second_is true there = refl
+      second_is false gap =
+          let x = last_before.0 in
+          let b = boundary_of old x in
+          let last : IsLast b (up_to range.end bs) =
+          subst (IsLast b) (sym (up_to_below range.end bs gap))
+          (last_boundary old tree stored false range.end x last_before.1) in
+          ap (λ (version : ℤ). record { key = end; version = version } ∷ [])
+          (sym (value_of_last range.end bs order b last))
+
+      module _ (not_empty : false ≡ (length range.begin == 0)) (later : Arena H) (left : AreLeft ended later) where
+        abbrev ps : List Placed
+        ps = both range v w slot (unless_ended ended end)
+
+        abbrev all : List Placed
+        all = both range v w slot (Some end)
+
+        between_is :
+            between (Some (slot_passes later false range.begin)) (Some (slot_passes later false range.end)) tree.items
+            ≡ map item_of es
+        between_is =
+            sym (between_still old later ps left tree stored false false range.begin range.end)
+            ∙ between_still old now all ready tree stored false false range.begin range.end
+            ∙ put.taken
+
+        next_is : next.items ≡ passing (slot_passes later false range.begin) tree.items
+            ++ (map item_at ps ++ behind (slot_passes later false range.end) tree.items)
+        next_is =
+            let first = item_at (at_begin range v w slot) in
+            let front : passing (slot_passes now false range.begin) tree.items
+            ≡ passing (slot_passes later false range.begin) tree.items =
+            passing_still old now all ready tree stored false range.begin
+            ∙ sym (passing_still old later ps left tree stored false range.begin) in
+            let rest : behind (slot_passes now false range.end) tree.items
+            ≡ behind (slot_passes later false range.end) tree.items =
+            behind_still old now all ready tree stored false range.end
+            ∙ sym (behind_still old later ps left tree stored false range.end) in
+            let last = subst (IsLast last_before.0)
+            (sym (passing_still old now all ready tree stored false range.end)) last_before.1 in
+            put.items_are last_before.0 last
+            ∙ ap₂ (λ xs ys. xs ++ (first ∷ ys)) front
+            (ap₂ (λ xs ys. xs ++ ys) (second_is ended ended_told) rest)
+
+        -- those that were taken out may be released
+        pub replaced_live : All (λ e. IsLive later e.key) es
+        replaced_live =
+            taken_live old later ps left tree stored range.begin range.end not_empty ordered es between_is next next_is
+
+        pub replaced_distinct : IsDistinct nat_eq (map (λ e. e.key) es)
+        replaced_distinct =
+            taken_distinct old later ps left tree stored range.begin range.end not_empty ordered es between_is next
+            next_is
+
+        module _ (final : Arena H)
+            (others : (slot : ℕ) → ¬ Contains (map (λ e. e.key) es) slot → record_at final slot ≡ record_at later slot)
+            (counted : finite.len final.records + length es ≡ finite.len later.records) where
+          -- the range is written then
+          pub replaced_boundaries : boundaries_of final next.items ≡ written range v bs
+          replaced_boundaries =
+              exchanged_boundaries old later ps left tree stored range.begin range.end not_empty ordered es between_is
+              next next_is final others counted
+              ∙ written_at_once range v w slot filled bs order refl (unless_ended ended end) ended_told
+
+          pub replaced_stored : IsStored final next
+          replaced_stored =
+              exchanged_stored old later ps left tree stored range.begin range.end not_empty ordered es between_is
+              next next_is final others counted
+              (subst AreInOrder (sym replaced_boundaries) (written_in_order range filled v bs order))

@@ -139,7 +139,7 @@ closed_there key w (b ∷ bs) r a =
     ]
 
 -- a key after one isn't the empty key
-after_empty : (j k : List ℕ) → IsBefore j k → is_before [] k ≡ true
+pub after_empty : (j k : List ℕ) → IsBefore j k → is_before [] k ≡ true
 after_empty j k l =
     elim (true_or_false (is_before [] k)) [
       | inl t ↦ t

@@ -173,10 +173,10 @@ impl<const N: usize> Boundaries<N> {
             ≤ spare_in self.new size + wanted_of (length range.now.begin ∷ length range.now.end ∷ []) size }
         ensures room { self.new.room ≡ self.old.room }
     {
-        let end = self.look_up(range.end());
-        if self.write_in_leaf(range, version, &end) {
+        if self.write_in_leaf(range, version) {
             return;
         }
+        let end = self.look_up(range.end());
         self.clear(range);
         self.begin_with(range.begin(), version);
         if !end.is_there {
@@ -185,11 +185,10 @@ impl<const N: usize> Boundaries<N> {
     }
 
     // Writes the version on the range, if one leaf of the tree has the boundaries of the range, the one before them and
-    // room for the new ones. Returns whether it did; else nothing has changed. `end` is what is found at the range's end.
-    pub fn write_in_leaf(&mut self, range: &RangeRef<'_>, version: i64, end: &Found) -> bool
+    // room for the new ones. Returns whether it did; else nothing has changed.
+    pub fn write_in_leaf(&mut self, range: &RangeRef<'_>, version: i64) -> bool
+        requires boundaries { AreBoundaries self.old.boundaries }
         requires filled { ¬ IsEmpty range.now }
-        requires version { end.now.version ≡ value_at self.old.boundaries range.now.end }
-        requires is_there { IsTrue end.now.is_there ↔ Any (λ b. b.key ≡ range.now.end) self.old.boundaries }
         requires keys { (size : ℕ) → size < 10
             → wanted_of (length range.now.begin ∷ length range.now.end ∷ []) size ≤ spare_in self.old size }
         requires nodes { length self.old.boundaries + 2 ≤ self.old.room }
@@ -204,36 +203,28 @@ impl<const N: usize> Boundaries<N> {
             return false;
         }
         let begin_key = self.keys.place((), range.begin()).unwrap();
-        let end_key = if end.is_there {
-            None
-        } else {
-            Some(self.keys.place((), range.end()).unwrap())
-        };
-        let from = Cut {
+        let end_key = self.keys.place((), range.end()).unwrap();
+        let begin = Cut {
             keys: &self.keys,
             key: range.begin(),
             up_to: false,
         };
-        let to = Cut {
+        let end = Cut {
             keys: &self.keys,
             key: range.end(),
             up_to: false,
         };
+        let past = Cut { up_to: true, ..end };
         let first = item(begin_key, version);
-        let run = match end_key {
-            None => self.tree.replace_run(&from, &to, &[first]),
-            Some(slot) => self
-                .tree
-                .replace_run(&from, &to, &[first, item(slot, end.version)]),
-        };
-        let Some(run) = run else {
+        let Some(done) = self.tree.overwrite(&begin, &end, &past, first, end_key) else {
             self.keys.release(begin_key);
-            if let Some(slot) = end_key {
-                self.keys.release(slot);
-            }
+            self.keys.release(end_key);
             return false;
         };
-        release(&mut self.keys, run.entries());
+        if done.ended {
+            self.keys.release(end_key);
+        }
+        release(&mut self.keys, done.run.entries());
         true
     }
 

@@ -20,6 +20,8 @@ use Rattle.std.proofs.Common.{
   sym,
   subst,
 }
+use Rattle.std.specs.Prelude.{◌↔◌}
+use Rattle.std.proofs.lemmas.Bool.{not-true, not-false}
 use Rattle.std.proofs.lemmas.Int.{to_z-of_z}
 use Rattle.arena.specs.Arena.{size_of, wanted_of}
 use Rattle.keyspace.proofs.Booleans.{not_both_ways}
@@ -61,6 +63,23 @@ cleared_at g c =
       room = e.room ∙ f.room;
     }
 
+-- the look up speaks of the boundaries that there were at first
+record IsFound (g : given.Over) (c : After-clear g) : Type 0 where
+  version : c.look_up-end.result.version ≡ value_at c.args.self.now.boundaries c.end.result.now
+  is_there :
+      IsTrue c.look_up-end.result.is_there
+      ↔ Any (λ (b : Boundary). b.key ≡ c.end.result.now) c.args.self.now.boundaries
+
+found_at : (g : given.Over) (c : After-clear g) → IsFound g c
+found_at g c =
+    let same = c.write_in_leaf.ensures.unchanged (λ t. not_both_ways _ t c.if-write_in_leaf.false) in
+    let e = c.look_up-end.ensures in
+    record {
+      version = e.version ∙ ap (λ bs. value_at bs c.end.result.now) same;
+      is_there = subst (λ bs. IsTrue c.look_up-end.result.is_there
+          ↔ Any (λ (b : Boundary). b.key ≡ c.end.result.now) bs) same e.is_there;
+    }
+
 pub begin_with-requires : goal.begin_with-requires
 begin_with-requires g c =
     let range = c.args.range.now in
@@ -94,13 +113,14 @@ insert-requires g c =
     let bs = c.args.self.now.boundaries in
     let key = c.end-then-not-end.result.now in
     let e = cleared_at g (goal.at.insert-requires g c).After-clear in
+    let found = found_at g (goal.at.insert-requires g c).After-clear in
     let f = c.begin_with.ensures in
     let is : key ≡ range.end = c.end-then-not-end.ensures.bytes in
     let now : c.begin_with.new.self.boundaries ≡ begun range c.requires.filled bs c.args.version =
     begun_by range c.requires.filled bs c.args.version c.begin.result.now _ c.clear.new.self.boundaries _
     c.begin.ensures.bytes (to_z-of_z w64 c.args.version c.ranges.version) e.boundaries f.boundaries in
     let none = none_there range.end c.end.result.now bs c.look_up-end.result.is_there c.end.ensures.bytes
-    c.look_up-end.ensures.is_there.1 c.if-not-end.true in
+    found.is_there.1 (not-true _ c.if-not-end.true) in
     let gap = gap_at_end range c.requires.filled bs c.args.version none in
     let short : length range.end ≤ 16384 = omega (arith, range.end_is_key.short) in
     let used = subst (λ (k : List ℕ). (size : ℕ) → spare_in c.clear.new.self size
@@ -126,28 +146,30 @@ insert-requires g c =
 pub returns-then-not-end-clause-boundaries : goal.returns-then-not-end-clause-boundaries
 returns-then-not-end-clause-boundaries g c =
     let e = cleared_at g (goal.at.returns-then-not-end-clause-boundaries g c).After-clear in
+    let found = found_at g (goal.at.returns-then-not-end-clause-boundaries g c).After-clear in
     let range = c.args.range.now in
     let bs = c.args.self.now.boundaries in
     let key = c.end-then-not-end.result.now in
-    let found = c.look_up-end.result.version in
+    let version = c.look_up-end.result.version in
     let now : c.begin_with.new.self.boundaries ≡ begun range c.requires.filled bs c.args.version =
     begun_by range c.requires.filled bs c.args.version c.begin.result.now _ c.clear.new.self.boundaries _
     c.begin.ensures.bytes (to_z-of_z w64 c.args.version c.ranges.version) e.boundaries
     c.begin_with.ensures.boundaries in
     let none = none_there range.end c.end.result.now bs c.look_up-end.result.is_there c.end.ensures.bytes
-    c.look_up-end.ensures.is_there.1 c.if-not-end.true in
-    let fits : SFits w64 found = search rules in
-    let value = to_z-of_z w64 found fits ∙ c.look_up-end.ensures.version ∙ ap (value_at bs) c.end.ensures.bytes in
+    found.is_there.1 (not-true _ c.if-not-end.true) in
+    let fits : SFits w64 version = search rules in
+    let value = to_z-of_z w64 version fits ∙ found.version ∙ ap (value_at bs) c.end.ensures.bytes in
     ended_by range c.requires.filled bs c.args.version none key _ c.begin_with.new.self.boundaries _
     c.end-then-not-end.ensures.bytes value now c.insert.ensures.boundaries
 
 pub returns-else-not-end-clause-boundaries : goal.returns-else-not-end-clause-boundaries
 returns-else-not-end-clause-boundaries g c =
     let e = cleared_at g (goal.at.returns-else-not-end-clause-boundaries g c).After-clear in
+    let found = found_at g (goal.at.returns-else-not-end-clause-boundaries g c).After-clear in
     let range = c.args.range.now in
     let bs = c.args.self.now.boundaries in
     let some = some_there range.end c.end.result.now bs c.look_up-end.result.is_there c.end.ensures.bytes
-    c.look_up-end.ensures.is_there.0 c.if-not-end.false in
+    found.is_there.0 (not-false _ c.if-not-end.false) in
     let order = c.requires.boundaries.in_order in
     begun_by range c.requires.filled bs c.args.version c.begin.result.now _ c.clear.new.self.boundaries _
     c.begin.ensures.bytes (to_z-of_z w64 c.args.version c.ranges.version) e.boundaries
