@@ -4,26 +4,32 @@ use Rattle.std.proofs.Common.{
   ℕ,
   ◌+◌,
   ◌<◌,
+  ◌≤◌,
   Bool,
   true,
   false,
+  true≢false,
   cond,
   ◌||◌,
   List,
   [],
   ◌∷◌,
   length,
-  drop,
   get_or,
+  map,
   take,
   refl,
   sym,
   ap,
   ◌∙◌,
+  subst,
+  arith,
 }
-use Rattle.std.specs.Prelude.{Some, None, is_some, position}
-use Rattle.std.specs.Option.{option_to_list}
-use Rattle.std.specs.List.{list_any, position_from}
+use Rattle.std.specs.Prelude.{Option, Some, None, is_some, position, nat_lt, All}
+use Rattle.std.specs.Option.{option_to_list, MatchOption}
+use Rattle.std.specs.List.{list_any, position_from, AllWithin, HoldsAt}
+use Rattle.std.proofs.lemmas.List.{length-map, get_or-map}
+use Rattle.std.proofs.lemmas.List.Sums.{position_or_len_is}
 use Rattle.std.proofs.lemmas.Iterator.Adapters.{position_from-zero}
 use Rattle.keyspace.specs.declared.range.Range.{Range}
 use Rattle.keyspace.specs.declared.txn.Txn.{Txn}
@@ -34,23 +40,77 @@ use Rattle.keyspace.specs.Writes.{counted}
 use Rattle.keyspace.specs.Judge.{meets_earlier, places_from, in_conflict_at}
 use Rattle.keyspace.proofs.Judging.{entry_same}
 use Rattle.conflict.specs.InBatch.{first_met, unless_met, by_verdict, in_batch}
-use Rattle.conflict.proofs.RanksPushed.{taken}
+use Rattle.conflict.specs.Ranks.{run_or_none, RunsTellOverlap}
+use Rattle.conflict.specs.Gathered.{HaveEnds}
+use Rattle.conflict.specs.Gaps.{SomeMarked}
+use Rattle.conflict.specs.Written.{AreWrittenGaps, TellRuns}
+use Rattle.conflict.proofs.Written.{any_marked_is_met}
 
-module _ {X : Type 0} (test : X → Bool) (xs : List X) (i : ℕ) (x : X) (inside : i < length xs)
-    (is : x ≡ get_or xs i x) where
-  position_next : (b : Bool) → test x ≡ b
-      → position_from test i (drop i xs) ≡ cond b (Some i) (position_from test (i + 1) (drop (i + 1) xs))
-  position_next b e = ap (position_from test i) (taken xs i x inside is)
-      ∙ ap (λ t. cond t (Some i) (position_from test (i + 1) (drop (i + 1) xs))) e
+module _ {X Y : Type 0} (Yes No : Y → Type 0) (f : X → Y) (test : X → Bool) where
+  -- each of the elements passes if its image has the one, and doesn't if it has the other
+  abbrev pub AreTested : List X → Type 0
+  AreTested xs = All (λ x. (Yes (f x) → test x ≡ true) × (No (f x) → test x ≡ false)) xs
 
-  -- one that passes is the first from its index on
-  pub position_here : test x ≡ true → position_from test i (drop i xs) ≡ Some i
-  position_here e = position_next true e
+  none_before : (xs : List X) (d : X) (n : ℕ) → n ≤ length xs → AreTested xs → AllWithin No (map f xs) 0 n
+      → (k : ℕ) → k < n → test (get_or xs k d) ≡ false
+  none_before xs d n within tested fails k before =
+      let inside : k < length xs = omega arith in
+      (tested k d inside).1 (subst No (get_or-map f xs k d (f d) inside) (fails k (f d) (omega arith) before))
 
-  -- behind one that doesn't, the search goes on
-  pub position_later : test x ≡ false
-      → position_from test i (drop i xs) ≡ position_from test (i + 1) (drop (i + 1) xs)
-  position_later e = position_next false e
+  first_in : (d : X) (xs : List X) → 0 < length xs → AreTested xs → (r : Option ℕ)
+      → MatchOption r (AllWithin No (map f xs) 0 (length (map f xs)))
+      (λ i. (i < length (map f xs)) × HoldsAt Yes (map f xs) i × AllWithin No (map f xs) 0 i)
+      → r ≡ position test xs
+  first_in d xs some tested None fails =
+      let none = subst (AllWithin No (map f xs) 0) (length-map xs f) fails in
+      let is = position_or_len_is test xs (length xs) d (omega arith)
+      (none_before xs d (length xs) (omega arith) tested none) (λ inside. absurd (omega arith)) in
+      let past : nat_lt (length xs) (length xs) ≡ false = grind arith in
+      sym (ap (λ n. cond (nat_lt n (length xs)) (Some n) None) is
+      ∙ ap (λ b. cond b (Some (length xs)) None) past)
+  first_in d xs some tested (Some i) first =
+      let inside : i < length xs = omega (arith, first.0, length-map xs f) in
+      let here : test (get_or xs i d) ≡ true =
+      (tested i d inside).0 (subst Yes (get_or-map f xs i d (f d) inside) (first.1 (f d))) in
+      let is = position_or_len_is test xs i d (omega arith)
+      (none_before xs d i (omega arith) tested first.2) (λ _. here) in
+      let within : nat_lt i (length xs) ≡ true = grind arith in
+      sym (ap (λ n. cond (nat_lt n (length xs)) (Some n) None) is ∙ ap (λ b. cond b (Some i) None) within)
+
+  -- the first place of an image that has the one, after those that have the other, is that of the first that passes
+  pub first_passes : (xs : List X) → AreTested xs → (r : Option ℕ)
+      → MatchOption r (AllWithin No (map f xs) 0 (length (map f xs)))
+      (λ i. (i < length (map f xs)) × HoldsAt Yes (map f xs) i × AllWithin No (map f xs) 0 i)
+      → r ≡ position test xs
+  first_passes [] tested None first = refl
+  first_passes [] tested (Some i) first = absurd (omega (arith, first.0))
+  first_passes (x ∷ xs) tested r first = first_in x (x ∷ xs) (omega arith) tested r first
+
+module _ (keys : List (List ℕ)) (tells : RunsTellOverlap) (marks : List Bool) (written : List Range)
+    (told : AreWrittenGaps keys marks written) (have : All (HaveEnds keys) written) where
+  abbrev SomeIn : ℕ × ℕ → Type 0
+  SomeIn r = SomeMarked marks r.0 r.1
+
+  marked_tests : (ranges : List Range) → All (HaveEnds keys) ranges
+      → AreTested SomeIn (λ r. ¬ SomeIn r) (run_or_none keys) (meets_earlier written) ranges
+  marked_tests ranges ends i d inside =
+      let range = get_or ranges i d in (
+        λ some. sym (any_marked_is_met keys tells marks written range true (ends i d inside)
+            (λ _. some, λ _. refl) told have),
+        λ none. sym (any_marked_is_met keys tells marks written range false (ends i d inside)
+            (λ t. absurd (true≢false (sym t)), λ some. absurd (none some)) told have),
+      )
+
+  -- the first run with a marked gap is that of the first range that overlaps a written one
+  pub first_marked : (runs : List (ℕ × ℕ)) (ranges : List Range) → TellRuns keys runs ranges → (r : Option ℕ)
+      → MatchOption r (AllWithin (λ r. ¬ SomeIn r) runs 0 (length runs))
+      (λ i. (i < length runs) × HoldsAt SomeIn runs i × AllWithin (λ r. ¬ SomeIn r) runs 0 i)
+      → r ≡ position (meets_earlier written) ranges
+  first_marked runs ranges tell r first =
+      first_passes SomeIn (λ r. ¬ SomeIn r) (run_or_none keys) (meets_earlier written) ranges
+      (marked_tests ranges tell.have_ends) r
+      (subst (λ (rs : List (ℕ × ℕ)). MatchOption r (AllWithin (λ r. ¬ SomeIn r) rs 0 (length rs))
+      (λ i. (i < length rs) × HoldsAt SomeIn rs i × AllWithin (λ r. ¬ SomeIn r) rs 0 i)) tell.are_runs first)
 
 -- the first place, by the position
 first_place : (i : ℕ) (test : Range → Bool) (ranges : List Range)
@@ -82,6 +142,15 @@ none_counted Conflict ranges h = refl
 module _ (written : List Range) (t : Txn) where
   open_entry : (e : Entry) → e.verdict ≡ Committed → in_batch written t e ≡ unless_met written t e
   open_entry e verdict = ap (λ v. by_verdict v written t e) verdict
+
+  -- what isn't committed stays
+  pub closed_entry : (e : Entry) → (e.verdict ≡ Committed → ⊥) → e ≡ in_batch written t e
+  closed_entry e closed = by e.verdict closed
+    where
+      by : (v : Verdict) → (v ≡ Committed → ⊥) → e ≡ by_verdict v written t e
+      by Committed h = absurd (h refl)
+      by TooOld h = refl
+      by Conflict h = refl
 
   -- what meets nothing stays
   pub unmet_entry : (e : Entry) → e.verdict ≡ Committed → None ≡ position (meets_earlier written) t.reads

@@ -5,11 +5,14 @@ pub mod GapsMarks
 pub mod InBatch
 pub mod Hits
 pub mod Ranks
-pub mod RanksFound
 pub mod RanksDistinct
+pub mod RanksPlaced
+pub mod RanksSet
 pub mod RanksGathered
 pub mod RanksPushed
 pub mod RanksOpen
+pub mod RanksOpened
+pub mod Told
 pub mod Written
 pub mod FirstMet
 pub mod JudgedTo
@@ -24,3 +27,4 @@ pub mod JudgedBatch
 pub mod UnionWritten
 pub mod Swept
 pub mod Edges
+pub mod SortingEnds

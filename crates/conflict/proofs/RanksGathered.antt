@@ -1,21 +1,24 @@
--- The ends that are gathered have the keys of the ranges that are open.
+-- The keys of ends that are placed are the ends of the ranges.
 use Rattle.std.proofs.Common.{
   ◌≡◌,
   ◌↔◌,
   ℕ,
   zero,
   suc,
-  ◌+◌,
   ◌<◌,
-  Bool,
   true,
   false,
   List,
   [],
   ◌∷◌,
-  ◌++◌,
+  length,
   get_or,
+  map,
+  take,
   drop,
+  replicate,
+  ◌++◌,
+  ◌-◌,
   refl,
   sym,
   ◌∙◌,
@@ -25,124 +28,45 @@ use Rattle.std.proofs.Common.{
   inr,
   ◌⊎◌,
   arith,
-  add-one,
-  append_assoc,
 }
 use Rattle.std.specs.Prelude.{All, Contains, Some, slice_get}
-use Rattle.std.proofs.lemmas.List.{map-append}
-use Rattle.std.proofs.lemmas.List.Elements.{
-  All-nil,
-  All-cons,
-  All-weaker,
-  All-contains_itself,
-  Contains-append_cases,
-  Contains-append_right,
-}
+use Rattle.std.specs.List.Sorted.{IsPermutation}
+use Rattle.std.proofs.Math.Seq.{take-append_seam}
+use Rattle.std.proofs.lemmas.List.{get_or-map, length-map}
+use Rattle.std.proofs.lemmas.List.Sorted.{length_permutation}
+use Rattle.std.proofs.lemmas.List.Elements.{All-contains, Contains-get_or}
+use Rattle.std.proofs.lemmas.Option.{slice_get-get_or, slice_get_within, get_or_from_slice_get, same_Some}
+use Rattle.std.proofs.lemmas.Simd.{map-map}
 use Rattle.keyspace.specs.Range.{IsEmpty}
 use Rattle.keyspace.specs.declared.range.Range.{Range}
 use Rattle.keyspace.specs.declared.txn.Txn.{Txn}
-use Rattle.keyspace.specs.declared.reply.Verdict.{Verdict}
-use Rattle.keyspace.specs.declared.reply.Verdict.TheVariants.{Conflict, TooOld, Committed}
-use Rattle.keyspace.specs.declared.reply.Entry.{Entry}
-use Rattle.keyspace.specs.Writes.{counted}
 use Rattle.keyspace.proofs.KeyOrder.{not_before_itself}
 use Rattle.stepmap.specs.Counting.{is_filled}
 use Rattle.stepmap.specs.Uniting.{IsEndIn}
-use Rattle.conflict.specs.declared.ends.Kind.{Kind}
-use Rattle.conflict.specs.declared.ends.Kind.TheVariants.{Read, Write}
+use Rattle.conflict.specs.declared.ends.Side.{Side}
+use Rattle.conflict.specs.declared.ends.Side.TheVariants as side
 use Rattle.conflict.specs.declared.ends.End.{End}
-use Rattle.conflict.specs.Gathered.{ranges_of_kind, keys_of, open_ranges, HaveEnds}
-use Rattle.conflict.specs.Gathering.{ends_at, ends_from, ends_of_txn, open_ends_by, open_ends_from}
+use Rattle.conflict.specs.declared.ends.sorting.Digested.{Digested}
+use Rattle.keyspace.specs.declared.reply.Entry.{Entry}
+use Rattle.conflict.specs.Gathered.{key_at_side, key_of_end, open_ranges, HaveEnds}
+use Rattle.conflict.specs.Gathering.{open_numbered}
+use Rattle.conflict.specs.Sorting.{keys_in_order, places_of, IsPlaced, ArePlaced}
 use Rattle.conflict.proofs.Ranks.{before_unless_empty}
+use Rattle.conflict.proofs.RanksPlaced.{open_are_placed, placed_permuted}
 
--- the two keys of a range, or none if it is empty
-abbrev pub keys_at : Bool → Range → List (List ℕ)
-keys_at true range = range.begin ∷ range.end ∷ []
-keys_at false range = []
+-- a value of the function, and where it comes from
+contains_value : {X Y : Type 0} (f : X → Y) (xs : List X) (x : X) → Contains xs x → Contains (map f xs) (f x)
+contains_value f xs x c = (c.0, rw (length-map xs f) c.1, get_or-map f xs c.0 x (f x) c.1 ∙ ap f c.2)
 
--- those of ranges, in order
-abbrev pub keys_in : List Range → List (List ℕ)
-keys_in [] = []
-keys_in (range ∷ ranges) = keys_at (is_filled range) range ++ keys_in ranges
-
-keys_in_append : (rs ss : List Range) → keys_in (rs ++ ss) ≡ keys_in rs ++ keys_in ss
-keys_in_append [] ss = refl
-keys_in_append (r ∷ rs) ss =
-    ap (λ ks. keys_at (is_filled r) r ++ ks) (keys_in_append rs ss)
-    ∙ sym (append_assoc (keys_at (is_filled r) r) (keys_in rs) (keys_in ss))
-
--- the first element of what is left stands at the index
-left_from : {X : Type 0} (xs : List X) (i : ℕ) (y : X) (ys : List X) → drop i xs ≡ y ∷ ys
-    → (slice_get xs i ≡ Some y) × (drop (suc i) xs ≡ ys)
-left_from [] zero y ys e = cc
-left_from [] (suc i) y ys e = cc
-left_from (x ∷ xs) zero y ys e = let h : x ≡ y = cc in let t : xs ≡ ys = cc in (ap Some h, t)
-left_from (x ∷ xs) (suc i) y ys e = left_from xs i y ys e
-
-left_at : {X : Type 0} (xs : List X) (i : ℕ) (y : X) (ys : List X) → drop i xs ≡ y ∷ ys
-    → (slice_get xs i ≡ Some y) × (drop (i + 1) xs ≡ ys)
-left_at xs i y ys e = rw (add-one i) (left_from xs i y ys e)
-
-keys_of_at : (txns : List Txn) (kind : Kind) (j : ℕ) (t : Txn) (i : ℕ) (r : Range) → slice_get txns j ≡ Some t
-    → slice_get (ranges_of_kind kind t) i ≡ Some r → (filled : Bool) → is_filled r ≡ filled
-    → keys_of txns (ends_at kind j i r) ≡ keys_at filled r
-keys_of_at txns kind j t i r at_j at_i true f = rw (f, at_j, at_i) refl
-keys_of_at txns kind j t i r at_j at_i false f = rw f refl
-
--- the keys of the ends of a transaction's ranges of a kind
-keys_of_ranges : (txns : List Txn) (kind : Kind) (j : ℕ) (t : Txn) (i : ℕ) (rs : List Range)
-    → slice_get txns j ≡ Some t → drop i (ranges_of_kind kind t) ≡ rs
-    → keys_of txns (ends_from kind j i rs) ≡ keys_in rs
-keys_of_ranges txns kind j t i [] at_j left = refl
-keys_of_ranges txns kind j t i (r ∷ rs) at_j left =
-    let at_i = left_at (ranges_of_kind kind t) i r rs left in
-    let first = keys_of_at txns kind j t i r at_j at_i.0 (is_filled r) refl in
-    let rest = keys_of_ranges txns kind j t (i + 1) rs at_j at_i.1 in
-    map-append _ (ends_at kind j i r) (ends_from kind j (i + 1) rs)
-    ∙ ap (λ ks. ks ++ keys_of txns (ends_from kind j (i + 1) rs)) first
-    ∙ ap (λ ks. keys_at (is_filled r) r ++ ks) rest
-
-keys_of_txn : (txns : List Txn) (j : ℕ) (t : Txn) → slice_get txns j ≡ Some t
-    → keys_of txns (ends_of_txn j t) ≡ keys_in (t.reads ++ t.writes)
-keys_of_txn txns j t at_j =
-    map-append _ (ends_from Read j 0 t.reads) (ends_from Write j 0 t.writes)
-    ∙ ap (λ ks. ks ++ keys_of txns (ends_from Write j 0 t.writes))
-    (keys_of_ranges txns Read j t 0 t.reads at_j refl)
-    ∙ ap (λ ks. keys_in t.reads ++ ks) (keys_of_ranges txns Write j t 0 t.writes at_j refl)
-    ∙ sym (keys_in_append t.reads t.writes)
-
-keys_by : (txns : List Txn) (j : ℕ) (t : Txn) → slice_get txns j ≡ Some t → (verdict : Verdict)
-    → keys_of txns (open_ends_by verdict j t) ≡ keys_in (counted verdict (t.reads ++ t.writes))
-keys_by txns j t at_j Committed = keys_of_txn txns j t at_j
-keys_by txns j t at_j TooOld = refl
-keys_by txns j t at_j Conflict = refl
-
--- the keys of the ends of all open transactions
-keys_of_open : (txns : List Txn) (j : ℕ) (ts : List Txn) (es : List Entry) → drop j txns ≡ ts
-    → keys_of txns (open_ends_from j ts es) ≡ keys_in (open_ranges ts es)
-keys_of_open txns j [] es left = refl
-keys_of_open txns j (t ∷ ts) [] left = refl
-keys_of_open txns j (t ∷ ts) (e ∷ es) left =
-    let at_j = left_at txns j t ts left in
-    let first = keys_by txns j t at_j.0 e.verdict in
-    let rest = keys_of_open txns (j + 1) ts es at_j.1 in
-    map-append _ (open_ends_by e.verdict j t) (open_ends_from (j + 1) ts es)
-    ∙ ap (λ ks. ks ++ keys_of txns (open_ends_from (j + 1) ts es)) first
-    ∙ ap (λ ks. keys_in (counted e.verdict (t.reads ++ t.writes)) ++ ks) rest
-    ∙ sym (keys_in_append (counted e.verdict (t.reads ++ t.writes)) (open_ranges ts es))
-
--- the keys have the ends of each range
-have_ends_by : (keys : List (List ℕ)) (ranges : List Range)
-    → ((key : List ℕ) → Contains (keys_in ranges) key → Contains keys key) → All (HaveEnds keys) ranges
-have_ends_by keys [] f = All-nil (HaveEnds keys)
-have_ends_by keys (r ∷ rs) f =
-    let rest : (key : List ℕ) → Contains (keys_in rs) key → Contains keys key =
-    λ key c. f key (Contains-append_right (keys_at (is_filled r) r) (keys_in rs) key c) in
-    All-cons (HaveEnds keys) r rs (λ filled.
-    let t : is_filled r ≡ true = before_unless_empty r filled in
-    let g : (key : List ℕ) → Contains (r.begin ∷ r.end ∷ keys_in rs) key → Contains keys key =
-    subst (λ b. (key : List ℕ) → Contains (keys_at b r ++ keys_in rs) key → Contains keys key) t f in
-    (g r.begin (0, omega arith, refl), g r.end (1, omega arith, refl))) (have_ends_by keys rs rest)
+value_of : {X Y : Type 0} (f : X → Y) (xs : List X) (y : Y) → Contains (map f xs) y
+    → (x : X) × Contains xs x × (f x ≡ y)
+value_of f [] y c = absurd (omega (arith, c.1))
+value_of f (x ∷ xs) y c =
+    let lt : c.0 < length (x ∷ xs) = rw (length-map (x ∷ xs) f) at c.1 in (
+      get_or (x ∷ xs) c.0 x,
+      Contains-get_or (x ∷ xs) c.0 x lt,
+      sym (get_or-map f (x ∷ xs) c.0 x y lt) ∙ c.2,
+    )
 
 filled_not_empty : (r : Range) → is_filled r ≡ true → IsEmpty r → ⊥
 filled_not_empty r t e =
@@ -150,48 +74,104 @@ filled_not_empty r t e =
     let b : true ≡ false = sym t ∙ f in
     cc
 
-one_of_two : (r : Range) (key : List ℕ) → is_filled r ≡ true → Contains (r.begin ∷ r.end ∷ []) key
-    → (IsEmpty r → ⊥) × ((r.begin ≡ key) ⊎ (r.end ≡ key))
-one_of_two r key t c = (filled_not_empty r t, one_of c.0 c.1 c.2)
-  where
-    one_of : (k : ℕ) → k < 2 → get_or (r.begin ∷ r.end ∷ []) k key ≡ key → (r.begin ≡ key) ⊎ (r.end ≡ key)
-    one_of zero lt e = inl e
-    one_of (suc zero) lt e = inr e
-    one_of (suc (suc k)) lt e = absurd (omega arith)
+key_at_some_side : (s : Side) (r : Range) (key : List ℕ) → key_at_side s (Some r) ≡ key
+    → (r.begin ≡ key) ⊎ (r.end ≡ key)
+key_at_some_side side.Begin r key e = inl e
+key_at_some_side side.End r key e = inr e
 
-first_end : (r : Range) (rs : List Range) (key : List ℕ) (filled : Bool) → is_filled r ≡ filled
-    → Contains (keys_at filled r) key → IsEndIn (r ∷ rs) key
-first_end r rs key true t c = (0, r, omega arith, refl, one_of_two r key t c)
-first_end r rs key false t c = absurd (omega (arith, c.1))
+-- the key of a place
+abbrev key_of_place : List Txn → End × ℕ → List ℕ
+key_of_place txns place = key_of_end txns place.0
 
--- each key is an end of some range that isn't empty
-end_in : (ranges : List Range) (key : List ℕ) → Contains (keys_in ranges) key → IsEndIn ranges key
-end_in [] key c = absurd (omega (arith, c.1))
-end_in (r ∷ rs) key c =
-    elim (Contains-append_cases (keys_at (is_filled r) r) (keys_in rs) key c) [
-      | inl first ↦ first_end r rs key (is_filled r) refl first
-      | inr rest ↦ let a = end_in rs key rest in (suc a.0, a.1, omega (arith, a.2), a.3, a.4)
-    ]
+keys_of_places : (txns : List Txn) (sorted : List Digested)
+    → map (key_of_place txns) (places_of sorted) ≡ keys_in_order txns sorted
+keys_of_places txns sorted = map-map (key_of_place txns) _ sorted
 
--- ends with the keys of all that were pushed, which are those of the open transactions
-pub gathered : (txns slice : List Txn) (entries : List Entry) (before pushed new : List End) → slice ≡ txns
-    → before ≡ [] → pushed ≡ before ++ open_ends_from 0 slice entries
-    → ((key : List ℕ) → Contains (keys_of slice pushed) key ↔ Contains (keys_of slice new) key)
-    → All (HaveEnds (keys_of txns new)) (open_ranges txns entries)
-    × All (IsEndIn (open_ranges txns entries)) (keys_of txns new)
-gathered txns slice entries before pushed new of_batch empty push same =
-    let all : pushed ≡ open_ends_from 0 txns entries =
-    push ∙ ap (λ xs. xs ++ open_ends_from 0 slice entries) empty
-    ∙ ap (λ ts. open_ends_from 0 ts entries) of_batch in
-    let e : keys_of txns pushed ≡ keys_in (open_ranges txns entries) =
-    ap (keys_of txns) all ∙ keys_of_open txns 0 txns entries refl in
+module _ (txns : List Txn) (ranges : List Range) (places : List (End × ℕ)) (placed : ArePlaced txns ranges places) where
+  key_of_side : (s : Side) (k : ℕ) (r : Range) → slice_get ranges k ≡ Some r → is_filled r ≡ true
+      → Contains (map (key_of_place txns) places) (key_at_side s (Some r))
+  key_of_side s k r at filled =
+      let a = placed.both k r at filled s in
+      let c : Contains places a.1 = (a.0, a.2, a.3) in
+      let p = All-contains (IsPlaced txns ranges) places a.1 placed.each c in
+      let there : slice_get ranges k ≡ Some p.0 = ap (slice_get ranges) (sym a.4.0) ∙ p.1 in
+      let same : p.0 ≡ r = same_Some p.0 r (sym there ∙ at) in
+      let key : key_of_place txns a.1 ≡ key_at_side s (Some r) =
+      p.3 ∙ ap (λ (x : Side). key_at_side x (Some p.0)) a.4.1 ∙ ap (λ (x : Range). key_at_side s (Some x)) same in
+      subst (Contains (map (key_of_place txns) places)) key (contains_value (key_of_place txns) places a.1 c)
+
+  end_of_range : (key : List ℕ) → Contains (map (key_of_place txns) places) key → IsEndIn ranges key
+  end_of_range key c =
+      let x = value_of (key_of_place txns) places key c in
+      let p = All-contains (IsPlaced txns ranges) places x.0 placed.each x.1 in (
+        x.0.1,
+        p.0,
+        slice_get_within ranges x.0.1 p.0 p.1,
+        get_or_from_slice_get ranges x.0.1 p.0 p.0 p.1,
+        (filled_not_empty p.0 p.2, key_at_some_side x.0.0.side p.0 key (sym p.3 ∙ x.2)),
+      )
+
+-- a list that was written over the whole of another
+pub written_whole : {X : Type 0} (n : ℕ) (new old : List X) → length new ≡ n
+    → take n (new ++ drop (length new) old) ≡ new
+written_whole n new old is =
+    subst (λ k. take k (new ++ drop (length new) old) ≡ new) is (take-append_seam new (drop (length new) old))
+
+-- the ends of the open transactions are placed after they are sorted
+pub sorted_are_placed : (txns : List Txn) (entries : List Entry) (n : ℕ) (before pushed old new sorted : List Digested)
+    → before ≡ [] → places_of pushed ≡ places_of before ++ open_numbered 0 0 txns entries → old ≡ pushed
+    → length old ≡ n → IsPermutation (places_of old) (places_of new)
+    → sorted ≡ take n (new ++ drop (length new) pushed)
+    → ArePlaced txns (open_ranges txns entries) (places_of sorted)
+sorted_are_placed txns entries n before pushed old new sorted empty push is len moved written =
+    let places : places_of old ≡ open_numbered 0 0 txns entries =
+    ap places_of is ∙ push ∙ ap (λ ds. places_of ds ++ open_numbered 0 0 txns entries) empty in
+    let same_length : length new ≡ n =
+    sym (length-map new _) ∙ length_permutation (places_of old) (places_of new) moved ∙ length-map old _ ∙ len in
+    let all : sorted ≡ new = written ∙ written_whole n new pushed same_length in
     let ranges = open_ranges txns entries in
-    let alike : (key : List ℕ) → Contains (keys_in ranges) key ↔ Contains (keys_of txns new) key =
-    subst (λ ks. (key : List ℕ) → Contains ks key ↔ Contains (keys_of txns new) key) e
-    (subst (λ ts. (key : List ℕ) → Contains (keys_of ts pushed) key ↔ Contains (keys_of ts new) key) of_batch
-    same) in (
-      have_ends_by (keys_of txns new) (open_ranges txns entries) (λ key c. (alike key).0 c),
-      All-weaker (Contains (keys_of txns new)) (IsEndIn (open_ranges txns entries))
-          (λ key c. end_in (open_ranges txns entries) key ((alike key).1 c)) (keys_of txns new)
-          (All-contains_itself (keys_of txns new)),
-    )
+    subst (λ ds. ArePlaced txns ranges (places_of ds)) (sym all)
+    (placed_permuted txns ranges (places_of old) (places_of new) moved
+    (subst (ArePlaced txns ranges) (sym places) (open_are_placed txns entries)))
+
+-- runs that are filled with empty ones
+pub filled_runs : (count n m : ℕ) (before filled now : List (ℕ × ℕ)) → before ≡ [] → m ≡ 0
+    → filled ≡ take count before ++ replicate (count - m) (0, 0) → now ≡ filled → count ≡ n
+    → now ≡ replicate n (0, 0)
+filled_runs zero n m before filled now empty none fill is same =
+    is ∙ fill ∙ ap (λ rs. take zero rs ++ replicate (zero - m) (0, 0)) empty
+    ∙ ap (λ k. replicate k (0, 0)) (omega (arith, none, same))
+filled_runs (suc k) n m before filled now empty none fill is same =
+    is ∙ fill ∙ ap (λ rs. take (suc k) rs ++ replicate (suc k - m) (0, 0)) empty
+    ∙ ap (λ k. replicate k (0, 0)) (omega (arith, none, same))
+
+-- each place's index is that of a range
+pub placed_within : (txns : List Txn) (ranges : List Range) (sorted : List Digested) (n : ℕ) → n ≡ length ranges
+    → ArePlaced txns ranges (places_of sorted) → All (λ d. d.index < n) sorted
+placed_within txns ranges sorted n is placed = λ k d below.
+    let c = contains_value (λ (x : Digested). (x.end, x.index)) sorted (get_or sorted k d)
+    (Contains-get_or sorted k d below) in
+    let p = All-contains (IsPlaced txns ranges) (places_of sorted) _ placed.each c in
+    let lt = slice_get_within ranges _ p.0 p.1 in
+    omega (arith, lt, is)
+
+-- keys that are those of all places
+module _ (txns : List Txn) (ranges : List Range) (sorted : List Digested) (keys : List (List ℕ))
+    (placed : ArePlaced txns ranges (places_of sorted))
+    (same : (key : List ℕ) → Contains (keys_in_order txns sorted) key ↔ Contains keys key) where
+  pub gathered_have_ends : All (HaveEnds keys) ranges
+  gathered_have_ends = λ k d below filled.
+      let r = get_or ranges k d in
+      let at = slice_get-get_or ranges k d below in
+      let t : is_filled r ≡ true = before_unless_empty r filled in
+      let kept : (s : Side) → Contains keys (key_at_side s (Some r)) =
+      λ s. (same (key_at_side s (Some r))).0 (subst (λ ks. Contains ks (key_at_side s (Some r)))
+      (keys_of_places txns sorted) (key_of_side txns ranges (places_of sorted) placed s k r at t)) in
+      (kept side.Begin, kept side.End)
+
+  pub gathered_only : All (IsEndIn ranges) keys
+  gathered_only = λ k d below.
+      let key = get_or keys k d in
+      end_of_range txns ranges (places_of sorted) placed key
+      (subst (λ ks. Contains ks key) (sym (keys_of_places txns sorted))
+      ((same key).1 (Contains-get_or keys k d below)))

@@ -31,10 +31,11 @@ use Rattle.std.proofs.lemmas.List.Quantifiers.{Any-push}
 use Rattle.keyspace.specs.declared.range.Range.{Range}
 use Rattle.keyspace.specs.Judge.{meets_earlier}
 use Rattle.stepmap.proofs.SomeElement.{Any-longer, Any-push_cases}
-use Rattle.conflict.specs.Ranks.{run, HasGap, HaveBegin, RunsTellOverlap}
+use Rattle.conflict.specs.Ranks.{run, run_or_none, HasGap, HaveBegin, RunsTellOverlap}
 use Rattle.conflict.specs.Gathered.{HaveEnds}
 use Rattle.conflict.specs.Gaps.{IsInRun, IsMarked, SomeMarked}
-use Rattle.conflict.specs.Written.{AreWrittenGaps}
+use Rattle.conflict.specs.Written.{AreWrittenGaps, TellRuns}
+use Rattle.conflict.proofs.Told.{same_gaps, told_at}
 
 module _ (keys : List (List ℕ)) where
   -- no more is written by no ranges
@@ -59,32 +60,40 @@ module _ (keys : List (List ℕ)) where
         ]),
       )
 
-  -- the run of the range at the next index is marked
-  pub next_written : (old new : List Bool) (written ranges : List Range) (i : ℕ) (range : Range) (r : ℕ × ℕ)
-      → i < length ranges → range ≡ get_or ranges i range → r ≡ run keys range
+  -- the run at the next index is marked
+  pub next_written : (old new : List Bool) (written ranges : List Range) (runs : List (ℕ × ℕ)) (i : ℕ) (r d : ℕ × ℕ)
+      → i < length runs → r ≡ get_or runs i d → TellRuns keys runs ranges
       → ((gap : ℕ) → IsMarked new gap ↔ (IsMarked old gap ⊎ IsInRun r.0 r.1 gap))
       → AreWrittenGaps keys old (written ++ take i ranges)
       → AreWrittenGaps keys new (written ++ take (i + 1) ranges)
-  next_written old new written ranges i range r inside is run_is marked told =
-      let more = subst (λ (s : ℕ × ℕ). (gap : ℕ) → IsMarked new gap ↔ (IsMarked old gap ⊎ HasGap s gap))
-      run_is marked in
+  next_written old new written ranges runs i r d inside is tell marked told =
+      let at = told_at keys runs ranges i r d inside is tell in
+      let range = at.0 in
+      let same : (gap : ℕ) → HasGap r gap ↔ HasGap (run keys range) gap =
+      subst (λ (s : ℕ × ℕ). (gap : ℕ) → HasGap s gap ↔ HasGap (run keys range) gap) (sym at.3)
+      (same_gaps keys range) in
+      let more : (gap : ℕ) → IsMarked new gap ↔ (IsMarked old gap ⊎ HasGap (run keys range) gap) =
+      λ gap. (
+        λ m. elim ((marked gap).0 m) [ inl before ↦ inl before | inr here ↦ inr ((same gap).0 here) ],
+        λ o. (marked gap).1 (elim o [ inl before ↦ inl before | inr here ↦ inr ((same gap).1 here) ]),
+      ) in
       let longer : (written ++ take i ranges) ++ range ∷ [] ≡ written ++ take (i + 1) ranges =
       append_assoc written (take i ranges) (range ∷ [])
       ∙ ap (λ rs. written ++ rs)
-      (ap (λ w. take i ranges ++ w ∷ []) is ∙ sym (take_more ranges i range inside)) in
+      (ap (λ w. take i ranges ++ w ∷ []) at.2 ∙ sym (take_more ranges i range at.1)) in
       subst (AreWrittenGaps keys new) longer
       (one_more_written old new (written ++ take i ranges) range more told)
 
-  -- a marked gap in the run of a range tells that it overlaps a written one
-  pub any_marked_is_met : RunsTellOverlap → (marks : List Bool) (written : List Range) (range : Range)
-      (r : ℕ × ℕ) (b : Bool) → r ≡ run keys range → HaveEnds keys range
-      → IsTrue b ↔ SomeMarked marks r.0 r.1
+  -- whether a gap in a range's run is marked tells whether it overlaps a written range
+  pub any_marked_is_met : RunsTellOverlap → (marks : List Bool) (written : List Range) (range : Range) (b : Bool)
+      → HaveEnds keys range
+      → IsTrue b ↔ SomeMarked marks (run_or_none keys range).0 (run_or_none keys range).1
       → AreWrittenGaps keys marks written → All (HaveEnds keys) written → b ≡ meets_earlier written range
-  any_marked_is_met tells marks written range r b is own says told have =
-      let some = subst (λ (s : ℕ × ℕ). IsTrue b ↔ SomeMarked marks s.0 s.1) is says in
+  any_marked_is_met tells marks written range b own says told have =
       let begins =
       All-weaker (HaveEnds keys) (HaveBegin keys) (λ w ends filled. (ends filled).0) written have in
+      let same = same_gaps keys range in
       same_from_decides b (meets_earlier written range) (
-        λ t. let m = some.0 t in (m.0, m.1, (told m.0).0 m.2),
-        λ g. some.1 (g.0, g.1, (told g.0).1 g.2),
+        λ t. let m = says.0 t in (m.0, (same m.0).0 m.1, (told m.0).0 m.2),
+        λ g. says.1 (g.0, (same g.0).1 g.1, (told g.0).1 g.2),
       ) (tells keys range written (λ filled. (own filled).0) begins)

@@ -7,3 +7,4 @@ pub mod Written
 pub mod Union
 pub mod Judging
 pub mod ConflictSet
+pub mod Sorting

@@ -1,17 +1,24 @@
-//! The ends of the ranges of a batch, sorted and made distinct, and the ranks of keys among them.
-ghost use Rattle.std.specs.Prelude.{◌≡◌, ◌↔◌, ◌<◌, ◌≤◌, ◌++◌, List, ℕ, [], length, slice_get, All, Contains, OnOk};
+//! The ends of the ranges of a batch, sorted and made distinct, and the runs of gaps between them that the ranges cover.
+ghost use Rattle.std.specs.Prelude.{◌≡◌, ◌<◌, ◌≤◌, ◌*◌, ◌++◌, [], length, slice_get, All, IfOk, OnOk};
 ghost use Rattle.keyspace.specs.Key.{IsKey};
 ghost use Rattle.keyspace.specs.declared.batch.TheConstants.{MAX_TXNS};
 ghost use Rattle.keyspace.specs.declared.txn.TheConstants.{MAX_RANGES};
 ghost use Rattle.stepmap.specs.Uniting.{IsEndIn};
-ghost use Rattle.conflict.specs.Ranks.{AreRising, rank, run};
+ghost use Rattle.conflict.specs.Ranks.{AreRising, runs_of};
 ghost use Rattle.conflict.specs.Gathered.{key_of_end, keys_of, open_ranges, HaveEnds};
-ghost use Rattle.conflict.specs.Gathering.{ends_from, open_ends_from};
+ghost use Rattle.conflict.specs.Gathering.{ends_from, open_ends_from, numbered, open_numbered};
+ghost use Rattle.conflict.specs.Sorting.{places_of};
 
+mod distinct;
+mod sorting;
+#[cfg(test)]
+mod tests;
+
+use distinct::keep_distinct;
 use keyspace::{Batch, Entry, Range, Txn, Verdict};
+use sorting::{Digested, sort};
 use std::alloc::{AllocError, Global};
 use std::marker::Model;
-
 /// Whether a range is one of the read or of the write ranges of its transaction.
 #[derive(Clone, Copy, Debug, PartialEq, Eq)]
 pub enum Kind {
@@ -37,11 +44,13 @@ pub struct End {
     pub side: Side,
 }
 
-/// The ends of the ranges of a batch that aren't empty, in key order, each key once. The vector is kept for the
+/// The ends of the ranges of a batch that aren't empty, in key order, each key once. The vectors are kept for the
 /// next batch. Contracts see the ends as a list. Their keys are found in the batch that they were gathered of.
 #[derive(Debug, Drop)]
 pub struct Ends {
     ends: Vec<End>,
+    // All ends, while they are sorted.
+    sorted: Vec<Digested>,
 }
 
 impl Model for Ends {
@@ -60,12 +69,20 @@ impl Ends {
     {
         Ends {
             ends: Vec::new(alloc),
+            sorted: Vec::new(alloc),
         }
     }
 
-    /// Replaces the ends by those of the transactions whose entries say committed, but for those of empty ranges.
-    /// After an error the ends are unspecified, and the next call starts anew.
-    pub fn gather(&mut self, batch: &Batch, entries: &[Entry]) -> Result<(), AllocError>
+    /// Replaces the ends by those of the transactions whose entries say committed, but for those of empty ranges. Replaces
+    /// the runs by those of the ranges of these transactions, in the order of the batch. A run is the ranks of its range's
+    /// begin and end. That of an empty range is empty. After an error ends and runs are unspecified, and the next call
+    /// starts anew.
+    pub fn gather(
+        &mut self,
+        batch: &Batch,
+        entries: &[Entry],
+        runs: &mut Vec<(usize, usize)>,
+    ) -> Result<(), AllocError>
         requires entries { length entries.now ≡ length batch.now.txns }
         ensures rising { OnOk result (AreRising (keys_of batch.now.txns self.new)) }
         ensures have_ends { OnOk result (All (HaveEnds (keys_of batch.now.txns self.new))
@@ -73,12 +90,16 @@ impl Ends {
         ensures only { OnOk result (All (IsEndIn (open_ranges batch.now.txns entries.now))
             (keys_of batch.now.txns self.new)) }
         ensures keys { OnOk result (All IsKey (keys_of batch.now.txns self.new)) }
+        ensures runs { OnOk result (runs.new.items
+            ≡ runs_of (keys_of batch.now.txns self.new) (open_ranges batch.now.txns entries.now)) }
     {
         let txns = batch.txns.as_slice();
-        self.ends.clear();
-        push_open(&mut self.ends, txns, entries)?;
-        sort_distinct(&mut self.ends, txns);
-        Ok(())
+        self.sorted.clear();
+        let count = push_open(&mut self.sorted, txns, entries)?;
+        sort(&mut self.sorted, txns);
+        runs.clear();
+        runs.resize(count, (0, 0))?;
+        keep_distinct(&mut self.ends, runs, &self.sorted, txns)
     }
 
     /// Returns the number of ends.
@@ -94,20 +115,6 @@ impl Ends {
         ensures key { slice_get (keys_of batch.now.txns self.now) index ≡ Some result.now }
     {
         key_of(batch.txns.as_slice(), &self.ends[index])
-    }
-
-    /// Returns the ranks of the range's begin and of its end: the run of gaps that it covers. The batch is the one
-    /// that the ends were gathered of.
-    pub fn run_of(&self, batch: &Batch, range: &Range) -> (usize, usize)
-        requires rising { AreRising (keys_of batch.now.txns self.now) }
-        ensures run { result ≡ run (keys_of batch.now.txns self.now) range.now }
-        ensures ordered { result.0 ≤ result.1 }
-        ensures within { result.1 ≤ length self.now }
-    {
-        let txns = batch.txns.as_slice();
-        let from = rank_of(&self.ends, txns, range.begin.as_bytes());
-        let to = rank_of(&self.ends, txns, range.end.as_bytes());
-        (from, to)
     }
 }
 
@@ -131,63 +138,61 @@ fn key_of<'a>(txns: &'a [Txn], end: &End) -> &'a [u8]
     }
 }
 
-// Returns how many of the ends, whose keys rise, come before the key.
-fn rank_of(ends: &[End], txns: &[Txn], key: &[u8]) -> usize
-    requires rising { AreRising (keys_of txns.now ends.now) }
-    ensures rank { result ≡ rank (keys_of txns.now ends.now) key.now }
-{
-    ends.partition_point(|end| key_of(txns, end).cmp(key).is_lt())
-}
-
-// Appends the ends of the ranges that aren't empty. The ranges are those of a kind of the transaction at an index.
-fn push_ends(ends: &mut Vec<End>, kind: Kind, txn: u16, ranges: &[Range]) -> Result<(), AllocError>
+// Appends the ends of the ranges that aren't empty. The ranges are those of a kind of the transaction at an index, and
+// `first` is the index of the first one among the ranges of the open transactions.
+fn push_ends(
+    ends: &mut Vec<Digested>,
+    kind: Kind,
+    txn: u16,
+    first: usize,
+    ranges: &[Range],
+) -> Result<(), AllocError>
     requires few { length ranges.now ≤ MAX_RANGES }
-    ensures items { OnOk result (ends.new.items ≡ ends.old.items ++ ends_from kind txn 0 ranges.now) }
+    requires first { first ≤ MAX_TXNS * (2 * MAX_RANGES) }
+    ensures items { OnOk result (places_of ends.new.items
+        ≡ places_of ends.old.items ++ numbered first (ends_from kind txn 0 ranges.now)) }
 {
     for (index, range) in ranges.iter().enumerate() {
         if !range.is_empty() {
-            let range = index as u16;
-            ends.push(End {
+            let begin = End {
                 txn,
-                range,
+                range: index as u16,
                 kind,
                 side: Side::Begin,
-            })?;
-            ends.push(End {
-                txn,
-                range,
-                kind,
+            };
+            ends.push(Digested::new(begin, first + index))?;
+            let end = End {
                 side: Side::End,
-            })?;
+                ..begin
+            };
+            ends.push(Digested::new(end, first + index))?;
         }
     }
     Ok(())
 }
 
-// Appends the ends of the transactions whose entries say committed.
-fn push_open(ends: &mut Vec<End>, txns: &[Txn], entries: &[Entry]) -> Result<(), AllocError>
+// Appends the ends of the transactions whose entries say committed, and returns how many ranges these have.
+fn push_open(ends: &mut Vec<Digested>, txns: &[Txn], entries: &[Entry]) -> Result<usize, AllocError>
     requires few { length txns.now ≤ MAX_TXNS }
     requires entries { length entries.now ≡ length txns.now }
-    ensures items { OnOk result (ends.new.items ≡ ends.old.items ++ open_ends_from 0 txns.now entries.now) }
+    ensures items { OnOk result (places_of ends.new.items
+        ≡ places_of ends.old.items ++ open_numbered 0 0 txns.now entries.now) }
+    ensures count { IfOk result (λ count. count ≡ length (open_ranges txns.now entries.now)) }
 {
+    let mut first = 0;
     for (index, txn) in txns.iter().enumerate() {
         if entries[index].verdict == Verdict::Committed {
-            push_ends(ends, Kind::Read, index as u16, txn.reads.as_slice())?;
-            push_ends(ends, Kind::Write, index as u16, txn.writes.as_slice())?;
+            push_ends(ends, Kind::Read, index as u16, first, txn.reads.as_slice())?;
+            first += txn.reads.len();
+            push_ends(
+                ends,
+                Kind::Write,
+                index as u16,
+                first,
+                txn.writes.as_slice(),
+            )?;
+            first += txn.writes.len();
         }
     }
-    Ok(())
+    Ok(first)
 }
-
-// Sorts the ends by their keys, and keeps one end of each key. It takes no memory.
-fn sort_distinct(ends: &mut Vec<End>, txns: &[Txn])
-    ensures rising { AreRising (keys_of txns.now ends.new.items) }
-    ensures same { (key : List ℕ) → Contains (keys_of txns.now ends.old.items) key
-        ↔ Contains (keys_of txns.now ends.new.items) key }
-{
-    ends.sort_unstable_by(|a, b| key_of(txns, a).cmp(key_of(txns, b)));
-    ends.dedup_by(|a, b| key_of(txns, a) == key_of(txns, b));
-}
-
-#[cfg(test)]
-mod tests;

@@ -34,9 +34,9 @@ pub fn judge_batch(
 {
     laws::history_first();
     let mut entries = judge_all_by_history(alloc, steps, oldest, batch)?;
-    scratch.ends.gather(batch, &entries)?;
+    scratch.ends.gather(batch, &entries, &mut scratch.runs)?;
     scratch.gaps.reset(scratch.ends.count())?;
-    judge_in_batch(alloc, batch, &scratch.ends, &mut scratch.gaps, &mut entries)?;
+    judge_in_batch(alloc, batch, &scratch.runs, &mut scratch.gaps, &mut entries)?;
     Ok(entries)
 }
 

@@ -12,6 +12,8 @@ use stepmap::KeyLengths;
 pub struct Scratch {
     /// The sorted ends of the ranges of its open transactions.
     pub ends: Ends,
+    /// The runs of gaps that those ranges cover.
+    pub runs: Vec<(usize, usize)>,
     /// The gaps between these ends that it writes.
     pub gaps: Gaps,
     /// The runs of those gaps.
@@ -29,6 +31,7 @@ impl Scratch {
     {
         Scratch {
             ends: Ends::new(alloc),
+            runs: Vec::new(alloc),
             gaps: Gaps::new(alloc),
             union: Union::new(alloc),
             lengths: Vec::new(alloc),

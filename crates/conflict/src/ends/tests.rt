@@ -1,7 +1,5 @@
 //! A batch by hand, and random batches compared with a plain count.
 ghost use Rattle.std.specs.Prelude.{◌<◌};
-ghost use Rattle.conflict.specs.Ranks.{AreRising};
-ghost use Rattle.conflict.specs.Gathered.{keys_of};
 
 use super::*;
 use crate::fixtures::{batch, entry, key, range, ranges, txn};
@@ -22,9 +20,6 @@ fn runs_of_a_batch(rt: HostRuntime) -> Result<(), Fail> {
         ranges(alloc, &[(b"", b"a")])?,
     )?;
     let batch = batch(vec![in alloc; first, refused, last]?)?;
-    let [first, refused, last] = batch.txns.as_slice() else {
-        return Err("three transactions")?;
-    };
     let entries = [
         entry(alloc, Verdict::Committed),
         entry(alloc, Verdict::Conflict),
@@ -32,23 +27,16 @@ fn runs_of_a_batch(rt: HostRuntime) -> Result<(), Fail> {
     ];
     let mut ends = Ends::new(alloc);
     assert_eq!(rt; ends.count(), 0);
-    ends.gather(&batch, &entries)?;
+    let mut runs = Vec::new(alloc);
+    assert_eq!(rt; batch.txns.len(), entries.len());
+    ends.gather(&batch, &entries, &mut runs)?;
     let keys: [&[u8]; 5] = [b"", b"a", b"b", b"c", b"d"];
     assert_eq!(rt; ends.count(), keys.len());
     for (index, key) in keys.iter().enumerate() {
         assert_eq!(rt; ends.key(&batch, index), *key);
     }
-    let [b_to_d, empty] = first.reads.as_slice() else {
-        return Err("two reads")?;
-    };
-    assert_eq!(rt; ends.run_of(&batch, b_to_d), (2, 4));
-    assert_eq!(rt; ends.run_of(&batch, empty), (5, 5));
-    let wanted = [(first, (1, 3)), (refused, (2, 5)), (last, (0, 1))];
-    for (txn, run) in wanted {
-        for range in txn.writes.as_slice() {
-            assert_eq!(rt; ends.run_of(&batch, range), run);
-        }
-    }
+    let wanted = [(2, 4), (0, 0), (1, 3), (3, 4), (0, 1)];
+    assert_eq!(rt; runs.as_slice(), wanted.as_slice());
     Ok(())
 }
 
@@ -139,21 +127,19 @@ fn open<'a>(
 }
 
 // Compares the runs of the ranges with a plain count, and overlaps of runs with those of ranges.
-fn compare(rt: &impl Abort, ends: &Ends, batch: &Batch, open: &[&Range], keys: &[&[u8]])
-    requires rising { AreRising (keys_of batch.now.txns ends.now) }
-{
-    assert_eq!(rt; ends.count(), keys.len());
-    for range in open {
-        let (from, to) = ends.run_of(batch, range);
+fn compare(rt: &impl Abort, runs: &[(usize, usize)], open: &[&Range], keys: &[&[u8]]) {
+    assert_eq!(rt; runs.len(), open.len());
+    for (run, range) in runs.iter().zip(open) {
         let rank = |end: &Key| keys
             .iter()
             .filter(|key| (**key).cmp(end.as_bytes()).is_lt())
             .count();
-        assert_eq!(rt; (from, to), (rank(&range.begin), rank(&range.end)));
-        for other in open {
-            let (other_from, other_to) = ends.run_of(batch, other);
-            let common = from.max(other_from) < to.min(other_to);
-            assert_eq!(rt; common, range.meets(other));
+        if !range.is_empty() {
+            assert_eq!(rt; *run, (rank(&range.begin), rank(&range.end)));
+        }
+        for (other, other_range) in runs.iter().zip(open) {
+            let common = run.0.max(other.0) < run.1.min(other.1);
+            assert_eq!(rt; common, range.meets(other_range));
         }
     }
 }
@@ -163,6 +149,7 @@ fn runs_of_random_batches(rt: HostRuntime) -> Result<(), Fail> {
     let alloc = rt.alloc();
     let mut random = Random { state: 1 };
     let mut ends = Ends::new(alloc);
+    let mut runs = Vec::new(alloc);
     for _ in 0..400u32 {
         let batch = random.batch(alloc)?;
         let mut entries = Vec::new(alloc);
@@ -172,7 +159,7 @@ fn runs_of_random_batches(rt: HostRuntime) -> Result<(), Fail> {
         if entries.len() != batch.txns.len() {
             return Err("one entry a transaction")?;
         }
-        ends.gather(&batch, &entries)?;
+        ends.gather(&batch, &entries, &mut runs)?;
         let open = open(alloc, &batch, &entries)?;
         let mut keys = Vec::new(alloc);
         for range in &open {
@@ -181,7 +168,8 @@ fn runs_of_random_batches(rt: HostRuntime) -> Result<(), Fail> {
                 add(&mut keys, range.end.as_bytes())?;
             }
         }
-        compare(&rt, &ends, &batch, &open, &keys);
+        assert_eq!(rt; ends.count(), keys.len());
+        compare(&rt, &runs, &open, &keys);
     }
     Ok(())
 }

@@ -48,10 +48,11 @@ fn judge(alloc: Global, batch: &Batch, entries: &mut [Entry]) -> Result<(), Fail
     requires entries { length entries.old ≡ length batch.now.txns }
 {
     let mut ends = Ends::new(alloc);
-    ends.gather(batch, entries)?;
+    let mut runs = Vec::new(alloc);
+    ends.gather(batch, entries, &mut runs)?;
     let mut gaps = Gaps::new(alloc);
     gaps.reset(ends.count())?;
-    judge_in_batch(alloc, batch, &ends, &mut gaps, entries)?;
+    judge_in_batch(alloc, batch, &runs, &mut gaps, entries)?;
     Ok(())
 }
 

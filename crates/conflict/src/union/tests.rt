@@ -1,31 +1,15 @@
 //! The writes of a batch, and the runs and the keys of their union.
-ghost use Rattle.std.specs.Prelude.{◌≡◌, length, OnOk};
-ghost use Rattle.conflict.specs.Ranks.{AreRising};
-ghost use Rattle.conflict.specs.Gathered.{keys_of};
 
 use super::Union;
 use crate::ends::Ends;
 use crate::fixtures::{batch, entry, ranges, txn};
 use crate::gaps::Gaps;
-use keyspace::{Batch, Verdict};
+use keyspace::Verdict;
 use std::alloc::Global;
 use std::process::Abort;
 use std::test::Fail;
 
 type Pair<'a> = (&'a [u8], &'a [u8]);
-
-// Marks the gaps that the writes of the batch cover.
-fn mark_writes(gaps: &mut Gaps, ends: &Ends, batch: &Batch)
-    requires rising { AreRising (keys_of batch.now.txns ends.now) }
-    requires count { length gaps.old ≡ length ends.now }
-{
-    'txns: for txn in batch.txns.as_slice() {
-        'writes: for range in txn.writes.as_slice() {
-            let (from, to) = ends.run_of(batch, range);
-            gaps.mark(from, to);
-        }
-    }
-}
 
 // Unites the ranges as the writes of a transaction, and compares the keys of the runs with the ends that are expected.
 fn assert_unites(
@@ -40,9 +24,14 @@ fn assert_unites(
     assert_eq!(rt; batch.txns.len(), 1);
     let mut ends = Ends::new(alloc);
     let mut gaps = Gaps::new(alloc);
-    ends.gather(&batch, &[entry(alloc, Verdict::Committed)])?;
-    gaps.reset(ends.count())?;
-    mark_writes(&mut gaps, &ends, &batch);
+    let mut runs = Vec::new(alloc);
+    ends.gather(&batch, &[entry(alloc, Verdict::Committed)], &mut runs)?;
+    let count = ends.count();
+    gaps.reset(count)?;
+    for (from, to) in &runs {
+        assert!(rt; *from <= *to && *to <= count);
+        gaps.mark(*from, *to);
+    }
     union.gather(&gaps)?;
     assert_eq!(rt; union.runs().len(), expected.len());
     for ((from, to), (begin, end)) in union.runs().iter().zip(expected) {

@@ -1,19 +1,47 @@
-use Rattle.std.proofs.Common.{[], get_or, length, ap, ◌∙◌, arith}
-use Rattle.conflict.specs.Gathered.{keys_of}
+use Rattle.std.proofs.Common.{◌≡◌, ◌++◌, ◌∙◌, ◌+◌, ◌<◌, ◌≤◌, [], length, get_or, take, drop, ap, arith, rules}
+use Rattle.std.proofs.lemmas.List.{length-append}
+use Rattle.keyspace.specs.declared.reply.Verdict.TheVariants.{Committed}
 use Rattle.conflict.specs.InBatch.{in_batches}
-use Rattle.conflict.proofs.JudgedTo.{all_marked, next_has_ends, next_judged}
+use Rattle.conflict.specs.Written.{TellRuns}
+use Rattle.conflict.proofs.Told.{told_within}
+use Rattle.conflict.proofs.JudgedTo.{all_marked, all_have_ends, next_told, next_within, open_judged, closed_judged}
+use Rattle.conflict.proofs.in_batch.judge_in_batch.Goals.{then-eq+in_ok-judge_open, else-eq}
 use Rattle.conflict.proofs.in_batch.judge_in_batch.Goals as goal
 
-pub judge_txn-requires-clause-have_ends : goal.judge_txn-requires-clause-have_ends
-judge_txn-requires-clause-have_ends c =
+pub split_at-requires : goal.split_at-requires
+split_at-requires c =
     let txns = c.args.batch.now.txns in
     let t = c.txn-item.result in
     let i = c.loop-index.index in
     let items = c.as_slice-txn-items.ensures.items in
-    next_has_ends (keys_of txns c.args.ends.now) (in_batches [] txns c.args.entries.now) i
-    c.loop-index.gaps txns c.loop-index.entries c.loop-index.invariant.judged t c.index-entries-index.result
-    (omega (arith, ap length items)) (c.loop-index.auto.entries ∙ c.requires.entries)
-    (c.txn-item.is ∙ ap (λ ts. get_or ts i t) items)
+    let keys = c.requires.runs.0 in
+    let so_far = c.loop-index.invariant.judged keys c.requires.runs.1 c.requires.runs.2 in
+    let is_open : (get_or c.loop-index.entries i c.index-entries-index.result).verdict ≡ Committed = search rules in
+    let few : length (t.reads ++ t.writes) ≤ length c.loop-index.rest.now =
+    next_within keys (in_batches [] txns c.args.entries.now) i c.loop-index.rest.now c.loop-index.gaps txns
+    c.loop-index.entries so_far t c.index-entries-index.result (omega (arith, ap length items))
+    (c.loop-index.auto.entries ∙ c.requires.entries) (c.txn-item.is ∙ ap (λ ts. get_or ts i t) items) is_open in
+    omega (arith, few, length-append t.reads t.writes, c.len.ensures.count, c.len-then-eq.ensures.count)
+
+pub judge_open-requires-clause-within : goal.judge_open-requires-clause-within
+judge_open-requires-clause-within c =
+    let txns = c.args.batch.now.txns in
+    let t = c.txn-item.result in
+    let i = c.loop-index.index in
+    let items = c.as_slice-txn-items.ensures.items in
+    let keys = c.requires.runs.0 in
+    let so_far = c.loop-index.invariant.judged keys c.requires.runs.1 c.requires.runs.2 in
+    let is_open : (get_or c.loop-index.entries i c.index-entries-index.result).verdict ≡ Committed = search rules in
+    let tell =
+    next_told keys (in_batches [] txns c.args.entries.now) i c.loop-index.rest.now c.loop-index.gaps txns
+    c.loop-index.entries so_far t c.index-entries-index.result (omega (arith, ap length items))
+    (c.loop-index.auto.entries ∙ c.requires.entries) (c.txn-item.is ∙ ap (λ ts. get_or ts i t) items) is_open in
+    let long : c.len.result + c.len-then-eq.result ≡ length (t.reads ++ t.writes) =
+    omega (arith, length-append t.reads t.writes, c.len.ensures.count, c.len-then-eq.ensures.count) in
+    let front : c.split_at.result.0.now ≡ take (length (t.reads ++ t.writes)) c.loop-index.rest.now =
+    c.split_at.ensures.front ∙ ap (λ n. take n c.loop-index.rest.now) long in
+    told_within keys (length c.loop-index.gaps) c.split_at.result.0.now (t.reads ++ t.writes)
+    (c.loop-index.invariant.count ∙ c.requires.runs.1) (rw front tell)
 
 pub loop-index-preserved : goal.loop-index-preserved
 loop-index-preserved c =
@@ -21,22 +49,52 @@ loop-index-preserved c =
     let t = c.txn-item.result in
     let i = c.loop-index.index in
     let items = c.as_slice-txn-items.ensures.items in
-    record {
-      count = c.judge_txn.ensures.count ∙ c.loop-index.invariant.count;
-      judged =
-          next_judged (keys_of txns c.args.ends.now) (in_batches [] txns c.args.entries.now) i
-          c.loop-index.gaps txns c.loop-index.entries c.loop-index.invariant.judged t
-          c.index-entries-index.result (omega (arith, ap length items))
-          (c.loop-index.auto.entries ∙ c.requires.entries)
-          (c.txn-item.is ∙ ap (λ ts. get_or ts i t) items)
-          c.judge_txn.new.entry c.judge_txn.new.gaps
-          c.in_ok-judge_txn.ensures.judged c.in_ok-judge_txn.ensures.marked;
-    }
+    let inside : i < length txns = omega (arith, ap length items) in
+    let count = c.loop-index.auto.entries ∙ c.requires.entries in
+    let is_next = c.txn-item.is ∙ ap (λ ts. get_or ts i t) items in
+    let whole = in_batches [] txns c.args.entries.now in
+    elim c.if-eq.branch [
+      | then-eq+in_ok-judge_open w ↦ record {
+        count = ap length w.gaps-is ∙ w.judge_open.ensures.count ∙ c.loop-index.invariant.count;
+        judged = λ keys same tell.
+            let so_far = c.loop-index.invariant.judged keys same tell in
+            let is_open : (get_or c.loop-index.entries i c.index-entries-index.result).verdict ≡ Committed =
+            search rules in
+            let long : w.len.result + w.len-then-eq.result ≡ length (t.reads ++ t.writes) =
+            omega (arith, length-append t.reads t.writes, w.len.ensures.count, w.len-then-eq.ensures.count) in
+            let front = w.split_at.ensures.front ∙ ap (λ n. take n c.loop-index.rest.now) long in
+            let back = w.split_at.ensures.back ∙ ap (λ n. drop n c.loop-index.rest.now) long in
+            let own : TellRuns keys w.split_at.result.0.now (t.reads ++ t.writes) =
+            rw front (next_told keys whole i c.loop-index.rest.now c.loop-index.gaps txns c.loop-index.entries so_far
+            t c.index-entries-index.result inside count is_next is_open) in
+            rw (w.gaps-is, w.entries-is, w.rest-is, back)
+            (open_judged keys whole i c.loop-index.rest.now c.loop-index.gaps txns c.loop-index.entries so_far t
+            c.index-entries-index.result inside count is_next w.judge_open.new.entry w.judge_open.new.gaps is_open
+            (λ written told have. w.in_ok-judge_open.ensures.judged keys written own told have)
+            (λ written told have. w.in_ok-judge_open.ensures.marked keys written own told have));
+      }
+      | else-eq w ↦ record {
+        count = ap length w.gaps-is ∙ c.loop-index.invariant.count;
+        judged = λ keys same tell.
+            let so_far = c.loop-index.invariant.judged keys same tell in
+            let closed : (get_or c.loop-index.entries i c.index-entries-index.result).verdict ≡ Committed → ⊥ =
+            search rules in
+            rw (w.gaps-is, w.entries-is, w.rest-is)
+            (closed_judged keys whole i c.loop-index.rest.now c.loop-index.gaps txns c.loop-index.entries so_far t
+            c.index-entries-index.result inside count is_next closed);
+      }
+    ]
 
 pub returns-clause-marked : goal.returns-clause-marked
-returns-clause-marked c =
+returns-clause-marked c = λ keys same tell.
     let txns = c.args.batch.now.txns in
     let items = c.as_slice-txn-items.ensures.items in
-    all_marked (keys_of txns c.args.ends.now) (in_batches [] txns c.args.entries.now) c.loop-index.index
-    c.loop-index.gaps txns c.loop-index.entries c.loop-index.invariant.judged
-    (omega (arith, ap length items)) (omega (arith, ap length items))
+    let i = c.loop-index.index in
+    let so_far = c.loop-index.invariant.judged keys same tell in
+    let txns_end : length txns ≤ i = omega (arith, ap length items) in
+    let entries_end : length c.loop-index.entries ≤ i = omega (arith, ap length items) in (
+      all_marked keys (in_batches [] txns c.args.entries.now) i c.loop-index.rest.now c.loop-index.gaps txns
+          c.loop-index.entries so_far txns_end entries_end,
+      all_have_ends keys (in_batches [] txns c.args.entries.now) i c.loop-index.rest.now c.loop-index.gaps txns
+          c.loop-index.entries so_far txns_end entries_end,
+    )

@@ -1,12 +1,14 @@
-use Rattle.std.proofs.Common.{◌≡◌, [], length}
-use Rattle.conflict.specs.Gathered.{keys_of}
+use Rattle.std.proofs.Common.{◌≡◌, ℕ, List, [], length}
+use Rattle.conflict.specs.Gathered.{open_ranges}
+use Rattle.conflict.specs.Written.{TellRuns}
 use Rattle.conflict.specs.InBatch.{in_batches}
 use Rattle.conflict.proofs.JudgedTo.{JudgedBelow}
 use Rattle.conflict.proofs.in_batch.judge_in_batch.Given as goal
 
 abbrev pub invariant-loop-index : goal.invariant-loop-index
 invariant-loop-index l = record {
-  count : length l.gaps ≡ length l.ends;
-  judged : JudgedBelow (keys_of l.batch.txns l.ends) (in_batches [] l.batch.txns l.fn.entries)
-      l.index l.gaps l.batch.txns l.entries;
+  count : length l.gaps ≡ length l.fn.gaps;
+  judged : (keys : List (List ℕ)) → length l.fn.gaps ≡ length keys
+      → TellRuns keys l.runs (open_ranges l.batch.txns l.fn.entries)
+      → JudgedBelow keys (in_batches [] l.batch.txns l.fn.entries) l.index l.rest l.gaps l.batch.txns l.entries;
 }

@@ -1,11 +1,13 @@
 use Rattle.std.proofs.Common.{w64, to_z, of_z, ◌≡◌, List, [], length, ap, sym, subst, ◌∙◌}
 use Rattle.keyspace.specs.declared.reply.Entry.{Entry}
 use Rattle.std.proofs.lemmas.Int.{to_z-of_z}
+use Rattle.std.proofs.lemmas.List.{length-map}
 use Rattle.keyspace.specs.Judge.{judge_txns}
 use Rattle.keyspace.specs.Writes.{committed}
 use Rattle.conflict.specs.InBatch.{in_batches}
-use Rattle.conflict.specs.Gathered.{keys_of}
+use Rattle.conflict.specs.Gathered.{key_of_end, keys_of, open_ranges}
 use Rattle.conflict.specs.Judging.{TellWritten}
+use Rattle.conflict.specs.Written.{TellRuns}
 use Rattle.conflict.proofs.JudgedBatch.{length-in_batches, changed_whole}
 use Rattle.conflict.proofs.judging.judge_batch.Goals as goal
 
@@ -33,11 +35,34 @@ returns-clause-told c =
     let long = ap length is ∙ length-in_batches [] txns es.items c.in_ok-entries.ensures.count
     ∙ sym c.in_ok-entries.ensures.count ∙ sym es.ok.0 in
     let keys = keys_of txns c.gather.new.self in
+    let same = c.in_ok-reset.ensures.count ∙ c.count.ensures.count
+    ∙ sym (length-map c.gather.new.self (key_of_end txns)) in
+    let gathered : TellRuns keys c.deref-2.result.now (open_ranges txns c.deref.result.now) = record {
+      have_ends = c.in_ok-gather.ensures.have_ends;
+      are_runs = c.deref-2.ensures.value ∙ c.in_ok-gather.ensures.runs;
+    } in
+    let tell = subst (λ (entries : List Entry). TellRuns keys c.deref-2.result.now (open_ranges txns entries))
+    (c.deref.ensures.value ∙ sym c.deref_mut.ensures.value) gathered in
+    let written = c.in_ok-judge_in_batch.ensures.marked keys same tell in
     let told : TellWritten keys c.judge_in_batch.new.gaps (committed txns after) =
     record {
       rising = c.in_ok-gather.ensures.rising;
-      have_ends = c.in_ok-judge_in_batch.ensures.have_ends;
-      gaps = c.in_ok-judge_in_batch.ensures.marked;
+      have_ends = written.1;
+      gaps = written.0;
     } in
     subst (λ (entries : List Entry). TellWritten keys c.judge_in_batch.new.gaps (committed txns entries))
     (sym (changed_whole after es.items es.len long)) told
+
+pub judge_in_batch-requires-clause-runs : goal.judge_in_batch-requires-clause-runs
+judge_in_batch-requires-clause-runs c =
+    let txns = c.args.batch.now.txns in
+    let keys = keys_of txns c.gather.new.self in
+    let same = c.in_ok-reset.ensures.count ∙ c.count.ensures.count
+    ∙ sym (length-map c.gather.new.self (key_of_end txns)) in
+    let gathered : TellRuns keys c.deref-2.result.now (open_ranges txns c.deref.result.now) = record {
+      have_ends = c.in_ok-gather.ensures.have_ends;
+      are_runs = c.deref-2.ensures.value ∙ c.in_ok-gather.ensures.runs;
+    } in
+    let tell = subst (λ (entries : List Entry). TellRuns keys c.deref-2.result.now (open_ranges txns entries))
+    (c.deref.ensures.value ∙ sym c.deref_mut.ensures.value) gathered in
+    (keys, same, tell)

@@ -1,0 +1,117 @@
+-- What runs tell of the ranges that they are of.
+use Rattle.std.proofs.Common.{
+  ◌≡◌,
+  ◌↔◌,
+  ℕ,
+  zero,
+  suc,
+  ◌<◌,
+  ◌≤◌,
+  Bool,
+  true,
+  false,
+  cond,
+  List,
+  [],
+  ◌∷◌,
+  ◌++◌,
+  length,
+  get_or,
+  take,
+  drop,
+  refl,
+  sym,
+  ap,
+  ◌∙◌,
+  arith,
+}
+use Rattle.std.proofs.lemmas.List.{length-map, map-append, get_or-map}
+use Rattle.std.proofs.lemmas.List.Elements.{All-map}
+use Rattle.std.proofs.Math.Seq.{take-append_seam, drop-append_seam}
+use Rattle.keyspace.specs.declared.range.Range.{Range}
+use Rattle.stepmap.specs.Counting.{is_filled}
+use Rattle.conflict.specs.Ranks.{run, run_or_none, runs_of, HasGap}
+use Rattle.conflict.specs.Gathered.{HaveEnds}
+use Rattle.conflict.specs.Written.{AreRunsWithin, TellRuns}
+use Rattle.conflict.proofs.Ranks.{before_unless_empty, filled_from_gap, runs_are_within}
+use Rattle.conflict.proofs.RanksOpen.{all_split}
+
+-- the element at an index, whatever is read past the end
+element : {X : Type 0} (xs : List X) (i : ℕ) → i < length xs → (x : X) × ((d : X) → get_or xs i d ≡ x)
+element [] i inside = absurd (omega arith)
+element (x ∷ xs) zero inside = (x, λ d. refl)
+element (x ∷ xs) (suc i) inside = element xs i (omega arith)
+
+module _ (keys : List (List ℕ)) where
+  -- a run holds no gap more or fewer for being (0, 0) where the range is empty
+  pub same_gaps : (range : Range) (gap : ℕ) → HasGap (run_or_none keys range) gap ↔ HasGap (run keys range) gap
+  same_gaps range gap = by (is_filled range) refl
+    where
+      by : (filled : Bool) → is_filled range ≡ filled
+          → HasGap (cond filled (run keys range) (0, 0)) gap ↔ HasGap (run keys range) gap
+      by true e = (λ h. h, λ h. h)
+      by false e = (
+        λ h. absurd (omega (arith, h)),
+        λ h. let t = before_unless_empty range (filled_from_gap keys range gap h) in
+            let b : true ≡ false = sym t ∙ e in cc,
+      )
+
+  within_each : (range : Range) → ((run_or_none keys range).0 ≤ (run_or_none keys range).1)
+      × ((run_or_none keys range).1 ≤ length keys)
+  within_each range = by (is_filled range)
+    where
+      by : (filled : Bool) → ((cond filled (run keys range) (0, 0)).0 ≤ (cond filled (run keys range) (0, 0)).1)
+          × ((cond filled (run keys range) (0, 0)).1 ≤ length keys)
+      by true = runs_are_within keys range
+      by false = (omega arith, omega arith)
+
+  -- each run ends at the number of the keys at the latest
+  pub told_within : (count : ℕ) (runs : List (ℕ × ℕ)) (ranges : List Range) → count ≡ length keys
+      → TellRuns keys runs ranges → AreRunsWithin count runs
+  told_within count runs ranges same told =
+      let all : AreRunsWithin (length keys) (runs_of keys ranges) =
+      All-map (λ (r : ℕ × ℕ). (r.0 ≤ r.1) × (r.1 ≤ length keys)) (run_or_none keys) ranges
+      (λ i d inside. within_each (get_or ranges i d)) in
+      rw (same, told.are_runs) all
+
+  -- a run a range
+  pub told_count : (runs : List (ℕ × ℕ)) (ranges : List Range) → TellRuns keys runs ranges
+      → length runs ≡ length ranges
+  told_count runs ranges told = ap length told.are_runs ∙ length-map ranges (run_or_none keys)
+
+  -- those of the first ranges, and those of the others
+  pub told_split : (runs : List (ℕ × ℕ)) (first others : List Range) → TellRuns keys runs (first ++ others)
+      → TellRuns keys (take (length first) runs) first × TellRuns keys (drop (length first) runs) others
+  told_split runs first others told =
+      let both = all_split (HaveEnds keys) first others told.have_ends in
+      let long : length first ≡ length (runs_of keys first) = sym (length-map first (run_or_none keys)) in
+      let is = told.are_runs ∙ map-append (run_or_none keys) first others in (
+        record {
+          have_ends = both.0;
+          are_runs = ap (take (length first)) is
+              ∙ ap (λ n. take n (runs_of keys first ++ runs_of keys others)) long
+              ∙ take-append_seam (runs_of keys first) (runs_of keys others);
+        },
+        record {
+          have_ends = both.1;
+          are_runs = ap (drop (length first)) is
+              ∙ ap (λ n. drop n (runs_of keys first ++ runs_of keys others)) long
+              ∙ drop-append_seam (runs_of keys first) (runs_of keys others);
+        },
+      )
+
+  -- the range at the index of a run
+  pub told_at : (runs : List (ℕ × ℕ)) (ranges : List Range) (i : ℕ) (r d : ℕ × ℕ)
+      → i < length runs → r ≡ get_or runs i d → TellRuns keys runs ranges
+      → (range : Range) × (i < length ranges) × (range ≡ get_or ranges i range)
+      × (r ≡ run_or_none keys range)
+  told_at runs ranges i r d inside is told =
+      let within : i < length ranges = omega (arith, told_count runs ranges told) in
+      let e = element ranges i within in (
+        e.0,
+        within,
+        sym (e.1 e.0),
+        is ∙ ap (λ rs. get_or rs i d) told.are_runs
+            ∙ get_or-map (run_or_none keys) ranges i e.0 d within
+            ∙ ap (run_or_none keys) (e.1 e.0),
+      )

@@ -1,0 +1,45 @@
+use Rattle.std.proofs.Common.{◌≡◌, ◌++◌, ◌∙◌, take, drop, ap, sym, subst}
+use Rattle.conflict.specs.Written.{AreWrittenGaps, TellRuns}
+use Rattle.keyspace.specs.Writes.{counted}
+use Rattle.conflict.proofs.Told.{told_split}
+use Rattle.conflict.proofs.Written.{no_more_written}
+use Rattle.conflict.proofs.FirstMet.{unmet_entry, met_entry}
+use Rattle.conflict.proofs.in_batch.judge_open.Goals as goal
+
+pub returns-in_ok-place_if_marked-clause-judged : goal.returns-in_ok-place_if_marked-clause-judged
+returns-in_ok-place_if_marked-clause-judged c = λ keys written tell told have.
+    let t = c.args.txn.now in
+    let runs = c.args.runs.now in
+    let front = c.split_at.ensures.front ∙ ap (λ n. take n runs) c.len.ensures.count in
+    let reads : TellRuns keys c.split_at.result.0.now t.reads =
+    rw front (told_split keys runs t.reads t.writes tell).0 in
+    met_entry written t c.args.entry.now c.new.result c.in-Some.place c.requires.open
+    (c.in-Some.ensures.first keys written t.reads reads told have) c.new.ensures.verdict
+    (c.new.ensures.places ∙ c.in_ok-place_if_marked.ensures.places)
+
+pub returns-in_ok-place_if_marked-clause-marked : goal.returns-in_ok-place_if_marked-clause-marked
+returns-in_ok-place_if_marked-clause-marked c = λ keys written tell told have.
+    no_more_written keys c.args.gaps.now written _
+    (ap (λ v. counted v c.args.txn.now.writes) c.new.ensures.verdict) told
+
+pub returns-in_default-clause-judged : goal.returns-in_default-clause-judged
+returns-in_default-clause-judged c = λ keys written tell told have.
+    let t = c.args.txn.now in
+    let runs = c.args.runs.now in
+    let front = c.split_at.ensures.front ∙ ap (λ n. take n runs) c.len.ensures.count in
+    let reads : TellRuns keys c.split_at.result.0.now t.reads =
+    rw front (told_split keys runs t.reads t.writes tell).0 in
+    unmet_entry written t c.args.entry.now c.requires.open
+    (c.in_default.ensures.first keys written t.reads reads told have)
+
+pub returns-in_default-clause-marked : goal.returns-in_default-clause-marked
+returns-in_default-clause-marked c = λ keys written tell told have.
+    let t = c.args.txn.now in
+    let runs = c.args.runs.now in
+    let back = c.split_at.ensures.back ∙ ap (λ n. drop n runs) c.len.ensures.count in
+    let writes : TellRuns keys c.split_at.result.1.now t.writes =
+    rw back (told_split keys runs t.reads t.writes tell).1 in
+    let counts : t.writes ≡ counted c.args.entry.now.verdict t.writes =
+    ap (λ v. counted v t.writes) (sym c.requires.open) in
+    subst (λ ranges. AreWrittenGaps keys c.mark.new.gaps (written ++ ranges)) counts
+    (c.mark.ensures.marked keys written t.writes writes told)
