@@ -27,28 +27,17 @@ use Rattle.std.proofs.Common.{
   false,
   arith,
 }
-use Rattle.std.specs.Prelude.{All, Contains, IsTrue, MatchOption, Option, Some, None, nat_eq, slice_get}
-use Rattle.std.specs.Option.{option_map}
-use Rattle.std.specs.Cmp.Lexicographic.{bytes_decides}
-use lib.Pointwise.{pointwise}
-use Rattle.std.proofs.lemmas.Option.{
-  get_or_from_slice_get,
-  none-some,
-  slice_get-get_or,
-  slice_get_within,
-}
+use Rattle.std.specs.Prelude.{◌≢◌, All, Contains}
 use Rattle.std.proofs.lemmas.Bool.{cases_lt}
 use Rattle.std.proofs.lemmas.Cmp.{nat_list_cmp_total}
 use Rattle.std.proofs.lemmas.List.{
-  get_or-map,
   get_or-take,
   get_or_append_left,
   get_or_default,
   get_or_push,
   length_push,
-  length-map,
   length-take-le,
-  map_push,
+  map_more,
   take_all,
   take_more,
 }
@@ -69,13 +58,12 @@ use Rattle.keyspace.specs.Key.{is_before, IsBefore, IsAtMost}
 use Rattle.keyspace.specs.declared.txn.Txn.{Txn}
 use Rattle.keyspace.proofs.KeyOrder.{before_at_most, before_or_same, not_before_itself}
 use Rattle.stepmap.proofs.Order.{not_before_if}
-use Rattle.conflict.specs.declared.ends.End.{End}
 use Rattle.conflict.specs.declared.ends.Kind.TheVariants as kind
 use Rattle.conflict.specs.declared.ends.Side.TheVariants as side
 use Rattle.conflict.specs.declared.ends.sorting.Digested.{Digested}
-use Rattle.conflict.specs.Gathered.{key_of_end, keys_of}
+use Rattle.conflict.specs.Gathered.{key_of_end}
 use Rattle.conflict.specs.Ranks.{rank, AreRising}
-use Rattle.conflict.specs.Sorting.{keys_in_order, AreInKeyOrder, EndsWith}
+use Rattle.conflict.specs.Sorting.{keys_in_order, AreInKeyOrder}
 use Rattle.conflict.proofs.Ranks.{one_if, rank_cons}
 
 pub not_true : (b : Bool) → b ≡ false → b ≡ true → ⊥
@@ -115,61 +103,85 @@ rank_of_last keys last rising =
         (subst (λ x. IsBefore (get_or (keys ++ last ∷ []) k d) x) that
         (rising k (length keys) d lt (rw (length_push keys last) (omega arith))))
 
+-- the key is the last of the keys
+abbrev pub EndsWith : List (List ℕ) → List ℕ → Type 0
+EndsWith keys key = (before : List (List ℕ)) × (keys ≡ before ++ key ∷ [])
+
 -- the keys of some ends, each once, in their order
 pub record Kept (done keys : List (List ℕ)) : Type 0 where
   pub rising : AreRising keys
   pub same : (key : List ℕ) → Contains done key ↔ Contains keys key
+  pub last : (key : List ℕ) → EndsWith done key ↔ EndsWith keys key
 
--- the next end is added unless the last of them has its key
-abbrev pub IsNext : List Txn → List End → End → List End → Type 0
-IsNext txns ends end next =
-    (EndsWith txns ends end × (next ≡ ends)) ⊎ (¬ EndsWith txns ends end × (next ≡ ends ++ end ∷ []))
+-- the key of the next end is added unless it is that of the end before
+abbrev pub IsNext : List (List ℕ) → List ℕ → List (List ℕ) → List (List ℕ) → Type 0
+IsNext done key keys next = (EndsWith done key × (next ≡ keys)) ⊎ (¬ EndsWith done key × (next ≡ keys ++ key ∷ []))
 
--- the last of the ends has another key, unless they end with this one
-last_differs : (txns : List Txn) (ends : List End) (end : End) → ¬ EndsWith txns ends end → (i : ℕ) (d : End)
-    → length ends ≡ i + 1 → key_of_end txns (get_or ends i d) ≡ key_of_end txns end → ⊥
-last_differs txns ends end differs i d e same =
-    let parts = sym (take_all (i + 1) ends (omega arith)) ∙ take_more ends i d (omega arith) in
-    differs (take i ends, get_or ends i d, parts, same)
+-- no keys have a last one
+pub none_last : (key : List ℕ) → ¬ EndsWith [] key
+none_last key (before, e) = let long = ap length e ∙ length_push before key in absurd (omega arith)
+
+-- keys have one last key
+pub one_last : (keys : List (List ℕ)) (a b : List ℕ) → EndsWith keys a → EndsWith keys b → a ≡ b
+one_last keys a b (before, e) (others, f) =
+    let long = sym (length_push before a) ∙ ap length (sym e ∙ f) ∙ length_push others b in
+    sym (get_or_push before a a (length before) refl) ∙ ap (λ ks. get_or ks (length before) a) (sym e ∙ f)
+    ∙ get_or_push others b a (length before) (omega arith)
+
+-- the last of the keys is one that is put behind the others
+pub last_of_push : (keys : List (List ℕ)) (key k : List ℕ) → EndsWith (keys ++ key ∷ []) k ↔ (key ≡ k)
+last_of_push keys key k = (
+  λ ends. one_last (keys ++ key ∷ []) key k (keys, refl) ends,
+  λ e. (keys, ap (λ x. keys ++ x ∷ []) e),
+)
 
 -- unless the last key is this one, rising keys up to it are before it
-all_before : (txns : List Txn) (ends : List End) (end : End) → AreRising (keys_of txns ends)
-    → All (λ k. IsAtMost k (key_of_end txns end)) (keys_of txns ends) → ¬ EndsWith txns ends end
-    → All (λ k. IsBefore k (key_of_end txns end)) (keys_of txns ends)
-all_before txns ends end rising up differs k d lt =
-    let keys = keys_of txns ends in
-    let key = key_of_end txns end in
-    elim (cases_lt (k + 1) (length ends)) [
+all_before : (keys : List (List ℕ)) (key : List ℕ) → AreRising keys → All (λ k. IsAtMost k key) keys
+    → ¬ EndsWith keys key → All (λ k. IsBefore k key) keys
+all_before keys key rising up differs k d lt =
+    elim (cases_lt (k + 1) (length keys)) [
       | inl more ↦
-          let long = length-map ends (key_of_end txns) in
-          before_at_most (get_or keys k d) (get_or keys (k + 1) d) key
-          (rising k (k + 1) d (omega arith) (rw long (omega arith))) (up (k + 1) d (rw long (omega arith)))
+          before_at_most (get_or keys k d) (get_or keys (k + 1) d) key (rising k (k + 1) d (omega arith) more)
+          (up (k + 1) d more)
       | inr le ↦ elim (before_or_same (get_or keys k d) key (up k d lt)) [
         | inl before ↦ before
         | inr same ↦
-            let short : k < length ends = rw (length-map ends (key_of_end txns)) at lt in
-            absurd (last_differs txns ends end differs k end (omega arith)
-            (sym (get_or-map (key_of_end txns) ends k end d short) ∙ same))
+            absurd (differs (
+              take k keys,
+              sym (take_all (k + 1) keys (omega arith)) ∙ take_more keys k d lt
+                  ∙ ap (λ x. take k keys ++ x ∷ []) same,
+            ))
       ]
     ]
 
 -- before any end no key is kept
 pub kept_none : Kept [] []
-kept_none = record { rising = λ i j d lt le. absurd (omega arith); same = λ key. (λ c. c, λ c. c) }
+kept_none = record {
+  rising = λ i j d lt le. absurd (omega arith);
+  same = λ key. (λ c. c, λ c. c);
+  last = λ key. (λ e. e, λ e. e);
+}
 
--- an end whose key is there already adds nothing
-kept_again : (done keys : List (List ℕ)) (key : List ℕ) → Kept done keys → Contains keys key
+-- an end whose key is the last one already adds nothing
+kept_again : (done keys : List (List ℕ)) (key : List ℕ) → Kept done keys → EndsWith keys key
     → Kept (done ++ key ∷ []) keys
-kept_again done keys key kept has = record {
+kept_again done keys key kept (before, parts) = record {
   rising = kept.rising;
   same = λ k. (
     λ c. elim (Contains-push_cases done key k c) [
-      | inl before ↦ (kept.same k).0 before
+      | inl earlier ↦ (kept.same k).0 earlier
       | inr e ↦ subst (Contains keys) e has
     ],
     λ c. Contains-append_left done (key ∷ []) k ((kept.same k).1 c),
   );
+  last = λ k. (
+    λ ends. subst (EndsWith keys) ((last_of_push done key k).0 ends) (before, parts),
+    λ ends. (last_of_push done key k).1 (one_last keys key k (before, parts) ends),
+  );
 }
+  where
+    has : Contains keys key
+    has = subst (λ ks. Contains ks key) (sym parts) (Contains-push before key)
 
 -- a key behind all the others is added
 kept_more : (done keys : List (List ℕ)) (key : List ℕ) → Kept done keys → All (λ k. IsBefore k key) keys
@@ -185,6 +197,10 @@ kept_more done keys key kept all = record {
       | inl before ↦ Contains-append_left done (key ∷ []) k ((kept.same k).1 before)
       | inr e ↦ subst (Contains (done ++ key ∷ [])) e (Contains-push done key)
     ],
+  );
+  last = λ k. (
+    λ ends. (last_of_push keys key k).1 ((last_of_push done key k).0 ends),
+    λ ends. (last_of_push done key k).1 ((last_of_push keys key k).0 ends),
   );
 }
 
@@ -203,41 +219,31 @@ rank_at_end keys before key rising e =
     ∙ (let long = length_push before key in omega arith))
 
 -- the keys after one more end, whose key no former one is after
-pub kept_next : (txns : List Txn) (done : List (List ℕ)) (ends : List End) (end : End) (next : List End)
-    → Kept done (keys_of txns ends) → All (λ k. IsAtMost k (key_of_end txns end)) done
-    → IsNext txns ends end next → KeptNext done (key_of_end txns end) (keys_of txns ends) (keys_of txns next)
-kept_next txns done ends end next kept up (inl (ends_with, e)) =
-    let keys = keys_of txns ends in
-    let key = key_of_end txns end in
-    let before = keys_of txns ends_with.0 in
+pub kept_next : (done : List (List ℕ)) (key : List ℕ) (keys next : List (List ℕ)) → Kept done keys
+    → All (λ k. IsAtMost k key) done → IsNext done key keys next → KeptNext done key keys next
+kept_next done key keys next kept up (inl (ends, e)) =
+    let last = (kept.last key).0 ends in
     rw e (record {
-      kept = kept_again done keys key kept (subst (λ ks. Contains ks key) (sym parts) (Contains-push before key));
+      kept = kept_again done keys key kept last;
       stay = λ k c. refl;
-      last = rank_at_end keys before key kept.rising parts;
+      last = rank_at_end keys last.0 key kept.rising last.1;
     })
-  where
-    parts : keys_of txns ends ≡ keys_of txns ends_with.0 ++ key_of_end txns end ∷ []
-    parts =
-        ap (keys_of txns) ends_with.2 ∙ map_push (key_of_end txns) ends_with.0 ends_with.1
-        ∙ ap (λ k. keys_of txns ends_with.0 ++ k ∷ []) ends_with.3
-kept_next txns done ends end next kept up (inr (differs, e)) =
-    let keys = keys_of txns ends in
-    let key = key_of_end txns end in
-    rw (e, map_push (key_of_end txns) ends end) (record {
+kept_next done key keys next kept up (inr (differs, e)) =
+    rw e (record {
       kept = more;
       stay = λ k c. rank_kept keys key k (All-contains (λ k. IsAtMost k key) done k up c);
       last = rank_at_end (keys ++ key ∷ []) keys key more.rising refl;
     })
   where
-    keys_up : All (λ k. IsAtMost k (key_of_end txns end)) (keys_of txns ends)
+    keys_up : All (λ k. IsAtMost k key) keys
     keys_up k d lt =
-        All-contains (λ k. IsAtMost k (key_of_end txns end)) done (get_or (keys_of txns ends) k d) up
-        ((kept.same (get_or (keys_of txns ends) k d)).1 (Contains-get_or (keys_of txns ends) k d lt))
+        All-contains (λ k. IsAtMost k key) done (get_or keys k d) up
+        ((kept.same (get_or keys k d)).1 (Contains-get_or keys k d lt))
 
-    more : Kept (done ++ key_of_end txns end ∷ []) (keys_of txns ends ++ key_of_end txns end ∷ [])
+    more : Kept (done ++ key ∷ []) (keys ++ key ∷ [])
     more =
-        kept_more done (keys_of txns ends) (key_of_end txns end) kept
-        (all_before txns ends end kept.rising keys_up differs)
+        kept_more done keys key kept
+        (all_before keys key kept.rising keys_up (λ ends. differs ((kept.last key).1 ends)))
 
 -- no key of the ends before is after that of the next one
 pub up_to_next : (txns : List Txn) (ends : List Digested) (i : ℕ) (d : Digested) → i < length ends
@@ -254,38 +260,17 @@ up_to_next txns ends i d lt sorted =
     (omega arith) lt in
     subst (λ x. IsAtMost (f x) (f (get_or ends i d))) (sym (same ∙ sym there)) (ap not far))
 
--- what the last one of the ends tells, where there is one
-pub told_by_last : (txns : List Txn) (ends : List End) (end : End) {B : Type 0} (now : B → End) (last : Option B)
-    (post : B → Type 0) (told : Bool) → option_map now last ≡ slice_get ends (length ends - 1)
-    → MatchOption last (told ≡ false) post
-    → ((x : B) → post x → told ≡ pointwise nat_eq (key_of_end txns (now x)) (key_of_end txns end))
-    → IsTrue told ↔ EndsWith txns ends end
-told_by_last txns ends end now None post told is no_last tells = (
-  λ t. let both : true ≡ false = sym t ∙ no_last in cc,
-  λ (before, last, parts, same).
-      let long : 0 < length ends = rw (parts, length_push before last) (omega arith) in
-      absurd (none-some _ (is ∙ slice_get-get_or ends (length ends - 1) last (omega arith))),
-)
-told_by_last txns ends end now (Some x) post told is tested tells =
-    let at = sym is in
-    let within = slice_get_within ends (length ends - 1) (now x) at in
-    let there = get_or_from_slice_get ends (length ends - 1) (now x) end at in
-    let decides = bytes_decides (key_of_end txns (now x)) (key_of_end txns end) in (
-      λ t. (
-        take (length ends - 1) ends,
-        now x,
-        sym (take_all (length ends - 1 + 1) ends (omega arith))
-            ∙ take_more ends (length ends - 1) end within
-            ∙ ap (λ y. take (length ends - 1) ends ++ y ∷ []) there,
-        decides.0 (sym (tells x tested) ∙ t),
-      ),
-      λ (before, last, parts, same).
-          let long : length ends - 1 ≡ length before = rw (parts, length_push before last) (omega arith) in
-          let is_last : now x ≡ last = sym there ∙ ap (λ i. get_or ends i end) long
-          ∙ ap (λ xs. get_or xs (length before) end) parts ∙ get_or_push before last end (length before) refl in
-          tells x tested ∙ decides.1 (ap (key_of_end txns) is_last ∙ same),
-    )
-
 -- what a read past the last end gives
 abbrev pub no_end : Digested
 no_end = record { digest = 0; index = 0; end = record { txn = 0; range = 0; kind = kind.Read; side = side.Begin } }
+
+-- the last key of the ends before one is that of the end right before it
+pub last_before : (txns : List Txn) (ends : List Digested) (i : ℕ) (d : Digested) (key : List ℕ) → i ≢ 0
+    → i < length ends
+    → EndsWith (keys_in_order txns (take i ends)) key ↔ (key_of_end txns (get_or ends (i - 1) d).end ≡ key)
+last_before txns ends i d key some within =
+    let f = λ (x : Digested). key_of_end txns x.end in
+    let one : i ≡ i - 1 + 1 = omega (arith, some) in
+    subst (λ n. EndsWith (keys_in_order txns (take n ends)) key ↔ (f (get_or ends (i - 1) d) ≡ key)) (sym one)
+    (rw (map_more f ends (i - 1) d (omega arith))
+    (last_of_push (keys_in_order txns (take (i - 1) ends)) (f (get_or ends (i - 1) d)) key))

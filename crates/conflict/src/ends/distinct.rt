@@ -3,8 +3,8 @@
 ghost use Rattle.std.specs.Prelude.{◌≡◌, ◌↔◌, ◌<◌, ℕ, List, length, map, replicate, All, Contains, IsTrue, OnOk};
 ghost use Rattle.keyspace.specs.declared.range.Range.{Range};
 ghost use Rattle.conflict.specs.Ranks.{AreRising, runs_of};
-ghost use Rattle.conflict.specs.Gathered.{keys_of};
-ghost use Rattle.conflict.specs.Sorting.{keys_in_order, places_of, EndsWith, AreInKeyOrder, ArePlaced};
+ghost use Rattle.conflict.specs.Gathered.{key_of_end, keys_of};
+ghost use Rattle.conflict.specs.Sorting.{keys_in_order, places_of, AreAlike, AreInKeyOrder, ArePlaced};
 
 use super::sorting::Digested;
 use super::{End, Side, key_of};
@@ -19,6 +19,7 @@ pub fn keep_distinct(
     txns: &[Txn],
 ) -> Result<(), AllocError>
     requires sorted { AreInKeyOrder txns.now sorted.now }
+    requires alike { AreAlike txns.now sorted.now }
     requires within { All (λ d. d.index < length runs.old) sorted.now }
     ensures rising { OnOk result (AreRising (keys_of txns.now ends.new.items)) }
     ensures same { OnOk result ((key : List ℕ) → Contains (keys_in_order txns.now sorted.now) key
@@ -29,8 +30,8 @@ pub fn keep_distinct(
         → runs.new ≡ runs_of (keys_of txns.now ends.new.items) ranges) }
 {
     ends.clear();
-    for digested in sorted {
-        if !has_last(ends, txns, &digested.end) {
+    for (index, digested) in sorted.iter().enumerate() {
+        if index == 0 || !have_one_key(&sorted[index - 1], digested, txns) {
             ends.push(digested.end)?;
         }
         let rank = ends.len() - 1;
@@ -43,10 +44,10 @@ pub fn keep_distinct(
     Ok(())
 }
 
-// Returns whether the last of the ends has the key of this one.
-fn has_last(ends: &[End], txns: &[Txn], end: &End) -> bool
-    ensures last { IsTrue result ↔ EndsWith txns.now ends.now end.now }
+// Returns whether two ends have the same key. Keys are looked at only where the digests are the same.
+fn have_one_key(a: &Digested, b: &Digested, txns: &[Txn]) -> bool
+    requires alike { key_of_end txns.now a.now.end ≡ key_of_end txns.now b.now.end → a.now.digest ≡ b.now.digest }
+    ensures same { IsTrue result ↔ (key_of_end txns.now a.now.end ≡ key_of_end txns.now b.now.end) }
 {
-    ends.last()
-        .is_some_and(|last| key_of(txns, last) == key_of(txns, end))
+    a.digest == b.digest && key_of(txns, &a.end) == key_of(txns, &b.end)
 }

@@ -7,10 +7,10 @@ use Rattle.conflict.proofs.RanksSet.{AreSet}
 use Rattle.conflict.proofs.ends.distinct.keep_distinct.Given as goal
 
 -- The keys are those of the ends so far, each once. The sides of these are set to their ranks.
-abbrev pub invariant-loop-digested : goal.invariant-loop-digested
-invariant-loop-digested l = record {
-  kept : Kept (keys_in_order l.txns (take l.digested-index l.sorted)) (keys_of l.txns l.ends.items);
+abbrev pub invariant-loop-index : goal.invariant-loop-index
+invariant-loop-index l = record {
+  kept : Kept (keys_in_order l.txns (take l.index l.sorted)) (keys_of l.txns l.ends.items);
   set : (ranges : List Range) → ArePlaced l.txns ranges (places_of l.sorted)
       → l.fn.runs ≡ replicate (length ranges) (0, 0)
-      → AreSet ranges (places_of (take l.digested-index l.sorted)) (keys_of l.txns l.ends.items) l.runs;
+      → AreSet ranges (places_of (take l.index l.sorted)) (keys_of l.txns l.ends.items) l.runs;
 }
