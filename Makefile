@@ -1,4 +1,4 @@
-.PHONY: demo replay test plant
+.PHONY: demo replay test plant bench
 
 # Runs the program on the recorded files of examples/, unproved. A file NAME.args names the further files of a run.
 demo:
@@ -17,3 +17,15 @@ test:
 # Tries wrong bodies on a copy of each crate, and lists those that its contracts let through.
 plant:
 	for crate in crates/*/; do (cd "$$crate" && rt plant); done
+
+# Proves and builds the program and the one that writes batches, and times the program on two files of them.
+bench: SHELL := bash
+bench:
+	cd crates/replay && rt run -- ../../examples/first_run
+	cd crates/workload && rt run
+	@set -e; folder=$$(mktemp -d); trap 'rm -r "$$folder"' EXIT; \
+	for words in 'skiplisttest 100 2500' 'points 200 500'; do \
+		crates/workload/out/workload $$words > "$$folder/batches"; \
+		TIMEFORMAT="$$words: %R seconds"; \
+		time crates/replay/out/replay "$$folder/batches" > /dev/null; \
+	done

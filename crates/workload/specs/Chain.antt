@@ -1,0 +1,44 @@
+-- What a file holds: the batches of one chain, by their numbers from 0.
+use Rattle.std.specs.Prelude.{◌≡◌, ℕ, ℤ, pos, negsuc, zero, suc, ◌*◌, List, [], ◌++◌, length}
+use Rattle.keyspace.specs.declared.batch.Batch.{Batch}
+use Rattle.wire.specs.Spelling.{SpellsBatch}
+use Rattle.wire.specs.declared.version.WireVersion.TheVariants.{One}
+use Rattle.workload.specs.declared.shape.Shape.{Shape}
+use Rattle.workload.specs.declared.shape.Shape.TheVariants.{SkipListTest, Points}
+
+-- by how much each version is above the one before
+abbrev pub rise_of : Shape → ℕ
+rise_of SkipListTest = 100000
+rise_of Points = 20000
+
+-- how many reads a transaction has
+abbrev pub reads_of : Shape → ℕ
+reads_of SkipListTest = 1
+reads_of Points = 5
+
+-- how many writes a transaction has
+abbrev pub writes_of : Shape → ℕ
+writes_of SkipListTest = 1
+writes_of Points = 2
+
+-- the version of the batch of a number
+abbrev pub version_of : Shape → ℕ → ℤ
+version_of shape number = pos (number * rise_of shape)
+
+-- the version that the batch of a number follows: that of the batch before, or -1
+abbrev pub previous_of : Shape → ℕ → ℤ
+previous_of shape zero = negsuc 0
+previous_of shape (suc before) = version_of shape before
+
+-- the batch of a number, with so many transactions
+pub record IsBatchOf (shape : Shape) (count number : ℕ) (batch : Batch) : Type 0 where
+  pub version : batch.version ≡ version_of shape number
+  pub previous : batch.previous ≡ previous_of shape number
+  pub counted : length batch.txns ≡ count
+
+-- The bytes are the frames of the batches of all numbers below this one, in order, and nothing else.
+abbrev pub AreFrames : Shape → ℕ → ℕ → List ℕ → Type 0
+AreFrames shape count zero bytes = bytes ≡ []
+AreFrames shape count (suc number) bytes =
+    (front last : List ℕ) × (batch : Batch) × (bytes ≡ front ++ last) × AreFrames shape count number front
+    × IsBatchOf shape count number batch × SpellsBatch One last batch

@@ -1,0 +1,53 @@
+//! Why a file could not be written whole.
+
+use std::alloc::{AllocError, AllocFailed};
+use wire::{Failed, WireError};
+
+/// Why a file could not be written whole.
+#[derive(Clone, Copy, Debug, PartialEq, Eq)]
+pub enum Fault {
+    /// Memory was refused.
+    Memory,
+    /// A value is outside the limits of its type, or of its frame.
+    Limit,
+    /// A write failed.
+    Write,
+}
+
+impl Fault {
+    /// Returns the line of standard error.
+    pub fn line(self) -> &'static str {
+        match self {
+            Fault::Memory => "workload: memory is refused\n",
+            Fault::Limit => "workload: a batch is outside its limits\n",
+            Fault::Write => "workload: a write failed\n",
+        }
+    }
+}
+
+impl From<AllocError> for Fault {
+    fn from(_refused: AllocError) -> Fault {
+        Fault::Memory
+    }
+}
+
+impl<T: Drop> From<AllocFailed<T>> for Fault {
+    fn from(_refused: AllocFailed<T>) -> Fault {
+        Fault::Memory
+    }
+}
+
+impl From<WireError> for Fault {
+    fn from(refused: WireError) -> Fault {
+        match refused {
+            WireError::Memory => Fault::Memory,
+            _ => Fault::Limit,
+        }
+    }
+}
+
+impl From<Failed> for Fault {
+    fn from(_failed: Failed) -> Fault {
+        Fault::Write
+    }
+}

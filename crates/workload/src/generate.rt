@@ -1,0 +1,94 @@
+//! Batches of transactions, and their frames.
+
+ghost use Rattle.std.specs.Prelude.{◌≡◌, ◌<◌, ◌≤◌, ◌-◌, ℕ, negsuc, List, IfOk, OnOk, length, vec_len};
+ghost use Rattle.std.specs.Io.KnownBytes.{Appends};
+ghost use Rattle.workload.specs.Chain.{version_of, previous_of, reads_of, writes_of, AreFrames};
+
+use crate::chain::{version, version_before};
+use crate::fault::Fault;
+use crate::keys::draw_ranges;
+use crate::random::Random;
+use crate::shape::Shape;
+use crate::words::Plan;
+use keyspace::{Batch, MAX_RANGES, MAX_TXNS, Sequence, Txn};
+use std::alloc::Global;
+use wire::{Sink, encode_batch_1, write_all};
+
+/// The seed of all files.
+const SEED: u64 = 20_210_620;
+
+/// How many batches before a batch the answer lies that the proxy received last.
+const BATCHES_IN_FLIGHT: u32 = 8;
+
+// Draws a transaction of the batch of this number.
+fn draw_txn(alloc: Global, random: &mut Random, shape: Shape, number: u32) -> Result<Txn, Fault>
+    ensures reads { IfOk result (λ txn. length txn.reads ≡ reads_of shape) }
+    ensures writes { IfOk result (λ txn. length txn.writes ≡ writes_of shape) }
+{
+    let back = shape.look_back(random);
+    let snapshot = version_before(shape, number, back).max(0);
+    let reads = draw_ranges(alloc, random, shape, shape.reads())?;
+    let writes = draw_ranges(alloc, random, shape, shape.writes())?;
+    if snapshot < 0 || reads.len() > MAX_RANGES || writes.len() > MAX_RANGES {
+        return Err(Fault::Limit);
+    }
+    let reads = Sequence::new(reads);
+    Ok(Txn::new(snapshot, false, reads, Sequence::new(writes)))
+}
+
+// Draws so many transactions of the batch of this number.
+fn draw_txns(
+    alloc: Global,
+    random: &mut Random,
+    shape: Shape,
+    number: u32,
+    count: usize,
+) -> Result<Vec<Txn>, Fault>
+    ensures count { IfOk result (λ txns. vec_len txns ≡ count) }
+{
+    let mut txns = Vec::with_capacity(alloc, count)?;
+    for _ in 0..count {
+        txns.push(draw_txn(alloc, random, shape, number)?)?;
+    }
+    Ok(txns)
+}
+
+/// Draws the batch of this number, from 0, with so many transactions. The batches of a shape are one chain: each follows the
+/// version of the one before, and the first follows -1. The proxy has received the answer of eight batches before.
+pub fn draw_batch(
+    alloc: Global,
+    random: &mut Random,
+    shape: Shape,
+    number: u32,
+    count: usize,
+) -> Result<Batch, Fault>
+    ensures version { IfOk result (λ batch. batch.version ≡ version_of shape number) }
+    ensures previous { IfOk result (λ batch. batch.previous ≡ previous_of shape number) }
+    ensures received_none { IfOk result (λ batch. number < 8 → batch.received ≡ negsuc 0) }
+    ensures received { IfOk result (λ batch. 8 ≤ number → batch.received ≡ version_of shape (number - 8)) }
+    ensures count { IfOk result (λ batch. length batch.txns ≡ count) }
+{
+    let txns = draw_txns(alloc, random, shape, number, count)?;
+    if txns.len() > MAX_TXNS {
+        return Err(Fault::Limit);
+    }
+    let previous = version_before(shape, number, 1);
+    let received = version_before(shape, number, BATCHES_IN_FLIGHT);
+    let version = version(shape, number);
+    Ok(Batch::new(previous, version, received, Sequence::new(txns)))
+}
+
+/// Writes the frames of the batches that the plan asks for, and nothing else.
+pub fn write_batches<W: Sink>(alloc: Global, plan: Plan, out: &mut W) -> Result<(), Fault>
+    ensures written { OnOk result ((bytes : List ℕ)
+        × AreFrames plan.shape plan.transactions plan.batches bytes × Appends (W.given out.old) (W.given out.new) bytes) }
+{
+    let mut random = Random::new(SEED);
+    for number in 0..plan.batches {
+        let batch = draw_batch(alloc, &mut random, plan.shape, number, plan.transactions)?;
+        let frame = encode_batch_1(alloc, &batch)?;
+        write_all(out, &frame)?;
+    }
+    out.flush()?;
+    Ok(())
+}
