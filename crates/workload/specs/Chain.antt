@@ -1,5 +1,5 @@
 -- What a file holds: the batches of one chain, by their numbers from 0.
-use Rattle.std.specs.Prelude.{◌≡◌, ℕ, ℤ, pos, negsuc, zero, suc, ◌*◌, List, [], ◌++◌, length}
+use Rattle.std.specs.Prelude.{◌≡◌, ℕ, ◌<◌, ◌≤◌, ◌-◌, ℤ, pos, negsuc, zero, suc, ◌*◌, List, [], ◌++◌, length}
 use Rattle.keyspace.specs.declared.batch.Batch.{Batch}
 use Rattle.wire.specs.Spelling.{SpellsBatch}
 use Rattle.wire.specs.declared.version.WireVersion.TheVariants.{One}
@@ -35,6 +35,9 @@ pub record IsBatchOf (shape : Shape) (count number : ℕ) (batch : Batch) : Type
   pub version : batch.version ≡ version_of shape number
   pub previous : batch.previous ≡ previous_of shape number
   pub counted : length batch.txns ≡ count
+  -- the proxy has received the answer of eight batches before, or none
+  pub received_none : number < 8 → batch.received ≡ negsuc 0
+  pub received : 8 ≤ number → batch.received ≡ version_of shape (number - 8)
 
 -- The bytes are the frames of the batches of all numbers below this one, in order, and nothing else.
 abbrev pub AreFrames : Shape → ℕ → ℕ → List ℕ → Type 0

@@ -14,6 +14,8 @@ loop-number-preserved g c =
       version = c.in_ok-batch.ensures.version;
       previous = c.in_ok-batch.ensures.previous;
       counted = c.in_ok-batch.ensures.count;
+      received_none = c.in_ok-batch.ensures.received_none;
+      received = c.in_ok-batch.ensures.received;
     } in
     let grown = subst (λ (bytes : List ℕ). Appends between after bytes)
     c.deref.ensures.value c.in_ok-write_all.ensures.whole in
