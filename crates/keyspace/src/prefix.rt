@@ -45,7 +45,7 @@ fn common_words(a: &[u8], b: &[u8]) -> usize
 {
     a.chunks_exact(8)
         .zip(b.chunks_exact(8))
-        .take_while(|(x, y)| x == y)
+        .take_while(|(x, y)| digest(x) == digest(y))
         .count()
 }
 

@@ -1,10 +1,11 @@
-use Rattle.std.proofs.Common.{rules, ap, ◌∙◌, ◌≡◌, ◌*◌, take, drop}
+use Rattle.std.proofs.Common.{rules, arith, ap, ◌∙◌, ◌≡◌, ◌*◌, take, drop}
 use Rattle.std.specs.Slice.Iter.{chunks_exact_size, chunks_exact_rest}
 use borrow.Author.Tests.{tests}
-use Rattle.keyspace.proofs.Words.{words_alike, same_of_pair}
+use Rattle.keyspace.specs.Digest.{digest_of}
+use Rattle.keyspace.proofs.Words.{alike_by_digests, same_of_pair}
 use Rattle.keyspace.proofs.prefix.common_words.Goals as goal
 
--- At each place that is counted stands a pair of words, one of each list, which are equal.
+-- At each place that is counted stands a pair of words, one of each list, whose digests are equal.
 pub returns-clause-same : goal.returns-clause-same
 returns-clause-same c =
     let a = c.args.a.now in
@@ -21,14 +22,15 @@ returns-clause-same c =
     let left_words = c.chunks_exact.ensures.runs left left.seen (search rules) in
     let right_words = c.chunks_exact-2.ensures.runs right right.seen (search rules) in
     let equal = (taken.2.2 (λ x r q h. search rules)).0 in
-    words_alike c.count.result a b
-    (λ k less. same_of_pair (counted.0.at k) (left.at k) (right.at k) (λ z. z.now)
-    (take 8 (drop (k * 8) a)) (take 8 (drop (k * 8) b))
+    alike_by_digests c.count.result a b (λ i. omega (arith, c.type_inv.a i)) (λ i. omega (arith, c.type_inv.b i))
+    (search rules) (search rules)
+    (λ k less. same_of_pair (counted.0.at k) (left.at k) (right.at k) (λ z. digest_of z.now)
+    (digest_of (take 8 (drop (k * 8) a))) (digest_of (take 8 (drop (k * 8) b)))
     (counted.0.reads k (c.args.a, c.args.b) (search rules))
     (search rules) (search rules)
     (left_words.2 k) (right_words.2 k) (equal k)
-    (λ z h. h.2.0 ∙ ap (λ n. take n (drop (k * n) (chunks_exact_rest left.from))) left_size
-    ∙ ap (λ xs. take 8 (drop (k * 8) xs)) left_rest)
-    (λ z h. h.2.0 ∙ ap (λ n. take n (drop (k * n) (chunks_exact_rest right.from))) right_size
-    ∙ ap (λ xs. take 8 (drop (k * 8) xs)) right_rest)
+    (λ z h. ap digest_of (h.2.0 ∙ ap (λ n. take n (drop (k * n) (chunks_exact_rest left.from))) left_size
+    ∙ ap (λ xs. take 8 (drop (k * 8) xs)) left_rest))
+    (λ z h. ap digest_of (h.2.0 ∙ ap (λ n. take n (drop (k * n) (chunks_exact_rest right.from))) right_size
+    ∙ ap (λ xs. take 8 (drop (k * 8) xs)) right_rest))
     (λ z h. search (rules, tests)))
