@@ -8,11 +8,11 @@ ghost use Rattle.replay.specs.declared.line.Line.{Line as LineOfAnswer};
 
 use crate::gatekeeper::Gatekeeper;
 use crate::line::Line;
+use crate::pause::pause;
 use keyspace::Answer;
 use lane::{Intake, Taken};
 use std::alloc::Global;
 use std::sync::Wait;
-use std::thread;
 
 /// Takes the answers of one proxy and keeps their lines.
 #[derive(Drop)]
@@ -77,7 +77,7 @@ impl Inbox {
             if self.take_all(rt, gatekeeper) {
                 return;
             }
-            thread::yield_now();
+            pause(rt);
         }
         unreachable!()
     }

@@ -17,6 +17,7 @@ mod lines;
 mod opening;
 mod options;
 mod outcome;
+mod pause;
 mod refusal;
 mod replay;
 mod report;

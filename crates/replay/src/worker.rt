@@ -10,12 +10,12 @@ ghost use Rattle.replay.specs.Worker.{HasWorked, SendsFrames, fault_of, unsent_o
 use crate::gatekeeper::Gatekeeper;
 use crate::inbox::Inbox;
 use crate::line::Line;
+use crate::pause::pause;
 use keyspace::Batch;
 use lane::{Port, Refused};
 use resolver::Client;
 use std::alloc::Global;
 use std::sync::Wait;
-use std::thread;
 use wire::{Frames, Source, WireError, read_frames};
 
 /// What a worker hands back.
@@ -144,7 +144,7 @@ impl Worker {
                 Err(Refused::Full(refused)) => refused,
                 Err(Refused::Closed(refused) | Refused::Worn(refused)) => return Err(refused),
             };
-            thread::yield_now();
+            pause(rt);
         }
         unreachable!()
     }
