@@ -1,12 +1,12 @@
 -- Items placed in a tree in place of those of a range, whose slots are released: what is stored then.
-use Rattle.std.proofs.Common.{◌≡◌, ℕ, ◌+◌, ◌<◌, ◌≤◌, ◌==◌, ◌&&◌, Bool, false, not, List, [], ◌++◌, length, length-append, get_or, Some, is_some, map, sym, ◌∙◌, ap, ap₂, subst, inl, inr, arith}
+use Rattle.std.proofs.Common.{◌≡◌, ℕ, ◌+◌, ◌<◌, ◌≤◌, ◌==◌, ◌&&◌, Bool, false, not, List, [], ◌++◌, length, length-append, get_or, Some, is_some, option_map, map, sym, ◌∙◌, ap, ap₂, subst, inl, inr, arith}
 use Rattle.std.specs.Prelude.{nat_eq}
 use Rattle.std.specs.List.{All, Contains, IsDistinct}
 use Rattle.std.specs.FinMap as finite
 use Rattle.std.proofs.lemmas.List.{map-append, length-map}
 use Rattle.std.proofs.lemmas.List.Elements.{All-append, All-filter, All-map, All-weaker}
 use Rattle.std.proofs.lemmas.Simd.{map-map}
-use Rattle.arena.specs.Arena.{Arena, IsLive, record_at}
+use Rattle.arena.specs.Arena.{Arena, IsLive, record_at, key_at}
 use Rattle.keyspace.specs.Key.{IsBefore}
 use Rattle.tree.specs.declared.entry.Entry.{Entry}
 use Rattle.tree.specs.Item.{Item, item_of}
@@ -202,6 +202,31 @@ module _ {H : Type 0} (old now : Arena H) (ps : List Placed) (placed : ArePlaced
             ∙ ap₂ (λ xs ys. xs ++ ys)
             (boundaries_same now final (map item_at ps) placed_same ∙ placed_are old now ps placed)
             (boundaries_same old final rest rest_same ∙ (stored_cut old tree stored false end).behind))
+
+        -- the items' keys are as where all keys were placed, those of the new items among them
+        pub exchanged_keys : (first : Arena H) (all : List Placed) → ArePlaced old first all
+            → All (λ p. key_at first p.slot ≡ Some p.key) ps
+            → All (λ x. key_at final x.key ≡ key_at first x.key) next.items
+        exchanged_keys first all before keys =
+            let Same = λ (x : Item). key_at final x.key ≡ key_at first x.key in
+            let same : (xs : List Item) → SameRecords old final xs → All (λ x. IsLive old x.key) xs → All Same xs = λ xs e live k d lt.
+            ap (option_map (λ r. r.key)) (e k d lt ∙ sym (live_same old first all before xs live k d lt)) in
+            subst (All Same) (sym items_are)
+            (All-append Same front (map item_at ps ++ rest) (same front front_same front_live)
+            (All-append Same (map item_at ps) rest
+            (All-zip (map item_at ps) placed_same (placed_keys ps placed.keys keys))
+            (same rest rest_same rest_live)))
+          where
+            -- those placed have the same keys in both
+            placed_keys : (ps : List Placed) → All (λ p. key_at now p.slot ≡ Some p.key) ps
+                → All (λ p. key_at first p.slot ≡ Some p.key) ps
+                → All (λ x. key_at now x.key ≡ key_at first x.key) (map item_at ps)
+            placed_keys ps a b =
+                All-map (λ (x : Item). key_at now x.key ≡ key_at first x.key) item_at ps (λ k d lt. a k d lt ∙ sym (b k d lt))
+
+            All-zip : (xs : List Item) → SameRecords now final xs → All (λ x. key_at now x.key ≡ key_at first x.key) xs
+                → All (λ x. key_at final x.key ≡ key_at first x.key) xs
+            All-zip xs a b k d lt = ap (option_map (λ r. r.key)) (a k d lt) ∙ b k d lt
 
         pub exchanged_stored : AreInOrder (boundaries_of final next.items) → IsStored final next
         exchanged_stored order =

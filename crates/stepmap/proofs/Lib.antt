@@ -34,6 +34,7 @@ pub mod Unlinked
 pub mod Clearing
 pub mod ThinnedRun
 pub mod SweepingOn
+pub mod Indexed
 pub mod Inserted
 pub mod Placed
 pub mod WrittenInParts

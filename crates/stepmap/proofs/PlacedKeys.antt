@@ -144,7 +144,7 @@ module _ {H : Type 0} (old : Arena H) where
       ]
 
   -- what has a key is live
-  live_by_key : (a : Arena H) (slot : ℕ) (key : List ℕ) → key_at a slot ≡ Some key → IsLive a slot
+  pub live_by_key : (a : Arena H) (slot : ℕ) (key : List ℕ) → key_at a slot ≡ Some key → IsLive a slot
   live_by_key a slot key = of_record (record_at a slot)
     where
       of_record : (r : Option (Record H)) → option_map (λ x. x.key) r ≡ Some key → IsSome r

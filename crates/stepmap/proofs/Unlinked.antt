@@ -130,7 +130,8 @@ module _ {H : Type 0} where
     module _ (new : Arena H)
         (others : (slot : ℕ) → ¬ Contains (map (λ (e : Entry). e.key) run) slot
         → record_at new slot ≡ record_at old slot) where
-      kept_same : All (λ x. record_at new x.key ≡ record_at old x.key) kept
+      -- the records that are kept stay as they were
+      pub kept_same : All (λ x. record_at new x.key ≡ record_at old x.key) kept
       kept_same i d lt =
           let s = (get_or kept i d).key in
           others s (λ has. absurd (omega (
@@ -142,7 +143,7 @@ module _ {H : Type 0} where
             times_if_contains s (map (λ (e : Entry). e.key) run) has,
           )))
 
-      -- the boundaries that are kept stay as they were
+      -- and so do the boundaries
       pub kept_stay : boundaries_of new kept ≡ boundaries_of old kept
       kept_stay = same_boundaries old new kept kept_same
 

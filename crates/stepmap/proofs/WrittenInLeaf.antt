@@ -12,9 +12,10 @@ use Rattle.keyspace.specs.declared.range.Range.{Range}
 use Rattle.keyspace.proofs.Booleans.{true_or_false, and_left, and_right, not_both_ways}
 use Rattle.keyspace.proofs.KeyOrder.{before_or_same, not_before_itself}
 use Rattle.tree.specs.declared.entry.Entry.{Entry}
+use Rattle.tree.specs.Hints.{AreHinted}
 use Rattle.tree.specs.Item.{Item, item_of}
 use Rattle.tree.specs.Path.{passing, behind, between}
-use Rattle.tree.specs.Tree.{Items, IsLast, ended_by}
+use Rattle.tree.specs.Tree.{Items, IsLast, ended_by, hints_in, KnowItems}
 use Rattle.stepmap.specs.Boundary.{Boundary, AreInOrder, below, from_on, value_at}
 use Rattle.stepmap.specs.Indexes.{up_to}
 use Rattle.stepmap.specs.Cut.{slot_passes}
@@ -22,7 +23,8 @@ use Rattle.stepmap.specs.Stored.{boundary_of, boundaries_of, IsStored}
 use Rattle.stepmap.specs.Writing.{written}
 use Rattle.stepmap.proofs.Between.{between_cuts}
 use Rattle.stepmap.proofs.Cutting.{stored_cut}
-use Rattle.stepmap.proofs.Exchanged.{passing_still, behind_still, between_still, taken_live, taken_distinct, exchanged_boundaries, exchanged_stored}
+use Rattle.stepmap.proofs.Exchanged.{passing_still, behind_still, between_still, taken_live, taken_distinct, exchanged_boundaries, exchanged_keys, exchanged_stored}
+use Rattle.stepmap.proofs.Indexed.{hinted_keys}
 use Rattle.stepmap.proofs.Inserted.{up_to_below}
 use Rattle.stepmap.proofs.LastAndInside.{last_of}
 use Rattle.stepmap.proofs.LastFound.{last_boundary, value_of_last}
@@ -336,3 +338,18 @@ module _ {H : Type 0} (old : Arena H) (tree : Items) (stored : IsStored old tree
               exchanged_stored old later ps left tree stored range.begin range.end not_empty ordered es between_is
               next next_is final others counted
               (subst AreInOrder (sym replaced_boundaries) (written_in_order range filled v bs order))
+
+          -- and what the nodes of the tree know is right
+          pub replaced_hinted : KnowItems next → AreHinted (key_at now) (hints_in next)
+              → AreHinted (key_at final) (hints_in next)
+          replaced_hinted know =
+              hinted_keys now final next know
+              (exchanged_keys old later ps left tree stored range.begin range.end not_empty ordered es between_is next
+              next_is final others counted now all ready (with_key ended))
+            where
+              with_key : (t : Bool) → All (λ p. key_at now p.slot ≡ Some p.key) (both range v w slot (unless_ended t end))
+              with_key true =
+                  let Keeps = λ (p : Placed). key_at now p.slot ≡ Some p.key in
+                  All-cons Keeps (at_begin range v w slot) []
+                  (All-head Keeps (at_begin range v w slot) (at_end range v w slot (Some end)) ready.keys) (All-nil Keeps)
+              with_key false = ready.keys

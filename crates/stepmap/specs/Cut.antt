@@ -1,7 +1,10 @@
 -- Where a key stands beside a cut through boundaries. This project's own.
-use Rattle.std.specs.Prelude.{ℕ, Bool, not, false, if◌then◌else◌, List, option_map, unwrap_or}
+use Rattle.std.specs.Prelude.{◌≡◌, Some, ℕ, Bool, not, true, false, refl, if◌then◌else◌, List, option_map, unwrap_or}
 use Rattle.arena.specs.Arena.{Arena, key_at}
+use mathlib.Core.Path.{sym, ap, subst}
 use Rattle.keyspace.specs.Key.{is_before}
+use Rattle.keyspace.proofs.KeyOrder.{before_at_most_same}
+use Rattle.tree.specs.Hints.{PassesInOrder}
 
 -- whether a key comes before the cut, which is up to a key or before it
 abbrev pub passes_at : Bool → List ℕ → List ℕ → Bool
@@ -10,3 +13,20 @@ passes_at up_to key k = if up_to then not (is_before key k) else is_before k key
 -- whether the key of a slot does; that of a slot without a record doesn't
 abbrev pub slot_passes : {H : Type 0} → Arena H → Bool → List ℕ → ℕ → Bool
 slot_passes keys up_to key slot = unwrap_or (option_map (passes_at up_to key) (key_at keys slot)) false
+
+not_if : (b : Bool) → not b ≡ true → b ≡ false
+not_if true h = sym h
+not_if false h = refl
+
+in_order : (up_to : Bool) (key text : List ℕ) → PassesInOrder text key (passes_at up_to key text)
+in_order true key text =
+    record { before = λ h. before_at_most_same text key h; behind = λ h. ap not h }
+in_order false key text =
+    record { before = λ h. h; behind = λ h. not_if (is_before text key) (before_at_most_same key text h) }
+
+-- whether the key of a slot comes before the cut goes by its bytes
+pub passes_in_order : {H : Type 0} (keys : Arena H) (up_to : Bool) (key : List ℕ) (slot : ℕ) (text : List ℕ)
+    → key_at keys slot ≡ Some text → PassesInOrder text key (slot_passes keys up_to key slot)
+passes_in_order keys up_to key slot text is =
+    subst (λ o. PassesInOrder text key (unwrap_or (option_map (passes_at up_to key) o) false)) (sym is)
+    (in_order up_to key text)

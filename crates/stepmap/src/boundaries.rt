@@ -15,7 +15,7 @@ use crate::key_lengths::{KeyLengths, each_length};
 use crate::release::release;
 use crate::step_map::MAX_LIMIT;
 use arena::{Arena, ArenaError};
-use keyspace::{Range, RangeRef};
+use keyspace::{Range, RangeRef, common};
 use std::alloc::{AllocError, Global};
 use std::marker::Model;
 use tree::{Tree, item};
@@ -32,7 +32,7 @@ pub struct Boundaries<const N: usize> {
 }
 
 impl<const N: usize> Model for Boundaries<N> {
-    ghost use Rattle.stepmap.specs.Stored.{Stored, boundaries_of, IsStored};
+    ghost use Rattle.stepmap.specs.Stored.{Stored, boundaries_of, AreIndexed};
 
     ghost Value = { Stored };
 
@@ -42,7 +42,7 @@ impl<const N: usize> Model for Boundaries<N> {
       room = b.tree.room;
     } };
 
-    ghost invariant = { λ b. IsStored b.keys b.tree };
+    ghost invariant = { λ b. AreIndexed b.keys b.tree };
 }
 
 // What is found where a key is looked up.
@@ -143,7 +143,8 @@ impl<const N: usize> Boundaries<N> {
             key: range.end.as_bytes(),
             up_to: false,
         };
-        self.tree.exceeds_from_last(&begin, &end, version)
+        let shared = common(range.begin.as_bytes(), range.end.as_bytes());
+        self.tree.exceeds_from_last(&begin, &end, shared, version)
     }
 
     // Takes the memory for the boundaries of ranges with keys of these lengths.
@@ -215,8 +216,12 @@ impl<const N: usize> Boundaries<N> {
             up_to: false,
         };
         let past = Cut { up_to: true, ..end };
+        let shared = common(range.begin(), range.end());
         let first = item(begin_key, version);
-        let Some(done) = self.tree.overwrite(&begin, &end, &past, first, end_key) else {
+        let Some(done) = self
+            .tree
+            .overwrite(&begin, &end, &past, shared, first, end_key)
+        else {
             self.keys.release(begin_key);
             self.keys.release(end_key);
             return false;

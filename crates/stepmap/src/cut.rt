@@ -1,4 +1,8 @@
-ghost use Rattle.stepmap.specs.Cut.{slot_passes};
+ghost use Rattle.arena.specs.Arena.{key_at};
+ghost use Rattle.std.specs.Prelude.{◌≡◌, drop};
+ghost use Rattle.keyspace.specs.Key.{IsBytes};
+ghost use Rattle.stepmap.specs.Stored.{bytes_at};
+ghost use Rattle.stepmap.specs.Cut.{slot_passes, passes_in_order};
 
 use arena::{Arena, Slot};
 use keyspace::{common, digest};
@@ -16,6 +20,10 @@ pub struct Cut<'a> {
 
 impl<'a> Probe for Cut<'a> {
     ghost lets_pass = { λ c slot. slot_passes c.keys.now c.up_to c.key.now slot };
+
+    ghost bytes = { λ c slot. key_at c.keys.now slot };
+
+    ghost sought = { λ c. c.key.now };
 
     fn passes(&self, slot: Slot) -> bool {
         if !self.keys.is_live(slot) {
@@ -43,10 +51,14 @@ impl<'a> Probe for Cut<'a> {
     fn common_with(&self, slot: Slot) -> usize {
         common(bytes_of(self.keys, slot), self.key)
     }
+
+    ghost order = { λ c slot text is. passes_in_order c.keys.now c.up_to c.key.now slot text is };
 }
 
 // Returns the bytes of a key, or none if the slot isn't live.
-fn bytes_of(keys: &Arena<()>, slot: Slot) -> &[u8] {
+fn bytes_of(keys: &Arena<()>, slot: Slot) -> &[u8]
+    ensures bytes { result.now ≡ bytes_at keys.now slot }
+{
     if !keys.is_live(slot) {
         return &[];
     }
@@ -54,7 +66,10 @@ fn bytes_of(keys: &Arena<()>, slot: Slot) -> &[u8] {
 }
 
 // Returns the bytes behind so many, if there are any.
-fn behind(key: &[u8], skip: usize) -> &[u8] {
+fn behind(key: &[u8], skip: usize) -> &[u8]
+    ensures behind { result.now ≡ drop skip key.now }
+    ensures are_bytes { IsBytes key.now }
+{
     match key.get(skip..) {
         Some(rest) => rest,
         None => &[],

@@ -22,18 +22,10 @@ use Rattle.tree.proofs.SomeElement.{
   Any-unmap,
 }
 
-pub lt_from_test : (a b : ℤ) → int_lt a b ≡ true → a <ℤ b
-lt_from_test a b h = grind (arith, ints)
-
 pub le_from_test : (a b : ℤ) → int_lt a b ≡ false → b ≤ℤ a
 le_from_test a b h = grind (arith, ints)
 
 -- the test as the code makes it
-pub above_tested : (a b : ℤ) → SFits w64 a → SFits w64 b
-    → int_lt (to_z w64 (of_z w64 a)) (to_z w64 (of_z w64 b)) ≡ true → a <ℤ b
-above_tested a b f g h =
-    rw (to_z-of_z w64 a f, to_z-of_z w64 b g) at (lt_from_test (to_z w64 (of_z w64 a)) (to_z w64 (of_z w64 b)) h)
-
 pub not_above_tested : (a b : ℤ) → SFits w64 a → SFits w64 b
     → int_lt (to_z w64 (of_z w64 a)) (to_z w64 (of_z w64 b)) ≡ false → b ≤ℤ a
 not_above_tested a b f g h =

@@ -14,10 +14,10 @@ use Rattle.tree.proofs.Frames.{Agree}
 same_or_other : (a b : ℕ) → (a ≡ b) ⊎ (a ≢ b)
 same_or_other a b = elim (eqb_tells a b) [ inl same ↦ inl same.1 | inr other ↦ inr other.1 ]
 
-same_number : (a b : ℕ) → a ≡ b → eq_by_cmp nat_cmp a b ≡ true
+pub same_number : (a b : ℕ) → a ≡ b → eq_by_cmp nat_cmp a b ≡ true
 same_number a b e = ap (eq_by_cmp nat_cmp a) (sym e) ∙ (eq_by_cmp_equiv nat_cmp_total).refl a
 
-other_number : (a b : ℕ) → a ≢ b → eq_by_cmp nat_cmp a b ≡ false
+pub other_number : (a b : ℕ) → a ≢ b → eq_by_cmp nat_cmp a b ≡ false
 other_number a b other = grind (arith, nat_tests)
 
 none_or_live : {X : Type 0} (o : Option X) → (o ≡ None) ⊎ IsSome o

@@ -2,15 +2,7 @@
 use Rattle.std.proofs.Common.{◌≡◌, ℕ, zero, suc, ◌≤◌, ◌⊎◌, Bool, true, false, not, List, [], ◌∷◌, ◌++◌, length, get_or, take, drop, filter, All, refl, ap, subst, inl, inr, arith}
 use Rattle.std.specs.List.Sorted.{IsPartitionedBy, IsPartitionPoint}
 use Rattle.std.proofs.lemmas.Bool.{cases_Bool}
-use Rattle.std.proofs.lemmas.List.Elements.{
-  All-nil,
-  All-cons,
-  All-head,
-  All-tail,
-  All-append,
-  All-weaker,
-  filter_passes,
-}
+use Rattle.std.proofs.lemmas.List.Elements.{All-nil, All-cons, All-head, All-tail, All-weaker, filter_passes}
 use Rattle.tree.specs.Path.{IsCut}
 
 pub not_both : (a : Bool) → a ≡ true → a ≡ false → ⊥
@@ -72,11 +64,6 @@ module _ {X : Type 0} (p : X → Bool) where
   Falls-failing (x ∷ xs) a =
       inr (All-head (λ y. p y ≡ false) x xs a, All-tail (λ y. p y ≡ false) x xs a)
 
-  Falls-passing : (xs ys : List X) → All (λ x. p x ≡ true) xs → Falls p ys → Falls p (xs ++ ys)
-  Falls-passing [] ys a f = f
-  Falls-passing (x ∷ xs) ys a f =
-      inl (All-head (λ y. p y ≡ true) x xs a, Falls-passing xs ys (All-tail (λ y. p y ≡ true) x xs a) f)
-
   all_behind : (x : X) (xs ys zs : List X) → p x ≡ false → All (λ y. p y ≡ true) ys
       → All (λ y. p y ≡ false) zs → x ∷ xs ≡ ys ++ x ∷ zs → All (λ y. p y ≡ false) xs
   all_behind x xs [] zs f a b e = let k : zs ≡ xs = cc in subst (All (λ y. p y ≡ false)) k b
@@ -126,22 +113,6 @@ module _ {X : Type 0} (p : X → Bool) where
   IsCut-parts xs ys c =
       let h = Falls-parts xs ys (Falls-from_cut (xs ++ ys) c) in
       (IsCut-from_falls xs h.0, IsCut-from_falls ys h.1, h.2)
-
-  -- behind those that pass a list that is cut may stand
-  pub IsCut-behind : (xs ys : List X) → All (λ x. p x ≡ true) xs → IsCut p ys → IsCut p (xs ++ ys)
-  IsCut-behind xs ys a c = IsCut-from_falls (xs ++ ys) (Falls-passing xs ys a (Falls-from_cut ys c))
-
-  -- before those that fail a list that is cut may stand
-  pub IsCut-before : (xs ys : List X) → IsCut p xs → All (λ x. p x ≡ false) ys → IsCut p (xs ++ ys)
-  IsCut-before xs ys c a = IsCut-from_falls (xs ++ ys) (before xs (Falls-from_cut xs c))
-    where
-      before : (xs : List X) → Falls p xs → Falls p (xs ++ ys)
-      before [] f = Falls-failing ys a
-      before (x ∷ xs) f =
-          elim f [
-            | inl h ↦ inl (h.0, before xs h.1)
-            | inr h ↦ inr (h.0, All-append (λ y. p y ≡ false) xs ys h.1 a)
-          ]
 
   -- behind one that fails all fail
   pub rest_fails : (x : X) (xs : List X) → IsCut p (x ∷ xs) → p x ≡ false → All (λ y. p y ≡ false) (x ∷ xs)

@@ -1,45 +1,13 @@
 -- The child at which a probe goes on, as the code finds it.
-use Rattle.std.proofs.Common.{
-  ◌≡◌,
-  ℕ,
-  suc,
-  ◌+◌,
-  ◌-◌,
-  Bool,
-  true,
-  false,
-  List,
-  [],
-  ◌∷◌,
-  ◌++◌,
-  Some,
-  option_map,
-  unwrap_or,
-  map,
-  take,
-  drop,
-  flat_map,
-  slice_get,
-  slice_index_or,
-  All,
-  sym,
-  ◌∙◌,
-  ap,
-  subst,
-  refl,
-  inl,
-  inr,
-  arith,
-  append_assoc,
-}
+use Rattle.std.proofs.Common.{◌≡◌, ℕ, suc, ◌-◌, Bool, false, List, [], ◌∷◌, Some, option_map, unwrap_or, map, slice_get, slice_index_or, All, sym, ◌∙◌, ap, subst, refl, inl, inr, arith}
 use Rattle.std.proofs.lemmas.Option.{get_or_from_slice_get}
-use Rattle.std.proofs.lemmas.List.Elements.{All-nil, All-cons, All-head, All-tail, All-append}
+use Rattle.std.proofs.lemmas.List.Elements.{All-nil, All-cons, All-head, All-tail}
 use Rattle.arena.specs.Arena.{Arena, header_at}
 use Rattle.tree.specs.declared.entry.Entry.{Entry}
 use Rattle.tree.specs.declared.node.Node.{Node}
 use Rattle.tree.specs.Item.{Item, item_of}
 use Rattle.tree.specs.Node.{entries_of}
-use Rattle.tree.specs.Path.{IsCut, index_in, child_in, leaf_in, before_leaf, behind_leaf}
+use Rattle.tree.specs.Path.{IsCut, index_in, child_in, leaf_in}
 use Rattle.tree.specs.Subtree.{entries_at, items_in, IsSubtree}
 use Rattle.tree.proofs.Cuts.{Falls, Falls-from_cut, IsCut-from_falls}
 use Rattle.tree.proofs.Ways.{IsWay, way}
@@ -126,46 +94,3 @@ module _ {N : ℕ} (nodes : Arena (Node N)) (least height slot : ℕ) (passes : 
   found_leaf leaf e =
       subst (λ n. leaf ≡ leaf_in nodes n slot passes) f.lower
       (subst (λ s. leaf ≡ leaf_in nodes (height - 1) s passes) is_child e)
-
-  pub found_before : All (λ x. passes x.key ≡ true) (before_leaf nodes (height - 1) child passes)
-      → All (λ x. passes x.key ≡ true) (before_leaf nodes height slot passes)
-  found_before a =
-      subst (λ n. All (λ (x : Item). passes x.key ≡ true) (before_leaf nodes n slot passes)) f.lower
-      (All-append (λ (x : Item). passes x.key ≡ true)
-      (flat_map (λ e. items_in nodes (height - 1) e.child)
-      (take (index_in passes (entries_at nodes slot)) (entries_at nodes slot)))
-      (before_leaf nodes (height - 1) (child_in passes (entries_at nodes slot)) passes) f.way.before
-      (subst (λ s. All (λ (x : Item). passes x.key ≡ true) (before_leaf nodes (height - 1) s passes)) is_child a))
-
-  pub found_behind : All (λ x. passes x.key ≡ false) (behind_leaf nodes (height - 1) child passes)
-      → All (λ x. passes x.key ≡ false) (behind_leaf nodes height slot passes)
-  found_behind a =
-      subst (λ n. All (λ (x : Item). passes x.key ≡ false) (behind_leaf nodes n slot passes)) f.lower
-      (All-append (λ (x : Item). passes x.key ≡ false)
-      (behind_leaf nodes (height - 1) (child_in passes (entries_at nodes slot)) passes)
-      (flat_map (λ e. items_in nodes (height - 1) e.child)
-      (drop (index_in passes (entries_at nodes slot) + 1) (entries_at nodes slot)))
-      (subst (λ s. All (λ (x : Item). passes x.key ≡ false) (behind_leaf nodes (height - 1) s passes)) is_child a)
-      f.way.behind)
-
-  regroup : (a b m h r : List Item) → a ++ ((b ++ (m ++ h)) ++ r) ≡ (a ++ b) ++ (m ++ (h ++ r))
-  regroup a b m h r = simp append_assoc
-
-  pub found_items : (m : List Item)
-      → items_in nodes (height - 1) child
-      ≡ before_leaf nodes (height - 1) child passes ++ (m ++ behind_leaf nodes (height - 1) child passes)
-      → items_in nodes height slot
-      ≡ before_leaf nodes height slot passes ++ (m ++ behind_leaf nodes height slot passes)
-  found_items m e =
-      let below = subst (λ s. items_in nodes (height - 1) s
-      ≡ before_leaf nodes (height - 1) s passes ++ (m ++ behind_leaf nodes (height - 1) s passes)) is_child e in
-      let a = flat_map (λ (e : Entry). items_in nodes (height - 1) e.child)
-      (take (index_in passes (entries_at nodes slot)) (entries_at nodes slot)) in
-      let r = flat_map (λ (e : Entry). items_in nodes (height - 1) e.child)
-      (drop (index_in passes (entries_at nodes slot) + 1) (entries_at nodes slot)) in
-      let s = child_in passes (entries_at nodes slot) in
-      subst (λ n. items_in nodes n slot
-      ≡ before_leaf nodes n slot passes ++ (m ++ behind_leaf nodes n slot passes)) f.lower
-      (f.way.items ∙ ap (λ c. a ++ (items_in nodes (height - 1) c ++ r)) f.way.child
-      ∙ ap (λ xs. a ++ (xs ++ r)) below
-      ∙ regroup a (before_leaf nodes (height - 1) s passes) m (behind_leaf nodes (height - 1) s passes) r)

@@ -97,12 +97,6 @@ key_of_child nodes least height slot passes child f header es index key next h e
     ∙ ap (first_key key) (sym (behind-parts passes a c b f.way.before f.way.behind))
     ∙ ap (λ xs. first_key key (behind passes xs)) (sym items)
 
--- behind the leaf: there is none in the leaf itself
-pub key_behind_no_child : {N : ℕ} (nodes : Arena (Node N)) (height slot : ℕ) (passes : ℕ → Bool) (key : Option ℕ)
-    → height ≡ 0 → key ≡ first_key key (behind_leaf nodes height slot passes)
-key_behind_no_child nodes height slot passes key z =
-    subst (λ n. key ≡ first_key key (behind_leaf nodes n slot passes)) (sym z) refl
-
 -- behind the leaf, above it: of the child, or else that of the next entry
 pub key_behind_child : {N : ℕ} (nodes : Arena (Node N)) (least height slot : ℕ) (passes : ℕ → Bool) (child : ℕ)
     → IsFound nodes least height slot passes child → (header : Node N) (es : List Entry) (index : ℕ)

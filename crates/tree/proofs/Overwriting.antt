@@ -25,13 +25,6 @@ pub items_put : (ended : Bool) (first second : Entry) (x : Item) (others : List 
 items_put true first second x others is = refl
 items_put false first second x others is = ap (λ y. item_of first ∷ (y ∷ others)) is
 
--- the key of the first item behind a part of the leaf
-pub first_behind : (rest : List Entry) (after : List Item) (otherwise : Option ℕ)
-    → (rest ≡ [] → otherwise ≡ first_key None after)
-    → first_key otherwise (map item_of rest) ≡ first_key None (map item_of rest ++ after)
-first_behind [] after otherwise is = is refl
-first_behind (e ∷ rest) after otherwise is = refl
-
 -- those that pass the second cut, of those that don't pass the first
 between_is : (q r : ℕ → Bool) (items : List Item)
     → filter (λ (x : Item). not (q x.key) && r x.key) items ≡ passing r (behind q items)

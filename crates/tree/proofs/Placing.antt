@@ -7,7 +7,7 @@ use Rattle.tree.specs.declared.node.Node.{Node}
 use Rattle.tree.specs.Node.{entries_of}
 use Rattle.tree.specs.Subtree.{entries_at}
 use Rattle.tree.specs.Replace.{IsKeyless}
-use Rattle.tree.proofs.Times.{times, once, once_cases, once_same}
+use Rattle.tree.proofs.Times.{times, once_cases}
 use Rattle.tree.proofs.Changing.{Moves, moves_beside, moves_header, record_put, record_kept}
 
 one_spare : (spare slots then : ℕ) → 0 < spare → then + 1 ≡ cond (nat_eq spare 0) slots spare → then + 1 ≡ spare
@@ -25,10 +25,6 @@ pair_once x y apart s = elim (once_cases s x) [
     | inr other ↦ omega (arith, one.1, other.1)
   ]
 ]
-
-pub apart_if_once : (x y : ℕ) (more : ℕ → ℕ) → ((s : ℕ) → once s x + (once s y + more s) ≤ 1) → x ≢ y
-apart_if_once x y more few same =
-    let e : once y x ≡ 1 = ap (once y) same ∙ once_same y in omega (arith, few y, once_same y)
 
 module _ {N : ℕ} where
   pub entries_from_header : (a : Arena (Node N)) (slot : ℕ) (node : Node N) → header_at a slot ≡ Some node

@@ -64,18 +64,6 @@ pub Any-right : {X : Type 0} (P : X → Type 0) (xs ys : List X) → Any P ys �
 Any-right P [] ys a = a
 Any-right P (x ∷ xs) ys a = Any-later P x (xs ++ ys) (Any-right P xs ys a)
 
--- one more at the end
-pub Any-longer : {X : Type 0} (P : X → Type 0) (xs : List X) (y : X) → Any P xs → Any P (xs ++ y ∷ [])
-Any-longer P xs y a = Any-left P xs (y ∷ []) a
-
-pub Any-push_cases : {X : Type 0} (P : X → Type 0) (xs : List X) (y : X) → Any P (xs ++ y ∷ [])
-    → Any P xs ⊎ P y
-Any-push_cases P xs y a =
-    elim (Any-parts P xs (y ∷ []) a) [
-      | inl b ↦ inl b
-      | inr b ↦ elim (Any-cases P y [] b) [ inl p ↦ inr p | inr none ↦ absurd (Any-none P none) ]
-    ]
-
 -- of the values of a function, and of what it is taken of
 pub Any-map : {X Y : Type 0} (f : X → Y) (P : Y → Type 0) (xs : List X) → Any (λ x. P (f x)) xs
     → Any P (map f xs)

@@ -1,8 +1,9 @@
 -- In the order in which one reads them aloud.
 pub mod Item
+pub mod Hints
 pub mod Node
 pub mod Subtree
 pub mod Path
-pub mod Leaf
 pub mod Tree
 pub mod Replace
+pub mod Tests

@@ -1,10 +1,13 @@
 -- What a tree is seen as. This project's own.
-use Rattle.std.specs.Prelude.{◌≡◌, ℕ, ◌+◌, ◌-◌, ◌*◌, ◌/◌, ◌≤◌, Bool, ℤ, int_lt, ◌&&◌, if◌then◌else◌, List, [], ◌∷◌, ◌++◌, length, max, nat_eq}
-use Rattle.std.specs.List.{IsDistinct}
+use Rattle.std.specs.Prelude.{◌≡◌, ℕ, ◌+◌, ◌-◌, ◌*◌, ◌/◌, ◌≤◌, Bool, ℤ, int_lt, ◌&&◌, if◌then◌else◌, List, [], ◌∷◌, ◌++◌, length, map, max, nat_eq, Option, IfSome}
+use Rattle.std.specs.List.{All, Contains, IsDistinct}
 use Rattle.std.specs.FinMap as map
+use Rattle.std.specs.FinMap.{find}
+use Rattle.std.specs.Ordering.{nat_cmp}
 use Rattle.arena.specs.Arena.{Arena, spare_of}
 use Rattle.tree.specs.declared.node.Node.{Node}
 use Rattle.tree.specs.Item.{Item}
+use Rattle.tree.specs.Hints.{Hint}
 use Rattle.tree.specs.Subtree.{entries_at, items_in, slots_in, IsSubtree}
 use Rattle.tree.specs.Replace.{IsKeyless}
 
@@ -14,6 +17,16 @@ pub record Items : Type 0 where
   pub items : List Item
   -- for how many items nodes are reserved
   pub room : ℕ
+  -- what its nodes know of the bytes of keys, each by its slot
+  pub hints : List (ℕ × Hint)
+
+-- what the node at a slot knows
+abbrev pub hints_in : Items → ℕ → Option Hint
+hints_in tree slot = find nat_cmp slot tree.hints
+
+-- each key of which a node knows is that of an item
+abbrev pub KnowItems : Items → Type 0
+KnowItems tree = (s : ℕ) → IfSome (hints_in tree s) (λ hint. All (λ key. Contains (map (λ x. x.key) tree.items) key) hint.keys)
 
 -- the last of a list
 abbrev pub IsLast : {X : Type 0} → X → List X → Type 0

@@ -5,8 +5,8 @@
 //! for a child has the first key and the greatest version of its subtree.
 #![tactic(auto)]
 
+mod descent;
 mod entry;
-mod guess;
 mod mend;
 mod node;
 mod probe;

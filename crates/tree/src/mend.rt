@@ -3,7 +3,8 @@
 ghost use Rattle.std.specs.Prelude.{◌≡◌, ◌≢◌, ◌≤◌, ◌<◌, ◌+◌, ◌*◌, ◌++◌, ◌∷◌, ℕ, [], length};
 ghost use Rattle.arena.specs.Arena.{IsLive, spare_of};
 ghost use Rattle.tree.specs.Item.{Tells};
-ghost use Rattle.tree.specs.Node.{entries_of};
+ghost use Rattle.tree.specs.Hints.{AreHinted, IsKnown, KeyBytes};
+ghost use Rattle.tree.specs.Node.{entries_of, hints_of};
 ghost use Rattle.tree.specs.Subtree.{entries_at, items_in, IsSubtree};
 ghost use Rattle.tree.specs.Tree.{least_of};
 ghost use Rattle.tree.specs.Replace.{child_at, Changes, IsFamily, IsKeyless, IsMended};
@@ -26,6 +27,7 @@ pub fn summary<const N: usize>(nodes: &Arena<Node<N>>, child: Slot) -> Entry
     requires some { 0 < length (entries_at nodes.now child) }
     ensures child { result.child ≡ child }
     ensures tells { (height least : ℕ) → IsSubtree nodes.now least height child → Tells result (items_in nodes.now height child) }
+    ensures known { (bytes : KeyBytes) → AreHinted bytes (hints_of nodes.now) → IsKnown bytes result.key }
 {
     let node = nodes.header_ref(child);
     Entry {
@@ -47,10 +49,12 @@ pub fn mend<P: Probe, const N: usize>(
     requires several { 2 ≤ length (entries_of node.old) }
     requires keyless { IsKeyless nodes.old }
     requires family { (height : ℕ) × IsFamily nodes.old (least_of N) height (entries_of node.old) index (index + 1) }
+    requires hinted { AreHinted (P.bytes probe.now) (hints_of nodes.old) }
     ensures mended { (height : ℕ) → IsFamily nodes.old (least_of N) height (entries_of node.old) index (index + 1)
         → IsMended nodes.old nodes.new (least_of N) height (entries_of node.old) (entries_of node.new) }
     ensures few_less { length (entries_of node.old) ≤ length (entries_of node.new) + 1 }
     ensures spare { spare_of nodes.old 0 ≤ spare_of nodes.new 0 }
+    ensures hinted { AreHinted (P.bytes probe.now) (hints_of nodes.new) }
 {
     let child = node.entries()[index].child;
     if nodes.header_ref(child).len() >= least(N) {
@@ -73,10 +77,12 @@ fn share<P: Probe, const N: usize>(
         + length (entries_at nodes.old (child_at (entries_of node.old) (index + 1))) }
     requires keyless { IsKeyless nodes.old }
     requires family { (height : ℕ) × IsFamily nodes.old (least_of N) height (entries_of node.old) index (index + 2) }
+    requires hinted { AreHinted (P.bytes probe.now) (hints_of nodes.old) }
     ensures mended { (height : ℕ) → IsFamily nodes.old (least_of N) height (entries_of node.old) index (index + 2)
         → IsMended nodes.old nodes.new (least_of N) height (entries_of node.old) (entries_of node.new) }
     ensures few_less { length (entries_of node.old) ≤ length (entries_of node.new) + 1 }
     ensures spare { spare_of nodes.old 0 ≤ spare_of nodes.new 0 }
+    ensures hinted { AreHinted (P.bytes probe.now) (hints_of nodes.new) }
 {
     let first = node.entries()[index].child;
     let second = node.entries()[index + 1].child;
@@ -99,12 +105,14 @@ fn join<P: Probe, const N: usize>(nodes: &mut Arena<Node<N>>, first: Slot, secon
     requires apart { first ≢ second }
     requires room { length (entries_at nodes.old first) + length (entries_at nodes.old second) ≤ N }
     requires keyless { IsKeyless nodes.old }
+    requires hinted { AreHinted (P.bytes probe.now) (hints_of nodes.old) }
     ensures entries { entries_at nodes.new first ≡ entries_at nodes.old first ++ entries_at nodes.old second }
     ensures changes { Changes nodes.old nodes.new (first ∷ second ∷ []) (first ∷ []) }
+    ensures hinted { AreHinted (P.bytes probe.now) (hints_of nodes.new) }
 {
     let mut joined = nodes.header(first);
     joined.append(nodes.header_ref(second));
-    joined.renew_hints(probe);
+    joined.take_hints(nodes.header_ref(first), probe);
     nodes.set_header(first, joined);
     nodes.release(second);
 }
@@ -121,17 +129,19 @@ fn even_out<P: Probe, const N: usize>(
     requires apart { first ≢ second }
     requires many { N < length (entries_at nodes.old first) + length (entries_at nodes.old second) }
     requires keyless { IsKeyless nodes.old }
+    requires hinted { AreHinted (P.bytes probe.now) (hints_of nodes.old) }
     ensures entries { entries_at nodes.new first ++ entries_at nodes.new second
         ≡ entries_at nodes.old first ++ entries_at nodes.old second }
     ensures left { N ≤ 2 * length (entries_at nodes.new first) }
     ensures right { N ≤ 2 * length (entries_at nodes.new second) }
     ensures changes { Changes nodes.old nodes.new (first ∷ second ∷ []) (first ∷ second ∷ []) }
+    ensures hinted { AreHinted (P.bytes probe.now) (hints_of nodes.new) }
 {
     let mut left = nodes.header(first);
     let mut right = nodes.header(second);
     left.even_out(&mut right);
-    left.renew_hints(probe);
-    right.renew_hints(probe);
+    left.take_hints(nodes.header_ref(first), probe);
+    right.take_hints(nodes.header_ref(second), probe);
     nodes.set_header(first, left);
     nodes.set_header(second, right);
 }

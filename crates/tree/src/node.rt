@@ -8,14 +8,14 @@ mod hints;
 #[cfg(test)]
 mod tests;
 
-pub use hints::Guess;
+pub use hints::Step;
 
 /// Up to `N` entries. Contracts see them as the list `entries_of`.
 #[derive(Clone, Copy, Debug)]
 pub struct Node<const N: usize> {
     len: usize,
     // How many bytes the keys begin with in common, or fewer.
-    skip: usize,
+    skip: u16,
     // The digest of each key, behind these.
     digests: [u64; N],
     entries: [Entry; N],
@@ -25,12 +25,13 @@ pub struct Node<const N: usize> {
 impl<const N: usize> Node<N> {
     ghost use Rattle.std.specs.Prelude.{◌≡◌, ◌<◌, ◌+◌, ◌-◌, ◌*◌, ◌∷◌, ◌++◌, [], length, take, drop, slice_set, Some, None, IfSome, MatchOption};
     ghost use Rattle.tree.specs.Item.{IsGreatest, version_of};
-    ghost use Rattle.tree.specs.Node.{entries_of};
+    ghost use Rattle.tree.specs.Node.{digests_in, entries_of, hint_of, keys_of};
 
-    /// Returns a node of one entry.
+    /// Returns a node of one entry. What it knows is right if the key is empty.
     pub fn of(entry: Entry) -> Self
         requires room { 1 ≤ N }
         ensures entries { entries_of result ≡ entry ∷ [] }
+        ensures hint { hint_of result ≡ record { keys = entry.key ∷ []; skip = 0; digests = 0 ∷ [] } }
     {
         Node {
             len: 1,
@@ -60,6 +61,7 @@ impl<const N: usize> Node<N> {
     pub fn set(&mut self, index: usize, entry: Entry)
         requires within { index < length (entries_of self.old) }
         ensures entries { (entries_of self.new) ≡ slice_set (entries_of self.old) index entry }
+        ensures hint { hint_of self.new ≡ record (hint_of self.old) { keys = keys_of (entries_of self.new) } }
     {
         self.entries[index] = entry;
     }
@@ -91,6 +93,9 @@ impl<const N: usize> Node<N> {
         requires within { to ≤ length (entries_of self.old) }
         requires room { from + length new.now + (length (entries_of self.old) - to) ≤ N }
         ensures entries { (entries_of self.new) ≡ take from (entries_of self.old) ++ (new.now ++ drop to (entries_of self.old)) }
+        ensures skip { (hint_of self.new).skip ≡ (hint_of self.old).skip }
+        ensures digests { digests_in self.new ≡ digests_in self.old }
+        ensures count { length (hint_of self.new).digests ≡ length (entries_of self.new) }
     {
         let end = from + new.len();
         self.entries.copy_within(to..self.len, end);

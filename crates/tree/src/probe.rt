@@ -1,30 +1,50 @@
 //! What is looked for in a tree.
 
-ghost use Rattle.std.specs.Prelude.{◌≡◌, ℕ, Bool};
+ghost use Rattle.std.specs.Prelude.{◌≡◌, ◌≤◌, ℕ, Bool, List, length, take, Option, Some};
+ghost use Rattle.keyspace.specs.Key.{IsBytes};
+ghost use Rattle.tree.specs.Hints.{KeyBytes, digest_behind, PassesInOrder, TellsCommon};
 
 use arena::Slot;
 
 /// A cut through items in the order of their keys. Those before it pass.
 ///
-/// Beside the test itself, a probe tells of the bytes of keys. These are hints: a search is faster where they are right, and
-/// finds the same where they aren't.
+/// A probe knows the bytes of keys and those that are looked for. Whether an item passes goes by them: those before what is
+/// looked for pass, and those behind it don't.
 pub trait Probe {
     // Whether an item of this key passes.
     ghost lets_pass: { Self → ℕ → Bool };
+
+    // The bytes of keys, of those that are known.
+    ghost bytes: { Self → ℕ → Option (List ℕ) };
+
+    // The bytes that are looked for.
+    ghost sought: { Self → List ℕ };
 
     /// Returns whether an item of this key passes.
     fn passes(&self, key: Slot) -> bool
         ensures passes { result ≡ lets_pass self.now key };
 
-    /// Returns the eight bytes of what is looked for, behind so many, as a big-endian number.
-    fn digest(&self, skip: usize) -> u64;
+    /// Returns the digest of what is looked for, behind so many bytes.
+    fn digest(&self, skip: usize) -> u64
+        ensures digest { result ≡ digest_behind skip (sought self.now) }
+        ensures are_bytes { IsBytes (sought self.now) };
 
-    /// Returns the eight bytes of a key, behind so many, as a big-endian number.
-    fn digest_of(&self, key: Slot, skip: usize) -> u64;
+    /// Returns the digest of a key, behind so many bytes.
+    fn digest_of(&self, key: Slot, skip: usize) -> u64
+        ensures digest { (text : List ℕ) → bytes self.now key ≡ Some text → result ≡ digest_behind skip text };
 
     /// Returns how many bytes two keys begin with in common.
-    fn common(&self, one: Slot, other: Slot) -> usize;
+    fn common(&self, one: Slot, other: Slot) -> usize
+        ensures same { (a b : List ℕ) → bytes self.now one ≡ Some a → bytes self.now other ≡ Some b
+            → take result a ≡ take result b }
+        ensures within { (a b : List ℕ) → bytes self.now one ≡ Some a → bytes self.now other ≡ Some b
+            → (result ≤ length a) × (result ≤ length b) };
 
     /// Returns how many bytes a key and what is looked for begin with in common.
-    fn common_with(&self, key: Slot) -> usize;
+    fn common_with(&self, key: Slot) -> usize
+        ensures common { (text : List ℕ) → bytes self.now key ≡ Some text → TellsCommon result text (sought self.now) };
+
+    // A key that comes before what is looked for passes, and one behind it doesn't.
+    ghost order: { (probe : Self) (key : ℕ) (text : List ℕ) → bytes probe key ≡ Some text
+        → PassesInOrder text (sought probe) (lets_pass probe key) };
 }

@@ -1,29 +1,31 @@
 //! The replacement of a leaf.
 
 ghost use Rattle.std.specs.Prelude.{◌≡◌, ◌≢◌, ◌≤◌, ◌<◌, ◌+◌, ◌*◌, ◌++◌, ◌∷◌, ◌⊎◌, ℕ, [], length, take, drop, map, option_map, nat_eq, MatchOption, IfSome, IsSome, IsSomeAnd, None, Some};
-ghost use Rattle.std.specs.List.{Contains, IsDistinct};
+ghost use Rattle.std.specs.List.{All, Contains, IsDistinct};
 ghost use Rattle.std.specs.FinMap as map_of;
 ghost use Rattle.arena.specs.Arena.{IsLive, record_at, spare_of};
 ghost use Rattle.tree.specs.Item.{item_of};
-ghost use Rattle.tree.specs.Node.{entries_of};
+ghost use Rattle.tree.specs.Hints.{AreHinted, IsHinted, IsKnown, KeyBytes, KnowsAt};
+ghost use Rattle.tree.specs.Node.{entries_of, hint_of, hints_of, keys_of};
 ghost use Rattle.tree.specs.Subtree.{entries_at, items_in, slots_in, IsSubtree};
 ghost use Rattle.tree.specs.Path.{IsCut, before_leaf, behind_leaf};
 ghost use Rattle.tree.specs.Tree.{least_of};
 ghost use Rattle.tree.specs.Replace.{child_at, entries_at_both, entries_with, items_with, slot_taken, slots_with, Changes, IsFamilyAt, IsKeyless, IsLinked, IsMendedAt};
 
-use crate::guess::index_near;
 use crate::mend::{least, mend, summary};
 use crate::node::Node;
 use crate::probe::Probe;
 use arena::{Arena, Slot};
 
-/// Puts nodes in place of the leaf that [`leaf_of`](crate::search::leaf_of) finds, and mends the nodes above it. Returns the slot
-/// of the right neighbour where the subtree is split in two. Takes at most one slot at each height.
+/// Puts nodes in place of the leaf that [`find`](crate::descent::find) finds, and mends the nodes above it. Returns the slot
+/// of the right neighbour where the subtree is split in two. Takes at most one slot at each height. `known` is how many bytes the
+/// first key of the subtree and what is looked for begin with in common, or none if that key doesn't pass.
 pub fn replace_leaf<P: Probe, const N: usize>(
     nodes: &mut Arena<Node<N>>,
     slot: Slot,
     height: usize,
     probe: &P,
+    known: Option<usize>,
     left: &Node<N>,
     right: Option<&Node<N>>,
 ) -> Option<Slot>
@@ -35,6 +37,11 @@ pub fn replace_leaf<P: Probe, const N: usize>(
     requires cut { IsCut (λ x. P.lets_pass probe.now x.key) (items_in nodes.old height slot) }
     requires room { height < spare_of nodes.old 0 }
     requires filled { IfSome right (λ r. (least_of N ≤ length (entries_of left.now)) × (least_of N ≤ length (entries_of r.now))) }
+    requires some { 1 ≤ length (entries_at nodes.old slot) }
+    requires known { KnowsAt (P.bytes probe.now) (P.lets_pass probe.now) (P.sought probe.now) known (entries_at nodes.old slot) 0 }
+    requires hinted { AreHinted (P.bytes probe.now) (hints_of nodes.old) }
+    requires left { IsHinted (P.bytes probe.now) (hint_of left.now) }
+    requires right { IfSome right (λ r. All (IsKnown (P.bytes probe.now)) (keys_of (entries_of r.now))) }
 
     // What the subtree holds afterwards, with its right neighbour.
     ensures items { items_with nodes.new height slot result ≡ before_leaf nodes.old height slot (P.lets_pass probe.now)
@@ -50,18 +57,18 @@ pub fn replace_leaf<P: Probe, const N: usize>(
     // Which slots it uses, and what stays.
     ensures changes { Changes nodes.old nodes.new (slots_in nodes.old height slot) (slots_with nodes.new height slot result) }
     ensures taken { spare_of nodes.old 0 ≤ spare_of nodes.new 0 + (height + 1) }
+    ensures hinted { AreHinted (P.bytes probe.now) (hints_of nodes.new) }
 {
     if height == 0 {
         return store(nodes, slot, left, right, probe);
     }
     let node = nodes.header_ref(slot);
-    let guess = node.guess(probe, usize::MAX);
-    let index = index_near(node.entries(), guess.index, probe);
-    let child = node.entries()[index].child;
-    match replace_leaf(nodes, child, height - 1, probe, left, right) {
-        Some(added) => link_child(nodes, slot, index, added, probe),
+    let step = node.step(probe, known);
+    let child = node.entries()[step.index].child;
+    match replace_leaf(nodes, child, height - 1, probe, step.known, left, right) {
+        Some(added) => link_child(nodes, slot, step.index, added, probe),
         None => {
-            mend_child(nodes, slot, index, probe);
+            mend_child(nodes, slot, step.index, probe);
             None
         }
     }
@@ -83,6 +90,7 @@ fn link_child<P: Probe, const N: usize>(
     requires some_added { 0 < length (entries_at nodes.old added) }
     requires keyless { IsKeyless nodes.old }
     requires room { 0 < spare_of nodes.old 0 }
+    requires hinted { AreHinted (P.bytes probe.now) (hints_of nodes.old) }
     ensures linked { IsLinked nodes.old (child_at (entries_at nodes.old slot) index) added (take index (entries_at nodes.old slot))
         (drop (index + 1) (entries_at nodes.old slot)) (entries_at_both nodes.new slot result) }
     ensures left { IfSome result (λ _. N ≤ 2 * length (entries_at nodes.new slot)) }
@@ -91,6 +99,7 @@ fn link_child<P: Probe, const N: usize>(
     ensures right_live { IfSome result (λ right. IsLive nodes.new right) }
     ensures changes { Changes nodes.old nodes.new (slot ∷ []) (slot ∷ slot_taken result) }
     ensures taken { spare_of nodes.old 0 ≤ spare_of nodes.new 0 + 1 }
+    ensures hinted { AreHinted (P.bytes probe.now) (hints_of nodes.new) }
 {
     let mut node = nodes.header(slot);
     let right = link(nodes, &mut node, index, added);
@@ -112,10 +121,12 @@ fn mend_child<P: Probe, const N: usize>(
     requires several { 2 ≤ length (entries_at nodes.old slot) }
     requires keyless { IsKeyless nodes.old }
     requires family { (height : ℕ) × IsFamilyAt nodes.old (least_of N) height slot index }
+    requires hinted { AreHinted (P.bytes probe.now) (hints_of nodes.old) }
     ensures mended { (height : ℕ) → IsFamilyAt nodes.old (least_of N) height slot index
         → IsMendedAt nodes.old nodes.new (least_of N) height slot }
     ensures few_less { length (entries_at nodes.old slot) ≤ length (entries_at nodes.new slot) + 1 }
     ensures spare { spare_of nodes.old 0 ≤ spare_of nodes.new 0 }
+    ensures hinted { AreHinted (P.bytes probe.now) (hints_of nodes.new) }
 {
     let child = nodes.header_ref(slot).entries()[index].child;
     if nodes.header_ref(child).len() >= least(N) {
@@ -146,6 +157,8 @@ fn link<const N: usize>(
         (drop (index + 1) (entries_of node.old)) (entries_with node.new result) }
     ensures left { IfSome result (λ _. N ≤ 2 * length (entries_of node.new)) }
     ensures right { IfSome result (λ right. N ≤ 2 * length (entries_of right)) }
+    ensures known { (bytes : KeyBytes) → AreHinted bytes (hints_of nodes.now) → All (IsKnown bytes) (keys_of (entries_of node.old))
+        → All (IsKnown bytes) (keys_of (entries_with node.new result)) }
 {
     let child = node.entries()[index].child;
     node.set(index, summary(nodes, child));
@@ -163,29 +176,36 @@ fn store<P: Probe, const N: usize>(
     requires live { IsLive nodes.old slot }
     requires keyless { IsKeyless nodes.old }
     requires room { IsSome right → 0 < spare_of nodes.old 0 }
+    requires hinted { AreHinted (P.bytes probe.now) (hints_of nodes.old) }
+    requires left { IsHinted (P.bytes probe.now) (hint_of node.now) }
+    requires right { IfSome right (λ r. All (IsKnown (P.bytes probe.now)) (keys_of (entries_of r.now))) }
     ensures node { entries_at nodes.new slot ≡ entries_of node.now }
     ensures live { IsLive nodes.new slot }
     ensures right { MatchOption right.entry (result ≡ None) (λ r. IsSomeAnd result (λ added. entries_at nodes.new added ≡ entries_of r.now)) }
     ensures added { IfSome result (λ added. IsLive nodes.new added) }
     ensures changes { Changes nodes.old nodes.new (slot ∷ []) (slot ∷ slot_taken result) }
     ensures taken { spare_of nodes.old 0 ≤ spare_of nodes.new 0 + 1 }
+    ensures hinted { AreHinted (P.bytes probe.now) (hints_of nodes.new) }
 {
+    let Some(right) = right else {
+        nodes.set_header(slot, *node);
+        return None;
+    };
+    let mut added = *right;
+    added.take_hints(nodes.header_ref(slot), probe);
     nodes.set_header(slot, *node);
-    match right {
-        Some(right) => Some(place(nodes, *right, probe)),
-        None => None,
-    }
+    Some(place(nodes, added))
 }
 
 /// Stores a node in a spare slot.
-pub fn place<P: Probe, const N: usize>(nodes: &mut Arena<Node<N>>, node: Node<N>, probe: &P) -> Slot
+pub fn place<const N: usize>(nodes: &mut Arena<Node<N>>, node: Node<N>) -> Slot
     requires keyless { IsKeyless nodes.old }
     requires room { 0 < spare_of nodes.old 0 }
     ensures entries { entries_at nodes.new result ≡ entries_of node.entry }
     ensures live { IsLive nodes.new result }
     ensures changes { Changes nodes.old nodes.new [] (result ∷ []) }
+    ensures hinted { (bytes : KeyBytes) → IsHinted bytes (hint_of node.entry) → AreHinted bytes (hints_of nodes.old)
+        → AreHinted bytes (hints_of nodes.new) }
 {
-    let mut placed = node;
-    placed.renew_hints(probe);
-    nodes.place(placed, &[]).unwrap()
+    nodes.place(node, &[]).unwrap()
 }

@@ -1,17 +1,18 @@
 //! The root of a tree, and what becomes of it where a leaf changes.
 
-ghost use Rattle.std.specs.Prelude.{◌≡◌, ◌≤◌, ◌<◌, ◌+◌, ◌++◌, true, false, [], filter, length, map, option_map, nat_eq, IfSome, Some};
+ghost use Rattle.std.specs.Prelude.{◌≡◌, ◌≤◌, ◌<◌, ◌+◌, ◌++◌, true, false, [], filter, length, map, option_map, nat_eq, IfSome, None, Some};
 ghost use Rattle.std.specs.List.{All, IsDistinct};
 ghost use Rattle.std.specs.FinMap as map_of;
-ghost use Rattle.arena.specs.Arena.{spare_of};
+ghost use Rattle.arena.specs.Arena.{IsLive, spare_of};
 ghost use Rattle.tree.specs.Item.{item_of};
-ghost use Rattle.tree.specs.Node.{entries_of};
+ghost use Rattle.tree.specs.Hints.{AreHinted, IsHinted, IsKnown, KeyBytes, KnowsAt};
+ghost use Rattle.tree.specs.Node.{entries_of, hint_of, hints_of, keys_of};
 ghost use Rattle.tree.specs.Subtree.{entries_at, items_in, slots_in, IsSubtree};
-ghost use Rattle.tree.specs.Path.{IsCut, before_leaf, behind_leaf};
+ghost use Rattle.tree.specs.Path.{IsCut, before_leaf, behind_leaf, first_key};
 ghost use Rattle.tree.specs.Replace.{entries_with, items_with, slots_with, IsKeyless};
 ghost use Rattle.tree.specs.Tree.{least_of, IsRooted};
 
-use crate::guess::find_leaf;
+use crate::descent::{Reached, find, known_at};
 use crate::mend::summary;
 use crate::node::Node;
 use crate::probe::Probe;
@@ -26,22 +27,29 @@ pub struct Root {
     pub height: usize,
 }
 
-/// Returns the leaf that has the last item that passes, or else the first leaf.
-pub fn leaf<P: Probe, const N: usize>(nodes: &Arena<Node<N>>, root: Root, probe: &P) -> Node<N>
+/// Finds the leaf that has the last item that passes, or else the first leaf.
+pub fn reach<P: Probe, const N: usize>(nodes: &Arena<Node<N>>, root: Root, probe: &P) -> Reached
     requires subtree { IsSubtree nodes.now (least_of N) root.height root.slot }
+    requires some { 1 ≤ length (entries_at nodes.now root.slot) }
     requires cut { IsCut (λ x. P.lets_pass probe.now x.key) (items_in nodes.now root.height root.slot) }
+    requires hinted { AreHinted (P.bytes probe.now) (hints_of nodes.now) }
+    ensures live { IsLive nodes.now result.leaf }
     ensures items { items_in nodes.now root.height root.slot ≡ before_leaf nodes.now root.height root.slot (P.lets_pass probe.now)
-        ++ (map item_of (entries_of result) ++ behind_leaf nodes.now root.height root.slot (P.lets_pass probe.now)) }
+        ++ (map item_of (entries_at nodes.now result.leaf) ++ behind_leaf nodes.now root.height root.slot (P.lets_pass probe.now)) }
     ensures before { All (λ x. P.lets_pass probe.now x.key ≡ true)
         (before_leaf nodes.now root.height root.slot (P.lets_pass probe.now)) }
     ensures behind { All (λ x. P.lets_pass probe.now x.key ≡ false)
         (behind_leaf nodes.now root.height root.slot (P.lets_pass probe.now)) }
-    ensures none { filter (λ e. P.lets_pass probe.now e.key) (entries_of result) ≡ []
+    ensures none { filter (λ e. P.lets_pass probe.now e.key) (entries_at nodes.now result.leaf) ≡ []
         → before_leaf nodes.now root.height root.slot (P.lets_pass probe.now) ≡ [] }
-    ensures cut { IsCut (λ e. P.lets_pass probe.now e.key) (entries_of result) }
+    ensures cut { IsCut (λ e. P.lets_pass probe.now e.key) (entries_at nodes.now result.leaf) }
+    ensures some { 1 ≤ length (entries_at nodes.now result.leaf) }
+    ensures known { KnowsAt (P.bytes probe.now) (P.lets_pass probe.now) (P.sought probe.now) result.known
+        (entries_at nodes.now result.leaf) 0 }
+    ensures next { result.behind ≡ first_key None (behind_leaf nodes.now root.height root.slot (P.lets_pass probe.now)) }
 {
-    let slot = find_leaf(nodes, root.slot, root.height, probe);
-    nodes.header(slot)
+    let known = known_at(nodes, root.slot, probe);
+    find(nodes, root.slot, root.height, probe, known, None)
 }
 
 /// Puts nodes in place of that leaf. Returns the root of the tree as it is then: a full one is split and gets one above it, and
@@ -60,13 +68,19 @@ pub fn put<P: Probe, const N: usize>(
     requires cut { IsCut (λ x. P.lets_pass probe.now x.key) (items_in nodes.old root.height root.slot) }
     requires room { root.height + 1 < spare_of nodes.old 0 }
     requires filled { IfSome right (λ r. (least_of N ≤ length (entries_of left.now)) × (least_of N ≤ length (entries_of r.now))) }
+    requires some { 1 ≤ length (entries_at nodes.old root.slot) }
+    requires hinted { AreHinted (P.bytes probe.now) (hints_of nodes.old) }
+    requires left { IsHinted (P.bytes probe.now) (hint_of left.now) }
+    requires right { IfSome right (λ r. All (IsKnown (P.bytes probe.now)) (keys_of (entries_of r.now))) }
     ensures items { items_in nodes.new result.height result.slot ≡ before_leaf nodes.old root.height root.slot (P.lets_pass probe.now)
         ++ (map item_of (entries_with left.now (option_map (λ r. r.now) right.entry))
         ++ behind_leaf nodes.old root.height root.slot (P.lets_pass probe.now)) }
     ensures rooted { IsRooted nodes.new result.slot result.height }
     ensures spare { spare_of nodes.new 0 + map_of.len nodes.new.records ≡ spare_of nodes.old 0 + map_of.len nodes.old.records }
+    ensures hinted { AreHinted (P.bytes probe.now) (hints_of nodes.new) }
 {
-    match replace_leaf(nodes, root.slot, root.height, probe, left, right) {
+    let known = known_at(nodes, root.slot, probe);
+    match replace_leaf(nodes, root.slot, root.height, probe, known, left, right) {
         Some(added) => grow(nodes, root, added, probe),
         None => shrink(nodes, root),
     }
@@ -89,14 +103,17 @@ fn grow<P: Probe, const N: usize>(
     requires linked { map_of.len nodes.old.records ≡ length (slots_with nodes.old root.height root.slot (Some added)) }
     requires keyless { IsKeyless nodes.old }
     requires room { 0 < spare_of nodes.old 0 }
+    requires hinted { AreHinted (P.bytes probe.now) (hints_of nodes.old) }
     ensures items { items_in nodes.new result.height result.slot ≡ items_with nodes.old root.height root.slot (Some added) }
     ensures rooted { IsRooted nodes.new result.slot result.height }
     ensures spare { spare_of nodes.new 0 + map_of.len nodes.new.records ≡ spare_of nodes.old 0 + map_of.len nodes.old.records }
+    ensures hinted { AreHinted (P.bytes probe.now) (hints_of nodes.new) }
 {
     let mut node = Node::of(summary(nodes, root.slot));
     node.insert(1, summary(nodes, added));
+    node.renew_hints(probe);
     Root {
-        slot: place(nodes, node, probe),
+        slot: place(nodes, node),
         height: root.height + 1,
     }
 }
@@ -110,6 +127,7 @@ fn shrink<const N: usize>(nodes: &mut Arena<Node<N>>, root: Root) -> Root
     ensures items { items_in nodes.new result.height result.slot ≡ items_in nodes.old root.height root.slot }
     ensures rooted { IsRooted nodes.new result.slot result.height }
     ensures spare { spare_of nodes.new 0 + map_of.len nodes.new.records ≡ spare_of nodes.old 0 + map_of.len nodes.old.records }
+    ensures hinted { (bytes : KeyBytes) → AreHinted bytes (hints_of nodes.old) → AreHinted bytes (hints_of nodes.new) }
 {
     let entries = nodes.header_ref(root.slot).entries();
     if root.height == 0 || entries.len() > 1 {

@@ -2,11 +2,10 @@
 
 ghost use Rattle.std.specs.Prelude.{◌≡◌, ◌≢◌, ◌<◌, ◌≤◌, ◌<ℤ◌, ◌↔◌, ◌++◌, ℕ, Bool, true, false, not, List, length, take, drop, filter, map, option_map, [], IfSome, IsTrue, MatchOption};
 ghost use Rattle.std.specs.List.{All, Any};
-ghost use Rattle.arena.specs.Arena.{IsLive};
 ghost use Rattle.tree.specs.Item.{item_of, IsGreatest};
 ghost use Rattle.tree.specs.Subtree.{entries_at, items_in, IsSubtree};
 ghost use Rattle.tree.specs.Tree.{least_of};
-ghost use Rattle.tree.specs.Path.{IsCut, passing as passing_cut, behind as behind_cut, from_last, index_in, leaf_in, before_leaf, behind_leaf, first_key, between};
+ghost use Rattle.tree.specs.Path.{IsCut, passing as passing_cut, behind as behind_cut, from_last, index_in, first_key, between};
 
 use crate::entry::Entry;
 use crate::node::Node;
@@ -33,30 +32,6 @@ pub fn index_of<P: Probe>(entries: &[Entry], probe: &P) -> usize
     ensures within { result < length entries.now }
 {
     passing(entries, probe).saturating_sub(1)
-}
-
-/// Returns the slot of the leaf that has the last item that passes, or else of the first leaf.
-pub fn leaf_of<P: Probe, const N: usize>(
-    nodes: &Arena<Node<N>>,
-    slot: Slot,
-    height: usize,
-    probe: &P,
-) -> Slot
-    requires subtree { IsSubtree nodes.now (least_of N) height slot }
-    requires cut { IsCut (λ x. P.lets_pass probe.now x.key) (items_in nodes.now height slot) }
-    ensures leaf { result ≡ leaf_in nodes.now height slot (P.lets_pass probe.now) }
-    ensures live { IsLive nodes.now result }
-    ensures items { items_in nodes.now height slot ≡ before_leaf nodes.now height slot (P.lets_pass probe.now)
-        ++ (map item_of (entries_at nodes.now result) ++ behind_leaf nodes.now height slot (P.lets_pass probe.now)) }
-    ensures before { All (λ x. P.lets_pass probe.now x.key ≡ true) (before_leaf nodes.now height slot (P.lets_pass probe.now)) }
-    ensures behind { All (λ x. P.lets_pass probe.now x.key ≡ false) (behind_leaf nodes.now height slot (P.lets_pass probe.now)) }
-{
-    if height == 0 {
-        return slot;
-    }
-    let entries = nodes.header_ref(slot).entries();
-    let child = entries[index_of(entries, probe)].child;
-    leaf_of(nodes, child, height - 1, probe)
 }
 
 /// Returns the key of the first item that doesn't pass, or `behind` if all of them pass.
@@ -198,25 +173,4 @@ pub fn greatest<'a, P: Probe, Q: Probe, const N: usize>(
     let inner = greatest_of(&entries[first + 1..last]);
     let later = greatest(nodes, right.child, height - 1, without, to);
     greater(sooner, greater(inner, later))
-}
-
-/// Returns the key of the first item behind the leaf that has the last item that passes, or `behind` if there is none.
-pub fn key_behind_leaf<P: Probe, const N: usize>(
-    nodes: &Arena<Node<N>>,
-    slot: Slot,
-    height: usize,
-    probe: &P,
-    behind: Option<Slot>,
-) -> Option<Slot>
-    requires subtree { IsSubtree nodes.now (least_of N) height slot }
-    requires cut { IsCut (λ x. P.lets_pass probe.now x.key) (items_in nodes.now height slot) }
-    ensures key { result ≡ first_key behind (behind_leaf nodes.now height slot (P.lets_pass probe.now)) }
-{
-    if height == 0 {
-        return behind;
-    }
-    let entries = nodes.header_ref(slot).entries();
-    let index = index_of(entries, probe);
-    let next = key_at(entries, index + 1, behind);
-    key_behind_leaf(nodes, entries[index].child, height - 1, probe, next)
 }

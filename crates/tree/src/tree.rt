@@ -1,19 +1,20 @@
 //! The tree.
 
-ghost use Rattle.std.specs.Prelude.{◌≡◌, ◌≢◌, ◌<◌, ◌≤◌, ◌<ℤ◌, ◌≤ℤ◌, ◌↔◌, ◌+◌, ◌-◌, ◌++◌, ◌∷◌, ℕ, List, [], true, not, drop, filter, length, map, OnErr, OnOk, IfOk, IfSome, IsOkUnless, IsTrue, MatchOption};
+ghost use Rattle.std.specs.Prelude.{◌≡◌, ◌≢◌, ◌<◌, ◌≤◌, ◌<ℤ◌, ◌≤ℤ◌, ◌↔◌, ◌+◌, ◌-◌, ◌++◌, ◌∷◌, ℕ, List, [], true, not, drop, filter, length, take, map, OnErr, OnOk, IfOk, IfSome, IsOkUnless, IsTrue, MatchOption};
 ghost use Rattle.std.specs.List.{Any};
 ghost use Rattle.tree.specs.Item.{Item, item_of, IsGreatest};
-ghost use Rattle.tree.specs.Node.{entries_of};
+ghost use Rattle.tree.specs.Hints.{AreHinted, IsHinted, IsKnown, KeyBytes};
+ghost use Rattle.tree.specs.Node.{entries_of, hint_of};
 ghost use Rattle.tree.specs.Path.{IsCut, passing as passing_of, behind, first_key, between, from_last};
-ghost use Rattle.tree.specs.Tree.{IsLast, ended_by, thin as thin_of, gone};
+ghost use Rattle.tree.specs.Tree.{IsLast, ended_by, thin as thin_of, gone, hints_in, KnowItems};
 
+use crate::descent::{known_at, told};
 use crate::entry::Entry;
-use crate::guess::{find_behind, find_leaf, guess_exceeds, passing_near};
 use crate::mend::least;
 use crate::node::Node;
 use crate::probe::Probe;
-use crate::root::{Root, leaf, put};
-use crate::search::{exceeds, exceeds_from_last, greatest, key_at, key_behind, passing};
+use crate::root::{Root, put, reach};
+use crate::search::{exceeds, exceeds_from_last, greatest, key_behind, passing};
 use crate::thin::{Thinned, thin};
 use arena::{Arena, ArenaError, Slot};
 use std::alloc::Global;
@@ -23,7 +24,8 @@ use std::marker::Model;
 // How many nodes a change may use beyond those that the items need. No tree is higher than 63 nodes above a leaf.
 const WAY: usize = 66;
 
-/// Items in the order of their keys, at least one. Contracts see the items, and for how many nodes are reserved.
+/// Items in the order of their keys, at least one. Contracts see the items, for how many nodes are reserved, and what the nodes
+/// know of the bytes of keys.
 #[derive(Drop)]
 pub struct Tree<const N: usize> {
     nodes: Arena<Node<N>>,
@@ -35,11 +37,16 @@ pub struct Tree<const N: usize> {
 
 impl<const N: usize> Model for Tree<N> {
     ghost use Rattle.tree.specs.Tree.{Items, IsTree};
+    ghost use Rattle.tree.specs.Node.{hint_list};
     ghost use Rattle.tree.specs.Subtree.{items_in};
 
     ghost Value = { Items };
 
-    ghost view = { λ t. record { items = items_in t.nodes t.root.height t.root.slot; room = t.room } };
+    ghost view = { λ t. record {
+      items = items_in t.nodes t.root.height t.root.slot;
+      room = t.room;
+      hints = hint_list t.nodes;
+    } };
 
     ghost invariant = { λ t. IsTree t.nodes t.root.slot t.root.height t.len t.room };
 }
@@ -71,6 +78,7 @@ impl<const N: usize> Tree<N> {
         requires few { N ≤ 65536 }
         ensures items { IfOk result (λ tree. tree.items ≡ (record { key = key; version = version }) ∷ []) }
         ensures room { IfOk result (λ tree. tree.room ≡ 1) }
+        ensures hinted { IfOk result (λ tree. (bytes : KeyBytes) → bytes key ≡ Some [] → AreHinted bytes (hints_in tree)) }
         ensures memory { IsOkUnless result ArenaError.Memory }
     {
         let mut nodes = Arena::new(alloc);
@@ -89,6 +97,7 @@ impl<const N: usize> Tree<N> {
         ensures room { OnOk result (room ≤ self.new.room) }
         ensures room_stays { self.old.room ≤ self.new.room }
         ensures items { self.new.items ≡ self.old.items }
+        ensures hints { self.new.hints ≡ self.old.hints }
         ensures unchanged { OnErr result (self.new ≡ self.old) }
         ensures enough { room ≤ self.old.room → self.new ≡ self.old }
         ensures memory { IsOkUnless result ArenaError.Memory }
@@ -117,14 +126,14 @@ impl<const N: usize> Tree<N> {
     /// Returns the last item that passes.
     pub fn last<P: Probe>(&self, probe: &P) -> Option<Entry>
         requires cut { IsCut (λ x. P.lets_pass probe.now x.key) self.now.items }
+        requires hinted { AreHinted (P.bytes probe.now) (hints_in self.now) }
         ensures last { MatchOption result (passing_of (P.lets_pass probe.now) self.now.items ≡ [])
             (λ e. IsLast (item_of e) (passing_of (P.lets_pass probe.now) self.now.items)) }
     {
-        let leaf = find_leaf(&self.nodes, self.root.slot, self.root.height, probe);
-        let guess = self.nodes.header_ref(leaf).guess(probe, usize::MAX);
-        let entries = self.nodes.header_ref(leaf).entries();
-        let count = passing_near(entries, guess.index, probe);
-        entries[..count].last().copied()
+        let reached = reach(&self.nodes, self.root, probe);
+        let leaf = self.nodes.header_ref(reached.leaf);
+        let count = leaf.count(probe, reached.known);
+        leaf.entries()[..count].last().copied()
     }
 
     /// Returns the key of the first item that doesn't pass.
@@ -154,23 +163,38 @@ impl<const N: usize> Tree<N> {
     }
 
     /// Returns whether a version of the items before the second cut, of those before the first one the last alone, is above this
-    /// one.
+    /// one. What the cuts look for begins with `shared` bytes in common, at least.
     pub fn exceeds_from_last<'a, P: Probe, Q: Probe>(
         &self,
         from: &'a P,
         to: &'a Q,
+        shared: usize,
         version: i64,
     ) -> bool
         requires from { IsCut (λ x. P.lets_pass from.now x.key) self.now.items }
         requires to { IsCut (λ x. Q.lets_pass to.now x.key) self.now.items }
         requires nested { (key : ℕ) → P.lets_pass from.now key ≡ true → Q.lets_pass to.now key ≡ true }
         requires some { passing_of (P.lets_pass from.now) self.now.items ≢ [] }
+        requires hinted { AreHinted (P.bytes from.now) (hints_in self.now) }
+        requires bytes { (key : ℕ) → P.bytes from.now key ≡ Q.bytes to.now key }
+        requires shared { take shared (P.sought from.now) ≡ take shared (Q.sought to.now) }
         ensures above { IsTrue result ↔ Any (λ x. version <ℤ x.version)
             (from_last (P.lets_pass from.now) (Some (Q.lets_pass to.now)) self.now.items) }
     {
         let (slot, height) = (self.root.slot, self.root.height);
-        match guess_exceeds(&self.nodes, slot, height, from, to, version, 0, None) {
-            Some(told) => told,
+        let known = known_at(&self.nodes, slot, from).unwrap_or(0);
+        match told(
+            &self.nodes,
+            slot,
+            height,
+            from,
+            to,
+            version,
+            known,
+            shared,
+            true,
+        ) {
+            Some(above) => above,
             None => exceeds_from_last(&self.nodes, slot, height, from, Some(to), version),
         }
     }
@@ -196,13 +220,16 @@ impl<const N: usize> Tree<N> {
     pub fn insert<P: Probe>(&mut self, probe: &P, key: Slot, version: i64)
         requires cut { IsCut (λ x. P.lets_pass probe.now x.key) self.old.items }
         requires room { length self.old.items < self.old.room }
+        requires hinted { AreHinted (P.bytes probe.now) (hints_in self.old) }
+        requires known { IsKnown (P.bytes probe.now) key }
         ensures items { self.new.items ≡ passing_of (P.lets_pass probe.now) self.old.items
             ++ ((record { key = key; version = version }) ∷ behind (P.lets_pass probe.now) self.old.items) }
         ensures room { self.new.room ≡ self.old.room }
+        ensures hinted { AreHinted (P.bytes probe.now) (hints_in self.new) }
     {
-        let old = leaf(&self.nodes, self.root, probe);
-        let guess = old.guess(probe, usize::MAX);
-        let index = passing_near(old.entries(), guess.index, probe);
+        let reached = reach(&self.nodes, self.root, probe);
+        let old = self.nodes.header(reached.leaf);
+        let index = old.count(probe, reached.known);
         let mut leaf = old;
         let right = leaf.insert_or_split(index, item(key, version));
         leaf.take_hints(&old, probe);
@@ -214,12 +241,15 @@ impl<const N: usize> Tree<N> {
     pub fn set_last<P: Probe>(&mut self, probe: &P, version: i64)
         requires cut { IsCut (λ x. P.lets_pass probe.now x.key) self.old.items }
         requires some { passing_of (P.lets_pass probe.now) self.old.items ≢ [] }
+        requires hinted { AreHinted (P.bytes probe.now) (hints_in self.old) }
         ensures items { (before : List Item) → (last : Item)
             → passing_of (P.lets_pass probe.now) self.old.items ≡ before ++ last ∷ []
             → self.new.items ≡ before ++ ((record { key = last.key; version = version }) ∷ behind (P.lets_pass probe.now) self.old.items) }
         ensures room { self.new.room ≡ self.old.room }
+        ensures hinted { AreHinted (P.bytes probe.now) (hints_in self.new) }
     {
-        let mut leaf = leaf(&self.nodes, self.root, probe);
+        let reached = reach(&self.nodes, self.root, probe);
+        let mut leaf = self.nodes.header(reached.leaf);
         set_passing(&mut leaf, probe, version);
         self.root = put(&mut self.nodes, self.root, probe, &leaf, None);
     }
@@ -231,6 +261,7 @@ impl<const N: usize> Tree<N> {
         requires to { IsCut (λ x. Q.lets_pass to.now x.key) self.old.items }
         requires nested { (key : ℕ) → P.lets_pass from.now key ≡ true → Q.lets_pass to.now key ≡ true }
         requires some { passing_of (P.lets_pass from.now) self.old.items ≢ [] }
+        requires hinted { AreHinted (Q.bytes to.now) (hints_in self.old) }
         ensures run { MatchOption result
             ((between (Some (P.lets_pass from.now)) (Some (Q.lets_pass to.now)) self.old.items ≡ []) × (self.new ≡ self.old))
             (λ run. (kept : List Item) × (between (Some (P.lets_pass from.now)) (Some (Q.lets_pass to.now)) self.old.items
@@ -238,19 +269,20 @@ impl<const N: usize> Tree<N> {
             × (self.new.items ≡ passing_of (P.lets_pass from.now) self.old.items
             ++ (kept ++ behind (Q.lets_pass to.now) self.old.items))) }
         ensures room { self.new.room ≡ self.old.room }
+        ensures hinted { AreHinted (Q.bytes to.now) (hints_in self.new) }
+        ensures known { KnowItems self.new }
     {
-        let mut leaf = leaf(&self.nodes, self.root, to);
-        let guess = leaf.guess(to, usize::MAX);
-        let end = passing_near(leaf.entries(), guess.index, to);
-        let guess = leaf.guess(from, usize::MAX);
-        let begin = passing_near(leaf.entries(), guess.index, from);
+        let reached = reach(&self.nodes, self.root, to);
+        let mut leaf = self.nodes.header(reached.leaf);
+        let end = leaf.count(to, reached.known);
+        let begin = passing(leaf.entries(), from);
         if begin >= end {
             return None;
         }
         let mut run = leaf;
         run.remove(end, leaf.len());
         run.remove(0, begin);
-        leaf.splice_hinted(begin, end, &[], to);
+        leaf.splice_hinted(begin, end, &[], to, true);
         self.root = put(&mut self.nodes, self.root, to, &leaf, None);
         self.len -= end - begin;
         Some(run)
@@ -258,12 +290,14 @@ impl<const N: usize> Tree<N> {
 
     /// Puts an item in place of those from one cut to another, and returns those. Puts a second one behind it, with the version of
     /// the last item before the other cut, unless an item stands between that cut and a third one. Does nothing and returns none
-    /// unless one leaf has those items, the one before them and room for the new ones.
+    /// unless one leaf has those items, the one before them and room for the new ones. The items' keys are what the first two cuts
+    /// look for, which begins with `shared` bytes in common, at least.
     pub fn overwrite<P: Probe, Q: Probe, R: Probe>(
         &mut self,
         from: &P,
         to: &Q,
         past: &R,
+        shared: usize,
         first: Entry,
         second: Slot,
     ) -> Option<Overwritten<N>>
@@ -273,6 +307,14 @@ impl<const N: usize> Tree<N> {
         requires nested { (key : ℕ) → P.lets_pass from.now key ≡ true → Q.lets_pass to.now key ≡ true }
         requires outer { (key : ℕ) → Q.lets_pass to.now key ≡ true → R.lets_pass past.now key ≡ true }
         requires room { length self.old.items + 2 ≤ self.old.room }
+        requires hinted { AreHinted (Q.bytes to.now) (hints_in self.old) }
+        requires bytes { (key : ℕ) → P.bytes from.now key ≡ Q.bytes to.now key }
+        requires past_bytes { (key : ℕ) → R.bytes past.now key ≡ Q.bytes to.now key }
+        requires shared { take shared (P.sought from.now) ≡ take shared (Q.sought to.now) }
+        requires past_sought { R.sought past.now ≡ Q.sought to.now }
+        requires first { Q.bytes to.now first.key ≡ Some (P.sought from.now) }
+        requires second { Q.bytes to.now second ≡ Some (Q.sought to.now) }
+        requires known { IsKnown (Q.bytes to.now) first.key × IsKnown (Q.bytes to.now) second }
         ensures run { MatchOption result (self.new ≡ self.old)
             (λ done. between (Some (P.lets_pass from.now)) (Some (Q.lets_pass to.now)) self.old.items ≡ map item_of (entries_of done.run)) }
         ensures ended { IfSome result (λ done. IsTrue done.ended
@@ -282,21 +324,24 @@ impl<const N: usize> Tree<N> {
             ++ (item_of first ∷ ended_by done.ended (record { key = second; version = last.version })
             ++ behind (Q.lets_pass to.now) self.old.items)) }
         ensures room { self.new.room ≡ self.old.room }
+        ensures hinted { AreHinted (Q.bytes to.now) (hints_in self.new) }
+        ensures known { KnowItems self.new }
     {
-        let mut leaf = leaf(&self.nodes, self.root, to);
-        let guess = leaf.guess(to, usize::MAX);
-        let end = passing_near(leaf.entries(), guess.index, to);
-        let guess = leaf.guess(from, usize::MAX);
-        let begin = passing_near(leaf.entries(), guess.index, from);
-        if begin == 0 || begin > end {
+        let reached = reach(&self.nodes, self.root, to);
+        let mut leaf = self.nodes.header(reached.leaf);
+        let end = leaf.count(to, reached.known);
+        let alike = reached.known.unwrap_or(0);
+        let digest = leaf.digest_for(from, alike.min(shared));
+        let begin = leaf.count_back(end, from, digest);
+        if begin == 0 {
             return None;
         }
-        let behind = if end < leaf.len() {
-            None
+        let ended = if end < leaf.len() {
+            let digest = leaf.digest_for(past, alike);
+            leaf.passes_at(end, past, digest)
         } else {
-            find_behind(&self.nodes, self.root.slot, self.root.height, to)
+            reached.behind.is_some_and(|key| past.passes(key))
         };
-        let ended = key_at(leaf.entries(), end, behind).is_some_and(|key| past.passes(key));
         let last = leaf.entries()[end - 1].version;
         let new = [first, item(second, last)];
         let new = if ended { &new[..1] } else { &new[..] };
@@ -306,7 +351,7 @@ impl<const N: usize> Tree<N> {
         let mut run = leaf;
         run.remove(end, leaf.len());
         run.remove(0, begin);
-        leaf.splice_hinted(begin, end, new, to);
+        leaf.splice_hinted(begin, end, new, to, digest.is_some());
         self.root = put(&mut self.nodes, self.root, to, &leaf, None);
         self.len = self.len - (end - begin) + new.len();
         Some(Overwritten { run, ended })
@@ -324,6 +369,7 @@ impl<const N: usize> Tree<N> {
         requires cut { IsCut (λ x. P.lets_pass probe.now x.key) self.old.items }
         requires some { passing_of (P.lets_pass probe.now) self.old.items ≢ [] }
         requires count { 1 ≤ count }
+        requires hinted { AreHinted (P.bytes probe.now) (hints_in self.old) }
         // The first item of all stays.
         requires first { length (passing_of (P.lets_pass probe.now) self.old.items) ≡ 1 → edge ≤ℤ before }
         ensures looked_at { (1 ≤ result.looked_at) × (result.looked_at ≤ count) }
@@ -337,14 +383,15 @@ impl<const N: usize> Tree<N> {
         ensures next { result.next
             ≡ first_key None (drop (result.looked_at - 1) (behind (P.lets_pass probe.now) self.old.items)) }
         ensures room { self.new.room ≡ self.old.room }
+        ensures hinted { AreHinted (P.bytes probe.now) (hints_in self.new) }
+        ensures known { KnowItems self.new }
     {
-        let old = leaf(&self.nodes, self.root, probe);
-        let guess = old.guess(probe, usize::MAX);
-        let begin = passing_near(old.entries(), guess.index, probe) - 1;
+        let reached = reach(&self.nodes, self.root, probe);
+        let old = self.nodes.header(reached.leaf);
+        let begin = old.count(probe, reached.known) - 1;
         let end = begin + count.min(old.len() - begin);
-        let behind = find_behind(&self.nodes, self.root.slot, self.root.height, probe);
         let mut leaf = old;
-        let thinned = thin(&mut leaf, begin, end, edge, before, behind);
+        let thinned = thin(&mut leaf, begin, end, edge, before, reached.behind);
         if let Some(run) = &thinned.removed {
             leaf.take_hints(&old, probe);
             self.root = put(&mut self.nodes, self.root, probe, &leaf, None);
@@ -358,10 +405,12 @@ impl<const N: usize> Tree<N> {
 fn set_passing<P: Probe, const N: usize>(leaf: &mut Node<N>, probe: &P, version: i64)
     requires cut { IsCut (λ e. P.lets_pass probe.now e.key) (entries_of leaf.old) }
     requires some { filter (λ e. P.lets_pass probe.now e.key) (entries_of leaf.old) ≢ [] }
+    requires hinted { IsHinted (P.bytes probe.now) (hint_of leaf.old) }
     ensures items { (before : List Entry) → (last : Entry)
         → filter (λ e. P.lets_pass probe.now e.key) (entries_of leaf.old) ≡ before ++ last ∷ []
         → map item_of (entries_of leaf.new) ≡ map item_of before ++ ((record { key = last.key; version = version })
         ∷ map item_of (filter (λ e. not (P.lets_pass probe.now e.key)) (entries_of leaf.old))) }
+    ensures hinted { IsHinted (P.bytes probe.now) (hint_of leaf.new) }
 {
     let index = passing(leaf.entries(), probe) - 1;
     let key = leaf.entries()[index].key;

@@ -1,177 +1,323 @@
-//! What a node knows of the bytes of its keys: hints for a search, which finds the same whatever they are.
+//! What a node knows of the bytes of its keys, and the search by it.
 
-ghost use Rattle.std.specs.Prelude.{◌≡◌, ◌<◌, ◌≤◌, ◌+◌, ◌-◌, ◌++◌, length, take, drop, slice_set};
-ghost use Rattle.tree.specs.Node.{entries_of};
+ghost use Rattle.std.specs.Prelude.{◌≡◌, ◌≢◌, ◌<◌, ◌≤◌, ◌+◌, ◌-◌, ◌++◌, ℕ, List, length, filter, map, take, drop, nat_lt, slice_get, slice_index, slice_set, None, Some, IfSome, IsTrue};
+ghost use Rattle.std.specs.Int.{w64, to_be_bytes};
+ghost use Rattle.std.specs.List.{All};
+ghost use Rattle.tree.specs.Hints.{Agrees, BeginAlike, IsDigestFor, IsHinted, IsKnown, KnowsAt, Begins, digest_at};
+ghost use Rattle.tree.specs.Node.{entries_of, hint_of, keys_of};
+ghost use Rattle.tree.specs.Path.{IsCut, index_in};
 
 use super::Node;
 use crate::entry::Entry;
 use crate::probe::Probe;
 use arena::Slot;
 
-/// Where a search goes on in a node, as the hints tell.
+/// Where a search goes on in a node.
 #[derive(Clone, Copy, Debug)]
-pub struct Guess {
+pub struct Step {
     /// The index of the last entry that passes, or of the first one.
     pub index: usize,
-    /// How many bytes the entry's key and what is looked for begin with in common.
-    pub known: usize,
+    /// How many bytes its key and what is looked for begin with in common, or none if it doesn't pass.
+    pub known: Option<usize>,
 }
 
 impl<const N: usize> Node<N> {
-    /// Guesses which is the last entry that passes. `known` is how many bytes the first key and what is looked for begin
-    /// with in common. The first key isn't behind what is looked for.
-    pub fn guess<P: Probe>(&self, probe: &P, known: usize) -> Guess
-        ensures within { 0 < length (entries_of self.now) → result.index < length (entries_of self.now) }
+    // Returns how many bytes all keys begin with in common, or fewer.
+    pub fn skip(&self) -> usize
+        ensures skip { result ≡ (hint_of self.now).skip }
+        ensures short { result ≤ 65535 }
     {
-        let len = self.len();
-        if known < self.skip {
-            return Guess {
-                index: len.saturating_sub(1),
-                known,
-            };
+        usize::from(self.skip)
+    }
+
+    /// Finds the last entry that passes, or else the first one. `known` is how many bytes the first key and what is looked for
+    /// begin with in common, or none if that key doesn't pass.
+    pub fn step<P: Probe>(&self, probe: &P, known: Option<usize>) -> Step
+        requires hinted { IsHinted (P.bytes probe.now) (hint_of self.now) }
+        requires cut { IsCut (λ e. P.lets_pass probe.now e.key) (entries_of self.now) }
+        requires some { 0 < length (entries_of self.now) }
+        requires known { KnowsAt (P.bytes probe.now) (P.lets_pass probe.now) (P.sought probe.now) known (entries_of self.now) 0 }
+        ensures index { result.index ≡ index_in (P.lets_pass probe.now) (entries_of self.now) }
+        ensures within { result.index < length (entries_of self.now) }
+        ensures known { KnowsAt (P.bytes probe.now) (P.lets_pass probe.now) (P.sought probe.now) result.known
+            (entries_of self.now) result.index }
+    {
+        let index = self.count(probe, known).saturating_sub(1);
+        let known = match known {
+            Some(shared) => Some(self.shared_at(index, probe, shared)),
+            None => None,
+        };
+        Step { index, known }
+    }
+
+    /// Returns how many of the entries pass. `known` is how many bytes the first key and what is looked for begin with in
+    /// common, or none if that key doesn't pass.
+    pub fn count<P: Probe>(&self, probe: &P, known: Option<usize>) -> usize
+        requires hinted { IsHinted (P.bytes probe.now) (hint_of self.now) }
+        requires cut { IsCut (λ e. P.lets_pass probe.now e.key) (entries_of self.now) }
+        requires some { 0 < length (entries_of self.now) }
+        requires known { KnowsAt (P.bytes probe.now) (P.lets_pass probe.now) (P.sought probe.now) known (entries_of self.now) 0 }
+        ensures within { result ≤ length (entries_of self.now) }
+        ensures count { result ≡ length (filter (λ e. P.lets_pass probe.now e.key) (entries_of self.now)) }
+    {
+        let Some(shared) = known else {
+            return 0;
+        };
+        let Some(digest) = self.digest_for(probe, shared) else {
+            return self.len();
+        };
+        let below = count_below(&self.digests[..self.len], digest);
+        self.count_on(below, probe, Some(digest))
+    }
+
+    // Returns how many bytes the key at an index and what is looked for begin with in common. `shared` is the same of the first
+    // key. Both pass.
+    fn shared_at<P: Probe>(&self, index: usize, probe: &P, shared: usize) -> usize
+        requires hinted { IsHinted (P.bytes probe.now) (hint_of self.now) }
+        requires within { index < length (entries_of self.now) }
+        requires known { KnowsAt (P.bytes probe.now) (P.lets_pass probe.now) (P.sought probe.now) (Some shared)
+            (entries_of self.now) 0 }
+        requires passes { (e : Entry) → slice_get (entries_of self.now) index ≡ Some e → IsTrue (P.lets_pass probe.now e.key) }
+        ensures known { KnowsAt (P.bytes probe.now) (P.lets_pass probe.now) (P.sought probe.now) (Some result)
+            (entries_of self.now) index }
+    {
+        if index == 0 {
+            return shared;
         }
-        let digest = probe.digest(self.skip);
-        let digests = &self.digests[..len];
-        let below = count_below(digests, digest);
-        let tied = &self.entries()[below..];
-        let tied = tied
-            .iter()
-            .zip(&digests[below..])
-            .take_while(|pair| *pair.1 == digest && probe.passes(pair.0.key))
-            .count();
-        let index = (below + tied).saturating_sub(1);
-        Guess {
-            index,
-            known: self.known_at(probe, known, index, digest, tied > 0),
+        let Some(digest) = self.digest_for(probe, shared) else {
+            return shared;
+        };
+        if self.digests[index] == digest {
+            return probe.common_with(self.entries[index].key);
+        }
+        self.skip() + same_bytes(self.digests[index], digest)
+    }
+
+    /// Returns the digest of what is looked for behind the bytes that all keys begin with, if it begins with them, too. The first
+    /// key and what is looked for begin with `shared` bytes in common, at least.
+    pub fn digest_for<P: Probe>(&self, probe: &P, shared: usize) -> Option<u64>
+        requires hinted { IsHinted (P.bytes probe.now) (hint_of self.now) }
+        requires some { 0 < length (entries_of self.now) }
+        requires shared { (e : Entry) (text : List ℕ) → slice_get (entries_of self.now) 0 ≡ Some e
+            → P.bytes probe.now e.key ≡ Some text → BeginAlike shared text (P.sought probe.now) }
+        ensures digest { IfSome result (λ digest. IsDigestFor (P.bytes probe.now) (hint_of self.now) (P.sought probe.now) digest) }
+        ensures some { IfSome result (λ _. (hint_of self.now).skip ≤ shared) }
+        ensures none { result ≡ None → shared < (hint_of self.now).skip }
+    {
+        if shared < self.skip() {
+            return None;
+        }
+        Some(probe.digest(self.skip()))
+    }
+
+    /// Returns whether the entry at an index passes. `digest` is that of what is looked for, if it begins as all keys do.
+    pub fn passes_at<P: Probe>(&self, index: usize, probe: &P, digest: Option<u64>) -> bool
+        requires hinted { IsHinted (P.bytes probe.now) (hint_of self.now) }
+        requires within { index < length (entries_of self.now) }
+        requires digest { IfSome digest (λ d. IsDigestFor (P.bytes probe.now) (hint_of self.now) (P.sought probe.now) d) }
+        ensures passes { (e : Entry) → slice_get (entries_of self.now) index ≡ Some e → result ≡ P.lets_pass probe.now e.key }
+    {
+        let own = self.digests[index];
+        match digest {
+            Some(digest) if digest != own => own < digest,
+            _ => probe.passes(self.entries[index].key),
         }
     }
 
-    // Returns how many bytes the key at an index and what is looked for begin with in common.
-    fn known_at<P: Probe>(
-        &self,
-        probe: &P,
-        known: usize,
-        index: usize,
-        digest: u64,
-        is_tied: bool,
-    ) -> usize {
-        if index == 0 {
-            return known;
+    /// Returns how many of the entries pass, of which at least so many do. It looks at those behind them one by one.
+    pub fn count_on<P: Probe>(&self, from: usize, probe: &P, digest: Option<u64>) -> usize
+        requires hinted { IsHinted (P.bytes probe.now) (hint_of self.now) }
+        requires cut { IsCut (λ e. P.lets_pass probe.now e.key) (entries_of self.now) }
+        requires digest { IfSome digest (λ d. IsDigestFor (P.bytes probe.now) (hint_of self.now) (P.sought probe.now) d) }
+        requires least { from ≤ length (filter (λ e. P.lets_pass probe.now e.key) (entries_of self.now)) }
+        ensures within { result ≤ length (entries_of self.now) }
+        ensures count { result ≡ length (filter (λ e. P.lets_pass probe.now e.key) (entries_of self.now)) }
+    {
+        let mut count = from;
+        while count < self.len && self.passes_at(count, probe, digest) {
+            count += 1;
         }
-        match self.entries().get(index) {
-            Some(entry) if is_tied => probe.common_with(entry.key),
-            _ => {
-                let differing = digest ^ self.digests.get(index).copied().unwrap_or(digest);
-                self.skip
-                    .saturating_add(differing.leading_zeros() as usize / 8)
-            }
+        count
+    }
+
+    /// Returns how many of the entries pass, of which at most so many do. It looks at these one by one, from the last one on.
+    pub fn count_back<P: Probe>(&self, to: usize, probe: &P, digest: Option<u64>) -> usize
+        requires hinted { IsHinted (P.bytes probe.now) (hint_of self.now) }
+        requires cut { IsCut (λ e. P.lets_pass probe.now e.key) (entries_of self.now) }
+        requires digest { IfSome digest (λ d. IsDigestFor (P.bytes probe.now) (hint_of self.now) (P.sought probe.now) d) }
+        requires within { to ≤ length (entries_of self.now) }
+        requires most { length (filter (λ e. P.lets_pass probe.now e.key) (entries_of self.now)) ≤ to }
+        ensures count { result ≡ length (filter (λ e. P.lets_pass probe.now e.key) (entries_of self.now)) }
+    {
+        let mut count = to;
+        while count > 0 && !self.passes_at(count - 1, probe, digest) {
+            count -= 1;
         }
+        count
     }
 
     /// Takes the hints anew.
     pub fn renew_hints<P: Probe>(&mut self, probe: &P)
+        requires known { All (IsKnown (P.bytes probe.now)) (keys_of (entries_of self.old)) }
         ensures entries { entries_of self.new ≡ entries_of self.old }
+        ensures hinted { IsHinted (P.bytes probe.now) (hint_of self.new) }
     {
-        let entries = self.entries();
-        let (Some(first), Some(last)) = (entries.first(), entries.last()) else {
-            return;
-        };
-        self.skip = probe.common(first.key, last.key);
+        self.skip = self.beginning(probe);
         for index in 0..self.len {
-            self.digests[index] = probe.digest_of(self.entries[index].key, self.skip);
+            self.digests[index] = probe.digest_of(self.entries[index].key, self.skip());
         }
     }
 
-    /// Sets the entry at an index, and takes the hints anew unless its key stays.
+    // Returns how many bytes all keys begin with in common, but no more than fit.
+    fn beginning<P: Probe>(&self, probe: &P) -> u16
+        requires known { All (IsKnown (P.bytes probe.now)) (keys_of (entries_of self.now)) }
+        ensures begin { (beginning : List ℕ) × (length beginning ≡ result)
+            × All (Begins (P.bytes probe.now) beginning) (keys_of (entries_of self.now)) }
+    {
+        let mut count = usize::from(u16::MAX);
+        let entries = self.entries();
+        for entry in entries {
+            count = count.min(probe.common(entries[0].key, entry.key));
+        }
+        if entries.is_empty() {
+            return 0;
+        }
+        count as u16
+    }
+
+    /// Sets the entry at an index, and takes its hints unless its key stays.
     pub fn set_hinted<P: Probe>(&mut self, index: usize, entry: Entry, probe: &P)
         requires within { index < length (entries_of self.old) }
+        requires hinted { IsHinted (P.bytes probe.now) (hint_of self.old) }
+        requires known { IsKnown (P.bytes probe.now) entry.key }
         ensures entries { (entries_of self.new) ≡ slice_set (entries_of self.old) index entry }
+        ensures hinted { IsHinted (P.bytes probe.now) (hint_of self.new) }
     {
-        let stays = self.entries[index].key == entry.key;
-        self.set(index, entry);
-        if !stays {
-            self.renew_hints(probe);
+        if self.entries[index].key == entry.key {
+            return self.set(index, entry);
         }
+        let begins = self.begins(entry.key, probe);
+        self.set(index, entry);
+        if !begins {
+            return self.renew_hints(probe);
+        }
+        self.digests[index] = probe.digest_of(entry.key, self.skip());
     }
 
-    /// Puts these entries in place of those from one index up to another, and takes their hints.
-    pub fn splice_hinted<P: Probe>(&mut self, from: usize, to: usize, new: &[Entry], probe: &P)
+    /// Puts these entries in place of those from one index up to another, and takes their hints. `begin` tells that their keys
+    /// begin as all others do.
+    pub fn splice_hinted<P: Probe>(
+        &mut self,
+        from: usize,
+        to: usize,
+        new: &[Entry],
+        probe: &P,
+        begin: bool,
+    )
         requires ordered { from ≤ to }
         requires within { to ≤ length (entries_of self.old) }
         requires room { from + length new.now + (length (entries_of self.old) - to) ≤ N }
+        requires hinted { IsHinted (P.bytes probe.now) (hint_of self.old) }
+        requires known { All (IsKnown (P.bytes probe.now)) (keys_of new.now) }
+        requires begin { IsTrue begin → All (λ key. (text : List ℕ) → P.bytes probe.now key ≡ Some text
+            → Agrees (P.bytes probe.now) (hint_of self.old) text) (keys_of new.now) }
         ensures entries { (entries_of self.new) ≡ take from (entries_of self.old) ++ (new.now ++ drop to (entries_of self.old)) }
+        ensures hinted { IsHinted (P.bytes probe.now) (hint_of self.new) }
     {
-        let has_ends = from > 0 && to < self.len;
         let end = from + new.len();
         self.digests.copy_within(to..self.len, end);
         self.splice(from, to, new);
-        if !has_ends && !self.keeps_skip(probe) {
+        if !begin {
             return self.renew_hints(probe);
         }
         for index in from..end {
-            self.digests[index] = probe.digest_of(self.entries[index].key, self.skip);
-        }
-    }
-
-    // Returns whether the first and the last key begin with so many bytes in common as the node says.
-    fn keeps_skip<P: Probe>(&self, probe: &P) -> bool {
-        let entries = self.entries();
-        match (entries.first(), entries.last()) {
-            (Some(first), Some(last)) => probe.common(first.key, last.key) == self.skip,
-            _ => false,
+            self.digests[index] = probe.digest_of(self.entries[index].key, self.skip());
         }
     }
 
     /// Takes the hints of keys that another node has, too, from there, and those of the others anew.
     pub fn take_hints<P: Probe>(&mut self, other: &Node<N>, probe: &P)
+        requires hinted { IsHinted (P.bytes probe.now) (hint_of other.now) }
+        requires known { All (IsKnown (P.bytes probe.now)) (keys_of (entries_of self.old)) }
         ensures entries { entries_of self.new ≡ entries_of self.old }
+        ensures hinted { IsHinted (P.bytes probe.now) (hint_of self.new) }
     {
-        let entries = self.entries();
-        let (Some(first), Some(last)) = (entries.first(), entries.last()) else {
-            return;
-        };
-        if !other.has_ends(first.key, last.key) && probe.common(first.key, last.key) != other.skip {
-            return self.renew_hints(probe);
-        }
         self.skip = other.skip;
         for index in 0..self.len {
-            let key = self.entries[index].key;
-            self.digests[index] = match other.digest_near(index, self.len - index, key) {
-                Some(digest) => digest,
-                None => probe.digest_of(key, self.skip),
+            let Some(digest) = other.digest_of(
+                self.entries[index].key,
+                index,
+                self.len - index,
+                probe,
+            ) else {
+                return self.renew_hints(probe);
             };
+            self.digests[index] = digest;
+        }
+        if self.is_narrow() {
+            self.renew_hints(probe);
         }
     }
 
-    // Returns whether these are the first and the last key.
-    fn has_ends(&self, first: Slot, last: Slot) -> bool {
-        let entries = self.entries();
-        match (entries.first(), entries.last()) {
-            (Some(begin), Some(end)) => begin.key == first && end.key == last,
-            _ => false,
-        }
-    }
-
-    // Returns the digest of a key, if it stands at this index, or at this one from behind.
-    fn digest_near(&self, index: usize, behind: usize, key: Slot) -> Option<u64> {
+    // Returns the digest of a key that begins as all keys do. The key is looked for at two indices, of which the second one is
+    // counted from the end.
+    fn digest_of<P: Probe>(&self, key: Slot, index: usize, behind: usize, probe: &P) -> Option<u64>
+        requires hinted { IsHinted (P.bytes probe.now) (hint_of self.now) }
+        requires known { IsKnown (P.bytes probe.now) key }
+        ensures digest { IfSome result (λ digest. digest ≡ digest_at (P.bytes probe.now) (hint_of self.now).skip key) }
+        ensures agrees { IfSome result (λ _. (text : List ℕ) → P.bytes probe.now key ≡ Some text
+            → Agrees (P.bytes probe.now) (hint_of self.now) text) }
+    {
         if index < self.len && self.entries[index].key == key {
             return Some(self.digests[index]);
         }
-        let index = self.len.checked_sub(behind)?;
+        let index = self.len.saturating_sub(behind);
         if index < self.len && self.entries[index].key == key {
             return Some(self.digests[index]);
+        }
+        if self.begins(key, probe) {
+            return Some(probe.digest_of(key, self.skip()));
         }
         None
+    }
+
+    // Returns whether a key begins as all keys do. Where there is no key it doesn't.
+    fn begins<P: Probe>(&self, key: Slot, probe: &P) -> bool
+        requires hinted { IsHinted (P.bytes probe.now) (hint_of self.now) }
+        ensures agrees { IsTrue result → (text : List ℕ) → P.bytes probe.now key ≡ Some text
+            → Agrees (P.bytes probe.now) (hint_of self.now) text }
+    {
+        match self.entries().first() {
+            Some(first) => probe.common(first.key, key) >= self.skip(),
+            None => false,
+        }
+    }
+
+    // Returns whether the first and the last digest begin with six bytes in common. Digests behind more bytes tell more then.
+    fn is_narrow(&self) -> bool {
+        match (self.digests.first(), self.digests[..self.len].last()) {
+            (Some(first), Some(last)) => same_bytes(*first, *last) >= 6,
+            _ => false,
+        }
     }
 }
 
 // Returns how many of the digests are below this one.
 fn count_below(digests: &[u64], digest: u64) -> usize
-    ensures within { result ≤ length digests.now }
+    ensures count { result ≡ length (filter (λ d. nat_lt d digest) digests.now) }
 {
     let mut below = 0;
     for other in digests {
         below += usize::from(*other < digest);
     }
     below
+}
+
+// Returns how many bytes two digests begin with in common.
+fn same_bytes(a: u64, b: u64) -> usize
+    ensures within { result ≤ 8 }
+    ensures same { take result (to_be_bytes w64 a) ≡ take result (to_be_bytes w64 b) }
+    ensures differ { result < 8 → slice_index (to_be_bytes w64 a) result ≢ slice_index (to_be_bytes w64 b) result }
+{
+    (a ^ b).leading_zeros() as usize / 8
 }

@@ -1,12 +1,17 @@
-use Rattle.std.proofs.Common.{[], ◌∷◌, ◌++◌, sym, ap₂, ◌∙◌}
+use Rattle.std.proofs.Common.{[], ◌∷◌, ◌++◌, sym, ap₂, subst, ◌∙◌, rules}
 use Rattle.tree.proofs.Frames.{entries_same, live_same}
 use Rattle.tree.proofs.Changing.{changes_if_moves, moves_trans, moves_released}
 use Rattle.tree.proofs.Placing.{entries_from_header, put_entries, put_live, put_others, put_moves, moves_first, moves_second, released_spare}
+use Rattle.std.specs.List.{All}
+use Rattle.tree.specs.Hints.{IsKnown}
+use Rattle.tree.specs.Node.{entries_of, keys_of}
+use Rattle.tree.proofs.Hinted.{hinted_at, hinted_released}
+use Rattle.tree.proofs.KnownKeys.{keys_of_both, known_in, hinted_header}
 use Rattle.tree.proofs.mend.join.Goals as goal
 
 pub release-requires : goal.release-requires
 release-requires g c =
-    let joined = c.renew_hints.new.self in
+    let joined = c.take_hints.new.self in
     let a = c.args.nodes.now in
     let b = c.set_header.new.self in
     record {
@@ -17,19 +22,19 @@ release-requires g c =
 
 pub returns-clause-entries : goal.returns-clause-entries
 returns-clause-entries g c =
-    let joined = c.renew_hints.new.self in
+    let joined = c.take_hints.new.self in
     let a = c.args.nodes.now in
     let b = c.set_header.new.self in
     entries_same b c.release.new.self c.args.first (c.release.ensures.others c.args.first c.requires.apart)
     ∙ put_entries a b c.args.first joined c.set_header.ensures.replaced
-    ∙ c.renew_hints.ensures.entries
+    ∙ c.take_hints.ensures.entries
     ∙ c.append.ensures.entries
     ∙ ap₂ (λ xs ys. xs ++ ys) (sym (entries_from_header a c.args.first c.header-joined.result c.header-joined.ensures.header))
     (sym (entries_from_header a c.args.second c.header_ref.result.now c.header_ref.ensures.header))
 
 pub returns-clause-changes : goal.returns-clause-changes
 returns-clause-changes g c =
-    let joined = c.renew_hints.new.self in
+    let joined = c.take_hints.new.self in
     let a = c.args.nodes.now in
     let b = c.set_header.new.self in
     let d = c.release.new.self in
@@ -45,3 +50,29 @@ returns-clause-changes g c =
     changes_if_moves a d (x ∷ y ∷ []) (x ∷ [])
     (moves_trans a b d (x ∷ y ∷ []) (x ∷ y ∷ []) (x ∷ []) (moves_first a b x y c.requires.apart c.requires.second put)
     (moves_second b d x y [] c.requires.apart live_x gone))
+
+pub take_hints-requires : goal.take_hints-requires
+take_hints-requires g c =
+    let bytes = g.P.Probe.bytes c.args.probe.now in
+    let a = c.args.nodes.now in
+    let one = c.header-joined.result in
+    let other = c.header_ref.result.now in (
+      search rules,
+      (
+        hinted_at bytes a c.args.first c.header_ref-2.result.now c.requires.hinted c.header_ref-2.ensures.header,
+        subst (λ l. All (IsKnown bytes) (keys_of l)) (sym c.append.ensures.entries)
+            (keys_of_both (IsKnown bytes) (entries_of one) (entries_of other)
+            (known_in bytes a c.args.first one c.requires.hinted c.header-joined.ensures.header)
+            (known_in bytes a c.args.second other c.requires.hinted c.header_ref.ensures.header)),
+      ),
+    )
+
+pub returns-clause-hinted : goal.returns-clause-hinted
+returns-clause-hinted g c =
+    let bytes = g.P.Probe.bytes c.args.probe.now in
+    let joined = c.take_hints.new.self in
+    let a = c.args.nodes.now in
+    let b = c.set_header.new.self in
+    hinted_released bytes b c.release.new.self c.args.second
+    (hinted_header bytes a b c.args.first joined c.set_header.ensures.replaced c.requires.hinted c.take_hints.ensures.hinted)
+    c.release.ensures.released c.release.ensures.others

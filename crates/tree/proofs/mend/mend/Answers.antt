@@ -60,7 +60,7 @@ share-requires g c =
             filled_pair a (least_of g.row.N) f.0 es i j d c.requires.within c.requires.several j_is f.1,
             (
               c.requires.keyless,
-              (f.0, widened a (least_of g.row.N) f.0 es i j c.requires.within c.requires.several j_is f.1),
+              ((f.0, widened a (least_of g.row.N) f.0 es i j c.requires.within c.requires.several j_is f.1), c.requires.hinted),
             ),
           ),
         ),

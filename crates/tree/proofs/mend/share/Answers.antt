@@ -56,7 +56,7 @@ join-requires g c =
     ap length (entries_from_header a x c.header_ref.result.now c.header_ref.ensures.header) ∙ sym c.len.ensures.len in
     let len_y : length (entries_at a y) ≡ c.len-2.result =
     ap length (entries_from_header a y c.header_ref-2.result.now c.header_ref-2.ensures.header) ∙ sym c.len-2.ensures.len in
-    (search rules, (p.live_first, (p.live_second, (p.apart, (omega (arith, len_x, len_y, c.if-count.true), c.requires.keyless)))))
+    (search rules, (p.live_first, (p.live_second, (p.apart, (omega (arith, len_x, len_y, c.if-count.true), (c.requires.keyless, c.requires.hinted))))))
 
 pub even_out-requires : goal.even_out-requires
 even_out-requires g c =
@@ -75,7 +75,7 @@ even_out-requires g c =
     ap length (entries_from_header a x c.header_ref.result.now c.header_ref.ensures.header) ∙ sym c.len.ensures.len in
     let len_y : length (entries_at a y) ≡ c.len-2.result =
     ap length (entries_from_header a y c.header_ref-2.result.now c.header_ref-2.ensures.header) ∙ sym c.len-2.ensures.len in
-    (search rules, (p.live_first, (p.live_second, (p.apart, (omega (arith, len_x, len_y, c.if-count.false), c.requires.keyless)))))
+    (search rules, (p.live_first, (p.live_second, (p.apart, (omega (arith, len_x, len_y, c.if-count.false), (c.requires.keyless, c.requires.hinted))))))
 
 pub summary-requires : goal.summary-requires
 summary-requires g c =

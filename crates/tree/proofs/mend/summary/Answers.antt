@@ -5,10 +5,14 @@ use mir.Syntax.{w64}
 use Rattle.std.proofs.lemmas.Int.{to_z-of_z}
 use Rattle.tree.specs.declared.entry.Entry.{Entry}
 use Rattle.tree.specs.Item.{version_of, IsGreatest}
-use Rattle.tree.specs.Node.{entries_of}
+use Rattle.tree.specs.Node.{entries_of, keys_of}
 use Rattle.tree.specs.Subtree.{entries_at}
 use Rattle.tree.proofs.Placing.{entries_from_header}
 use Rattle.tree.proofs.Telling.{tells_items}
+use Rattle.std.specs.List.{All}
+use Rattle.tree.specs.Hints.{IsKnown}
+use Rattle.tree.proofs.Hinted.{known_at}
+use Rattle.tree.proofs.KnownKeys.{key_of_one}
 use Rattle.tree.proofs.mend.summary.Goals as goal
 
 first_and_rest : (xs : List Entry) (x : Entry) → 0 < length xs → x ≡ get_or xs 0 x → xs ≡ x ∷ drop 1 xs
@@ -31,3 +35,13 @@ returns-clause-tells g c height least h =
     subst (λ (l : List Entry). IsGreatest version_of r l) (sym c.entries.ensures.entries ∙ parts) c.greatest.ensures.greatest in
     tells_items a least height c.args.child _ e (drop 1 xs) (sym same ∙ parts) (ap (λ (z : Entry). z.key) (sym c.index-entries-0.is))
     (subst (λ (v : ℤ). IsGreatest version_of v (e ∷ drop 1 xs)) (sym (to_z-of_z w64 r fits)) greatest) h
+
+pub returns-clause-known : goal.returns-clause-known
+returns-clause-known g c bytes hinted =
+    let a = c.args.nodes.now in
+    let node = c.header_ref-node.result.now in
+    let xs = c.entries.result.now in
+    let here : entries_at a c.args.child ≡ entries_of node = entries_from_header a c.args.child node c.header_ref-node.ensures.header in
+    let same : entries_at a c.args.child ≡ xs = here ∙ sym c.entries.ensures.entries in
+    key_of_one (IsKnown bytes) xs 0 _ (subst (λ l. 0 < length l) same c.requires.some)
+    (subst (λ l. All (IsKnown bytes) (keys_of l)) same (known_at bytes a c.args.child hinted))

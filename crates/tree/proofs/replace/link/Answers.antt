@@ -1,12 +1,15 @@
-use Rattle.std.proofs.Common.{◌≡◌, ◌+◌, ℕ, ◌∷◌, ◌++◌, List, get_or, take, drop, Option, Some, None, sym, ap, subst, ◌∙◌}
+use Rattle.std.proofs.Common.{◌≡◌, ◌+◌, ℕ, ◌∷◌, ◌++◌, List, get_or, set, take, drop, Option, Some, None, sym, ap, subst, ◌∙◌}
 use Rattle.std.specs.Prelude.{MatchOption}
 use Rattle.tree.specs.declared.entry.Entry.{Entry}
 use Rattle.tree.specs.declared.node.Node.{Node}
 use Rattle.tree.specs.Item.{Tells}
-use Rattle.tree.specs.Node.{entries_of}
+use Rattle.tree.specs.Node.{entries_of, keys_of}
 use Rattle.tree.specs.Subtree.{items_in, IsSubtree}
 use Rattle.tree.specs.Replace.{child_at, entries_with}
 use Rattle.tree.proofs.Sharing.{child_is, set_inserted}
+use Rattle.std.specs.List.{All}
+use Rattle.tree.specs.Hints.{IsKnown}
+use Rattle.tree.proofs.KnownKeys.{keys_set_inserted}
 use Rattle.tree.proofs.replace.link.Goals as goal
 
 with_is : {N : ℕ} (node : Node N) (o : Option (Node N)) (es : List Entry)
@@ -38,3 +41,19 @@ returns-clause-linked g c =
       second_child = c.summary-2.ensures.child;
       second_tells = c.summary-2.ensures.tells;
     }
+
+pub returns-clause-known : goal.returns-clause-known
+returns-clause-known g c bytes hinted known =
+    let es = entries_of c.args.node.now in
+    let i = c.args.index in
+    let t = c.summary.result in
+    let u = c.summary-2.result in
+    let new = c.insert_or_split.new.self in
+    let then = set es i t in
+    let entries : entries_with new c.insert_or_split.result ≡ take (i + 1) then ++ u ∷ drop (i + 1) then =
+    with_is new c.insert_or_split.result _
+    (subst (λ (l : List Entry). MatchOption c.insert_or_split.result (entries_of new ≡ take (i + 1) l ++ u ∷ drop (i + 1) l)
+    (λ right. entries_of new ++ entries_of right ≡ take (i + 1) l ++ u ∷ drop (i + 1) l)) c.set.ensures.entries
+    c.insert_or_split.ensures.entries) in
+    subst (λ l. All (IsKnown bytes) (keys_of l)) (sym entries)
+    (keys_set_inserted (IsKnown bytes) es i t u known (c.summary.ensures.known bytes hinted) (c.summary-2.ensures.known bytes hinted))

@@ -1,4 +1,4 @@
-use Rattle.std.proofs.Common.{◌≡◌, ◌≤◌, ◌+◌, ◌∷◌, List, length, length-append, length-take-le, length-drop, get_or, take, drop, refl, sym, ap, subst, ◌∙◌, arith}
+use Rattle.std.proofs.Common.{◌≡◌, ◌≤◌, ◌+◌, ◌∷◌, List, length, length-append, length-take-le, length-drop, get_or, take, drop, option_map, refl, sym, ap, subst, ◌∙◌, arith, rules}
 use Rattle.std.specs.Prelude.{slice_set}
 use Rattle.arena.specs.Arena.{with_header}
 use Rattle.tree.specs.declared.entry.Entry.{Entry}
@@ -6,7 +6,9 @@ use Rattle.tree.specs.Node.{entries_of}
 use Rattle.tree.specs.Subtree.{entries_at, IsSubtree}
 use Rattle.tree.specs.Tree.{least_of}
 use Rattle.tree.specs.Replace.{IsFamily, IsMended}
-use Rattle.tree.proofs.Placing.{entries_from_header, put_entries}
+use Rattle.tree.proofs.KnownKeys.{children_known}
+use Rattle.tree.proofs.Hinted.{hinted_at, hinted_put}
+use Rattle.tree.proofs.Placing.{entries_from_header, put_entries, put_record_is, put_others}
 use Rattle.tree.proofs.Sharing.{set_one}
 use Rattle.tree.proofs.Mending.{live_subtree, mended_by_summary}
 use Rattle.tree.proofs.Storing.{mended_at}
@@ -106,3 +108,40 @@ returns-clause-few_less g c =
     let here = put_entries c.mend.new.nodes c.set_header.new.self slot c.take_hints.new.self
     c.set_header.ensures.replaced in
     omega (arith, c.mend.ensures.few_less, read, ap length here, ap length c.take_hints.ensures.entries)
+
+pub returns-then-len-least-clause-hinted : goal.returns-then-len-least-clause-hinted
+returns-then-len-least-clause-hinted g c =
+    let a = c.args.nodes.now in
+    let slot = c.args.slot in
+    let node = c.set_hinted.new.self in
+    let b = with_header a slot node in
+    hinted_put (g.P.Probe.bytes c.args.probe.now) a b slot node c.requires.hinted
+    (ap (option_map (λ r. r.header)) (put_record_is a b slot node refl)) c.set_hinted.ensures.hinted (put_others a b slot node refl)
+
+pub take_hints-requires : goal.take_hints-requires
+take_hints-requires g c =
+    let a = c.args.nodes.now in
+    let b = c.mend.new.nodes in
+    let slot = c.args.slot in
+    let bytes = g.P.Probe.bytes c.args.probe.now in
+    let L = least_of g.row.N in
+    let f = c.requires.family in
+    let read = entries_from_header a slot c.header-node.result c.header-node.ensures.header in
+    let loose = subst (λ l. IsFamily a L f.0 l c.args.index (c.args.index + 1)) read f.1.family in
+    let mended = c.mend.ensures.mended f.0 loose in (
+      search rules,
+      (
+        hinted_at bytes b slot c.header_ref-3.result.now c.mend.ensures.hinted c.header_ref-3.ensures.header,
+        children_known bytes b L f.0 (entries_of c.mend.new.node) (omega arith) c.mend.ensures.hinted mended.children,
+      ),
+    )
+
+pub returns-clause-hinted : goal.returns-clause-hinted
+returns-clause-hinted g c =
+    let b = c.mend.new.nodes in
+    let w = c.set_header.new.self in
+    let slot = c.args.slot in
+    let node = c.take_hints.new.self in
+    hinted_put (g.P.Probe.bytes c.args.probe.now) b w slot node c.mend.ensures.hinted
+    (ap (option_map (λ r. r.header)) (put_record_is b w slot node c.set_header.ensures.replaced)) c.take_hints.ensures.hinted
+    (put_others b w slot node c.set_header.ensures.replaced)

@@ -1,10 +1,11 @@
-use Rattle.std.proofs.Common.{arith, ◌≡◌, suc, ◌+◌, List, [], ◌∷◌, ◌++◌, ◌∙◌, ap, ap₂, sym, subst, length, take, drop}
+use Rattle.std.proofs.Common.{arith, rules, ◌≡◌, suc, ◌+◌, List, [], ◌∷◌, ◌++◌, ◌∙◌, ap, ap₂, sym, subst, length, take, drop}
 use Rattle.std.specs.Prelude.{nat_eq}
-use Rattle.std.specs.List.{IsDistinct}
+use Rattle.std.specs.List.{All, IsDistinct}
 use Rattle.std.proofs.lemmas.List.{append-nil}
 use Rattle.std.proofs.lemmas.List.Elements.{All-nil, All-cons}
 use Rattle.tree.specs.declared.entry.Entry.{Entry}
-use Rattle.tree.specs.Node.{entries_of}
+use Rattle.tree.specs.Hints.{IsKnown}
+use Rattle.tree.specs.Node.{entries_of, keys_of}
 use Rattle.tree.specs.Subtree.{items_in, slots_in}
 use Rattle.tree.specs.Replace.{AreChildren, items_of, slots_of}
 use Rattle.tree.specs.Tree.{least_of, IsRooted}
@@ -12,6 +13,18 @@ use Rattle.tree.proofs.Frames.{IsRight}
 use Rattle.tree.proofs.Changing.{moves_if_changes}
 use Rattle.tree.proofs.Rooting.{right_entry, grown}
 use Rattle.tree.proofs.root.grow.Goals as goal
+
+pub renew_hints-requires : goal.renew_hints-requires
+renew_hints-requires g c =
+    let bytes = g.P.Probe.bytes c.args.probe.now in
+    let first = c.summary.result in
+    let second = c.summary-2.result in
+    let es : List Entry = first ∷ second ∷ [] in
+    let node : entries_of c.insert.new.self ≡ es =
+    c.insert.ensures.entries ∙ ap (λ l. take 1 l ++ second ∷ drop 1 l) c.of-node.ensures.entries in
+    let known : All (IsKnown bytes) (keys_of es) =
+    All-cons (IsKnown bytes) first.key (second.key ∷ []) (c.summary.ensures.known bytes c.requires.hinted)
+    (All-cons (IsKnown bytes) second.key [] (c.summary-2.ensures.known bytes c.requires.hinted) (All-nil (IsKnown bytes))) in (search rules, subst (λ l. All (IsKnown bytes) (keys_of l)) (sym node) known)
 
 pub returns-clause-items : goal.returns-clause-items
 returns-clause-items g c =
@@ -22,8 +35,8 @@ returns-clause-items g c =
     let second = c.summary-2.result in
     let least = least_of g.row.N in
     let es : List Entry = first ∷ second ∷ [] in
-    let node : entries_of c.insert.new.self ≡ es =
-    c.insert.ensures.entries ∙ ap (λ l. take 1 l ++ second ∷ drop 1 l) c.of-node.ensures.entries in
+    let node : entries_of c.renew_hints.new.self ≡ es =
+    c.renew_hints.ensures.entries ∙ c.insert.ensures.entries ∙ ap (λ l. take 1 l ++ second ∷ drop 1 l) c.of-node.ensures.entries in
     let right : AreChildren a least h es =
     All-cons (IsRight a least h) first (second ∷ [])
     (right_entry a least h c.args.root.slot first c.summary.ensures.child c.requires.first c.requires.filled.0
@@ -54,8 +67,8 @@ returns-clause-rooted g c =
     let second = c.summary-2.result in
     let least = least_of g.row.N in
     let es : List Entry = first ∷ second ∷ [] in
-    let node : entries_of c.insert.new.self ≡ es =
-    c.insert.ensures.entries ∙ ap (λ l. take 1 l ++ second ∷ drop 1 l) c.of-node.ensures.entries in
+    let node : entries_of c.renew_hints.new.self ≡ es =
+    c.renew_hints.ensures.entries ∙ c.insert.ensures.entries ∙ ap (λ l. take 1 l ++ second ∷ drop 1 l) c.of-node.ensures.entries in
     let right : AreChildren a least h es =
     All-cons (IsRight a least h) first (second ∷ [])
     (right_entry a least h c.args.root.slot first c.summary.ensures.child c.requires.first c.requires.filled.0
@@ -76,3 +89,7 @@ returns-clause-rooted g c =
     (subst (IsDistinct nat_eq) (sym slots) c.requires.distinct) (c.requires.linked ∙ ap length (sym slots)) in
     let one : suc h ≡ h + 1 = omega arith in
     subst (λ n. IsRooted b c.place.result n) one new.rooted
+
+pub returns-clause-hinted : goal.returns-clause-hinted
+returns-clause-hinted g c =
+    c.place.ensures.hinted (g.P.Probe.bytes c.args.probe.now) c.renew_hints.ensures.hinted c.requires.hinted

@@ -3,6 +3,7 @@ use Rattle.std.proofs.lemmas.Int.{to_z-of_z}
 use Rattle.tree.specs.Item.{Item}
 use Rattle.tree.specs.Node.{entries_of}
 use Rattle.tree.proofs.Inserting.{passing_set}
+use Rattle.tree.proofs.LeafChange.{hint_stays}
 use Rattle.tree.proofs.tree.set_passing.Goals as goal
 
 pub returns : goal.returns
@@ -18,4 +19,8 @@ returns g c =
     record {
       items = λ before last ends. passing_set passes (entries_of c.args.leaf.now) c.entries.result.now again (entries_of c.set.new.self) n d
           c.item.result c.args.version same c.entries-2.ensures.entries found.count found.first found.rest c.set.ensures.entries is before last ends;
+      hinted = hint_stays (g.P.Probe.bytes c.args.probe.now) c.args.leaf.now c.set.new.self (n - 1) d c.item.result c.set.ensures.hint
+          c.set.ensures.entries
+          (ap (λ (x : Item). x.key) c.item.ensures.item ∙ ap (λ es. (get_or es (n - 1) d).key) c.entries-2.ensures.entries)
+          c.requires.hinted;
     }

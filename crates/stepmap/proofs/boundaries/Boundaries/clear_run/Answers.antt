@@ -8,12 +8,13 @@ use Rattle.tree.specs.Item.{Item, item_of}
 use Rattle.tree.specs.Path.{passing, behind, between}
 use Rattle.stepmap.specs.Cut.{slot_passes}
 use Rattle.tree.specs.Tree.{Items}
-use Rattle.stepmap.specs.Stored.{boundaries_of, IsStored}
+use Rattle.stepmap.specs.Stored.{boundaries_of, AreIndexed}
 use Rattle.stepmap.specs.Boundary.{Boundary, AreInOrder, from_on}
 use Rattle.stepmap.specs.Sweeping.{passed_to}
 use Rattle.stepmap.proofs.WritingValues.{begins_before_end}
-use Rattle.stepmap.proofs.Unlinked.{AreParted, run_live, run_distinct, kept_stay, kept_stored}
+use Rattle.stepmap.proofs.Unlinked.{AreParted, run_live, run_distinct, kept_same, kept_stay, kept_stored}
 use Rattle.stepmap.proofs.Clearing.{begin_is_cut, end_is_cut, nested_slots, some_pass, none_between, run_parted, left_in_order, before_stays, behind_stays, fewer_left}
+use Rattle.stepmap.proofs.Indexed.{hinted_left}
 use Rattle.stepmap.proofs.boundaries.Boundaries.clear_run.Goals as goal
 use Rattle.stepmap.proofs.boundaries.Boundaries.clear_run.Given as given
 use Rattle.stepmap.proofs.boundaries.Boundaries.clear_run.Goals.{After-end, After-entries}
@@ -56,13 +57,13 @@ taken g c front filled =
       some = λ none. h.2 (sym es ∙ none);
       now = h.3;
       parts = subst (λ items. AreParted c.self.inside.tree.items items (map item_of c.entries.result.now)) (sym h.3)
-          (run_parted c.self.inside.keys c.self.inside.tree c.self.invariant c.is_empty.result c.begin.result.now
+          (run_parted c.self.inside.keys c.self.inside.tree c.self.invariant.stored c.is_empty.result c.begin.result.now
           c.end.result.now front filled h.0 c.entries.result.now is);
     }
 
 -- what is stored then
 record IsCleared (g : given.Over) (c : After-entries g) (new : Arena (Unit {0})) : Type 0 where
-  stored : IsStored new c.take_run.new.self
+  indexed : AreIndexed new c.take_run.new.self
   fewer : length (boundaries_of new c.take_run.new.self.items)
       < length (boundaries_of c.self.inside.keys c.self.inside.tree.items)
   before : passed_to c.begin.result.now (boundaries_of new c.take_run.new.self.items)
@@ -77,7 +78,7 @@ cleared : (g : given.Over) (c : After-entries g) (new : Arena (Unit {0})) → Is
 cleared g c new t others counted =
     let keys = c.self.inside.keys in
     let tree = c.self.inside.tree in
-    let stored = c.self.invariant in
+    let stored = c.self.invariant.stored in
     let up_to = c.is_empty.result in
     let begin = c.begin.result.now in
     let end = c.end.result.now in
@@ -90,7 +91,11 @@ cleared g c new t others counted =
     let order = subst (λ items. AreInOrder (boundaries_of keys items)) (sym t.now)
     (left_in_order keys tree stored up_to begin end t.front t.filled t.kept run t.between_is) in
     record {
-      stored = kept_stored keys tree stored items run t.parts new others counted c.take_run.new.self refl order;
+      indexed = record {
+        stored = kept_stored keys tree stored items run t.parts new others counted c.take_run.new.self refl order;
+        hinted = hinted_left keys new c.take_run.new.self c.take_run.ensures.known
+            (kept_same keys tree stored items run t.parts new others) c.take_run.ensures.hinted;
+      };
       fewer = subst (λ (bs : List Boundary). length bs < length (boundaries_of keys tree.items)) (sym same)
           (fewer_left keys tree stored up_to begin end t.front t.filled t.kept run t.between_is t.some);
       before = ap (passed_to begin) same
@@ -113,12 +118,12 @@ take_run-requires g c =
       (
         omega (arith, c.self.inside.few),
         (
-          begin_is_cut keys tree c.self.invariant up_to begin end front filled,
+          begin_is_cut keys tree c.self.invariant.stored up_to begin end front filled,
           (
-            end_is_cut keys tree c.self.invariant up_to begin end front filled,
+            end_is_cut keys tree c.self.invariant.stored up_to begin end front filled,
             (
-              nested_slots keys tree c.self.invariant up_to begin end front filled,
-              some_pass keys tree c.self.invariant up_to begin end front filled,
+              nested_slots keys tree c.self.invariant.stored up_to begin end front filled,
+              (some_pass keys tree c.self.invariant.stored up_to begin end front filled, c.self.invariant.hinted),
             ),
           ),
         ),
@@ -131,7 +136,7 @@ returns-in_default-clause-none g c = λ _.
     let keys = c.self.inside.keys in
     let tree = c.self.inside.tree in
     let h = c.in_default.ensures.run in
-    let parts = none_between keys tree c.self.invariant c.is_empty.result c.begin.result.now c.end.result.now
+    let parts = none_between keys tree c.self.invariant.stored c.is_empty.result c.begin.result.now c.end.result.now
     (at_front g at) (filled g at) h.0 in
     let bs = c.args.self.now.boundaries in
     let old : boundaries_of keys tree.items ≡ bs = ap (λ v. v.boundaries) c.self.view_is in
@@ -146,14 +151,14 @@ pub release-requires-clause-live : goal.release-requires-clause-live
 release-requires-clause-live g c =
     let at = (goal.at.release-requires-clause-live g c).After-end in
     let t = taken g (goal.at.release-requires-clause-live g c).After-entries (at_front g at) (filled g at) in
-    run_live c.self.inside.keys c.self.inside.tree c.self.invariant c.take_run.new.self.items c.entries.result.now
+    run_live c.self.inside.keys c.self.inside.tree c.self.invariant.stored c.take_run.new.self.items c.entries.result.now
     t.parts
 
 pub release-requires-clause-distinct : goal.release-requires-clause-distinct
 release-requires-clause-distinct g c =
     let at = (goal.at.release-requires-clause-distinct g c).After-end in
     let t = taken g (goal.at.release-requires-clause-distinct g c).After-entries (at_front g at) (filled g at) in
-    run_distinct c.self.inside.keys c.self.inside.tree c.self.invariant c.take_run.new.self.items c.entries.result.now
+    run_distinct c.self.inside.keys c.self.inside.tree c.self.invariant.stored c.take_run.new.self.items c.entries.result.now
     t.parts
 
 pub invariant_of-self-2 : goal.invariant_of-self-2
@@ -161,7 +166,7 @@ invariant_of-self-2 g c =
     let at = (goal.at.invariant_of-self-2 g c).After-end in
     let now = (goal.at.invariant_of-self-2 g c).After-entries in
     (cleared g now c.release.new.keys (taken g now (at_front g at) (filled g at)) c.release.ensures.others
-    c.release.ensures.counted).stored
+    c.release.ensures.counted).indexed
 
 pub returns-clause-some : goal.returns-clause-some
 returns-clause-some g c = λ _.

@@ -16,19 +16,19 @@ use Rattle.stepmap.proofs.boundaries.Boundaries.go_on.Goals as goal
 
 pub last-requires : goal.last-requires
 last-requires g c =
-    let p = are_passed c.self.inside.keys c.self.inside.tree c.self.invariant c.is_empty.result c.deref.result.now
+    let p = are_passed c.self.inside.keys c.self.inside.tree c.self.invariant.stored c.is_empty.result c.deref.result.now
     c.args.cursor.now.items _ c.deref.ensures.value c.deref.ensures.len c.is_empty.ensures in
-    (omega arith, p.cut)
+    (omega arith, (p.cut, c.self.invariant.hinted))
 
 pub unwrap-last-requires : goal.unwrap-last-requires
 unwrap-last-requires g c =
-    let p = are_passed c.self.inside.keys c.self.inside.tree c.self.invariant c.is_empty.result c.deref.result.now
+    let p = are_passed c.self.inside.keys c.self.inside.tree c.self.invariant.stored c.is_empty.result c.deref.result.now
     c.args.cursor.now.items _ c.deref.ensures.value c.deref.ensures.len c.is_empty.ensures in
     is_some c.self.inside.keys _ _ p.some c.last.ensures.last
 
 pub key_behind-next-requires : goal.key_behind-next-requires
 key_behind-next-requires g c =
-    let p = are_passed c.self.inside.keys c.self.inside.tree c.self.invariant c.is_empty.result c.deref.result.now
+    let p = are_passed c.self.inside.keys c.self.inside.tree c.self.invariant.stored c.is_empty.result c.deref.result.now
     c.args.cursor.now.items _ c.deref.ensures.value c.deref.ensures.len c.is_empty.ensures in
     (omega arith, p.cut)
 
@@ -39,7 +39,7 @@ move_to-requires-clause-live g c =
     let items = c.self.inside.tree.items in
     subst (λ o. IfSome o (IsLive keys)) (sym c.key_behind-next.ensures.key)
     (first_has keys (IsLive keys) (behind p items)
-    (All-filter (λ x. not (p x.key)) (λ x. IsLive keys x.key) items c.self.invariant.live))
+    (All-filter (λ x. not (p x.key)) (λ x. IsLive keys x.key) items c.self.invariant.stored.live))
 
 pub move_to-requires-clause-fits : goal.move_to-requires-clause-fits
 move_to-requires-clause-fits g c =
@@ -59,7 +59,7 @@ returns-clause-version g c =
     let keys = c.self.inside.keys in
     let cursor = c.args.cursor.now.items in
     let e = c.unwrap-last.result in
-    let p = are_passed keys c.self.inside.tree c.self.invariant c.is_empty.result c.deref.result.now cursor _
+    let p = are_passed keys c.self.inside.tree c.self.invariant.stored c.is_empty.result c.deref.result.now cursor _
     c.deref.ensures.value c.deref.ensures.len c.is_empty.ensures in
     let items = passing (slot_passes keys c.is_empty.result c.deref.result.now) c.self.inside.tree.items in
     let last = subst (λ o. MatchOption o (items ≡ []) (λ e. IsLast (item_of e) items)) c.unwrap-last.ensures c.last.ensures.last in
@@ -71,7 +71,7 @@ pub returns-clause-cursor : goal.returns-clause-cursor
 returns-clause-cursor g c =
     let keys = c.self.inside.keys in
     let cursor = c.args.cursor.now.items in
-    let p = are_passed keys c.self.inside.tree c.self.invariant c.is_empty.result c.deref.result.now cursor _
+    let p = are_passed keys c.self.inside.tree c.self.invariant.stored c.is_empty.result c.deref.result.now cursor _
     c.deref.ensures.value c.deref.ensures.len c.is_empty.ensures in
     let items = behind (slot_passes keys c.is_empty.result c.deref.result.now) c.self.inside.tree.items in
     c.move_to.ensures.cursor ∙ ap (λ o. unwrap_or (option_map (bytes_at keys) o) []) c.key_behind-next.ensures.key

@@ -32,8 +32,8 @@ greatest-requires g c =
     rw (c.as_bytes-2.ensures.bytes, c.as_bytes-3.ensures.bytes) (begins_before_end c.args.range.now c.requires.filled) in (
       omega arith,
       (
-        (stored_cut b.keys b.tree c.self.invariant true begin).cut,
-        ((stored_cut b.keys b.tree c.self.invariant false end).cut, nested b.keys true begin end rises),
+        (stored_cut b.keys b.tree c.self.invariant.stored true begin).cut,
+        ((stored_cut b.keys b.tree c.self.invariant.stored false end).cut, nested b.keys true begin end rises),
       ),
     )
 
@@ -56,7 +56,7 @@ found g c =
     let begin = c.as_bytes-2.result.now in
     let end = c.as_bytes-3.result.now in
     let bs = c.args.self.now.boundaries in
-    between_inside b.keys b.tree c.self.invariant begin end
+    between_inside b.keys b.tree c.self.invariant.stored begin end
     ∙ ap (λ (v : Stored). inside begin end v.boundaries) c.self.view_is
     ∙ ap (λ k. inside k end bs) c.as_bytes-2.ensures.bytes
     ∙ ap (λ k. inside c.args.range.now.begin k bs) c.as_bytes-3.ensures.bytes

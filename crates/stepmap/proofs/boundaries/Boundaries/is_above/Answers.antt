@@ -1,4 +1,4 @@
-use Rattle.std.proofs.Common.{arith, true, false, Some, sym, subst, List, ℕ}
+use Rattle.std.proofs.Common.{◌≡◌, ◌∙◌, ap, take, arith, refl, true, false, Some, sym, subst, List, ℕ}
 use Rattle.std.specs.Prelude.{IsTrue, Any, ◌↔◌, ◌<ℤ◌}
 use Rattle.std.proofs.lemmas.Int.{to_z-of_z}
 use Rattle.std.proofs.Common.{w64}
@@ -22,13 +22,23 @@ exceeds_from_last-requires g c =
     let begin = c.as_bytes.result.now in
     let end = c.as_bytes-2.result.now in
     let rises : IsBefore begin end =
-    rw (c.as_bytes.ensures.bytes, c.as_bytes-2.ensures.bytes) (begins_before_end c.args.range.now c.requires.filled) in (
+    rw (c.as_bytes.ensures.bytes, c.as_bytes-2.ensures.bytes) (begins_before_end c.args.range.now c.requires.filled) in
+    let shared : take c.common-shared.result begin ≡ take c.common-shared.result end =
+    ap (take c.common-shared.result) (c.as_bytes.ensures.bytes ∙ sym c.as_bytes-3.ensures.bytes)
+    ∙ c.common-shared.ensures.same
+    ∙ ap (take c.common-shared.result) (c.as_bytes-4.ensures.bytes ∙ sym c.as_bytes-2.ensures.bytes) in (
       omega arith,
       (
-        (stored_cut b.keys b.tree c.self.invariant true begin).cut,
+        (stored_cut b.keys b.tree c.self.invariant.stored true begin).cut,
         (
-          (stored_cut b.keys b.tree c.self.invariant false end).cut,
-          (nested b.keys true begin end rises, some_passes b.keys b.tree c.self.invariant begin),
+          (stored_cut b.keys b.tree c.self.invariant.stored false end).cut,
+          (
+            nested b.keys true begin end rises,
+            (
+              some_passes b.keys b.tree c.self.invariant.stored begin,
+              (c.self.invariant.hinted, ((λ key. refl), shared)),
+            ),
+          ),
         ),
       ),
     )
@@ -45,7 +55,7 @@ returns g c =
     let told : IsTrue c.exceeds_from_last.result ↔ Any (λ (x : Item). s <ℤ x.version) (From range.begin range.end) =
     rw (to_z-of_z w64 s c.ranges.version, c.as_bytes.ensures.bytes, c.as_bytes-2.ensures.bytes)
     at c.exceeds_from_last.ensures.above in
-    let found = above_told b.keys b.tree c.self.invariant range c.requires.filled are s in
+    let found = above_told b.keys b.tree c.self.invariant.stored range c.requires.filled are s in
     let above : IsTrue c.exceeds_from_last.result
     ↔ ((key : List ℕ) × IsBytes key × Holds range key × (s <ℤ value_at c.args.self.now.boundaries key)) =
     subst (λ (v : Stored). IsTrue c.exceeds_from_last.result

@@ -1,4 +1,5 @@
-use Rattle.std.proofs.Common.{refl, negsuc}
+use Rattle.std.proofs.Common.{refl, negsuc, ap, option_map}
+use Rattle.arena.specs.Arena.{key_at}
 use Rattle.stepmap.proofs.Placed.{is_placed, alone_stored}
 use Rattle.stepmap.proofs.boundaries.Boundaries.new.Goals as goal
 
@@ -10,4 +11,8 @@ invariant_of-result-2 g c =
     let e = c.place.ensures in
     let placed = is_placed old new c.place.result slot tt _ c.in_ok-empty.was e.was_free e.placed e.record e.others in
     let tree = c.in_ok-tree.tree in
-    alone_stored old new slot tt _ placed tree (negsuc 0) refl c.new-keys.ensures.empty c.in_ok-tree.ensures.items
+    record {
+      stored = alone_stored old new slot tt _ placed tree (negsuc 0) refl c.new-keys.ensures.empty c.in_ok-tree.ensures.items;
+      hinted = c.in_ok-tree.ensures.hinted (key_at new)
+          (ap (option_map (λ r. r.key)) placed.is);
+    }

@@ -14,29 +14,30 @@ use Rattle.tree.specs.Path.{behind, first_key as first_slot}
 use Rattle.tree.specs.Tree.{IsLast, thin, gone}
 use Rattle.stepmap.specs.Boundary.{Boundary, AreInOrder, last_version}
 use Rattle.stepmap.specs.Cut.{slot_passes}
-use Rattle.stepmap.specs.Stored.{bytes_at, boundaries_of, IsStored, first_key}
+use Rattle.stepmap.specs.Stored.{bytes_at, boundaries_of, AreIndexed, first_key}
 use Rattle.stepmap.specs.Sweeping.{left_from, passed_to, thinned}
 use Rattle.stepmap.proofs.Passed.{first_has, first_bytes, keys_have}
 use Rattle.stepmap.proofs.ThinnedRun.{HasFirst, has_first, first_cut, some_pass, more_pass, now_parted, now_in_order, now_boundaries, next_are, rest_are, looked_within, last_looked}
-use Rattle.stepmap.proofs.Unlinked.{AreParted, run_live, run_distinct, kept_stay, kept_stored}
+use Rattle.stepmap.proofs.Unlinked.{AreParted, run_live, run_distinct, kept_same, kept_stay, kept_stored}
+use Rattle.stepmap.proofs.Indexed.{hinted_left}
 use Rattle.stepmap.proofs.boundaries.Boundaries.thin_run.Given as given
 use Rattle.stepmap.proofs.boundaries.Boundaries.thin_run.Goals as goal
 use Rattle.stepmap.proofs.boundaries.Boundaries.thin_run.Goals.{After-deref, After-thin_run-thinned, in-Some, in_default}
 
 -- the item of the boundary at the cursor
 first_of : (g : given.Over) (c : After-deref g)
-    → HasFirst c.self.inside.keys c.self.inside.tree c.self.invariant c.deref.result.now
+    → HasFirst c.self.inside.keys c.self.inside.tree c.self.invariant.stored c.deref.result.now
 first_of g c =
     let key = c.deref.result.now in
     let is = c.deref.ensures.value in
     let there : Any (λ (b : Boundary). b.key ≡ key) c.args.self.now.boundaries =
     subst (λ k. Any (λ (b : Boundary). b.key ≡ k) c.args.self.now.boundaries) (sym is) c.requires.there in
-    has_first c.self.inside.keys c.self.inside.tree c.self.invariant key (λ none. c.requires.later (sym is ∙ none))
+    has_first c.self.inside.keys c.self.inside.tree c.self.invariant.stored key (λ none. c.requires.later (sym is ∙ none))
     (subst (Any (λ (b : Boundary). b.key ≡ key)) (sym (ap (λ v. v.boundaries) c.self.view_is)) there)
 
 -- the run that was looked at
 record IsRun (g : given.Over) (c : After-thin_run-thinned g)
-    (first : HasFirst c.self.inside.keys c.self.inside.tree c.self.invariant c.deref.result.now) : Type 0 where
+    (first : HasFirst c.self.inside.keys c.self.inside.tree c.self.invariant.stored c.deref.result.now) : Type 0 where
   looked : List Item
   rest : List Item
   whole : first.first ∷ behind (slot_passes c.self.inside.keys true c.deref.result.now) c.self.inside.tree.items
@@ -48,7 +49,7 @@ record IsRun (g : given.Over) (c : After-thin_run-thinned g)
   last : IsLast c.thin_run-thinned.result.last (map (λ (x : Item). x.version) looked)
 
 run_of : (g : given.Over) (c : After-thin_run-thinned g)
-    → (first : HasFirst c.self.inside.keys c.self.inside.tree c.self.invariant c.deref.result.now) → IsRun g c first
+    → (first : HasFirst c.self.inside.keys c.self.inside.tree c.self.invariant.stored c.deref.result.now) → IsRun g c first
 run_of g c first =
     let edge = to_z-of_z w64 c.args.edge c.ranges.edge in
     let before = to_z-of_z w64 c.args.before c.ranges.before in
@@ -73,12 +74,15 @@ thin_run-thinned-requires g c =
       (
         omega (arith, c.self.inside.few),
         (
-          first_cut keys tree c.self.invariant key,
+          first_cut keys tree c.self.invariant.stored key,
           (
-            some_pass keys tree c.self.invariant key first.front first.first first.is,
+            some_pass keys tree c.self.invariant.stored key first.front first.first first.is,
             (
               c.requires.count,
-              λ one. absurd (more_pass keys tree c.self.invariant key first.front first.first first.is one),
+              (
+                c.self.invariant.hinted,
+                λ one. absurd (more_pass keys tree c.self.invariant.stored key first.front first.first first.is one),
+              ),
             ),
           ),
         ),
@@ -94,7 +98,7 @@ move_to-requires-clause-live g c =
     subst (λ o. IfSome o (IsLive keys)) (sym c.thin_run-thinned.ensures.next)
     (first_has keys (IsLive keys) (drop n (behind p items))
     (All-drop (λ x. IsLive keys x.key) n (behind p items)
-    (All-filter (λ x. not (p x.key)) (λ x. IsLive keys x.key) items c.self.invariant.live)))
+    (All-filter (λ x. not (p x.key)) (λ x. IsLive keys x.key) items c.self.invariant.stored.live)))
 
 pub move_to-requires-clause-fits : goal.move_to-requires-clause-fits
 move_to-requires-clause-fits g c =
@@ -117,7 +121,7 @@ entries-requires g c = omega (arith, c.self.inside.few)
 
 -- what goes, where a run was taken out
 taken_of : (g : given.Over) (c : After-thin_run-thinned g)
-    → (first : HasFirst c.self.inside.keys c.self.inside.tree c.self.invariant c.deref.result.now)
+    → (first : HasFirst c.self.inside.keys c.self.inside.tree c.self.invariant.stored c.deref.result.now)
     → (r : IsRun g c first) (run : List Entry) → map item_of run ≡ gone c.args.edge c.args.before r.looked
     → AreParted c.self.inside.tree.items c.thin_run-thinned.new.self.items (map item_of run)
 taken_of g c first r run is =
@@ -125,12 +129,12 @@ taken_of g c first r run is =
     let gone = gone c.args.edge c.args.before r.looked in
     subst (AreParted items c.thin_run-thinned.new.self.items) (sym is)
     (subst (λ now. AreParted items now gone) (sym r.now)
-    (now_parted c.self.inside.keys c.self.inside.tree c.self.invariant c.deref.result.now first.front first.first first.is
+    (now_parted c.self.inside.keys c.self.inside.tree c.self.invariant.stored c.deref.result.now first.front first.first first.is
     r.looked r.rest c.thin_run-thinned.result.looked_at r.whole r.count c.args.edge c.args.before))
 
 -- what is stored once the slots of those that went are released
 record IsThinned (g : given.Over) (c : After-thin_run-thinned g) (new : Arena (Unit {0})) : Type 0 where
-  stored : IsStored new c.thin_run-thinned.new.self
+  indexed : AreIndexed new c.thin_run-thinned.new.self
   boundaries :
       (let left = left_from c.deref.result.now (boundaries_of c.self.inside.keys c.self.inside.tree.items) in
       let n = c.thin_run-thinned.result.looked_at in
@@ -139,7 +143,7 @@ record IsThinned (g : given.Over) (c : After-thin_run-thinned g) (new : Arena (U
       ++ (thinned c.args.edge c.args.before (take n left) ++ drop n left))
 
 thinned_of : (g : given.Over) (c : After-thin_run-thinned g)
-    → (first : HasFirst c.self.inside.keys c.self.inside.tree c.self.invariant c.deref.result.now)
+    → (first : HasFirst c.self.inside.keys c.self.inside.tree c.self.invariant.stored c.deref.result.now)
     → (r : IsRun g c first) (run : List Entry) → map item_of run ≡ gone c.args.edge c.args.before r.looked
     → (new : Arena (Unit {0}))
     → ((slot : ℕ) → ¬ Contains (map (λ (e : Entry). e.key) run) slot
@@ -153,19 +157,24 @@ thinned_of g c first r run is new others counted =
     let items = c.thin_run-thinned.new.self.items in
     let parts = taken_of g c first r run is in
     let order = subst (λ now. AreInOrder (boundaries_of keys now)) (sym r.now)
-    (now_in_order keys tree c.self.invariant key first.front first.first first.is r.looked r.rest n r.whole r.count
+    (now_in_order keys tree c.self.invariant.stored key first.front first.first first.is r.looked r.rest n r.whole r.count
     c.args.edge c.args.before) in
     record {
-      stored =
-          kept_stored keys tree c.self.invariant items run parts new others counted c.thin_run-thinned.new.self refl order;
-      boundaries = kept_stay keys tree c.self.invariant items run parts new others ∙ ap (boundaries_of keys) r.now
-          ∙ now_boundaries keys tree c.self.invariant key first.front first.first first.is r.looked r.rest n r.whole r.count
+      indexed = record {
+        stored =
+            kept_stored keys tree c.self.invariant.stored items run parts new others counted c.thin_run-thinned.new.self refl
+            order;
+        hinted = hinted_left keys new c.thin_run-thinned.new.self c.thin_run-thinned.ensures.known
+            (kept_same keys tree c.self.invariant.stored items run parts new others) c.thin_run-thinned.ensures.hinted;
+      };
+      boundaries = kept_stay keys tree c.self.invariant.stored items run parts new others ∙ ap (boundaries_of keys) r.now
+          ∙ now_boundaries keys tree c.self.invariant.stored key first.front first.first first.is r.looked r.rest n r.whole r.count
           c.args.edge c.args.before;
     }
 
 -- the run that was taken out, read as entries
 run_is : (g : given.Over) (c : After-thin_run-thinned g)
-    → (first : HasFirst c.self.inside.keys c.self.inside.tree c.self.invariant c.deref.result.now)
+    → (first : HasFirst c.self.inside.keys c.self.inside.tree c.self.invariant.stored c.deref.result.now)
     → (r : IsRun g c first) (node : Node g.row.N) → c.thin_run-thinned.result.removed ≡ Some node
     → (run : List Entry) → run ≡ entries_of node → map item_of run ≡ gone c.args.edge c.args.before r.looked
 run_is g c first r node some run is =
@@ -175,7 +184,7 @@ run_is g c first r node some run is =
 
 -- where none goes, nothing is released
 unthinned_of : (g : given.Over) (c : After-thin_run-thinned g)
-    → (first : HasFirst c.self.inside.keys c.self.inside.tree c.self.invariant c.deref.result.now) → (r : IsRun g c first)
+    → (first : HasFirst c.self.inside.keys c.self.inside.tree c.self.invariant.stored c.deref.result.now) → (r : IsRun g c first)
     → c.thin_run-thinned.result.removed ≡ None → IsThinned g c c.self.inside.keys
 unthinned_of g c first r none =
     let gone = gone c.args.edge c.args.before r.looked in
@@ -190,7 +199,7 @@ release-requires-clause-live g c =
     let r = run_of g at first in
     let run = c.entries.result.now in
     let is = run_is g at first r c.in-Some.run' c.in-Some.is run c.entries.ensures.entries in
-    run_live c.self.inside.keys c.self.inside.tree c.self.invariant c.thin_run-thinned.new.self.items run
+    run_live c.self.inside.keys c.self.inside.tree c.self.invariant.stored c.thin_run-thinned.new.self.items run
     (taken_of g at first r run is)
 
 pub release-requires-clause-distinct : goal.release-requires-clause-distinct
@@ -200,7 +209,7 @@ release-requires-clause-distinct g c =
     let r = run_of g at first in
     let run = c.entries.result.now in
     let is = run_is g at first r c.in-Some.run' c.in-Some.is run c.entries.ensures.entries in
-    run_distinct c.self.inside.keys c.self.inside.tree c.self.invariant c.thin_run-thinned.new.self.items run
+    run_distinct c.self.inside.keys c.self.inside.tree c.self.invariant.stored c.thin_run-thinned.new.self.items run
     (taken_of g at first r run is)
 
 pub invariant_of-self : goal.invariant_of-self
@@ -210,13 +219,13 @@ invariant_of-self g c =
     let r = run_of g at first in
     let run = c.entries.result.now in
     let is = run_is g at first r c.in-Some.run' c.in-Some.is run c.entries.ensures.entries in
-    (thinned_of g at first r run is c.release.new.keys c.release.ensures.others c.release.ensures.counted).stored
+    (thinned_of g at first r run is c.release.new.keys c.release.ensures.others c.release.ensures.counted).indexed
 
 pub invariant_of-self-in_default : goal.invariant_of-self-in_default
 invariant_of-self-in_default g c =
     let first = first_of g (goal.at.invariant_of-self-in_default g c).After-deref in
     let at = (goal.at.invariant_of-self-in_default g c).After-thin_run-thinned in
-    (unthinned_of g at first (run_of g at first) c.in_default.is).stored
+    (unthinned_of g at first (run_of g at first) c.in_default.is).indexed
 
 pub returns-clause-within : goal.returns-clause-within
 returns-clause-within g c =
@@ -224,7 +233,7 @@ returns-clause-within g c =
     let r = run_of g (goal.at.returns-clause-within g c).After-thin_run-thinned first in
     let n = c.thin_run-thinned.result.looked_at in
     let within =
-    looked_within c.self.inside.keys c.self.inside.tree c.self.invariant c.deref.result.now first.front first.first first.is
+    looked_within c.self.inside.keys c.self.inside.tree c.self.invariant.stored c.deref.result.now first.front first.first first.is
     r.looked r.rest n r.whole r.count in
     let is = ap (λ k. length (left_from k (boundaries_of c.self.inside.keys c.self.inside.tree.items))) c.deref.ensures.value
     ∙ ap (λ v. length (left_from c.args.cursor.now.items v.boundaries)) c.self.view_is in
@@ -238,7 +247,7 @@ returns-clause-last g c =
     let last = c.thin_run-thinned.result.last in
     let fits : SFits w64 last = search rules in
     let is =
-    last_looked c.self.inside.keys c.self.inside.tree c.self.invariant c.deref.result.now first.front first.first first.is
+    last_looked c.self.inside.keys c.self.inside.tree c.self.invariant.stored c.deref.result.now first.front first.first first.is
     r.looked r.rest n r.whole r.count c.args.edge c.args.before last r.last in
     to_z-of_z w64 last fits ∙ sym is
     ∙ ap (λ k. last_version c.args.before (take n (left_from k (boundaries_of c.self.inside.keys c.self.inside.tree.items))))
@@ -273,9 +282,9 @@ returns-clause-cursor g c =
     let first = first_of g (goal.at.returns-clause-cursor g c).After-deref in
     let r = run_of g (goal.at.returns-clause-cursor g c).After-thin_run-thinned first in
     let n = c.thin_run-thinned.result.looked_at in
-    let next = next_are keys tree c.self.invariant key first.front first.first first.is r.looked r.rest n r.whole r.count
+    let next = next_are keys tree c.self.invariant.stored key first.front first.first first.is r.looked r.rest n r.whole r.count
     c.thin_run-thinned.ensures.looked_at.0 in
-    let rest = rest_are keys tree c.self.invariant key first.front first.first first.is r.looked r.rest n r.whole r.count in
+    let rest = rest_are keys tree c.self.invariant.stored key first.front first.first first.is r.looked r.rest n r.whole r.count in
     c.move_to.ensures.cursor ∙ ap (λ o. unwrap_or (option_map (bytes_at keys) o) []) c.thin_run-thinned.ensures.next
     ∙ ap (λ xs. unwrap_or (option_map (bytes_at keys) (first_slot None xs)) []) next
     ∙ first_bytes keys r.rest ∙ ap first_key (sym rest)

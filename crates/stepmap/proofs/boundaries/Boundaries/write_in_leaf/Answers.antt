@@ -1,25 +1,28 @@
-use Rattle.std.proofs.Common.{arith, true, false, ℕ, ◌≤◌, ◌<◌, ◌+◌, ◌≡◌, ◌∙◌, ap, sym, subst, List, [], ◌∷◌, length, Some, Bool, map, w64}
+use Rattle.std.proofs.Common.{arith, true, false, refl, take, ℕ, ◌≤◌, ◌<◌, ◌+◌, ◌≡◌, ◌∙◌, ap, sym, subst, List, [], ◌∷◌, length, Some, Bool, map, w64}
 use Rattle.std.specs.Prelude.{nat_eq, ◌==◌}
 use Rattle.std.specs.List.{All, Contains, IsDistinct}
 use Rattle.std.specs.FinMap as finite
 use Rattle.std.proofs.lemmas.Int.{to_z-of_z}
 use Rattle.std.proofs.lemmas.List.{length-map}
+use Rattle.std.proofs.lemmas.List.Elements.{All-head, All-tail}
 use Rattle.tree.specs.Item.{item_of}
 use Rattle.tree.specs.declared.entry.Entry.{Entry}
 use Rattle.tree.specs.Path.{IsCut}
-use Rattle.tree.specs.Tree.{Items}
-use Rattle.arena.specs.Arena.{Arena, IsLive, record_at, spare_of, size_of, wanted_of}
+use Rattle.tree.specs.Hints.{AreHinted, IsKnown}
+use Rattle.tree.specs.Tree.{Items, hints_in}
+use Rattle.arena.specs.Arena.{Arena, IsLive, record_at, key_at, spare_of, size_of, wanted_of}
 use Rattle.keyspace.specs.Key.{IsBefore}
 use Rattle.stepmap.specs.Boundary.{value_at}
 use Rattle.stepmap.specs.Cut.{slot_passes}
-use Rattle.stepmap.specs.Stored.{Stored, spare_in, boundary_of, boundaries_of, IsStored}
+use Rattle.stepmap.specs.Stored.{Stored, spare_in, boundary_of, boundaries_of, AreIndexed}
 use Rattle.stepmap.specs.Writing.{written}
 use Rattle.stepmap.proofs.Between.{nested, nested_around}
 use Rattle.stepmap.proofs.Exchanged.{cut_still}
+use Rattle.stepmap.proofs.Indexed.{hinted_with}
 use Rattle.stepmap.proofs.WritingValues.{begins_before_end}
 use Rattle.stepmap.proofs.PlacedKeys.{Placed, ArePlaced, none_placed, one_more_by, taken_by_place, still_stored, still_boundaries}
 use Rattle.stepmap.proofs.WrittenInParts.{spare_for_begin, spare_for_end}
-use Rattle.stepmap.proofs.WrittenInLeaf.{at_begin, both, unless_ended, used_at_most, IsPut, AreReady, AreLeft, left_if_ended, left_unless_ended, both_released, end_live, replaced_live, replaced_distinct, replaced_stored, replaced_boundaries}
+use Rattle.stepmap.proofs.WrittenInLeaf.{at_begin, at_end, both, unless_ended, used_at_most, IsPut, AreReady, AreLeft, left_if_ended, left_unless_ended, both_released, end_live, replaced_live, replaced_distinct, replaced_stored, replaced_hinted, replaced_boundaries}
 use Rattle.stepmap.proofs.boundaries.Boundaries.write_in_leaf.Goals as goal
 use Rattle.stepmap.proofs.boundaries.Boundaries.write_in_leaf.Given as given
 use Rattle.stepmap.proofs.boundaries.Boundaries.write_in_leaf.Goals.{After-item-first, After-release, After-release-in_default, After-overwrite, After-entries, In_default, then-done, else-done}
@@ -61,7 +64,7 @@ unwrap-end_key-requires g c =
 -- what is known where the keys are placed
 abbrev Ready : (g : given.Over) → After-item-first g → Type 0
 Ready g c =
-    AreReady c.self.inside.keys c.self.inside.tree c.self.invariant c.args.range.now c.requires.filled c.args.version
+    AreReady c.self.inside.keys c.self.inside.tree c.self.invariant.stored c.args.range.now c.requires.filled c.args.version
     c.unwrap-begin_key.result c.unwrap-end_key.result c.place-2.new.self
 
 ready_at : (g : given.Over) (c : After-item-first g) → Ready g c
@@ -88,7 +91,7 @@ cuts g c up_to key =
     let w = value_at (boundaries_of c.self.inside.keys c.self.inside.tree.items) c.args.range.now.end in
     (cut_still c.self.inside.keys c.place-2.new.self
     (both c.args.range.now c.args.version w c.unwrap-begin_key.result (Some c.unwrap-end_key.result)) (ready_at g c)
-    c.self.inside.tree c.self.invariant up_to key).cut
+    c.self.inside.tree c.self.invariant.stored up_to key).cut
 
 rises : (g : given.Over) (c : After-item-first g) → IsBefore c.begin-3.result.now c.end-2.result.now
 rises g c =
@@ -99,12 +102,56 @@ room g c =
     let few = subst (λ (v : Stored). length v.boundaries + 2 ≤ v.room) (sym c.self.view_is) c.requires.nodes in
     omega (arith, few, length-map c.self.inside.tree.items (boundary_of c.self.inside.keys))
 
+-- what is known of the two keys
+record HasKeys (g : given.Over) (c : After-item-first g) : Type 0 where
+  shared : take c.common-shared.result c.begin-3.result.now ≡ take c.common-shared.result c.end-2.result.now
+  first : key_at c.place-2.new.self c.item-first.result.key ≡ Some c.begin-3.result.now
+  second : key_at c.place-2.new.self c.unwrap-end_key.result ≡ Some c.end-2.result.now
+  known : IsKnown (key_at c.place-2.new.self) c.item-first.result.key
+      × IsKnown (key_at c.place-2.new.self) c.unwrap-end_key.result
+
+keys_at : (g : given.Over) (c : After-item-first g) → HasKeys g c
+keys_at g c =
+    let range = c.args.range.now in
+    let w = value_at (boundaries_of c.self.inside.keys c.self.inside.tree.items) range.end in
+    let begin = at_begin range c.args.version w c.unwrap-begin_key.result in
+    let rest = at_end range c.args.version w c.unwrap-begin_key.result (Some c.unwrap-end_key.result) in
+    let Keeps = λ (p : Placed). key_at c.place-2.new.self p.slot ≡ Some p.key in
+    let keys : All Keeps (begin ∷ rest) = (ready_at g c).keys in
+    let slot : c.item-first.result.key ≡ c.unwrap-begin_key.result = ap (λ x. x.key) c.item-first.ensures.item in
+    let first : key_at c.place-2.new.self c.item-first.result.key ≡ Some range.begin =
+    ap (key_at c.place-2.new.self) slot ∙ All-head Keeps begin rest keys in
+    let second : key_at c.place-2.new.self c.unwrap-end_key.result ≡ Some range.end =
+    All-head Keeps (record { slot = c.unwrap-end_key.result; key = range.end; version = w }) []
+    (All-tail Keeps begin rest keys) in
+    let n = c.common-shared.result in
+    record {
+      shared = ap (take n) (c.begin-3.ensures.bytes ∙ sym c.begin-4.ensures.bytes) ∙ c.common-shared.ensures.same
+          ∙ ap (take n) (c.end-3.ensures.bytes ∙ sym c.end-2.ensures.bytes);
+      first = first ∙ ap (λ k. Some k) (sym c.begin-3.ensures.bytes);
+      second = second ∙ ap (λ k. Some k) (sym c.end-2.ensures.bytes);
+      known = (
+        record { text = range.begin; known = first; are_bytes = range.begin_is_key.bytes },
+        record { text = range.end; known = second; are_bytes = range.end_is_key.bytes },
+      );
+    }
+
+-- what the nodes of the tree know is right beside the new keys
+hinted_at : (g : given.Over) (c : After-item-first g)
+    → AreHinted (key_at c.place-2.new.self) (hints_in c.self.inside.tree)
+hinted_at g c =
+    let w = value_at (boundaries_of c.self.inside.keys c.self.inside.tree.items) c.args.range.now.end in
+    hinted_with c.self.inside.keys c.place-2.new.self
+    (both c.args.range.now c.args.version w c.unwrap-begin_key.result (Some c.unwrap-end_key.result)) (ready_at g c)
+    c.self.inside.tree c.self.invariant.hinted
+
 pub overwrite-requires : goal.overwrite-requires
 overwrite-requires g c =
     let at = (goal.at.overwrite-requires g c).After-item-first in
     let keys = c.place-2.new.self in
     let begin = c.begin-3.result.now in
-    let end = c.end-2.result.now in (
+    let end = c.end-2.result.now in
+    let k = keys_at g at in (
       omega arith,
       (
         omega (arith, c.self.inside.few),
@@ -114,7 +161,19 @@ overwrite-requires g c =
             cuts g at false end,
             (
               cuts g at true end,
-              (nested keys false begin end (rises g at), (nested_around keys end, omega (arith, room g at))),
+              (
+                nested keys false begin end (rises g at),
+                (
+                  nested_around keys end,
+                  (
+                    omega (arith, room g at),
+                    (
+                      hinted_at g at,
+                      ((λ key. refl), ((λ key. refl), (k.shared, (refl, (k.first, (k.second, k.known)))))),
+                    ),
+                  ),
+                ),
+              ),
             ),
           ),
         ),
@@ -126,20 +185,20 @@ release-requires-in_default g c =
     let t = goal.at.release-requires-in_default g c in
     let e = c.release.ensures in
     record {
-      live = end_live c.self.inside.keys c.self.inside.tree c.self.invariant c.args.range.now c.requires.filled
+      live = end_live c.self.inside.keys c.self.inside.tree c.self.invariant.stored c.args.range.now c.requires.filled
           c.args.version c.unwrap-begin_key.result c.unwrap-end_key.result c.place-2.new.self
           (ready_at g t.After-item-first) c.release.new.self e.released e.others e.spare e.other_sizes;
     }
 
 -- where nothing was put into the tree, no key is left
 none_left : (g : given.Over) (c : After-release-in_default g)
-    → AreReady c.self.inside.keys c.self.inside.tree c.self.invariant c.args.range.now c.requires.filled c.args.version
+    → AreReady c.self.inside.keys c.self.inside.tree c.self.invariant.stored c.args.range.now c.requires.filled c.args.version
     c.unwrap-begin_key.result c.unwrap-end_key.result c.place-2.new.self
     → ArePlaced c.self.inside.keys c.release-in_default.new.self []
 none_left g c ready =
     let e = c.release.ensures in
     let f = c.release-in_default.ensures in
-    both_released c.self.inside.keys c.self.inside.tree c.self.invariant c.args.range.now c.requires.filled
+    both_released c.self.inside.keys c.self.inside.tree c.self.invariant.stored c.args.range.now c.requires.filled
     c.args.version c.unwrap-begin_key.result c.unwrap-end_key.result c.place-2.new.self ready c.release.new.self
     c.release-in_default.new.self e.released e.others e.spare e.other_sizes f.released f.others f.spare f.other_sizes
 
@@ -147,15 +206,20 @@ pub invariant_of-self : goal.invariant_of-self
 invariant_of-self g c =
     let t = goal.at.invariant_of-self g c in
     let placed = none_left g t.After-release-in_default (ready_at g t.After-item-first) in
-    subst (IsStored c.release-in_default.new.self) (sym c.in_default.ensures.run)
-    (still_stored c.self.inside.keys c.self.inside.tree c.self.invariant c.release-in_default.new.self placed)
+    subst (AreIndexed c.release-in_default.new.self) (sym c.in_default.ensures.run)
+    (record {
+      stored =
+          still_stored c.self.inside.keys c.self.inside.tree c.self.invariant.stored c.release-in_default.new.self placed;
+      hinted =
+          hinted_with c.self.inside.keys c.release-in_default.new.self [] placed c.self.inside.tree c.self.invariant.hinted;
+    })
 
 pub returns-in_default-clause-unchanged : goal.returns-in_default-clause-unchanged
 returns-in_default-clause-unchanged g c = λ _.
     let t = goal.at.returns-in_default-clause-unchanged g c in
     let placed = none_left g t.After-release-in_default (ready_at g t.After-item-first) in
     ap (λ (tree : Items). boundaries_of c.release-in_default.new.self tree.items) c.in_default.ensures.run
-    ∙ still_boundaries c.self.inside.keys c.self.inside.tree c.self.invariant c.release-in_default.new.self placed
+    ∙ still_boundaries c.self.inside.keys c.self.inside.tree c.self.invariant.stored c.release-in_default.new.self placed
     ∙ ap (λ v. v.boundaries) c.self.view_is
 
 pub returns-in_default-clause-none_used : goal.returns-in_default-clause-none_used
@@ -176,9 +240,9 @@ returns-in_default-clause-spare g c = λ size.
 
 -- the keys that are left once that of the end is released where a boundary stands there
 left_at : (g : given.Over) (c : After-entries g)
-    → AreReady c.self.inside.keys c.self.inside.tree c.self.invariant c.args.range.now c.requires.filled c.args.version
+    → AreReady c.self.inside.keys c.self.inside.tree c.self.invariant.stored c.args.range.now c.requires.filled c.args.version
     c.unwrap-begin_key.result c.unwrap-end_key.result c.place-2.new.self
-    → AreLeft c.self.inside.keys c.self.inside.tree c.self.invariant c.args.range.now c.requires.filled c.args.version
+    → AreLeft c.self.inside.keys c.self.inside.tree c.self.invariant.stored c.args.range.now c.requires.filled c.args.version
     c.unwrap-begin_key.result c.unwrap-end_key.result c.in-Some.done.ended c.if-done.self-inside.1.1.0
 left_at g c ready =
     let keys = c.self.inside.keys in
@@ -188,16 +252,16 @@ left_at g c ready =
     let slot = c.unwrap-begin_key.result in
     let end = c.unwrap-end_key.result in
     let ended = c.in-Some.done.ended in
-    let Left = AreLeft keys tree c.self.invariant range c.requires.filled v slot end ended in
+    let Left = AreLeft keys tree c.self.invariant.stored range c.requires.filled v slot end ended in
     elim c.if-done.branch [
       | then-done h ↦
           let e = h.release-then-done.ensures in
           subst Left (sym (ap (λ s. s.1.1.0) h.self-inside-is))
-          (left_if_ended keys tree c.self.invariant range c.requires.filled v slot end ended c.place-2.new.self
+          (left_if_ended keys tree c.self.invariant.stored range c.requires.filled v slot end ended c.place-2.new.self
           h.release-then-done.new.self ready h.if-done.true e.released e.others e.spare e.other_sizes)
       | else-done h ↦
           subst Left (sym (ap (λ s. s.1.1.0) h.self-inside-is))
-          (left_unless_ended keys tree c.self.invariant range c.requires.filled v slot end ended c.place-2.new.self
+          (left_unless_ended keys tree c.self.invariant.stored range c.requires.filled v slot end ended c.place-2.new.self
           ready h.if-done.false)
     ]
 
@@ -238,18 +302,18 @@ record IsReplaced (g : given.Over) (c : After-entries g) : Type 0 where
       → ((slot : ℕ) → ¬ Contains (map (λ (e : Entry). e.key) c.entries.result.now) slot
       → record_at keys slot ≡ record_at c.if-done.self-inside.1.1.0 slot)
       → finite.len keys.records + length c.entries.result.now ≡ finite.len c.if-done.self-inside.1.1.0.records
-      → IsStored keys c.overwrite.new.self
+      → AreIndexed keys c.overwrite.new.self
       × (boundaries_of keys c.overwrite.new.self.items
       ≡ written c.args.range.now c.args.version c.args.self.now.boundaries)
 
 replaced : (g : given.Over) (c : After-entries g)
-    → AreReady c.self.inside.keys c.self.inside.tree c.self.invariant c.args.range.now c.requires.filled c.args.version
+    → AreReady c.self.inside.keys c.self.inside.tree c.self.invariant.stored c.args.range.now c.requires.filled c.args.version
     c.unwrap-begin_key.result c.unwrap-end_key.result c.place-2.new.self
     → IsReplaced g c
 replaced g c ready =
     let keys = c.self.inside.keys in
     let tree = c.self.inside.tree in
-    let stored = c.self.invariant in
+    let stored = c.self.invariant.stored in
     let range = c.args.range.now in
     let filled = c.requires.filled in
     let some : false ≡ (length range.begin == 0) =
@@ -271,8 +335,14 @@ replaced g c ready =
       used = λ size.
           omega (arith, left.spare size, used_at_most range v w slot (unless_ended ended end) size);
       after_release = λ final others counted. (
-        replaced_stored keys tree stored range filled v slot end now ready es ended next put some later left final
-            others counted,
+        record {
+          stored =
+              replaced_stored keys tree stored range filled v slot end now ready es ended next put some later left final
+              others counted;
+          hinted =
+              replaced_hinted keys tree stored range filled v slot end now ready es ended next put some later left final
+              others counted c.overwrite.ensures.known c.overwrite.ensures.hinted;
+        },
         replaced_boundaries keys tree stored range filled v slot end now ready es ended next put some later left final
             others counted
             ∙ ap (λ (s : Stored). written range v s.boundaries) c.self.view_is,

@@ -1,4 +1,4 @@
-use Rattle.std.proofs.Common.{arith, ◌≡◌, length}
+use Rattle.std.proofs.Common.{arith, refl, ◌≡◌, length}
 use Rattle.std.proofs.lemmas.List.{length-take-le}
 use Rattle.std.proofs.Math.Seq.{take-set-lt}
 use Rattle.tree.specs.Node.{entries_of}
@@ -9,4 +9,4 @@ returns g c =
     let node = c.args.self.now in
     let full : length node.entries ≡ g.row.N = omega arith in
     let len : length (entries_of node) ≡ node.len = length-take-le node.len node.entries (omega arith) in
-    record { entries = take-set-lt node.len node.entries c.args.index c.args.entry (omega arith) }
+    record { entries = take-set-lt node.len node.entries c.args.index c.args.entry (omega arith); hint = refl }

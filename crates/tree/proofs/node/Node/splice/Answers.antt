@@ -1,7 +1,8 @@
-use Rattle.std.proofs.Common.{arith, ◌≡◌, ◌+◌, ◌-◌, ◌++◌, ◌∙◌, ap, length, take, drop}
+use Rattle.std.proofs.Common.{arith, ◌≡◌, ◌+◌, ◌-◌, ◌++◌, ◌∙◌, refl, ap, length, take, drop}
 use Rattle.std.proofs.lemmas.List.{length-take-le}
 use Rattle.tree.specs.Node.{entries_of}
 use Rattle.tree.proofs.Splicing.{take-spliced}
+use Rattle.tree.proofs.HintChanges.{length_spliced}
 use Rattle.tree.proofs.node.Node.splice.Goals as goal
 
 pub returns : goal.returns
@@ -15,9 +16,18 @@ returns g c =
     let full : length node.entries ≡ g.row.N = omega arith in
     let len : length (entries_of node) ≡ node.len = length-take-le node.len node.entries (omega arith) in
     let written : c.copy_from_slice.new.self ≡ new = c.copy_from_slice.ensures.after in
+    let entries_are : take (end + (node.len - to)) (take from moved ++ (c.copy_from_slice.new.self ++ drop (end - from) (drop from moved)))
+    ≡ take from (entries_of node) ++ (new ++ drop to (entries_of node)) =
+    ap (λ xs. take (end + (node.len - to)) (take from moved ++ (xs ++ drop (end - from) (drop from moved)))) written
+    ∙ take-spliced node.entries moved new node.len from to (omega arith) c.requires.ordered (omega arith) (omega arith)
+    c.copy_within.ensures.after in
+    let count : length (take (end + (node.len - to)) node.digests)
+    ≡ length (take (end + (node.len - to)) (take from moved ++ (c.copy_from_slice.new.self ++ drop (end - from) (drop from moved)))) =
+    length-take-le (end + (node.len - to)) node.digests (omega (arith, len, c.requires.room))
+    ∙ omega (arith, len, length_spliced (entries_of node) new _ from to (omega (arith, c.requires.ordered, c.requires.within)) entries_are) in
     record {
-      entries =
-          ap (λ xs. take (end + (node.len - to)) (take from moved ++ (xs ++ drop (end - from) (drop from moved)))) written
-          ∙ take-spliced node.entries moved new node.len from to (omega arith) c.requires.ordered (omega arith) (omega arith)
-          c.copy_within.ensures.after;
+      entries = entries_are;
+      skip = refl;
+      digests = refl;
+      count = count;
     }

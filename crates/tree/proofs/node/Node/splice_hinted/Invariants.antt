@@ -1,8 +1,16 @@
-use Rattle.std.proofs.Common.{◌≡◌, ◌++◌, take, drop}
-use Rattle.tree.specs.Node.{entries_of}
+use Rattle.std.proofs.Common.{◌≡◌, length, take, drop, map}
+use Rattle.tree.specs.Hints.{digest_at}
+use Rattle.tree.specs.Node.{entries_of, keys_of}
 use Rattle.tree.proofs.node.Node.splice_hinted.Given as goal
 
 abbrev pub invariant-loop-index : goal.invariant-loop-index
 invariant-loop-index g l =
-    let es = entries_of l.fn.self in
-    entries_of l.self ≡ take l.fn.from es ++ (l.fn.new ++ drop l.fn.to es)
+    record {
+      len : l.self.len ≡ l.initial.self.len;
+      entries : l.self.entries ≡ l.initial.self.entries;
+      skip : l.self.skip ≡ l.initial.self.skip;
+      filled : length (entries_of l.self) ≡ l.self.len;
+      room : length l.self.digests ≡ g.row.N;
+      behind : drop l.end l.self.digests ≡ drop l.end l.initial.self.digests;
+      digests : take l.index l.self.digests ≡ map (digest_at (g.P.Probe.bytes l.probe) l.self.skip) (take l.index (keys_of (entries_of l.self)));
+    }

@@ -1,7 +1,10 @@
-use Rattle.std.proofs.Common.{arith, ◌≡◌, ◌+◌, ◌≤◌, ◌∙◌, ap, cond}
+use Rattle.std.proofs.Common.{arith, sym, ◌≡◌, ◌+◌, ◌≤◌, ◌∙◌, ap, cond}
 use Rattle.std.proofs.lemmas.Bool.{ne_eqb}
 use Rattle.arena.specs.Arena.{spare_of, slots_of}
 use Rattle.tree.proofs.Trees.{tree_of_one}
+use Rattle.tree.specs.Item.{Item}
+use Rattle.tree.proofs.LeafChange.{hinted_alone}
+use Rattle.tree.proofs.HintList.{hinted_in_list}
 use Rattle.tree.proofs.tree.Tree.new.Goals as goal
 
 pub of-requires : goal.of-requires
@@ -18,3 +21,15 @@ invariant_of-result g c =
     tree_of_one a b slot c.of.result c.item.result c.requires.fan_out c.requires.few
     (c.reserve_slots.ensures.records ∙ c.new-nodes.ensures.empty) enough c.in_ok-slot.ensures.was_free c.in_ok-slot.ensures.placed
     c.in_ok-slot.ensures.record c.in_ok-slot.ensures.others spare c.of.ensures.entries
+
+pub returns-clause-hinted : goal.returns-clause-hinted
+returns-clause-hinted g c =
+    let a = c.reserve_slots.new.self in
+    let b = c.place.new.self in
+    let e = c.item.result in
+    let key : c.args.key ≡ e.key = sym (ap (λ (x : Item). x.key) c.item.ensures.item) in
+    λ bytes empty.
+    hinted_in_list bytes b
+    (hinted_alone bytes a b c.in_ok-slot.slot c.of.result e.key (c.reserve_slots.ensures.records ∙ c.new-nodes.ensures.empty)
+    c.in_ok-slot.ensures.record c.in_ok-slot.ensures.others c.of.ensures.hint
+    (ap bytes (sym key) ∙ empty))

@@ -1,58 +1,146 @@
-use Rattle.std.proofs.Common.{arith, ◌≡◌, ◌≢◌, ◌+◌, ◌-◌, ◌≤◌, ◌∙◌, ap, sym, subst, refl, not, ◌&&◌, Some, List, [], ◌++◌, length, take, drop, filter, map, length-append}
+use Rattle.std.proofs.Common.{arith, ◌<◌, ◌≡◌, ◌≢◌, ◌+◌, ◌-◌, ◌≤◌, ◌∙◌, ap, sym, subst, refl, not, ◌&&◌, Some, List, [], ◌++◌, length, take, drop, filter, map, length-append}
 use Rattle.tree.specs.declared.entry.Entry.{Entry}
 use Rattle.tree.specs.Item.{Item, item_of}
 use Rattle.tree.specs.Node.{entries_of}
 use Rattle.tree.specs.Path.{IsCut, before_leaf, behind_leaf, passing, behind, between}
 use Rattle.tree.specs.Subtree.{items_in}
-use Rattle.tree.specs.Tree.{Items}
+use Rattle.tree.specs.Tree.{Items, hints_in, KnowItems}
 use Rattle.tree.proofs.Counting.{low, enough_spare}
 use Rattle.tree.proofs.Inserting.{tree_put}
 use Rattle.tree.proofs.Leaves.{IsLeaf}
 use Rattle.tree.proofs.Runs.{IsRun, run_of, first_cut, none_between, run_between, run_taken, fewer, run_is, length-run, some_left}
+use Rattle.tree.specs.Hints.{AreHinted, KnowsAt}
+use Rattle.tree.proofs.Hinted.{hinted_at}
+use Rattle.tree.proofs.HintList.{hinted_from_list, hinted_in_list}
+use Rattle.tree.proofs.KnownItems.{know_items}
+use Rattle.tree.proofs.LeafChange.{parted, leaf_read, root_some}
+use Rattle.tree.proofs.Placing.{entries_from_header}
 use Rattle.tree.proofs.tree.Tree.take_run.Goals as goal
 
-pub passing_near-begin-requires : goal.passing_near-begin-requires
-passing_near-begin-requires g c =
+pub reach-reached-requires : goal.reach-reached-requires
+reach-reached-requires g c =
+    let p = g.Q.Probe.lets_pass c.args.to.now in
+    let bytes = g.Q.Probe.bytes c.args.to.now in
+    let t = c.self.inside in (
+      omega (arith, c.self.invariant.few),
+      (
+        c.self.invariant.rooted.subtree,
+        (
+          root_some t.nodes t.root.slot t.root.height t.len t.room c.self.invariant,
+          (
+            subst (λ items. IsCut (λ (x : Item). p x.key) items) (sym (ap (λ v. v.items) c.self.view_is)) c.requires.to,
+            hinted_from_list bytes t.nodes
+                (subst (λ (v : Items). AreHinted bytes (hints_in v)) (sym c.self.view_is) c.requires.hinted),
+          ),
+        ),
+      ),
+    )
+
+pub count-end-requires : goal.count-end-requires
+count-end-requires g c =
+    let p = g.Q.Probe.lets_pass c.args.to.now in
+    let bytes = g.Q.Probe.bytes c.args.to.now in
+    let t = c.self.inside in
+    let all = hinted_from_list bytes t.nodes
+    (subst (λ (v : Items). AreHinted bytes (hints_in v)) (sym c.self.view_is) c.requires.hinted) in
+    let leaf = c.reach-reached.result.leaf in
+    let node = c.header-leaf.result in
+    let found = c.reach-reached.ensures in
+    let same = entries_from_header t.nodes leaf node c.header-leaf.ensures.header in
+    let some : 0 < length (entries_of node) = omega (arith, found.some, ap length same) in (
+      omega (arith, c.self.invariant.few),
+      (
+        hinted_at bytes t.nodes leaf node all c.header-leaf.ensures.header,
+        (
+          subst (IsCut (λ (e : Entry). p e.key)) same found.cut,
+          (
+            some,
+            subst
+                (λ (es : List Entry). KnowsAt bytes p (g.Q.Probe.sought c.args.to.now) c.reach-reached.result.known es 0)
+                same found.known,
+          ),
+        ),
+      ),
+    )
+
+pub passing-begin-requires : goal.passing-begin-requires
+passing-begin-requires g c =
     let p = g.P.Probe.lets_pass c.args.from.now in
     let q = g.Q.Probe.lets_pass c.args.to.now in
     let t = c.self.inside in
-    let es = entries_of c.leaf-leaf.result in
-    let found = c.leaf-leaf.ensures in
+    let es = entries_of c.header-leaf.result in
+    let found = c.reach-reached.ensures in
     let before = before_leaf t.nodes t.root.height t.root.slot q in
     let after = behind_leaf t.nodes t.root.height t.root.slot q in
     let items = items_in t.nodes t.root.height t.root.slot in
     let leaf : IsLeaf q items before after es =
-    record { items_are = found.items; pass = found.before; fail = found.behind; none = found.none } in
+    leaf_read t.nodes t.root.height t.root.slot c.reach-reached.result.leaf q c.header-leaf.result c.header-leaf.ensures.header
+    found.items found.before found.behind found.none in
     let cut = subst (λ items. IsCut (λ (x : Item). p x.key) items) (sym (ap (λ v. v.items) c.self.view_is)) c.requires.from in
-    record { cut = subst (IsCut (λ e. p e.key)) (sym c.entries-2.ensures.entries) (first_cut p q c.requires.nested items before after es leaf cut) }
+    record { cut = subst (IsCut (λ e. p e.key)) (sym c.entries.ensures.entries) (first_cut p q c.requires.nested items before after es leaf cut) }
 
 pub returns-then-begin-end-clause-run : goal.returns-then-begin-end-clause-run
 returns-then-begin-end-clause-run g c =
     let p = g.P.Probe.lets_pass c.args.from.now in
     let q = g.Q.Probe.lets_pass c.args.to.now in
     let t = c.self.inside in
-    let es = entries_of c.leaf-leaf.result in
-    let found = c.leaf-leaf.ensures in
+    let es = entries_of c.header-leaf.result in
+    let found = c.reach-reached.ensures in
     let before = before_leaf t.nodes t.root.height t.root.slot q in
     let after = behind_leaf t.nodes t.root.height t.root.slot q in
     let items = items_in t.nodes t.root.height t.root.slot in
     let leaf : IsLeaf q items before after es =
-    record { items_are = found.items; pass = found.before; fail = found.behind; none = found.none } in
+    leaf_read t.nodes t.root.height t.root.slot c.reach-reached.result.leaf q c.header-leaf.result c.header-leaf.ensures.header
+    found.items found.before found.behind found.none in
     let cut = subst (λ items. IsCut (λ (x : Item). p x.key) items) (sym (ap (λ v. v.items) c.self.view_is)) c.requires.from in
-    let begin = c.passing_near-begin.result in
-    let end = c.passing_near-end.result in
-    let first = subst (λ xs. take begin xs ≡ filter (λ (e : Entry). p e.key) xs) c.entries-2.ensures.entries c.passing_near-begin.ensures.first in
-    let rest = subst (λ xs. drop begin xs ≡ filter (λ (e : Entry). not (p e.key)) xs) c.entries-2.ensures.entries c.passing_near-begin.ensures.rest in
-    let last = subst (λ xs. take end xs ≡ filter (λ (e : Entry). q e.key) xs) c.entries.ensures.entries c.passing_near-end.ensures.first in
-    let others = subst (λ xs. drop end xs ≡ filter (λ (e : Entry). not (q e.key)) xs) c.entries.ensures.entries c.passing_near-end.ensures.rest in
-    let count = subst (λ xs. begin ≡ length (filter (λ (e : Entry). p e.key) xs)) c.entries-2.ensures.entries c.passing_near-begin.ensures.count in
+    let begin = c.passing-begin.result in
+    let end = c.count-end.result in
+    let first = subst (λ xs. take begin xs ≡ filter (λ (e : Entry). p e.key) xs) c.entries.ensures.entries c.passing-begin.ensures.first in
+    let rest = subst (λ xs. drop begin xs ≡ filter (λ (e : Entry). not (p e.key)) xs) c.entries.ensures.entries c.passing-begin.ensures.rest in
+    let parts = parted q es end
+    (subst (IsCut (λ (e : Entry). q e.key)) (entries_from_header t.nodes c.reach-reached.result.leaf c.header-leaf.result c.header-leaf.ensures.header) found.cut)
+    c.count-end.ensures.count in
+    let last = parts.0 in
+    let others = parts.1 in
+    let count = subst (λ xs. begin ≡ length (filter (λ (e : Entry). p e.key) xs)) c.entries.ensures.entries c.passing-begin.ensures.count in
     let none = none_between p q c.requires.nested items before after es leaf cut begin end c.if-begin-end.true count first last others in
     (ap (λ (v : Items). between (Some p) (Some q) v.items) (sym c.self.view_is) ∙ none, refl)
 
+pub returns-then-begin-end-clause-known : goal.returns-then-begin-end-clause-known
+returns-then-begin-end-clause-known g c =
+    let t = c.self.inside in
+    subst KnowItems c.self.view_is (know_items t.nodes t.root.slot t.root.height t.room c.self.invariant.rooted)
+
+pub splice_hinted-requires : goal.splice_hinted-requires
+splice_hinted-requires g c =
+    let bytes = g.Q.Probe.bytes c.args.to.now in
+    let t = c.self.inside in
+    let all = hinted_from_list bytes t.nodes
+    (subst (λ (v : Items). AreHinted bytes (hints_in v)) (sym c.self.view_is) c.requires.hinted) in
+    let node = c.header-leaf.result in (
+      omega (arith, c.self.invariant.few),
+      (
+        omega (arith, c.if-begin-end.false),
+        (
+          c.count-end.ensures.within,
+          (
+            omega (arith, c.entries.ensures.most, c.if-begin-end.false, c.count-end.ensures.within),
+            (
+              hinted_at bytes t.nodes c.reach-reached.result.leaf node all c.header-leaf.ensures.header,
+              ((λ k d lt. absurd (omega (arith, lt))), (λ _ k d lt. absurd (omega (arith, lt)))),
+            ),
+          ),
+        ),
+      ),
+    )
+
 pub put-self-inside-requires : goal.put-self-inside-requires
 put-self-inside-requires g c =
-    let q = g.Q.Probe.lets_pass c.args.to.now in
+    let p = g.Q.Probe.lets_pass c.args.to.now in
+    let bytes = g.Q.Probe.bytes c.args.to.now in
     let t = c.self.inside in
+    let all = hinted_from_list bytes t.nodes
+    (subst (λ (v : Items). AreHinted bytes (hints_in v)) (sym c.self.view_is) c.requires.hinted) in
     let height = low t.nodes t.root.slot t.root.height t.len t.room c.self.invariant (omega arith) in
     let spare = enough_spare t.nodes t.root.slot t.root.height t.len t.room c.self.invariant in (
       omega (arith, c.self.invariant.few),
@@ -65,8 +153,17 @@ put-self-inside-requires g c =
             (
               c.self.invariant.rooted,
               (
-                subst (λ items. IsCut (λ (x : Item). q x.key) items) (sym (ap (λ v. v.items) c.self.view_is)) c.requires.to,
-                (omega (arith, height, spare), tt),
+                subst (λ items. IsCut (λ (x : Item). p x.key) items) (sym (ap (λ v. v.items) c.self.view_is)) c.requires.to,
+                (
+                  omega (arith, height, spare),
+                  (
+                    tt,
+                    (
+                      root_some t.nodes t.root.slot t.root.height t.len t.room c.self.invariant,
+                      (all, (c.splice_hinted.ensures.hinted, tt)),
+                    ),
+                  ),
+                ),
               ),
             ),
           ),
@@ -79,21 +176,25 @@ invariant_of-self g c =
     let p = g.P.Probe.lets_pass c.args.from.now in
     let q = g.Q.Probe.lets_pass c.args.to.now in
     let t = c.self.inside in
-    let es = entries_of c.leaf-leaf.result in
-    let found = c.leaf-leaf.ensures in
+    let es = entries_of c.header-leaf.result in
+    let found = c.reach-reached.ensures in
     let before = before_leaf t.nodes t.root.height t.root.slot q in
     let after = behind_leaf t.nodes t.root.height t.root.slot q in
     let items = items_in t.nodes t.root.height t.root.slot in
     let leaf : IsLeaf q items before after es =
-    record { items_are = found.items; pass = found.before; fail = found.behind; none = found.none } in
+    leaf_read t.nodes t.root.height t.root.slot c.reach-reached.result.leaf q c.header-leaf.result c.header-leaf.ensures.header
+    found.items found.before found.behind found.none in
     let cut = subst (λ items. IsCut (λ (x : Item). p x.key) items) (sym (ap (λ v. v.items) c.self.view_is)) c.requires.from in
-    let begin = c.passing_near-begin.result in
-    let end = c.passing_near-end.result in
-    let first = subst (λ xs. take begin xs ≡ filter (λ (e : Entry). p e.key) xs) c.entries-2.ensures.entries c.passing_near-begin.ensures.first in
-    let rest = subst (λ xs. drop begin xs ≡ filter (λ (e : Entry). not (p e.key)) xs) c.entries-2.ensures.entries c.passing_near-begin.ensures.rest in
-    let last = subst (λ xs. take end xs ≡ filter (λ (e : Entry). q e.key) xs) c.entries.ensures.entries c.passing_near-end.ensures.first in
-    let others = subst (λ xs. drop end xs ≡ filter (λ (e : Entry). not (q e.key)) xs) c.entries.ensures.entries c.passing_near-end.ensures.rest in
-    let most : end ≤ length es = subst (λ (xs : List Entry). end ≤ length xs) c.entries.ensures.entries c.passing_near-end.ensures.within in
+    let begin = c.passing-begin.result in
+    let end = c.count-end.result in
+    let first = subst (λ xs. take begin xs ≡ filter (λ (e : Entry). p e.key) xs) c.entries.ensures.entries c.passing-begin.ensures.first in
+    let rest = subst (λ xs. drop begin xs ≡ filter (λ (e : Entry). not (p e.key)) xs) c.entries.ensures.entries c.passing-begin.ensures.rest in
+    let parts = parted q es end
+    (subst (IsCut (λ (e : Entry). q e.key)) (entries_from_header t.nodes c.reach-reached.result.leaf c.header-leaf.result c.header-leaf.ensures.header) found.cut)
+    c.count-end.ensures.count in
+    let last = parts.0 in
+    let others = parts.1 in
+    let most : end ≤ length es = c.count-end.ensures.within in
     let middle = drop begin (take end es) in
     let run : IsRun p q es (take begin es) middle (drop end es) = run_of p q es begin end (omega arith) most first rest last others in
     let stay = entries_of c.splice_hinted.new.self in
@@ -124,21 +225,25 @@ returns-clause-run g c =
     let p = g.P.Probe.lets_pass c.args.from.now in
     let q = g.Q.Probe.lets_pass c.args.to.now in
     let t = c.self.inside in
-    let es = entries_of c.leaf-leaf.result in
-    let found = c.leaf-leaf.ensures in
+    let es = entries_of c.header-leaf.result in
+    let found = c.reach-reached.ensures in
     let before = before_leaf t.nodes t.root.height t.root.slot q in
     let after = behind_leaf t.nodes t.root.height t.root.slot q in
     let items = items_in t.nodes t.root.height t.root.slot in
     let leaf : IsLeaf q items before after es =
-    record { items_are = found.items; pass = found.before; fail = found.behind; none = found.none } in
+    leaf_read t.nodes t.root.height t.root.slot c.reach-reached.result.leaf q c.header-leaf.result c.header-leaf.ensures.header
+    found.items found.before found.behind found.none in
     let cut = subst (λ items. IsCut (λ (x : Item). p x.key) items) (sym (ap (λ v. v.items) c.self.view_is)) c.requires.from in
-    let begin = c.passing_near-begin.result in
-    let end = c.passing_near-end.result in
-    let first = subst (λ xs. take begin xs ≡ filter (λ (e : Entry). p e.key) xs) c.entries-2.ensures.entries c.passing_near-begin.ensures.first in
-    let rest = subst (λ xs. drop begin xs ≡ filter (λ (e : Entry). not (p e.key)) xs) c.entries-2.ensures.entries c.passing_near-begin.ensures.rest in
-    let last = subst (λ xs. take end xs ≡ filter (λ (e : Entry). q e.key) xs) c.entries.ensures.entries c.passing_near-end.ensures.first in
-    let others = subst (λ xs. drop end xs ≡ filter (λ (e : Entry). not (q e.key)) xs) c.entries.ensures.entries c.passing_near-end.ensures.rest in
-    let most : end ≤ length es = subst (λ (xs : List Entry). end ≤ length xs) c.entries.ensures.entries c.passing_near-end.ensures.within in
+    let begin = c.passing-begin.result in
+    let end = c.count-end.result in
+    let first = subst (λ xs. take begin xs ≡ filter (λ (e : Entry). p e.key) xs) c.entries.ensures.entries c.passing-begin.ensures.first in
+    let rest = subst (λ xs. drop begin xs ≡ filter (λ (e : Entry). not (p e.key)) xs) c.entries.ensures.entries c.passing-begin.ensures.rest in
+    let parts = parted q es end
+    (subst (IsCut (λ (e : Entry). q e.key)) (entries_from_header t.nodes c.reach-reached.result.leaf c.header-leaf.result c.header-leaf.ensures.header) found.cut)
+    c.count-end.ensures.count in
+    let last = parts.0 in
+    let others = parts.1 in
+    let most : end ≤ length es = c.count-end.ensures.within in
     let middle = drop begin (take end es) in
     let run : IsRun p q es (take begin es) middle (drop end es) = run_of p q es begin end (omega arith) most first rest last others in
     let stay = entries_of c.splice_hinted.new.self in
@@ -156,3 +261,11 @@ returns-clause-run g c =
           omega (arith, k, length-run es begin end (omega arith) most),
       c.put-self-inside.ensures.items ∙ taken ∙ ap (λ (v : Items). passing p v.items ++ (kept ++ behind q v.items)) c.self.view_is,
     )
+
+pub returns-clause-hinted : goal.returns-clause-hinted
+returns-clause-hinted g c = hinted_in_list (g.Q.Probe.bytes c.args.to.now) c.put-self-inside.new.nodes c.put-self-inside.ensures.hinted
+
+pub returns-clause-known : goal.returns-clause-known
+returns-clause-known g c =
+    let to = c.put-self-inside.result in
+    know_items c.put-self-inside.new.nodes to.slot to.height c.self.inside.room c.put-self-inside.ensures.rooted

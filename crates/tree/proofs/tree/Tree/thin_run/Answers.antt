@@ -1,40 +1,115 @@
-use Rattle.std.proofs.Common.{arith, ◌≡◌, ◌≢◌, ℕ, ℤ, ◌+◌, ◌-◌, ◌<◌, ◌≤◌, ◌≤ℤ◌, ◌∙◌, ap, sym, subst, [], ◌∷◌, ◌++◌, not, length, filter, map, take, drop, List, Option, None, to_z, of_z, w64}
+use Rattle.std.proofs.Common.{arith, ◌≡◌, ◌≢◌, ℕ, ℤ, ◌+◌, ◌-◌, ◌<◌, ◌≤◌, ◌≤ℤ◌, ◌∙◌, ap, sym, subst, [], ◌∷◌, ◌++◌, length, map, take, drop, List, Option, None, to_z, of_z, w64}
 use Rattle.std.specs.Prelude.{MatchOption}
 use Rattle.std.proofs.lemmas.Int.{to_z-of_z}
 use Rattle.std.proofs.lemmas.List.{length-map}
 use Rattle.tree.specs.declared.entry.Entry.{Entry}
 use Rattle.tree.specs.declared.node.Node.{Node}
 use Rattle.tree.specs.Item.{Item, item_of}
-use Rattle.tree.specs.Node.{entries_of}
+use Rattle.tree.specs.Node.{entries_of, hint_of}
 use Rattle.tree.specs.Path.{IsCut, before_leaf, behind_leaf, passing, behind, first_key}
 use Rattle.tree.specs.Subtree.{items_in}
-use Rattle.tree.specs.Tree.{Items, IsLast, thin, gone}
+use Rattle.tree.specs.Tree.{Items, IsLast, thin, gone, hints_in, KnowItems}
 use Rattle.tree.proofs.Counting.{low, enough_spare}
 use Rattle.tree.proofs.Inserting.{tree_put}
 use Rattle.tree.proofs.Leaves.{IsLeaf}
 use Rattle.tree.proofs.Thinning.{run, all_stay}
 use Rattle.tree.proofs.LastRun.{some_passes, run_found, length-looked, key_behind_run, thinned_items, thinned_count, thinned_some, unthinned, none_gone, versions}
+use Rattle.tree.specs.Hints.{AreHinted, IsKnown, KnowsAt}
+use Rattle.tree.proofs.Hinted.{all_known, hinted_at}
+use Rattle.tree.proofs.HintList.{hinted_from_list, hinted_in_list}
+use Rattle.tree.proofs.KnownItems.{know_items}
+use Rattle.tree.proofs.LeafChange.{parted, leaf_read, root_some, keys_thinned}
+use Rattle.tree.proofs.Placing.{entries_from_header}
 use Rattle.tree.proofs.tree.Tree.thin_run.Goals as goal
+
+pub reach-reached-requires : goal.reach-reached-requires
+reach-reached-requires g c =
+    let p = g.P.Probe.lets_pass c.args.probe.now in
+    let bytes = g.P.Probe.bytes c.args.probe.now in
+    let t = c.self.inside in (
+      omega (arith, c.self.invariant.few),
+      (
+        c.self.invariant.rooted.subtree,
+        (
+          root_some t.nodes t.root.slot t.root.height t.len t.room c.self.invariant,
+          (
+            subst (λ items. IsCut (λ (x : Item). p x.key) items) (sym (ap (λ v. v.items) c.self.view_is)) c.requires.cut,
+            hinted_from_list bytes t.nodes
+                (subst (λ (v : Items). AreHinted bytes (hints_in v)) (sym c.self.view_is) c.requires.hinted),
+          ),
+        ),
+      ),
+    )
+
+pub count-begin-requires : goal.count-begin-requires
+count-begin-requires g c =
+    let p = g.P.Probe.lets_pass c.args.probe.now in
+    let bytes = g.P.Probe.bytes c.args.probe.now in
+    let t = c.self.inside in
+    let all = hinted_from_list bytes t.nodes
+    (subst (λ (v : Items). AreHinted bytes (hints_in v)) (sym c.self.view_is) c.requires.hinted) in
+    let leaf = c.reach-reached.result.leaf in
+    let node = c.header-old.result in
+    let found = c.reach-reached.ensures in
+    let same = entries_from_header t.nodes leaf node c.header-old.ensures.header in
+    let some : 0 < length (entries_of node) = omega (arith, found.some, ap length same) in (
+      omega (arith, c.self.invariant.few),
+      (
+        hinted_at bytes t.nodes leaf node all c.header-old.ensures.header,
+        (
+          subst (IsCut (λ (e : Entry). p e.key)) same found.cut,
+          (
+            some,
+            subst
+                (λ (es : List Entry). KnowsAt bytes p (g.P.Probe.sought c.args.probe.now) c.reach-reached.result.known es 0)
+                same found.known,
+          ),
+        ),
+      ),
+    )
 
 pub overflow_sub-begin : goal.overflow_sub-begin
 overflow_sub-begin g c =
     let p = g.P.Probe.lets_pass c.args.probe.now in
     let t = c.self.inside in
-    let es = entries_of c.leaf-old.result in
-    let found = c.leaf-old.ensures in
+    let es = entries_of c.header-old.result in
+    let found = c.reach-reached.ensures in
     let before = before_leaf t.nodes t.root.height t.root.slot p in
     let after = behind_leaf t.nodes t.root.height t.root.slot p in
     let items = items_in t.nodes t.root.height t.root.slot in
     let leaf : IsLeaf p items before after es =
-    record { items_are = found.items; pass = found.before; fail = found.behind; none = found.none } in
+    leaf_read t.nodes t.root.height t.root.slot c.reach-reached.result.leaf p c.header-old.result c.header-old.ensures.header
+    found.items found.before found.behind found.none in
     let some : passing p items ≢ [] = λ none. c.requires.some (ap (λ (v : Items). passing p v.items) (sym c.self.view_is) ∙ none) in
-    let count = subst (λ xs. c.passing_near-begin.result ≡ length (filter (λ (e : Entry). p e.key) xs)) c.entries.ensures.entries c.passing_near-begin.ensures.count in
+    let count = c.count-begin.ensures.count in
     omega (arith, count, some_passes p items before after es leaf some)
+
+pub take_hints-requires : goal.take_hints-requires
+take_hints-requires g c =
+    let bytes = g.P.Probe.bytes c.args.probe.now in
+    let t = c.self.inside in
+    let all = hinted_from_list bytes t.nodes
+    (subst (λ (v : Items). AreHinted bytes (hints_in v)) (sym c.self.view_is) c.requires.hinted) in
+    let node = c.header-old.result in
+    let hinted = hinted_at bytes t.nodes c.reach-reached.result.leaf node all c.header-old.ensures.header in
+    let begin = c.count-begin.result - 1 in
+    let end = begin + c.min.result in (
+      omega (arith, c.self.invariant.few),
+      (
+        hinted,
+        keys_thinned (IsKnown bytes) (entries_of node) (entries_of c.thin-thinned.new.node) begin (end - begin) end
+            (to_z w64 (of_z w64 c.args.edge)) (to_z w64 (of_z w64 c.args.before)) (all_known bytes (hint_of node) hinted)
+            c.thin-thinned.ensures.kept,
+      ),
+    )
 
 pub put-self-inside-requires : goal.put-self-inside-requires
 put-self-inside-requires g c =
     let p = g.P.Probe.lets_pass c.args.probe.now in
+    let bytes = g.P.Probe.bytes c.args.probe.now in
     let t = c.self.inside in
+    let all = hinted_from_list bytes t.nodes
+    (subst (λ (v : Items). AreHinted bytes (hints_in v)) (sym c.self.view_is) c.requires.hinted) in
     let height = low t.nodes t.root.slot t.root.height t.len t.room c.self.invariant (omega arith) in
     let spare = enough_spare t.nodes t.root.slot t.root.height t.len t.room c.self.invariant in (
       omega (arith, c.self.invariant.few),
@@ -48,7 +123,16 @@ put-self-inside-requires g c =
               c.self.invariant.rooted,
               (
                 subst (λ items. IsCut (λ (x : Item). p x.key) items) (sym (ap (λ v. v.items) c.self.view_is)) c.requires.cut,
-                (omega (arith, height, spare), tt),
+                (
+                  omega (arith, height, spare),
+                  (
+                    tt,
+                    (
+                      root_some t.nodes t.root.slot t.root.height t.len t.room c.self.invariant,
+                      (all, (c.take_hints.ensures.hinted, tt)),
+                    ),
+                  ),
+                ),
               ),
             ),
           ),
@@ -56,45 +140,32 @@ put-self-inside-requires g c =
       ),
     )
 
-pub thin-thinned-requires : goal.thin-thinned-requires
-thin-thinned-requires g c =
-    let p = g.P.Probe.lets_pass c.args.probe.now in
-    let t = c.self.inside in
-    let es = entries_of c.leaf-old.result in
-    let found = c.leaf-old.ensures in
-    let before = before_leaf t.nodes t.root.height t.root.slot p in
-    let after = behind_leaf t.nodes t.root.height t.root.slot p in
-    let items = items_in t.nodes t.root.height t.root.slot in
-    let leaf : IsLeaf p items before after es =
-    record { items_are = found.items; pass = found.before; fail = found.behind; none = found.none } in
-    let some : passing p items ≢ [] = λ none. c.requires.some (ap (λ (v : Items). passing p v.items) (sym c.self.view_is) ∙ none) in
-    let count = subst (λ xs. c.passing_near-begin.result ≡ length (filter (λ (e : Entry). p e.key) xs)) c.entries.ensures.entries c.passing_near-begin.ensures.count in
-    let many = some_passes p items before after es leaf some in
-    let within : c.passing_near-begin.result ≤ length es = subst (λ (xs : List Entry). c.passing_near-begin.result ≤ length xs) c.entries.ensures.entries c.passing_near-begin.ensures.within in
-    (omega (arith, c.self.invariant.few), (omega (arith, c.self.invariant.few), (omega (arith, many, count, within), omega (arith, many, count, within))))
-
 pub overflow_sub-self : goal.overflow_sub-self
 overflow_sub-self g c =
     let p = g.P.Probe.lets_pass c.args.probe.now in
     let t = c.self.inside in
-    let es = entries_of c.leaf-old.result in
-    let found = c.leaf-old.ensures in
+    let es = entries_of c.header-old.result in
+    let found = c.reach-reached.ensures in
     let before = before_leaf t.nodes t.root.height t.root.slot p in
     let after = behind_leaf t.nodes t.root.height t.root.slot p in
     let items = items_in t.nodes t.root.height t.root.slot in
     let leaf : IsLeaf p items before after es =
-    record { items_are = found.items; pass = found.before; fail = found.behind; none = found.none } in
+    leaf_read t.nodes t.root.height t.root.slot c.reach-reached.result.leaf p c.header-old.result c.header-old.ensures.header
+    found.items found.before found.behind found.none in
     let some : passing p items ≢ [] = λ none. c.requires.some (ap (λ (v : Items). passing p v.items) (sym c.self.view_is) ∙ none) in
-    let count = subst (λ xs. c.passing_near-begin.result ≡ length (filter (λ (e : Entry). p e.key) xs)) c.entries.ensures.entries c.passing_near-begin.ensures.count in
+    let count = c.count-begin.ensures.count in
     let many = some_passes p items before after es leaf some in
-    let within : c.passing_near-begin.result ≤ length es = subst (λ (xs : List Entry). c.passing_near-begin.result ≤ length xs) c.entries.ensures.entries c.passing_near-begin.ensures.within in
-    let begin = c.passing_near-begin.result - 1 in
+    let within : c.count-begin.result ≤ length es = c.count-begin.ensures.within in
+    let begin = c.count-begin.result - 1 in
     let end = begin + c.min.result in
-    let one : begin + 1 ≡ c.passing_near-begin.result = omega (arith, many, count) in
+    let parts = parted p es c.count-begin.result
+    (subst (IsCut (λ (e : Entry). p e.key)) (entries_from_header t.nodes c.reach-reached.result.leaf c.header-old.result c.header-old.ensures.header) found.cut)
+    count in
+    let one : begin + 1 ≡ c.count-begin.result = omega (arith, many, count) in
     let front_is = ap (λ (n : ℕ). take n es) one
-    ∙ subst (λ xs. take c.passing_near-begin.result xs ≡ filter (λ (e : Entry). p e.key) xs) c.entries.ensures.entries c.passing_near-begin.ensures.first in
+    ∙ parts.0 in
     let rest_is = ap (λ (n : ℕ). drop n es) one
-    ∙ subst (λ xs. drop c.passing_near-begin.result xs ≡ filter (λ (e : Entry). not (p e.key)) xs) c.entries.ensures.entries c.passing_near-begin.ensures.rest in
+    ∙ parts.1 in
     let less : begin < end = omega (arith, many, count, within) in
     let most : end ≤ length es = omega (arith, many, count, within) in
     let looked = map item_of (run es begin end) in
@@ -116,24 +187,28 @@ pub invariant_of-self : goal.invariant_of-self
 invariant_of-self g c =
     let p = g.P.Probe.lets_pass c.args.probe.now in
     let t = c.self.inside in
-    let es = entries_of c.leaf-old.result in
-    let found = c.leaf-old.ensures in
+    let es = entries_of c.header-old.result in
+    let found = c.reach-reached.ensures in
     let before = before_leaf t.nodes t.root.height t.root.slot p in
     let after = behind_leaf t.nodes t.root.height t.root.slot p in
     let items = items_in t.nodes t.root.height t.root.slot in
     let leaf : IsLeaf p items before after es =
-    record { items_are = found.items; pass = found.before; fail = found.behind; none = found.none } in
+    leaf_read t.nodes t.root.height t.root.slot c.reach-reached.result.leaf p c.header-old.result c.header-old.ensures.header
+    found.items found.before found.behind found.none in
     let some : passing p items ≢ [] = λ none. c.requires.some (ap (λ (v : Items). passing p v.items) (sym c.self.view_is) ∙ none) in
-    let count = subst (λ xs. c.passing_near-begin.result ≡ length (filter (λ (e : Entry). p e.key) xs)) c.entries.ensures.entries c.passing_near-begin.ensures.count in
+    let count = c.count-begin.ensures.count in
     let many = some_passes p items before after es leaf some in
-    let within : c.passing_near-begin.result ≤ length es = subst (λ (xs : List Entry). c.passing_near-begin.result ≤ length xs) c.entries.ensures.entries c.passing_near-begin.ensures.within in
-    let begin = c.passing_near-begin.result - 1 in
+    let within : c.count-begin.result ≤ length es = c.count-begin.ensures.within in
+    let begin = c.count-begin.result - 1 in
     let end = begin + c.min.result in
-    let one : begin + 1 ≡ c.passing_near-begin.result = omega (arith, many, count) in
+    let parts = parted p es c.count-begin.result
+    (subst (IsCut (λ (e : Entry). p e.key)) (entries_from_header t.nodes c.reach-reached.result.leaf c.header-old.result c.header-old.ensures.header) found.cut)
+    count in
+    let one : begin + 1 ≡ c.count-begin.result = omega (arith, many, count) in
     let front_is = ap (λ (n : ℕ). take n es) one
-    ∙ subst (λ xs. take c.passing_near-begin.result xs ≡ filter (λ (e : Entry). p e.key) xs) c.entries.ensures.entries c.passing_near-begin.ensures.first in
+    ∙ parts.0 in
     let rest_is = ap (λ (n : ℕ). drop n es) one
-    ∙ subst (λ xs. drop c.passing_near-begin.result xs ≡ filter (λ (e : Entry). not (p e.key)) xs) c.entries.ensures.entries c.passing_near-begin.ensures.rest in
+    ∙ parts.1 in
     let less : begin < end = omega (arith, many, count, within) in
     let most : end ≤ length es = omega (arith, many, count, within) in
     let looked = map item_of (run es begin end) in
@@ -168,24 +243,28 @@ pub returns-in-Some-clause-thinned : goal.returns-in-Some-clause-thinned
 returns-in-Some-clause-thinned g c =
     let p = g.P.Probe.lets_pass c.args.probe.now in
     let t = c.self.inside in
-    let es = entries_of c.leaf-old.result in
-    let found = c.leaf-old.ensures in
+    let es = entries_of c.header-old.result in
+    let found = c.reach-reached.ensures in
     let before = before_leaf t.nodes t.root.height t.root.slot p in
     let after = behind_leaf t.nodes t.root.height t.root.slot p in
     let items = items_in t.nodes t.root.height t.root.slot in
     let leaf : IsLeaf p items before after es =
-    record { items_are = found.items; pass = found.before; fail = found.behind; none = found.none } in
+    leaf_read t.nodes t.root.height t.root.slot c.reach-reached.result.leaf p c.header-old.result c.header-old.ensures.header
+    found.items found.before found.behind found.none in
     let some : passing p items ≢ [] = λ none. c.requires.some (ap (λ (v : Items). passing p v.items) (sym c.self.view_is) ∙ none) in
-    let count = subst (λ xs. c.passing_near-begin.result ≡ length (filter (λ (e : Entry). p e.key) xs)) c.entries.ensures.entries c.passing_near-begin.ensures.count in
+    let count = c.count-begin.ensures.count in
     let many = some_passes p items before after es leaf some in
-    let within : c.passing_near-begin.result ≤ length es = subst (λ (xs : List Entry). c.passing_near-begin.result ≤ length xs) c.entries.ensures.entries c.passing_near-begin.ensures.within in
-    let begin = c.passing_near-begin.result - 1 in
+    let within : c.count-begin.result ≤ length es = c.count-begin.ensures.within in
+    let begin = c.count-begin.result - 1 in
     let end = begin + c.min.result in
-    let one : begin + 1 ≡ c.passing_near-begin.result = omega (arith, many, count) in
+    let parts = parted p es c.count-begin.result
+    (subst (IsCut (λ (e : Entry). p e.key)) (entries_from_header t.nodes c.reach-reached.result.leaf c.header-old.result c.header-old.ensures.header) found.cut)
+    count in
+    let one : begin + 1 ≡ c.count-begin.result = omega (arith, many, count) in
     let front_is = ap (λ (n : ℕ). take n es) one
-    ∙ subst (λ xs. take c.passing_near-begin.result xs ≡ filter (λ (e : Entry). p e.key) xs) c.entries.ensures.entries c.passing_near-begin.ensures.first in
+    ∙ parts.0 in
     let rest_is = ap (λ (n : ℕ). drop n es) one
-    ∙ subst (λ xs. drop c.passing_near-begin.result xs ≡ filter (λ (e : Entry). not (p e.key)) xs) c.entries.ensures.entries c.passing_near-begin.ensures.rest in
+    ∙ parts.1 in
     let less : begin < end = omega (arith, many, count, within) in
     let most : end ≤ length es = omega (arith, many, count, within) in
     let looked = map item_of (run es begin end) in
@@ -214,28 +293,73 @@ returns-in-Some-clause-thinned g c =
       subst (λ (xs : List ℤ). IsLast c.thin-thinned.result.last xs) (sym (versions (run es begin end))) thinned.last,
     )
 
-pub returns-in_default-clause-thinned : goal.returns-in_default-clause-thinned
-returns-in_default-clause-thinned g c =
+pub returns-in-Some-clause-next : goal.returns-in-Some-clause-next
+returns-in-Some-clause-next g c =
     let p = g.P.Probe.lets_pass c.args.probe.now in
     let t = c.self.inside in
-    let es = entries_of c.leaf-old.result in
-    let found = c.leaf-old.ensures in
+    let es = entries_of c.header-old.result in
+    let found = c.reach-reached.ensures in
     let before = before_leaf t.nodes t.root.height t.root.slot p in
     let after = behind_leaf t.nodes t.root.height t.root.slot p in
     let items = items_in t.nodes t.root.height t.root.slot in
     let leaf : IsLeaf p items before after es =
-    record { items_are = found.items; pass = found.before; fail = found.behind; none = found.none } in
+    leaf_read t.nodes t.root.height t.root.slot c.reach-reached.result.leaf p c.header-old.result c.header-old.ensures.header
+    found.items found.before found.behind found.none in
     let some : passing p items ≢ [] = λ none. c.requires.some (ap (λ (v : Items). passing p v.items) (sym c.self.view_is) ∙ none) in
-    let count = subst (λ xs. c.passing_near-begin.result ≡ length (filter (λ (e : Entry). p e.key) xs)) c.entries.ensures.entries c.passing_near-begin.ensures.count in
+    let count = c.count-begin.ensures.count in
     let many = some_passes p items before after es leaf some in
-    let within : c.passing_near-begin.result ≤ length es = subst (λ (xs : List Entry). c.passing_near-begin.result ≤ length xs) c.entries.ensures.entries c.passing_near-begin.ensures.within in
-    let begin = c.passing_near-begin.result - 1 in
+    let within : c.count-begin.result ≤ length es = c.count-begin.ensures.within in
+    let begin = c.count-begin.result - 1 in
     let end = begin + c.min.result in
-    let one : begin + 1 ≡ c.passing_near-begin.result = omega (arith, many, count) in
+    let parts = parted p es c.count-begin.result
+    (subst (IsCut (λ (e : Entry). p e.key)) (entries_from_header t.nodes c.reach-reached.result.leaf c.header-old.result c.header-old.ensures.header) found.cut)
+    count in
+    let one : begin + 1 ≡ c.count-begin.result = omega (arith, many, count) in
     let front_is = ap (λ (n : ℕ). take n es) one
-    ∙ subst (λ xs. take c.passing_near-begin.result xs ≡ filter (λ (e : Entry). p e.key) xs) c.entries.ensures.entries c.passing_near-begin.ensures.first in
+    ∙ parts.0 in
     let rest_is = ap (λ (n : ℕ). drop n es) one
-    ∙ subst (λ xs. drop c.passing_near-begin.result xs ≡ filter (λ (e : Entry). not (p e.key)) xs) c.entries.ensures.entries c.passing_near-begin.ensures.rest in
+    ∙ parts.1 in
+    let less : begin < end = omega (arith, many, count, within) in
+    let most : end ≤ length es = omega (arith, many, count, within) in
+    let thinned = c.thin-thinned.ensures in
+    key_behind_run p items before after es leaf begin end front_is rest_is less most None c.reach-reached.result.behind
+    c.thin-thinned.result.next c.thin-thinned.result.looked_at found.next thinned.next thinned.looked_at
+    ∙ ap (λ (v : Items). first_key None (drop (c.thin-thinned.result.looked_at - 1) (behind p v.items))) c.self.view_is
+
+pub returns-in-Some-clause-hinted : goal.returns-in-Some-clause-hinted
+returns-in-Some-clause-hinted g c = hinted_in_list (g.P.Probe.bytes c.args.probe.now) c.put-self-inside.new.nodes c.put-self-inside.ensures.hinted
+
+pub returns-in-Some-clause-known : goal.returns-in-Some-clause-known
+returns-in-Some-clause-known g c =
+    let to = c.put-self-inside.result in
+    know_items c.put-self-inside.new.nodes to.slot to.height c.self.inside.room c.put-self-inside.ensures.rooted
+
+pub returns-in_default-clause-thinned : goal.returns-in_default-clause-thinned
+returns-in_default-clause-thinned g c =
+    let p = g.P.Probe.lets_pass c.args.probe.now in
+    let t = c.self.inside in
+    let es = entries_of c.header-old.result in
+    let found = c.reach-reached.ensures in
+    let before = before_leaf t.nodes t.root.height t.root.slot p in
+    let after = behind_leaf t.nodes t.root.height t.root.slot p in
+    let items = items_in t.nodes t.root.height t.root.slot in
+    let leaf : IsLeaf p items before after es =
+    leaf_read t.nodes t.root.height t.root.slot c.reach-reached.result.leaf p c.header-old.result c.header-old.ensures.header
+    found.items found.before found.behind found.none in
+    let some : passing p items ≢ [] = λ none. c.requires.some (ap (λ (v : Items). passing p v.items) (sym c.self.view_is) ∙ none) in
+    let count = c.count-begin.ensures.count in
+    let many = some_passes p items before after es leaf some in
+    let within : c.count-begin.result ≤ length es = c.count-begin.ensures.within in
+    let begin = c.count-begin.result - 1 in
+    let end = begin + c.min.result in
+    let parts = parted p es c.count-begin.result
+    (subst (IsCut (λ (e : Entry). p e.key)) (entries_from_header t.nodes c.reach-reached.result.leaf c.header-old.result c.header-old.ensures.header) found.cut)
+    count in
+    let one : begin + 1 ≡ c.count-begin.result = omega (arith, many, count) in
+    let front_is = ap (λ (n : ℕ). take n es) one
+    ∙ parts.0 in
+    let rest_is = ap (λ (n : ℕ). drop n es) one
+    ∙ parts.1 in
     let less : begin < end = omega (arith, many, count, within) in
     let most : end ≤ length es = omega (arith, many, count, within) in
     let looked = map item_of (run es begin end) in
@@ -265,60 +389,40 @@ returns-in_default-clause-thinned g c =
       subst (λ (xs : List ℤ). IsLast c.thin-thinned.result.last xs) (sym (versions (run es begin end))) thinned.last,
     )
 
-pub returns-in-Some-clause-next : goal.returns-in-Some-clause-next
-returns-in-Some-clause-next g c =
-    let p = g.P.Probe.lets_pass c.args.probe.now in
-    let t = c.self.inside in
-    let es = entries_of c.leaf-old.result in
-    let found = c.leaf-old.ensures in
-    let before = before_leaf t.nodes t.root.height t.root.slot p in
-    let after = behind_leaf t.nodes t.root.height t.root.slot p in
-    let items = items_in t.nodes t.root.height t.root.slot in
-    let leaf : IsLeaf p items before after es =
-    record { items_are = found.items; pass = found.before; fail = found.behind; none = found.none } in
-    let some : passing p items ≢ [] = λ none. c.requires.some (ap (λ (v : Items). passing p v.items) (sym c.self.view_is) ∙ none) in
-    let count = subst (λ xs. c.passing_near-begin.result ≡ length (filter (λ (e : Entry). p e.key) xs)) c.entries.ensures.entries c.passing_near-begin.ensures.count in
-    let many = some_passes p items before after es leaf some in
-    let within : c.passing_near-begin.result ≤ length es = subst (λ (xs : List Entry). c.passing_near-begin.result ≤ length xs) c.entries.ensures.entries c.passing_near-begin.ensures.within in
-    let begin = c.passing_near-begin.result - 1 in
-    let end = begin + c.min.result in
-    let one : begin + 1 ≡ c.passing_near-begin.result = omega (arith, many, count) in
-    let front_is = ap (λ (n : ℕ). take n es) one
-    ∙ subst (λ xs. take c.passing_near-begin.result xs ≡ filter (λ (e : Entry). p e.key) xs) c.entries.ensures.entries c.passing_near-begin.ensures.first in
-    let rest_is = ap (λ (n : ℕ). drop n es) one
-    ∙ subst (λ xs. drop c.passing_near-begin.result xs ≡ filter (λ (e : Entry). not (p e.key)) xs) c.entries.ensures.entries c.passing_near-begin.ensures.rest in
-    let less : begin < end = omega (arith, many, count, within) in
-    let most : end ≤ length es = omega (arith, many, count, within) in
-    let thinned = c.thin-thinned.ensures in
-    key_behind_run p items before after es leaf begin end front_is rest_is less most None c.find_behind-behind.result
-    c.thin-thinned.result.next c.thin-thinned.result.looked_at c.find_behind-behind.ensures.key thinned.next thinned.looked_at
-    ∙ ap (λ (v : Items). first_key None (drop (c.thin-thinned.result.looked_at - 1) (behind p v.items))) c.self.view_is
-
 pub returns-in_default-clause-next : goal.returns-in_default-clause-next
 returns-in_default-clause-next g c =
     let p = g.P.Probe.lets_pass c.args.probe.now in
     let t = c.self.inside in
-    let es = entries_of c.leaf-old.result in
-    let found = c.leaf-old.ensures in
+    let es = entries_of c.header-old.result in
+    let found = c.reach-reached.ensures in
     let before = before_leaf t.nodes t.root.height t.root.slot p in
     let after = behind_leaf t.nodes t.root.height t.root.slot p in
     let items = items_in t.nodes t.root.height t.root.slot in
     let leaf : IsLeaf p items before after es =
-    record { items_are = found.items; pass = found.before; fail = found.behind; none = found.none } in
+    leaf_read t.nodes t.root.height t.root.slot c.reach-reached.result.leaf p c.header-old.result c.header-old.ensures.header
+    found.items found.before found.behind found.none in
     let some : passing p items ≢ [] = λ none. c.requires.some (ap (λ (v : Items). passing p v.items) (sym c.self.view_is) ∙ none) in
-    let count = subst (λ xs. c.passing_near-begin.result ≡ length (filter (λ (e : Entry). p e.key) xs)) c.entries.ensures.entries c.passing_near-begin.ensures.count in
+    let count = c.count-begin.ensures.count in
     let many = some_passes p items before after es leaf some in
-    let within : c.passing_near-begin.result ≤ length es = subst (λ (xs : List Entry). c.passing_near-begin.result ≤ length xs) c.entries.ensures.entries c.passing_near-begin.ensures.within in
-    let begin = c.passing_near-begin.result - 1 in
+    let within : c.count-begin.result ≤ length es = c.count-begin.ensures.within in
+    let begin = c.count-begin.result - 1 in
     let end = begin + c.min.result in
-    let one : begin + 1 ≡ c.passing_near-begin.result = omega (arith, many, count) in
+    let parts = parted p es c.count-begin.result
+    (subst (IsCut (λ (e : Entry). p e.key)) (entries_from_header t.nodes c.reach-reached.result.leaf c.header-old.result c.header-old.ensures.header) found.cut)
+    count in
+    let one : begin + 1 ≡ c.count-begin.result = omega (arith, many, count) in
     let front_is = ap (λ (n : ℕ). take n es) one
-    ∙ subst (λ xs. take c.passing_near-begin.result xs ≡ filter (λ (e : Entry). p e.key) xs) c.entries.ensures.entries c.passing_near-begin.ensures.first in
+    ∙ parts.0 in
     let rest_is = ap (λ (n : ℕ). drop n es) one
-    ∙ subst (λ xs. drop c.passing_near-begin.result xs ≡ filter (λ (e : Entry). not (p e.key)) xs) c.entries.ensures.entries c.passing_near-begin.ensures.rest in
+    ∙ parts.1 in
     let less : begin < end = omega (arith, many, count, within) in
     let most : end ≤ length es = omega (arith, many, count, within) in
     let thinned = c.thin-thinned.ensures in
-    key_behind_run p items before after es leaf begin end front_is rest_is less most None c.find_behind-behind.result
-    c.thin-thinned.result.next c.thin-thinned.result.looked_at c.find_behind-behind.ensures.key thinned.next thinned.looked_at
+    key_behind_run p items before after es leaf begin end front_is rest_is less most None c.reach-reached.result.behind
+    c.thin-thinned.result.next c.thin-thinned.result.looked_at found.next thinned.next thinned.looked_at
     ∙ ap (λ (v : Items). first_key None (drop (c.thin-thinned.result.looked_at - 1) (behind p v.items))) c.self.view_is
+
+pub returns-in_default-clause-known : goal.returns-in_default-clause-known
+returns-in_default-clause-known g c =
+    let t = c.self.inside in
+    subst KnowItems c.self.view_is (know_items t.nodes t.root.slot t.root.height t.room c.self.invariant.rooted)

@@ -1,0 +1,13 @@
+use Rattle.std.proofs.Common.{refl}
+use Rattle.stepmap.proofs.Indexed.{indexed_still}
+use Rattle.stepmap.proofs.boundaries.Boundaries.reserve.Goals as goal
+
+pub invariant_of-self : goal.invariant_of-self
+invariant_of-self g c =
+    indexed_still c.self.inside.keys c.reserve.new.self c.self.inside.tree c.self.inside.tree c.reserve.ensures.records refl
+    refl c.self.invariant
+
+pub invariant_of-self-2 : goal.invariant_of-self-2
+invariant_of-self-2 g c =
+    indexed_still c.self.inside.keys c.reserve.new.self c.self.inside.tree c.reserve-2.new.self c.reserve.ensures.records
+    c.reserve-2.ensures.items c.reserve-2.ensures.hints c.self.invariant

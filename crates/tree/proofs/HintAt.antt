@@ -1,0 +1,210 @@
+-- What a node's hint tells of the key at an index.
+use Rattle.std.proofs.Common.{◌≡◌, ◌≢◌, ℕ, ◌+◌, ◌<◌, ◌≤◌, Bool, true, nat_lt, List, [], ◌∷◌, ◌++◌, length, filter, get_or, take, slice_get, slice_index, option_map, Some, All, sym, ap, subst, ◌∙◌, arith, length-append, length-take, get_or-take, ltb-true}
+use Rattle.std.specs.Prelude.{unwrap_or}
+use Rattle.std.specs.Int.{w64, to_be_bytes}
+use Rattle.std.proofs.lemmas.List.{take_at, get_or-map, length-map}
+use Rattle.std.proofs.lemmas.Option.{get_or_from_slice_get, slice_get_within, slice_get-get_or, slice_get-map}
+use Rattle.keyspace.specs.Key.{IsBytes, IsBefore}
+use Rattle.tree.specs.declared.entry.Entry.{Entry}
+use Rattle.tree.specs.declared.node.Node.{Node}
+use Rattle.tree.specs.Node.{entries_of, hint_of, keys_of}
+use Rattle.tree.specs.Hints.{KeyBytes, Begins, digest_behind, digest_at, Hint, IsHinted, PassesInOrder, BeginAlike, TellsCommon, Agrees, IsDigestFor}
+use Rattle.tree.proofs.Cuts.{none_fail, not_both}
+use Rattle.tree.proofs.HintCounts.{fewer_pass, length-filter_map}
+use Rattle.tree.proofs.HintOrder.{told_by_digests, before_too, tells_too, common_by_digests}
+
+some_same : {X : Type 0} (a b : X) → Some a ≡ Some b → a ≡ b
+some_same a b e = cc
+
+-- an entry, where there are so many
+pub entry_at : (entries : List Entry) (index : ℕ) → index < length entries
+    → (e : Entry) × (slice_get entries index ≡ Some e)
+entry_at [] index inside = absurd (omega arith)
+entry_at (e ∷ es) index inside = (get_or (e ∷ es) index e, slice_get-get_or (e ∷ es) index e inside)
+
+-- the key of the entry there
+pub key_there : (entries : List Entry) (index : ℕ) (e : Entry) → slice_get entries index ≡ Some e
+    → slice_get (keys_of entries) index ≡ Some e.key
+key_there entries index e there =
+    slice_get-map (λ (x : Entry). x.key) entries index ∙ ap (option_map (λ (x : Entry). x.key)) there
+
+-- the entry itself, among all those that the node has room for
+pub entry_there : (room : List Entry) (len index : ℕ) (e d : Entry) → slice_get (take len room) index ≡ Some e
+    → get_or room index d ≡ e
+entry_there room len index e d there =
+    let inside : index < len = omega (arith, slice_get_within (take len room) index e there, length-take len room) in
+    sym (get_or-take len room index d inside) ∙ get_or_from_slice_get (take len room) index e d there
+
+-- what is known of the key at an index
+pub record IsKeyAt (bytes : KeyBytes) (hint : Hint) (beginning : List ℕ) (index key : ℕ) : Type 0 where
+  pub text : List ℕ
+  pub known : bytes key ≡ Some text
+  pub are_bytes : IsBytes text
+  pub begins : take hint.skip text ≡ beginning
+  pub long : hint.skip ≤ length text
+  pub digest : get_or hint.digests index 0 ≡ digest_behind hint.skip text
+
+module _ (bytes : KeyBytes) (hint : Hint) (h : IsHinted bytes hint) where
+  pub key_at : (index key : ℕ) → slice_get hint.keys index ≡ Some key → IsKeyAt bytes hint h.beginning index key
+  key_at index key there =
+      let inside : index < length hint.keys = slice_get_within hint.keys index key there in
+      let read : get_or hint.keys index key ≡ key = get_or_from_slice_get hint.keys index key key there in
+      let own : Begins bytes h.beginning key = subst (Begins bytes h.beginning) read (h.begins index key inside) in
+      record {
+        text = h.beginning ++ own.rest;
+        known = own.known;
+        are_bytes = own.are_bytes;
+        begins = take_at h.beginning own.rest hint.skip h.skip;
+        long = omega (arith, h.skip, length-append h.beginning own.rest);
+        digest = ap (λ (ds : List ℕ). get_or ds index 0) h.digests
+            ∙ get_or-map (digest_at bytes hint.skip) hint.keys index key 0 inside ∙ ap (digest_at bytes hint.skip) read
+            ∙ ap (λ o. digest_behind hint.skip (unwrap_or o [])) own.known;
+      }
+
+  -- what is known of its bytes
+  text_at : (index key : ℕ) (there : slice_get hint.keys index ≡ Some key) (text : List ℕ) → bytes key ≡ Some text
+      → (key_at index key there).text ≡ text
+  text_at index key there text known =
+      let k = key_at index key there in
+      some_same k.text text (sym k.known ∙ known)
+
+  begins_at : (index key : ℕ) → slice_get hint.keys index ≡ Some key → (text : List ℕ) → bytes key ≡ Some text
+      → take hint.skip text ≡ h.beginning
+  begins_at index key there text known =
+      sym (ap (take hint.skip) (text_at index key there text known)) ∙ (key_at index key there).begins
+
+  -- What is looked for begins as all keys do.
+  sought_begins : (sought : List ℕ) → Agrees bytes hint sought → h.beginning ≡ take hint.skip sought
+  sought_begins sought agrees =
+      let there : slice_get hint.keys agrees.there.0 ≡ Some agrees.key =
+      slice_get-get_or hint.keys agrees.there.0 agrees.key agrees.there.1 ∙ ap Some agrees.there.2 in
+      sym (begins_at agrees.there.0 agrees.key there agrees.text agrees.known) ∙ agrees.same
+
+  -- It does if it begins as the first key.
+  pub agrees_with_first : (shared : ℕ) (sought : List ℕ) (key : ℕ) → slice_get hint.keys 0 ≡ Some key
+      → hint.skip ≤ shared → ((text : List ℕ) → bytes key ≡ Some text → BeginAlike shared text sought)
+      → Agrees bytes hint sought
+  agrees_with_first shared sought key there enough alike =
+      let k = key_at 0 key there in
+      record {
+        key = key;
+        text = k.text;
+        there = (0, slice_get_within hint.keys 0 key there, get_or_from_slice_get hint.keys 0 key key there);
+        known = k.known;
+        same = alike k.text k.known hint.skip k.long enough;
+      }
+
+  module _ (sought : List ℕ) (passes : ℕ → Bool)
+      (order : (key : ℕ) (text : List ℕ) → bytes key ≡ Some text → PassesInOrder text sought (passes key)) where
+    not_behind : (key : ℕ) (text : List ℕ) → bytes key ≡ Some text → passes key ≡ true → IsBefore sought text → ⊥
+    not_behind key text known passed behind =
+        not_both (passes key) passed ((order key text known).behind behind)
+
+    -- Whether the key passes is told by its digest, if that isn't the one of what is looked for.
+    pub told_at : (index key digest : ℕ) → slice_get hint.keys index ≡ Some key → IsDigestFor bytes hint sought digest
+        → digest ≢ get_or hint.digests index 0 → nat_lt (get_or hint.digests index 0) digest ≡ passes key
+    told_at index key digest there is differ =
+        let k = key_at index key there in
+        let same : take hint.skip k.text ≡ take hint.skip sought = k.begins ∙ sought_begins sought is.agrees in
+        let apart : digest_behind hint.skip k.text ≢ digest_behind hint.skip sought =
+        λ e. differ (is.digest_is ∙ sym e ∙ sym k.digest) in
+        ap (λ d. nat_lt d digest) k.digest ∙ ap (nat_lt (digest_behind hint.skip k.text)) is.digest_is
+        ∙ told_by_digests hint.skip k.text sought (passes key) k.are_bytes is.are_bytes k.long same apart
+        (order key k.text k.known)
+
+    -- A key whose digest is less passes.
+    pub less_passes : (index key digest : ℕ) → slice_get hint.keys index ≡ Some key → IsDigestFor bytes hint sought digest
+        → nat_lt (get_or hint.digests index 0) digest ≡ true → passes key ≡ true
+    less_passes index key digest there is less =
+        sym (told_at index key digest there is (λ e. absurd (omega (arith, ltb-true (get_or hint.digests index 0) digest less))))
+        ∙ less
+
+    -- Where the first key passes, and differs from what is looked for before all keys' common beginning ends, all keys pass.
+    module _ (shared first : ℕ) (at_first : slice_get hint.keys 0 ≡ Some first) (less : shared < hint.skip)
+        (passed : passes first ≡ true)
+        (tells : (text : List ℕ) → bytes first ≡ Some text → TellsCommon shared text sought) where
+      pub passes_too : (index key : ℕ) → slice_get hint.keys index ≡ Some key → passes key ≡ true
+      passes_too index key there =
+          let f = key_at 0 first at_first in
+          let k = key_at index key there in
+          (order key k.text k.known).before (before_too shared hint.skip f.text k.text sought less f.long k.long
+          (k.begins ∙ sym f.begins) (tells f.text f.known) (not_behind first f.text f.known passed))
+
+      -- and differ from it as the first one does
+      pub differs_too : (index key : ℕ) → slice_get hint.keys index ≡ Some key → (text : List ℕ) → bytes key ≡ Some text
+          → TellsCommon shared text sought
+      differs_too index key there text known =
+          let f = key_at 0 first at_first in
+          let k = key_at index key there in
+          subst (λ t. TellsCommon shared t sought) (text_at index key there text known)
+          (tells_too shared hint.skip f.text k.text sought less f.long k.long (k.begins ∙ sym f.begins)
+          (tells f.text f.known))
+
+    -- How far a key that passes and what is looked for begin alike is told by its digest, if that isn't the one of what is
+    -- looked for.
+    pub common_at : (index key digest count : ℕ) → slice_get hint.keys index ≡ Some key → IsDigestFor bytes hint sought digest
+        → passes key ≡ true → get_or hint.digests index 0 ≢ digest → count ≤ 8
+        → take count (to_be_bytes w64 (get_or hint.digests index 0)) ≡ take count (to_be_bytes w64 digest)
+        → (count < 8
+        → slice_index (to_be_bytes w64 (get_or hint.digests index 0)) count ≢ slice_index (to_be_bytes w64 digest) count)
+        → (text : List ℕ) → bytes key ≡ Some text → TellsCommon (hint.skip + count) text sought
+    common_at index key digest count there is passed apart few alike differ text known =
+        let k = key_at index key there in
+        let same : take hint.skip k.text ≡ take hint.skip sought = k.begins ∙ sought_begins sought is.agrees in
+        let own = k.digest in
+        let other = is.digest_is in
+        let begin : take count (to_be_bytes w64 (digest_behind hint.skip k.text))
+        ≡ take count (to_be_bytes w64 (digest_behind hint.skip sought)) =
+        sym (ap (λ d. take count (to_be_bytes w64 d)) own) ∙ alike ∙ ap (λ d. take count (to_be_bytes w64 d)) other in
+        subst (λ t. TellsCommon (hint.skip + count) t sought) (text_at index key there text known)
+        (common_by_digests hint.skip count k.text sought k.are_bytes is.are_bytes k.long same
+        (λ e. apart (own ∙ e ∙ sym other)) few begin
+        (λ less e. differ less (ap (λ d. slice_index (to_be_bytes w64 d) count) own ∙ e
+        ∙ sym (ap (λ d. slice_index (to_be_bytes w64 d) count) other)))
+        (not_behind key k.text k.known passed))
+
+module _ {N : ℕ} (bytes : KeyBytes) (node : Node N) (h : IsHinted bytes (hint_of node)) (sought : List ℕ) (passes : ℕ → Bool)
+    (order : (key : ℕ) (text : List ℕ) → bytes key ≡ Some text → PassesInOrder text sought (passes key)) where
+  -- Where the first key passes, and differs from what is looked for before all keys' common beginning ends, all entries pass.
+  pub all_pass : (shared : ℕ) (first : Entry) → slice_get (entries_of node) 0 ≡ Some first → shared < node.skip
+      → passes first.key ≡ true → ((text : List ℕ) → bytes first.key ≡ Some text → TellsCommon shared text sought)
+      → filter (λ (e : Entry). passes e.key) (entries_of node) ≡ entries_of node
+  all_pass shared first there less passed tells =
+      let es = entries_of node in
+      let all : All (λ (e : Entry). passes e.key ≡ true) es =
+      λ i d inside.
+      let e = get_or es i d in
+      passes_too bytes (hint_of node) h sought passes order shared first.key (key_there es 0 first there) less passed tells
+      i e.key (key_there es i e (slice_get-get_or es i d inside)) in
+      (none_fail (λ (e : Entry). passes e.key) es all).0
+
+  -- No more digests are below that of what is looked for than entries pass.
+  pub few_below : (digest : ℕ) → IsDigestFor bytes (hint_of node) sought digest
+      → length (filter (λ d. nat_lt d digest) (take node.len node.digests))
+      ≤ length (filter (λ (e : Entry). passes e.key) (entries_of node))
+  few_below digest is =
+      let es = entries_of node in
+      let hint = hint_of node in
+      let own : ℕ → ℕ = digest_at bytes hint.skip in
+      let below : ℕ → Bool = λ d. nat_lt d digest in
+      let of_keys : length (filter below hint.digests) ≡ length (filter (λ k. below (own k)) hint.keys) =
+      ap (λ ds. length (filter below ds)) h.digests ∙ length-filter_map below own hint.keys in
+      let of_entries : length (filter (λ k. below (own k)) hint.keys)
+      ≡ length (filter (λ (e : Entry). below (own e.key)) es) =
+      length-filter_map (λ k. below (own k)) (λ (e : Entry). e.key) es in
+      let all : All (λ (e : Entry). below (own e.key) ≡ true → passes e.key ≡ true) es =
+      λ i d inside less.
+      let e = get_or es i d in
+      let there = key_there es i e (slice_get-get_or es i d inside) in
+      let k = key_at bytes hint h i e.key there in
+      let is_own : get_or hint.digests i 0 ≡ own e.key =
+      k.digest ∙ sym (ap (λ o. digest_behind hint.skip (unwrap_or o [])) k.known) in
+      less_passes bytes hint h sought passes order i e.key digest there is (ap below is_own ∙ less) in
+      omega (arith, of_keys, of_entries, fewer_pass (λ (e : Entry). below (own e.key)) (λ (e : Entry). passes e.key) es all)
+
+-- A node has as many digests as entries.
+pub as_many : {N : ℕ} (bytes : KeyBytes) (node : Node N) → IsHinted bytes (hint_of node)
+    → length (take node.len node.digests) ≡ length (entries_of node)
+as_many bytes node h =
+    ap length h.digests ∙ length-map (keys_of (entries_of node)) (digest_at bytes node.skip)
+    ∙ length-map (entries_of node) (λ (e : Entry). e.key)

@@ -1,0 +1,301 @@
+-- What nodes know of the bytes of their keys, through changes of these.
+use Rattle.std.proofs.Math.Nat.{min-le_left, min-le_right}
+use Rattle.std.proofs.Common.{◌≡◌, ℕ, ◌+◌, ◌-◌, ◌<◌, ◌≤◌, min, List, [], ◌∷◌, ◌++◌, Some, length, get_or, take, drop, map, All, refl, sym, ◌∙◌, ap, ap₂, subst, arith, append_assoc, length-append, length-drop}
+use Rattle.std.specs.Prelude.{unwrap_or, slice_set}
+use Rattle.std.specs.List.{Contains, copy_within}
+use Rattle.std.proofs.lemmas.List.{get_or-map, get_or-take, length-map, length-take-le, map-append, map-set, map_more, set-get_or, take_all, take-append-drop, take-append-le, take_at, drop_at, take-map, drop-map, take-take, take_more_set, drop-take}
+use Rattle.std.proofs.lemmas.List.Elements.{All-append, All-contains, All-drop, All-more, All-set, All-take, All-weaker}
+use Rattle.keyspace.specs.Key.{IsBytes}
+use Rattle.tree.specs.declared.entry.Entry.{Entry}
+use Rattle.tree.specs.Hints.{KeyBytes, IsKnown, Begins, Hint, IsHinted, Agrees, digest_behind, digest_at}
+use Rattle.tree.specs.Node.{keys_of}
+use Rattle.tree.proofs.Hinted.{all_known}
+
+-- One more element of the second list becomes that of the first one.
+pub map_further : {X Y : Type 0} (f : X → Y) (xs : List X) (ys : List Y) (i : ℕ) (x : X) (y : Y)
+    → i < length xs → i < length ys → x ≡ get_or xs i x → y ≡ f x → take i ys ≡ map f (take i xs)
+    → take (i + 1) (slice_set ys i y) ≡ map f (take (i + 1) xs)
+map_further f xs ys i x y inside room is new before =
+    take_more_set ys i y room ∙ ap (λ zs. zs ++ y ∷ []) before ∙ ap (λ z. map f (take i xs) ++ z ∷ []) (new ∙ ap f is)
+    ∙ sym (map_more f xs i x inside)
+
+-- The second list is that of the first one, whole.
+pub map_whole : {X Y : Type 0} (f : X → Y) (xs : List X) (ys : List Y) (len i : ℕ) → length xs ≡ len → i ≡ len
+    → take i ys ≡ map f (take i xs) → take len ys ≡ map f xs
+map_whole f xs ys len i count end is =
+    ap (λ n. take n ys) (sym end) ∙ is ∙ ap (map f) (take_all i xs (omega (arith, count, end)))
+
+-- Both parts of the second list are those of the first one.
+pub map_parts : {X Y : Type 0} (f : X → Y) (xs : List X) (ys : List Y) (len end : ℕ) → end ≤ len
+    → take end ys ≡ map f (take end xs) → take (len - end) (drop end ys) ≡ map f (drop end xs) → take len ys ≡ map f xs
+map_parts f xs ys len end within front back =
+    let add : len ≡ end + (len - end) = omega arith in
+    sym (take-append-drop end (take len ys))
+    ∙ ap₂ (λ ps qs. ps ++ qs) (take-take end len ys within ∙ front)
+    (ap (λ n. drop end (take n ys)) add ∙ drop-take end (len - end) ys ∙ back)
+    ∙ sym (map-append f (take end xs) (drop end xs)) ∙ ap (map f) (take-append-drop end xs)
+
+-- Elements are put in place of those from one index up to another.
+pub All-spliced : {X : Type 0} (P : X → Type 0) (xs new : List X) (from to : ℕ) → All P xs → All P new
+    → All P (take from xs ++ (new ++ drop to xs))
+All-spliced P xs new from to all more =
+    All-append P (take from xs) (new ++ drop to xs) (All-take P from xs all)
+    (All-append P new (drop to xs) more (All-drop P to xs all))
+
+-- then there are so many
+pub length_spliced : {X : Type 0} (xs new now : List X) (from to : ℕ) → from ≤ length xs → now ≡ take from xs ++ (new ++ drop to xs)
+    → length now ≡ from + length new + (length xs - to)
+length_spliced xs new now from to within is =
+    omega (
+      arith,
+      ap length is,
+      length-append (take from xs) (new ++ drop to xs),
+      length-append new (drop to xs),
+      length-take-le from xs within,
+      length-drop to xs,
+    )
+
+module _ {X Y : Type 0} (f : X → Y) (xs new now : List X) (ys : List Y) (len from to end : ℕ) (ordered : from ≤ to)
+    (most : to ≤ len) (count : length xs ≡ len) (within : len ≤ length ys) (end_is : end ≡ from + length new)
+    (room : end ≤ length ys) (is : take len ys ≡ map f xs) (now_is : now ≡ take from xs ++ (new ++ drop to xs)) where
+  -- The second list is moved as the first one: what stays before the new elements
+  pub front_moved : take from (copy_within ys to len end) ≡ map f (take from now)
+  front_moved =
+      let head = take end ys in
+      let moved = take (len - to) (drop to ys) in
+      let rest = drop (end + (len - to)) ys in
+      ap (take from) (append_assoc head moved rest)
+      ∙ take-append-le from head (moved ++ rest) (omega (arith, end_is, length-take-le end ys room))
+      ∙ take-take from end ys (omega (arith, end_is)) ∙ sym (take-take from len ys (omega (arith, ordered, most))) ∙ ap (take from) is
+      ∙ take-map f from xs
+      ∙ ap (map f) (sym (ap (take from) now_is
+      ∙ take_at (take from xs) (new ++ drop to xs) from (length-take-le from xs (omega (arith, ordered, most, count)))))
+
+  -- and what stays behind them
+  pub back_moved : take (len - to) (drop end (copy_within ys to len end)) ≡ map f (drop end now)
+  back_moved =
+      let head = take end ys in
+      let moved = take (len - to) (drop to ys) in
+      let rest = drop (end + (len - to)) ys in
+      let moved_len : length moved ≡ len - to =
+      length-take-le (len - to) (drop to ys) (omega (arith, within, length-drop to ys)) in
+      let add : to + (len - to) ≡ len = omega (arith, most) in
+      let front_len : length (take from xs ++ new) ≡ end =
+      omega (arith, end_is, length-append (take from xs) new, length-take-le from xs (omega (arith, ordered, most, count))) in
+      ap (λ zs. take (len - to) (drop end zs)) (append_assoc head moved rest)
+      ∙ ap (take (len - to)) (drop_at head (moved ++ rest) end (length-take-le end ys room))
+      ∙ take_at moved rest (len - to) moved_len
+      ∙ sym (drop-take to (len - to) ys) ∙ ap (λ n. drop to (take n ys)) add ∙ ap (drop to) is ∙ drop-map f to xs
+      ∙ ap (map f) (sym (ap (drop end) (now_is ∙ sym (append_assoc (take from xs) new (drop to xs)))
+      ∙ drop_at (take from xs ++ new) (drop to xs) end front_len))
+
+-- the keys of so many entries are as many
+pub keys_count : (es : List Entry) (len : ℕ) → len ≤ length es → length (keys_of (take len es)) ≡ len
+keys_count es len most = length-map (take len es) (λ (e : Entry). e.key) ∙ length-take-le len es most
+
+-- the keys where entries are put in place of those from one index up to another
+pub keys_spliced : (es new now : List Entry) (from to : ℕ) → now ≡ take from es ++ (new ++ drop to es)
+    → keys_of now ≡ take from (keys_of es) ++ (keys_of new ++ drop to (keys_of es))
+keys_spliced es new now from to is =
+    let key : Entry → ℕ = λ e. e.key in
+    ap keys_of is ∙ map-append key (take from es) (new ++ drop to es)
+    ∙ ap₂ (λ xs ys. xs ++ ys) (sym (take-map key from es))
+    (map-append key new (drop to es) ∙ ap (λ ys. keys_of new ++ ys) (sym (drop-map key to es)))
+
+-- the key of an entry is one of the keys
+pub keys_there : (es : List Entry) (i : ℕ) (e : Entry) → i < length es → get_or es i e ≡ e → Contains (keys_of es) e.key
+keys_there es i e inside is =
+    let key : Entry → ℕ = λ x. x.key in
+    (i, omega (arith, length-map es key, inside), get_or-map key es i e e.key inside ∙ ap key is)
+
+-- Entries of which some are in use, and one of these.
+module _ (es : List Entry) (len i : ℕ) (e : Entry) (inside : i < len) (most : len ≤ length es) (is : e ≡ get_or es i e) where
+  -- its key
+  pub key_read : e.key ≡ get_or (keys_of (take len es)) i e.key
+  key_read =
+      sym (get_or-map (λ (x : Entry). x.key) (take len es) i e e.key (omega (arith, length-take-le len es most))
+      ∙ ap (λ (x : Entry). x.key) (get_or-take len es i e inside ∙ sym is))
+
+  pub key_there : Contains (keys_of (take len es)) e.key
+  key_there = (i, omega (arith, keys_count es len most), sym key_read)
+
+  -- its digest
+  pub digest_there : (f : ℕ → ℕ) (digests : List ℕ) → take len digests ≡ map f (keys_of (take len es)) → get_or digests i 0 ≡ f e.key
+  digest_there f digests right =
+      sym (get_or-take len digests i 0 inside) ∙ ap (λ xs. get_or xs i 0) right
+      ∙ get_or-map f (keys_of (take len es)) i e.key 0 (omega (arith, keys_count es len most)) ∙ ap f (sym key_read)
+
+  -- with its digest one more is right
+  pub digest_next : (f : ℕ → ℕ) (digests : List ℕ) (digest : ℕ) → i < length digests → digest ≡ f e.key
+      → take i digests ≡ map f (take i (keys_of (take len es)))
+      → take (i + 1) (slice_set digests i digest) ≡ map f (take (i + 1) (keys_of (take len es)))
+  digest_next f digests digest room right before =
+      map_further f (keys_of (take len es)) digests i e.key digest (omega (arith, keys_count es len most)) room key_read right before
+
+  -- another entry of the same key in its place changes no key
+  pub key_stays : (new : Entry) → e.key ≡ new.key → keys_of (slice_set (take len es) i new) ≡ keys_of (take len es)
+  key_stays new same =
+      map-set (λ (x : Entry). x.key) (take len es) i new
+      ∙ ap (λ k. slice_set (keys_of (take len es)) i k) (sym same ∙ key_read)
+      ∙ set-get_or (keys_of (take len es)) i e.key
+
+-- A key begins as the keys do of which this is known.
+abbrev pub BeginsAsThese : KeyBytes → Hint → ℕ → Type 0
+BeginsAsThese bytes hint key = (text : List ℕ) → bytes key ≡ Some text → Agrees bytes hint text
+
+-- A key begins with so many bytes in common with a first one, and that one is no shorter.
+abbrev pub BeginsAsFirst : KeyBytes → ℕ → ℕ → ℕ → Type 0
+BeginsAsFirst bytes first count key =
+    (a b : List ℕ) → bytes first ≡ Some a → bytes key ≡ Some b → (count ≤ length a) × (take count a ≡ take count b)
+
+module _ (bytes : KeyBytes) where
+  -- the digest of a key is that of its bytes
+  pub digest_known : (skip key digest : ℕ) → IsKnown bytes key
+      → ((text : List ℕ) → bytes key ≡ Some text → digest ≡ digest_behind skip text) → digest ≡ digest_at bytes skip key
+  digest_known skip key digest k d =
+      d k.text k.known ∙ ap (λ o. digest_behind skip (unwrap_or o [])) (sym k.known)
+
+  -- A key that begins as all others do for so many bytes begins with these.
+  pub agrees_begins : (hint : Hint) (h : IsHinted bytes hint) (key : ℕ) → IsKnown bytes key
+      → BeginsAsThese bytes hint key → Begins bytes h.beginning key
+  agrees_begins hint h key k agrees =
+      let a = agrees k.text k.known in
+      let b = All-contains (Begins bytes h.beginning) hint.keys a.key h.begins a.there in
+      let one : Some a.text ≡ Some (h.beginning ++ b.rest) = sym a.known ∙ b.known in
+      let texts : a.text ≡ h.beginning ++ b.rest = cc in
+      let begin : h.beginning ≡ take hint.skip k.text =
+      sym (take_at h.beginning b.rest hint.skip h.skip) ∙ ap (take hint.skip) (sym texts) ∙ a.same in
+      let whole : h.beginning ++ drop hint.skip k.text ≡ k.text =
+      ap (λ xs. xs ++ drop hint.skip k.text) begin ∙ take-append-drop hint.skip k.text in
+      record {
+        rest = drop hint.skip k.text;
+        known = k.known ∙ ap Some (sym whole);
+        are_bytes = subst IsBytes (sym whole) k.are_bytes;
+      }
+
+  -- a key of the node itself does
+  pub key_agrees : (hint : Hint) (key : ℕ) → Contains hint.keys key → BeginsAsThese bytes hint key
+  key_agrees hint key there text known = record { key = key; text = text; there = there; known = known; same = refl }
+
+  -- and a key that begins as one of them for so many bytes does
+  pub common_agrees : (hint : Hint) (h : IsHinted bytes hint) (first key count : ℕ) → Contains hint.keys first
+      → hint.skip ≤ count
+      → ((a b : List ℕ) → bytes first ≡ Some a → bytes key ≡ Some b → take count a ≡ take count b)
+      → BeginsAsThese bytes hint key
+  common_agrees hint h first key count there enough same text known =
+      let b = All-contains (Begins bytes h.beginning) hint.keys first h.begins there in
+      let own = h.beginning ++ b.rest in
+      record {
+        key = first;
+        text = own;
+        there = there;
+        known = b.known;
+        same = sym (take-take hint.skip count own enough) ∙ ap (take hint.skip) (same own text b.known known)
+            ∙ take-take hint.skip count text enough;
+      }
+
+  -- a key that begins with as many bytes in common with a text begins with these
+  pub begins_common : (text : List ℕ) (count less key : ℕ) → less ≤ count → (k : IsKnown bytes key)
+      → take count text ≡ take count k.text → Begins bytes (take less text) key
+  begins_common text count less key fewer k same =
+      let begin : take less text ≡ take less k.text =
+      sym (take-take less count text fewer) ∙ ap (take less) same ∙ take-take less count k.text fewer in
+      let whole : take less text ++ drop less k.text ≡ k.text =
+      ap (λ xs. xs ++ drop less k.text) begin ∙ take-append-drop less k.text in
+      record {
+        rest = drop less k.text;
+        known = k.known ∙ ap Some (sym whole);
+        are_bytes = subst IsBytes (sym whole) k.are_bytes;
+      }
+
+  -- keys that begin as all others do
+  pub all_begin : (hint : Hint) (h : IsHinted bytes hint) (keys : List ℕ) → All (IsKnown bytes) keys
+      → All (BeginsAsThese bytes hint) keys → All (Begins bytes h.beginning) keys
+  all_begin hint h keys known agree i d inside =
+      agrees_begins hint h (get_or keys i d) (known i d inside) (agree i d inside)
+
+  -- one key more that begins as the first one does, for fewer bytes perhaps
+  pub first_more : (first count common i : ℕ) (keys : List ℕ) (key : ℕ) → i < length keys → key ≡ get_or keys i key
+      → ((a b : List ℕ) → bytes first ≡ Some a → bytes key ≡ Some b → take common a ≡ take common b)
+      → ((a b : List ℕ) → bytes first ≡ Some a → bytes key ≡ Some b → (common ≤ length a) × (common ≤ length b))
+      → All (BeginsAsFirst bytes first count) (take i keys)
+      → All (BeginsAsFirst bytes first (min count common)) (take (i + 1) keys)
+  first_more first count common i keys key inside is same within before =
+      let less = min count common in
+      let fewer : less ≤ common = min-le_right count common in
+      let here : BeginsAsFirst bytes first less key = λ a b one other. (
+        omega (arith, (within a b one other).0, fewer),
+        sym (take-take less common a fewer) ∙ ap (take less) (same a b one other) ∙ take-take less common b fewer,
+      ) in
+      All-more (BeginsAsFirst bytes first less) keys i key inside
+      (All-weaker (BeginsAsFirst bytes first count) (BeginsAsFirst bytes first less) weaker (take i keys) before)
+      (subst (BeginsAsFirst bytes first less) is here)
+    where
+      weaker : (k : ℕ) → BeginsAsFirst bytes first count k → BeginsAsFirst bytes first (min count common) k
+      weaker k b one other is_one is_other =
+          let less = min count common in
+          let fewer : less ≤ count = min-le_left count common in
+          let h = b one other is_one is_other in (
+            omega (arith, h.0, fewer),
+            sym (take-take less count one fewer) ∙ ap (take less) h.1 ∙ take-take less count other fewer,
+          )
+
+  -- Keys that all begin as the first one does begin with bytes of it.
+  pub begin_of_first : (count : ℕ) (keys : List ℕ) → 0 < length keys → All (IsKnown bytes) keys
+      → All (BeginsAsFirst bytes (get_or keys 0 0) count) keys
+      → (beginning : List ℕ) × (length beginning ≡ count) × All (Begins bytes beginning) keys
+  begin_of_first count keys some known common =
+      let k = known 0 0 some in
+      let long = (common 0 0 some k.text k.text k.known k.known).0 in (
+        take count k.text,
+        length-take-le count k.text long,
+        λ i d inside.
+            let other = known i d inside in
+            begins_common k.text count count (get_or keys i d) (omega arith) other
+            (common i d inside k.text other.text k.known other.known).1,
+      )
+
+  -- Another key that begins alike is set.
+  pub hinted_set : (hint new : Hint) (h : IsHinted bytes hint) (i key digest : ℕ) → IsKnown bytes key → BeginsAsThese bytes hint key
+      → digest ≡ digest_at bytes hint.skip key → new.keys ≡ slice_set hint.keys i key → new.skip ≡ hint.skip
+      → new.digests ≡ slice_set hint.digests i digest → IsHinted bytes new
+  hinted_set hint new h i key digest k agrees right keys skip digests =
+      let P = Begins bytes h.beginning in
+      record {
+        beginning = h.beginning;
+        skip = h.skip ∙ sym skip;
+        begins = subst (All P) (sym keys) (All-set P hint.keys i key (agrees_begins hint h key k agrees) h.begins);
+        digests = digests ∙ ap₂ (λ xs d. slice_set xs i d) h.digests right
+            ∙ sym (map-set (digest_at bytes hint.skip) hint.keys i key)
+            ∙ ap₂ (λ n xs. map (digest_at bytes n) xs) (sym skip) (sym keys);
+      }
+
+  -- then the keys are known
+  pub known_set : (hint : Hint) → IsHinted bytes hint → (i key : ℕ) → IsKnown bytes key → (keys : List ℕ)
+      → keys ≡ slice_set hint.keys i key → All (IsKnown bytes) keys
+  known_set hint h i key k keys is =
+      subst (All (IsKnown bytes)) (sym is) (All-set (IsKnown bytes) hint.keys i key k (all_known bytes hint h))
+
+  -- those where others are put in place of some
+  pub known_spliced : (hint : Hint) → IsHinted bytes hint → (new keys : List ℕ) (from to : ℕ) → All (IsKnown bytes) new
+      → keys ≡ take from hint.keys ++ (new ++ drop to hint.keys) → All (IsKnown bytes) keys
+  known_spliced hint h new keys from to known is =
+      subst (All (IsKnown bytes)) (sym is) (All-spliced (IsKnown bytes) hint.keys new from to (all_known bytes hint h) known)
+
+  -- these begin as all others do where the others do
+  pub begin_spliced : (hint : Hint) (h : IsHinted bytes hint) (new keys : List ℕ) (from to : ℕ) → All (IsKnown bytes) new
+      → All (BeginsAsThese bytes hint) new → keys ≡ take from hint.keys ++ (new ++ drop to hint.keys)
+      → All (Begins bytes h.beginning) keys
+  begin_spliced hint h new keys from to known begin is =
+      subst (All (Begins bytes h.beginning)) (sym is)
+      (All-spliced (Begins bytes h.beginning) hint.keys new from to h.begins (all_begin hint h new known begin))
+
+-- The digest of the key of an entry, behind so many bytes, is that of its bytes.
+pub digest_read : (es : List Entry) (len i : ℕ) (e : Entry) → i < len → len ≤ length es → e ≡ get_or es i e
+    → (bytes : KeyBytes) (skip behind digest : ℕ) → behind ≡ skip → All (IsKnown bytes) (keys_of (take len es))
+    → ((text : List ℕ) → bytes (get_or es i e).key ≡ Some text → digest ≡ digest_behind behind text)
+    → digest ≡ digest_at bytes skip e.key
+digest_read es len i e inside most is bytes skip behind digest same known right =
+    digest_known bytes skip e.key digest
+    (All-contains (IsKnown bytes) (keys_of (take len es)) e.key known (key_there es len i e inside most is))
+    (λ text k. right text (ap (λ (x : Entry). bytes x.key) (sym is) ∙ k) ∙ ap (λ n. digest_behind n text) same)

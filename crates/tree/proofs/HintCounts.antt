@@ -1,0 +1,85 @@
+-- How many of a list pass, by one test and by another, and where they stand if those that pass come first.
+use Rattle.std.proofs.Common.{◌≡◌, ℕ, zero, suc, ◌<◌, ◌≤◌, Bool, true, false, List, [], ◌∷◌, length, map, filter, All, slice_get, Some, sym, ap, ◌∙◌, refl, inl, inr, arith}
+use Rattle.std.proofs.lemmas.Bool.{cases_Bool}
+use Rattle.std.proofs.lemmas.List.Elements.{All-head, All-tail}
+use Rattle.std.proofs.lemmas.Option.{get_or_from_slice_get, slice_get_within}
+use Rattle.tree.specs.Path.{IsCut}
+use Rattle.tree.proofs.Cuts.{Falls, Falls-from_cut, none_pass, not_both}
+
+-- a test of what a function gives
+pub length-filter_map : {X Y : Type 0} (p : Y → Bool) (f : X → Y) (xs : List X)
+    → length (filter p (map f xs)) ≡ length (filter (λ x. p (f x)) xs)
+length-filter_map p f [] = refl
+length-filter_map p f (x ∷ xs) =
+    let rest = length-filter_map p f xs in
+    elim (cases_Bool (p (f x))) [ inl t ↦ rw t (omega arith) | inr h ↦ rw h rest ]
+
+module _ {X : Type 0} (p q : X → Bool) where
+  -- no more pass a test than another that they pass, too
+  pub fewer_pass : (xs : List X) → All (λ x. p x ≡ true → q x ≡ true) xs
+      → length (filter p xs) ≤ length (filter q xs)
+  fewer_pass [] all = omega arith
+  fewer_pass (x ∷ xs) all =
+      let own = All-head (λ y. p y ≡ true → q y ≡ true) x xs all in
+      let rest = fewer_pass xs (All-tail (λ y. p y ≡ true → q y ≡ true) x xs all) in
+      elim (cases_Bool (q x)) [
+        | inl t ↦ elim (cases_Bool (p x)) [ inl s ↦ rw (s, t) (omega arith) | inr h ↦ rw (h, t) (omega arith) ]
+        | inr f ↦ elim (cases_Bool (p x)) [ inl s ↦ absurd (not_both (q x) (own s) f) | inr h ↦ rw (h, f) rest ]
+      ]
+
+module _ {X : Type 0} (p : X → Bool) where
+  before_failing : (xs : List X) (i : ℕ) (x : X) → Falls p xs → slice_get xs i ≡ Some x → p x ≡ false
+      → length (filter p xs) ≤ i
+  before_failing [] i x falls there fails = omega arith
+  before_failing (y ∷ ys) zero x falls there fails =
+      let same : y ≡ x = get_or_from_slice_get (y ∷ ys) 0 x y there in
+      elim falls [
+        | inl h ↦ absurd (not_both (p x) (sym (ap p same) ∙ h.0) fails)
+        | inr h ↦
+            let f = h.0 in
+            let none : length (filter p ys) ≡ 0 = ap length (none_pass p ys h.1).0 in
+            rw f (omega arith)
+      ]
+  before_failing (y ∷ ys) (suc i) x falls there fails =
+      elim falls [
+        | inl h ↦ let t = h.0 in let rest = before_failing ys i x h.1 there fails in rw t (omega arith)
+        | inr h ↦
+            let f = h.0 in
+            let none : length (filter p ys) ≡ 0 = ap length (none_pass p ys h.1).0 in
+            rw f (omega arith)
+      ]
+
+  before_passing : (xs : List X) (i : ℕ) (x : X) → Falls p xs → slice_get xs i ≡ Some x → p x ≡ true
+      → i < length (filter p xs)
+  before_passing [] i x falls there passes = absurd (omega (arith, slice_get_within {A = X} [] i x there))
+  before_passing (y ∷ ys) zero x falls there passes =
+      let same : y ≡ x = get_or_from_slice_get (y ∷ ys) 0 x y there in
+      let own : p y ≡ true = ap p same ∙ passes in
+      rw own (omega arith)
+  before_passing (y ∷ ys) (suc i) x falls there passes =
+      elim falls [
+        | inl h ↦ let t = h.0 in let rest = before_passing ys i x h.1 there passes in rw t (omega arith)
+        | inr h ↦
+            let inside = slice_get_within ys i x there in
+            let read = get_or_from_slice_get ys i x x there in
+            absurd (not_both (p x) passes (sym (ap p read) ∙ h.1 i x inside))
+      ]
+
+  -- Those that pass stand before one that fails.
+  pub passing_before : (xs : List X) (i : ℕ) (x : X) → IsCut p xs → slice_get xs i ≡ Some x → p x ≡ false
+      → length (filter p xs) ≤ i
+  passing_before xs i x cut = before_failing xs i x (Falls-from_cut p xs cut)
+
+  -- One that passes stands among as many as pass.
+  pub passing_inside : (xs : List X) (i : ℕ) (x : X) → IsCut p xs → slice_get xs i ≡ Some x → p x ≡ true
+      → i < length (filter p xs)
+  passing_inside xs i x cut = before_passing xs i x (Falls-from_cut p xs cut)
+
+  -- And each of these does.
+  pub passing_at : (xs : List X) (i : ℕ) (x : X) → IsCut p xs → slice_get xs i ≡ Some x → i < length (filter p xs)
+      → p x ≡ true
+  passing_at xs i x cut there inside =
+      elim (cases_Bool (p x)) [
+        | inl t ↦ t
+        | inr f ↦ absurd (omega (arith, passing_before xs i x cut there f))
+      ]

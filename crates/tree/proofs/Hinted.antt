@@ -1,0 +1,106 @@
+-- What nodes know of the bytes of keys, while nodes are put, placed and released.
+use Rattle.std.proofs.Common.{rules, ◌≡◌, ◌≢◌, ◌⊎◌, inl, inr, ℕ, cond, List, [], ◌∷◌, ◌++◌, map, Option, Some, None, option_map, unwrap_or, refl, sym, ap, ap₂, subst, ◌∙◌}
+use Rattle.std.specs.Prelude.{IfSome}
+use Rattle.std.specs.List.{All}
+use Rattle.std.proofs.lemmas.List.Elements.{All-weaker, All-head, All-tail}
+use Rattle.arena.specs.Arena.{Arena, record_at, header_at}
+use Rattle.tree.specs.declared.node.Node.{Node}
+use Rattle.tree.specs.Hints.{KeyBytes, IsKnown, Begins, Hint, IsHinted, AreHinted, digest_at, digest_behind}
+use Rattle.tree.specs.Node.{entries_of, keys_of, hint_of, hints_of}
+use Rattle.tree.specs.Subtree.{entries_at}
+use Rattle.std.specs.FinMap as finite
+use Rattle.std.specs.Cmp.{nat_cmp_total}
+use Rattle.tree.proofs.Changing.{same_number}
+use Rattle.tree.proofs.Times.{once_cases}
+
+-- a key that begins with some bytes is known
+pub known_if_begins : (bytes : KeyBytes) (beginning : List ℕ) (key : ℕ) → Begins bytes beginning key → IsKnown bytes key
+known_if_begins bytes beginning key b = record { text = beginning ++ b.rest; known = b.known; are_bytes = b.are_bytes }
+
+-- each key of which a node knows is known
+pub all_known : (bytes : KeyBytes) (hint : Hint) → IsHinted bytes hint → All (IsKnown bytes) hint.keys
+all_known bytes hint h =
+    All-weaker (Begins bytes h.beginning) (IsKnown bytes) (λ key b. known_if_begins bytes h.beginning key b) hint.keys h.begins
+
+-- a slot is another one or the same
+same_or_other : (s slot : ℕ) → (slot ≡ s) ⊎ (s ≢ slot)
+same_or_other s slot =
+    elim (once_cases s slot) [
+      | inl same ↦ inl same.0
+      | inr other ↦ inr (λ same. other.0 (sym same))
+    ]
+
+digests_kept : (a b : KeyBytes) (skip : ℕ) → ((key : ℕ) (text : List ℕ) → a key ≡ Some text → b key ≡ Some text)
+    → (keys : List ℕ) → All (IsKnown a) keys → map (digest_at a skip) keys ≡ map (digest_at b skip) keys
+digests_kept a b skip same [] known = refl
+digests_kept a b skip same (key ∷ keys) known =
+    let k = All-head (IsKnown a) key keys known in
+    ap₂ (λ x xs. x ∷ xs) (ap (λ o. digest_behind skip (unwrap_or o [])) (k.known ∙ sym (same key k.text k.known)))
+    (digests_kept a b skip same keys (All-tail (IsKnown a) key keys known))
+
+-- what a node knows is right for bytes that are the same of the keys that are known
+pub hint_kept : (a b : KeyBytes) → ((key : ℕ) (text : List ℕ) → a key ≡ Some text → b key ≡ Some text)
+    → (hint : Hint) → IsHinted a hint → IsHinted b hint
+hint_kept a b same hint h =
+    record {
+      beginning = h.beginning;
+      skip = h.skip;
+      begins = All-weaker (Begins a h.beginning) (Begins b h.beginning)
+          (λ key x. record { rest = x.rest; known = same key (h.beginning ++ x.rest) x.known; are_bytes = x.are_bytes })
+          hint.keys h.begins;
+      digests = h.digests ∙ digests_kept a b hint.skip same hint.keys (all_known a hint h);
+    }
+
+-- What each node knows is right for bytes that are the same of the keys that are known.
+pub hinted_kept : (a b : KeyBytes) → ((key : ℕ) (text : List ℕ) → a key ≡ Some text → b key ≡ Some text)
+    → (hints : ℕ → Option Hint) → AreHinted a hints → AreHinted b hints
+hinted_kept a b same hints all s = by_hint (hints s) (all s)
+  where
+    by_hint : (o : Option Hint) → IfSome o (IsHinted a) → IfSome o (IsHinted b)
+    by_hint None h = tt
+    by_hint (Some hint) h = hint_kept a b same hint h
+
+module _ {N : ℕ} where
+  -- what the node at a slot knows is right
+  pub hinted_at : (bytes : KeyBytes) (nodes : Arena (Node N)) (slot : ℕ) (node : Node N) → AreHinted bytes (hints_of nodes)
+      → header_at nodes slot ≡ Some node → IsHinted bytes (hint_of node)
+  hinted_at bytes nodes slot node all is =
+      subst (λ o. IfSome (option_map hint_of o) (IsHinted bytes)) is (all slot)
+
+  -- the keys of the entries of a node are known
+  pub known_at : (bytes : KeyBytes) (nodes : Arena (Node N)) (slot : ℕ) → AreHinted bytes (hints_of nodes)
+      → All (IsKnown bytes) (keys_of (entries_at nodes slot))
+  known_at bytes nodes slot all = by_header (header_at nodes slot) (all slot)
+    where
+      by_header : (o : Option (Node N)) → IfSome (option_map hint_of o) (IsHinted bytes)
+          → All (IsKnown bytes) (keys_of (unwrap_or (option_map entries_of o) []))
+      by_header None h = search rules
+      by_header (Some node) h = all_known bytes (hint_of node) h
+
+  -- One slot has another node whose knowledge is right, and all others have the same node or none.
+  pub hinted_put : (bytes : KeyBytes) (old new : Arena (Node N)) (slot : ℕ) (node : Node N) → AreHinted bytes (hints_of old)
+      → header_at new slot ≡ Some node → IsHinted bytes (hint_of node)
+      → ((s : ℕ) → s ≢ slot → record_at new s ≡ record_at old s)
+      → AreHinted bytes (hints_of new)
+  hinted_put bytes old new slot node all is hinted others s =
+      elim (same_or_other s slot) [
+        | inl same ↦ subst (λ o. IfSome (option_map hint_of o) (IsHinted bytes)) (sym is ∙ ap (header_at new) same) hinted
+        | inr other ↦
+            subst (λ o. IfSome (option_map hint_of (option_map (λ r. r.header) o)) (IsHinted bytes)) (sym (others s other)) (all s)
+      ]
+
+  -- One slot has no node any more, and all others have the same.
+  pub hinted_released : (bytes : KeyBytes) (old new : Arena (Node N)) (slot : ℕ) → AreHinted bytes (hints_of old)
+      → new.records ≡ finite.remove old.records slot → ((s : ℕ) → s ≢ slot → record_at new s ≡ record_at old s)
+      → AreHinted bytes (hints_of new)
+  hinted_released bytes old new slot all released others s =
+      let none : record_at new slot ≡ None =
+      ap (λ m. finite.get m slot) released ∙ finite.get-remove nat_cmp_total old.records slot slot
+      ∙ ap (λ b. cond b None (finite.get old.records slot)) (same_number slot slot refl) in
+      elim (same_or_other s slot) [
+        | inl same ↦
+            subst (λ o. IfSome (option_map hint_of (option_map (λ r. r.header) o)) (IsHinted bytes))
+            (sym none ∙ ap (record_at new) same) tt
+        | inr other ↦
+            subst (λ o. IfSome (option_map hint_of (option_map (λ r. r.header) o)) (IsHinted bytes)) (sym (others s other)) (all s)
+      ]

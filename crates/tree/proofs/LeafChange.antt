@@ -1,0 +1,160 @@
+-- The leaf that a probe finds, as it is read, and the keys that it has once it is changed.
+use Rattle.std.proofs.Common.{rules, option_map, unwrap_or, ◌≢◌, ◌≡◌, ℕ, ℤ, zero, suc, ◌≤◌, int_lt, ◌&&◌, Bool, true, false, not, inl, inr, List, [], ◌∷◌, ◌++◌, Some, length, get_or, set, take, drop, filter, map, All, refl, sym, ◌∙◌, ap, subst, arith}
+use Rattle.std.specs.Prelude.{IfSome}
+use Rattle.std.proofs.lemmas.Bool.{cases_Bool}
+use Rattle.std.proofs.lemmas.List.{take_at, drop_at, length-map}
+use Rattle.std.proofs.lemmas.List.Elements.{All-nil, All-cons, All-head, All-tail, All-append}
+use Rattle.std.specs.FinMap as finite
+use Rattle.std.specs.Ordering.{nat_cmp}
+use Rattle.arena.specs.Arena.{Arena, Record, record_at, header_at}
+use Rattle.keyspace.specs.Digest.{digest_of}
+use Rattle.keyspace.specs.Key.{IsBytes}
+use Rattle.tree.specs.declared.entry.Entry.{Entry}
+use Rattle.tree.specs.declared.node.Node.{Node}
+use Rattle.tree.specs.Hints.{KeyBytes, Begins, Hint, IsHinted, AreHinted, digest_behind}
+use Rattle.tree.specs.Item.{Item, item_of}
+use Rattle.tree.specs.Node.{entries_of, hint_of, hints_of, keys_of}
+use Rattle.tree.specs.Path.{IsCut, before_leaf, behind_leaf}
+use Rattle.tree.specs.Subtree.{entries_at, items_in, IsSubtree}
+use Rattle.tree.specs.Tree.{IsTree, thin}
+use Rattle.tree.proofs.Hinted.{hinted_put}
+use Rattle.tree.proofs.KnownKeys.{keys_taken, keys_dropped}
+use Rattle.tree.proofs.Leaves.{IsLeaf}
+use Rattle.tree.proofs.Placing.{entries_from_header}
+use Rattle.tree.proofs.Thinning.{goes, stays}
+
+-- so many entries pass, and the others stand behind them
+pub parted : (p : ℕ → Bool) (es : List Entry) (n : ℕ) → IsCut (λ e. p e.key) es → n ≡ length (filter (λ e. p e.key) es)
+    → (take n es ≡ filter (λ e. p e.key) es) × (drop n es ≡ filter (λ e. not (p e.key)) es)
+parted p es n cut count =
+    let front = filter (λ (e : Entry). p e.key) es in
+    let rest = filter (λ (e : Entry). not (p e.key)) es in
+    (ap (take n) cut ∙ take_at front rest n (sym count), ap (drop n) cut ∙ drop_at front rest n (sym count))
+
+module _ {N : ℕ} where
+  -- the leaf that a probe finds
+  pub leaf_read : (nodes : Arena (Node N)) (height root slot : ℕ) (passes : ℕ → Bool) (node : Node N)
+      → header_at nodes slot ≡ Some node
+      → items_in nodes height root
+      ≡ before_leaf nodes height root passes ++ (map item_of (entries_at nodes slot) ++ behind_leaf nodes height root passes)
+      → All (λ x. passes x.key ≡ true) (before_leaf nodes height root passes)
+      → All (λ x. passes x.key ≡ false) (behind_leaf nodes height root passes)
+      → (filter (λ e. passes e.key) (entries_at nodes slot) ≡ [] → before_leaf nodes height root passes ≡ [])
+      → IsLeaf passes (items_in nodes height root) (before_leaf nodes height root passes) (behind_leaf nodes height root passes)
+      (entries_of node)
+  leaf_read nodes height root slot passes node is items pass fail none =
+      subst
+      (IsLeaf passes (items_in nodes height root) (before_leaf nodes height root passes) (behind_leaf nodes height root passes))
+      (entries_from_header nodes slot node is)
+      (record { items_are = items; pass = pass; fail = fail; none = none })
+
+  -- a root of items has an entry
+  some_at_root : (nodes : Arena (Node N)) (least height slot : ℕ) → IsSubtree nodes least height slot
+      → 1 ≤ length (items_in nodes height slot) → 1 ≤ length (entries_at nodes slot)
+  some_at_root nodes least zero slot h some = omega (arith, some, length-map (entries_at nodes slot) item_of)
+  some_at_root nodes least (suc height) slot h some = h.1
+
+  -- the root of a tree has an entry
+  pub root_some : (nodes : Arena (Node N)) (slot height len room : ℕ) → IsTree nodes slot height len room
+      → 1 ≤ length (entries_at nodes slot)
+  root_some nodes slot height len room t =
+      some_at_root nodes _ height slot t.rooted.subtree (omega (arith, t.some, t.counted))
+
+  -- A node whose keys stay knows as much as before.
+  pub hint_stays : (bytes : KeyBytes) (old new : Node N) (i : ℕ) (d e : Entry)
+      → hint_of new ≡ record (hint_of old) { keys = keys_of (entries_of new) } → entries_of new ≡ set (entries_of old) i e
+      → e.key ≡ (get_or (entries_of old) i d).key → IsHinted bytes (hint_of old) → IsHinted bytes (hint_of new)
+  hint_stays bytes old new i d e hint entries key hinted =
+      let keys : keys_of (entries_of new) ≡ keys_of (entries_of old) = ap keys_of entries ∙ keys_set (entries_of old) i d e key in
+      let with_keys : List ℕ → Hint = λ keys. record (hint_of old) { keys = keys } in
+      subst (IsHinted bytes) (sym (hint ∙ ap with_keys keys)) hinted
+    where
+      keys_set : (es : List Entry) (i : ℕ) (d e : Entry) → e.key ≡ (get_or es i d).key → keys_of (set es i e) ≡ keys_of es
+      keys_set [] i d e same = refl
+      keys_set (x ∷ es) zero d e same = ap (λ k. k ∷ keys_of es) same
+      keys_set (x ∷ es) (suc i) d e same = ap (λ ks. x.key ∷ ks) (keys_set es i d e same)
+
+module _ (P : ℕ → Type 0) where
+  -- what holds of all keys, and of that of an entry, holds of all where it is inserted
+  pub keys_inserted : (es : List Entry) (i : ℕ) (e : Entry) → All P (keys_of es) → P e.key
+      → All P (keys_of (take i es ++ e ∷ drop i es))
+  keys_inserted [] zero e a p = All-cons P e.key [] p a
+  keys_inserted [] (suc i) e a p = All-cons P e.key [] p a
+  keys_inserted (x ∷ es) zero e a p = All-cons P e.key (keys_of (x ∷ es)) p a
+  keys_inserted (x ∷ es) (suc i) e a p =
+      All-cons P x.key (keys_of (take i es ++ e ∷ drop i es)) (All-head P x.key (keys_of es) a)
+      (keys_inserted es i e (All-tail P x.key (keys_of es) a) p)
+
+  abbrev OfItems : List Item → Type 0
+  OfItems items = All (λ (x : Item). P x.key) items
+
+  of_items : (es : List Entry) → All P (keys_of es) → OfItems (map item_of es)
+  of_items [] a = All-nil (λ (x : Item). P x.key)
+  of_items (e ∷ es) a =
+      All-cons (λ (x : Item). P x.key) (item_of e) (map item_of es) (All-head P e.key (keys_of es) a)
+      (of_items es (All-tail P e.key (keys_of es) a))
+
+  of_entries : (es : List Entry) → OfItems (map item_of es) → All P (keys_of es)
+  of_entries [] a = All-nil P
+  of_entries (e ∷ es) a =
+      All-cons P e.key (keys_of es) (All-head (λ (x : Item). P x.key) (item_of e) (map item_of es) a)
+      (of_entries es (All-tail (λ (x : Item). P x.key) (item_of e) (map item_of es) a))
+
+  -- those that stay of a run are some of it
+  some_stay : (edge before : ℤ) (xs : List Item) → OfItems xs → OfItems (thin edge before xs)
+  some_stay edge before [] a = a
+  some_stay edge before (x ∷ xs) a =
+      let I = λ (x : Item). P x.key in
+      let rest = some_stay edge x.version xs (All-tail I x xs a) in
+      elim (cases_Bool (int_lt before edge && int_lt x.version edge)) [
+        | inl t ↦ subst OfItems (sym (goes edge before x xs t).0) rest
+        | inr f ↦
+            subst OfItems (sym (stays edge before x xs f).0)
+            (All-cons I x (thin edge x.version xs) (All-head I x xs a) rest)
+      ]
+
+  -- what holds of all keys holds of those of the entries that stay where a run is thinned
+  pub keys_thinned : (es now : List Entry) (from n to : ℕ) (edge before : ℤ) → All P (keys_of es)
+      → map item_of now ≡ map item_of (take from es)
+      ++ (thin edge before (map item_of (take n (drop from es))) ++ map item_of (drop to es))
+      → All P (keys_of now)
+  keys_thinned es now from n to edge before a is =
+      let I = λ (x : Item). P x.key in
+      let first = of_items (take from es) (keys_taken P es from a) in
+      let looked = map item_of (take n (drop from es)) in
+      let run = of_items (take n (drop from es)) (keys_taken P (drop from es) n (keys_dropped P es from a)) in
+      let rest = of_items (drop to es) (keys_dropped P es to a) in
+      of_entries now (subst OfItems (sym is)
+      (All-append I (map item_of (take from es)) (thin edge before looked ++ map item_of (drop to es)) first
+      (All-append I (thin edge before looked) (map item_of (drop to es)) (some_stay edge before looked run) rest)))
+
+empty_digest : digest_behind 0 [] ≡ 0
+unfolding digest_of
+empty_digest = refl
+
+no_bytes : IsBytes []
+no_bytes = search rules
+
+-- The empty key is known, and its digest is zero: a node that has no other knows it.
+hinted_empty : (bytes : KeyBytes) (key : ℕ) → bytes key ≡ Some []
+    → IsHinted bytes (record { keys = key ∷ []; skip = 0; digests = 0 ∷ [] })
+hinted_empty bytes key empty =
+    let text : unwrap_or (bytes key) [] ≡ [] = ap (λ o. unwrap_or o []) empty in
+    record {
+      beginning = [];
+      skip = refl;
+      begins = All-cons (Begins bytes []) key [] (record { rest = []; known = empty; are_bytes = no_bytes }) (All-nil (Begins bytes []));
+      digests = ap (λ d. d ∷ []) (sym (ap (digest_behind 0) text ∙ empty_digest));
+    }
+
+-- an arena whose only node has the empty key alone
+pub hinted_alone : {N : ℕ} (bytes : KeyBytes) (a b : Arena (Node N)) (slot : ℕ) (node : Node N) (key : ℕ) → a.records ≡ finite.empty
+    → record_at b slot ≡ Some (record { header = node; key = [] }) → ((s : ℕ) → s ≢ slot → record_at b s ≡ record_at a s)
+    → hint_of node ≡ record { keys = key ∷ []; skip = 0; digests = 0 ∷ [] } → bytes key ≡ Some []
+    → AreHinted bytes (hints_of b)
+hinted_alone {N} bytes a b slot node key none is others hint empty =
+    let nothing : AreHinted bytes (hints_of a) = λ s.
+    subst (λ o. IfSome (option_map hint_of (option_map (λ (r : Record (Node N)). r.header) o)) (IsHinted bytes))
+    (sym (ap (λ m. finite.get m s) none ∙ finite.get-empty nat_cmp s)) tt in
+    hinted_put bytes a b slot node nothing (ap (option_map (λ (r : Record (Node N)). r.header)) is)
+    (subst (IsHinted bytes) (sym hint) (hinted_empty bytes key empty)) others

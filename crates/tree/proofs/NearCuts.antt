@@ -1,0 +1,102 @@
+-- Two cuts in one leaf: what is looked for begins alike, and the first one is no farther on.
+use Rattle.std.proofs.Common.{◌≡◌, ◌≢◌, ℕ, ◌<◌, ◌≤◌, Bool, true, false, not, List, [], ◌∷◌, ◌++◌, Option, Some, None, MatchOption, IsTrue, is_some, unwrap_or, length, get_or, slice_get, take, drop, filter, map, refl, sym, ◌∙◌, ap, inl, inr, arith}
+use Rattle.std.specs.Prelude.{IfSome}
+use Rattle.std.specs.List.{All}
+use Rattle.std.proofs.lemmas.Bool.{cases_Bool}
+use Rattle.std.proofs.lemmas.List.{take-take, at_drop_more, at_drop_all}
+use Rattle.std.proofs.lemmas.List.Elements.{All-nil, All-cons}
+use Rattle.std.proofs.lemmas.Option.{slice_get-get_or}
+use Rattle.tree.specs.declared.entry.Entry.{Entry}
+use Rattle.tree.specs.Hints.{KeyBytes, BeginAlike, KnowsAt, Hint, Agrees, IsDigestFor}
+use Rattle.tree.specs.Item.{Item, item_of}
+use Rattle.tree.specs.Node.{keys_of}
+use Rattle.tree.specs.Path.{IsCut, behind, between, first_key}
+use Rattle.tree.proofs.Leaves.{IsLeaf, behind_is}
+use Rattle.tree.proofs.Overwriting.{entries_put, told_between}
+
+-- what begins alike does so as far as fewer bytes
+pub fewer_alike : (fewer n : ℕ) (a b : List ℕ) → fewer ≤ n → take n a ≡ take n b → take fewer a ≡ take fewer b
+fewer_alike fewer n a b le same = sym (take-take fewer n a le) ∙ ap (take fewer) same ∙ take-take fewer n b le
+
+-- The first key of a leaf and what another probe looks for begin alike as far as it is known.
+pub begin_alike : (bytes near : KeyBytes) (passes : ℕ → Bool) (sought other : List ℕ) (es : List Entry)
+    (known : Option ℕ) (n : ℕ) → KnowsAt bytes passes sought known es 0 → n ≤ unwrap_or known 0
+    → take n other ≡ take n sought → ((key : ℕ) → near key ≡ bytes key)
+    → (e : Entry) (text : List ℕ) → slice_get es 0 ≡ Some e → near e.key ≡ Some text → BeginAlike n text other
+begin_alike bytes near passes sought other es None n knows most alike same e text is there count within few =
+    let none : count ≡ 0 = omega arith in
+    ap (λ k. take k text) none ∙ sym (ap (λ k. take k other) none)
+begin_alike bytes near passes sought other es (Some known) n knows most alike same e text is there count within few =
+    let tells = (knows e is).1 text (sym (same e.key) ∙ there) count within in
+    tells.0 (omega (arith, few, most)) ∙ sym (fewer_alike count n other sought few alike)
+
+-- Keys whose bytes begin as what another probe looks for do begin as all keys of the leaf do.
+pub agree : (bytes near : KeyBytes) (hint : Hint) (own other : List ℕ) (shared n : ℕ) (digest : Option ℕ)
+    → ((key : ℕ) → near key ≡ bytes key) → IfSome digest (IsDigestFor near hint other)
+    → IfSome digest (λ _. hint.skip ≤ n) → n ≤ shared → take shared other ≡ take shared own → is_some digest ≡ true
+    → (key : ℕ) → bytes key ≡ Some own → (text : List ℕ) → bytes key ≡ Some text → Agrees bytes hint text
+agree bytes near hint own other shared n None same for short most alike some key is text there =
+    absurd (let t : false ≡ true = some in cc)
+agree bytes near hint own other shared n (Some digest) same for short most alike some key is text there =
+    let a = for.agrees in
+    let e : own ≡ text = let s : Some own ≡ Some text = sym is ∙ there in cc in
+    record {
+      key = a.key;
+      text = a.text;
+      there = a.there;
+      known = sym (same a.key) ∙ a.known;
+      same = a.same ∙ fewer_alike hint.skip shared other own (omega (arith, short, most)) alike ∙ ap (take hint.skip) e;
+    }
+
+-- what holds of both keys holds of those of the entries that are put in
+pub both_put : (P : ℕ → Type 0) (ended : Bool) (first second : Entry) → P first.key → P second.key
+    → All P (keys_of (entries_put ended first second))
+both_put P true first second p q = All-cons P first.key [] p (All-nil P)
+both_put P false first second p q =
+    All-cons P first.key (second.key ∷ []) p (All-cons P second.key [] q (All-nil P))
+
+-- no more pass the first cut than the second
+pub no_more : (p q : ℕ → Bool) → ((key : ℕ) → p key ≡ true → q key ≡ true) → (es : List Entry)
+    → length (filter (λ e. p e.key) es) ≤ length (filter (λ e. q e.key) es)
+no_more p q nested [] = omega arith
+no_more p q nested (e ∷ es) =
+    let i = no_more p q nested es in
+    elim (cases_Bool (p e.key)) [
+      | inl t ↦ let u = nested e.key t in rw (t, u) (omega (arith, i))
+      | inr f ↦
+          elim (cases_Bool (q e.key)) [
+            | inl t ↦ rw (f, t) (omega (arith, i))
+            | inr n ↦ rw (f, n) (omega (arith, i))
+          ]
+    ]
+
+module _ (q r : ℕ → Bool) (items before after : List Item) (es : List Entry) (leaf : IsLeaf q items before after es)
+    (cut : IsCut (λ x. q x.key) items) (past : IsCut (λ x. r x.key) items) (end : ℕ)
+    (others : drop end es ≡ filter (λ e. not (q e.key)) es) (ended : Bool) where
+  behind_end : behind q items ≡ map item_of (drop end es) ++ after
+  behind_end = behind_is q items before after es leaf ∙ ap (λ xs. map item_of xs ++ after) (sym others)
+
+  -- The next entry of the leaf tells whether an item stands between the cuts.
+  pub next_in_leaf : end < length es → ((e : Entry) → slice_get es end ≡ Some e → ended ≡ r e.key)
+      → (IsTrue ended → between (Some q) (Some r) items ≢ []) × (between (Some q) (Some r) items ≢ [] → IsTrue ended)
+  next_in_leaf within tells = by_entries es within refl
+    where
+      by_entries : (xs : List Entry) → end < length xs → xs ≡ es
+          → (IsTrue ended → between (Some q) (Some r) items ≢ []) × (between (Some q) (Some r) items ≢ [] → IsTrue ended)
+      by_entries [] lt same = absurd (omega arith)
+      by_entries (d ∷ xs) lt same =
+          let e = get_or es end d in
+          let key : Some e.key ≡ first_key None (behind q items) =
+          sym (ap (first_key None) behind_end
+          ∙ at_drop_more (λ ys. first_key None (map item_of ys ++ after)) es end d within) in
+          told_between q r items (Some e.key) (λ k. ended ≡ r k) ended cut past key
+          (tells e (slice_get-get_or es end d within)) (λ k h. h)
+
+  -- Where there is none, the first item behind the leaf does.
+  pub next_behind : length es ≤ end → (key : Option ℕ) (post : ℕ → Type 0) → key ≡ first_key None after
+      → MatchOption key (ended ≡ false) post → ((k : ℕ) → post k → ended ≡ r k)
+      → (IsTrue ended → between (Some q) (Some r) items ≢ []) × (between (Some q) (Some r) items ≢ [] → IsTrue ended)
+  next_behind all key post is tested says =
+      let same : behind q items ≡ after =
+      behind_end ∙ at_drop_all (λ ys. map item_of ys ++ after) es end all in
+      told_between q r items key post ended cut past (is ∙ ap (first_key None) (sym same)) tested says

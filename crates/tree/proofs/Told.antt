@@ -1,0 +1,196 @@
+-- What a search by hints tells of the items before a cut, of those before another cut the last alone.
+use Rattle.std.proofs.Common.{◌≡◌, ℕ, zero, suc, ◌+◌, ◌-◌, ◌<◌, ◌≤◌, Bool, true, false, List, [], ◌∷◌, ◌++◌, Option, Some, IfSome, IsTrue, ◌↔◌, length, get_or, slice_get, take, drop, filter, flat_map, map, All, refl, sym, ◌∙◌, ap, subst, inl, inr, arith, append-nil, append_assoc, length-append}
+use Rattle.std.specs.Prelude.{ℤ, ◌<ℤ◌, ◌≤ℤ◌, slice_range, Any}
+use Rattle.std.proofs.Math.Seq.{drop-append-add}
+use Rattle.std.proofs.lemmas.Bool.{cases_Bool}
+use Rattle.std.proofs.lemmas.Grind.{flat_map-append}
+use Rattle.std.proofs.lemmas.List.{length-map}
+use Rattle.std.proofs.lemmas.List.Elements.{All-nil, All-head, All-tail, All-weaker, filter-append}
+use Rattle.arena.specs.Arena.{Arena}
+use Rattle.tree.specs.declared.entry.Entry.{Entry}
+use Rattle.tree.specs.declared.node.Node.{Node}
+use Rattle.tree.specs.Item.{Item, Tells, item_of}
+use Rattle.tree.specs.Path.{IsCut, from_last}
+use Rattle.tree.specs.Subtree.{items_in}
+use Rattle.tree.proofs.Above.{IsAbove, none_above, part_above, leaf_above}
+use Rattle.tree.proofs.Cuts.{All-front, not_both, none_pass, none_fail, IsCut-parts, rest_fails}
+use Rattle.tree.proofs.FromLast.{from_last_of, leaf_from_last, none_told}
+use Rattle.tree.proofs.Keys.{filter-items}
+use Rattle.tree.proofs.Looks.{IsLook, look_items}
+use Rattle.tree.proofs.Ways.{around_element}
+
+-- those that pass, where all before a part and none behind it does
+filter_around : {X : Type 0} (p : X → Bool) (a c b : List X) → All (λ x. p x ≡ true) a
+    → All (λ x. p x ≡ false) b → filter p (a ++ (c ++ b)) ≡ a ++ filter p c
+filter_around p a c b t f =
+    filter-append p a (c ++ b)
+    ∙ ap (λ ys. ys ++ filter p (c ++ b)) (none_fail p a t).0
+    ∙ ap (λ ys. a ++ ys)
+    (filter-append p c b ∙ ap (λ ys. filter p c ++ ys) (none_pass p b f).0 ∙ append-nil (filter p c))
+
+module _ {X : Type 0} (p q : X → Bool) (n : (x : X) → p x ≡ true → q x ≡ true) where
+  none_of_fewer : (xs : List X) → All (λ x. q x ≡ false) xs → All (λ x. p x ≡ false) xs
+  none_of_fewer xs a = All-weaker (λ x. q x ≡ false) (λ x. p x ≡ false) fewer xs a
+    where
+      fewer : (x : X) → q x ≡ false → p x ≡ false
+      fewer x f =
+          elim (cases_Bool (p x)) [ inl t ↦ absurd (not_both (q x) (n x t) f) | inr h ↦ h ]
+
+  -- From the last one before the first cut to the second one, where one of a part passes, all before it do, and none behind
+  -- it is before the second cut.
+  from_last_part : (a c b : List X) → All (λ x. p x ≡ true) a → 1 ≤ length (filter p c)
+      → All (λ x. q x ≡ false) b → from_last_of p q (a ++ (c ++ b)) ≡ from_last_of p q c
+  from_last_part a c b before some behind =
+      let whole = a ++ (c ++ b) in
+      let ps = filter_around p a c b before (none_of_fewer b behind) in
+      let qs = filter_around q a c b (All-weaker (λ x. p x ≡ true) (λ x. q x ≡ true) n a before) behind in
+      let count : length (a ++ filter p c) - 1 ≡ length a + (length (filter p c) - 1) =
+      omega (arith, some, length-append a (filter p c)) in
+      ap (λ ys. drop (length ys - 1) (filter q whole)) ps
+      ∙ ap (drop (length (a ++ filter p c) - 1)) qs
+      ∙ ap (λ k. drop k (a ++ filter q c)) count
+      ∙ drop-append-add a (filter q c) (length (filter p c) - 1)
+
+-- None of these passes the cut.
+abbrev AllFail : (ℕ → Bool) → List Item → Type 0
+AllFail passes items = All (λ x. passes x.key ≡ false) items
+
+-- What is told of some items, whatever stands before them, and behind them items that don't pass the second cut if `clear` holds.
+abbrev pub IsTold : (ℕ → Bool) → (ℕ → Bool) → ℤ → Bool → List Item → Option Bool → Type 0
+IsTold p q v clear items result =
+    (before after : List Item) → (IsTrue clear → All (λ x. q x.key ≡ false) after)
+    → IsCut (λ x. p x.key) (before ++ (items ++ after)) → IsCut (λ x. q x.key) (before ++ (items ++ after))
+    → IfSome result (λ told. IsTrue told ↔ IsAbove v (from_last p (Some q) (before ++ (items ++ after))))
+
+-- that `next` tells of some items and those behind them that none passes, where `clear` tells it of those behind
+abbrev pub Clears : (ℕ → Bool) → Bool → Bool → List Item → Type 0
+Clears q clear next back =
+    (after : List Item) → (IsTrue clear → All (λ x. q x.key ≡ false) after) → IsCut (λ x. q x.key) (back ++ after)
+    → IsTrue next → All (λ x. q x.key ≡ false) (back ++ after)
+
+-- No item of these children passes if the first entry doesn't.
+pub clears_behind : (q : ℕ → Bool) (below : Entry → List Item) (es : List Entry) (i : ℕ) (clear next : Bool)
+    → All (λ e. Tells e (below e)) es → i < length es
+    → ((e : Entry) → slice_get es i ≡ Some e → next ≡ true → q e.key ≡ false)
+    → Clears q clear next (flat_map below (drop i es))
+clears_behind q below [] i clear next tell inside fails = absurd (omega arith)
+clears_behind q below (e ∷ es) zero clear next tell inside fails = λ after k cut t.
+    let h = All-head (λ e. Tells e (below e)) e es tell in
+    let rest = flat_map below es in
+    let same : (below e ++ rest) ++ after ≡ h.first ∷ (h.others ++ rest) ++ after =
+    ap (λ xs. (xs ++ rest) ++ after) h.items_are in
+    let first : q h.first.key ≡ false = subst (λ k. q k ≡ false) h.key (fails e refl t) in
+    subst (AllFail q) (sym same)
+    (rest_fails (λ (x : Item). q x.key) h.first ((h.others ++ rest) ++ after)
+    (subst (IsCut (λ (x : Item). q x.key)) same cut) first)
+clears_behind q below (e ∷ es) (suc i) clear next tell inside fails =
+    clears_behind q below es i clear next (All-tail (λ e. Tells e (below e)) e es tell) (omega arith) fails
+
+-- Where there are none, it is the same.
+pub clears_same : (q : ℕ → Bool) (below : Entry → List Item) (es : List Entry) (i : ℕ) (clear next : Bool) → length es ≤ i
+    → next ≡ clear → Clears q clear next (flat_map below (drop i es))
+clears_same q below [] zero clear next le same = λ after k cut t. k (sym same ∙ t)
+clears_same q below [] (suc i) clear next le same = λ after k cut t. k (sym same ∙ t)
+clears_same q below (d ∷ es) zero clear next le same = absurd (omega arith)
+clears_same q below (d ∷ es) (suc i) clear next le same = clears_same q below es i clear next (omega arith) same
+
+module _ (p q : ℕ → Bool) (v : ℤ) (n : (key : ℕ) → p key ≡ true → q key ≡ true) where
+  regroup : (before front part back after : List Item)
+      → before ++ ((front ++ (part ++ back)) ++ after) ≡ (before ++ front) ++ (part ++ (back ++ after))
+  regroup before front part back after = simp append_assoc
+
+  -- What is told of a part is told of the whole.
+  pub told_wider : (items front part back : List Item) (clear next : Bool) (result : Option Bool)
+      → items ≡ front ++ (part ++ back) → Clears q clear next back → IsTold p q v next part result
+      → IsTold p q v clear items result
+  told_wider items front part back clear next result parts clears told before after k c d =
+      let same : before ++ (items ++ after) ≡ (before ++ front) ++ (part ++ (back ++ after)) =
+      ap (λ xs. before ++ (xs ++ after)) parts ∙ regroup before front part back after in
+      let cp = subst (IsCut (λ (x : Item). p x.key)) same c in
+      let cq = subst (IsCut (λ (x : Item). q x.key)) same d in
+      let rest = (IsCut-parts (λ (x : Item). q x.key) (before ++ front) (part ++ (back ++ after)) cq).1 in
+      let last = (IsCut-parts (λ (x : Item). q x.key) part (back ++ after) rest).1 in
+      subst (λ xs. IfSome result (λ told. IsTrue told ↔ IsAbove v (from_last p (Some q) xs))) (sym same)
+      (told (before ++ front) (back ++ after) (clears after k last) cp cq)
+
+  -- Where some items pass the first cut and none behind them passes the second one, the others don't count.
+  told_part : (part : List Item) (clear b : Bool) → 1 ≤ length (filter (λ x. p x.key) part)
+      → ((after : List Item) → (IsTrue clear → AllFail q after) → IsCut (λ x. q x.key) (part ++ after) → AllFail q after)
+      → (IsTrue b ↔ IsAbove v (from_last_of (λ x. p x.key) (λ x. q x.key) part)) → IsTold p q v clear part (Some b)
+  told_part part clear b some behind answer before after k c d =
+      let front : All (λ (x : Item). p x.key ≡ true) before =
+      elim (IsCut-parts (λ (x : Item). p x.key) before (part ++ after) c).2 [
+        | inl all ↦ all
+        | inr fail ↦
+            let z = none_pass (λ (x : Item). p x.key) part (All-front (λ (x : Item). p x.key ≡ false) part after fail) in
+            absurd (omega (arith, some, ap length z.0))
+      ] in
+      let rest = (IsCut-parts (λ (x : Item). q x.key) before (part ++ after) d).1 in
+      part_above v b (from_last p (Some q) (before ++ (part ++ after)))
+      (from_last_of (λ x. p x.key) (λ x. q x.key) part)
+      (from_last_part (λ (x : Item). p x.key) (λ (x : Item). q x.key) (λ x. n x.key) before part after front some
+      (behind after k rest)) answer
+
+  -- what is told of all items
+  pub told_of_all : (items : List Item) (b : Bool) → IsTold p q v true items (Some b) → IsCut (λ x. p x.key) items
+      → IsCut (λ x. q x.key) items → (IsTrue b ↔ IsAbove v (from_last p (Some q) items))
+  told_of_all items b told c d =
+      let same : items ≡ items ++ [] = sym (append-nil items) in
+      part_above v b (from_last p (Some q) items) (from_last p (Some q) (items ++ [])) (ap (from_last p (Some q)) same)
+      (told [] [] (λ _. All-nil (λ (x : Item). q x.key ≡ false)) (subst (IsCut (λ (x : Item). p x.key)) same c)
+      (subst (IsCut (λ (x : Item). q x.key)) same d))
+
+  -- what an entry tells whose version isn't above it
+  pub told_by_entry : (e : Entry) (part : List Item) (clear b : Bool) → Tells e part → p e.key ≡ true → clear ≡ true
+      → b ≡ false → e.version ≤ℤ v → IsTold p q v clear part (Some b)
+  told_by_entry e part clear b t passes c f le =
+      let first : p t.first.key ≡ true = subst (λ k. p k ≡ true) t.key passes in
+      let one : filter (λ (x : Item). p x.key) part ≡ t.first ∷ filter (λ (x : Item). p x.key) t.others =
+      ap (filter (λ (x : Item). p x.key)) t.items_are ∙ rw first refl in
+      told_part part clear b (omega (arith, ap length one)) (λ after k d. k c)
+      (none_above v b (from_last_of (λ x. p x.key) (λ x. q x.key) part) f
+      (none_told v e part t le (λ x. p x.key) (λ x. q x.key)))
+
+-- below a node
+module _ {N : ℕ} (nodes : Arena (Node N)) (least height slot : ℕ) (p q : ℕ → Bool) (es : List Entry)
+    (begin end : ℕ) (k : IsLook nodes least height slot p q es begin end) (v : ℤ) (clear : Bool) where
+  -- what the entries of a leaf tell
+  pub told_by_leaf : (b : Bool) → height ≡ 0 → 1 ≤ begin → (end ≡ length es → clear ≡ true)
+      → (IsTrue b ↔ Any (λ e. v <ℤ e.version) (slice_range es (begin - 1) end))
+      → IsTold p q v clear (items_in nodes height slot) (Some b)
+  told_by_leaf b z some all answer =
+      let at : items_in nodes height slot ≡ map item_of es =
+      ap (λ n. items_in nodes n slot) z ∙ ap (map item_of) k.read in
+      let counted = counts at in
+      told_part p q v k.nested (items_in nodes height slot) clear b (let c = counted p in let i = k.begin_is in omega arith)
+      (λ after clears cut. elim (IsCut-parts (λ (x : Item). q x.key) (items_in nodes height slot) after cut).2 [
+        | inl pass ↦
+            let whole = (none_fail (λ (x : Item). q x.key) (items_in nodes height slot) pass).0 in
+            let c = counted q in
+            let i = k.end_is in
+            clears (all (omega (arith, c, i, ap length whole, ap length at, length-map es item_of)))
+        | inr fail ↦ fail
+      ])
+      (leaf_above v b _ (slice_range es (begin - 1) end) (leaf_from_last nodes least height slot p q es begin end k z (begin - 1) refl)
+      answer)
+    where
+      counts : items_in nodes height slot ≡ map item_of es → (f : ℕ → Bool)
+          → length (filter (λ x. f x.key) (items_in nodes height slot)) ≡ length (filter (λ e. f e.key) es)
+      counts at f =
+          ap (λ xs. length (filter (λ (x : Item). f x.key) xs)) at ∙ ap length (filter-items (λ (x : Item). f x.key) es)
+          ∙ length-map (filter (λ (e : Entry). f e.key) es) item_of
+
+  -- What is told of the items of a child is told of those of the node.
+  pub told_by_child : (height ≡ 0 → ⊥) → (i : ℕ) (e : Entry) → i < length es → e ≡ get_or es i e → (next : Bool)
+      (result : Option Bool) → Clears q clear next (flat_map (λ e. items_in nodes (height - 1) e.child) (drop (i + 1) es))
+      → IsTold p q v next (items_in nodes (height - 1) e.child) result
+      → IsTold p q v clear (items_in nodes height slot) result
+  told_by_child some i e inside is next result clears told =
+      let below = λ (e : Entry). items_in nodes (height - 1) e.child in
+      let parts : items_in nodes height slot ≡ flat_map below (take i es) ++ (below e ++ flat_map below (drop (i + 1) es)) =
+      look_items nodes least height slot p q es begin end k some
+      ∙ ap (flat_map below) (around_element es i e inside)
+      ∙ flat_map-append below (take i es) (get_or es i e ∷ drop (i + 1) es)
+      ∙ ap (λ x. flat_map below (take i es) ++ (below x ++ flat_map below (drop (i + 1) es))) (sym is) in
+      told_wider p q v k.nested (items_in nodes height slot) (flat_map below (take i es)) (below e)
+      (flat_map below (drop (i + 1) es)) clear next result parts clears told

@@ -1,0 +1,322 @@
+use Rattle.std.proofs.Common.{rules, ◌≡◌, ◌≤◌, ◌<◌, All, ℕ, ◌+◌, ◌-◌, false, List, length, filter, flat_map, drop, slice_get, Some, refl, sym, ap, subst, ◌∙◌, w64, arith}
+use Rattle.std.proofs.lemmas.Int.{to_z-of_z}
+use Rattle.std.proofs.lemmas.Option.{slice_get_read}
+use mir.Val.{SFits}
+use Rattle.tree.specs.declared.entry.Entry.{Entry}
+use Rattle.tree.specs.Hints.{IsHinted, KnowsAt, BeginAlike}
+use Rattle.tree.specs.Item.{Tells}
+use Rattle.tree.specs.Node.{entries_of, hint_of}
+use Rattle.tree.specs.Path.{IsCut}
+use Rattle.tree.specs.Subtree.{entries_at, items_in, IsChild, IsSubtree}
+use Rattle.tree.specs.Tree.{least_of}
+use Rattle.tree.proofs.Above.{not_above_tested}
+use Rattle.tree.proofs.Cuts.{not_true}
+use Rattle.tree.proofs.Found.{entries_read}
+use Rattle.tree.proofs.Hinted.{hint_kept, hinted_at}
+use Rattle.tree.proofs.Looks.{IsLook, look_cut, look_ordered, look_tell, child_from, child_to}
+use Rattle.tree.proofs.Told.{Clears, clears_behind, clears_same, told_by_child, told_by_entry, told_by_leaf}
+use Rattle.tree.proofs.ToldKeys.{alike_for_other, some_pass, last_passes}
+use Rattle.tree.proofs.FirstKeys.{child_at, knows_child}
+use Rattle.tree.proofs.descent.+told.Given.{Over}
+use Rattle.tree.proofs.descent.+told.Goals as goal
+use Rattle.tree.proofs.descent.+told.Goals.{
+  After-min,
+  After-count_on-end,
+  After-index-entries-step,
+  then-next-entries,
+  else-next-entries,
+  else-end-entries-via-then-end-entries+else-not-clear,
+  else-end-entries-via-else-end-entries,
+}
+
+-- the entries that the code has read
+read : (g : Over) (t : ℕ) (c : After-min g t) → entries_at c.args.nodes.now c.args.slot ≡ c.entries-entries.result.now
+read g t c =
+    entries_read c.args.nodes.now c.args.slot c.header_ref-node.result.now c.entries-entries.result.now
+    c.header_ref-node.ensures.header c.entries-entries.ensures.entries
+
+-- the two cuts of the node
+look : (g : Over) (t : ℕ) (c : After-min g t) (begin end : ℕ)
+    → begin ≡ length (filter (λ e. g.P.Probe.lets_pass c.args.from.now e.key) c.entries-entries.result.now)
+    → end ≡ length (filter (λ e. g.Q.Probe.lets_pass c.args.to.now e.key) c.entries-entries.result.now)
+    → IsLook c.args.nodes.now (least_of g.row.N) c.args.height c.args.slot (g.P.Probe.lets_pass c.args.from.now)
+    (g.Q.Probe.lets_pass c.args.to.now) c.entries-entries.result.now begin end
+look g t c begin end b e = record {
+  subtree = c.requires.subtree;
+  from = c.requires.from;
+  to = c.requires.to;
+  nested = c.requires.nested;
+  read = read g t c;
+  begin_is = b;
+  end_is = e;
+}
+
+some : (g : Over) (t : ℕ) (c : After-min g t) → 1 ≤ length c.entries-entries.result.now
+some g t c = subst (λ (es : List Entry). 1 ≤ length es) (read g t c) c.requires.some
+
+knows : (g : Over) (t : ℕ) (c : After-min g t)
+    → KnowsAt (g.P.Probe.bytes c.args.from.now) (g.P.Probe.lets_pass c.args.from.now) (g.P.Probe.sought c.args.from.now)
+    (Some c.args.known) c.entries-entries.result.now 0
+knows g t c =
+    subst
+    (λ es. KnowsAt (g.P.Probe.bytes c.args.from.now) (g.P.Probe.lets_pass c.args.from.now) (g.P.Probe.sought c.args.from.now)
+    (Some c.args.known) es 0) (read g t c) c.requires.known
+
+passes : (g : Over) (t : ℕ) (c : After-min g t)
+    → 1 ≤ length (filter (λ e. g.P.Probe.lets_pass c.args.from.now e.key) c.entries-entries.result.now)
+passes g t c =
+    some_pass (g.P.Probe.lets_pass c.args.from.now) c.entries-entries.result.now (some g t c)
+    (λ e is. (knows g t c e is).0)
+
+hinted : (g : Over) (t : ℕ) (c : After-min g t)
+    → IsHinted (g.P.Probe.bytes c.args.from.now) (hint_of c.header_ref-node.result.now)
+hinted g t c =
+    hinted_at (g.P.Probe.bytes c.args.from.now) c.args.nodes.now c.args.slot c.header_ref-node.result.now c.requires.hinted
+    c.header_ref-node.ensures.header
+
+-- the other probe knows the same bytes
+hinted_too : (g : Over) (t : ℕ) (c : After-min g t)
+    → IsHinted (g.Q.Probe.bytes c.args.to.now) (hint_of c.header_ref-node.result.now)
+hinted_too g t c =
+    hint_kept (g.P.Probe.bytes c.args.from.now) (g.Q.Probe.bytes c.args.to.now) (λ key text is. sym (c.requires.bytes key) ∙ is)
+    (hint_of c.header_ref-node.result.now) (hinted g t c)
+
+cut_from : (g : Over) (t : ℕ) (c : After-min g t)
+    → IsCut (λ e. g.P.Probe.lets_pass c.args.from.now e.key) c.entries-entries.result.now
+cut_from g t c =
+    look_cut c.args.nodes.now (least_of g.row.N) c.args.height c.args.slot (g.P.Probe.lets_pass c.args.from.now)
+    c.header_ref-node.result.now c.entries-entries.result.now c.requires.subtree c.requires.from
+    c.header_ref-node.ensures.header c.entries-entries.ensures.entries
+
+cut_to : (g : Over) (t : ℕ) (c : After-min g t)
+    → IsCut (λ e. g.Q.Probe.lets_pass c.args.to.now e.key) c.entries-entries.result.now
+cut_to g t c =
+    look_cut c.args.nodes.now (least_of g.row.N) c.args.height c.args.slot (g.Q.Probe.lets_pass c.args.to.now)
+    c.header_ref-node.result.now c.entries-entries.result.now c.requires.subtree c.requires.to
+    c.header_ref-node.ensures.header c.entries-entries.ensures.entries
+
+-- what is asked of the search in a node
+asked : (g : Over) (t : ℕ) (c : After-min g t) → record {
+  hinted : IsHinted (g.P.Probe.bytes c.args.from.now) (hint_of c.header_ref-node.result.now);
+  cut : IsCut (λ e. g.P.Probe.lets_pass c.args.from.now e.key) (entries_of c.header_ref-node.result.now);
+  some : 1 ≤ length (entries_of c.header_ref-node.result.now);
+  known : KnowsAt (g.P.Probe.bytes c.args.from.now) (g.P.Probe.lets_pass c.args.from.now)
+      (g.P.Probe.sought c.args.from.now) (Some c.args.known) (entries_of c.header_ref-node.result.now) 0;
+}
+asked g t c =
+    let is = c.entries-entries.ensures.entries in
+    record {
+      hinted = hinted g t c;
+      cut = subst (IsCut (λ (e : Entry). g.P.Probe.lets_pass c.args.from.now e.key)) is (cut_from g t c);
+      some = subst (λ (es : List Entry). 1 ≤ length es) is (some g t c);
+      known = subst
+          (λ es. KnowsAt (g.P.Probe.bytes c.args.from.now) (g.P.Probe.lets_pass c.args.from.now)
+          (g.P.Probe.sought c.args.from.now) (Some c.args.known) es 0) is (knows g t c);
+    }
+
+pub digest_for-digest-requires : goal.digest_for-digest-requires
+digest_for-digest-requires g t c =
+    let at = (goal.at.digest_for-digest-requires g t c).After-min in
+    let is = c.entries-entries.ensures.entries in
+    let alike = λ (e : Entry) (text : List ℕ) (there : slice_get c.entries-entries.result.now 0 ≡ Some e)
+    (known : g.Q.Probe.bytes c.args.to.now e.key ≡ Some text).
+    subst (λ n. BeginAlike n text (g.Q.Probe.sought c.args.to.now)) (sym c.min.ensures)
+    (alike_for_other c.args.known c.args.shared text (g.P.Probe.sought c.args.from.now) (g.Q.Probe.sought c.args.to.now)
+    ((knows g t at e there).1 text (c.requires.bytes e.key ∙ known)) c.requires.shared) in (
+      search rules,
+      (
+        hinted_too g t at,
+        (
+          (asked g t at).some,
+          subst
+              (λ es. (e : Entry) (text : List ℕ) → slice_get es 0 ≡ Some e → g.Q.Probe.bytes c.args.to.now e.key ≡ Some text
+              → BeginAlike c.min.result text (g.Q.Probe.sought c.args.to.now)) is alike,
+        ),
+      ),
+    )
+
+pub count-begin-requires : goal.count-begin-requires
+count-begin-requires g t c =
+    let a = asked g t (goal.at.count-begin-requires g t c).After-min in
+    (search rules, (a.hinted, (a.cut, (a.some, a.known))))
+
+pub step-step-requires : goal.step-step-requires
+step-step-requires g t c =
+    let a = asked g t (goal.at.step-step-requires g t c).After-min in
+    (search rules, (a.hinted, (a.cut, (a.some, a.known))))
+
+pub count_on-end-requires : goal.count_on-end-requires
+count_on-end-requires g t c =
+    let at = (goal.at.count_on-end-requires g t c).After-min in
+    let is = c.entries-entries.ensures.entries in
+    let le = look_ordered _ _ _ _ _ _ _ _ _ (look g t at _ _ refl refl) in
+    let most : c.count-begin.result
+    ≤ length (filter (λ e. g.Q.Probe.lets_pass c.args.to.now e.key) (entries_of c.header_ref-node.result.now)) =
+    rw is at (subst (λ n. n ≤ length (filter (λ (e : Entry). g.Q.Probe.lets_pass c.args.to.now e.key) c.entries-entries.result.now))
+    (sym (rw (sym is) at c.count-begin.ensures.count)) le) in (
+      search rules,
+      (
+        hinted_too g t at,
+        (
+          subst (IsCut (λ (e : Entry). g.Q.Probe.lets_pass c.args.to.now e.key)) is (cut_to g t at),
+          (c.digest_for-digest.ensures.digest, most),
+        ),
+      ),
+    )
+
+-- the two cuts of a leaf
+leaf : (g : Over) (t : ℕ) (c : After-count_on-end g t)
+    → IsLook c.args.nodes.now (least_of g.row.N) c.args.height c.args.slot (g.P.Probe.lets_pass c.args.from.now)
+    (g.Q.Probe.lets_pass c.args.to.now) c.entries-entries.result.now c.count-begin.result c.count_on-end.result
+leaf g t c =
+    let is = c.entries-entries.ensures.entries in
+    record {
+      subtree = c.requires.subtree;
+      from = c.requires.from;
+      to = c.requires.to;
+      nested = c.requires.nested;
+      read = entries_read c.args.nodes.now c.args.slot c.header_ref-node.result.now c.entries-entries.result.now
+          c.header_ref-node.ensures.header is;
+      begin_is = c.count-begin.ensures.count
+          ∙ ap (λ es. length (filter (λ (e : Entry). g.P.Probe.lets_pass c.args.from.now e.key) es)) (sym is);
+      end_is = c.count_on-end.ensures.count
+          ∙ ap (λ es. length (filter (λ (e : Entry). g.Q.Probe.lets_pass c.args.to.now e.key) es)) (sym is);
+    }
+
+pub slice_bounds-any_above-count : goal.slice_bounds-any_above-count
+slice_bounds-any_above-count g t c =
+    let le = look_ordered _ _ _ _ _ _ _ _ _ (leaf g t (goal.at.slice_bounds-any_above-count g t c).After-count_on-end) in
+    omega (arith, le)
+
+pub slice_bounds-any_above-start : goal.slice_bounds-any_above-start
+slice_bounds-any_above-start g t c =
+    let le = look_ordered _ _ _ _ _ _ _ _ _ (leaf g t (goal.at.slice_bounds-any_above-start g t c).After-count_on-end) in
+    let less : c.count-begin.result - 1 ≤ c.count_on-end.result = omega (arith, le) in
+    search rules
+
+pub returns-then-height-eq0 : goal.returns-then-height-eq0
+returns-then-height-eq0 g t c =
+    let k = leaf g t (goal.at.returns-then-height-eq0 g t c).After-count_on-end in
+    let least = passes g t (goal.at.returns-then-height-eq0 g t c).After-min in
+    let said = rw (to_z-of_z w64 c.args.version c.ranges.version) at c.any_above.ensures.above in
+    record {
+      told = told_by_leaf _ _ _ _ _ _ _ _ _ k c.args.version c.args.clear c.any_above.result c.if-height-eq0.true
+          (omega (arith, least, k.begin_is))
+          (λ all. elim c.else-end-entries.branch [
+            | else-end-entries-via-then-end-entries+else-not-clear w ↦ w.if-not-clear.false
+            | else-end-entries-via-else-end-entries w ↦ absurd (w.if-end-entries.false all)
+          ]) said;
+    }
+
+-- the entry at which the search goes on is one of them
+within : (g : Over) (t : ℕ) (c : After-index-entries-step g t) → c.step-step.result.index < length c.entries-entries.result.now
+within g t c =
+    subst (λ (es : List Entry). c.step-step.result.index < length es) (sym c.entries-entries.ensures.entries)
+    c.step-step.ensures.within
+
+-- its child
+child : (g : Over) (t : ℕ) (c : After-index-entries-step g t)
+    → IsChild c.args.nodes.now (least_of g.row.N) (c.args.height - 1)
+    (IsSubtree c.args.nodes.now (least_of g.row.N) (c.args.height - 1)) c.index-entries-step.result
+child g t c =
+    child_at c.args.nodes.now (least_of g.row.N) c.args.height c.args.slot c.entries-entries.result.now
+    c.step-step.result.index c.index-entries-step.result c.if-height-eq0.false c.requires.subtree
+    (entries_read c.args.nodes.now c.args.slot c.header_ref-node.result.now c.entries-entries.result.now
+    c.header_ref-node.ensures.header c.entries-entries.ensures.entries) (within g t c) c.index-entries-step.is
+
+-- what is told of the items behind the child
+behind : (g : Over) (t : ℕ) (c : After-index-entries-step g t)
+    → All (λ e. Tells e (items_in c.args.nodes.now (c.args.height - 1) e.child)) c.entries-entries.result.now
+    → Clears (g.Q.Probe.lets_pass c.args.to.now) c.args.clear c.if-next-entries.clear
+    (flat_map (λ e. items_in c.args.nodes.now (c.args.height - 1) e.child)
+    (drop (c.step-step.result.index + 1) c.entries-entries.result.now))
+behind g t c tell =
+    let q = g.Q.Probe.lets_pass c.args.to.now in
+    let below = λ (e : Entry). items_in c.args.nodes.now (c.args.height - 1) e.child in
+    let es = c.entries-entries.result.now in
+    let next = c.step-step.result.index + 1 in
+    elim c.if-next-entries.branch [
+      | then-next-entries w ↦
+          clears_behind q below es next c.args.clear c.if-next-entries.clear tell w.if-next-entries.true
+          (λ e there t.
+          sym (w.passes_at.ensures.passes e (subst (λ es. slice_get es next ≡ Some e) c.entries-entries.ensures.entries there))
+          ∙ not_true w.passes_at.result (sym w.clear-is ∙ t))
+      | else-next-entries w ↦
+          clears_same q below es next c.args.clear c.if-next-entries.clear w.if-next-entries.false w.clear-is
+    ]
+
+pub told-requires : goal.told-requires
+told-requires g t c κs within_lives =
+    let at = (goal.at.told-requires g t c).After-index-entries-step in
+    let k = look g t (goal.at.told-requires g t c).After-min _ _ refl refl in
+    let e = c.index-entries-step.result in
+    let i = c.step-step.result.index in
+    let node = child g t at in
+    let inside = within g t at in
+    let is = c.index-entries-step.is in
+    let es = c.entries-entries.result.now in
+    let there : slice_get es i ≡ Some e = slice_get_read es (length es) i e refl inside is in
+    let knows = knows_child c.args.nodes.now (least_of g.row.N) (c.args.height - 1) e e.child (g.P.Probe.bytes c.args.from.now)
+    (g.P.Probe.lets_pass c.args.from.now) (g.P.Probe.sought c.args.from.now) c.step-step.result.known node refl
+    (c.step-step.ensures.known e (subst (λ es. slice_get es i ≡ Some e) c.entries-entries.ensures.entries there)) in (
+      search rules,
+      (
+        search rules,
+        (
+          search rules,
+          (
+            search rules,
+            (
+              search rules,
+              (
+                node.subtree,
+                (
+                  omega (arith, node.filled),
+                  (
+                    child_from _ _ _ _ _ _ _ _ _ k c.if-height-eq0.false i e inside is,
+                    (
+                      child_to _ _ _ _ _ _ _ _ _ k c.if-height-eq0.false i e inside is,
+                      (c.requires.nested, (c.requires.hinted, (rw c.in_ok-step.was at knows, (c.requires.shared, c.requires.bytes)))),
+                    ),
+                  ),
+                ),
+              ),
+            ),
+          ),
+        ),
+      ),
+    )
+
+pub returns-then-entry-version : goal.returns-then-entry-version
+returns-then-entry-version g t c =
+    let at = (goal.at.returns-then-entry-version g t c).After-index-entries-step in
+    let k = look g t (goal.at.returns-then-entry-version g t c).After-min _ _ refl refl in
+    let said = rw (to_z-of_z w64 c.args.version c.ranges.version) at c.told.ensures.told in
+    record {
+      told = told_by_child _ _ _ _ _ _ _ _ _ k c.args.version c.args.clear c.if-height-eq0.false c.step-step.result.index
+          c.index-entries-step.result (within g t at) c.index-entries-step.is c.if-next-entries.clear c.told.result
+          (behind g t at (look_tell _ _ _ _ _ _ _ _ _ k c.if-height-eq0.false)) said;
+    }
+
+pub returns-then-clear : goal.returns-then-clear
+returns-then-clear g t c =
+    let at = (goal.at.returns-then-clear g t c).After-index-entries-step in
+    let first = (goal.at.returns-then-clear g t c).After-min in
+    let k = look g t first _ _ refl refl in
+    let e = c.index-entries-step.result in
+    let v = c.args.version in
+    let es = c.entries-entries.result.now in
+    let p = g.P.Probe.lets_pass c.args.from.now in
+    let fits : SFits w64 e.version = search rules in
+    let le = not_above_tested v e.version c.ranges.version fits c.if-entry-version.false in
+    let index = c.step-step.ensures.index
+    ∙ ap (λ es. length (filter (λ (e : Entry). p e.key) es) - 1) (sym c.entries-entries.ensures.entries) in
+    let passed = last_passes p es c.step-step.result.index e (cut_from g t first) (passes g t first) index c.index-entries-step.is in
+    record {
+      told = told_by_child _ _ _ _ _ _ _ _ _ k v c.args.clear c.if-height-eq0.false c.step-step.result.index e (within g t at)
+          c.index-entries-step.is c.if-next-entries.clear (Some false)
+          (behind g t at (look_tell _ _ _ _ _ _ _ _ _ k c.if-height-eq0.false))
+          (told_by_entry p (g.Q.Probe.lets_pass c.args.to.now) v c.requires.nested e
+          (items_in c.args.nodes.now (c.args.height - 1) e.child) c.if-next-entries.clear false (child g t at).tells passed
+          c.if-clear.true refl le);
+    }

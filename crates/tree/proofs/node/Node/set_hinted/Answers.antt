@@ -1,0 +1,58 @@
+use Rattle.std.proofs.Common.{rules, ◌≡◌, ◌<◌, ◌≤◌, ◌∙◌, ℕ, List, length, slice_index_or, take, slice_set, ap, sym, subst, arith}
+use Rattle.std.proofs.lemmas.Bool.{eqb-true}
+use Rattle.std.proofs.lemmas.List.{length-set, length-take-le, map-set}
+use Rattle.std.proofs.Math.Seq.{take-set-lt}
+use Rattle.tree.specs.declared.entry.Entry.{Entry}
+use Rattle.tree.specs.Hints.{Hint, IsHinted, digest_at}
+use Rattle.tree.specs.Node.{entries_of, hint_of, keys_of}
+use Rattle.tree.proofs.HintChanges.{digest_known, hinted_set, key_stays, known_set}
+use Rattle.tree.proofs.node.Node.set_hinted.Goals as goal
+
+pub returns-then-eq-clause-hinted : goal.returns-then-eq-clause-hinted
+returns-then-eq-clause-hinted g c =
+    let old = c.args.self.now in
+    let new = c.set.new.self in
+    let e = c.index-self-index.result in
+    let most : old.len ≤ length old.entries = omega arith in
+    let inside : c.args.index < old.len = omega (arith, c.requires.within, length-take-le old.len old.entries most) in
+    let same : e.key ≡ c.args.entry.key =
+    ap (λ (x : Entry). x.key) c.index-self-index.is
+    ∙ eqb-true (slice_index_or old.entries c.args.index e).key c.args.entry.key (sym c.eq.ensures ∙ c.if-eq.true) in
+    let keys : keys_of (entries_of new) ≡ keys_of (entries_of old) =
+    ap keys_of c.set.ensures.entries
+    ∙ key_stays old.entries old.len c.args.index e inside most c.index-self-index.is c.args.entry same in
+    let with_keys : List ℕ → Hint = λ ks. record { keys = ks; skip = old.skip; digests = take old.len old.digests } in
+    subst (IsHinted (g.P.Probe.bytes c.args.probe.now)) (sym (c.set.ensures.hint ∙ ap with_keys keys)) c.requires.hinted
+
+pub renew_hints-requires : goal.renew_hints-requires
+renew_hints-requires g c =
+    let old = c.args.self.now in
+    let keys = ap keys_of c.set-2.ensures.entries
+    ∙ map-set (λ (x : Entry). x.key) (entries_of old) c.args.index c.args.entry in (
+      search rules,
+      known_set (g.P.Probe.bytes c.args.probe.now) (hint_of old) c.requires.hinted c.args.index c.args.entry.key
+          c.requires.known (keys_of (entries_of c.set-2.new.self)) keys,
+    )
+
+pub returns-clause-hinted : goal.returns-clause-hinted
+returns-clause-hinted g c =
+    let bytes = g.P.Probe.bytes c.args.probe.now in
+    let old = c.args.self.now in
+    let new = c.set-2.new.self in
+    let i = c.args.index in
+    let key = c.args.entry.key in
+    let digest = c.digest_of.result in
+    let now : Hint = record { keys = keys_of (entries_of new); skip = new.skip; digests = take new.len (slice_set new.digests i digest) } in
+    let most : new.len ≤ length new.entries = omega arith in
+    let count : new.len ≡ length (entries_of old) =
+    sym (length-take-le new.len new.entries most) ∙ ap length c.set-2.ensures.entries ∙ length-set (entries_of old) i c.args.entry in
+    let inside : i < new.len = omega (arith, c.requires.within, count) in
+    let skip : new.skip ≡ old.skip = ap (λ (h : Hint). h.skip) c.set-2.ensures.hint in
+    let right : digest ≡ digest_at bytes old.skip key =
+    digest_known bytes c.skip.result key digest c.requires.known c.digest_of.ensures.digest
+    ∙ ap (λ n. digest_at bytes n key) (c.skip.ensures.skip ∙ skip) in
+    hinted_set bytes (hint_of old) now c.requires.hinted i key digest c.requires.known
+    (c.begins-begins.ensures.agrees c.if-not-begins.false) right
+    (ap keys_of c.set-2.ensures.entries ∙ map-set (λ (x : Entry). x.key) (entries_of old) i c.args.entry) skip
+    (take-set-lt new.len new.digests i digest inside
+    ∙ ap (λ (h : Hint). slice_set h.digests i digest) c.set-2.ensures.hint)

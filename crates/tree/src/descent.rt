@@ -1,0 +1,147 @@
+//! The way down a tree by what its nodes know of the bytes of keys.
+
+ghost use Rattle.std.specs.Prelude.{◌≡◌, ◌≤◌, ◌<◌, ◌<ℤ◌, ◌↔◌, ◌++◌, ℕ, Bool, true, false, List, length, map, take, Some, None, [], IfSome, IsTrue};
+ghost use Rattle.std.specs.List.{All, Any};
+ghost use Rattle.arena.specs.Arena.{IsLive};
+ghost use Rattle.tree.specs.Hints.{AreHinted, KnowsAt};
+ghost use Rattle.tree.specs.Item.{Item, item_of};
+ghost use Rattle.tree.specs.Node.{hints_of};
+ghost use Rattle.tree.specs.Subtree.{entries_at, items_in, IsSubtree};
+ghost use Rattle.tree.specs.Tree.{least_of};
+ghost use Rattle.tree.specs.Path.{IsCut, leaf_in, behind_leaf, first_key, from_last};
+
+use crate::node::Node;
+use crate::probe::Probe;
+use crate::search::key_at;
+use crate::span::any_above;
+use arena::{Arena, Slot};
+
+/// Where a search has come to.
+#[derive(Clone, Copy, Debug)]
+pub struct Reached {
+    pub leaf: Slot,
+    /// How many bytes the first key of the leaf and what is looked for begin with in common, or none if that key doesn't pass.
+    pub known: Option<usize>,
+    /// The key of the first item behind the leaf.
+    pub behind: Option<Slot>,
+}
+
+/// Returns how many bytes the first key of a node and what is looked for begin with in common, or none if that key doesn't
+/// pass.
+pub fn known_at<P: Probe, const N: usize>(
+    nodes: &Arena<Node<N>>,
+    slot: Slot,
+    probe: &P,
+) -> Option<usize>
+    requires live { IsLive nodes.now slot }
+    requires some { 1 ≤ length (entries_at nodes.now slot) }
+    ensures known { KnowsAt (P.bytes probe.now) (P.lets_pass probe.now) (P.sought probe.now) result (entries_at nodes.now slot) 0 }
+{
+    let first = nodes.header_ref(slot).entries()[0].key;
+    if !probe.passes(first) {
+        return None;
+    }
+    Some(probe.common_with(first))
+}
+
+/// Finds the leaf that has the last item that passes, or else the first leaf. `known` is how many bytes the first key of the
+/// subtree and what is looked for begin with in common, or none if that key doesn't pass. `behind` is the key of the first item
+/// behind the subtree.
+pub fn find<P: Probe, const N: usize>(
+    nodes: &Arena<Node<N>>,
+    slot: Slot,
+    height: usize,
+    probe: &P,
+    known: Option<usize>,
+    behind: Option<Slot>,
+) -> Reached
+    requires subtree { IsSubtree nodes.now (least_of N) height slot }
+    requires some { 1 ≤ length (entries_at nodes.now slot) }
+    requires cut { IsCut (λ x. P.lets_pass probe.now x.key) (items_in nodes.now height slot) }
+    requires hinted { AreHinted (P.bytes probe.now) (hints_of nodes.now) }
+    requires known { KnowsAt (P.bytes probe.now) (P.lets_pass probe.now) (P.sought probe.now) known (entries_at nodes.now slot) 0 }
+    ensures leaf { result.leaf ≡ leaf_in nodes.now height slot (P.lets_pass probe.now) }
+    ensures known { KnowsAt (P.bytes probe.now) (P.lets_pass probe.now) (P.sought probe.now) result.known
+        (entries_at nodes.now result.leaf) 0 }
+    ensures some { 1 ≤ length (entries_at nodes.now result.leaf) }
+    ensures behind { result.behind ≡ first_key behind (behind_leaf nodes.now height slot (P.lets_pass probe.now)) }
+{
+    if height == 0 {
+        return Reached {
+            leaf: slot,
+            known,
+            behind,
+        };
+    }
+    let node = nodes.header_ref(slot);
+    let step = node.step(probe, known);
+    let next = key_at(node.entries(), step.index + 1, behind);
+    let child = node.entries()[step.index].child;
+    find(nodes, child, height - 1, probe, step.known, next)
+}
+
+/// Returns whether a version of the items before a cut, of those before another cut the last alone, is above this one, if one
+/// leaf or one subtree tells so. `known` is how many bytes the first key of the subtree and what the first cut looks for begin with
+/// in common, and `shared` how many what the two cuts look for do. `clear` tells that the items behind the subtree don't come
+/// before the second cut.
+pub fn told<P: Probe, Q: Probe, const N: usize>(
+    nodes: &Arena<Node<N>>,
+    slot: Slot,
+    height: usize,
+    from: &P,
+    to: &Q,
+    version: i64,
+    known: usize,
+    shared: usize,
+    clear: bool,
+) -> Option<bool>
+    requires subtree { IsSubtree nodes.now (least_of N) height slot }
+    requires some { 1 ≤ length (entries_at nodes.now slot) }
+    requires from { IsCut (λ x. P.lets_pass from.now x.key) (items_in nodes.now height slot) }
+    requires to { IsCut (λ x. Q.lets_pass to.now x.key) (items_in nodes.now height slot) }
+    requires nested { (key : ℕ) → P.lets_pass from.now key ≡ true → Q.lets_pass to.now key ≡ true }
+    requires hinted { AreHinted (P.bytes from.now) (hints_of nodes.now) }
+    requires known { KnowsAt (P.bytes from.now) (P.lets_pass from.now) (P.sought from.now) (Some known) (entries_at nodes.now slot) 0 }
+    requires shared { take shared (P.sought from.now) ≡ take shared (Q.sought to.now) }
+    requires bytes { (key : ℕ) → P.bytes from.now key ≡ Q.bytes to.now key }
+    ensures told { (before after : List Item)
+        → (IsTrue clear → All (λ x. Q.lets_pass to.now x.key ≡ false) after)
+        → IsCut (λ x. P.lets_pass from.now x.key) (before ++ (items_in nodes.now height slot ++ after))
+        → IsCut (λ x. Q.lets_pass to.now x.key) (before ++ (items_in nodes.now height slot ++ after))
+        → IfSome result (λ told. IsTrue told ↔ Any (λ x. version <ℤ x.version)
+        (from_last (P.lets_pass from.now) (Some (Q.lets_pass to.now)) (before ++ (items_in nodes.now height slot ++ after)))) }
+{
+    let node = nodes.header_ref(slot);
+    let entries = node.entries();
+    let digest = node.digest_for(to, known.min(shared));
+    if height == 0 {
+        let begin = node.count(from, Some(known));
+        let end = node.count_on(begin, to, digest);
+        if end == entries.len() && !clear {
+            return None;
+        }
+        return Some(any_above(&entries[begin - 1..end], version));
+    }
+    let step = node.step(from, Some(known));
+    let next = step.index + 1;
+    let clear = if next < entries.len() {
+        !node.passes_at(next, to, digest)
+    } else {
+        clear
+    };
+    let entry = entries[step.index];
+    if entry.version > version {
+        return told(
+            nodes,
+            entry.child,
+            height - 1,
+            from,
+            to,
+            version,
+            step.known?,
+            shared,
+            clear,
+        );
+    }
+    if clear { Some(false) } else { None }
+}
