@@ -70,7 +70,7 @@ abbrev pub KnowsAt : KeyBytes → (ℕ → Bool) → List ℕ → Option ℕ →
 KnowsAt bytes passes sought known entries index =
     (e : Entry) → slice_get entries index ≡ Some e → Knows bytes passes sought known e.key
 
--- The keys begin with the bytes with which these begin.
+-- What is looked for begins as all keys of the node do: as one of them, so far as the node tells.
 pub record Agrees (bytes : KeyBytes) (hint : Hint) (sought : List ℕ) : Type 0 where
   pub key : ℕ
   pub text : List ℕ

@@ -22,7 +22,7 @@ pub struct Step {
 }
 
 impl<const N: usize> Node<N> {
-    // Returns how many bytes all keys begin with in common, or fewer.
+    /// Returns how many bytes all keys begin with in common, or fewer.
     pub fn skip(&self) -> usize
         ensures skip { result ≡ (hint_of self.now).skip }
         ensures short { result ≤ 65535 }
