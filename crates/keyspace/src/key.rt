@@ -1,4 +1,4 @@
-ghost use Rattle.std.specs.Prelude.{◌≡◌, ◌≤◌, ◌==◌, IfOk, vec_len};
+ghost use Rattle.std.specs.Prelude.{◌≡◌, ◌≤◌, ◌==◌, IfOk, length, vec_len};
 ghost use Rattle.std.proofs.Common.{rules};
 ghost use Rattle.std.specs.Cmp.{partial_order_from_own_ties};
 ghost use Rattle.std.specs.Cmp.Rules.{comparing};
@@ -8,6 +8,7 @@ ghost use Rattle.std.proofs.lemmas.Cmp.{nat_list_cmp_total, nat_list_eq_equiv};
 ghost use lib.Pointwise.{pointwise};
 ghost use Rattle.keyspace.specs.Key.{IsKey};
 
+use smallvec::SmallVec;
 use std::alloc::{AllocError, Global};
 use std::cmp::Ordering;
 use std::marker::Model;
@@ -16,10 +17,14 @@ use std::marker::Model;
 /// after a longest one has one more. That a range may end with such a key is this project's own limit.
 pub const MAX_KEY_LENGTH: usize = 10_001;
 
-/// A byte string of at most [`MAX_KEY_LENGTH`] bytes. Keys are compared byte by byte; a proper prefix comes first.
+// So many bytes a key keeps in itself. Longer keys take memory.
+const INLINE: usize = 40;
+
+/// A byte string of at most [`MAX_KEY_LENGTH`] bytes. Keys are compared byte by byte; a proper prefix comes first. Short keys
+/// take no memory beside their own.
 #[derive(Debug, Drop)]
 pub struct Key {
-    bytes: Vec<u8>,
+    bytes: SmallVec<u8, INLINE>,
 }
 
 impl Model for Key {
@@ -34,12 +39,24 @@ impl Model for Key {
 }
 
 impl Key {
-    /// Creates a key of these bytes, without copying them.
+    /// Creates a key of these bytes.
     pub fn new(bytes: Vec<u8>) -> Self
         requires short { vec_len bytes ≤ MAX_KEY_LENGTH }
         ensures bytes { result ≡ bytes.items }
     {
-        Key { bytes }
+        Key {
+            bytes: SmallVec::from_vec(bytes),
+        }
+    }
+
+    /// Creates a key of a copy of these bytes, or returns an error if memory is refused.
+    pub fn copied(alloc: Global, bytes: &[u8]) -> Result<Self, AllocError>
+        requires short { length bytes.now ≤ MAX_KEY_LENGTH }
+        ensures bytes { IfOk result (λ key. key ≡ bytes.now) }
+    {
+        Ok(Key {
+            bytes: SmallVec::from_slice(alloc, bytes)?,
+        })
     }
 
     /// Returns the bytes of the key, at most [`MAX_KEY_LENGTH`].
@@ -47,16 +64,14 @@ impl Key {
         ensures bytes { result.now ≡ self.now }
         ensures is_key { IsKey self.now }
     {
-        &self.bytes
+        self.bytes.as_slice()
     }
 
     /// Copies the key, or returns an error if memory is refused.
     pub fn copy(&self, alloc: Global) -> Result<Self, AllocError>
         ensures equal { IfOk result (λ key. key ≡ self.now) }
     {
-        Ok(Key {
-            bytes: Vec::from_slice(alloc, &self.bytes)?,
-        })
+        Key::copied(alloc, self.as_bytes())
     }
 }
 

@@ -107,7 +107,7 @@ pub fn key_of(alloc: Global, limit: usize, bytes: &[u8]) -> Result<(Key, &[u8]),
         return Err(WireError::Cut);
     }
     let (key, rest) = rest.split_at(length);
-    Ok((Key::new(Vec::from_slice(alloc, key)?), rest))
+    Ok((Key::copied(alloc, key)?, rest))
 }
 
 /// Returns the body of the frame at the front.
