@@ -18,7 +18,7 @@ use arena::{Arena, ArenaError};
 use keyspace::{Range, RangeRef, common};
 use std::alloc::{AllocError, Global};
 use std::marker::Model;
-use tree::{Tree, item};
+use tree::{Overwrite, Tree, item};
 
 // The boundaries of a step function, in the order of their keys, the empty key first. Contracts see them, and for how
 // many more there is memory.
@@ -185,8 +185,8 @@ impl<const N: usize> Boundaries<N> {
         }
     }
 
-    // Writes the version on the range, if one leaf of the tree has the boundaries of the range, the one before them and
-    // room for the new ones. Returns whether it did; else nothing has changed.
+    // Writes the version on the range, if one leaf of the tree has the boundaries of the range and the one before them.
+    // Returns whether it did; else nothing has changed.
     pub fn write_in_leaf(&mut self, range: &RangeRef<'_>, version: i64) -> bool
         requires boundaries { AreBoundaries self.old.boundaries }
         requires filled { ¬ IsEmpty range.now }
@@ -216,12 +216,15 @@ impl<const N: usize> Boundaries<N> {
             up_to: false,
         };
         let past = Cut { up_to: true, ..end };
-        let shared = common(range.begin(), range.end());
-        let first = item(begin_key, version);
-        let Some(done) = self
-            .tree
-            .overwrite(&begin, &end, &past, shared, first, end_key)
-        else {
+        let new = Overwrite {
+            from: &begin,
+            to: &end,
+            past: &past,
+            shared: common(range.begin(), range.end()),
+            first: item(begin_key, version),
+            second: end_key,
+        };
+        let Some(done) = self.tree.overwrite(&new) else {
             self.keys.release(begin_key);
             self.keys.release(end_key);
             return false;
@@ -229,7 +232,9 @@ impl<const N: usize> Boundaries<N> {
         if done.ended {
             self.keys.release(end_key);
         }
-        release(&mut self.keys, done.run.entries());
+        if let Some(run) = &done.run {
+            release(&mut self.keys, run.entries());
+        }
         true
     }
 

@@ -1,7 +1,8 @@
 -- Lists in which those that pass come first.
-use Rattle.std.proofs.Common.{◌≡◌, ℕ, zero, suc, ◌≤◌, ◌⊎◌, Bool, true, false, not, List, [], ◌∷◌, ◌++◌, length, get_or, take, drop, filter, All, refl, ap, subst, inl, inr, arith}
+use Rattle.std.proofs.Common.{◌≡◌, ℕ, zero, suc, ◌≤◌, ◌⊎◌, Bool, true, false, not, List, [], ◌∷◌, ◌++◌, length, get_or, take, drop, filter, All, refl, sym, ap, subst, inl, inr, arith}
 use Rattle.std.specs.List.Sorted.{IsPartitionedBy, IsPartitionPoint}
 use Rattle.std.proofs.lemmas.Bool.{cases_Bool}
+use Rattle.std.proofs.lemmas.List.{take-append-drop}
 use Rattle.std.proofs.lemmas.List.Elements.{All-nil, All-cons, All-head, All-tail, All-weaker, filter_passes}
 use Rattle.tree.specs.Path.{IsCut}
 
@@ -113,6 +114,13 @@ module _ {X : Type 0} (p : X → Bool) where
   IsCut-parts xs ys c =
       let h = Falls-parts xs ys (Falls-from_cut (xs ++ ys) c) in
       (IsCut-from_falls xs h.0, IsCut-from_falls ys h.1, h.2)
+
+  -- so many elements from an index on of a list that is cut are cut
+  pub IsCut-range : (xs : List X) (from n : ℕ) → IsCut p xs → IsCut p (take n (drop from xs))
+  IsCut-range xs from n c =
+      let rest = (IsCut-parts (take from xs) (drop from xs) (subst (IsCut p) (sym (take-append-drop from xs)) c)).1 in
+      let ys = drop from xs in
+      (IsCut-parts (take n ys) (drop n ys) (subst (IsCut p) (sym (take-append-drop n ys)) rest)).0
 
   -- behind one that fails all fail
   pub rest_fails : (x : X) (xs : List X) → IsCut p (x ∷ xs) → p x ≡ false → All (λ y. p y ≡ false) (x ∷ xs)

@@ -1,7 +1,8 @@
 -- What a node's hint tells of the key at an index.
-use Rattle.std.proofs.Common.{◌≡◌, ◌≢◌, ℕ, ◌+◌, ◌<◌, ◌≤◌, Bool, true, nat_lt, List, [], ◌∷◌, ◌++◌, length, filter, get_or, take, slice_get, slice_index, option_map, Some, All, sym, ap, subst, ◌∙◌, arith, length-append, length-take, get_or-take, ltb-true}
+use Rattle.std.proofs.Common.{◌≡◌, ◌≢◌, ℕ, ◌+◌, ◌<◌, ◌≤◌, Bool, true, false, nat_lt, List, [], ◌∷◌, ◌++◌, length, filter, get_or, take, slice_get, slice_index, option_map, Some, All, sym, ap, subst, ◌∙◌, inl, inr, arith, length-append, length-take, get_or-take, lt-ltb, le-ltb, ltb-true}
 use Rattle.std.specs.Prelude.{unwrap_or}
 use Rattle.std.specs.Int.{w64, to_be_bytes}
+use Rattle.std.proofs.lemmas.Bool.{cases_lt}
 use Rattle.std.proofs.lemmas.List.{take_at, get_or-map, length-map}
 use Rattle.std.proofs.lemmas.Option.{get_or_from_slice_get, slice_get_within, slice_get-get_or, slice_get-map}
 use Rattle.keyspace.specs.Key.{IsBytes, IsBefore}
@@ -9,8 +10,9 @@ use Rattle.tree.specs.declared.entry.Entry.{Entry}
 use Rattle.tree.specs.declared.node.Node.{Node}
 use Rattle.tree.specs.Node.{entries_of, hint_of, keys_of}
 use Rattle.tree.specs.Hints.{KeyBytes, Begins, digest_behind, digest_at, Hint, IsHinted, PassesInOrder, BeginAlike, TellsCommon, Agrees, IsDigestFor}
-use Rattle.tree.proofs.Cuts.{none_fail, not_both}
-use Rattle.tree.proofs.HintCounts.{fewer_pass, length-filter_map}
+use Rattle.tree.specs.Path.{IsCut}
+use Rattle.tree.proofs.Cuts.{length-passing, none_fail, not_both}
+use Rattle.tree.proofs.HintCounts.{fewer_pass, length-filter_map, passing_before, passing_inside}
 use Rattle.tree.proofs.HintOrder.{told_by_digests, before_too, tells_too, common_by_digests}
 
 some_same : {X : Type 0} (a b : X) → Some a ≡ Some b → a ≡ b
@@ -201,6 +203,44 @@ module _ {N : ℕ} (bytes : KeyBytes) (node : Node N) (h : IsHinted bytes (hint_
       k.digest ∙ sym (ap (λ o. digest_behind hint.skip (unwrap_or o [])) k.known) in
       less_passes bytes hint h sought passes order i e.key digest there is (ap below is_own ∙ less) in
       omega (arith, of_keys, of_entries, fewer_pass (λ (e : Entry). below (own e.key)) (λ (e : Entry). passes e.key) es all)
+
+  module _ (digest : ℕ) (is : IsDigestFor bytes (hint_of node) sought digest)
+      (cut : IsCut (λ (e : Entry). passes e.key) (entries_of node)) where
+    -- Entries behind some that pass do so, too, as far as their digests are below that of what is looked for.
+    pub many_pass : (from first : ℕ) → from ≤ length (filter (λ (e : Entry). passes e.key) (entries_of node))
+        → first ≤ length (entries_of node)
+        → ((index : ℕ) → from ≤ index → index < first → get_or (hint_of node).digests index 0 < digest)
+        → first ≤ length (filter (λ (e : Entry). passes e.key) (entries_of node))
+    many_pass from first least within below =
+        let es = entries_of node in
+        let count = length (filter (λ (e : Entry). passes e.key) es) in
+        elim (cases_lt count first) [
+          | inr enough ↦ enough
+          | inl few ↦
+              let e = entry_at es count (omega arith) in
+              let less = lt-ltb (get_or (hint_of node).digests count 0) digest (below count least few) in
+              let passed = less_passes bytes (hint_of node) h sought passes order count e.0.key digest
+              (key_there es count e.0 e.1) is less in
+              absurd (omega (arith, passing_inside (λ (e : Entry). passes e.key) es count e.0 cut e.1 passed))
+        ]
+
+    -- No more entries pass than stand before one whose digest is above that of what is looked for.
+    pub few_pass : (end : ℕ) → (end < length (entries_of node) → digest < get_or (hint_of node).digests end 0)
+        → length (filter (λ (e : Entry). passes e.key) (entries_of node)) ≤ end
+    few_pass end above =
+        let es = entries_of node in
+        elim (cases_lt end (length es)) [
+          | inr all ↦ omega (arith, length-passing (λ (e : Entry). passes e.key) es)
+          | inl inside ↦
+              let own = get_or (hint_of node).digests end 0 in
+              let more : digest < own = above inside in
+              let e = entry_at es end inside in
+              let fails : passes e.0.key ≡ false =
+              sym (told_at bytes (hint_of node) h sought passes order end e.0.key digest (key_there es end e.0 e.1) is
+              (λ same. absurd (omega (arith, same, more))))
+              ∙ le-ltb own digest (omega arith) in
+              passing_before (λ (e : Entry). passes e.key) es end e.0 cut e.1 fails
+        ]
 
 -- A node has as many digests as entries.
 pub as_many : {N : ℕ} (bytes : KeyBytes) (node : Node N) → IsHinted bytes (hint_of node)

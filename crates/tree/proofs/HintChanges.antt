@@ -4,7 +4,7 @@ use Rattle.std.proofs.Common.{◌≡◌, ℕ, ◌+◌, ◌-◌, ◌<◌, ◌≤�
 use Rattle.std.specs.Prelude.{unwrap_or, slice_set}
 use Rattle.std.specs.List.{Contains, copy_within}
 use Rattle.std.proofs.lemmas.List.{get_or-map, get_or-take, length-map, length-take-le, map-append, map-set, map_more, set-get_or, take_all, take-append-drop, take-append-le, take_at, drop_at, take-map, drop-map, take-take, take_more_set, drop-take}
-use Rattle.std.proofs.lemmas.List.Elements.{All-append, All-contains, All-drop, All-more, All-set, All-take, All-weaker}
+use Rattle.std.proofs.lemmas.List.Elements.{All-nil, All-append, All-contains, All-drop, All-more, All-set, All-take, All-weaker}
 use Rattle.keyspace.specs.Key.{IsBytes}
 use Rattle.tree.specs.declared.entry.Entry.{Entry}
 use Rattle.tree.specs.Hints.{KeyBytes, IsKnown, Begins, Hint, IsHinted, Agrees, digest_behind, digest_at}
@@ -289,6 +289,23 @@ module _ (bytes : KeyBytes) where
   begin_spliced hint h new keys from to known begin is =
       subst (All (Begins bytes h.beginning)) (sym is)
       (All-spliced (Begins bytes h.beginning) hint.keys new from to h.begins (all_begin hint h new known begin))
+
+  -- Those from one index up to another are taken out, with their digests.
+  pub hinted_removed : (hint new : Hint) (h : IsHinted bytes hint) (from to : ℕ)
+      → new.keys ≡ take from hint.keys ++ drop to hint.keys → new.skip ≡ hint.skip
+      → new.digests ≡ take from hint.digests ++ drop to hint.digests → IsHinted bytes new
+  hinted_removed hint new h from to keys skip digests =
+      let P = Begins bytes h.beginning in
+      let f = digest_at bytes hint.skip in
+      record {
+        beginning = h.beginning;
+        skip = h.skip ∙ sym skip;
+        begins = subst (All P) (sym keys) (All-spliced P hint.keys [] from to h.begins (All-nil P));
+        digests = digests ∙ ap (λ ds. take from ds ++ drop to ds) h.digests
+            ∙ ap₂ (λ xs ys. xs ++ ys) (take-map f from hint.keys) (drop-map f to hint.keys)
+            ∙ sym (map-append f (take from hint.keys) (drop to hint.keys))
+            ∙ ap₂ (λ n xs. map (digest_at bytes n) xs) (sym skip) (sym keys);
+      }
 
 -- The digest of the key of an entry, behind so many bytes, is that of its bytes.
 pub digest_read : (es : List Entry) (len i : ℕ) (e : Entry) → i < len → len ≤ length es → e ≡ get_or es i e

@@ -1,7 +1,7 @@
 -- How many of a list pass, by one test and by another, and where they stand if those that pass come first.
-use Rattle.std.proofs.Common.{◌≡◌, ℕ, zero, suc, ◌<◌, ◌≤◌, Bool, true, false, List, [], ◌∷◌, length, map, filter, All, slice_get, Some, sym, ap, ◌∙◌, refl, inl, inr, arith}
+use Rattle.std.proofs.Common.{◌≡◌, ℕ, zero, suc, ◌+◌, ◌-◌, ◌<◌, ◌≤◌, Bool, true, false, List, [], ◌∷◌, length, map, take, drop, filter, All, slice_get, Some, sym, ap, ◌∙◌, refl, inl, inr, arith}
 use Rattle.std.proofs.lemmas.Bool.{cases_Bool}
-use Rattle.std.proofs.lemmas.List.Elements.{All-head, All-tail}
+use Rattle.std.proofs.lemmas.List.Elements.{All-head, All-tail, All-take}
 use Rattle.std.proofs.lemmas.Option.{get_or_from_slice_get, slice_get_within}
 use Rattle.tree.specs.Path.{IsCut}
 use Rattle.tree.proofs.Cuts.{Falls, Falls-from_cut, none_pass, not_both}
@@ -83,3 +83,48 @@ module _ {X : Type 0} (p : X → Bool) where
         | inl t ↦ t
         | inr f ↦ absurd (omega (arith, passing_before xs i x cut there f))
       ]
+
+  among_first : (xs : List X) (n : ℕ) → Falls p xs → length (filter p xs) ≤ n
+      → length (filter p (take n xs)) ≡ length (filter p xs)
+  among_first [] zero falls most = refl
+  among_first [] (suc n) falls most = refl
+  among_first (x ∷ xs) zero falls most = omega arith
+  among_first (x ∷ xs) (suc n) falls most =
+      elim falls [
+        | inl h ↦
+            let t = h.0 in
+            let few = rw t at most in
+            let rest = among_first xs n h.1 (omega arith) in
+            rw t (omega arith)
+        | inr h ↦
+            let f = h.0 in
+            let all = All-take (λ y. p y ≡ false) n xs h.1 in
+            rw f (ap length (none_pass p (take n xs) all).0 ∙ sym (ap length (none_pass p xs h.1).0))
+      ]
+
+  before_range : (xs : List X) (from n : ℕ) → Falls p xs → from ≤ length (filter p xs)
+      → length (filter p xs) ≤ from + n
+      → from + length (filter p (take n (drop from xs))) ≡ length (filter p xs)
+  before_range xs zero n falls least most = let all = among_first xs n falls (omega arith) in omega arith
+  before_range [] (suc from) n falls least most = absurd (omega arith)
+  before_range (x ∷ xs) (suc from) n falls least most =
+      elim falls [
+        | inl h ↦
+            let t = h.0 in
+            let many = rw t at least in
+            let few = rw t at most in
+            let rest = before_range xs from n h.1 (omega arith) (omega arith) in
+            rw t (omega arith)
+        | inr h ↦
+            let f = h.0 in
+            let many = rw f at least in
+            let none : length (filter p xs) ≡ 0 = ap length (none_pass p xs h.1).0 in
+            absurd (omega arith)
+      ]
+
+  -- Those that pass are counted between an index up to which all pass and one from which none does.
+  pub count_range : (xs : List X) (from to : ℕ) → IsCut p xs → from ≤ length (filter p xs)
+      → length (filter p xs) ≤ to
+      → from + length (filter p (take (to - from) (drop from xs))) ≡ length (filter p xs)
+  count_range xs from to cut least most =
+      before_range xs from (to - from) (Falls-from_cut p xs cut) least (omega arith)

@@ -140,16 +140,17 @@ same_ends (a ∷ xs) (b ∷ ys) x y e =
     (ap (λ c. c ∷ xs) head ∙ ap (λ l. b ∷ l) r.0, r.1)
 
 -- a list that isn't empty ends with an element
-record Ended {X : Type 0} (xs : List X) : Type 0 where
-  front : List X
-  last : X
-  is : xs ≡ front ++ last ∷ []
+pub record Ended {X : Type 0} (xs : List X) : Type 0 where
+  pub front : List X
+  pub last : X
+  pub is : xs ≡ front ++ last ∷ []
 
 ended : {X : Type 0} (x : X) (xs : List X) → Ended (x ∷ xs)
 ended x [] = record { front = []; last = x; is = refl }
 ended x (y ∷ ys) = let r = ended y ys in record { front = x ∷ r.front; last = r.last; is = ap (λ l. x ∷ l) r.is }
 
-ended_some : {X : Type 0} (xs : List X) → xs ≢ [] → Ended xs
+-- which is there where the list isn't empty
+pub ended_some : {X : Type 0} (xs : List X) → xs ≢ [] → Ended xs
 ended_some [] some = absurd (some refl)
 ended_some (x ∷ xs) some = ended x xs
 

@@ -37,7 +37,7 @@ first_key-children below key (e ∷ es) t =
     ap Some h.key ∙ ap (first_key key) (sym same)
 
 -- what stands behind a cut, where all before and none behind a part passes
-behind-parts : (passes : ℕ → Bool) (a c b : List Item) → All (λ x. passes x.key ≡ true) a
+pub behind-parts : (passes : ℕ → Bool) (a c b : List Item) → All (λ x. passes x.key ≡ true) a
     → All (λ x. passes x.key ≡ false) b → behind passes (a ++ (c ++ b)) ≡ behind passes c ++ b
 behind-parts passes a c b p f =
     let n = none_fail (λ (x : Item). passes x.key) a p in

@@ -1,9 +1,8 @@
 -- The leaf that a probe finds, as it is read, and the keys that it has once it is changed.
-use Rattle.std.proofs.Common.{rules, option_map, unwrap_or, ◌≢◌, ◌≡◌, ℕ, ℤ, zero, suc, ◌≤◌, int_lt, ◌&&◌, Bool, true, false, not, inl, inr, List, [], ◌∷◌, ◌++◌, Some, length, get_or, set, take, drop, filter, map, All, refl, sym, ◌∙◌, ap, subst, arith}
+use Rattle.std.proofs.Common.{rules, option_map, unwrap_or, ◌≢◌, ◌≡◌, ℕ, zero, suc, ◌≤◌, Bool, true, false, not, List, [], ◌∷◌, ◌++◌, Some, length, get_or, set, take, drop, filter, map, All, refl, sym, ◌∙◌, ap, subst, arith}
 use Rattle.std.specs.Prelude.{IfSome}
-use Rattle.std.proofs.lemmas.Bool.{cases_Bool}
 use Rattle.std.proofs.lemmas.List.{take_at, drop_at, length-map}
-use Rattle.std.proofs.lemmas.List.Elements.{All-nil, All-cons, All-head, All-tail, All-append}
+use Rattle.std.proofs.lemmas.List.Elements.{All-nil, All-cons, All-head, All-tail}
 use Rattle.std.specs.FinMap as finite
 use Rattle.std.specs.Ordering.{nat_cmp}
 use Rattle.arena.specs.Arena.{Arena, Record, record_at, header_at}
@@ -12,16 +11,14 @@ use Rattle.keyspace.specs.Key.{IsBytes}
 use Rattle.tree.specs.declared.entry.Entry.{Entry}
 use Rattle.tree.specs.declared.node.Node.{Node}
 use Rattle.tree.specs.Hints.{KeyBytes, Begins, Hint, IsHinted, AreHinted, digest_behind}
-use Rattle.tree.specs.Item.{Item, item_of}
+use Rattle.tree.specs.Item.{item_of}
 use Rattle.tree.specs.Node.{entries_of, hint_of, hints_of, keys_of}
 use Rattle.tree.specs.Path.{IsCut, before_leaf, behind_leaf}
 use Rattle.tree.specs.Subtree.{entries_at, items_in, IsSubtree}
-use Rattle.tree.specs.Tree.{IsTree, thin}
+use Rattle.tree.specs.Tree.{IsTree}
 use Rattle.tree.proofs.Hinted.{hinted_put}
-use Rattle.tree.proofs.KnownKeys.{keys_taken, keys_dropped}
 use Rattle.tree.proofs.Leaves.{IsLeaf}
 use Rattle.tree.proofs.Placing.{entries_from_header}
-use Rattle.tree.proofs.Thinning.{goes, stays}
 
 -- so many entries pass, and the others stand behind them
 pub parted : (p : ℕ → Bool) (es : List Entry) (n : ℕ) → IsCut (λ e. p e.key) es → n ≡ length (filter (λ e. p e.key) es)
@@ -84,49 +81,6 @@ module _ (P : ℕ → Type 0) where
   keys_inserted (x ∷ es) (suc i) e a p =
       All-cons P x.key (keys_of (take i es ++ e ∷ drop i es)) (All-head P x.key (keys_of es) a)
       (keys_inserted es i e (All-tail P x.key (keys_of es) a) p)
-
-  abbrev OfItems : List Item → Type 0
-  OfItems items = All (λ (x : Item). P x.key) items
-
-  of_items : (es : List Entry) → All P (keys_of es) → OfItems (map item_of es)
-  of_items [] a = All-nil (λ (x : Item). P x.key)
-  of_items (e ∷ es) a =
-      All-cons (λ (x : Item). P x.key) (item_of e) (map item_of es) (All-head P e.key (keys_of es) a)
-      (of_items es (All-tail P e.key (keys_of es) a))
-
-  of_entries : (es : List Entry) → OfItems (map item_of es) → All P (keys_of es)
-  of_entries [] a = All-nil P
-  of_entries (e ∷ es) a =
-      All-cons P e.key (keys_of es) (All-head (λ (x : Item). P x.key) (item_of e) (map item_of es) a)
-      (of_entries es (All-tail (λ (x : Item). P x.key) (item_of e) (map item_of es) a))
-
-  -- those that stay of a run are some of it
-  some_stay : (edge before : ℤ) (xs : List Item) → OfItems xs → OfItems (thin edge before xs)
-  some_stay edge before [] a = a
-  some_stay edge before (x ∷ xs) a =
-      let I = λ (x : Item). P x.key in
-      let rest = some_stay edge x.version xs (All-tail I x xs a) in
-      elim (cases_Bool (int_lt before edge && int_lt x.version edge)) [
-        | inl t ↦ subst OfItems (sym (goes edge before x xs t).0) rest
-        | inr f ↦
-            subst OfItems (sym (stays edge before x xs f).0)
-            (All-cons I x (thin edge x.version xs) (All-head I x xs a) rest)
-      ]
-
-  -- what holds of all keys holds of those of the entries that stay where a run is thinned
-  pub keys_thinned : (es now : List Entry) (from n to : ℕ) (edge before : ℤ) → All P (keys_of es)
-      → map item_of now ≡ map item_of (take from es)
-      ++ (thin edge before (map item_of (take n (drop from es))) ++ map item_of (drop to es))
-      → All P (keys_of now)
-  keys_thinned es now from n to edge before a is =
-      let I = λ (x : Item). P x.key in
-      let first = of_items (take from es) (keys_taken P es from a) in
-      let looked = map item_of (take n (drop from es)) in
-      let run = of_items (take n (drop from es)) (keys_taken P (drop from es) n (keys_dropped P es from a)) in
-      let rest = of_items (drop to es) (keys_dropped P es to a) in
-      of_entries now (subst OfItems (sym is)
-      (All-append I (map item_of (take from es)) (thin edge before looked ++ map item_of (drop to es)) first
-      (All-append I (thin edge before looked) (map item_of (drop to es)) (some_stay edge before looked run) rest)))
 
 empty_digest : digest_behind 0 [] ≡ 0
 unfolding digest_of

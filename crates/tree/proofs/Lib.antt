@@ -28,7 +28,9 @@ pub mod Leaves
 pub mod Looks
 pub mod Mending
 pub mod NearCuts
+pub mod Overlays
 pub mod Overwriting
+pub mod OverwrittenItems
 pub mod Placing
 pub mod Reaching
 pub mod Replacing
@@ -47,5 +49,6 @@ pub mod Told
 pub mod ToldKeys
 pub mod Trees
 pub mod Ways
+pub mod WrittenLeaf
 pub mod EmptyKeys
 pub mod SameBytes

@@ -14,7 +14,7 @@ use Rattle.tree.specs.Replace.{child_at, entries_at_both, items_with, slots_with
 use Rattle.tree.proofs.Times.{times, once_same, once_if_distinct, times_if_contains}
 use Rattle.tree.proofs.Frames.{entries_same, live_same}
 use Rattle.tree.proofs.Changing.{Moves, changes_if_moves, moves_if_changes, moves_trans}
-use Rattle.tree.proofs.Families.{times-slots_of}
+use Rattle.tree.proofs.Families.{items_of-append, times-slots_of}
 use Rattle.tree.proofs.Placing.{entries_from_header}
 use Rattle.tree.proofs.Sharing.{child_is, around_one}
 use Rattle.tree.proofs.Replacing.{family_loose, step_linked}
@@ -64,6 +64,16 @@ module _ {N : ℕ} where
         live = tree.0;
       }
 
+  -- the items of the node: those of the children before the child, its own, and those of the children behind it
+  pub items_split : (a : Arena (Node N)) (least height lower slot : ℕ) (passes : ℕ → Bool) (es : List Entry) (i x : ℕ)
+      (d : Entry) → suc lower ≡ height → IsAt a least lower slot passes es i x d
+      → items_in a height slot
+      ≡ items_of a lower (take i es) ++ (items_in a lower x ++ items_of a lower (drop (i + 1) es))
+  items_split a least height lower slot passes es i x d next at =
+      ap (λ n. items_in a n slot) (sym next) ∙ ap (items_of a lower) (at.read ∙ around_one es i d at.within)
+      ∙ items_of-append a lower (take i es) (get_or es i d ∷ [] ++ drop (i + 1) es)
+      ∙ ap (λ z. items_of a lower (take i es) ++ (items_in a lower z ++ items_of a lower (drop (i + 1) es))) (sym at.x_is)
+
   -- the node's own slot stays
   kept_beside : (a b : Arena (Node N)) (least height slot : ℕ) (passes : ℕ → Bool) (es : List Entry) (i x : ℕ)
       (d : Entry) (now : List ℕ) → IsAt a least height slot passes es i x d → Moves a b (slots_in a height x) now
@@ -102,22 +112,42 @@ module _ {N : ℕ} where
     pub neighbour : IfSome added (λ s. IsSubtree w least height s)
     pub changes : Changes a w (slots_in a height slot) (slots_with w height slot added)
 
-  done : (a b w : Arena (Node N)) (least height lower slot : ℕ) (passes : ℕ → Bool) (es now : List Entry) (i x : ℕ)
-      (d : Entry)
-      (middle leaf : List Item) (added : Option ℕ) → suc lower ≡ height → IsAt a least lower slot passes es i x d
+  -- The same where the items of the child are others, which stand among those of its neighbours.
+  pub record IsStepped (a w : Arena (Node N)) (least height lower slot : ℕ) (es : List Entry) (i : ℕ) (middle : List Item)
+      (added : Option ℕ) : Type 0 where
+    pub items : items_with w height slot added
+        ≡ items_of a lower (take i es) ++ (middle ++ items_of a lower (drop (i + 1) es))
+    pub subtree : IsSubtree w least height slot
+    pub neighbour : IfSome added (λ s. IsSubtree w least height s)
+    pub changes : Changes a w (slots_in a height slot) (slots_with w height slot added)
+
+  stepped : (a b w : Arena (Node N)) (least height lower slot : ℕ) (es now : List Entry) (i : ℕ) (middle : List Item)
+      (added : Option ℕ) → suc lower ≡ height
       → items_of b lower now ≡ items_of a lower (take i es) ++ (middle ++ items_of a lower (drop (i + 1) es))
       → IsStored a w least lower slot added (items_of b lower now)
-      → middle ≡ before_leaf a lower x passes ++ (leaf ++ behind_leaf a lower x passes)
-      → IsDone a w least height slot passes leaf added
-  done a b w least height lower slot passes es now i x d middle leaf added next at items stored middle_is =
-      subst (λ n. IsDone a w least n slot passes leaf added) next (record {
-        items = stored.items_are ∙ items
-            ∙ ap (λ l. items_of a lower (take i l) ++ (middle ++ items_of a lower (drop (i + 1) l))) (sym at.read)
-            ∙ above a lower slot passes i x middle leaf at.index at.child middle_is;
+      → IsStepped a w least height lower slot es i middle added
+  stepped a b w least height lower slot es now i middle added next items stored =
+      subst (λ n. IsStepped a w least n lower slot es i middle added) next (record {
+        items = stored.items_are ∙ items;
         subtree = stored.subtree;
         neighbour = stored.neighbour;
         changes = changes_if_moves a w (slots_in a (suc lower) slot) (slots_with w (suc lower) slot added) stored.moves;
       })
+
+  done : (a w : Arena (Node N)) (least height lower slot : ℕ) (passes : ℕ → Bool) (es : List Entry) (i x : ℕ) (d : Entry)
+      (middle leaf : List Item) (added : Option ℕ) → suc lower ≡ height → IsAt a least lower slot passes es i x d
+      → IsStepped a w least height lower slot es i middle added
+      → middle ≡ before_leaf a lower x passes ++ (leaf ++ behind_leaf a lower x passes)
+      → IsDone a w least height slot passes leaf added
+  done a w least height lower slot passes es i x d middle leaf added next at step middle_is = record {
+    items = step.items
+        ∙ ap (λ l. items_of a lower (take i l) ++ (middle ++ items_of a lower (drop (i + 1) l))) (sym at.read)
+        ∙ above a lower slot passes i x middle leaf at.index at.child middle_is
+        ∙ ap (λ n. before_leaf a n slot passes ++ (leaf ++ behind_leaf a n slot passes)) next;
+    subtree = step.subtree;
+    neighbour = step.neighbour;
+    changes = step.changes;
+  }
 
   -- the two parts of a node that was split have entries, and so has one that wasn't
   pub some_left : (w : Arena (Node N)) (slot : ℕ) (added : Option ℕ) (p q : List Entry) (t u : Entry) → 4 ≤ N
@@ -158,6 +188,22 @@ module _ {N : ℕ} where
           let more = one_more w slot added es i link.first link.second at.within link.entries none in
           omega (arith, ap length at.read, more)
 
+      pub stepped_linked : IsSubtree b least lower s → least ≤ length (entries_at b x) → least ≤ length (entries_at b s)
+          → IfSome added (λ _. N ≤ 2 * length (entries_at w slot)) → IfSome added (λ s. N ≤ 2 * length (entries_at w s))
+          → IsLive w slot → IfSome added (λ s. IsLive w s) → Changes b w (slot ∷ []) (slot ∷ slot_taken added)
+          → IsStepped a w least height lower slot es i (items_in b lower x ++ items_in b lower s) added
+      stepped_linked below_added filled_x filled_added left right live live_added changes =
+          let now = entries_at_both w slot added in
+          let middle = items_in b lower x ++ items_in b lower s in
+          let step = step_linked a b least lower es i x d at.within at.x_is at.few_below at.right s now link below
+          below_added filled_x filled_added moves in
+          let some = some_left w slot added (take i es) (drop (i + 1) es) link.first link.second four link.entries
+          left in
+          stepped a b w least height lower slot es now i middle added next step.items
+          (stored a b w least lower slot es at.slots_are at.few at.live now step.moves step.children added refl some
+          (some_right w added four right) live live_added
+          (moves_if_changes b w (slot ∷ []) (slot ∷ slot_taken added) changes))
+
       pub done_linked : IsSubtree b least lower s → least ≤ length (entries_at b x) → least ≤ length (entries_at b s)
           → IfSome added (λ _. N ≤ 2 * length (entries_at w slot)) → IfSome added (λ s. N ≤ 2 * length (entries_at w s))
           → IsLive w slot → IfSome added (λ s. IsLive w s) → Changes b w (slot ∷ []) (slot ∷ slot_taken added)
@@ -165,17 +211,8 @@ module _ {N : ℕ} where
           ≡ before_leaf a lower x passes ++ (leaf ++ behind_leaf a lower x passes)
           → IsDone a w least height slot passes leaf added
       done_linked below_added filled_x filled_added left right live live_added changes middle_is =
-          let now = entries_at_both w slot added in
-          let middle = items_in b lower x ++ items_in b lower s in
-          let step = step_linked a b least lower es i x d at.within at.x_is at.few_below at.right s now link below
-          below_added filled_x filled_added moves in
-          let some = some_left w slot added (take i es) (drop (i + 1) es) link.first link.second four link.entries
-          left in
-          done a b w least height lower slot passes es now i x d middle leaf added next at step.items
-          (stored a b w least lower slot es at.slots_are at.few at.live now step.moves step.children added refl some
-          (some_right w added four right) live live_added
-          (moves_if_changes b w (slot ∷ []) (slot ∷ slot_taken added) changes))
-          middle_is
+          done a w least height lower slot passes es i x d (items_in b lower x ++ items_in b lower s) leaf added next at
+          (stepped_linked below_added filled_x filled_added left right live live_added changes) middle_is
 
     -- the child was changed
     module _ (moves : Moves a b (slots_in a lower x) (slots_in b lower x)) where
@@ -199,11 +236,10 @@ module _ {N : ℕ} where
       }
 
       -- and the node mended
-      pub done_mended : IsMendedAt b w least lower slot
-          → items_in b lower x ≡ before_leaf a lower x passes ++ (leaf ++ behind_leaf a lower x passes)
-          → IsDone a w least height slot passes leaf None
-      done_mended mended middle_is =
-          done a b w least height lower slot passes es es i x d (items_in b lower x) leaf None next at changed.2
+      pub stepped_mended : IsMendedAt b w least lower slot
+          → IsStepped a w least height lower slot es i (items_in b lower x) None
+      stepped_mended mended =
+          stepped a b w least height lower slot es es i (items_in b lower x) None next changed.2
           (record {
             items_are = mended.items ∙ ap (items_of b lower) read;
             subtree = mended.subtree;
@@ -213,4 +249,11 @@ module _ {N : ℕ} where
                 (subst (Moves a b (slots_in a (suc lower) slot)) (ap (λ l. slot ∷ slots_of b lower l) (sym read))
                 (subst (λ l. Moves a b l (slot ∷ slots_of b lower es)) (sym at.slots_are) own))
                 (moves_if_changes b w (slots_in b (suc lower) slot) (slots_in w (suc lower) slot) mended.changes);
-          }) middle_is
+          })
+
+      pub done_mended : IsMendedAt b w least lower slot
+          → items_in b lower x ≡ before_leaf a lower x passes ++ (leaf ++ behind_leaf a lower x passes)
+          → IsDone a w least height slot passes leaf None
+      done_mended mended middle_is =
+          done a w least height lower slot passes es i x d (items_in b lower x) leaf None next at (stepped_mended mended)
+          middle_is

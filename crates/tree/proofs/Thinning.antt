@@ -1,19 +1,12 @@
 -- The thinning of a run, entry by entry.
-use Rattle.std.proofs.Common.{◌≡◌, ℕ, suc, ◌+◌, ◌-◌, ◌<◌, ◌≤◌, ℤ, int_lt, int_le, ◌&&◌, Bool, true, false, List, [], ◌∷◌, ◌++◌, Option, Some, None, option_map, unwrap_or, length, get_or, map, take, drop, set, refl, sym, ◌∙◌, ap, subst, arith, inl, inr, length-append, length-drop, drop-cons, append_assoc}
-use Rattle.std.specs.Prelude.{MatchOption}
+use Rattle.std.proofs.Common.{◌≡◌, ℕ, suc, ◌+◌, ◌-◌, ◌<◌, ◌≤◌, ℤ, int_lt, int_le, ◌&&◌, Bool, true, false, List, [], ◌∷◌, ◌++◌, length, get_or, map, take, drop, set, refl, sym, ◌∙◌, ap, subst, arith, inl, inr, length-append, length-drop, drop-cons, append_assoc}
 use Rattle.std.proofs.lemmas.Int.{ints}
 use Rattle.std.proofs.lemmas.List.{append-nil, map-append, take_more_set, drop-set-lt, length-take-le}
 use Rattle.std.proofs.Math.ListN.{length-set}
 use Rattle.std.proofs.lemmas.Bool.{cases_Bool}
 use Rattle.tree.specs.declared.entry.Entry.{Entry}
-use Rattle.tree.specs.declared.node.Node.{Node}
 use Rattle.tree.specs.Item.{Item, item_of, version_of}
-use Rattle.tree.specs.Node.{entries_of}
 use Rattle.tree.specs.Tree.{IsLast, thin, gone}
-
--- the entries taken out so far
-abbrev pub removed_in : {N : ℕ} → Option (Node N) → List Entry
-removed_in removed = unwrap_or (option_map entries_of removed) []
 
 -- the version of the last of them, or the one before
 abbrev pub last_version : ℤ → List Entry → ℤ
@@ -25,7 +18,7 @@ abbrev pub run : List Entry → ℕ → ℕ → List Entry
 run es from to = take (to - from) (drop from es)
 
 -- an item that has both versions below the edge goes
-pub goes : (edge before : ℤ) (x : Item) (xs : List Item) → (int_lt before edge && int_lt x.version edge) ≡ true
+goes : (edge before : ℤ) (x : Item) (xs : List Item) → (int_lt before edge && int_lt x.version edge) ≡ true
     → (thin edge before (x ∷ xs) ≡ thin edge x.version xs) × (gone edge before (x ∷ xs) ≡ x ∷ gone edge x.version xs)
 goes edge before x xs t = (rw t refl, rw t refl)
 
@@ -149,13 +142,6 @@ module _ (edge before last : ℤ) (es now out : List Entry) (from to index kept 
         went = ap (λ l. l ++ more) (map-append item_of out (e ∷ [])) ∙ append_assoc (map item_of out) (item_of e ∷ []) more
             ∙ ap (λ l. map item_of out ++ l) (sym s.1) ∙ ap (λ l. map item_of out ++ gone edge last (map item_of l)) (sym n.0) ∙ t.went;
       }
-
--- what `with_entry` gives
-pub one_more : {N : ℕ} (removed : Option (Node N)) (result : Node N) (e : Entry)
-    → MatchOption removed (entries_of result ≡ e ∷ []) (λ n. entries_of result ≡ entries_of n ++ e ∷ [])
-    → removed_in (Some result) ≡ removed_in removed ++ e ∷ []
-one_more None result e h = h
-one_more (Some n) result e h = h
 
 module _ (edge before last : ℤ) (es now out : List Entry) (from to index kept : ℕ) (t : IsThinned edge before last es now out from to index kept)
     (end : index ≡ to) (within : to ≤ length es) where

@@ -20,7 +20,7 @@ use Rattle.tree.proofs.Looks.{IsLook, look_items}
 use Rattle.tree.proofs.Ways.{around_element}
 
 -- those that pass, where all before a part and none behind it does
-filter_around : {X : Type 0} (p : X → Bool) (a c b : List X) → All (λ x. p x ≡ true) a
+pub filter_around : {X : Type 0} (p : X → Bool) (a c b : List X) → All (λ x. p x ≡ true) a
     → All (λ x. p x ≡ false) b → filter p (a ++ (c ++ b)) ≡ a ++ filter p c
 filter_around p a c b t f =
     filter-append p a (c ++ b)
@@ -29,7 +29,8 @@ filter_around p a c b t f =
     (filter-append p c b ∙ ap (λ ys. filter p c ++ ys) (none_pass p b f).0 ∙ append-nil (filter p c))
 
 module _ {X : Type 0} (p q : X → Bool) (n : (x : X) → p x ≡ true → q x ≡ true) where
-  none_of_fewer : (xs : List X) → All (λ x. q x ≡ false) xs → All (λ x. p x ≡ false) xs
+  -- Where none passes the second cut, none passes the first.
+  pub none_of_fewer : (xs : List X) → All (λ x. q x ≡ false) xs → All (λ x. p x ≡ false) xs
   none_of_fewer xs a = All-weaker (λ x. q x ≡ false) (λ x. p x ≡ false) fewer xs a
     where
       fewer : (x : X) → q x ≡ false → p x ≡ false

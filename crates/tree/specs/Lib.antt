@@ -6,4 +6,5 @@ pub mod Subtree
 pub mod Path
 pub mod Tree
 pub mod Replace
+pub mod Overwrite
 pub mod Tests

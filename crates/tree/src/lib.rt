@@ -9,6 +9,7 @@ mod descent;
 mod entry;
 mod mend;
 mod node;
+mod overwrite;
 mod probe;
 mod replace;
 mod root;
@@ -19,6 +20,7 @@ mod tree;
 
 pub use entry::Entry;
 pub use node::Node;
+pub use overwrite::Overwrite;
 pub use probe::Probe;
 pub use thin::Thinned;
 pub use tree::{Overwritten, Tree, item};

@@ -23,9 +23,11 @@ pub struct Node<const N: usize> {
 }
 
 impl<const N: usize> Node<N> {
-    ghost use Rattle.std.specs.Prelude.{◌≡◌, ◌<◌, ◌+◌, ◌-◌, ◌*◌, ◌∷◌, ◌++◌, [], length, take, drop, slice_set, Some, None, IfSome, MatchOption};
+    ghost use Rattle.std.specs.Prelude.{◌≡◌, ◌<◌, ◌+◌, ◌-◌, ◌*◌, ◌∷◌, ◌++◌, [], length, take, drop, slice_get, slice_set, Some, None, IfSome, MatchOption};
     ghost use Rattle.tree.specs.Item.{IsGreatest, version_of};
+    ghost use Rattle.tree.specs.Hints.{IsHinted, KeyBytes};
     ghost use Rattle.tree.specs.Node.{digests_in, entries_of, hint_of, keys_of};
+    ghost use Rattle.tree.specs.Overwrite.{entries_of_run};
 
     /// Returns a node of one entry. What it knows is right if the key is empty.
     pub fn of(entry: Entry) -> Self
@@ -77,12 +79,26 @@ impl<const N: usize> Node<N> {
         self.len += 1;
     }
 
+    /// Copies an entry, with what is known of its key, from one index to another.
+    pub fn copy(&mut self, from: usize, to: usize)
+        requires from { from < length (entries_of self.old) }
+        requires to { to < length (entries_of self.old) }
+        ensures entries { (e : Entry) → slice_get (entries_of self.old) from ≡ Some e
+            → (entries_of self.new) ≡ slice_set (entries_of self.old) to e }
+        ensures hinted { (bytes : KeyBytes) → IsHinted bytes (hint_of self.old) → IsHinted bytes (hint_of self.new) }
+    {
+        self.entries[to] = self.entries[from];
+        self.digests[to] = self.digests[from];
+    }
+
     /// Removes the entries from one index up to another.
     pub fn remove(&mut self, from: usize, to: usize)
         requires ordered { from ≤ to }
         requires within { to ≤ length (entries_of self.old) }
         ensures entries { (entries_of self.new) ≡ take from (entries_of self.old) ++ drop to (entries_of self.old) }
+        ensures hinted { (bytes : KeyBytes) → IsHinted bytes (hint_of self.old) → IsHinted bytes (hint_of self.new) }
     {
+        self.digests.copy_within(to..self.len, from);
         self.entries.copy_within(to..self.len, from);
         self.len -= to - from;
     }
@@ -137,6 +153,44 @@ impl<const N: usize> Node<N> {
         right.remove(0, at);
         self.len = at;
         right
+    }
+
+    /// Puts these entries in place of those from one index up to another, where there is no room for all. The entries of the second
+    /// half are returned.
+    pub fn splice_apart(&mut self, from: usize, to: usize, new: &[Entry]) -> Node<N>
+        requires ordered { from ≤ to }
+        requires within { to ≤ length (entries_of self.old) }
+        requires few_new { 2 * length new.now ≤ N }
+        requires many { N < from + length new.now + (length (entries_of self.old) - to) }
+        ensures entries { entries_of self.new ++ entries_of result
+            ≡ take from (entries_of self.old) ++ (new.now ++ drop to (entries_of self.old)) }
+        ensures left { N ≤ 2 * length (entries_of self.new) }
+        ensures right { N ≤ 2 * length (entries_of result) }
+    {
+        let mut right = self.split_off(to);
+        self.remove(from, to);
+        if from + new.len() <= N {
+            self.splice(from, from, new);
+        } else {
+            right.splice(0, 0, new);
+        }
+        self.even_out(&mut right);
+        right
+    }
+
+    /// Returns the entries from one index up to another, or none where there is none.
+    pub fn run(&self, from: usize, to: usize) -> Option<Node<N>>
+        requires ordered { from ≤ to }
+        requires within { to ≤ length (entries_of self.now) }
+        ensures entries { entries_of_run result ≡ drop from (take to (entries_of self.now)) }
+    {
+        if from == to {
+            return None;
+        }
+        let mut run = *self;
+        run.remove(to, self.len());
+        run.remove(0, from);
+        Some(run)
     }
 
     /// Inserts an entry at an index. A full node is split: the entries of its second half are returned.

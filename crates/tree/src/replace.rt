@@ -10,8 +10,9 @@ ghost use Rattle.tree.specs.Node.{entries_of, hint_of, hints_of, keys_of};
 ghost use Rattle.tree.specs.Subtree.{entries_at, items_in, slots_in, IsSubtree};
 ghost use Rattle.tree.specs.Path.{IsCut, before_leaf, behind_leaf};
 ghost use Rattle.tree.specs.Tree.{least_of};
-ghost use Rattle.tree.specs.Replace.{child_at, entries_at_both, entries_with, items_with, slot_taken, slots_with, Changes, IsFamilyAt, IsKeyless, IsLinked, IsMendedAt};
+ghost use Rattle.tree.specs.Replace.{child_at, entries_at_both, entries_with, items_with, slot_taken, slots_with, Changes, IsFamilyAt, IsKeyless, IsLinked, IsMendedAt, TellsWritten};
 
+use crate::entry::Entry;
 use crate::mend::{least, mend, summary};
 use crate::node::Node;
 use crate::probe::Probe;
@@ -74,9 +75,9 @@ pub fn replace_leaf<P: Probe, const N: usize>(
     }
 }
 
-// Makes the entry at an index right in the node at a slot, whose child was split, and puts one for the child's right neighbour
-// behind it. Returns the slot of the node's own right neighbour where it is split, too.
-fn link_child<P: Probe, const N: usize>(
+/// Makes the entry at an index right in the node at a slot, whose child was split, and puts one for the child's right neighbour
+/// behind it. Returns the slot of the node's own right neighbour where it is split, too.
+pub fn link_child<P: Probe, const N: usize>(
     nodes: &mut Arena<Node<N>>,
     slot: Slot,
     index: usize,
@@ -140,6 +141,37 @@ fn mend_child<P: Probe, const N: usize>(
     nodes.set_header(slot, node);
 }
 
+/// Makes the entry at an index right in the node at a slot, whose child has changed: an item of this version was written in its
+/// subtree.
+pub fn mend_written<P: Probe, const N: usize>(
+    nodes: &mut Arena<Node<N>>,
+    slot: Slot,
+    index: usize,
+    version: i64,
+    probe: &P,
+)
+    requires fan_out { 4 ≤ N }
+    requires live { IsLive nodes.old slot }
+    requires within { index < length (entries_at nodes.old slot) }
+    requires several { 2 ≤ length (entries_at nodes.old slot) }
+    requires keyless { IsKeyless nodes.old }
+    requires family { (height : ℕ) × IsFamilyAt nodes.old (least_of N) height slot index }
+    requires hinted { AreHinted (P.bytes probe.now) (hints_of nodes.old) }
+    ensures mended { (height : ℕ) → IsFamilyAt nodes.old (least_of N) height slot index
+        → TellsWritten nodes.old height slot index version → IsMendedAt nodes.old nodes.new (least_of N) height slot }
+    ensures few_less { length (entries_at nodes.old slot) ≤ length (entries_at nodes.new slot) + 1 }
+    ensures spare { spare_of nodes.old 0 ≤ spare_of nodes.new 0 }
+    ensures hinted { AreHinted (P.bytes probe.now) (hints_of nodes.new) }
+{
+    let entry = nodes.header_ref(slot).entries()[index];
+    if entry.version > version || nodes.header_ref(entry.child).len() < least(N) {
+        return mend_child(nodes, slot, index, probe);
+    }
+    nodes
+        .header_mut(slot)
+        .set(index, Entry { version, ..entry });
+}
+
 // Makes the entry for a changed child right, and puts one for the child's new right neighbour behind it. A full node is split.
 fn link<const N: usize>(
     nodes: &Arena<Node<N>>,
@@ -165,8 +197,8 @@ fn link<const N: usize>(
     node.insert_or_split(index + 1, summary(nodes, added))
 }
 
-// Puts a node at a slot, and its right neighbour, if any, in a spare one, which is returned.
-fn store<P: Probe, const N: usize>(
+/// Puts a node at a slot, and its right neighbour, if any, in a spare one, which is returned.
+pub fn store<P: Probe, const N: usize>(
     nodes: &mut Arena<Node<N>>,
     slot: Slot,
     node: &Node<N>,

@@ -1,6 +1,6 @@
 //! The root of a tree, and what becomes of it where a leaf changes.
 
-ghost use Rattle.std.specs.Prelude.{◌≡◌, ◌≤◌, ◌<◌, ◌+◌, ◌++◌, true, false, [], filter, length, map, option_map, nat_eq, IfSome, None, Some};
+ghost use Rattle.std.specs.Prelude.{◌≡◌, ◌≢◌, ◌≤◌, ◌<◌, ◌+◌, ◌++◌, true, false, [], filter, length, map, option_map, nat_eq, IfSome, None, Some};
 ghost use Rattle.std.specs.List.{All, IsDistinct};
 ghost use Rattle.std.specs.FinMap as map_of;
 ghost use Rattle.arena.specs.Arena.{IsLive, spare_of};
@@ -8,13 +8,15 @@ ghost use Rattle.tree.specs.Item.{item_of};
 ghost use Rattle.tree.specs.Hints.{AreHinted, IsHinted, IsKnown, KeyBytes, KnowsAt};
 ghost use Rattle.tree.specs.Node.{entries_of, hint_of, hints_of, keys_of};
 ghost use Rattle.tree.specs.Subtree.{entries_at, items_in, slots_in, IsSubtree};
-ghost use Rattle.tree.specs.Path.{IsCut, before_leaf, behind_leaf, first_key};
+ghost use Rattle.tree.specs.Overwrite.{IsOverwritten, entries_of_run, lets_pass_first};
+ghost use Rattle.tree.specs.Path.{IsCut, passing, before_leaf, behind, behind_leaf, between, first_key};
 ghost use Rattle.tree.specs.Replace.{entries_with, items_with, slots_with, IsKeyless};
 ghost use Rattle.tree.specs.Tree.{least_of, IsRooted};
 
 use crate::descent::{Reached, find, known_at};
 use crate::mend::summary;
 use crate::node::Node;
+use crate::overwrite::{Done, Overwrite, write_over};
 use crate::probe::Probe;
 use crate::replace::{place, replace_leaf};
 use arena::{Arena, Slot};
@@ -84,6 +86,48 @@ pub fn put<P: Probe, const N: usize>(
         Some(added) => grow(nodes, root, added, probe),
         None => shrink(nodes, root),
     }
+}
+
+/// Writes over a run of items. Does nothing and returns none unless one leaf has the run and the item before it. A root that is
+/// split gets one above it, and one with a single child gives its place to the child.
+pub fn overwrite<P: Probe, Q: Probe, R: Probe, const N: usize>(
+    nodes: &mut Arena<Node<N>>,
+    root: &mut Root,
+    new: &Overwrite<'_, P, Q, R>,
+) -> Option<Done<N>>
+    requires fan_out { 4 ≤ N }
+    requires few { N ≤ 65536 }
+    requires low { root.old.height < 63 }
+    requires rooted { IsRooted nodes.old root.old.slot root.old.height }
+    requires from { IsCut (λ x. P.lets_pass new.now.from.now x.key) (items_in nodes.old root.old.height root.old.slot) }
+    requires to { IsCut (λ x. Q.lets_pass new.now.to.now x.key) (items_in nodes.old root.old.height root.old.slot) }
+    requires past { IsCut (λ x. R.lets_pass new.now.past.now x.key) (items_in nodes.old root.old.height root.old.slot) }
+    requires room { root.old.height + 1 < spare_of nodes.old 0 }
+    requires some { 1 ≤ length (entries_at nodes.old root.old.slot) }
+    requires hinted { AreHinted (Q.bytes new.now.to.now) (hints_of nodes.old) }
+    ensures none { result ≡ None → nodes.new ≡ nodes.old }
+    ensures root { result ≡ None → root.new ≡ root.old }
+    ensures before { IfSome result (λ _. passing (P.lets_pass new.now.from.now)
+        (items_in nodes.old root.old.height root.old.slot) ≢ []) }
+    ensures run { IfSome result (λ done. between (Some (P.lets_pass new.now.from.now)) (Some (Q.lets_pass new.now.to.now))
+        (items_in nodes.old root.old.height root.old.slot) ≡ map item_of (entries_of_run done.run)) }
+    ensures ended { IfSome result (λ done. done.ended ≡ lets_pass_first (R.lets_pass new.now.past.now)
+        (first_key None (behind (Q.lets_pass new.now.to.now) (items_in nodes.old root.old.height root.old.slot)))) }
+    ensures items { IfSome result (λ done. IsOverwritten (P.lets_pass new.now.from.now) (Q.lets_pass new.now.to.now)
+        (item_of new.now.first) new.now.second done.ended (items_in nodes.old root.old.height root.old.slot)
+        (items_in nodes.new root.new.height root.new.slot)) }
+    ensures rooted { IfSome result (λ _. IsRooted nodes.new root.new.slot root.new.height) }
+    ensures spare { IfSome result (λ _. spare_of nodes.new 0 + map_of.len nodes.new.records
+        ≡ spare_of nodes.old 0 + map_of.len nodes.old.records) }
+    ensures hinted { IfSome result (λ _. AreHinted (Q.bytes new.now.to.now) (hints_of nodes.new)) }
+{
+    let known = known_at(nodes, root.slot, new.to);
+    let done = write_over(nodes, root.slot, root.height, new, known, None)?;
+    *root = match done.added {
+        Some(added) => grow(nodes, *root, added, new.to),
+        None => shrink(nodes, *root),
+    };
+    Some(done)
 }
 
 // Puts a new root over the old one and its right neighbour.

@@ -1,8 +1,10 @@
 //! How a run of a node is thinned.
 
-ghost use Rattle.std.specs.Prelude.{◌≡◌, ◌-◌, ◌≤◌, ◌<◌, ◌++◌, ◌∷◌, [], take, drop, length, map, MatchOption};
+ghost use Rattle.std.specs.Prelude.{◌≡◌, ◌-◌, ◌≤◌, ◌<◌, ◌++◌, ◌∷◌, [], take, drop, length, map, IsSomeAnd, MatchOption};
 ghost use Rattle.tree.specs.Item.{item_of, version_of};
-ghost use Rattle.tree.specs.Node.{entries_of};
+ghost use Rattle.tree.specs.Hints.{IsHinted, KeyBytes};
+ghost use Rattle.tree.specs.Node.{entries_of, hint_of};
+ghost use Rattle.tree.specs.Overwrite.{entries_of_run};
 ghost use Rattle.tree.specs.Path.{first_key};
 ghost use Rattle.tree.specs.Tree.{IsLast, thin as thin_of, gone};
 
@@ -45,6 +47,7 @@ pub fn thin<const N: usize>(
         (gone edge before (map item_of (take (to - from) (drop from (entries_of node.old)))) ≡ [])
         (λ run. map item_of (entries_of run) ≡ gone edge before (map item_of (take (to - from) (drop from (entries_of node.old))))) }
     ensures next { result.next ≡ first_key behind (map item_of (drop to (entries_of node.old))) }
+    ensures hinted { (bytes : KeyBytes) → IsHinted bytes (hint_of node.old) → IsHinted bytes (hint_of node.new) }
 {
     let mut last = before;
     let mut kept = from;
@@ -53,10 +56,10 @@ pub fn thin<const N: usize>(
         let entry = node.entries()[index];
         let version = entry.version;
         if last >= edge || version >= edge {
-            node.set(kept, entry);
+            node.copy(index, kept);
             kept += 1;
         } else {
-            removed = Some(with_entry(removed, entry));
+            put_aside(&mut removed, entry);
         }
         last = version;
     }
@@ -70,17 +73,16 @@ pub fn thin<const N: usize>(
     }
 }
 
-// Puts an entry behind those of a node, or into a new one.
-fn with_entry<const N: usize>(node: Option<Node<N>>, entry: Entry) -> Node<N>
-    requires room { MatchOption node (1 ≤ N) (λ n. length (entries_of n) < N) }
-    ensures entries { MatchOption node.entry (entries_of result ≡ entry ∷ []) (λ n. entries_of result ≡ entries_of n ++ entry ∷ []) }
+// Puts an entry behind those of a node, or into a new one where there is none.
+fn put_aside<const N: usize>(node: &mut Option<Node<N>>, entry: Entry)
+    requires room { MatchOption node.old (1 ≤ N) (λ n. length (entries_of n) < N) }
+    ensures entries { IsSomeAnd node.new (λ n. entries_of n ≡ entries_of_run node.old ++ entry ∷ []) }
 {
     match node {
-        Some(mut node) => {
+        Some(node) => {
             let len = node.len();
             node.insert(len, entry);
-            node
         }
-        None => Node::of(entry),
+        None => *node = Some(Node::of(entry)),
     }
 }

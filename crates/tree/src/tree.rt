@@ -5,6 +5,7 @@ ghost use Rattle.std.specs.List.{Any};
 ghost use Rattle.tree.specs.Item.{Item, item_of, IsGreatest};
 ghost use Rattle.tree.specs.Hints.{AreHinted, IsHinted, IsKnown, KeyBytes};
 ghost use Rattle.tree.specs.Node.{entries_of, hint_of};
+ghost use Rattle.tree.specs.Overwrite.{IsOverwritten, entries_of_run};
 ghost use Rattle.tree.specs.Path.{IsCut, passing as passing_of, behind, first_key, between, from_last};
 ghost use Rattle.tree.specs.Tree.{IsLast, ended_by, thin as thin_of, gone, hints_in, KnowItems};
 
@@ -12,8 +13,9 @@ use crate::descent::{known_at, told};
 use crate::entry::Entry;
 use crate::mend::least;
 use crate::node::Node;
+use crate::overwrite::{Done, Overwrite};
 use crate::probe::Probe;
-use crate::root::{Root, put, reach};
+use crate::root::{Root, overwrite, put, reach};
 use crate::search::{exceeds, exceeds_from_last, greatest, key_behind, passing};
 use crate::thin::{Thinned, thin};
 use arena::{Arena, ArenaError, Slot};
@@ -54,9 +56,9 @@ impl<const N: usize> Model for Tree<N> {
 /// What [`Tree::overwrite`] did.
 #[derive(Debug, Drop)]
 pub struct Overwritten<const N: usize> {
-    /// The items that were taken out.
-    pub run: Node<N>,
-    /// Whether an item stood between the second and the third cut, and no second one was put in.
+    /// The items that were taken out, if there were any.
+    pub run: Option<Node<N>>,
+    /// Whether an item had the key of the second new one, which was not put in.
     pub ended: bool,
 }
 
@@ -290,70 +292,31 @@ impl<const N: usize> Tree<N> {
 
     /// Puts an item in place of those from one cut to another, and returns those. Puts a second one behind it, with the version of
     /// the last item before the other cut, unless an item stands between that cut and a third one. Does nothing and returns none
-    /// unless one leaf has those items, the one before them and room for the new ones. The items' keys are what the first two cuts
-    /// look for, which begins with `shared` bytes in common, at least.
+    /// unless one leaf has those items and the one before them.
     pub fn overwrite<P: Probe, Q: Probe, R: Probe>(
         &mut self,
-        from: &P,
-        to: &Q,
-        past: &R,
-        shared: usize,
-        first: Entry,
-        second: Slot,
+        new: &Overwrite<'_, P, Q, R>,
     ) -> Option<Overwritten<N>>
-        requires from { IsCut (λ x. P.lets_pass from.now x.key) self.old.items }
-        requires to { IsCut (λ x. Q.lets_pass to.now x.key) self.old.items }
-        requires past { IsCut (λ x. R.lets_pass past.now x.key) self.old.items }
-        requires nested { (key : ℕ) → P.lets_pass from.now key ≡ true → Q.lets_pass to.now key ≡ true }
-        requires outer { (key : ℕ) → Q.lets_pass to.now key ≡ true → R.lets_pass past.now key ≡ true }
+        requires from { IsCut (λ x. P.lets_pass new.now.from.now x.key) self.old.items }
+        requires to { IsCut (λ x. Q.lets_pass new.now.to.now x.key) self.old.items }
+        requires past { IsCut (λ x. R.lets_pass new.now.past.now x.key) self.old.items }
         requires room { length self.old.items + 2 ≤ self.old.room }
-        requires hinted { AreHinted (Q.bytes to.now) (hints_in self.old) }
-        requires bytes { (key : ℕ) → P.bytes from.now key ≡ Q.bytes to.now key }
-        requires past_bytes { (key : ℕ) → R.bytes past.now key ≡ Q.bytes to.now key }
-        requires shared { take shared (P.sought from.now) ≡ take shared (Q.sought to.now) }
-        requires past_sought { R.sought past.now ≡ Q.sought to.now }
-        requires first { Q.bytes to.now first.key ≡ Some (P.sought from.now) }
-        requires second { Q.bytes to.now second ≡ Some (Q.sought to.now) }
-        requires known { IsKnown (Q.bytes to.now) first.key × IsKnown (Q.bytes to.now) second }
+        requires hinted { AreHinted (Q.bytes new.now.to.now) (hints_in self.old) }
         ensures run { MatchOption result (self.new ≡ self.old)
-            (λ done. between (Some (P.lets_pass from.now)) (Some (Q.lets_pass to.now)) self.old.items ≡ map item_of (entries_of done.run)) }
+            (λ done. between (Some (P.lets_pass new.now.from.now)) (Some (Q.lets_pass new.now.to.now)) self.old.items
+            ≡ map item_of (entries_of_run done.run)) }
         ensures ended { IfSome result (λ done. IsTrue done.ended
-            ↔ (between (Some (Q.lets_pass to.now)) (Some (R.lets_pass past.now)) self.old.items ≢ [])) }
-        ensures items { IfSome result (λ done. (last : Item) → IsLast last (passing_of (Q.lets_pass to.now) self.old.items)
-            → self.new.items ≡ passing_of (P.lets_pass from.now) self.old.items
-            ++ (item_of first ∷ ended_by done.ended (record { key = second; version = last.version })
-            ++ behind (Q.lets_pass to.now) self.old.items)) }
+            ↔ (between (Some (Q.lets_pass new.now.to.now)) (Some (R.lets_pass new.now.past.now)) self.old.items ≢ [])) }
+        ensures items { IfSome result (λ done. IsOverwritten (P.lets_pass new.now.from.now) (Q.lets_pass new.now.to.now)
+            (item_of new.now.first) new.now.second done.ended self.old.items self.new.items) }
         ensures room { self.new.room ≡ self.old.room }
-        ensures hinted { AreHinted (Q.bytes to.now) (hints_in self.new) }
+        ensures hinted { AreHinted (Q.bytes new.now.to.now) (hints_in self.new) }
         ensures known { KnowItems self.new }
     {
-        let reached = reach(&self.nodes, self.root, to);
-        let mut leaf = self.nodes.header(reached.leaf);
-        let end = leaf.count(to, reached.known);
-        let alike = reached.known.unwrap_or(0);
-        let digest = leaf.digest_for(from, alike.min(shared));
-        let begin = leaf.count_back(end, from, digest);
-        if begin == 0 {
-            return None;
-        }
-        let ended = if end < leaf.len() {
-            let digest = leaf.digest_for(past, alike);
-            leaf.passes_at(end, past, digest)
-        } else {
-            reached.behind.is_some_and(|key| past.passes(key))
-        };
-        let last = leaf.entries()[end - 1].version;
-        let new = [first, item(second, last)];
-        let new = if ended { &new[..1] } else { &new[..] };
-        if begin + new.len() > N - (leaf.len() - end) {
-            return None;
-        }
-        let mut run = leaf;
-        run.remove(end, leaf.len());
-        run.remove(0, begin);
-        leaf.splice_hinted(begin, end, new, to, digest.is_some());
-        self.root = put(&mut self.nodes, self.root, to, &leaf, None);
-        self.len = self.len - (end - begin) + new.len();
+        let Done { run, ended, .. } = overwrite(&mut self.nodes, &mut self.root, new)?;
+        let taken = run.as_ref().map_or(0, Node::len);
+        let put = if ended { 1 } else { 2 };
+        self.len = self.len - taken + put;
         Some(Overwritten { run, ended })
     }
 
@@ -393,7 +356,7 @@ impl<const N: usize> Tree<N> {
         let mut leaf = old;
         let thinned = thin(&mut leaf, begin, end, edge, before, reached.behind);
         if let Some(run) = &thinned.removed {
-            leaf.take_hints(&old, probe);
+            leaf.sharpen(probe);
             self.root = put(&mut self.nodes, self.root, probe, &leaf, None);
             self.len -= run.len();
         }

@@ -1,6 +1,6 @@
 //! What a node knows of the bytes of its keys, and the search by it.
 
-ghost use Rattle.std.specs.Prelude.{◌≡◌, ◌≢◌, ◌<◌, ◌≤◌, ◌+◌, ◌-◌, ◌++◌, ℕ, List, length, filter, map, take, drop, nat_lt, slice_get, slice_index, slice_set, None, Some, IfSome, IsTrue};
+ghost use Rattle.std.specs.Prelude.{◌≡◌, ◌≢◌, ◌<◌, ◌≤◌, ◌+◌, ◌-◌, ◌++◌, ℕ, List, length, filter, map, take, drop, nat_lt, get_or, slice_get, slice_index, slice_set, None, Some, IfSome, IsTrue};
 ghost use Rattle.std.specs.Int.{w64, to_be_bytes};
 ghost use Rattle.std.specs.List.{All};
 ghost use Rattle.tree.specs.Hints.{Agrees, BeginAlike, IsDigestFor, IsHinted, IsKnown, KnowsAt, Begins, digest_at};
@@ -10,6 +10,7 @@ ghost use Rattle.tree.specs.Path.{IsCut, index_in};
 use super::Node;
 use crate::entry::Entry;
 use crate::probe::Probe;
+use crate::search::passing;
 use arena::Slot;
 
 /// Where a search goes on in a node.
@@ -124,7 +125,7 @@ impl<const N: usize> Node<N> {
         }
     }
 
-    /// Returns how many of the entries pass, of which at least so many do. It looks at those behind them one by one.
+    /// Returns how many of the entries pass, of which at least so many do.
     pub fn count_on<P: Probe>(&self, from: usize, probe: &P, digest: Option<u64>) -> usize
         requires hinted { IsHinted (P.bytes probe.now) (hint_of self.now) }
         requires cut { IsCut (λ e. P.lets_pass probe.now e.key) (entries_of self.now) }
@@ -133,11 +134,33 @@ impl<const N: usize> Node<N> {
         ensures within { result ≤ length (entries_of self.now) }
         ensures count { result ≡ length (filter (λ e. P.lets_pass probe.now e.key) (entries_of self.now)) }
     {
-        let mut count = from;
-        while count < self.len && self.passes_at(count, probe, digest) {
-            count += 1;
+        let (from, to) = match digest {
+            Some(digest) => self.tied(from, digest),
+            None => (from, self.len),
+        };
+        from + passing(&self.entries()[from..to], probe)
+    }
+
+    // Returns the index of the first entry, from this index on, whose digest isn't below this one, and that of the first one behind
+    // it whose digest is above it. The entries between these two have this digest.
+    fn tied(&self, from: usize, digest: u64) -> (usize, usize)
+        requires from { from ≤ length (entries_of self.now) }
+        ensures first { from ≤ result.0 }
+        ensures ordered { result.0 ≤ result.1 }
+        ensures within { result.1 ≤ length (entries_of self.now) }
+        ensures below { (index : ℕ) → from ≤ index → index < result.0 → get_or (hint_of self.now).digests index 0 < digest }
+        ensures above { result.1 < length (entries_of self.now) → digest < get_or (hint_of self.now).digests result.1 0 }
+    {
+        let len = self.len();
+        let mut first = from;
+        while first < len && self.digests[first] < digest {
+            first += 1;
         }
-        count
+        let mut end = first;
+        while end < len && self.digests[end] <= digest {
+            end += 1;
+        }
+        (first, end)
     }
 
     /// Returns how many of the entries pass, of which at most so many do. It looks at these one by one, from the last one on.
@@ -254,6 +277,15 @@ impl<const N: usize> Node<N> {
             };
             self.digests[index] = digest;
         }
+        self.sharpen(probe);
+    }
+
+    /// Takes the hints anew where digests behind more bytes tell more.
+    pub fn sharpen<P: Probe>(&mut self, probe: &P)
+        requires hinted { IsHinted (P.bytes probe.now) (hint_of self.old) }
+        ensures entries { entries_of self.new ≡ entries_of self.old }
+        ensures hinted { IsHinted (P.bytes probe.now) (hint_of self.new) }
+    {
         if self.is_narrow() {
             self.renew_hints(probe);
         }

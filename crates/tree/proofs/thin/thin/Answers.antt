@@ -1,18 +1,29 @@
-use Rattle.std.proofs.Common.{rules, ◌≡◌, ◌<◌, ◌++◌, ◌∷◌, [], take, drop, map, get_or, set, ℕ, ◌+◌, ◌∙◌, ap, sym, subst, true, false, List, w64, ℤ, to_z, of_z, SFits, ◌&&◌, int_lt, int_le, arith, refl}
+use Rattle.std.proofs.Common.{rules, ◌≡◌, ◌<◌, ◌++◌, ◌∷◌, [], take, drop, map, get_or, set, ℕ, ◌+◌, ◌∙◌, ap, sym, subst, true, false, List, w64, ℤ, to_z, of_z, SFits, ◌&&◌, int_lt, int_le, arith, refl, length, Option, Some, None}
+use Rattle.std.specs.Option.{IsSomeAnd}
 use Rattle.std.proofs.lemmas.Int.{to_z-of_z}
+use Rattle.std.proofs.lemmas.Option.{slice_get_read}
 use Rattle.tree.specs.declared.entry.Entry.{Entry}
 use Rattle.tree.specs.Item.{item_of}
-use Rattle.tree.specs.Node.{entries_of}
+use Rattle.tree.specs.declared.node.Node.{Node}
+use Rattle.tree.specs.Hints.{IsHinted}
+use Rattle.tree.specs.Node.{entries_of, hint_of}
+use Rattle.tree.specs.Overwrite.{entries_of_run}
 use Rattle.tree.specs.Tree.{thin}
-use Rattle.tree.proofs.Thinning.{IsThinned, run, removed_in, one_stays, one_goes, one_more, not_below, is_below, one_not_below, last_seen, all_kept}
+use Rattle.tree.proofs.Thinning.{IsThinned, run, one_stays, one_goes, not_below, is_below, one_not_below, last_seen, all_kept}
 use Rattle.tree.proofs.thin.thin.Goals as goal
 use Rattle.tree.proofs.thin.thin.Goals.{then-last-edge, else-last-edge, then-version-edge, else-version-edge}
+
+-- the entries of a run that is there
+put_there : {N : ℕ} (run : Option (Node N)) (es : List Entry) → IsSomeAnd run (λ n. entries_of n ≡ es)
+    → entries_of_run run ≡ es
+put_there None es h = absurd h
+put_there (Some n) es h = h
 
 pub loop-index-preserved : goal.loop-index-preserved
 loop-index-preserved g c =
     let es = entries_of c.args.node.now in
     let now = entries_of c.loop-index.node in
-    let out = removed_in c.loop-index.removed in
+    let out = entries_of_run c.loop-index.removed in
     let edge = to_z w64 (of_z w64 c.args.edge) in
     let before = to_z w64 (of_z w64 c.args.before) in
     let last = to_z w64 c.loop-index.last-bits in
@@ -24,12 +35,16 @@ loop-index-preserved g c =
     let is = c.index-entries-index.is ∙ ap (λ (l : List Entry). get_or l i e) c.entries.ensures.entries in
     let here : i < c.args.to = c.loop-index-test.true in
     let Thinned : List Entry → List Entry → ℕ → ℤ → Type 0 = λ now out kept v. IsThinned edge before v es now out c.args.from c.args.to (i + 1) kept in
-    let stays = one_stays edge before last es now out c.args.from c.args.to i kept e c.loop-index.invariant here c.requires.within is in
-    let goes = one_goes edge before last es now out c.args.from c.args.to i kept e c.loop-index.invariant here c.requires.within is in
+    let inv = c.loop-index.invariant in
+    let within = c.requires.within in
+    let stays = one_stays edge before last es now out c.args.from c.args.to i kept e inv.thinned here within is in
+    let goes = one_goes edge before last es now out c.args.from c.args.to i kept e inv.thinned here within is in
     elim c.if-version-edge.branch [
       | then-version-edge w ↦
-          let nodes : entries_of c.if-version-edge.node ≡ set now kept e = ap entries_of w.node-is ∙ w.set.ensures.entries in
-          let outs : removed_in c.if-version-edge.removed ≡ out = ap removed_in w.removed-is in
+          let inside : i < length now = omega (arith, inv.thinned.same_length, within, here) in
+          let nodes : entries_of c.if-version-edge.node ≡ set now kept e =
+          ap entries_of w.node-is ∙ w.copy.ensures.entries e (slice_get_read now (length now) i e refl inside is) in
+          let outs : entries_of_run c.if-version-edge.removed ≡ out = ap entries_of_run w.removed-is in
           let kept_is : c.if-version-edge.kept ≡ kept + 1 = w.kept-is in
           let both : (int_lt last edge && int_lt e.version edge) ≡ false = elim c.if-last-edge.branch [
             | then-last-edge u ↦ rw (not_below edge last u.if-last-edge.true) refl
@@ -38,11 +53,17 @@ loop-index-preserved g c =
                 one_not_below (int_lt last edge) (int_lt e.version edge) (not_below edge e.version (ap (int_le edge) (sym same) ∙ at))
           ] in
           let t : Thinned (set now kept e) out (kept + 1) e.version = stays both in
-          rw (nodes, outs, kept_is, same) t
+          record {
+            thinned = rw (nodes, outs, kept_is, same) t;
+            hinted = λ bytes h.
+                subst (λ (n : Node g.row.N). IsHinted bytes (hint_of n)) (sym w.node-is)
+                (w.copy.ensures.hinted bytes (inv.hinted bytes h));
+          }
       | else-version-edge w ↦
           let nodes : entries_of c.if-version-edge.node ≡ now = ap entries_of w.node-is in
-          let outs : removed_in c.if-version-edge.removed ≡ out ++ e ∷ [] =
-          ap removed_in w.removed-is ∙ one_more c.loop-index.removed w.with_entry.result e w.with_entry.ensures.entries in
+          let outs : entries_of_run c.if-version-edge.removed ≡ out ++ e ∷ [] =
+          ap entries_of_run w.removed-is
+          ∙ put_there w.put_aside.new.node (out ++ e ∷ []) w.put_aside.ensures.entries in
           let kept_is : c.if-version-edge.kept ≡ kept = w.kept-is in
           let both : (int_lt last edge && int_lt e.version edge) ≡ true = elim c.if-last-edge.branch [
             | then-last-edge u ↦ let k : true ≡ false = sym u.if-last-edge.true ∙ sym u.value-is ∙ w.if-version-edge.false in absurd (cc)
@@ -53,13 +74,17 @@ loop-index-preserved g c =
                 rw (a, b) refl
           ] in
           let t : Thinned now (out ++ e ∷ []) kept e.version = goes both in
-          rw (nodes, outs, kept_is, same) t
+          record {
+            thinned = rw (nodes, outs, kept_is, same) t;
+            hinted = λ bytes h.
+                subst (λ (n : Node g.row.N). IsHinted bytes (hint_of n)) (sym w.node-is) (inv.hinted bytes h);
+          }
     ]
 
 pub returns-clause-last : goal.returns-clause-last
 returns-clause-last g c =
     let end : c.loop-index.index ≡ c.args.to = omega arith in
-    last_seen _ _ _ _ _ _ _ _ _ _ c.loop-index.invariant end c.requires.within c.requires.some
+    last_seen _ _ _ _ _ _ _ _ _ _ c.loop-index.invariant.thinned end c.requires.within c.requires.some
 
 pub returns-clause-kept : goal.returns-clause-kept
 returns-clause-kept g c =
@@ -72,4 +97,5 @@ returns-clause-kept g c =
     let Kept : ℤ → ℤ → Type 0 = λ edge before. map item_of (entries_of c.remove.new.self)
     ≡ map item_of (take from es) ++ (thin edge before (map item_of (run es from to)) ++ map item_of (drop to es)) in
     subst (λ (e : ℤ). Kept e c.args.before) edge (subst (λ (b : ℤ). Kept (to_z w64 (of_z w64 c.args.edge)) b) before
-    (all_kept _ _ _ _ _ _ _ _ _ _ c.loop-index.invariant end c.requires.within (entries_of c.remove.new.self) c.remove.ensures.entries))
+    (all_kept _ _ _ _ _ _ _ _ _ _ c.loop-index.invariant.thinned end c.requires.within (entries_of c.remove.new.self)
+    c.remove.ensures.entries))

@@ -1,48 +1,58 @@
-use Rattle.std.proofs.Common.{◌<◌, ◌∙◌, sym, length, length-take, arith}
+use Rattle.std.proofs.Common.{◌≡◌, ◌-◌, ◌∙◌, List, ap, filter, length, length-take, sym, subst, take, drop, arith, IfSome}
 use Rattle.tree.specs.declared.entry.Entry.{Entry}
-use Rattle.tree.specs.Node.{entries_of}
-use Rattle.tree.proofs.Cuts.{length-passing}
-use Rattle.tree.proofs.HintAt.{as_many, entry_at}
-use Rattle.tree.proofs.HintCounts.{passing_before, passing_inside}
+use Rattle.tree.specs.Hints.{IsDigestFor}
+use Rattle.tree.specs.Node.{entries_of, hint_of}
+use Rattle.tree.specs.Path.{IsCut}
+use Rattle.tree.proofs.Cuts.{IsCut-range, length-passing}
+use Rattle.tree.proofs.HintAt.{few_pass, many_pass}
+use Rattle.tree.proofs.HintCounts.{count_range}
 use Rattle.tree.proofs.node.Node.count_on.Goals as goal
+use Rattle.tree.proofs.node.Node.count_on.Goals.{in-Some, in-None}
 
-pub loop-count-preserved : goal.loop-count-preserved
-loop-count-preserved g c =
+pub passing-requires : goal.passing-requires
+passing-requires g c =
+    let p = λ (e : Entry). g.P.Probe.lets_pass c.args.probe.now e.key in
+    let range = c.match-digest.from in
+    let cut = subst (IsCut p) (sym c.entries.ensures.entries) c.requires.cut in
+    record { cut = IsCut-range p c.entries.result.now range.0 (range.1 - range.0) cut }
+
+pub returns-clause-count : goal.returns-clause-count
+returns-clause-count g c =
     let node = c.args.self.now in
     let es = entries_of node in
-    let i = c.loop-count.count in
-    let inside : i < length es =
-    omega (
-      arith,
-      c.loop-count-test.true,
-      as_many (g.P.Probe.bytes c.args.probe.now) node c.requires.hinted,
-      length-take node.len node.digests,
-    ) in
-    let e = entry_at es i inside in
-    let more = passing_inside (λ (e : Entry). g.P.Probe.lets_pass c.args.probe.now e.key) es i e.0 c.requires.cut e.1
-    (sym (c.passes_at.ensures.passes e.0 e.1) ∙ c.if-passes_at.true) in
-    omega (arith, more)
+    let probe = c.args.probe.now in
+    let passes = g.P.Probe.lets_pass probe in
+    let p = λ (e : Entry). passes e.key in
+    let range = c.match-digest.from in
+    let part = λ (xs : List Entry). length (filter p (take (range.1 - range.0) (drop range.0 xs))) in
+    let counted : c.passing.result ≡ part es = c.passing.ensures.count ∙ ap part c.entries.ensures.entries in
+    let sum = count_range p es range.0 range.1 c.requires.cut in
+    elim c.match-digest.branch [
+      | in-Some w ↦
+          let bytes = g.P.Probe.bytes probe in
+          let sought = g.P.Probe.sought probe in
+          let order = g.met.P.Probe.order probe in
+          let hinted = c.requires.hinted in
+          let cut = c.requires.cut in
+          let digest = w.in-Some.digest in
+          let found = w.tied.ensures in
+          let is : IsDigestFor bytes (hint_of node) sought digest =
+          subst (λ o. IfSome o (IsDigestFor bytes (hint_of node) sought)) w.in-Some.is c.requires.digest in
+          let least = many_pass bytes node hinted sought passes order digest is cut c.args.from w.tied.result.0
+          c.requires.least (omega (arith, found.ordered, found.within)) found.below in
+          let most = few_pass bytes node hinted sought passes order digest is cut w.tied.result.1 found.above in
+          let all = sum (omega (arith, least, ap (λ r. r.0) w.from-is))
+          (omega (arith, most, ap (λ r. r.1) w.from-is)) in
+          omega (arith, counted, all)
+      | in-None w ↦
+          let most = length-passing p es in
+          let len = length-take node.len node.entries in
+          let all = sum (omega (arith, c.requires.least, ap (λ r. r.0) w.from-is))
+          (omega (arith, most, len, ap (λ r. r.1) w.from-is)) in
+          omega (arith, counted, all)
+    ]
 
-pub returns-else-passes_at-clause-count : goal.returns-else-passes_at-clause-count
-returns-else-passes_at-clause-count g c =
-    let node = c.args.self.now in
-    let es = entries_of node in
-    let i = c.loop-count.count in
-    let inside : i < length es =
-    omega (
-      arith,
-      c.loop-count-test.true,
-      as_many (g.P.Probe.bytes c.args.probe.now) node c.requires.hinted,
-      length-take node.len node.digests,
-    ) in
-    let e = entry_at es i inside in
-    let most = passing_before (λ (e : Entry). g.P.Probe.lets_pass c.args.probe.now e.key) es i e.0 c.requires.cut e.1
-    (sym (c.passes_at.ensures.passes e.0 e.1) ∙ c.if-passes_at.false) in
-    omega (arith, most, c.loop-count.invariant)
-
-pub returns-after-loop-count-clause-count : goal.returns-after-loop-count-clause-count
-returns-after-loop-count-clause-count g c =
-    let node = c.args.self.now in
-    let es = entries_of node in
-    let most = length-passing (λ (e : Entry). g.P.Probe.lets_pass c.args.probe.now e.key) es in
-    omega (arith, most, c.loop-count.invariant, c.loop-count-test.false, length-take node.len node.entries)
+pub returns-clause-within : goal.returns-clause-within
+returns-clause-within g c =
+    let p = λ (e : Entry). g.P.Probe.lets_pass c.args.probe.now e.key in
+    omega (arith, returns-clause-count g c, length-passing p (entries_of c.args.self.now))

@@ -1,15 +1,29 @@
-use Rattle.std.proofs.Common.{arith, ◌≡◌, length}
+use Rattle.std.proofs.Common.{arith, refl, ◌≡◌, ◌≤◌, ◌-◌, ◌++◌, [], length, take, drop}
 use Rattle.std.proofs.lemmas.List.{length-take-le}
-use Rattle.tree.specs.Node.{entries_of}
+use Rattle.tree.specs.Node.{entries_of, hint_of}
 use Rattle.tree.proofs.Entries.{take-removed}
+use Rattle.tree.proofs.HintChanges.{hinted_removed, keys_spliced}
 use Rattle.tree.proofs.node.Node.remove.Goals as goal
 
 pub returns : goal.returns
 returns g c =
     let node = c.args.self.now in
+    let hint = hint_of node in
+    let from = c.args.from in
+    let to = c.args.to in
     let full : length node.entries ≡ g.row.N = omega arith in
     let len : length (entries_of node) ≡ node.len = length-take-le node.len node.entries (omega arith) in
+    let ordered = c.requires.ordered in
+    let most : to ≤ node.len = omega arith in
+    let left = node.len - (to - from) in
+    let entries = c.copy_within-2.new.self in
+    let digests = c.copy_within.new.self in
+    let entries_are : take left entries ≡ take from (entries_of node) ++ drop to (entries_of node) =
+    take-removed node.entries entries node.len from to (omega arith) ordered most c.copy_within-2.ensures.after in
+    let digests_are : take left digests ≡ take from hint.digests ++ drop to hint.digests =
+    take-removed node.digests digests node.len from to (omega arith) ordered most c.copy_within.ensures.after in
+    let keys_are = keys_spliced (entries_of node) [] _ from to entries_are in
     record {
-      entries =
-          take-removed node.entries c.copy_within.new.self node.len c.args.from c.args.to (omega arith) c.requires.ordered (omega arith) c.copy_within.ensures.after;
+      entries = entries_are;
+      hinted = λ bytes h. hinted_removed bytes hint _ h from to keys_are refl digests_are;
     }

@@ -69,25 +69,8 @@ loop-index-preserved g c =
           (subst P (key_read node.entries node.len i e inside most is) agrees);
     }
 
-pub renew_hints-requires-then-is_narrow : goal.renew_hints-requires-then-is_narrow
-renew_hints-requires-then-is_narrow g c =
-    let node = c.loop-index.self in
-    let inv = c.loop-index.invariant in
-    let same : keys_of (entries_of node) ≡ keys_of (entries_of c.args.self.now) =
-    ap₂ (λ n (es : List Entry). keys_of (take n es)) inv.len inv.entries in
-    (search rules, subst (All (IsKnown (g.P.Probe.bytes c.args.probe.now))) (sym same) c.requires.known)
-
-pub returns-then-is_narrow-clause-entries : goal.returns-then-is_narrow-clause-entries
-returns-then-is_narrow-clause-entries g c =
-    c.renew_hints-then-is_narrow.ensures.entries
-    ∙ ap₂ (λ n (es : List Entry). take n es) c.loop-index.invariant.len c.loop-index.invariant.entries
-
-pub returns-else-is_narrow-clause-entries : goal.returns-else-is_narrow-clause-entries
-returns-else-is_narrow-clause-entries g c =
-    ap₂ (λ n (es : List Entry). take n es) c.loop-index.invariant.len c.loop-index.invariant.entries
-
-pub returns-else-is_narrow-clause-hinted : goal.returns-else-is_narrow-clause-hinted
-returns-else-is_narrow-clause-hinted g c =
+pub sharpen-requires : goal.sharpen-requires
+sharpen-requires g c =
     let bytes = g.P.Probe.bytes c.args.probe.now in
     let hint = hint_of c.args.other.now in
     let P = BeginsAsThese bytes hint in
@@ -100,11 +83,19 @@ returns-else-is_narrow-clause-hinted g c =
     let known : All (IsKnown bytes) keys = subst (All (IsKnown bytes)) (sym same) c.requires.known in
     let most : node.len ≤ length node.entries = omega (arith, inv.len, ap length inv.entries) in
     let count = keys_count node.entries node.len most in
-    let end : c.loop-index.index ≡ node.len = omega (arith, inv.len) in
-    let begin : All P keys = subst (All P) (take_all c.loop-index.index keys (omega (arith, count, end))) inv.begin in
-    record {
-      beginning = hinted.beginning;
-      skip = hinted.skip ∙ sym inv.skip;
-      begins = all_begin bytes hint hinted keys known begin;
-      digests = map_whole (digest_at bytes node.skip) keys node.digests node.len c.loop-index.index count end inv.digests;
-    }
+    let i = c.loop-index.index in
+    let end : i ≡ node.len = omega (arith, inv.len) in
+    let begin : All P keys = subst (All P) (take_all i keys (omega (arith, count, end))) inv.begin in (
+      search rules,
+      record {
+        beginning = hinted.beginning;
+        skip = hinted.skip ∙ sym inv.skip;
+        begins = all_begin bytes hint hinted keys known begin;
+        digests = map_whole (digest_at bytes node.skip) keys node.digests node.len i count end inv.digests;
+      },
+    )
+
+pub returns-clause-entries : goal.returns-clause-entries
+returns-clause-entries g c =
+    c.sharpen.ensures.entries
+    ∙ ap₂ (λ n (es : List Entry). take n es) c.loop-index.invariant.len c.loop-index.invariant.entries

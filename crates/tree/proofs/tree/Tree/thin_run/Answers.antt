@@ -5,7 +5,7 @@ use Rattle.std.proofs.lemmas.List.{length-map}
 use Rattle.tree.specs.declared.entry.Entry.{Entry}
 use Rattle.tree.specs.declared.node.Node.{Node}
 use Rattle.tree.specs.Item.{Item, item_of}
-use Rattle.tree.specs.Node.{entries_of, hint_of}
+use Rattle.tree.specs.Node.{entries_of}
 use Rattle.tree.specs.Path.{IsCut, before_leaf, behind_leaf, passing, behind, first_key}
 use Rattle.tree.specs.Subtree.{items_in}
 use Rattle.tree.specs.Tree.{Items, IsLast, thin, gone, hints_in, KnowItems}
@@ -14,11 +14,11 @@ use Rattle.tree.proofs.Inserting.{tree_put}
 use Rattle.tree.proofs.Leaves.{IsLeaf}
 use Rattle.tree.proofs.Thinning.{run, all_stay}
 use Rattle.tree.proofs.LastRun.{some_passes, run_found, length-looked, key_behind_run, thinned_items, thinned_count, thinned_some, unthinned, none_gone, versions}
-use Rattle.tree.specs.Hints.{AreHinted, IsKnown, KnowsAt}
-use Rattle.tree.proofs.Hinted.{all_known, hinted_at}
+use Rattle.tree.specs.Hints.{AreHinted, KnowsAt}
+use Rattle.tree.proofs.Hinted.{hinted_at}
 use Rattle.tree.proofs.HintList.{hinted_from_list, hinted_in_list}
 use Rattle.tree.proofs.KnownItems.{know_items}
-use Rattle.tree.proofs.LeafChange.{parted, leaf_read, root_some, keys_thinned}
+use Rattle.tree.proofs.LeafChange.{parted, leaf_read, root_some}
 use Rattle.tree.proofs.Placing.{entries_from_header}
 use Rattle.tree.proofs.tree.Tree.thin_run.Goals as goal
 
@@ -84,24 +84,15 @@ overflow_sub-begin g c =
     let count = c.count-begin.ensures.count in
     omega (arith, count, some_passes p items before after es leaf some)
 
-pub take_hints-requires : goal.take_hints-requires
-take_hints-requires g c =
+pub sharpen-requires : goal.sharpen-requires
+sharpen-requires g c =
     let bytes = g.P.Probe.bytes c.args.probe.now in
     let t = c.self.inside in
     let all = hinted_from_list bytes t.nodes
     (subst (λ (v : Items). AreHinted bytes (hints_in v)) (sym c.self.view_is) c.requires.hinted) in
-    let node = c.header-old.result in
-    let hinted = hinted_at bytes t.nodes c.reach-reached.result.leaf node all c.header-old.ensures.header in
-    let begin = c.count-begin.result - 1 in
-    let end = begin + c.min.result in (
-      omega (arith, c.self.invariant.few),
-      (
-        hinted,
-        keys_thinned (IsKnown bytes) (entries_of node) (entries_of c.thin-thinned.new.node) begin (end - begin) end
-            (to_z w64 (of_z w64 c.args.edge)) (to_z w64 (of_z w64 c.args.before)) (all_known bytes (hint_of node) hinted)
-            c.thin-thinned.ensures.kept,
-      ),
-    )
+    let leaf = c.reach-reached.result.leaf in
+    let hinted = hinted_at bytes t.nodes leaf c.header-old.result all c.header-old.ensures.header in
+    (omega (arith, c.self.invariant.few), c.thin-thinned.ensures.hinted bytes hinted)
 
 pub put-self-inside-requires : goal.put-self-inside-requires
 put-self-inside-requires g c =
@@ -129,7 +120,7 @@ put-self-inside-requires g c =
                     tt,
                     (
                       root_some t.nodes t.root.slot t.root.height t.len t.room c.self.invariant,
-                      (all, (c.take_hints.ensures.hinted, tt)),
+                      (all, (c.sharpen.ensures.hinted, tt)),
                     ),
                   ),
                 ),
@@ -216,8 +207,8 @@ invariant_of-self g c =
     let edge_is : to_z w64 (of_z w64 c.args.edge) ≡ c.args.edge = to_z-of_z w64 c.args.edge c.ranges.edge in
     let before_is : to_z w64 (of_z w64 c.args.before) ≡ c.args.before = to_z-of_z w64 c.args.before c.ranges.before in
     let thinned = c.thin-thinned.ensures in
-    let stay = entries_of c.take_hints.new.self in
-    let kept = ap (map item_of) c.take_hints.ensures.entries ∙ thinned.kept in
+    let stay = entries_of c.sharpen.new.self in
+    let kept = ap (map item_of) c.sharpen.ensures.entries ∙ thinned.kept in
     let edge = to_z w64 (of_z w64 c.args.edge) in
     let last = to_z w64 (of_z w64 c.args.before) in
     let removed : map item_of (entries_of c.in-Some.run') ≡ gone edge last looked =
@@ -272,8 +263,8 @@ returns-in-Some-clause-thinned g c =
     let edge_is : to_z w64 (of_z w64 c.args.edge) ≡ c.args.edge = to_z-of_z w64 c.args.edge c.ranges.edge in
     let before_is : to_z w64 (of_z w64 c.args.before) ≡ c.args.before = to_z-of_z w64 c.args.before c.ranges.before in
     let thinned = c.thin-thinned.ensures in
-    let stay = entries_of c.take_hints.new.self in
-    let kept = ap (map item_of) c.take_hints.ensures.entries ∙ thinned.kept in
+    let stay = entries_of c.sharpen.new.self in
+    let kept = ap (map item_of) c.sharpen.ensures.entries ∙ thinned.kept in
     let edge = to_z w64 (of_z w64 c.args.edge) in
     let last = to_z w64 (of_z w64 c.args.before) in
     let Removed : ℤ → ℤ → Type 0 = λ e b. MatchOption c.thin-thinned.result.removed (gone e b looked ≡ []) (λ r. map item_of (entries_of r) ≡ gone e b looked) in

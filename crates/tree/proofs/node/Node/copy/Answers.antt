@@ -1,0 +1,46 @@
+use Rattle.std.proofs.Common.{arith, refl, ◌≡◌, ◌<◌, ◌≤◌, ◌∙◌, ap, sym, length, get_or}
+use Rattle.std.specs.Prelude.{slice_set}
+use Rattle.std.proofs.lemmas.List.{length-take-le, map-set}
+use Rattle.std.proofs.lemmas.List.Elements.{All-contains}
+use Rattle.std.proofs.Math.Seq.{take-set-lt}
+use Rattle.tree.specs.declared.entry.Entry.{Entry}
+use Rattle.tree.specs.Hints.{IsKnown, digest_at}
+use Rattle.tree.specs.Node.{entries_of, hint_of, keys_of}
+use Rattle.tree.proofs.HintAt.{entry_there}
+use Rattle.tree.proofs.HintChanges.{digest_there, hinted_set, key_agrees, key_there}
+use Rattle.tree.proofs.Hinted.{all_known}
+use Rattle.tree.proofs.node.Node.copy.Goals as goal
+
+pub returns-clause-entries : goal.returns-clause-entries
+returns-clause-entries g c e there =
+    let node = c.args.self.now in
+    let from = c.args.from in
+    let to = c.args.to in
+    let read = c.index-self-from.result in
+    let len : length (entries_of node) ≡ node.len = length-take-le node.len node.entries (omega arith) in
+    let to_inside : to < node.len = omega (arith, c.requires.to, len) in
+    take-set-lt node.len node.entries to (get_or node.entries from read) to_inside
+    ∙ ap (slice_set (entries_of node) to) (entry_there node.entries node.len from e read there)
+
+pub returns-clause-hinted : goal.returns-clause-hinted
+returns-clause-hinted g c bytes h =
+    let node = c.args.self.now in
+    let hint = hint_of node in
+    let from = c.args.from in
+    let to = c.args.to in
+    let e = c.index-self-from.result in
+    let is = c.index-self-from.is in
+    let most : node.len ≤ length node.entries = omega arith in
+    let len : length (entries_of node) ≡ node.len = length-take-le node.len node.entries most in
+    let from_inside : from < node.len = omega (arith, c.requires.from, len) in
+    let to_inside : to < node.len = omega (arith, c.requires.to, len) in
+    let there = key_there node.entries node.len from e from_inside most is in
+    let known = All-contains (IsKnown bytes) hint.keys e.key (all_known bytes hint h) there in
+    let read = get_or node.entries from e in
+    hinted_set bytes hint _ h to e.key (get_or node.digests from 0) known (key_agrees bytes hint e.key there)
+    (digest_there node.entries node.len from e from_inside most is (digest_at bytes node.skip) node.digests h.digests)
+    (ap keys_of (take-set-lt node.len node.entries to read to_inside)
+    ∙ map-set (λ (x : Entry). x.key) (entries_of node) to read
+    ∙ ap (λ (x : Entry). slice_set hint.keys to x.key) (sym is))
+    refl
+    (take-set-lt node.len node.digests to (get_or node.digests from 0) to_inside)

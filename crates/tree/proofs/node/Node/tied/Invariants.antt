@@ -1,0 +1,21 @@
+use Rattle.std.proofs.Common.{◌-◌, ◌<◌, ◌≤◌, ℕ, length, get_or}
+use Rattle.tree.specs.Node.{entries_of, hint_of}
+use Rattle.tree.proofs.node.Node.tied.Given as goal
+
+abbrev pub invariant-loop-first : goal.invariant-loop-first
+invariant-loop-first g l =
+    record {
+      first : l.fn.from ≤ l.first;
+      within : l.first ≤ length (entries_of l.self);
+      below : (index : ℕ) → l.fn.from ≤ index → index < l.first → get_or (hint_of l.self).digests index 0 < l.digest;
+    }
+
+abbrev pub decreases-loop-first : goal.decreases-loop-first
+decreases-loop-first g l = l.len - l.first
+
+abbrev pub invariant-loop-end : goal.invariant-loop-end
+invariant-loop-end g l =
+    record { ordered : l.first ≤ l.end; within : l.end ≤ length (entries_of l.self) }
+
+abbrev pub decreases-loop-end : goal.decreases-loop-end
+decreases-loop-end g l = l.len - l.end
