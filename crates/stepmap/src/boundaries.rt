@@ -224,7 +224,8 @@ impl<const N: usize> Boundaries<N> {
             first: item(begin_key, version),
             second: end_key,
         };
-        let Some(done) = self.tree.overwrite(&new) else {
+        let mut run = None;
+        let Some(done) = self.tree.overwrite(&new, &mut run) else {
             self.keys.release(begin_key);
             self.keys.release(end_key);
             return false;
@@ -232,7 +233,7 @@ impl<const N: usize> Boundaries<N> {
         if done.ended {
             self.keys.release(end_key);
         }
-        if let Some(run) = &done.run {
+        if let Some(run) = &run {
             release(&mut self.keys, run.entries());
         }
         true

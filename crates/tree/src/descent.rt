@@ -20,14 +20,15 @@ use arena::{Arena, Slot};
 #[derive(Clone, Copy, Debug)]
 pub struct Reached {
     pub leaf: Slot,
-    /// How many bytes the first key of the leaf and what is looked for begin with in common, or none if that key doesn't pass.
+    /// How many bytes the first key of the leaf and what is looked for begin with in common, or none if that key
+    /// doesn't pass.
     pub known: Option<usize>,
     /// The key of the first item behind the leaf.
     pub behind: Option<Slot>,
 }
 
-/// Returns how many bytes the first key of a node and what is looked for begin with in common, or none if that key doesn't
-/// pass.
+/// Returns how many bytes the first key of a node and what is looked for begin with in common, or none if that key
+/// doesn't pass.
 pub fn known_at<P: Probe, const N: usize>(
     nodes: &Arena<Node<N>>,
     slot: Slot,
@@ -44,9 +45,9 @@ pub fn known_at<P: Probe, const N: usize>(
     Some(probe.common_with(first))
 }
 
-/// Finds the leaf that has the last item that passes, or else the first leaf. `known` is how many bytes the first key of the
-/// subtree and what is looked for begin with in common, or none if that key doesn't pass. `behind` is the key of the first item
-/// behind the subtree.
+/// Finds the leaf that has the last item that passes, or else the first leaf. `known` is how many bytes the first key
+/// of the subtree and what is looked for begin with in common, or none if that key doesn't pass. `behind` is the key of
+/// the first item behind the subtree.
 pub fn find<P: Probe, const N: usize>(
     nodes: &Arena<Node<N>>,
     slot: Slot,
@@ -80,10 +81,10 @@ pub fn find<P: Probe, const N: usize>(
     find(nodes, child, height - 1, probe, step.known, next)
 }
 
-/// Returns whether a version of the items before a cut, of those before another cut the last alone, is above this one, if one
-/// leaf or one subtree tells so. `known` is how many bytes the first key of the subtree and what the first cut looks for begin with
-/// in common, and `shared` how many what the two cuts look for do. `clear` tells that the items behind the subtree don't come
-/// before the second cut.
+/// Returns whether a version of the items before a cut, of those before another cut the last alone, is above this one,
+/// if one leaf or one subtree tells so. `known` is how many bytes the first key of the subtree and what the first cut
+/// looks for begin with in common, and `shared` how many what the two cuts look for do. `clear` tells that the items
+/// behind the subtree don't come before the second cut.
 pub fn told<P: Probe, Q: Probe, const N: usize>(
     nodes: &Arena<Node<N>>,
     slot: Slot,

@@ -37,7 +37,8 @@ pub fn summary<const N: usize>(nodes: &Arena<Node<N>>, child: Slot) -> Entry
     }
 }
 
-/// Makes the entry for a changed child right. A child with too few entries is joined with a neighbour, or takes some of its entries.
+/// Makes the entry for a changed child right. A child with too few entries is joined with a neighbour, or takes some of
+/// its entries.
 pub fn mend<P: Probe, const N: usize>(
     nodes: &mut Arena<Node<N>>,
     node: &mut Node<N>,

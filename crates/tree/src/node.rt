@@ -27,7 +27,6 @@ impl<const N: usize> Node<N> {
     ghost use Rattle.tree.specs.Item.{IsGreatest, version_of};
     ghost use Rattle.tree.specs.Hints.{IsHinted, KeyBytes};
     ghost use Rattle.tree.specs.Node.{digests_in, entries_of, hint_of, keys_of};
-    ghost use Rattle.tree.specs.Overwrite.{entries_of_run};
 
     /// Returns a node of one entry. What it knows is right if the key is empty.
     pub fn of(entry: Entry) -> Self
@@ -155,8 +154,8 @@ impl<const N: usize> Node<N> {
         right
     }
 
-    /// Puts these entries in place of those from one index up to another, where there is no room for all. The entries of the second
-    /// half are returned.
+    /// Puts these entries in place of those from one index up to another, where there is no room for all. The entries
+    /// of the second half are returned.
     pub fn splice_apart(&mut self, from: usize, to: usize, new: &[Entry]) -> Node<N>
         requires ordered { from ≤ to }
         requires within { to ≤ length (entries_of self.old) }
@@ -178,19 +177,16 @@ impl<const N: usize> Node<N> {
         right
     }
 
-    /// Returns the entries from one index up to another, or none where there is none.
-    pub fn run(&self, from: usize, to: usize) -> Option<Node<N>>
+    /// Returns a node of the entries from one index up to another.
+    pub fn run(&self, from: usize, to: usize) -> Node<N>
         requires ordered { from ≤ to }
         requires within { to ≤ length (entries_of self.now) }
-        ensures entries { entries_of_run result ≡ drop from (take to (entries_of self.now)) }
+        ensures entries { entries_of result ≡ drop from (take to (entries_of self.now)) }
     {
-        if from == to {
-            return None;
-        }
         let mut run = *self;
         run.remove(to, self.len());
         run.remove(0, from);
-        Some(run)
+        run
     }
 
     /// Inserts an entry at an index. A full node is split: the entries of its second half are returned.

@@ -47,20 +47,18 @@ pub struct Overwrite<'a, P: Probe, Q: Probe, R: Probe> {
 }
 
 /// What was done to a subtree, whose items are written over.
-#[derive(Debug, Drop)]
-pub struct Done<const N: usize> {
-    /// The items that were taken out, if there were any.
-    pub run: Option<Node<N>>,
+#[derive(Clone, Copy, Debug)]
+pub struct Done {
     /// Whether an item had the key of the second new one, which was not put in.
     pub ended: bool,
     /// The slot of the right neighbour, where the subtree was split.
     pub added: Option<Slot>,
 }
 
-/// Writes over a run of the subtree's items, and mends the nodes above it. Does nothing and returns none unless one leaf has the
-/// run and the item before it. Takes at most one slot at each height. `known` is how many bytes the first key of the subtree and
-/// what the second cut looks for begin with in common, or none if that key doesn't pass. `behind` is the key of the first item
-/// behind the subtree.
+/// Writes over a run of the subtree's items, puts what was there into `run`, and mends the nodes above it. Does nothing
+/// and returns none unless one leaf has the run and the item before it. Takes at most one slot at each height. `known`
+/// is how many bytes the first key of the subtree and what the second cut looks for begin with in common, or none if
+/// that key doesn't pass. `behind` is the key of the first item behind the subtree.
 pub fn write_over<P: Probe, Q: Probe, R: Probe, const N: usize>(
     nodes: &mut Arena<Node<N>>,
     slot: Slot,
@@ -68,7 +66,8 @@ pub fn write_over<P: Probe, Q: Probe, R: Probe, const N: usize>(
     new: &Overwrite<'_, P, Q, R>,
     known: Option<usize>,
     behind: Option<Slot>,
-) -> Option<Done<N>>
+    run: &mut Option<Node<N>>,
+) -> Option<Done>
     requires fan_out { 4 ≤ N }
     requires few { N ≤ 65536 }
     requires subtree { IsSubtree nodes.old (least_of N) height slot }
@@ -83,12 +82,13 @@ pub fn write_over<P: Probe, Q: Probe, R: Probe, const N: usize>(
     requires known { KnowsAt (Q.bytes new.now.to.now) (Q.lets_pass new.now.to.now) (Q.sought new.now.to.now) known
         (entries_at nodes.old slot) 0 }
     requires hinted { AreHinted (Q.bytes new.now.to.now) (hints_of nodes.old) }
+    requires run { run.old ≡ None }
 
     ensures none { result ≡ None → nodes.new ≡ nodes.old }
     // What was there.
     ensures before { IfSome result (λ _. passing (P.lets_pass new.now.from.now) (items_in nodes.old height slot) ≢ []) }
-    ensures run { IfSome result (λ done. between (Some (P.lets_pass new.now.from.now)) (Some (Q.lets_pass new.now.to.now))
-        (items_in nodes.old height slot) ≡ map item_of (entries_of_run done.run)) }
+    ensures run { IfSome result (λ _. between (Some (P.lets_pass new.now.from.now)) (Some (Q.lets_pass new.now.to.now))
+        (items_in nodes.old height slot) ≡ map item_of (entries_of_run run.new)) }
     ensures ended { IfSome result (λ done. done.ended ≡ lets_pass_first (R.lets_pass new.now.past.now)
         (first_key behind (behind_cut (Q.lets_pass new.now.to.now) (items_in nodes.old height slot)))) }
     // What the subtree holds afterwards, with its right neighbour.
@@ -108,13 +108,13 @@ pub fn write_over<P: Probe, Q: Probe, R: Probe, const N: usize>(
     ensures hinted { IfSome result (λ _. AreHinted (Q.bytes new.now.to.now) (hints_of nodes.new)) }
 {
     if height == 0 {
-        return write_over_lowest(nodes, slot, height, new, known, behind);
+        return write_over_lowest(nodes, slot, height, new, known, behind, run);
     }
     let node = nodes.header_ref(slot);
     let step = node.step(new.to, known);
     let next = key_at(node.entries(), step.index + 1, behind);
     let child = node.entries()[step.index].child;
-    let mut done = write_over(nodes, child, height - 1, new, step.known, next)?;
+    let mut done = write_over(nodes, child, height - 1, new, step.known, next, run)?;
     done.added = match done.added {
         Some(added) => link_child(nodes, slot, step.index, added, new.to),
         None => {
@@ -133,7 +133,8 @@ fn write_over_lowest<P: Probe, Q: Probe, R: Probe, const N: usize>(
     new: &Overwrite<'_, P, Q, R>,
     known: Option<usize>,
     behind: Option<Slot>,
-) -> Option<Done<N>>
+    run: &mut Option<Node<N>>,
+) -> Option<Done>
     requires fan_out { 4 ≤ N }
     requires few { N ≤ 65536 }
     requires lowest { height ≡ 0 }
@@ -146,10 +147,11 @@ fn write_over_lowest<P: Probe, Q: Probe, R: Probe, const N: usize>(
     requires known { KnowsAt (Q.bytes new.now.to.now) (Q.lets_pass new.now.to.now) (Q.sought new.now.to.now) known
         (entries_at nodes.old slot) 0 }
     requires hinted { AreHinted (Q.bytes new.now.to.now) (hints_of nodes.old) }
+    requires run { run.old ≡ None }
     ensures none { result ≡ None → nodes.new ≡ nodes.old }
     ensures before { IfSome result (λ _. passing (P.lets_pass new.now.from.now) (items_in nodes.old height slot) ≢ []) }
-    ensures run { IfSome result (λ done. between (Some (P.lets_pass new.now.from.now)) (Some (Q.lets_pass new.now.to.now))
-        (items_in nodes.old height slot) ≡ map item_of (entries_of_run done.run)) }
+    ensures run { IfSome result (λ _. between (Some (P.lets_pass new.now.from.now)) (Some (Q.lets_pass new.now.to.now))
+        (items_in nodes.old height slot) ≡ map item_of (entries_of_run run.new)) }
     ensures ended { IfSome result (λ done. done.ended ≡ lets_pass_first (R.lets_pass new.now.past.now)
         (first_key behind (behind_cut (Q.lets_pass new.now.to.now) (items_in nodes.old height slot)))) }
     ensures items { IfSome result (λ done. IsOverwritten (P.lets_pass new.now.from.now) (Q.lets_pass new.now.to.now)
@@ -164,7 +166,7 @@ fn write_over_lowest<P: Probe, Q: Probe, R: Probe, const N: usize>(
     ensures taken { IfSome result (λ _. spare_of nodes.old 0 ≤ spare_of nodes.new 0 + (height + 1)) }
     ensures hinted { IfSome result (λ _. AreHinted (Q.bytes new.now.to.now) (hints_of nodes.new)) }
 {
-    write_over_leaf(nodes, slot, new, known, behind)
+    write_over_leaf(nodes, slot, new, known, behind, run)
 }
 
 // Writes over a run of a leaf's items. A leaf that has no room is split.
@@ -174,7 +176,8 @@ fn write_over_leaf<P: Probe, Q: Probe, R: Probe, const N: usize>(
     new: &Overwrite<'_, P, Q, R>,
     known: Option<usize>,
     behind: Option<Slot>,
-) -> Option<Done<N>>
+    run: &mut Option<Node<N>>,
+) -> Option<Done>
     requires fan_out { 4 ≤ N }
     requires few { N ≤ 65536 }
     requires live { IsLive nodes.old slot }
@@ -186,10 +189,11 @@ fn write_over_leaf<P: Probe, Q: Probe, R: Probe, const N: usize>(
     requires known { KnowsAt (Q.bytes new.now.to.now) (Q.lets_pass new.now.to.now) (Q.sought new.now.to.now) known
         (entries_at nodes.old slot) 0 }
     requires hinted { AreHinted (Q.bytes new.now.to.now) (hints_of nodes.old) }
+    requires run { run.old ≡ None }
     ensures none { result ≡ None → nodes.new ≡ nodes.old }
     ensures before { IfSome result (λ _. passing (P.lets_pass new.now.from.now) (map item_of (entries_at nodes.old slot)) ≢ []) }
-    ensures run { IfSome result (λ done. between (Some (P.lets_pass new.now.from.now)) (Some (Q.lets_pass new.now.to.now))
-        (map item_of (entries_at nodes.old slot)) ≡ map item_of (entries_of_run done.run)) }
+    ensures run { IfSome result (λ _. between (Some (P.lets_pass new.now.from.now)) (Some (Q.lets_pass new.now.to.now))
+        (map item_of (entries_at nodes.old slot)) ≡ map item_of (entries_of_run run.new)) }
     ensures ended { IfSome result (λ done. done.ended ≡ lets_pass_first (R.lets_pass new.now.past.now)
         (first_key behind (behind_cut (Q.lets_pass new.now.to.now) (map item_of (entries_at nodes.old slot))))) }
     ensures items { IfSome result (λ done. IsOverwritten (P.lets_pass new.now.from.now) (Q.lets_pass new.now.to.now)
@@ -220,7 +224,9 @@ fn write_over_leaf<P: Probe, Q: Probe, R: Probe, const N: usize>(
     let last = leaf.entries()[end - 1].version;
     let entries = [new.first, item(new.second, last)];
     let entries = if ended { &entries[..1] } else { &entries[..] };
-    let run = leaf.run(begin, end);
+    if begin < end {
+        *run = Some(leaf.run(begin, end));
+    }
     let added = if begin + entries.len() > N - (leaf.len() - end) {
         split_leaf(nodes, slot, begin, end, entries, new.to)
     } else {
@@ -228,11 +234,11 @@ fn write_over_leaf<P: Probe, Q: Probe, R: Probe, const N: usize>(
         leaf.splice_hinted(begin, end, entries, new.to, digest.is_some());
         None
     };
-    Some(Done { run, ended, added })
+    Some(Done { ended, added })
 }
 
-// Puts entries in place of those of a leaf from one index up to another, which is split for it. Returns the slot of its right
-// neighbour.
+// Puts entries in place of those of a leaf from one index up to another, which is split for it. Returns the slot of its
+// right neighbour.
 fn split_leaf<P: Probe, const N: usize>(
     nodes: &mut Arena<Node<N>>,
     slot: Slot,

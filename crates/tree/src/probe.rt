@@ -8,8 +8,8 @@ use arena::Slot;
 
 /// A cut through items in the order of their keys. Those before it pass.
 ///
-/// A probe knows the bytes of keys and those that are looked for. Whether an item passes goes by them: those before what is
-/// looked for pass, and those behind it don't.
+/// A probe knows the bytes of keys and those that are looked for. Whether an item passes goes by them: those before
+/// what is looked for pass, and those behind it don't.
 pub trait Probe {
     // Whether an item of this key passes.
     ghost lets_pass: { Self → ℕ → Bool };

@@ -18,9 +18,10 @@ use crate::node::Node;
 use crate::probe::Probe;
 use arena::{Arena, Slot};
 
-/// Puts nodes in place of the leaf that [`find`](crate::descent::find) finds, and mends the nodes above it. Returns the slot
-/// of the right neighbour where the subtree is split in two. Takes at most one slot at each height. `known` is how many bytes the
-/// first key of the subtree and what is looked for begin with in common, or none if that key doesn't pass.
+/// Puts nodes in place of the leaf that [`find`](crate::descent::find) finds, and mends the nodes above it. Returns the
+/// slot of the right neighbour where the subtree is split in two. Takes at most one slot at each height. `known` is how
+/// many bytes the first key of the subtree and what is looked for begin with in common, or none if that key doesn't
+/// pass.
 pub fn replace_leaf<P: Probe, const N: usize>(
     nodes: &mut Arena<Node<N>>,
     slot: Slot,
@@ -75,8 +76,8 @@ pub fn replace_leaf<P: Probe, const N: usize>(
     }
 }
 
-/// Makes the entry at an index right in the node at a slot, whose child was split, and puts one for the child's right neighbour
-/// behind it. Returns the slot of the node's own right neighbour where it is split, too.
+/// Makes the entry at an index right in the node at a slot, whose child was split, and puts one for the child's right
+/// neighbour behind it. Returns the slot of the node's own right neighbour where it is split, too.
 pub fn link_child<P: Probe, const N: usize>(
     nodes: &mut Arena<Node<N>>,
     slot: Slot,
@@ -108,8 +109,8 @@ pub fn link_child<P: Probe, const N: usize>(
     store(nodes, slot, &node, right.as_ref(), probe)
 }
 
-// Makes the entry at an index right in the node at a slot, whose child has changed: where the node lies, unless the child has
-// too few entries.
+// Makes the entry at an index right in the node at a slot, whose child has changed: where the node lies, unless the
+// child has too few entries.
 fn mend_child<P: Probe, const N: usize>(
     nodes: &mut Arena<Node<N>>,
     slot: Slot,
@@ -141,8 +142,8 @@ fn mend_child<P: Probe, const N: usize>(
     nodes.set_header(slot, node);
 }
 
-/// Makes the entry at an index right in the node at a slot, whose child has changed: an item of this version was written in its
-/// subtree.
+/// Makes the entry at an index right in the node at a slot, whose child has changed: an item of this version was
+/// written in its subtree.
 pub fn mend_written<P: Probe, const N: usize>(
     nodes: &mut Arena<Node<N>>,
     slot: Slot,
@@ -172,7 +173,8 @@ pub fn mend_written<P: Probe, const N: usize>(
         .set(index, Entry { version, ..entry });
 }
 
-// Makes the entry for a changed child right, and puts one for the child's new right neighbour behind it. A full node is split.
+// Makes the entry for a changed child right, and puts one for the child's new right neighbour behind it. A full node is
+// split.
 fn link<const N: usize>(
     nodes: &Arena<Node<N>>,
     node: &mut Node<N>,

@@ -54,8 +54,8 @@ pub fn reach<P: Probe, const N: usize>(nodes: &Arena<Node<N>>, root: Root, probe
     find(nodes, root.slot, root.height, probe, known, None)
 }
 
-/// Puts nodes in place of that leaf. Returns the root of the tree as it is then: a full one is split and gets one above it, and
-/// one with a single child gives its place to the child.
+/// Puts nodes in place of that leaf. Returns the root of the tree as it is then: a full one is split and gets one above
+/// it, and one with a single child gives its place to the child.
 pub fn put<P: Probe, const N: usize>(
     nodes: &mut Arena<Node<N>>,
     root: Root,
@@ -88,13 +88,15 @@ pub fn put<P: Probe, const N: usize>(
     }
 }
 
-/// Writes over a run of items. Does nothing and returns none unless one leaf has the run and the item before it. A root that is
-/// split gets one above it, and one with a single child gives its place to the child.
+/// Writes over a run of items, and puts what was there into `run`. Does nothing and returns none unless one leaf has
+/// the run and the item before it. A root that is split gets one above it, and one with a single child gives its place
+/// to the child.
 pub fn overwrite<P: Probe, Q: Probe, R: Probe, const N: usize>(
     nodes: &mut Arena<Node<N>>,
     root: &mut Root,
     new: &Overwrite<'_, P, Q, R>,
-) -> Option<Done<N>>
+    run: &mut Option<Node<N>>,
+) -> Option<Done>
     requires fan_out { 4 ≤ N }
     requires few { N ≤ 65536 }
     requires low { root.old.height < 63 }
@@ -105,12 +107,13 @@ pub fn overwrite<P: Probe, Q: Probe, R: Probe, const N: usize>(
     requires room { root.old.height + 1 < spare_of nodes.old 0 }
     requires some { 1 ≤ length (entries_at nodes.old root.old.slot) }
     requires hinted { AreHinted (Q.bytes new.now.to.now) (hints_of nodes.old) }
+    requires run { run.old ≡ None }
     ensures none { result ≡ None → nodes.new ≡ nodes.old }
     ensures root { result ≡ None → root.new ≡ root.old }
     ensures before { IfSome result (λ _. passing (P.lets_pass new.now.from.now)
         (items_in nodes.old root.old.height root.old.slot) ≢ []) }
-    ensures run { IfSome result (λ done. between (Some (P.lets_pass new.now.from.now)) (Some (Q.lets_pass new.now.to.now))
-        (items_in nodes.old root.old.height root.old.slot) ≡ map item_of (entries_of_run done.run)) }
+    ensures run { IfSome result (λ _. between (Some (P.lets_pass new.now.from.now)) (Some (Q.lets_pass new.now.to.now))
+        (items_in nodes.old root.old.height root.old.slot) ≡ map item_of (entries_of_run run.new)) }
     ensures ended { IfSome result (λ done. done.ended ≡ lets_pass_first (R.lets_pass new.now.past.now)
         (first_key None (behind (Q.lets_pass new.now.to.now) (items_in nodes.old root.old.height root.old.slot)))) }
     ensures items { IfSome result (λ done. IsOverwritten (P.lets_pass new.now.from.now) (Q.lets_pass new.now.to.now)
@@ -122,7 +125,7 @@ pub fn overwrite<P: Probe, Q: Probe, R: Probe, const N: usize>(
     ensures hinted { IfSome result (λ _. AreHinted (Q.bytes new.now.to.now) (hints_of nodes.new)) }
 {
     let known = known_at(nodes, root.slot, new.to);
-    let done = write_over(nodes, root.slot, root.height, new, known, None)?;
+    let done = write_over(nodes, root.slot, root.height, new, known, None, run)?;
     *root = match done.added {
         Some(added) => grow(nodes, *root, added, new.to),
         None => shrink(nodes, *root),

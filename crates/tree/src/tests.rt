@@ -1,4 +1,5 @@
-//! A tree of many items. What calls do to the items is their contracts; these tests show that they come to an end and do it.
+//! A tree of many items. What calls do to the items is their contracts; these tests show that they come to an end and
+//! do it.
 
 ghost use Rattle.std.specs.Prelude.{Some, [], IfOk};
 ghost use Rattle.tree.specs.Hints.{AreHinted};

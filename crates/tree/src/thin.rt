@@ -26,8 +26,9 @@ pub struct Thinned<const N: usize> {
     pub next: Option<Slot>,
 }
 
-/// Looks at the entries of a leaf from one index up to another, and takes out each whose version and predecessor's version are
-/// below `edge`. `before` is the version of the entry before the first of them, and `behind` the key of the item behind the leaf.
+/// Looks at the entries of a leaf from one index up to another, and takes out each whose version and predecessor's
+/// version are below `edge`. `before` is the version of the entry before the first of them, and `behind` the key of the
+/// item behind the leaf.
 pub fn thin<const N: usize>(
     node: &mut Node<N>,
     from: usize,

@@ -26,8 +26,8 @@ use std::marker::Model;
 // How many nodes a change may use beyond those that the items need. No tree is higher than 63 nodes above a leaf.
 const WAY: usize = 66;
 
-/// Items in the order of their keys, at least one. Contracts see the items, for how many nodes are reserved, and what the nodes
-/// know of the bytes of keys.
+/// Items in the order of their keys, at least one. Contracts see the items, for how many nodes are reserved, and what
+/// the nodes know of the bytes of keys.
 #[derive(Drop)]
 pub struct Tree<const N: usize> {
     nodes: Arena<Node<N>>,
@@ -54,10 +54,8 @@ impl<const N: usize> Model for Tree<N> {
 }
 
 /// What [`Tree::overwrite`] did.
-#[derive(Debug, Drop)]
-pub struct Overwritten<const N: usize> {
-    /// The items that were taken out, if there were any.
-    pub run: Option<Node<N>>,
+#[derive(Clone, Copy, Debug)]
+pub struct Overwritten {
     /// Whether an item had the key of the second new one, which was not put in.
     pub ended: bool,
 }
@@ -164,8 +162,8 @@ impl<const N: usize> Tree<N> {
         )
     }
 
-    /// Returns whether a version of the items before the second cut, of those before the first one the last alone, is above this
-    /// one. What the cuts look for begins with `shared` bytes in common, at least.
+    /// Returns whether a version of the items before the second cut, of those before the first one the last alone, is
+    /// above this one. What the cuts look for begins with `shared` bytes in common, at least.
     pub fn exceeds_from_last<'a, P: Probe, Q: Probe>(
         &self,
         from: &'a P,
@@ -256,8 +254,8 @@ impl<const N: usize> Tree<N> {
         self.root = put(&mut self.nodes, self.root, probe, &leaf, None);
     }
 
-    /// Takes some of the items from one cut to another out, the last of these among them, and returns them. Returns none where
-    /// there is none.
+    /// Takes some of the items from one cut to another out, the last of these among them, and returns them. Returns
+    /// none where there is none.
     pub fn take_run<P: Probe, Q: Probe>(&mut self, from: &P, to: &Q) -> Option<Node<N>>
         requires from { IsCut (λ x. P.lets_pass from.now x.key) self.old.items }
         requires to { IsCut (λ x. Q.lets_pass to.now x.key) self.old.items }
@@ -290,21 +288,23 @@ impl<const N: usize> Tree<N> {
         Some(run)
     }
 
-    /// Puts an item in place of those from one cut to another, and returns those. Puts a second one behind it, with the version of
-    /// the last item before the other cut, unless an item stands between that cut and a third one. Does nothing and returns none
-    /// unless one leaf has those items and the one before them.
+    /// Puts an item in place of those from one cut to another, and puts those into `run`. Puts a second one behind it,
+    /// with the version of the last item before the other cut, unless an item stands between that cut and a third one.
+    /// Does nothing and returns none unless one leaf has those items and the one before them.
     pub fn overwrite<P: Probe, Q: Probe, R: Probe>(
         &mut self,
         new: &Overwrite<'_, P, Q, R>,
-    ) -> Option<Overwritten<N>>
+        run: &mut Option<Node<N>>,
+    ) -> Option<Overwritten>
         requires from { IsCut (λ x. P.lets_pass new.now.from.now x.key) self.old.items }
         requires to { IsCut (λ x. Q.lets_pass new.now.to.now x.key) self.old.items }
         requires past { IsCut (λ x. R.lets_pass new.now.past.now x.key) self.old.items }
         requires room { length self.old.items + 2 ≤ self.old.room }
         requires hinted { AreHinted (Q.bytes new.now.to.now) (hints_in self.old) }
+        requires run { run.old ≡ None }
         ensures run { MatchOption result (self.new ≡ self.old)
-            (λ done. between (Some (P.lets_pass new.now.from.now)) (Some (Q.lets_pass new.now.to.now)) self.old.items
-            ≡ map item_of (entries_of_run done.run)) }
+            (λ _. between (Some (P.lets_pass new.now.from.now)) (Some (Q.lets_pass new.now.to.now)) self.old.items
+            ≡ map item_of (entries_of_run run.new)) }
         ensures ended { IfSome result (λ done. IsTrue done.ended
             ↔ (between (Some (Q.lets_pass new.now.to.now)) (Some (R.lets_pass new.now.past.now)) self.old.items ≢ [])) }
         ensures items { IfSome result (λ done. IsOverwritten (P.lets_pass new.now.from.now) (Q.lets_pass new.now.to.now)
@@ -313,15 +313,15 @@ impl<const N: usize> Tree<N> {
         ensures hinted { AreHinted (Q.bytes new.now.to.now) (hints_in self.new) }
         ensures known { KnowItems self.new }
     {
-        let Done { run, ended, .. } = overwrite(&mut self.nodes, &mut self.root, new)?;
+        let Done { ended, .. } = overwrite(&mut self.nodes, &mut self.root, new, run)?;
         let taken = run.as_ref().map_or(0, Node::len);
         let put = if ended { 1 } else { 2 };
         self.len = self.len - taken + put;
-        Some(Overwritten { run, ended })
+        Some(Overwritten { ended })
     }
 
-    /// Looks at a run of items that begins with the last one that passes, at most `count` of them, and takes out each whose
-    /// version and predecessor's version are below `edge`. `before` is the version of the item before the run.
+    /// Looks at a run of items that begins with the last one that passes, at most `count` of them, and takes out each
+    /// whose version and predecessor's version are below `edge`. `before` is the version of the item before the run.
     pub fn thin_run<P: Probe>(
         &mut self,
         probe: &P,

@@ -31,8 +31,8 @@ impl<const N: usize> Node<N> {
         usize::from(self.skip)
     }
 
-    /// Finds the last entry that passes, or else the first one. `known` is how many bytes the first key and what is looked for
-    /// begin with in common, or none if that key doesn't pass.
+    /// Finds the last entry that passes, or else the first one. `known` is how many bytes the first key and what is
+    /// looked for begin with in common, or none if that key doesn't pass.
     pub fn step<P: Probe>(&self, probe: &P, known: Option<usize>) -> Step
         requires hinted { IsHinted (P.bytes probe.now) (hint_of self.now) }
         requires cut { IsCut (λ e. P.lets_pass probe.now e.key) (entries_of self.now) }
@@ -51,8 +51,8 @@ impl<const N: usize> Node<N> {
         Step { index, known }
     }
 
-    /// Returns how many of the entries pass. `known` is how many bytes the first key and what is looked for begin with in
-    /// common, or none if that key doesn't pass.
+    /// Returns how many of the entries pass. `known` is how many bytes the first key and what is looked for begin with
+    /// in common, or none if that key doesn't pass.
     pub fn count<P: Probe>(&self, probe: &P, known: Option<usize>) -> usize
         requires hinted { IsHinted (P.bytes probe.now) (hint_of self.now) }
         requires cut { IsCut (λ e. P.lets_pass probe.now e.key) (entries_of self.now) }
@@ -71,8 +71,8 @@ impl<const N: usize> Node<N> {
         self.count_on(below, probe, Some(digest))
     }
 
-    // Returns how many bytes the key at an index and what is looked for begin with in common. `shared` is the same of the first
-    // key. Both pass.
+    // Returns how many bytes the key at an index and what is looked for begin with in common. `shared` is the same of
+    // the first key. Both pass.
     fn shared_at<P: Probe>(&self, index: usize, probe: &P, shared: usize) -> usize
         requires hinted { IsHinted (P.bytes probe.now) (hint_of self.now) }
         requires within { index < length (entries_of self.now) }
@@ -94,8 +94,8 @@ impl<const N: usize> Node<N> {
         self.skip() + same_bytes(self.digests[index], digest)
     }
 
-    /// Returns the digest of what is looked for behind the bytes that all keys begin with, if it begins with them, too. The first
-    /// key and what is looked for begin with `shared` bytes in common, at least.
+    /// Returns the digest of what is looked for behind the bytes that all keys begin with, if it begins with them, too.
+    /// The first key and what is looked for begin with `shared` bytes in common, at least.
     pub fn digest_for<P: Probe>(&self, probe: &P, shared: usize) -> Option<u64>
         requires hinted { IsHinted (P.bytes probe.now) (hint_of self.now) }
         requires some { 0 < length (entries_of self.now) }
@@ -111,7 +111,8 @@ impl<const N: usize> Node<N> {
         Some(probe.digest(self.skip()))
     }
 
-    /// Returns whether the entry at an index passes. `digest` is that of what is looked for, if it begins as all keys do.
+    /// Returns whether the entry at an index passes. `digest` is that of what is looked for, if it begins as all keys
+    /// do.
     pub fn passes_at<P: Probe>(&self, index: usize, probe: &P, digest: Option<u64>) -> bool
         requires hinted { IsHinted (P.bytes probe.now) (hint_of self.now) }
         requires within { index < length (entries_of self.now) }
@@ -141,8 +142,8 @@ impl<const N: usize> Node<N> {
         from + passing(&self.entries()[from..to], probe)
     }
 
-    // Returns the index of the first entry, from this index on, whose digest isn't below this one, and that of the first one behind
-    // it whose digest is above it. The entries between these two have this digest.
+    // Returns the index of the first entry, from this index on, whose digest isn't below this one, and that of the
+    // first one behind it whose digest is above it. The entries between these two have this digest.
     fn tied(&self, from: usize, digest: u64) -> (usize, usize)
         requires from { from ≤ length (entries_of self.now) }
         ensures first { from ≤ result.0 }
@@ -163,7 +164,8 @@ impl<const N: usize> Node<N> {
         (first, end)
     }
 
-    /// Returns how many of the entries pass, of which at most so many do. It looks at these one by one, from the last one on.
+    /// Returns how many of the entries pass, of which at most so many do. It looks at these one by one, from the last
+    /// one on.
     pub fn count_back<P: Probe>(&self, to: usize, probe: &P, digest: Option<u64>) -> usize
         requires hinted { IsHinted (P.bytes probe.now) (hint_of self.now) }
         requires cut { IsCut (λ e. P.lets_pass probe.now e.key) (entries_of self.now) }
@@ -227,8 +229,8 @@ impl<const N: usize> Node<N> {
         self.digests[index] = probe.digest_of(entry.key, self.skip());
     }
 
-    /// Puts these entries in place of those from one index up to another, and takes their hints. `begin` tells that their keys
-    /// begin as all others do.
+    /// Puts these entries in place of those from one index up to another, and takes their hints. `begin` tells that
+    /// their keys begin as all others do.
     pub fn splice_hinted<P: Probe>(
         &mut self,
         from: usize,
@@ -267,12 +269,7 @@ impl<const N: usize> Node<N> {
     {
         self.skip = other.skip;
         for index in 0..self.len {
-            let Some(digest) = other.digest_of(
-                self.entries[index].key,
-                index,
-                self.len - index,
-                probe,
-            ) else {
+            let Some(digest) = other.digest_of(self.entries[index].key, index, probe) else {
                 return self.renew_hints(probe);
             };
             self.digests[index] = digest;
@@ -291,9 +288,8 @@ impl<const N: usize> Node<N> {
         }
     }
 
-    // Returns the digest of a key that begins as all keys do. The key is looked for at two indices, of which the second one is
-    // counted from the end.
-    fn digest_of<P: Probe>(&self, key: Slot, index: usize, behind: usize, probe: &P) -> Option<u64>
+    // Returns the digest of a key that begins as all keys do. The key is looked for at an index first.
+    fn digest_of<P: Probe>(&self, key: Slot, index: usize, probe: &P) -> Option<u64>
         requires hinted { IsHinted (P.bytes probe.now) (hint_of self.now) }
         requires known { IsKnown (P.bytes probe.now) key }
         ensures digest { IfSome result (λ digest. digest ≡ digest_at (P.bytes probe.now) (hint_of self.now).skip key) }
@@ -303,8 +299,7 @@ impl<const N: usize> Node<N> {
         if index < self.len && self.entries[index].key == key {
             return Some(self.digests[index]);
         }
-        let index = self.len.saturating_sub(behind);
-        if index < self.len && self.entries[index].key == key {
+        if let Some(index) = self.entries().iter().position(|entry| entry.key == key) {
             return Some(self.digests[index]);
         }
         if self.begins(key, probe) {
@@ -325,7 +320,8 @@ impl<const N: usize> Node<N> {
         }
     }
 
-    // Returns whether the first and the last digest begin with six bytes in common. Digests behind more bytes tell more then.
+    // Returns whether the first and the last digest begin with six bytes in common. Digests behind more bytes tell more
+    // then.
     fn is_narrow(&self) -> bool {
         match (self.digests.first(), self.digests[..self.len].last()) {
             (Some(first), Some(last)) => same_bytes(*first, *last) >= 6,

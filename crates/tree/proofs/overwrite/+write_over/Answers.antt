@@ -116,34 +116,31 @@ write_over-requires g t c κs within =
               (
                 search rules,
                 (
-                  search rules,
+                  c.requires.fan_out,
                   (
-                    c.requires.fan_out,
+                    c.requires.few,
                     (
-                      c.requires.few,
+                      found_subtree a L n slot passes x f,
                       (
-                        found_subtree a L n slot passes x f,
+                        λ _. omega (arith, filled),
                         (
-                          λ _. omega (arith, filled),
+                          distinct_if_once (slots_in a h x)
+                              (child_few a a L h es i x d at.within at.x_is at.few_below at.right),
                           (
-                            distinct_if_once (slots_in a h x)
-                                (child_few a a L h es i x d at.within at.x_is at.few_below at.right),
+                            c.requires.keyless,
                             (
-                              c.requires.keyless,
+                              part_cut (g.P.Probe.lets_pass c.args.new.now.from.now) (items_in a n slot) front
+                                  (items_in a h x) back split
+                                  c.requires.from,
                               (
-                                part_cut (g.P.Probe.lets_pass c.args.new.now.from.now) (items_in a n slot) front
-                                    (items_in a h x) back split
-                                    c.requires.from,
+                                found_cut a L n slot passes x f,
                                 (
-                                  found_cut a L n slot passes x f,
+                                  part_cut (g.R.Probe.lets_pass c.args.new.now.past.now) (items_in a n slot) front
+                                      (items_in a h x) back split
+                                      c.requires.past,
                                   (
-                                    part_cut (g.R.Probe.lets_pass c.args.new.now.past.now) (items_in a n slot) front
-                                        (items_in a h x) back split
-                                        c.requires.past,
-                                    (
-                                      omega (arith, c.requires.room),
-                                      (omega (arith, filled), (known, c.requires.hinted)),
-                                    ),
+                                    omega (arith, c.requires.room),
+                                    (omega (arith, filled), (known, (c.requires.hinted, c.requires.run))),
                                   ),
                                 ),
                               ),

@@ -4,6 +4,7 @@ use Rattle.std.proofs.Common.{ℤ, SFits, w64}
 use Rattle.std.specs.Prelude.{◌≢◌}
 use Rattle.std.specs.List.{All}
 use Rattle.std.proofs.lemmas.Int.{to_z-of_z}
+use Rattle.std.proofs.lemmas.List.{drop_all, length-take-le}
 use Rattle.tree.specs.declared.entry.Entry.{Entry}
 use Rattle.tree.specs.declared.node.Node.{Node}
 use Rattle.tree.specs.Hints.{IsHinted, IsKnown, KnowsAt, Agrees}
@@ -23,6 +24,7 @@ use Rattle.tree.proofs.Splicing.{IsReplaced}
 use Rattle.tree.proofs.WrittenLeaf.{leaf_alone, some_item, written, ended_in_leaf, ended_behind, IsStored, stored_here}
 use Rattle.tree.proofs.overwrite.write_over_leaf.Goals.{then-ended, else-ended, then-end-len, else-end-len}
 use Rattle.tree.proofs.overwrite.write_over_leaf.Goals.{then-begin-entries, else-begin-entries}
+use Rattle.tree.proofs.overwrite.write_over_leaf.Goals.{then-begin-end, else-begin-end, Joined-begin-end}
 use Rattle.tree.proofs.overwrite.write_over_leaf.Goals.{After-header_ref-leaf, After-count_back-begin, Joined-ended}
 use Rattle.tree.proofs.overwrite.write_over_leaf.Goals.{Joined-begin-entries}
 use Rattle.tree.proofs.overwrite.write_over_leaf.Given as given
@@ -173,10 +175,27 @@ overflow_sub-last g c =
     let b = (goal.at.overflow_sub-last g c).After-count_back-begin in
     omega (arith, ordered g b, c.if-begin-eq0.false)
 
-pub run-run-requires : goal.run-run-requires
-run-run-requires g c =
-    let b = (goal.at.run-run-requires g c).After-count_back-begin in
+pub run-requires : goal.run-requires
+run-requires g c =
+    let b = (goal.at.run-requires g c).After-count_back-begin in
     (omega (arith, c.requires.few), (ordered g b, c.count-end.ensures.within))
+
+-- the entries that are taken out
+taken_out : (g : given.Over) (c : Joined-begin-end g)
+    → entries_of_run c.if-begin-end.run
+    ≡ drop c.count_back-begin.result (take c.count-end.result (entries_of c.header_ref-leaf.result.now))
+taken_out g c =
+    let begin = c.count_back-begin.result in
+    let end = c.count-end.result in
+    let es = entries_of c.header_ref-leaf.result.now in
+    elim c.if-begin-end.branch [
+      | then-begin-end w ↦ ap entries_of_run w.run-is ∙ w.run.ensures.entries
+      | else-begin-end w ↦
+          let size : length (take end es) ≡ end = length-take-le end es c.count-end.ensures.within in
+          let none : drop begin (take end es) ≡ [] =
+          drop_all begin (take end es) (omega (arith, size, w.if-begin-end.false)) in
+          ap entries_of_run (w.run-is ∙ c.requires.run) ∙ sym none
+    ]
 
 -- what is put into the leaf
 new_is : (g : given.Over) (c : Joined-ended g)
@@ -382,11 +401,13 @@ Replaced g c =
     IsReplaced (g.P.Probe.lets_pass c.args.new.now.from.now) (g.Q.Probe.lets_pass c.args.new.now.to.now)
     (map item_of (entries_at c.args.nodes.now c.args.slot))
     (map item_of (entries_at_both c.if-begin-entries.nodes c.args.slot c.if-begin-entries.added))
-    (entries_of_run c.run-run.result) c.if-ended.entries.now (c.count-end.result - c.count_back-begin.result)
+    (entries_of_run c.if-begin-end.run) c.if-ended.entries.now (c.count-end.result - c.count_back-begin.result)
 
 replaced_at : (g : given.Over) (c : Joined-begin-entries g) → c.count_back-begin.result ≤ c.count-end.result
+    → entries_of_run c.if-begin-end.run
+    ≡ drop c.count_back-begin.result (take c.count-end.result (entries_of c.header_ref-leaf.result.now))
     → Replaced g c
-replaced_at g c ordered =
+replaced_at g c ordered taken =
     let p = g.P.Probe.lets_pass c.args.new.now.from.now in
     let q = g.Q.Probe.lets_pass c.args.new.now.to.now in
     let es = entries_at c.args.nodes.now c.args.slot in
@@ -398,15 +419,15 @@ replaced_at g c ordered =
     ordered (subst (λ (xs : List Entry). end ≤ length xs) read c.count-end.ensures.within)
     (subst (λ xs. begin ≡ length (filter (λ (e : Entry). p e.key) xs)) read c.count_back-begin.ensures.count)
     (subst (λ xs. end ≡ length (filter (λ (e : Entry). q e.key) xs)) read c.count-end.ensures.count)
-    (entries_of_run c.run-run.result) c.if-ended.entries.now
+    (entries_of_run c.if-begin-end.run) c.if-ended.entries.now
     (entries_at_both c.if-begin-entries.nodes c.args.slot c.if-begin-entries.added)
-    (subst (λ xs. entries_of_run c.run-run.result ≡ drop begin (take end xs)) read c.run-run.ensures.entries)
+    (subst (λ xs. entries_of_run c.if-begin-end.run ≡ drop begin (take end xs)) read taken)
     (stored g c).entries
 
 pub returns-clause-run : goal.returns-clause-run
 returns-clause-run g c =
-    let b = (goal.at.returns-clause-run g c).After-count_back-begin in
-    (replaced_at g c (ordered g b)).between
+    let at = goal.at.returns-clause-run g c in
+    (replaced_at g c (ordered g at.After-count_back-begin) (taken_out g at.Joined-begin-end)).between
 
 pub returns-clause-ended : goal.returns-clause-ended
 returns-clause-ended g c =
@@ -458,7 +479,7 @@ returns-clause-items g c last is_last =
     let x_at : ℤ → Item = λ v. record { key = new.second; version = v } in
     let second : item_of c.item.result ≡ x_at last.version =
     c.item.ensures.item ∙ ap x_at (to_z-of_z w64 version fits ∙ version_is) in
-    (replaced_at g c (ordered g b)).now_is
+    (replaced_at g c (ordered g b) (taken_out g at.Joined-begin-end)).now_is
     ∙ ap (λ xs. passing p items ++ (map item_of xs ++ behind q items)) (new_is g j)
     ∙ ap (λ xs. passing p items ++ xs) (items_put ended new.first c.item.result (x_at last.version) (behind q items)
     second)

@@ -16,23 +16,20 @@ write_over_leaf-requires g c =
     let new = c.args.new.now in (
       search rules,
       (
-        search rules,
+        c.requires.fan_out,
         (
-          c.requires.fan_out,
+          c.requires.few,
           (
-            c.requires.few,
+            leaf_live a (least_of g.row.N) n slot c.requires.lowest c.requires.subtree,
             (
-              leaf_live a (least_of g.row.N) n slot c.requires.lowest c.requires.subtree,
+              c.requires.keyless,
               (
-                c.requires.keyless,
+                lowest_cut a n slot (g.P.Probe.lets_pass new.from.now) c.requires.lowest c.requires.from,
                 (
-                  lowest_cut a n slot (g.P.Probe.lets_pass new.from.now) c.requires.lowest c.requires.from,
+                  lowest_cut a n slot (g.Q.Probe.lets_pass new.to.now) c.requires.lowest c.requires.to,
                   (
-                    lowest_cut a n slot (g.Q.Probe.lets_pass new.to.now) c.requires.lowest c.requires.to,
-                    (
-                      omega (arith, c.requires.room),
-                      (c.requires.some, (c.requires.known, c.requires.hinted)),
-                    ),
+                    omega (arith, c.requires.room),
+                    (c.requires.some, (c.requires.known, (c.requires.hinted, c.requires.run))),
                   ),
                 ),
               ),

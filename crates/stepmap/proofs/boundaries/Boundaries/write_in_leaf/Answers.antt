@@ -156,7 +156,7 @@ overwrite-requires g c =
         omega (arith, c.self.inside.few),
         (
           cuts g at false begin,
-          (cuts g at false end, (cuts g at true end, (omega (arith, room g at), hinted_at g at))),
+          (cuts g at false end, (cuts g at true end, (omega (arith, room g at), (hinted_at g at, refl)))),
         ),
       ),
     )
@@ -247,7 +247,7 @@ left_at g c ready =
     ]
 
 -- what was put into the tree, where these entries were taken out
-put_at : (g : given.Over) (c : Joined-done g) (es : List Entry) → entries_of_run c.in-Some.done.run ≡ es
+put_at : (g : given.Over) (c : Joined-done g) (es : List Entry) → entries_of_run c.overwrite.new.run ≡ es
     → IsPut c.place-2.new.self c.self.inside.tree c.unwrap-end_key.result es c.in-Some.done.ended c.overwrite.new.self
     c.args.range.now.begin c.args.range.now.end
     (record { key = c.unwrap-begin_key.result; version = c.args.version })
@@ -286,7 +286,7 @@ record IsReplaced (g : given.Over) (c : Joined-done g) (es : List Entry) : Type 
       × (boundaries_of keys c.overwrite.new.self.items
       ≡ written c.args.range.now c.args.version c.args.self.now.boundaries)
 
-replaced : (g : given.Over) (c : Joined-done g) (es : List Entry) → entries_of_run c.in-Some.done.run ≡ es
+replaced : (g : given.Over) (c : Joined-done g) (es : List Entry) → entries_of_run c.overwrite.new.run ≡ es
     → AreReady c.self.inside.keys c.self.inside.tree c.self.invariant.stored c.args.range.now c.requires.filled c.args.version
     c.unwrap-begin_key.result c.unwrap-end_key.result c.place-2.new.self
     → IsReplaced g c es
@@ -329,7 +329,7 @@ replaced g c es same ready =
     }
 
 -- the entries that are released
-run_at : (g : given.Over) (c : After-entries g) → entries_of_run c.in-Some.done.run ≡ c.entries.result.now
+run_at : (g : given.Over) (c : After-entries g) → entries_of_run c.overwrite.new.run ≡ c.entries.result.now
 run_at g c = ap entries_of_run c.in-Some-run.is ∙ sym c.entries.ensures.entries
 
 pub release-requires-in-Some-run-clause-live : goal.release-requires-in-Some-run-clause-live
@@ -367,7 +367,7 @@ returns-in-Some-run-clause-spare g c = λ size.
     (omega (arith, r.used size, c.release-in-Some-run.ensures.spare size))
 
 -- where no items were taken out, no more keys are released
-no_run : (g : given.Over) (c : In_default-run g) → entries_of_run c.in-Some.done.run ≡ []
+no_run : (g : given.Over) (c : In_default-run g) → entries_of_run c.overwrite.new.run ≡ []
 no_run g c = ap entries_of_run c.in_default-run.is
 
 pub invariant_of-self-in_default-run : goal.invariant_of-self-in_default-run

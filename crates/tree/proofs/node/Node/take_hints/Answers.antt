@@ -11,9 +11,6 @@ pub loop-index-init : goal.loop-index-init
 loop-index-init g c =
     record { len = refl; entries = refl; skip = refl; room = omega arith; digests = refl; begin = λ k d inside. absurd (omega (arith, inside)) }
 
-pub overflow_sub-self : goal.overflow_sub-self
-overflow_sub-self g c = omega (arith, c.loop-index.invariant.len)
-
 pub digest_of-requires : goal.digest_of-requires
 digest_of-requires g c =
     let P = IsKnown (g.P.Probe.bytes c.args.probe.now) in
