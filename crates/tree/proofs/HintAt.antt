@@ -3,7 +3,7 @@ use Rattle.std.proofs.Common.{◌≡◌, ◌≢◌, ℕ, ◌+◌, ◌<◌, ◌�
 use Rattle.std.specs.Prelude.{unwrap_or}
 use Rattle.std.specs.Int.{w64, to_be_bytes}
 use Rattle.std.proofs.lemmas.Bool.{cases_lt}
-use Rattle.std.proofs.lemmas.List.{take_at, get_or-map, length-map}
+use Rattle.std.proofs.lemmas.List.{take_at, get_or-map}
 use Rattle.std.proofs.lemmas.Option.{get_or_from_slice_get, slice_get_within, slice_get-get_or, slice_get-map}
 use Rattle.keyspace.specs.Key.{IsBytes, IsBefore}
 use Rattle.tree.specs.declared.entry.Entry.{Entry}
@@ -241,10 +241,3 @@ module _ {N : ℕ} (bytes : KeyBytes) (node : Node N) (h : IsHinted bytes (hint_
               ∙ le-ltb own digest (omega arith) in
               passing_before (λ (e : Entry). passes e.key) es end e.0 cut e.1 fails
         ]
-
--- A node has as many digests as entries.
-pub as_many : {N : ℕ} (bytes : KeyBytes) (node : Node N) → IsHinted bytes (hint_of node)
-    → length (take node.len node.digests) ≡ length (entries_of node)
-as_many bytes node h =
-    ap length h.digests ∙ length-map (keys_of (entries_of node)) (digest_at bytes node.skip)
-    ∙ length-map (entries_of node) (λ (e : Entry). e.key)

@@ -1,18 +1,14 @@
 -- Two cuts in one leaf: what is looked for begins alike, and the first one is no farther on.
-use Rattle.std.proofs.Common.{◌≡◌, ◌≢◌, ℕ, ◌<◌, ◌≤◌, Bool, true, false, not, List, [], ◌∷◌, ◌++◌, Option, Some, None, MatchOption, IsTrue, is_some, unwrap_or, length, get_or, slice_get, take, drop, filter, map, refl, sym, ◌∙◌, ap, inl, inr, arith}
+use Rattle.std.proofs.Common.{◌≡◌, ℕ, ◌≤◌, Bool, true, false, List, [], ◌∷◌, Option, Some, None, is_some, unwrap_or, length, slice_get, take, filter, sym, ◌∙◌, ap, inl, inr, arith}
 use Rattle.std.specs.Prelude.{IfSome}
 use Rattle.std.specs.List.{All}
 use Rattle.std.proofs.lemmas.Bool.{cases_Bool}
-use Rattle.std.proofs.lemmas.List.{take-take, at_drop_more, at_drop_all}
+use Rattle.std.proofs.lemmas.List.{take-take}
 use Rattle.std.proofs.lemmas.List.Elements.{All-nil, All-cons}
-use Rattle.std.proofs.lemmas.Option.{slice_get-get_or}
 use Rattle.tree.specs.declared.entry.Entry.{Entry}
 use Rattle.tree.specs.Hints.{KeyBytes, BeginAlike, KnowsAt, Hint, Agrees, IsDigestFor}
-use Rattle.tree.specs.Item.{Item, item_of}
 use Rattle.tree.specs.Node.{keys_of}
-use Rattle.tree.specs.Path.{IsCut, behind, between, first_key}
-use Rattle.tree.proofs.Leaves.{IsLeaf, behind_is}
-use Rattle.tree.proofs.Overwriting.{entries_put, told_between}
+use Rattle.tree.proofs.Overwriting.{entries_put}
 
 -- what begins alike does so as far as fewer bytes
 pub fewer_alike : (fewer n : ℕ) (a b : List ℕ) → fewer ≤ n → take n a ≡ take n b → take fewer a ≡ take fewer b
@@ -69,34 +65,3 @@ no_more p q nested (e ∷ es) =
             | inr n ↦ rw (f, n) (omega (arith, i))
           ]
     ]
-
-module _ (q r : ℕ → Bool) (items before after : List Item) (es : List Entry) (leaf : IsLeaf q items before after es)
-    (cut : IsCut (λ x. q x.key) items) (past : IsCut (λ x. r x.key) items) (end : ℕ)
-    (others : drop end es ≡ filter (λ e. not (q e.key)) es) (ended : Bool) where
-  behind_end : behind q items ≡ map item_of (drop end es) ++ after
-  behind_end = behind_is q items before after es leaf ∙ ap (λ xs. map item_of xs ++ after) (sym others)
-
-  -- The next entry of the leaf tells whether an item stands between the cuts.
-  pub next_in_leaf : end < length es → ((e : Entry) → slice_get es end ≡ Some e → ended ≡ r e.key)
-      → (IsTrue ended → between (Some q) (Some r) items ≢ []) × (between (Some q) (Some r) items ≢ [] → IsTrue ended)
-  next_in_leaf within tells = by_entries es within refl
-    where
-      by_entries : (xs : List Entry) → end < length xs → xs ≡ es
-          → (IsTrue ended → between (Some q) (Some r) items ≢ []) × (between (Some q) (Some r) items ≢ [] → IsTrue ended)
-      by_entries [] lt same = absurd (omega arith)
-      by_entries (d ∷ xs) lt same =
-          let e = get_or es end d in
-          let key : Some e.key ≡ first_key None (behind q items) =
-          sym (ap (first_key None) behind_end
-          ∙ at_drop_more (λ ys. first_key None (map item_of ys ++ after)) es end d within) in
-          told_between q r items (Some e.key) (λ k. ended ≡ r k) ended cut past key
-          (tells e (slice_get-get_or es end d within)) (λ k h. h)
-
-  -- Where there is none, the first item behind the leaf does.
-  pub next_behind : length es ≤ end → (key : Option ℕ) (post : ℕ → Type 0) → key ≡ first_key None after
-      → MatchOption key (ended ≡ false) post → ((k : ℕ) → post k → ended ≡ r k)
-      → (IsTrue ended → between (Some q) (Some r) items ≢ []) × (between (Some q) (Some r) items ≢ [] → IsTrue ended)
-  next_behind all key post is tested says =
-      let same : behind q items ≡ after =
-      behind_end ∙ at_drop_all (λ ys. map item_of ys ++ after) es end all in
-      told_between q r items key post ended cut past (is ∙ ap (first_key None) (sym same)) tested says

@@ -1,5 +1,5 @@
 -- A run of a leaf from one cut to another, in whose place other entries are put.
-use Rattle.std.proofs.Common.{◌≡◌, ℕ, ◌+◌, ◌-◌, ◌<◌, ◌≤◌, inl, inr, Bool, true, false, not, ◌&&◌, List, [], ◌++◌, Some, length, get_or, take, drop, filter, map, All, refl, sym, ◌∙◌, ap, ap₂, subst, arith, length-append, length-drop, append_assoc}
+use Rattle.std.proofs.Common.{◌≡◌, ℕ, ◌+◌, ◌-◌, ◌≤◌, inl, inr, Bool, true, false, not, ◌&&◌, List, [], ◌++◌, Some, length, get_or, take, drop, filter, map, All, refl, sym, ◌∙◌, ap, ap₂, subst, arith, length-append, length-drop, append_assoc}
 use Rattle.std.specs.List.{copy_within}
 use Rattle.std.proofs.lemmas.Bool.{cases_Bool}
 use Rattle.std.proofs.lemmas.List.{map-append, length-map, length-take-le, take-take, take-append-le, take_at, drop_at, drop-drop, drop-take}
@@ -45,7 +45,6 @@ pub record IsReplaced (p q : ℕ → Bool) (items now : List Item) (run new : Li
   pub between : between (Some p) (Some q) items ≡ map item_of run
   pub now_is : now ≡ passing p items ++ (map item_of new ++ behind q items)
   pub count : length now + gone ≡ length items + length new
-  pub some_stay : gone < length items
 
 module _ (p q : ℕ → Bool) (nested : (key : ℕ) → p key ≡ true → q key ≡ true) (items before after : List Item) (es : List Entry)
     (leaf : IsLeaf q items before after es) (cut : IsCut (λ x. p x.key) items) where
@@ -146,5 +145,4 @@ module _ (p q : ℕ → Bool) (nested : (key : ℕ) → p key ≡ true → q key
             ∙ ap (λ xs. xs ++ map item_of middle) (none_kept pass) ∙ ap (map item_of) (sym run_same);
         now_is = left ∙ sym (ap₂ (λ xs ys. xs ++ (n ++ ys)) passing_are behind_are);
         count = omega (arith, sizes, size, length-drop end es);
-        some_stay = omega (arith, size, some, most);
       }

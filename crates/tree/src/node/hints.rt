@@ -143,7 +143,7 @@ impl<const N: usize> Node<N> {
     }
 
     // Returns the index of the first entry, from this index on, whose digest isn't below this one, and that of the
-    // first one behind it whose digest is above it. The entries between these two have this digest.
+    // first one behind it whose digest is above it. So the entries that have this digest stand between these two.
     fn tied(&self, from: usize, digest: u64) -> (usize, usize)
         requires from { from ≤ length (entries_of self.now) }
         ensures first { from ≤ result.0 }
