@@ -25,7 +25,7 @@ use std::marker::Model;
 pub const MAX_LIMIT: usize = 16_777_216;
 
 // How many entries a node of the tree has at most.
-const FAN_OUT: usize = 32;
+const FAN_OUT: usize = 56;
 
 /// How a sweep ended.
 #[derive(Clone, Copy, Debug, PartialEq, Eq, Hash)]

@@ -268,11 +268,13 @@ impl<const N: usize> Node<N> {
         ensures hinted { IsHinted (P.bytes probe.now) (hint_of self.new) }
     {
         self.skip = other.skip;
+        let mut guess = 0;
         for index in 0..self.len {
-            let Some(digest) = other.digest_of(self.entries[index].key, index, probe) else {
+            let Some((digest, next)) = other.digest_of(self.entries[index].key, guess, probe) else {
                 return self.renew_hints(probe);
             };
             self.digests[index] = digest;
+            guess = next;
         }
         self.sharpen(probe);
     }
@@ -288,22 +290,23 @@ impl<const N: usize> Node<N> {
         }
     }
 
-    // Returns the digest of a key that begins as all keys do. The key is looked for at an index first.
-    fn digest_of<P: Probe>(&self, key: Slot, index: usize, probe: &P) -> Option<u64>
+    // Returns the digest of a key that begins as all keys do, and the index where the next key may be. The key is looked
+    // for where it may be first.
+    fn digest_of<P: Probe>(&self, key: Slot, guess: usize, probe: &P) -> Option<(u64, usize)>
         requires hinted { IsHinted (P.bytes probe.now) (hint_of self.now) }
         requires known { IsKnown (P.bytes probe.now) key }
-        ensures digest { IfSome result (λ digest. digest ≡ digest_at (P.bytes probe.now) (hint_of self.now).skip key) }
+        ensures digest { IfSome result (λ found. found.0 ≡ digest_at (P.bytes probe.now) (hint_of self.now).skip key) }
         ensures agrees { IfSome result (λ _. (text : List ℕ) → P.bytes probe.now key ≡ Some text
             → Agrees (P.bytes probe.now) (hint_of self.now) text) }
     {
-        if index < self.len && self.entries[index].key == key {
-            return Some(self.digests[index]);
+        if guess < self.len && self.entries[guess].key == key {
+            return Some((self.digests[guess], guess + 1));
         }
         if let Some(index) = self.entries().iter().position(|entry| entry.key == key) {
-            return Some(self.digests[index]);
+            return Some((self.digests[index], index + 1));
         }
         if self.begins(key, probe) {
-            return Some(probe.digest_of(key, self.skip()));
+            return Some((probe.digest_of(key, self.skip()), guess));
         }
         None
     }

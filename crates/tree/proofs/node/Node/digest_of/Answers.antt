@@ -29,27 +29,27 @@ use Rattle.tree.proofs.node.Node.digest_of.Goals as goal
 pub returns-then-eq-clause-digest : goal.returns-then-eq-clause-digest
 returns-then-eq-clause-digest g c =
     let node = c.args.self.now in
-    let e = c.index-self-index.result in
+    let e = c.index-self-guess.result in
     let f = digest_at (g.P.Probe.bytes c.args.probe.now) node.skip in
     let most : node.len ≤ length node.entries = omega arith in
     let same : e.key ≡ c.args.key =
-    ap (λ (x : Entry). x.key) c.index-self-index.is
-    ∙ eqb-true (slice_index_or node.entries c.args.index e).key c.args.key (sym c.eq.ensures ∙ c.if-eq.true) in
-    subst (λ k. slice_index_or node.digests c.args.index 0 ≡ f k) same
-    (digest_there node.entries node.len c.args.index e c.if-index-self.true most c.index-self-index.is f node.digests
+    ap (λ (x : Entry). x.key) c.index-self-guess.is
+    ∙ eqb-true (slice_index_or node.entries c.args.guess e).key c.args.key (sym c.eq.ensures ∙ c.if-eq.true) in
+    subst (λ k. slice_index_or node.digests c.args.guess 0 ≡ f k) same
+    (digest_there node.entries node.len c.args.guess e c.if-guess-self.true most c.index-self-guess.is f node.digests
     c.requires.hinted.digests)
 
 pub returns-then-eq-clause-agrees : goal.returns-then-eq-clause-agrees
 returns-then-eq-clause-agrees g c =
     let node = c.args.self.now in
     let bytes = g.P.Probe.bytes c.args.probe.now in
-    let e = c.index-self-index.result in
+    let e = c.index-self-guess.result in
     let most : node.len ≤ length node.entries = omega arith in
     let same : e.key ≡ c.args.key =
-    ap (λ (x : Entry). x.key) c.index-self-index.is
-    ∙ eqb-true (slice_index_or node.entries c.args.index e).key c.args.key (sym c.eq.ensures ∙ c.if-eq.true) in
+    ap (λ (x : Entry). x.key) c.index-self-guess.is
+    ∙ eqb-true (slice_index_or node.entries c.args.guess e).key c.args.key (sym c.eq.ensures ∙ c.if-eq.true) in
     subst (BeginsAsThese bytes (hint_of node)) same
-    (key_agrees bytes (hint_of node) e.key (key_there node.entries node.len c.args.index e c.if-index-self.true most c.index-self-index.is))
+    (key_agrees bytes (hint_of node) e.key (key_there node.entries node.len c.args.guess e c.if-guess-self.true most c.index-self-guess.is))
 
 pub returns-in-Some : goal.returns-in-Some
 returns-in-Some g c =
