@@ -1,17 +1,18 @@
 ghost use Rattle.std.specs.Prelude.{◌≡◌, ◌≤ℤ◌, ◌<ℤ◌, negsuc, pos};
 
 use crate::{ChainError, Gate, MAX_HELD, Replies};
-use keyspace::{Batch, Reply, Sequence};
-use std::alloc::Global;
+use keyspace::{Batch, Reply, Sequence, Txns};
+use std::alloc::{AllocError, Global};
 use std::process::Abort;
 use std::test::Fail;
 
 // A batch without transactions, from a proxy that has received nothing.
-fn batch(alloc: Global, previous: i64, version: i64) -> Batch
+fn batch(alloc: Global, previous: i64, version: i64) -> Result<Batch, AllocError>
     requires from { negsuc 0 ≤ℤ previous }
     requires rises { previous <ℤ version }
 {
-    Batch::new(previous, version, -1, Sequence::new(Vec::new(alloc)))
+    let txns = Txns::new(alloc, Vec::new(alloc))?;
+    Ok(Batch::new(previous, version, -1, txns))
 }
 
 // The reply to a batch without transactions.
@@ -30,9 +31,9 @@ fn left(leaving: Option<(usize, Batch)>) -> (usize, i64) {
 #[test]
 fn least_previous_version_leaves_first(rt: HostRuntime) -> Result<(), Fail> {
     let mut gate = Gate::new(rt.alloc());
-    gate.hold(0, batch(rt.alloc(), 150, 160))?;
-    gate.hold(1, batch(rt.alloc(), 100, 200))?;
-    gate.hold(1, batch(rt.alloc(), 50, 55))?;
+    gate.hold(0, batch(rt.alloc(), 150, 160)?)?;
+    gate.hold(1, batch(rt.alloc(), 100, 200)?)?;
+    gate.hold(1, batch(rt.alloc(), 50, 55)?)?;
     assert_eq!(rt; left(gate.next_for(49)), (0, -1));
     assert_eq!(rt; left(gate.next_for(100)), (1, 55));
     assert_eq!(rt; left(gate.next_for(100)), (1, 200));
@@ -45,9 +46,9 @@ fn least_previous_version_leaves_first(rt: HostRuntime) -> Result<(), Fail> {
 #[test]
 fn earliest_arrival_leaves_first_among_equals(rt: HostRuntime) -> Result<(), Fail> {
     let mut gate = Gate::new(rt.alloc());
-    gate.hold(2, batch(rt.alloc(), 100, 200))?;
-    gate.hold(1, batch(rt.alloc(), 100, 201))?;
-    gate.hold(0, batch(rt.alloc(), 100, 202))?;
+    gate.hold(2, batch(rt.alloc(), 100, 200)?)?;
+    gate.hold(1, batch(rt.alloc(), 100, 201)?)?;
+    gate.hold(0, batch(rt.alloc(), 100, 202)?)?;
     assert_eq!(rt; left(gate.next_for(100)), (2, 200));
     assert_eq!(rt; left(gate.next_for(100)), (1, 201));
     assert_eq!(rt; left(gate.next_for(100)), (0, 202));
@@ -58,8 +59,8 @@ fn earliest_arrival_leaves_first_among_equals(rt: HostRuntime) -> Result<(), Fai
 fn first_takes_in_order_of_arrival(rt: HostRuntime) -> Result<(), Fail> {
     let mut gate = Gate::new(rt.alloc());
     assert_eq!(rt; left(gate.first()), (0, -1));
-    gate.hold(1, batch(rt.alloc(), 150, 300))?;
-    gate.hold(0, batch(rt.alloc(), 100, 200))?;
+    gate.hold(1, batch(rt.alloc(), 150, 300)?)?;
+    gate.hold(0, batch(rt.alloc(), 100, 200)?)?;
     assert_eq!(rt; gate.held(), 2);
     assert_eq!(rt; left(gate.first()), (1, 300));
     assert_eq!(rt; left(gate.first()), (0, 200));
@@ -72,10 +73,10 @@ fn full_gate_hands_the_batch_back(rt: HostRuntime) -> Result<(), Fail> {
     let mut gate = Gate::new(rt.alloc());
     for number in 10..1_034_u32 {
         let previous = i64::from(number);
-        gate.hold(0, batch(rt.alloc(), previous, previous + 1))?;
+        gate.hold(0, batch(rt.alloc(), previous, previous + 1)?)?;
     }
     assert_eq!(rt; gate.held(), MAX_HELD);
-    let Err((refusal, back)) = gate.hold(3, batch(rt.alloc(), 2_000, 2_001)) else {
+    let Err((refusal, back)) = gate.hold(3, batch(rt.alloc(), 2_000, 2_001)?) else {
         return Err(Fail::from("held beyond the limit"));
     };
     assert_eq!(rt; refusal, ChainError::GateFull);
@@ -159,12 +160,12 @@ fn put_at_last(rt: &impl Abort, alloc: Global, replies: &mut Replies, version: i
 
 // Its outcome is the same whichever one growth is refused.
 #[test]
-fn one_growth_refused(rt: HostRuntime) {
+fn one_growth_refused(rt: HostRuntime) -> Result<(), Fail> {
     let mut gate = Gate::new(rt.alloc());
     let mut replies = Replies::new(rt.alloc());
     for number in 1..40_u32 {
         let version = i64::from(number);
-        hold_at_last(&rt, &mut gate, 0, batch(rt.alloc(), version - 1, version));
+        hold_at_last(&rt, &mut gate, 0, batch(rt.alloc(), version - 1, version)?);
         put_at_last(&rt, rt.alloc(), &mut replies, version);
     }
     for number in 1..40_u32 {
@@ -174,4 +175,5 @@ fn one_growth_refused(rt: HostRuntime) {
         assert_eq!(rt; left(gate.next_for(version)), (0, version));
     }
     assert_eq!(rt; gate.held(), 0);
+    Ok(())
 }

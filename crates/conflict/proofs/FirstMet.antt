@@ -40,8 +40,9 @@ use Rattle.keyspace.specs.Writes.{counted}
 use Rattle.keyspace.specs.Judge.{meets_earlier, places_from, in_conflict_at}
 use Rattle.keyspace.proofs.Judging.{entry_same}
 use Rattle.conflict.specs.InBatch.{first_met, unless_met, by_verdict, in_batch}
-use Rattle.conflict.specs.Ranks.{run_or_none, RunsTellOverlap}
-use Rattle.conflict.specs.Gathered.{HaveEnds}
+use Rattle.keyspace.specs.Ranks.{run_or_none}
+use Rattle.conflict.specs.Ranks.{RunsTellOverlap}
+use Rattle.keyspace.specs.Ends.{HaveEnds}
 use Rattle.conflict.specs.Gaps.{SomeMarked}
 use Rattle.conflict.specs.Written.{AreWrittenGaps, TellRuns}
 use Rattle.conflict.proofs.Written.{any_marked_is_met}

@@ -5,18 +5,11 @@ pub mod GapsMarks
 pub mod InBatch
 pub mod Hits
 pub mod Ranks
-pub mod RanksDistinct
-pub mod RanksPlaced
-pub mod RanksSet
-pub mod RanksGathered
-pub mod RanksPushed
-pub mod RanksOpen
-pub mod RanksOpened
+pub mod Parts
 pub mod Told
 pub mod Written
 pub mod FirstMet
 pub mod JudgedTo
-pub mod RanksKeys
 pub mod UnionGathered
 pub mod UnionPlaces
 pub mod UnionRuns
@@ -27,4 +20,3 @@ pub mod JudgedBatch
 pub mod UnionWritten
 pub mod Swept
 pub mod Edges
-pub mod SortingEnds

@@ -1,66 +1,22 @@
 -- Ranks follow the order of keys, so runs meet where ranges do.
-use Rattle.std.proofs.Common.{
-  ◌≡◌,
-  ℕ,
-  zero,
-  suc,
-  ◌+◌,
-  ◌<◌,
-  ◌≤◌,
-  Bool,
-  true,
-  false,
-  cond,
-  List,
-  [],
-  ◌∷◌,
-  length,
-  get_or,
-  refl,
-  ap,
-  subst,
-  inl,
-  inr,
-  arith,
-}
+use Rattle.std.proofs.Common.{◌≡◌, ℕ, zero, suc, ◌<◌, ◌≤◌, Bool, true, false, List, [], ◌∷◌, length, get_or, refl, ap, subst, inl, inr, arith}
 use Rattle.std.specs.Prelude.{IsTrue, All, Any, Contains}
 use Rattle.std.proofs.lemmas.Bool.{cases_lt}
-use Rattle.std.proofs.lemmas.List.Sums.{sum_by-cons, sum_by-le-sum_by, count_by-le-length}
+use Rattle.std.proofs.lemmas.List.Sums.{sum_by-le-sum_by, count_by-le-length}
 use Rattle.keyspace.specs.Key.{is_before, IsBefore, IsAtMost}
 use Rattle.keyspace.specs.Range.{Meets, ranges_meet}
 use Rattle.keyspace.specs.Judge.{meets_earlier}
 use Rattle.keyspace.specs.declared.range.Range.{Range}
-use Rattle.keyspace.proofs.KeyOrder.{
-  before_or_same,
-  before_or_at_most,
-  before_at_most,
-  before_at_most_same,
-  not_before_itself,
-}
+use Rattle.keyspace.proofs.KeyOrder.{before_or_at_most, before_at_most, before_at_most_same, not_before_itself}
+use Rattle.keyspace.proofs.Ranking.{one_if, rank_cons, before_unless_empty}
 use Rattle.keyspace.proofs.Meeting.{meets_by_ends, meets_from_test, test_from_meets}
 use Rattle.keyspace.proofs.Scans.{any_from_test, test_from_any}
-use Rattle.conflict.specs.Ranks.{
-  rank,
-  run,
-  HasGap,
-  HaveCommonGap,
-  HaveBegin,
-  RunsTellMeeting,
-  RunsTellOverlap,
-  RunsAreWithin,
-}
-
--- what a key adds to the rank of another
-abbrev pub one_if : Bool → ℕ
-one_if t = cond t 1 0
+use Rattle.keyspace.specs.Ranks.{rank, run}
+use Rattle.conflict.specs.Ranks.{HasGap, HaveCommonGap, HaveBegin, RunsTellMeeting, RunsTellOverlap, RunsAreWithin}
 
 one_if_le : (s t : Bool) → (s ≡ true → t ≡ true) → one_if s ≤ one_if t
 one_if_le false t h = omega arith
 one_if_le true t h = rw (h refl) (omega arith)
-
-pub rank_cons : (x : List ℕ) (keys : List (List ℕ)) (key : List ℕ)
-    → rank (x ∷ keys) key ≡ one_if (is_before x key) + rank keys key
-rank_cons x keys key = sum_by-cons (λ k. one_if (is_before k key)) x keys
 
 one_if_at_most : (x a b : List ℕ) → IsAtMost a b → one_if (is_before x a) ≤ one_if (is_before x b)
 one_if_at_most x a b h = one_if_le (is_before x a) (is_before x b) (λ l. before_at_most x a b l h)
@@ -98,9 +54,6 @@ before_from_rank keys a b h =
 -- no rank is above the number of the keys
 pub rank_within : (keys : List (List ℕ)) (key : List ℕ) → rank keys key ≤ length keys
 rank_within keys key = count_by-le-length (λ k. is_before k key) keys
-
-pub before_unless_empty : (a : Range) → (a.begin ≡ a.end → ⊥) → IsBefore a.begin a.end
-before_unless_empty a h = elim (before_or_same a.begin a.end a.ordered) [ inl k ↦ k | inr e ↦ absurd (h e) ]
 
 -- the greater of the two firsts is in both runs
 common_gap : (a b : ℕ × ℕ) → a.0 < a.1 → b.0 < b.1 → a.0 < b.1 → b.0 < a.1 → HaveCommonGap a b

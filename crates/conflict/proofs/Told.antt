@@ -29,12 +29,14 @@ use Rattle.std.proofs.lemmas.List.{length-map, map-append, get_or-map}
 use Rattle.std.proofs.lemmas.List.Elements.{All-map}
 use Rattle.std.proofs.Math.Seq.{take-append_seam, drop-append_seam}
 use Rattle.keyspace.specs.declared.range.Range.{Range}
-use Rattle.stepmap.specs.Counting.{is_filled}
-use Rattle.conflict.specs.Ranks.{run, run_or_none, runs_of, HasGap}
-use Rattle.conflict.specs.Gathered.{HaveEnds}
+use Rattle.keyspace.specs.Range.{is_filled}
+use Rattle.keyspace.specs.Ranks.{run, run_or_none, runs_of}
+use Rattle.conflict.specs.Ranks.{HasGap}
+use Rattle.keyspace.specs.Ends.{HaveEnds}
 use Rattle.conflict.specs.Written.{AreRunsWithin, TellRuns}
-use Rattle.conflict.proofs.Ranks.{before_unless_empty, filled_from_gap, runs_are_within}
-use Rattle.conflict.proofs.RanksOpen.{all_split}
+use Rattle.keyspace.proofs.Ranking.{before_unless_empty}
+use Rattle.conflict.proofs.Ranks.{filled_from_gap, runs_are_within}
+use Rattle.conflict.proofs.Parts.{all_split}
 
 -- the element at an index, whatever is read past the end
 element : {X : Type 0} (xs : List X) (i : ℕ) → i < length xs → (x : X) × ((d : X) → get_or xs i d ≡ x)

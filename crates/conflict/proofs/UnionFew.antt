@@ -35,12 +35,14 @@ use Rattle.std.proofs.lemmas.Map.Made.{
 }
 use Rattle.keyspace.specs.Range.{IsEmpty}
 use Rattle.keyspace.specs.declared.range.Range.{Range}
-use Rattle.stepmap.specs.Counting.{is_filled, filled_count}
-use Rattle.stepmap.proofs.SomeElement.{Any-cases, Any-first, Any-later, Any-map, Any-weaker}
+use Rattle.keyspace.specs.Range.{is_filled}
+use Rattle.stepmap.specs.Counting.{filled_count}
+use Rattle.keyspace.proofs.SomeElement.{Any-cases, Any-first, Any-later, Any-map, Any-weaker}
 use Rattle.conflict.specs.Gaps.{IsMarked}
-use Rattle.conflict.specs.Ranks.{HasGap, rank, run}
+use Rattle.conflict.specs.Ranks.{HasGap}
+use Rattle.keyspace.specs.Ranks.{rank, run}
 use Rattle.conflict.specs.Union.{AreMarkedRuns}
-use Rattle.conflict.proofs.Ranks.{before_unless_empty}
+use Rattle.keyspace.proofs.Ranking.{before_unless_empty}
 use Rattle.conflict.proofs.UnionRuns.{begins_there}
 
 -- rising numbers, each one of some others, are no more than these

@@ -43,9 +43,11 @@ use Rattle.keyspace.proofs.KeyOrder.{
   not_before_itself,
   not_both,
 }
-use Rattle.conflict.specs.Gathered.{HaveEnds}
-use Rattle.conflict.specs.Ranks.{AreRising, HasGap, rank, run}
-use Rattle.conflict.proofs.Ranks.{filled_from_gap, rank_cons}
+use Rattle.keyspace.specs.Ends.{HaveEnds}
+use Rattle.keyspace.specs.Ranks.{AreRising, rank, run}
+use Rattle.conflict.specs.Ranks.{HasGap}
+use Rattle.conflict.proofs.Ranks.{filled_from_gap}
+use Rattle.keyspace.proofs.Ranking.{rank_cons}
 
 -- the keys before one that comes before all of them
 rank_of_least : (x : List ℕ) (keys : List (List ℕ)) → All (IsBefore x) keys → rank keys x ≡ 0

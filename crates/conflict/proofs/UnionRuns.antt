@@ -26,10 +26,11 @@ use Rattle.keyspace.specs.Key.{IsBefore}
 use Rattle.keyspace.specs.Range.{IsEmpty}
 use Rattle.keyspace.specs.declared.range.Range.{Range}
 use Rattle.keyspace.proofs.KeyOrder.{before_at_most_same}
-use Rattle.stepmap.specs.Uniting.{IsEndIn}
+use Rattle.keyspace.specs.Ends.{IsEndIn}
 use Rattle.conflict.specs.Gaps.{IsMarked}
-use Rattle.conflict.specs.Gathered.{HaveEnds}
-use Rattle.conflict.specs.Ranks.{AreRising, HasGap, rank, run}
+use Rattle.keyspace.specs.Ends.{HaveEnds}
+use Rattle.keyspace.specs.Ranks.{AreRising, rank, run}
+use Rattle.conflict.specs.Ranks.{HasGap}
 use Rattle.conflict.specs.Union.{AreMarkedRuns, Spans}
 use Rattle.conflict.proofs.Ranks.{before_from_rank, filled_from_gap}
 use Rattle.conflict.proofs.UnionPlaces.{at_rank, rank_below_length}

@@ -33,12 +33,14 @@ use Rattle.std.proofs.lemmas.List.Elements.{
 use Rattle.std.proofs.lemmas.Option.{same_Some}
 use Rattle.keyspace.specs.Range.{Holds}
 use Rattle.keyspace.specs.declared.range.Range.{Range}
-use Rattle.stepmap.specs.Uniting.{IsEndIn, Unites}
+use Rattle.keyspace.specs.Ends.{IsEndIn}
+use Rattle.stepmap.specs.Uniting.{Unites}
 use Rattle.stepmap.specs.Writing.{AreApart}
-use Rattle.stepmap.proofs.SomeElement.{Any-map, Any-unmap}
+use Rattle.keyspace.proofs.SomeElement.{Any-map, Any-unmap}
 use Rattle.conflict.specs.Gaps.{IsMarked}
-use Rattle.conflict.specs.Gathered.{HaveEnds}
-use Rattle.conflict.specs.Ranks.{AreRising, HasGap, run}
+use Rattle.keyspace.specs.Ends.{HaveEnds}
+use Rattle.keyspace.specs.Ranks.{AreRising, run}
+use Rattle.conflict.specs.Ranks.{HasGap}
 use Rattle.conflict.specs.Union.{AreMarkedRuns, AreSpanned, Spans, UnionOfRuns}
 use Rattle.conflict.proofs.Ranks.{before_from_rank}
 use Rattle.conflict.proofs.UnionFew.{few_runs}

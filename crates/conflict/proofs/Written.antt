@@ -30,9 +30,10 @@ use Rattle.std.proofs.lemmas.List.Elements.{All-weaker}
 use Rattle.std.proofs.lemmas.List.Quantifiers.{Any-push}
 use Rattle.keyspace.specs.declared.range.Range.{Range}
 use Rattle.keyspace.specs.Judge.{meets_earlier}
-use Rattle.stepmap.proofs.SomeElement.{Any-longer, Any-push_cases}
-use Rattle.conflict.specs.Ranks.{run, run_or_none, HasGap, HaveBegin, RunsTellOverlap}
-use Rattle.conflict.specs.Gathered.{HaveEnds}
+use Rattle.keyspace.proofs.SomeElement.{Any-longer, Any-push_cases}
+use Rattle.keyspace.specs.Ranks.{run, run_or_none}
+use Rattle.conflict.specs.Ranks.{HasGap, HaveBegin, RunsTellOverlap}
+use Rattle.keyspace.specs.Ends.{HaveEnds}
 use Rattle.conflict.specs.Gaps.{IsInRun, IsMarked, SomeMarked}
 use Rattle.conflict.specs.Written.{AreWrittenGaps, TellRuns}
 use Rattle.conflict.proofs.Told.{same_gaps, told_at}

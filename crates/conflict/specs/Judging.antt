@@ -1,8 +1,8 @@
 -- What is kept of a batch from its judging to its writing. This project's own.
 use Rattle.std.specs.Prelude.{ℕ, Bool, List, All}
 use Rattle.keyspace.specs.declared.range.Range.{Range}
-use Rattle.conflict.specs.Ranks.{AreRising}
-use Rattle.conflict.specs.Gathered.{HaveEnds}
+use Rattle.keyspace.specs.Ranks.{AreRising}
+use Rattle.keyspace.specs.Ends.{HaveEnds}
 use Rattle.conflict.specs.Written.{AreWrittenGaps}
 
 -- the keys are sorted and have the ends of the ranges, and the marked gaps between them are those that the ranges cover

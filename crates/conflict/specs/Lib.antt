@@ -1,10 +1,7 @@
 pub mod Gaps
 pub mod InBatch
 pub mod Ranks
-pub mod Gathered
-pub mod Gathering
 pub mod Written
 pub mod Union
 pub mod Judging
 pub mod ConflictSet
-pub mod Sorting

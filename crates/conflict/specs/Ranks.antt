@@ -1,31 +1,9 @@
--- Ranks of keys among sorted keys, and the runs of gaps that ranges cover between them. This project's own.
-use Rattle.std.specs.Prelude.{ℕ, ◌<◌, ◌≤◌, ◌↔◌, List, length, map, if◌then◌else◌, count_by, All, Any, AllPairs, Contains, IsTrue}
-use Rattle.keyspace.specs.Key.{is_before, IsBefore}
+-- The gaps that runs have. This project's own.
+use Rattle.std.specs.Prelude.{ℕ, ◌<◌, ◌≤◌, ◌↔◌, List, length, All, Any, Contains, IsTrue}
 use Rattle.keyspace.specs.Range.{IsEmpty, Meets}
+use Rattle.keyspace.specs.Ranks.{run}
 use Rattle.keyspace.specs.Judge.{meets_earlier}
-use Rattle.stepmap.specs.Counting.{is_filled}
 use Rattle.keyspace.specs.declared.range.Range.{Range}
-
--- each key comes before the ones after it
-abbrev pub AreRising : List (List ℕ) → Type 0
-AreRising keys = AllPairs IsBefore keys
-
--- how many of the keys come before the key
-abbrev pub rank : List (List ℕ) → List ℕ → ℕ
-rank keys key = count_by (λ k. is_before k key) keys
-
--- The run of gaps that the range covers: from the rank of its begin on, below the rank of its end. Gap i begins at
--- the key at index i.
-abbrev pub run : List (List ℕ) → Range → ℕ × ℕ
-run keys range = (rank keys range.begin, rank keys range.end)
-
--- the run of the range, or one that holds no gap if the range is empty
-abbrev pub run_or_none : List (List ℕ) → Range → ℕ × ℕ
-run_or_none keys range = if is_filled range then run keys range else (0, 0)
-
--- those of ranges
-abbrev pub runs_of : List (List ℕ) → List Range → List (ℕ × ℕ)
-runs_of keys ranges = map (run_or_none keys) ranges
 
 -- the run holds the gap
 abbrev pub HasGap : ℕ × ℕ → ℕ → Type 0

@@ -16,8 +16,9 @@ use Rattle.std.specs.Prelude.{
 use Rattle.keyspace.specs.declared.range.Range.{Range}
 use Rattle.stepmap.specs.Uniting.{Unites}
 use Rattle.conflict.specs.Gaps.{IsMarked}
-use Rattle.conflict.specs.Gathered.{HaveEnds}
-use Rattle.conflict.specs.Ranks.{AreRising, HasGap, run}
+use Rattle.keyspace.specs.Ends.{HaveEnds}
+use Rattle.keyspace.specs.Ranks.{AreRising, run}
+use Rattle.conflict.specs.Ranks.{HasGap}
 
 -- The runs of the marked gaps, in order, each as long as it can be: none is empty, at least one gap lies
 -- between a run and a later one, and a gap is marked exactly if one of them has it.

@@ -1,8 +1,9 @@
 -- The gaps that written ranges cover. This project's own.
 use Rattle.std.specs.Prelude.{◌≡◌, ℕ, ◌≤◌, ◌↔◌, Bool, List, All, Any}
 use Rattle.keyspace.specs.declared.range.Range.{Range}
-use Rattle.conflict.specs.Ranks.{run, runs_of, HasGap}
-use Rattle.conflict.specs.Gathered.{HaveEnds}
+use Rattle.keyspace.specs.Ranks.{run, runs_of}
+use Rattle.conflict.specs.Ranks.{HasGap}
+use Rattle.keyspace.specs.Ends.{HaveEnds}
 use Rattle.conflict.specs.Gaps.{IsMarked}
 
 -- a gap is marked exactly if the run of one of the written ranges has it

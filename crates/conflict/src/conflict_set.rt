@@ -159,9 +159,10 @@ fn resolve_at(
         → MapCovers steps.old ws → Rooted steps.old ws → entries ≡ judge_txns edge ws [] batch.now.txns
         → IsOverLimit steps.old.limit edge (ws ++ at_version batch.now.version (committed batch.now.txns entries)) }
 {
-    let entries = judge_batch(alloc, steps, scratch, edge, batch)?;
+    let ranks = batch.txns.ranks();
+    let entries = judge_batch(alloc, steps, &mut scratch.gaps, edge, batch, ranks)?;
     steps.raise(edge);
-    let count = write_batch(steps, scratch, batch)?;
+    let count = write_batch(steps, scratch, batch, ranks.ends)?;
     steps.sweep(3 * count + 10);
     Ok(Reply::new(batch.version, Sequence::new(entries)))
 }

@@ -1,6 +1,7 @@
 //! Batches for tests, each part with its limits looked at.
 use keyspace::{
-    Batch, Entry, Key, MAX_KEY_LENGTH, MAX_RANGES, MAX_TXNS, Places, Range, Sequence, Txn, Verdict,
+    Batch, Entry, Key, MAX_KEY_LENGTH, MAX_RANGES, MAX_TXNS, Places, Range, Sequence, Txn, Txns,
+    Verdict,
 };
 use std::alloc::Global;
 use std::test::Fail;
@@ -50,18 +51,24 @@ pub(crate) fn txn_at(
 }
 
 // The first batch of a chain.
-pub(crate) fn batch(txns: Vec<Txn>) -> Result<Batch, Fail> {
-    batch_at(-1, 0, txns)
+pub(crate) fn batch(alloc: Global, txns: Vec<Txn>) -> Result<Batch, Fail> {
+    batch_at(alloc, -1, 0, txns)
 }
 
-pub(crate) fn batch_at(previous: i64, version: i64, txns: Vec<Txn>) -> Result<Batch, Fail> {
+pub(crate) fn batch_at(
+    alloc: Global,
+    previous: i64,
+    version: i64,
+    txns: Vec<Txn>,
+) -> Result<Batch, Fail> {
     if previous < -1 || version < 0 || version <= previous {
         return Err("versions that no batch has")?;
     }
     if txns.len() > MAX_TXNS {
         return Err("too many transactions")?;
     }
-    Ok(Batch::new(previous, version, -1, Sequence::new(txns)))
+    let txns = Txns::new(alloc, txns)?;
+    Ok(Batch::new(previous, version, -1, txns))
 }
 
 pub(crate) fn entry(alloc: Global, verdict: Verdict) -> Entry {

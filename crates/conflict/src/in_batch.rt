@@ -6,7 +6,7 @@ ghost use Rattle.keyspace.specs.declared.range.Range.{Range};
 ghost use Rattle.keyspace.specs.declared.reply.Verdict.TheVariants.{Committed};
 ghost use Rattle.keyspace.specs.Writes.{committed, counted};
 ghost use Rattle.keyspace.specs.Judge.{meets_earlier};
-ghost use Rattle.conflict.specs.Gathered.{open_ranges, HaveEnds};
+ghost use Rattle.keyspace.specs.Ends.{ranges_in, HaveEnds};
 ghost use Rattle.conflict.specs.Gaps.{IsMarked};
 ghost use Rattle.conflict.specs.Written.{AreWrittenGaps, AreRunsWithin, TellRuns};
 ghost use Rattle.conflict.specs.InBatch.{in_batch, in_batches};
@@ -17,7 +17,7 @@ use keyspace::{Batch, Entry, Places, Txn, Verdict};
 use std::alloc::{AllocError, Global};
 
 /// Judges in order each transaction that the history lets commit, after what the transactions before it write that
-/// commit. The runs are those of the ranges of these transactions, in order. The gaps say in the end what the batch
+/// commit. The runs are those of the ranges of all transactions, in order. The gaps say in the end what the batch
 /// writes. After an error, which says that memory was refused, the entries and the gaps are unspecified.
 pub fn judge_in_batch(
     alloc: Global,
@@ -28,23 +28,23 @@ pub fn judge_in_batch(
 ) -> Result<(), AllocError>
     requires entries { length entries.old ≡ length batch.now.txns }
     requires runs { (keys : List (List ℕ)) × (length gaps.old ≡ length keys)
-        × TellRuns keys runs.now (open_ranges batch.now.txns entries.old) }
+        × TellRuns keys runs.now (ranges_in batch.now.txns) }
     requires unmarked { (gap : ℕ) → ¬ IsMarked gaps.old gap }
     ensures judged { OnOk result (entries.new ≡ in_batches [] batch.now.txns entries.old) }
     ensures count { length gaps.new ≡ length gaps.old }
     ensures marked { OnOk result ((keys : List (List ℕ)) → length gaps.old ≡ length keys
-        → TellRuns keys runs.now (open_ranges batch.now.txns entries.old)
+        → TellRuns keys runs.now (ranges_in batch.now.txns)
         → AreWrittenGaps keys gaps.new (committed batch.now.txns entries.new)
         × All (HaveEnds keys) (committed batch.now.txns entries.new)) }
 {
     let mut rest = runs;
     for (index, txn) in batch.txns.as_slice().iter().enumerate() {
+        let (own, later) = rest.split_at(txn.reads.len() + txn.writes.len());
         let entry = &mut entries[index];
         if entry.verdict == Verdict::Committed {
-            let (own, later) = rest.split_at(txn.reads.len() + txn.writes.len());
             judge_open(alloc, own, gaps, txn, entry)?;
-            rest = later;
         }
+        rest = later;
     }
     Ok(())
 }

@@ -1,9 +1,9 @@
 //! Verdicts and reports of a batch, over the step map that remembers committed writes.
 //!
 //! [`ConflictSet::resolve`] judges a batch after all writes that the set remembers, and remembers what the batch
-//! commits. First `history` judges each transaction by the history alone. For those that are left, `ends` sorts the ends
-//! of their ranges and makes each range a run of gaps. `in_batch` judges them in order, by the gaps that earlier ones
-//! wrote, which `gaps` keeps. The runs of these gaps are the `union` of what the batch commits, and `writing` writes it.
+//! commits. First `history` judges each transaction by the history alone. Those that are left `in_batch` judges in order:
+//! a batch knows which gaps between its keys each of its ranges covers, and `gaps` keeps those that earlier transactions
+//! wrote. The runs of these gaps are the `union` of what the batch commits, and `writing` writes it.
 //! `laws` ties these parts to the reference definitions.
 //!
 //! The layer above may use the contracts of [`ConflictSet`] alone, which see it as its window, the greatest version
@@ -11,7 +11,6 @@
 #![tactic(auto)]
 
 mod conflict_set;
-mod ends;
 mod error;
 #[cfg(test)]
 mod fixtures;

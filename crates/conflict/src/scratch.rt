@@ -1,6 +1,5 @@
 ghost use Rattle.std.specs.Prelude.{◌≡◌, []};
 
-use crate::ends::Ends;
 use crate::gaps::Gaps;
 use crate::union::Union;
 use std::alloc::Global;
@@ -10,11 +9,7 @@ use stepmap::KeyLengths;
 /// for them.
 #[derive(Debug, Drop)]
 pub struct Scratch {
-    /// The sorted ends of the ranges of its open transactions.
-    pub ends: Ends,
-    /// The runs of gaps that those ranges cover.
-    pub runs: Vec<(usize, usize)>,
-    /// The gaps between these ends that it writes.
+    /// The gaps between the keys of its ranges that it writes.
     pub gaps: Gaps,
     /// The runs of those gaps.
     pub union: Union,
@@ -25,13 +20,10 @@ pub struct Scratch {
 impl Scratch {
     /// Makes empty vectors, and takes no memory.
     pub fn new(alloc: Global) -> Self
-        ensures ends { result.ends ≡ [] }
         ensures gaps { result.gaps ≡ [] }
         ensures union { result.union ≡ [] }
     {
         Scratch {
-            ends: Ends::new(alloc),
-            runs: Vec::new(alloc),
             gaps: Gaps::new(alloc),
             union: Union::new(alloc),
             lengths: Vec::new(alloc),

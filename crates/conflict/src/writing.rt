@@ -1,7 +1,7 @@
 //! The writing of what a batch commits, as ranges apart that hold the same keys.
 
-ghost use Rattle.std.specs.Prelude.{◌≡◌, ℕ, ◌+◌, ◌*◌, ◌≤◌, ◌≤ℤ◌, ◌⊎◌, List, ◌++◌, length, map};
-ghost use Rattle.std.specs.Prelude.{OnOk, OnErr, IfOk, Err};
+ghost use Rattle.std.specs.Prelude.{◌≡◌, ◌+◌, ◌*◌, ◌<◌, ◌≤◌, ◌≤ℤ◌, ◌⊎◌, List, ◌++◌, length, map};
+ghost use Rattle.std.specs.Prelude.{OnOk, OnErr, IfOk, Err, Some, slice_get};
 ghost use Rattle.keyspace.specs.declared.range.Range.{Range};
 ghost use Rattle.keyspace.specs.Writes.{Write, at_version};
 ghost use Rattle.stepmap.specs.declared.step_map.TheConstants.{MAX_LIMIT};
@@ -13,30 +13,30 @@ ghost use Rattle.stepmap.specs.Covers.{MapCovers};
 ghost use Rattle.stepmap.specs.Rooted.{Rooted};
 ghost use Rattle.stepmap.specs.Rooted as rooted_by;
 ghost use Rattle.stepmap.specs.Laws.{IsWriting};
-ghost use Rattle.conflict.specs.Ranks.{AreRising};
-ghost use Rattle.conflict.specs.Gathered.{keys_of};
+ghost use Rattle.keyspace.specs.Ranks.{AreRising};
+ghost use Rattle.keyspace.specs.Ends.{keys_of};
 ghost use Rattle.conflict.specs.Union.{Spans, AreSpanned};
 ghost use Rattle.conflict.specs.Judging.{TellWritten};
 ghost use Rattle.conflict.specs.ConflictSet.{IsOverLimit};
 
-use crate::ends::Ends;
 use crate::error::SetStop;
 use crate::scratch::Scratch;
-use keyspace::{Batch, RangeRef};
+use keyspace::{Batch, End, RangeRef};
 use std::alloc::AllocError;
 use stepmap::{KeyLengths, StepMap, laws};
 
-/// Writes what the batch commits, at its version, and returns the number of the ranges that it is united to. The ends and
-/// the gaps of `scratch` say what the batch commits.
+/// Writes what the batch commits, at its version, and returns the number of the ranges that it is united to. The gaps of
+/// `scratch` between the keys of the ends say what the batch commits.
 ///
 /// An error leaves the function as it was at and above the edge.
 pub fn write_batch(
     steps: &mut StepMap,
     scratch: &mut Scratch,
     batch: &Batch,
+    ends: &[End],
 ) -> Result<usize, SetStop>
     requires told { (ranges : List Range)
-        × TellWritten (keys_of batch.now.txns scratch.old.ends) scratch.old.gaps ranges }
+        × TellWritten (keys_of batch.now.txns ends.now) scratch.old.gaps ranges }
     requires newest { AreUpTo batch.now.version steps.old.boundaries }
     requires late { steps.old.edge ≤ℤ batch.now.version }
     ensures newest { OnOk result (AreUpTo batch.now.version steps.new.boundaries) }
@@ -44,22 +44,22 @@ pub fn write_batch(
     ensures limit { steps.new.limit ≡ steps.old.limit }
     ensures few { IfOk result (λ count. 2 * count ≤ MAX_LIMIT) }
     ensures covers { OnOk result ((ranges : List Range)
-        → TellWritten (keys_of batch.now.txns scratch.old.ends) scratch.old.gaps ranges
+        → TellWritten (keys_of batch.now.txns ends.now) scratch.old.gaps ranges
         → (ws : List Write) → MapCovers steps.old ws
         → MapCovers steps.new (ws ++ at_version batch.now.version ranges)) }
     ensures rooted { OnOk result ((ranges : List Range)
-        → TellWritten (keys_of batch.now.txns scratch.old.ends) scratch.old.gaps ranges
+        → TellWritten (keys_of batch.now.txns ends.now) scratch.old.gaps ranges
         → (ws : List Write) → Rooted steps.old ws
         → Rooted steps.new (ws ++ at_version batch.now.version ranges)) }
     ensures swept { IfOk result (λ count. (ranges : List Range)
-        → TellWritten (keys_of batch.now.txns scratch.old.ends) scratch.old.gaps ranges
+        → TellWritten (keys_of batch.now.txns ends.now) scratch.old.gaps ranges
         → (ws : List Write) → Rooted steps.old ws
         → rooted_by.Ends steps.new.boundaries (ws ++ at_version batch.now.version ranges) steps.old.edge
         ⊎ ((steps.new.round ≡ steps.old.round) × (rest steps.new ≤ rest steps.old + 2 * count))) }
     ensures still_covers { OnErr result ((ws : List Write) → MapCovers steps.old ws → MapCovers steps.new ws) }
     ensures still_rooted { OnErr result ((ws : List Write) → Rooted steps.old ws → Rooted steps.new ws) }
     ensures full { result ≡ Err SetStop.ArenaFull → (ranges : List Range)
-        → TellWritten (keys_of batch.now.txns scratch.old.ends) scratch.old.gaps ranges
+        → TellWritten (keys_of batch.now.txns ends.now) scratch.old.gaps ranges
         → (ws : List Write) → Rooted steps.old ws
         → IsOverLimit steps.old.limit steps.old.edge (ws ++ at_version batch.now.version ranges) }
 {
@@ -68,9 +68,9 @@ pub fn write_batch(
     stepmap::laws::counts();
     scratch.union.gather(&scratch.gaps)?;
     let runs = scratch.union.runs();
-    gather_lengths(&mut scratch.lengths, batch, &scratch.ends, runs)?;
+    gather_lengths(&mut scratch.lengths, batch, ends, runs)?;
     steps.prepare(&scratch.lengths)?;
-    write_prepared(steps, batch, &scratch.ends, runs);
+    write_prepared(steps, batch, ends, runs);
     Ok(runs.len())
 }
 
@@ -78,7 +78,7 @@ pub fn write_batch(
 fn gather_lengths(
     lengths: &mut Vec<KeyLengths>,
     batch: &Batch,
-    ends: &Ends,
+    ends: &[End],
     runs: &[(usize, usize)],
 ) -> Result<(), AllocError>
     requires rising { AreRising (keys_of batch.now.txns ends.now) }
@@ -96,7 +96,7 @@ fn gather_lengths(
 }
 
 // Writes the ranges that the runs span one after the other, where none is written yet. Takes no memory.
-fn write_prepared(steps: &mut StepMap, batch: &Batch, ends: &Ends, runs: &[(usize, usize)])
+fn write_prepared(steps: &mut StepMap, batch: &Batch, ends: &[End], runs: &[(usize, usize)])
     requires rising { AreRising (keys_of batch.now.txns ends.now) }
     requires spanned { (united : List Range) × AreSpanned (keys_of batch.now.txns ends.now) runs.now united }
     requires apart { (united : List Range) → AreSpanned (keys_of batch.now.txns ends.now) runs.now united
@@ -115,11 +115,19 @@ fn write_prepared(steps: &mut StepMap, batch: &Batch, ends: &Ends, runs: &[(usiz
 }
 
 // Returns the range that the run spans.
-fn range_of<'a>(batch: &'a Batch, ends: &Ends, run: (usize, usize)) -> RangeRef<'a>
+fn range_of<'a>(batch: &'a Batch, ends: &[End], run: (usize, usize)) -> RangeRef<'a>
     requires rising { AreRising (keys_of batch.now.txns ends.now) }
     requires spans { (range : Range) × Spans (keys_of batch.now.txns ends.now) run range }
     ensures spans { Spans (keys_of batch.now.txns ends.now) run result }
 {
     let (begin, end) = run;
-    RangeRef::new(ends.key(batch, begin), ends.key(batch, end))
+    RangeRef::new(key_at(batch, ends, begin), key_at(batch, ends, end))
+}
+
+// Returns the key of the end at an index.
+fn key_at<'a>(batch: &'a Batch, ends: &[End], index: usize) -> &'a [u8]
+    requires within { index < length ends.now }
+    ensures key { slice_get (keys_of batch.now.txns ends.now) index ≡ Some result.now }
+{
+    batch.txns.key(&ends[index])
 }

@@ -7,6 +7,7 @@ use Rattle.std.proofs.lemmas.Cmp.{nat_list_cmp_total, tied_itself}
 use Rattle.std.specs.declared.cmp.Ordering.{Ordering}
 use Rattle.std.specs.declared.cmp.Ordering.TheVariants.{Less, Equal, Greater}
 use Rattle.keyspace.specs.Key.{is_before, IsBefore, IsAtMost}
+use Rattle.keyspace.proofs.Booleans.{false_unless, not_both_ways}
 
 abbrev key_cmp : List ℕ → List ℕ → Ordering
 key_cmp a b = slice_cmp nat_cmp a b
@@ -62,6 +63,9 @@ not_before_itself a = ap is_lt (tied_itself nat_list_cmp_total a)
 
 pub at_most_itself : (a : List ℕ) → IsAtMost a a
 at_most_itself a = ap not (not_before_itself a)
+
+pub not_before_if : (a b : List ℕ) → IsAtMost a b → is_before b a ≡ false
+not_before_if a b h = false_unless (is_before b a) (λ k. not_both_ways _ h (ap not k))
 
 -- one of two keys comes before the other, or isn't after it
 pub before_or_at_most : (a b : List ℕ) → IsBefore a b ⊎ IsAtMost b a

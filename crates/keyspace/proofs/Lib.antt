@@ -10,3 +10,13 @@ pub mod Waiting
 pub mod Answered
 pub mod Digests
 pub mod Words
+pub mod SomeElement
+pub mod Ranking
+pub mod RanksDistinct
+pub mod RanksPlaced
+pub mod RanksSet
+pub mod RanksGathered
+pub mod RanksPushed
+pub mod RanksAll
+pub mod RanksKeys
+pub mod SortingEnds

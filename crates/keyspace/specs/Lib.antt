@@ -14,3 +14,7 @@ pub mod Leaving
 pub mod Run
 pub mod Laws
 pub mod Rows
+pub mod Ends
+pub mod Gathering
+pub mod Sorting
+pub mod Ranks

@@ -19,3 +19,7 @@ Meets a b = (key : List ℕ) × IsBytes key × Holds a key × Holds b key
 abbrev pub ranges_meet : Range → Range → Bool
 ranges_meet a b =
     is_before a.begin a.end && is_before b.begin b.end && is_before a.begin b.end && is_before b.begin a.end
+
+-- the same of a range that isn't empty: it begins before it ends
+abbrev pub is_filled : Range → Bool
+is_filled range = is_before range.begin range.end

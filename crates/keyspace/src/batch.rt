@@ -1,8 +1,7 @@
 ghost use Rattle.std.specs.Prelude.{◌≡◌, ◌≤◌, ◌≤ℤ◌, ◌<ℤ◌, pos, negsuc, length};
 ghost use Rattle.keyspace.specs.declared.batch.TheConstants.{MAX_TXNS};
 
-use crate::sequence::Sequence;
-use crate::txn::Txn;
+use crate::txns::Txns;
 
 /// The greatest number of transactions in a batch, this project's own limit.
 pub const MAX_TXNS: usize = 4_096;
@@ -17,7 +16,7 @@ pub struct Batch {
     /// The proxy's last received version, -1 or more and below `version`. Replies up to this version have arrived.
     pub received: i64,
     /// The transactions, at most [`MAX_TXNS`], in the order in which they are judged.
-    pub txns: Sequence<Txn>,
+    pub txns: Txns,
     ghost natural: { pos 0 ≤ℤ version },
     ghost previous_from: { negsuc 0 ≤ℤ previous },
     ghost rises: { previous <ℤ version },
@@ -28,7 +27,7 @@ pub struct Batch {
 
 impl Batch {
     /// Creates a batch of transactions, in the order in which they are to be judged.
-    pub fn new(previous: i64, version: i64, received: i64, txns: Sequence<Txn>) -> Self
+    pub fn new(previous: i64, version: i64, received: i64, txns: Txns) -> Self
         requires previous_from { negsuc 0 ≤ℤ previous }
         requires rises { previous <ℤ version }
         requires received_from { negsuc 0 ≤ℤ received }

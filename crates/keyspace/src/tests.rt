@@ -2,7 +2,7 @@ use super::*;
 use std::alloc::Global;
 use std::test::Fail;
 
-fn key(alloc: Global, bytes: &[u8]) -> Result<Key, Fail> {
+pub(crate) fn key(alloc: Global, bytes: &[u8]) -> Result<Key, Fail> {
     let bytes = Vec::from_slice(alloc, bytes)?;
     if bytes.len() > MAX_KEY_LENGTH {
         return Err("a key that is too long")?;
@@ -10,13 +10,15 @@ fn key(alloc: Global, bytes: &[u8]) -> Result<Key, Fail> {
     Ok(Key::new(bytes))
 }
 
-fn a_to_b(alloc: Global) -> Result<Range, Fail> {
-    let begin = key(alloc, b"a")?;
-    let end = key(alloc, b"b")?;
+pub(crate) fn range(begin: Key, end: Key) -> Result<Range, Fail> {
     if end < begin {
         return Err("a range that ends before it begins")?;
     }
     Ok(Range::new(begin, end))
+}
+
+fn a_to_b(alloc: Global) -> Result<Range, Fail> {
+    range(key(alloc, b"a")?, key(alloc, b"b")?)
 }
 
 #[test]

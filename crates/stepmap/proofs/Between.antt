@@ -60,7 +60,7 @@ use Rattle.stepmap.proofs.Parting.{parted}
 use Rattle.stepmap.proofs.Values.{parted_below}
 use Rattle.stepmap.proofs.IndexFound.{up_to_falls, value_up_to}
 use Rattle.stepmap.proofs.WritingValues.{begins_before_end}
-use Rattle.stepmap.proofs.SomeElement.{Any-map}
+use Rattle.keyspace.proofs.SomeElement.{Any-map}
 use Rattle.stepmap.proofs.Cutting.{slot_passes_live}
 use Rattle.stepmap.proofs.LastFound.{parted_up_to, some_of_all}
 use Rattle.stepmap.proofs.GreatestFound.{

@@ -8,7 +8,7 @@ use Rattle.keyspace.specs.Writes.{Write}
 use Rattle.keyspace.specs.declared.range.Range.{Range}
 use Rattle.keyspace.proofs.KeyOrder.{before_or_at_most, not_both}
 use Rattle.stepmap.specs.Covers.{SameFrom, Covers}
-use Rattle.stepmap.proofs.SomeElement.{Any-longer, Any-push_cases}
+use Rattle.keyspace.proofs.SomeElement.{Any-longer, Any-push_cases}
 
 pub covers_same : (f g : List ℕ → ℤ) (ws : List Write) (edge : ℤ) → SameFrom edge f g → Covers f ws edge
     → Covers g ws edge

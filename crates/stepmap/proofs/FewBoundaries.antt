@@ -10,7 +10,8 @@ use Rattle.keyspace.proofs.KeyOrder.{not_before_itself, at_most_antisym}
 use Rattle.keyspace.proofs.Booleans.{true_or_false, not_both_ways, or_right, and_both}
 use Rattle.stepmap.specs.Boundary.{Boundary, AreBoundaries}
 use Rattle.stepmap.specs.Rooted.{IsEndOf, Ends}
-use Rattle.stepmap.specs.Counting.{is_filled, live_count}
+use Rattle.keyspace.specs.Range.{is_filled}
+use Rattle.stepmap.specs.Counting.{live_count}
 use Rattle.stepmap.proofs.Order.{
   Rising,
   rising_from,
@@ -21,7 +22,7 @@ use Rattle.stepmap.proofs.Order.{
 }
 use Rattle.stepmap.proofs.WritingValues.{begins_before_end}
 use Rattle.stepmap.proofs.Rooting.{OneEnd}
-use Rattle.stepmap.proofs.SomeElement.{Any-cases, Any-none}
+use Rattle.keyspace.proofs.SomeElement.{Any-cases, Any-none}
 
 -- whether the boundary is at another key
 abbrev is_elsewhere : List ℕ → Boundary → Bool

@@ -68,14 +68,8 @@ use Rattle.stepmap.specs.Boundary.{
   from_on,
 }
 use Rattle.stepmap.specs.Indexes.{up_to, after}
-use Rattle.stepmap.proofs.Order.{
-  Rising,
-  rising_from,
-  rising_in_order,
-  rising_filter,
-  rise_above,
-  not_before_if,
-}
+use Rattle.keyspace.proofs.KeyOrder.{not_before_if}
+use Rattle.stepmap.proofs.Order.{Rising, rising_from, rising_in_order, rising_filter, rise_above}
 use Rattle.stepmap.proofs.Values.{
   FirstAfter,
   first_after_all,
@@ -85,7 +79,7 @@ use Rattle.stepmap.proofs.Values.{
   value_has,
 }
 use Rattle.stepmap.proofs.WritingValues.{begins_before_end}
-use Rattle.stepmap.proofs.SomeElement.{Any-first, Any-later}
+use Rattle.keyspace.proofs.SomeElement.{Any-first, Any-later}
 use Rattle.stepmap.proofs.Replacing.{filter_shorter, index_is}
 
 -- the value at a boundary's own key is its version

@@ -38,7 +38,8 @@ use Rattle.keyspace.specs.Key.{is_before}
 use Rattle.keyspace.proofs.KeyOrder.{before_at_most, before_at_most_same}
 use Rattle.stepmap.specs.Boundary.{Boundary, AreInOrder, last_version, value_at}
 use Rattle.stepmap.specs.Indexes.{up_to, after}
-use Rattle.stepmap.proofs.Order.{not_before_empty, not_before_if}
+use Rattle.keyspace.proofs.KeyOrder.{not_before_if}
+use Rattle.stepmap.proofs.Order.{not_before_empty}
 use Rattle.stepmap.proofs.Looking.{not_not}
 use Rattle.stepmap.proofs.Parting.{FallsAlongKeys, parted_at}
 use Rattle.stepmap.proofs.Values.{FirstAfter, value_back, value_after}

@@ -31,9 +31,10 @@ use Rattle.keyspace.proofs.KeyOrder.{before_at_most_same, before_or_same}
 use Rattle.keyspace.proofs.Booleans.{true_or_false, not_both_ways}
 use Rattle.stepmap.specs.Boundary.{Boundary, RiseFrom, AreInOrder, below}
 use Rattle.stepmap.specs.Indexes.{up_to, after}
-use Rattle.stepmap.proofs.Order.{Rising, rise_above, rising_in_order, rising_filter, not_before_if}
+use Rattle.keyspace.proofs.KeyOrder.{not_before_if}
+use Rattle.stepmap.proofs.Order.{Rising, rise_above, rising_in_order, rising_filter}
 use Rattle.stepmap.proofs.Looking.{filter_yes, filter_no}
-use Rattle.stepmap.proofs.SomeElement.{Any-first, Any-later}
+use Rattle.keyspace.proofs.SomeElement.{Any-first, Any-later}
 use Rattle.stepmap.proofs.WritingOrder.{join_in_order}
 
 -- the boundaries with one at the key that has this version, in place of what stood there

@@ -17,7 +17,7 @@ use Rattle.stepmap.specs.Stored.{boundary_of, boundaries_of, IsStored}
 use Rattle.stepmap.proofs.Between.{nested, between_inside, above_by_begin, above_by_inside, inside_if_above}
 use Rattle.stepmap.proofs.Cutting.{stored_cut}
 use Rattle.stepmap.proofs.LastFound.{some_passes, last_boundary, value_of_last}
-use Rattle.stepmap.proofs.SomeElement.{Any-first, Any-later, Any-cases, Any-map, Any-unmap}
+use Rattle.keyspace.proofs.SomeElement.{Any-first, Any-later, Any-cases, Any-map, Any-unmap}
 use Rattle.stepmap.proofs.Thinned.{lt_from_test, le_from_test}
 use Rattle.stepmap.proofs.WritingValues.{begins_before_end}
 

@@ -4,7 +4,6 @@ pub mod Values
 pub mod WritingValues
 pub mod WritingOrder
 pub mod Counting
-pub mod SomeElement
 pub mod Covering
 pub mod Rooting
 pub mod WritingRooted

@@ -37,7 +37,8 @@ use Rattle.keyspace.proofs.Booleans.{
 use Rattle.stepmap.specs.Boundary.{Boundary, RiseFrom, below}
 use Rattle.stepmap.specs.Sweeping.{is_left, left_from, passed_to}
 use Rattle.stepmap.specs.Rooted.{IsEndOf, Ends}
-use Rattle.stepmap.proofs.Order.{Rising, rise_above, not_before_empty, empty_unless_after, not_before_if}
+use Rattle.keyspace.proofs.KeyOrder.{not_before_if}
+use Rattle.stepmap.proofs.Order.{Rising, rise_above, not_before_empty, empty_unless_after}
 use Rattle.stepmap.proofs.Parting.{FallsAlongKeys, parted}
 
 pub not_not : (t : Bool) → t ≡ not (not t)

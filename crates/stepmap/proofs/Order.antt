@@ -22,7 +22,7 @@ use Rattle.std.specs.Prelude.{All}
 use Rattle.std.proofs.lemmas.List.Elements.{All-head, All-tail, All-cons, All-nil}
 use Rattle.keyspace.specs.Key.{is_before, IsBefore, IsAtMost}
 use Rattle.keyspace.proofs.KeyOrder.{before_trans}
-use Rattle.keyspace.proofs.Booleans.{false_unless, not_both_ways}
+use Rattle.keyspace.proofs.Booleans.{not_both_ways}
 use Rattle.stepmap.specs.Boundary.{Boundary, RiseFrom, AreInOrder}
 
 -- no key comes before the empty one
@@ -40,9 +40,6 @@ not_empty_if_after key j h e =
 
 pub at_most_if : (a b : List ℕ) → is_before b a ≡ false → IsAtMost a b
 at_most_if a b h = ap not h
-
-pub not_before_if : (a b : List ℕ) → IsAtMost a b → is_before b a ≡ false
-not_before_if a b h = false_unless (is_before b a) (λ k. not_both_ways _ h (ap not k))
 
 -- each key comes after the one before it
 abbrev pub Rising : List Boundary → Type 0

@@ -40,7 +40,8 @@ use Rattle.keyspace.proofs.KeyOrder.{before_trans, at_most_itself}
 use Rattle.keyspace.proofs.Booleans.{true_or_false}
 use Rattle.stepmap.specs.Boundary.{Boundary, AreInOrder, value_at, value_from, last_version, below, from_on}
 use Rattle.stepmap.specs.Writing.{closed_at, written}
-use Rattle.stepmap.proofs.Order.{Rising, not_before_if, not_empty_if_after}
+use Rattle.keyspace.proofs.KeyOrder.{not_before_if}
+use Rattle.stepmap.proofs.Order.{Rising, not_empty_if_after}
 use Rattle.stepmap.proofs.Values.{value_from_on}
 use Rattle.stepmap.proofs.WritingValues.{begins_before_end}
 

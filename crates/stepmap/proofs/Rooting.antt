@@ -8,7 +8,7 @@ use Rattle.keyspace.specs.Range.{IsEmpty}
 use Rattle.keyspace.specs.Writes.{Write}
 use Rattle.stepmap.specs.Boundary.{Boundary, last_version}
 use Rattle.stepmap.specs.Rooted.{IsEndOf, Ends, AreRooted}
-use Rattle.stepmap.proofs.SomeElement.{Any-weaker, Any-longer}
+use Rattle.keyspace.proofs.SomeElement.{Any-weaker, Any-longer}
 
 abbrev pub OneEnd : ℤ → List ℕ → Write → Type 0
 OneEnd version key w = ¬ IsEmpty w.range × ((w.range.begin ≡ key) ⊎ (w.range.end ≡ key))

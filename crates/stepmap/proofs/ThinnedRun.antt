@@ -17,7 +17,8 @@ use Rattle.stepmap.specs.Boundary.{Boundary, AreInOrder, RiseFrom, last_version}
 use Rattle.stepmap.specs.Cut.{slot_passes}
 use Rattle.stepmap.specs.Stored.{bytes_at, boundary_of, boundaries_of, IsStored}
 use Rattle.stepmap.specs.Sweeping.{is_left, left_from, passed_to, thinned}
-use Rattle.stepmap.proofs.Order.{rise_middle, rise_swap, rise_above, not_before_if}
+use Rattle.keyspace.proofs.KeyOrder.{not_before_if}
+use Rattle.stepmap.proofs.Order.{rise_middle, rise_swap, rise_above}
 use Rattle.stepmap.proofs.Looking.{left_middle, filter_yes, filter_no}
 use Rattle.stepmap.proofs.Thinned.{thinned_rises}
 use Rattle.stepmap.proofs.Cutting.{stored_cut, slot_passes_live}

@@ -32,7 +32,8 @@ use Rattle.keyspace.specs.Key.{is_before, IsBefore, IsAtMost}
 use Rattle.keyspace.proofs.KeyOrder.{before_trans, before_at_most, before_at_most_same}
 use Rattle.keyspace.proofs.Booleans.{true_or_false, not_both_ways}
 use Rattle.stepmap.specs.Boundary.{Boundary, RiseFrom, value_from, last_version, below, from_on}
-use Rattle.stepmap.proofs.Order.{Rising, not_before_if}
+use Rattle.keyspace.proofs.KeyOrder.{not_before_if}
+use Rattle.stepmap.proofs.Order.{Rising}
 use Rattle.stepmap.proofs.Parting.{parted, FallsAlongKeys}
 
 -- the first of them, if there is one, comes after the key

@@ -16,7 +16,8 @@ use Rattle.keyspace.proofs.KeyOrder.{
 use Rattle.keyspace.proofs.Booleans.{true_or_false}
 use Rattle.stepmap.specs.Boundary.{Boundary, value_from, value_at, last_version, below, from_on}
 use Rattle.stepmap.specs.Writing.{closed_at, written}
-use Rattle.stepmap.proofs.Order.{Rising, not_before_if, at_most_if}
+use Rattle.keyspace.proofs.KeyOrder.{not_before_if}
+use Rattle.stepmap.proofs.Order.{Rising, at_most_if}
 use Rattle.stepmap.proofs.Values.{
   FirstAfter,
   value_after,

@@ -29,7 +29,7 @@ use Rattle.stepmap.proofs.Inserted.{up_to_below}
 use Rattle.stepmap.proofs.LastAndInside.{last_of}
 use Rattle.stepmap.proofs.LastFound.{last_boundary, value_of_last}
 use Rattle.stepmap.proofs.PlacedKeys.{Placed, item_at, boundary_at, used, ArePlaced, placed_live, first_released, second_released}
-use Rattle.stepmap.proofs.SomeElement.{Any-first, Any-later}
+use Rattle.keyspace.proofs.SomeElement.{Any-first, Any-later}
 use Rattle.stepmap.proofs.WrittenInParts.{none_of, after_empty, closed_before, after_end, written_there}
 use Rattle.stepmap.proofs.WritingOrder.{written_in_order}
 use Rattle.stepmap.proofs.WritingValues.{begins_before_end}

@@ -61,17 +61,10 @@ use Rattle.stepmap.specs.Sweeping.{is_left, passed_to}
 use Rattle.stepmap.specs.Writing.{closed_at, written}
 use Rattle.stepmap.proofs.Inserted.{with_boundary, all_apart}
 use Rattle.stepmap.proofs.Looking.{filter_yes, filter_no}
-use Rattle.stepmap.proofs.Order.{
-  Rising,
-  rising_from,
-  rising_in_order,
-  rise_above,
-  not_before_if,
-  empty_unless_after,
-  not_empty_if_after,
-}
+use Rattle.keyspace.proofs.KeyOrder.{not_before_if}
+use Rattle.stepmap.proofs.Order.{Rising, rising_from, rising_in_order, rise_above, empty_unless_after, not_empty_if_after}
 use Rattle.stepmap.proofs.Replacing.{filter_shorter}
-use Rattle.stepmap.proofs.SomeElement.{Any-cases, Any-none}
+use Rattle.keyspace.proofs.SomeElement.{Any-cases, Any-none}
 use Rattle.stepmap.proofs.WritingValues.{begins_before_end}
 
 pub none_of : {X : Type 0} (P : X → Type 0) (xs : List X) → All (λ x. ¬ P x) xs → ¬ Any P xs

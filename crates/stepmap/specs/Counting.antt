@@ -1,12 +1,8 @@
 -- How many boundaries there can be. This project's own.
-use Rattle.std.specs.Prelude.{ℕ, ℤ, ◌&&◌, Bool, int_le, List, count_by}
-use Rattle.keyspace.specs.Key.{is_before}
+use Rattle.std.specs.Prelude.{ℕ, ℤ, ◌&&◌, int_le, List, count_by}
+use Rattle.keyspace.specs.Range.{is_filled}
 use Rattle.keyspace.specs.Writes.{Write}
 use Rattle.keyspace.specs.declared.range.Range.{Range}
-
--- the range isn't empty: it begins before it ends
-abbrev pub is_filled : Range → Bool
-is_filled range = is_before range.begin range.end
 
 -- how many of the ranges aren't empty
 abbrev pub filled_count : List Range → ℕ

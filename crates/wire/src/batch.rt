@@ -8,7 +8,7 @@ use crate::error::WireError;
 use crate::field::{body_of, count_of, i64_at, u8_at};
 use crate::txn::txns_of;
 use crate::version::WireVersion;
-use keyspace::{Batch, MAX_TXNS, Sequence};
+use keyspace::{Batch, MAX_TXNS, Txns};
 use std::alloc::Global;
 
 // Reads the kind of a batch and returns the wire version that it tells.
@@ -56,7 +56,8 @@ fn fields_of(alloc: Global, version: WireVersion, bytes: &[u8]) -> Result<(Batch
     let ((previous, batch_version, received), rest) = header_of(bytes)?;
     let (count, rest) = count_of(MAX_TXNS as u16, rest)?;
     let (txns, rest) = txns_of(alloc, version, count, rest)?;
-    let batch = Batch::new(previous, batch_version, received, Sequence::new(txns));
+    let txns = Txns::new(alloc, txns)?;
+    let batch = Batch::new(previous, batch_version, received, txns);
     Ok((batch, rest))
 }
 

@@ -10,7 +10,7 @@ use crate::keys::draw_ranges;
 use crate::random::Random;
 use crate::shape::Shape;
 use crate::words::Plan;
-use keyspace::{Batch, MAX_RANGES, MAX_TXNS, Sequence, Txn};
+use keyspace::{Batch, MAX_RANGES, MAX_TXNS, Sequence, Txn, Txns};
 use std::alloc::Global;
 use wire::{Sink, encode_batch_1, write_all};
 
@@ -72,10 +72,11 @@ pub fn draw_batch(
     if txns.len() > MAX_TXNS {
         return Err(Fault::Limit);
     }
+    let txns = Txns::new(alloc, txns)?;
     let previous = version_before(shape, number, 1);
     let received = version_before(shape, number, BATCHES_IN_FLIGHT);
     let version = version(shape, number);
-    Ok(Batch::new(previous, version, received, Sequence::new(txns)))
+    Ok(Batch::new(previous, version, received, txns))
 }
 
 /// Writes the frames of the batches that the plan asks for, and nothing else.

@@ -79,7 +79,7 @@ fn resolve_rows(
         let writes = ranges(alloc, row.writes)?;
         txns.push(txn_at(row.snapshot, row.marked, reads, writes)?)?;
     }
-    let batch = batch_at(set.resolved, version, txns)?;
+    let batch = batch_at(alloc, set.resolved, version, txns)?;
     resolve(set, &batch)
 }
 
@@ -273,7 +273,7 @@ fn seventy_single_keys(rt: HostRuntime) -> Result<(), Fail> {
     }
     txns.push(txn_at(0, true, ranges(alloc, &[(&[63], &[65])])?, Vec::new(alloc))?)?;
     let mut set = opened(alloc, WINDOW, LIMIT)?;
-    let reply = resolve(&mut set, &batch_at(0, 100, txns)?)??;
+    let reply = resolve(&mut set, &batch_at(alloc, 0, 100, txns)?)??;
     let Some((last, others)) = reply.entries.as_slice().split_last() else {
         return Err("entries")?;
     };
@@ -387,7 +387,7 @@ fn numbered_batch(alloc: Global, number: u8) -> Result<Batch, Fail> {
     let writes = ranges(alloc, &[(&[number], &[number, 0])])?;
     let reader = txn_at(0, true, reads, Vec::new(alloc))?;
     let writer = txn_at(0, false, Vec::new(alloc), writes)?;
-    batch_at(version - 1, version, vec![in alloc; reader, writer]?)
+    batch_at(alloc, version - 1, version, vec![in alloc; reader, writer]?)
 }
 
 // The batches are made first, so that a growth refused after them is one of the set.

@@ -2,7 +2,6 @@
 ghost use Rattle.std.specs.Prelude.{◌≡◌, length};
 
 use super::judge_in_batch;
-use crate::ends::Ends;
 use crate::fixtures::{batch, entry, ranges, txn};
 use crate::gaps::Gaps;
 use keyspace::{Batch, Entry, Verdict};
@@ -47,12 +46,10 @@ fn marked<'a>(reads: Pairs<'a>, places: &'a [u16]) -> Row<'a> {
 fn judge(alloc: Global, batch: &Batch, entries: &mut [Entry]) -> Result<(), Fail>
     requires entries { length entries.old ≡ length batch.now.txns }
 {
-    let mut ends = Ends::new(alloc);
-    let mut runs = Vec::new(alloc);
-    ends.gather(batch, entries, &mut runs)?;
+    let ranks = batch.txns.ranks();
     let mut gaps = Gaps::new(alloc);
-    gaps.reset(ends.count())?;
-    judge_in_batch(alloc, batch, &runs, &mut gaps, entries)?;
+    gaps.reset(ranks.ends.len())?;
+    judge_in_batch(alloc, batch, ranks.runs, &mut gaps, entries)?;
     Ok(())
 }
 
@@ -66,7 +63,7 @@ fn assert_judged(rt: &impl Abort, alloc: Global, rows: &[Row]) -> Result<(), Fai
         txns.push(txn(row.marked, reads, writes)?)?;
         entries.push(entry(alloc, row.by_history))?;
     }
-    let batch = batch(txns)?;
+    let batch = batch(alloc, txns)?;
     assert_eq!(rt; entries.len(), batch.txns.len());
     judge(alloc, &batch, &mut entries)?;
     for (entry, row) in entries.iter().zip(rows) {

@@ -1,10 +1,8 @@
 //! The writes of a batch, and the runs and the keys of their union.
 
 use super::Union;
-use crate::ends::Ends;
-use crate::fixtures::{batch, entry, ranges, txn};
+use crate::fixtures::{batch, ranges, txn};
 use crate::gaps::Gaps;
-use keyspace::Verdict;
 use std::alloc::Global;
 use std::process::Abort;
 use std::test::Fail;
@@ -20,24 +18,21 @@ fn assert_unites(
     expected: &[Pair],
 ) -> Result<(), Fail> {
     let writer = txn(false, Vec::new(alloc), ranges(alloc, writes)?)?;
-    let batch = batch(vec![in alloc; writer]?)?;
-    assert_eq!(rt; batch.txns.len(), 1);
-    let mut ends = Ends::new(alloc);
+    let batch = batch(alloc, vec![in alloc; writer]?)?;
+    let ranks = batch.txns.ranks();
+    let count = ranks.ends.len();
     let mut gaps = Gaps::new(alloc);
-    let mut runs = Vec::new(alloc);
-    ends.gather(&batch, &[entry(alloc, Verdict::Committed)], &mut runs)?;
-    let count = ends.count();
     gaps.reset(count)?;
-    for (from, to) in &runs {
+    for (from, to) in ranks.runs {
         assert!(rt; *from <= *to && *to <= count);
         gaps.mark(*from, *to);
     }
     union.gather(&gaps)?;
     assert_eq!(rt; union.runs().len(), expected.len());
     for ((from, to), (begin, end)) in union.runs().iter().zip(expected) {
-        assert!(rt; *from < *to && *to < ends.count());
-        assert_eq!(rt; ends.key(&batch, *from), *begin);
-        assert_eq!(rt; ends.key(&batch, *to), *end);
+        assert!(rt; *from < *to && *to < count);
+        assert_eq!(rt; batch.txns.key(&ranks.ends[*from]), *begin);
+        assert_eq!(rt; batch.txns.key(&ranks.ends[*to]), *end);
     }
     Ok(())
 }

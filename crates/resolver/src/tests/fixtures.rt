@@ -1,8 +1,8 @@
 //! Batches and answers as the rows write them. Each limit is looked at.
 use crate::{Core, MAX_PROXIES, OpenError};
 use keyspace::{
-    Answer, Batch, Entry, Key, MAX_KEY_LENGTH, MAX_RANGES, MAX_TXNS, Range, Sequence, Txn, Verdict,
-    WINDOW,
+    Answer, Batch, Entry, Key, MAX_KEY_LENGTH, MAX_RANGES, MAX_TXNS, Range, Sequence, Txn, Txns,
+    Verdict, WINDOW,
 };
 use std::alloc::{AllocError, Global};
 use std::fmt;
@@ -165,7 +165,8 @@ pub(super) fn batch_of(alloc: Global, row: &Admission) -> Result<Batch, Unmade> 
     if txns.len() > MAX_TXNS {
         return Err(Unmade::Beyond("number of transactions"));
     }
-    Ok(Batch::new(previous, version, received, Sequence::new(txns)))
+    let txns = Txns::new(alloc, txns)?;
+    Ok(Batch::new(previous, version, received, txns))
 }
 
 fn write_entry(text: &mut String, entry: &Entry) -> Result<(), Unmade> {

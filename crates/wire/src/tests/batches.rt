@@ -1,7 +1,7 @@
 //! Tests of `decode_batch`, `encode_batch` and `encode_batch_1` in wire version 1.
 
 use super::*;
-use keyspace::{Key, Sequence, Txn};
+use keyspace::{Key, Sequence, Txn, Txns};
 use std::process::Abort;
 
 // The batch at the front of these bytes, and how many of them it takes.
@@ -176,8 +176,8 @@ fn batch_of_longest_keys(rt: &impl Abort, alloc: Global, count: usize) -> Result
         Sequence::new(Vec::new(alloc)),
         Sequence::new(writes),
     );
-    let txns = vec![in alloc; txn]?;
-    Ok(Batch::new(-1, 0, -1, Sequence::new(txns)))
+    let txns = Txns::new(alloc, vec![in alloc; txn]?)?;
+    Ok(Batch::new(-1, 0, -1, txns))
 }
 
 #[test]

@@ -1,7 +1,7 @@
 //! Tests of `upgrade`, `write_all` and `StdSink`.
 
 use super::*;
-use keyspace::{Key, Sequence, Txn};
+use keyspace::{Key, Sequence, Txn, Txns};
 use std::io;
 use std::io::{ErrorKind, Write};
 use std::process::Abort;
@@ -163,8 +163,8 @@ fn longest_batch(rt: &impl Abort, alloc: Global) -> Result<Batch, Fail> {
     assert!(rt; writes.len() <= 1_024);
     let reads = Sequence::new(Vec::new(alloc));
     let txn = Txn::new(0, false, reads, Sequence::new(writes));
-    let txns = vec![in alloc; txn]?;
-    Ok(Batch::new(-1, 0, -1, Sequence::new(txns)))
+    let txns = Txns::new(alloc, vec![in alloc; txn]?)?;
+    Ok(Batch::new(-1, 0, -1, txns))
 }
 
 #[test]

@@ -1,10 +1,11 @@
 use Rattle.std.proofs.Common.{◌≡◌, ◌++◌, ◌∙◌, ◌+◌, ◌<◌, ◌≤◌, [], length, get_or, take, drop, ap, arith, rules}
 use Rattle.std.proofs.lemmas.List.{length-append}
 use Rattle.keyspace.specs.declared.reply.Verdict.TheVariants.{Committed}
+use Rattle.keyspace.specs.Ends.{ranges_of_txn}
 use Rattle.conflict.specs.InBatch.{in_batches}
 use Rattle.conflict.specs.Written.{TellRuns}
 use Rattle.conflict.proofs.Told.{told_within}
-use Rattle.conflict.proofs.JudgedTo.{all_marked, all_have_ends, next_told, next_within, open_judged, closed_judged}
+use Rattle.conflict.proofs.JudgedTo.{all_marked, all_have_ends, next_told, next_within, next_judged, closed_judged}
 use Rattle.conflict.proofs.in_batch.judge_in_batch.Goals.{then-eq+in_ok-judge_open, else-eq}
 use Rattle.conflict.proofs.in_batch.judge_in_batch.Goals as goal
 
@@ -13,34 +14,32 @@ split_at-requires c =
     let txns = c.args.batch.now.txns in
     let t = c.txn-item.result in
     let i = c.loop-index.index in
-    let items = c.as_slice-txn-items.ensures.items in
+    let items = c.as_slice-txn-items.ensures.txns in
     let keys = c.requires.runs.0 in
     let so_far = c.loop-index.invariant.judged keys c.requires.runs.1 c.requires.runs.2 in
-    let is_open : (get_or c.loop-index.entries i c.index-entries-index.result).verdict ≡ Committed = search rules in
-    let few : length (t.reads ++ t.writes) ≤ length c.loop-index.rest.now =
+    let few : length (ranges_of_txn t) ≤ length c.loop-index.rest.now =
     next_within keys (in_batches [] txns c.args.entries.now) i c.loop-index.rest.now c.loop-index.gaps txns
-    c.loop-index.entries so_far t c.index-entries-index.result (omega (arith, ap length items))
-    (c.loop-index.auto.entries ∙ c.requires.entries) (c.txn-item.is ∙ ap (λ ts. get_or ts i t) items) is_open in
-    omega (arith, few, length-append t.reads t.writes, c.len.ensures.count, c.len-then-eq.ensures.count)
+    c.loop-index.entries so_far t (omega (arith, ap length items))
+    (c.txn-item.is ∙ ap (λ ts. get_or ts i t) items) in
+    omega (arith, few, length-append t.reads t.writes, c.len.ensures.count, c.len-in-loop-index.ensures.count)
 
 pub judge_open-requires-clause-within : goal.judge_open-requires-clause-within
 judge_open-requires-clause-within c =
     let txns = c.args.batch.now.txns in
     let t = c.txn-item.result in
     let i = c.loop-index.index in
-    let items = c.as_slice-txn-items.ensures.items in
+    let items = c.as_slice-txn-items.ensures.txns in
     let keys = c.requires.runs.0 in
     let so_far = c.loop-index.invariant.judged keys c.requires.runs.1 c.requires.runs.2 in
-    let is_open : (get_or c.loop-index.entries i c.index-entries-index.result).verdict ≡ Committed = search rules in
     let tell =
     next_told keys (in_batches [] txns c.args.entries.now) i c.loop-index.rest.now c.loop-index.gaps txns
-    c.loop-index.entries so_far t c.index-entries-index.result (omega (arith, ap length items))
-    (c.loop-index.auto.entries ∙ c.requires.entries) (c.txn-item.is ∙ ap (λ ts. get_or ts i t) items) is_open in
-    let long : c.len.result + c.len-then-eq.result ≡ length (t.reads ++ t.writes) =
-    omega (arith, length-append t.reads t.writes, c.len.ensures.count, c.len-then-eq.ensures.count) in
-    let front : c.split_at.result.0.now ≡ take (length (t.reads ++ t.writes)) c.loop-index.rest.now =
+    c.loop-index.entries so_far t (omega (arith, ap length items))
+    (c.txn-item.is ∙ ap (λ ts. get_or ts i t) items) in
+    let long : c.len.result + c.len-in-loop-index.result ≡ length (ranges_of_txn t) =
+    omega (arith, length-append t.reads t.writes, c.len.ensures.count, c.len-in-loop-index.ensures.count) in
+    let front : c.split_at.result.0.now ≡ take (length (ranges_of_txn t)) c.loop-index.rest.now =
     c.split_at.ensures.front ∙ ap (λ n. take n c.loop-index.rest.now) long in
-    told_within keys (length c.loop-index.gaps) c.split_at.result.0.now (t.reads ++ t.writes)
+    told_within keys (length c.loop-index.gaps) c.split_at.result.0.now (ranges_of_txn t)
     (c.loop-index.invariant.count ∙ c.requires.runs.1) (rw front tell)
 
 pub loop-index-preserved : goal.loop-index-preserved
@@ -48,28 +47,26 @@ loop-index-preserved c =
     let txns = c.args.batch.now.txns in
     let t = c.txn-item.result in
     let i = c.loop-index.index in
-    let items = c.as_slice-txn-items.ensures.items in
+    let items = c.as_slice-txn-items.ensures.txns in
     let inside : i < length txns = omega (arith, ap length items) in
     let count = c.loop-index.auto.entries ∙ c.requires.entries in
     let is_next = c.txn-item.is ∙ ap (λ ts. get_or ts i t) items in
     let whole = in_batches [] txns c.args.entries.now in
+    let long : c.len.result + c.len-in-loop-index.result ≡ length (ranges_of_txn t) =
+    omega (arith, length-append t.reads t.writes, c.len.ensures.count, c.len-in-loop-index.ensures.count) in
+    let front = c.split_at.ensures.front ∙ ap (λ n. take n c.loop-index.rest.now) long in
+    let back = c.split_at.ensures.back ∙ ap (λ n. drop n c.loop-index.rest.now) long in
     elim c.if-eq.branch [
       | then-eq+in_ok-judge_open w ↦ record {
         count = ap length w.gaps-is ∙ w.judge_open.ensures.count ∙ c.loop-index.invariant.count;
         judged = λ keys same tell.
             let so_far = c.loop-index.invariant.judged keys same tell in
-            let is_open : (get_or c.loop-index.entries i c.index-entries-index.result).verdict ≡ Committed =
-            search rules in
-            let long : w.len.result + w.len-then-eq.result ≡ length (t.reads ++ t.writes) =
-            omega (arith, length-append t.reads t.writes, w.len.ensures.count, w.len-then-eq.ensures.count) in
-            let front = w.split_at.ensures.front ∙ ap (λ n. take n c.loop-index.rest.now) long in
-            let back = w.split_at.ensures.back ∙ ap (λ n. drop n c.loop-index.rest.now) long in
-            let own : TellRuns keys w.split_at.result.0.now (t.reads ++ t.writes) =
+            let own : TellRuns keys c.split_at.result.0.now (t.reads ++ t.writes) =
             rw front (next_told keys whole i c.loop-index.rest.now c.loop-index.gaps txns c.loop-index.entries so_far
-            t c.index-entries-index.result inside count is_next is_open) in
+            t inside is_next) in
             rw (w.gaps-is, w.entries-is, w.rest-is, back)
-            (open_judged keys whole i c.loop-index.rest.now c.loop-index.gaps txns c.loop-index.entries so_far t
-            c.index-entries-index.result inside count is_next w.judge_open.new.entry w.judge_open.new.gaps is_open
+            (next_judged keys whole i c.loop-index.rest.now c.loop-index.gaps txns c.loop-index.entries so_far t
+            inside is_next c.index-entries-index.result count w.judge_open.new.entry w.judge_open.new.gaps
             (λ written told have. w.in_ok-judge_open.ensures.judged keys written own told have)
             (λ written told have. w.in_ok-judge_open.ensures.marked keys written own told have));
       }
@@ -79,16 +76,16 @@ loop-index-preserved c =
             let so_far = c.loop-index.invariant.judged keys same tell in
             let closed : (get_or c.loop-index.entries i c.index-entries-index.result).verdict ≡ Committed → ⊥ =
             search rules in
-            rw (w.gaps-is, w.entries-is, w.rest-is)
+            rw (w.gaps-is, w.entries-is, w.rest-is, back)
             (closed_judged keys whole i c.loop-index.rest.now c.loop-index.gaps txns c.loop-index.entries so_far t
-            c.index-entries-index.result inside count is_next closed);
+            inside is_next c.index-entries-index.result count closed);
       }
     ]
 
 pub returns-clause-marked : goal.returns-clause-marked
 returns-clause-marked c = λ keys same tell.
     let txns = c.args.batch.now.txns in
-    let items = c.as_slice-txn-items.ensures.items in
+    let items = c.as_slice-txn-items.ensures.txns in
     let i = c.loop-index.index in
     let so_far = c.loop-index.invariant.judged keys same tell in
     let txns_end : length txns ≤ i = omega (arith, ap length items) in

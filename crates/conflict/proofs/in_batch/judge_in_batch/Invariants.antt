@@ -1,5 +1,5 @@
 use Rattle.std.proofs.Common.{◌≡◌, ℕ, List, [], length}
-use Rattle.conflict.specs.Gathered.{open_ranges}
+use Rattle.keyspace.specs.Ends.{ranges_in}
 use Rattle.conflict.specs.Written.{TellRuns}
 use Rattle.conflict.specs.InBatch.{in_batches}
 use Rattle.conflict.proofs.JudgedTo.{JudgedBelow}
@@ -9,6 +9,6 @@ abbrev pub invariant-loop-index : goal.invariant-loop-index
 invariant-loop-index l = record {
   count : length l.gaps ≡ length l.fn.gaps;
   judged : (keys : List (List ℕ)) → length l.fn.gaps ≡ length keys
-      → TellRuns keys l.runs (open_ranges l.batch.txns l.fn.entries)
+      → TellRuns keys l.runs (ranges_in l.batch.txns)
       → JudgedBelow keys (in_batches [] l.batch.txns l.fn.entries) l.index l.rest l.gaps l.batch.txns l.entries;
 }

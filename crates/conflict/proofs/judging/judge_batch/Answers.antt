@@ -5,7 +5,7 @@ use Rattle.std.proofs.lemmas.List.{length-map}
 use Rattle.keyspace.specs.Judge.{judge_txns}
 use Rattle.keyspace.specs.Writes.{committed}
 use Rattle.conflict.specs.InBatch.{in_batches}
-use Rattle.conflict.specs.Gathered.{key_of_end, keys_of, open_ranges}
+use Rattle.keyspace.specs.Ends.{key_of_end, keys_of, ranges_in}
 use Rattle.conflict.specs.Judging.{TellWritten}
 use Rattle.conflict.specs.Written.{TellRuns}
 use Rattle.conflict.proofs.JudgedBatch.{length-in_batches, changed_whole}
@@ -28,25 +28,23 @@ returns-clause-judged c = λ ws covers.
 pub returns-clause-told : goal.returns-clause-told
 returns-clause-told c =
     let txns = c.args.batch.now.txns in
+    let ends = c.args.ranks.ends.now in
     let es = c.in_ok-entries.entries in
     let after = c.judge_in_batch.new.entries in
     let is : after ≡ in_batches [] txns es.items =
     c.in_ok-judge_in_batch.ensures.judged ∙ ap (in_batches [] txns) c.deref_mut.ensures.value in
     let long = ap length is ∙ length-in_batches [] txns es.items c.in_ok-entries.ensures.count
     ∙ sym c.in_ok-entries.ensures.count ∙ sym es.ok.0 in
-    let keys = keys_of txns c.gather.new.self in
-    let same = c.in_ok-reset.ensures.count ∙ c.count.ensures.count
-    ∙ sym (length-map c.gather.new.self (key_of_end txns)) in
-    let gathered : TellRuns keys c.deref-2.result.now (open_ranges txns c.deref.result.now) = record {
-      have_ends = c.in_ok-gather.ensures.have_ends;
-      are_runs = c.deref-2.ensures.value ∙ c.in_ok-gather.ensures.runs;
+    let keys = keys_of txns ends in
+    let same = c.in_ok-reset.ensures.count ∙ sym (length-map ends (key_of_end txns)) in
+    let tell : TellRuns keys c.args.ranks.runs.now (ranges_in txns) = record {
+      have_ends = c.requires.ranked.have_ends;
+      are_runs = c.requires.ranked.are_runs;
     } in
-    let tell = subst (λ (entries : List Entry). TellRuns keys c.deref-2.result.now (open_ranges txns entries))
-    (c.deref.ensures.value ∙ sym c.deref_mut.ensures.value) gathered in
     let written = c.in_ok-judge_in_batch.ensures.marked keys same tell in
     let told : TellWritten keys c.judge_in_batch.new.gaps (committed txns after) =
     record {
-      rising = c.in_ok-gather.ensures.rising;
+      rising = c.requires.ranked.rising;
       have_ends = written.1;
       gaps = written.0;
     } in
@@ -56,13 +54,9 @@ returns-clause-told c =
 pub judge_in_batch-requires-clause-runs : goal.judge_in_batch-requires-clause-runs
 judge_in_batch-requires-clause-runs c =
     let txns = c.args.batch.now.txns in
-    let keys = keys_of txns c.gather.new.self in
-    let same = c.in_ok-reset.ensures.count ∙ c.count.ensures.count
-    ∙ sym (length-map c.gather.new.self (key_of_end txns)) in
-    let gathered : TellRuns keys c.deref-2.result.now (open_ranges txns c.deref.result.now) = record {
-      have_ends = c.in_ok-gather.ensures.have_ends;
-      are_runs = c.deref-2.ensures.value ∙ c.in_ok-gather.ensures.runs;
+    let ends = c.args.ranks.ends.now in
+    let tell : TellRuns (keys_of txns ends) c.args.ranks.runs.now (ranges_in txns) = record {
+      have_ends = c.requires.ranked.have_ends;
+      are_runs = c.requires.ranked.are_runs;
     } in
-    let tell = subst (λ (entries : List Entry). TellRuns keys c.deref-2.result.now (open_ranges txns entries))
-    (c.deref.ensures.value ∙ sym c.deref_mut.ensures.value) gathered in
-    (keys, same, tell)
+    (keys_of txns ends, c.in_ok-reset.ensures.count ∙ sym (length-map ends (key_of_end txns)), tell)

@@ -1,7 +1,7 @@
 use Rattle.std.proofs.Common.{◌≡◌, List, take, map, length}
 use Rattle.keyspace.specs.declared.range.Range.{Range}
 use Rattle.stepmap.specs.StepMap.{lengths}
-use Rattle.conflict.specs.Gathered.{keys_of}
+use Rattle.keyspace.specs.Ends.{keys_of}
 use Rattle.conflict.specs.Union.{AreSpanned}
 use Rattle.conflict.proofs.writing.gather_lengths.Given as goal
 

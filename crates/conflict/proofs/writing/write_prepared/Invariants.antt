@@ -1,7 +1,7 @@
 use Rattle.std.proofs.Common.{◌≡◌, List}
 use Rattle.keyspace.specs.declared.range.Range.{Range}
 use Rattle.stepmap.specs.Laws.{IsWriting}
-use Rattle.conflict.specs.Gathered.{keys_of}
+use Rattle.keyspace.specs.Ends.{keys_of}
 use Rattle.conflict.specs.Union.{AreSpanned}
 use Rattle.conflict.proofs.writing.write_prepared.Given as goal
 

@@ -77,7 +77,7 @@ impl Random {
             let writes = self.ranges(alloc)?;
             txns.push(txn_at(snapshot, marked, reads, writes)?)?;
         }
-        batch_at(previous, version, txns)
+        batch_at(alloc, previous, version, txns)
     }
 }
 

@@ -16,7 +16,7 @@ returns-clause-text c =
     let fits_received : SFits w64 c.args.batch.now.received = search rules in
     rw (
       c.in_ok-put_txns.ensures.text,
-      c.as_slice.ensures.items,
+      c.as_slice.ensures.txns,
       c.in_ok-put_u16.ensures.text,
       c.in_ok-put_i64-3.ensures.text,
       c.in_ok-put_i64-2.ensures.text,
@@ -32,5 +32,5 @@ returns-clause-text c =
 pub returns-clause-holds : goal.returns-clause-holds
 returns-clause-holds c =
     batch_holds c.args.batch.now (search rules) (search rules) (search rules)
-    (subst (λ (txns : List Txn). All (λ txn. FitsSigned w64 txn.snapshot) txns) c.as_slice.ensures.items
+    (subst (λ (txns : List Txn). All (λ txn. FitsSigned w64 txn.snapshot) txns) c.as_slice.ensures.txns
     c.in_ok-put_txns.ensures.fit)
