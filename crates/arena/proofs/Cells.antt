@@ -1,5 +1,5 @@
 -- The slots of a chunk, as its entries and bytes tell them.
-use Rattle.std.proofs.Common.{◌≡◌, ℕ, zero, suc, ◌+◌, ◌*◌, ◌<◌, ◌≤◌, List, [], ◌∷◌, ◌++◌, length, take, drop, set, get_or, slice_get, Option, Some, IsSome, is_some, false, option_map, unwrap_or, slice_index, refl, sym, ap, ◌∙◌, add_assoc, zero-mul, mul-le-mul_right, arith, length-drop, length-append, length-set}
+use Rattle.std.proofs.Common.{◌≡◌, ℕ, zero, suc, ◌+◌, ◌*◌, ◌<◌, ◌≤◌, List, [], ◌∷◌, ◌++◌, length, take, drop, set, get_or, slice_get, Some, IsSome, is_some, false, option_map, unwrap_or, slice_index, refl, sym, ap, ◌∙◌, add_assoc, zero-mul, mul-le-mul_right, arith, length-drop, length-append, length-set}
 use Rattle.std.proofs.Math.Path.{ap₂}
 use Rattle.std.proofs.lemmas.List.{
   drop-drop,
@@ -14,8 +14,8 @@ use Rattle.std.proofs.lemmas.Option.{slice_get_within, slice_get_read}
 use Rattle.std.proofs.lemmas.Slice.{drop-append-drop}
 use Rattle.std.specs.Option.{option_and_then}
 use Rattle.arena.specs.Arena.{Record, sizes}
-use Rattle.arena.specs.Entry.{held, held_at, LeadsTo}
-use Rattle.arena.specs.Chunk.{cell_of, cells_of, Fits, AllFit, IsChunk, IsFresh, next_in}
+use Rattle.arena.specs.Entry.{held, held_at, IsFree}
+use Rattle.arena.specs.Chunk.{cell_of, cells_of, Fits, AllFit, IsChunk, IsFresh}
 use Rattle.arena.specs.declared.entry.Entry.{Entry}
 use Rattle.arena.specs.declared.entry.Entry.TheVariants.{Free, Live}
 use Rattle.arena.specs.declared.entry.Head.{Head}
@@ -64,14 +64,6 @@ module _ {H : Type 0} where
   length-cells_of [] width bytes = refl
   length-cells_of (e ∷ es) width bytes = ap suc (length-cells_of es width (drop width bytes))
 
-  -- a free slot has a free entry
-  pub free_entry : (es : List (Entry (Head H))) (width : ℕ) (bytes : List ℕ) (i : ℕ) (next : Option ℕ)
-      → LeadsTo (cells_of es width bytes) i next → slice_get es i ≡ Some (Free next)
-  free_entry [] width bytes i next leads = cc
-  free_entry (Free n ∷ es) width bytes zero next leads = let same : n ≡ next = cc in cc
-  free_entry (Live h ∷ es) width bytes zero next leads = cc
-  free_entry (e ∷ es) width bytes (suc i) next leads = free_entry es width (drop width bytes) i next leads
-
   -- the record of a live entry
   abbrev pub record_of : Head H → ℕ → ℕ → List ℕ → Record H
   record_of head i width bytes =
@@ -82,7 +74,7 @@ module _ {H : Type 0} where
       → (head : Head H) × (slice_get es i ≡ Some (Live head))
       × (slice_get (cells_of es width bytes) i ≡ Some (Live (record_of head i width bytes)))
   live_entry [] width bytes i live = cc
-  live_entry (Free n ∷ es) width bytes zero live = cc
+  live_entry (Free ∷ es) width bytes zero live = cc
   live_entry (Live h ∷ es) width bytes zero live = (
     h,
     refl,
@@ -109,12 +101,12 @@ module _ {H : Type 0} where
       → head ≡ held_head
   held_in e head held_head is live = let same : Some head ≡ Some held_head = sym (ap held is) ∙ live in cc
 
-  pub cells_of-freed : (es : List (Entry (Head H))) (width : ℕ) (bytes : List ℕ) (i : ℕ) (next : Option ℕ)
-      → cells_of (set es i (Free next)) width bytes ≡ set (cells_of es width bytes) i (Free next)
-  cells_of-freed [] width bytes i next = refl
-  cells_of-freed (e ∷ es) width bytes zero next = refl
-  cells_of-freed (e ∷ es) width bytes (suc i) next =
-      ap (λ cs. cell_of e bytes ∷ cs) (cells_of-freed es width (drop width bytes) i next)
+  pub cells_of-freed : (es : List (Entry (Head H))) (width : ℕ) (bytes : List ℕ) (i : ℕ)
+      → cells_of (set es i Free) width bytes ≡ set (cells_of es width bytes) i Free
+  cells_of-freed [] width bytes i = refl
+  cells_of-freed (e ∷ es) width bytes zero = refl
+  cells_of-freed (e ∷ es) width bytes (suc i) =
+      ap (λ cs. cell_of e bytes ∷ cs) (cells_of-freed es width (drop width bytes) i)
 
   pub cells_of-lent : (es : List (Entry (Head H))) (width : ℕ) (bytes : List ℕ) (i : ℕ) (head : Head H)
       → cells_of (set es i (Live head)) width bytes
@@ -138,13 +130,13 @@ module _ {H : Type 0} where
   pub fits_at : (es : List (Entry (Head H))) (width i : ℕ) (head : Head H) → AllFit es width
       → slice_get es i ≡ Some (Live head) → head.length ≤ width
   fits_at [] width i head fit is = cc
-  fits_at (Free n ∷ es) width zero head fit is = cc
+  fits_at (Free ∷ es) width zero head fit is = cc
   fits_at (Live h ∷ es) width zero head fit is = let same : h ≡ head = cc in rw (← same) fit.0
   fits_at (x ∷ es) width (suc i) head fit is = fits_at es width i head fit.1 is
 
   cell_of-before : (e : Entry (Head H)) (width from : ℕ) (key bytes : List ℕ) → Fits e width → width ≤ from
       → from ≤ length bytes → cell_of e (with_key from key bytes) ≡ cell_of e bytes
-  cell_of-before (Free n) width from key bytes fits below room = refl
+  cell_of-before Free width from key bytes fits below room = refl
   cell_of-before (Live h) width from key bytes fits below room =
       ap (λ k. Live (record { header = h.header; key = k }))
       (take-with_key h.length from key bytes (omega arith) room)
@@ -215,15 +207,15 @@ module _ {H : Type 0} where
       cells_of-filled es width bytes i (i * width) header key refl (omega arith) chunk.fit
       (omega (arith, slot.bytes))
 
-  pub IsChunk-freed : (es : List (Entry (Head H))) (size width : ℕ) (bytes : List ℕ) (i : ℕ) (next : Option ℕ)
-      → IsChunk es size width bytes → IsChunk (set es i (Free next)) size width bytes
-  IsChunk-freed es size width bytes i next chunk =
+  pub IsChunk-freed : (es : List (Entry (Head H))) (size width : ℕ) (bytes : List ℕ) (i : ℕ)
+      → IsChunk es size width bytes → IsChunk (set es i Free) size width bytes
+  IsChunk-freed es size width bytes i chunk =
       record {
         sized = chunk.sized;
         wide = chunk.wide;
         shared = ap (λ n. n * width) (length-set es i _) ∙ chunk.shared;
         room = chunk.room;
-        fit = AllFit-set es width i (Free next) chunk.fit tt;
+        fit = AllFit-set es width i Free chunk.fit tt;
       }
 
   pub IsChunk-lent : (es : List (Entry (Head H))) (size width : ℕ) (bytes : List ℕ) (i : ℕ) (head : Head H)
@@ -267,49 +259,48 @@ module _ {H : Type 0} where
       ∙ ap (λ k. set (cells_of es width bytes) i (Live (record { header = header; key = k }))) (sym key)
 
   -- a free entry is a free slot
-  pub free_slot : (es : List (Entry (Head H))) (width : ℕ) (bytes : List ℕ) (i : ℕ) (next : Option ℕ)
-      → slice_get es i ≡ Some (Free next) → LeadsTo (cells_of es width bytes) i next
-  free_slot [] width bytes i next is = cc
-  free_slot (Free n ∷ es) width bytes zero next is = let same : n ≡ next = cc in cc
-  free_slot (Live h ∷ es) width bytes zero next is = cc
-  free_slot (e ∷ es) width bytes (suc i) next is = free_slot es width (drop width bytes) i next is
+  pub free_slot : (es : List (Entry (Head H))) (width : ℕ) (bytes : List ℕ) (i : ℕ)
+      → slice_get es i ≡ Some Free → IsFree (cells_of es width bytes) i
+  free_slot [] width bytes i is = cc
+  free_slot (Free ∷ es) width bytes zero is = refl
+  free_slot (Live h ∷ es) width bytes zero is = cc
+  free_slot (e ∷ es) width bytes (suc i) is = free_slot es width (drop width bytes) i is
 
-  AllFit-free : (es : List (Entry (Head H))) (width : ℕ) (next : ℕ → Option ℕ)
-      → ((k : ℕ) → k < length es → slice_get es k ≡ Some (Free (next k))) → AllFit es width
-  AllFit-free [] width next free = tt
-  AllFit-free (Free n ∷ es) width next free =
-      (tt, AllFit-free es width (λ k. next (suc k)) (λ k below. free (suc k) (omega arith)))
-  AllFit-free (Live h ∷ es) width next free = let is = free 0 (omega arith) in cc
+  AllFit-free : (es : List (Entry (Head H))) (width : ℕ)
+      → ((k : ℕ) → k < length es → slice_get es k ≡ Some Free) → AllFit es width
+  AllFit-free [] width free = tt
+  AllFit-free (Free ∷ es) width free =
+      (tt, AllFit-free es width (λ k below. free (suc k) (omega arith)))
+  AllFit-free (Live h ∷ es) width free = let is = free 0 (omega arith) in cc
 
-  pub IsChunk-new : (es : List (Entry (Head H))) (size width : ℕ) (bytes : List ℕ) (next : ℕ → Option ℕ)
+  pub IsChunk-new : (es : List (Entry (Head H))) (size width : ℕ) (bytes : List ℕ)
       → size < 10 → width ≡ slice_index sizes size → length es * width ≡ 16384 → length bytes ≡ 16384
-      → ((k : ℕ) → k < length es → slice_get es k ≡ Some (Free (next k))) → IsChunk es size width bytes
-  IsChunk-new es size width bytes next sized wide shared room free =
+      → ((k : ℕ) → k < length es → slice_get es k ≡ Some Free) → IsChunk es size width bytes
+  IsChunk-new es size width bytes sized wide shared room free =
       record {
         sized = sized;
         wide = wide;
         shared = shared;
         room = room;
         fit =
-            AllFit-free es width next free;
+            AllFit-free es width free;
       }
 
-  pub IsFresh-new : (es : List (Entry (Head H))) (width : ℕ) (bytes : List ℕ) (first count : ℕ)
-      (last : Option ℕ)
-      → length es ≡ count → ((k : ℕ) → k < count → slice_get es k ≡ Some (Free (next_in first count k last)))
-      → IsFresh (cells_of es width bytes) first count last
-  IsFresh-new es width bytes first count last slots free =
+  pub IsFresh-new : (es : List (Entry (Head H))) (width : ℕ) (bytes : List ℕ) (count : ℕ)
+      → length es ≡ count → ((k : ℕ) → k < count → slice_get es k ≡ Some Free)
+      → IsFresh (cells_of es width bytes) count
+  IsFresh-new es width bytes count slots free =
       record {
         slots = length-cells_of es width bytes ∙ slots;
-        leads =
-            λ k below. free_slot es width bytes k _ (free k below);
+        free =
+            λ k below. free_slot es width bytes k (free k below);
       }
 
   -- a live entry is a live slot
   pub live_slot : (es : List (Entry (Head H))) (width : ℕ) (bytes : List ℕ) (i : ℕ) (head : Head H)
       → slice_get es i ≡ Some (Live head) → IsSome (held_at (cells_of es width bytes) i)
   live_slot [] width bytes i head is = cc
-  live_slot (Free n ∷ es) width bytes zero head is = cc
+  live_slot (Free ∷ es) width bytes zero head is = cc
   live_slot (Live h ∷ es) width bytes zero head is = refl
   live_slot (e ∷ es) width bytes (suc i) head is = live_slot es width (drop width bytes) i head is
 
@@ -322,9 +313,9 @@ module _ {H : Type 0} where
   none_beyond (e ∷ es) width bytes (suc i) beyond = none_beyond es width (drop width bytes) i (omega arith)
 
   -- nor in a slot that is free
-  pub none_in_free : (es : List (Entry (Head H))) (width : ℕ) (bytes : List ℕ) (i : ℕ) (next : Option ℕ)
-      → slice_get es i ≡ Some (Free next) → is_some (held_at (cells_of es width bytes) i) ≡ false
-  none_in_free [] width bytes i next is = refl
-  none_in_free (Free n ∷ es) width bytes zero next is = refl
-  none_in_free (Live h ∷ es) width bytes zero next is = cc
-  none_in_free (e ∷ es) width bytes (suc i) next is = none_in_free es width (drop width bytes) i next is
+  pub none_in_free : (es : List (Entry (Head H))) (width : ℕ) (bytes : List ℕ) (i : ℕ)
+      → slice_get es i ≡ Some Free → is_some (held_at (cells_of es width bytes) i) ≡ false
+  none_in_free [] width bytes i is = refl
+  none_in_free (Free ∷ es) width bytes zero is = refl
+  none_in_free (Live h ∷ es) width bytes zero is = cc
+  none_in_free (e ∷ es) width bytes (suc i) is = none_in_free es width (drop width bytes) i is

@@ -9,16 +9,13 @@ use Rattle.std.proofs.Common.{
   zero,
   suc,
   ◌+◌,
-  ◌-◌,
   ◌*◌,
   ◌/◌,
   ◌%◌,
   ◌<◌,
   ◌≤◌,
   true,
-  false,
-  cond,
-  nat_lt,
+  nat_eq,
   List,
   [],
   ◌∷◌,
@@ -26,33 +23,41 @@ use Rattle.std.proofs.Common.{
   length,
   set,
   slice_get,
-  slice_index,
-  slice_index_or,
   Option,
   Some,
   None,
+  IsSome,
   option_map,
   refl,
   sym,
   ap,
   ◌∙◌,
-  add_comm,
-  zero-add,
-  suc-add,
   length-append,
+  length-set,
   arith,
 }
-use Rattle.std.proofs.lemmas.Bool.Decides.{nat_tests}
-use Rattle.std.proofs.lemmas.List.{get_or-set_same, get_or-set_other}
 use Rattle.std.proofs.lemmas.Option.{slice_get_within, slice_get_past}
 use Rattle.std.specs.Option.{option_and_then}
 use Rattle.std.specs.FinMap as map
+use Rattle.std.specs.Set.{is_member}
+use Rattle.arena.specs.Arena.{Record}
 use Rattle.arena.specs.Entry.{held}
-use Rattle.arena.specs.Chunk.{Chunk, IsFresh, next_in}
-use Rattle.arena.specs.Kept.{cell_at, size_at, record_in, records_of, FreeFrom, IsKept}
+use Rattle.arena.specs.Chunk.{Chunk, IsFresh}
+use Rattle.arena.specs.Spares.{Spare, spare_at, with_row, with_chunk}
+use Rattle.arena.specs.Kept.{cell_at, size_at, record_in, records_of, IsFree, IsOfSize, IsSpare, IsKept}
+use Rattle.arena.specs.declared.entry.Entry.{Entry}
 use Rattle.arena.proofs.Slots.{same_or_other}
+use Rattle.arena.proofs.Lists.{
+  row_distinct,
+  row_member,
+  row_old,
+  row_new,
+  length-with_row,
+  spare_at-set_same,
+  spare_at-set_other,
+}
 use Rattle.arena.proofs.Records.{same_records}
-use Rattle.arena.proofs.Keeping.{sum-set}
+use Rattle.arena.proofs.Keeping.{sum_counts}
 
 module _ {X : Type 0} where
   slice_get-push : (xs : List X) (x : X) → slice_get (xs ++ x ∷ []) (length xs) ≡ Some x
@@ -65,32 +70,19 @@ module _ {X : Type 0} where
   slice_get-before (y ∷ xs) x zero before = refl
   slice_get-before (y ∷ xs) x (suc i) before = slice_get-before xs x i (omega arith)
 
--- where so many slots of a new chunk and then the old list are left, the list goes on here
-abbrev left_first : ℕ → ℕ → ℕ → Option ℕ → Option ℕ
-left_first start count zero last = last
-left_first start count (suc left) last = Some (start + (count - suc left))
-
-next_left : (start count left : ℕ) (last : Option ℕ) → suc left ≤ count
-    → next_in start count (count - suc left) last ≡ left_first start count left last
-next_left start count zero last within =
-    ap (λ b. cond b (Some (start + ((count - 1) + 1))) last) (not_before (count - 1 + 1) count (omega arith))
-  where
-    not_before : (a b : ℕ) → b ≤ a → nat_lt a b ≡ false
-    not_before a b le = grind (arith, nat_tests)
-next_left start count (suc left) last within =
-    let same : count - suc (suc left) + 1 ≡ count - suc left = omega arith in
-    ap (λ b. cond b (Some (start + (count - suc (suc left) + 1))) last)
-    (before (count - suc (suc left) + 1) count (omega arith)) ∙ ap (λ n. Some (start + n)) same
-  where
-    before : (a b : ℕ) → a < b → nat_lt a b ≡ true
-    before a b lt = grind (arith, nat_tests)
-
 module _ {H : Type 0} where
   before_push : (chunks : List (Chunk H)) (c : Chunk H) (q : ℕ) → q / 512 < length chunks
       → (cell_at (chunks ++ c ∷ []) q ≡ cell_at chunks q) × (size_at (chunks ++ c ∷ []) q ≡ size_at chunks q)
   before_push chunks c q before =
       let same = slice_get-before chunks c (q / 512) before in
       (ap (option_and_then (λ c. slice_get c.cells (q % 512))) same, ap (option_map (λ c. c.size)) same)
+
+  within_some : (cells : List (Entry (Record H))) (i : ℕ) → IsSome (slice_get cells i) → i < length cells
+  within_some cells i some = by_get (slice_get cells i) refl
+    where
+      by_get : (o : Option (Entry (Record H))) → slice_get cells i ≡ o → i < length cells
+      by_get None none = cc
+      by_get (Some e) found = slice_get_within cells i e found
 
   -- a slot that some chunk has
   pub in_chunk : (chunks : List (Chunk H)) (q size : ℕ) → size_at chunks q ≡ Some size
@@ -101,43 +93,96 @@ module _ {H : Type 0} where
       by_get None none = let absent = ap (option_map (λ c. c.size)) none in cc
       by_get (Some c) found = slice_get_within chunks (q / 512) c found
 
-  FreeFrom-push : (chunks : List (Chunk H)) (c : Chunk H) (size count : ℕ) (first : Option ℕ)
-      → FreeFrom chunks size count first → FreeFrom (chunks ++ c ∷ []) size count first
-  FreeFrom-push chunks c size zero first list = list
-  FreeFrom-push chunks c size (suc n) first list =
-      let same = before_push chunks c list.0 (in_chunk chunks list.0 size list.3) in
-      (list.0, list.1, list.2, same.1 ∙ list.3, same.0 ∙ list.4, FreeFrom-push chunks c size n list.1 list.5)
+  -- a slot of the new chunk
+  in_last : (chunks : List (Chunk H)) (c : Chunk H) (q : ℕ) → q / 512 ≡ length chunks
+      → (cell_at (chunks ++ c ∷ []) q ≡ slice_get c.cells (q % 512))
+      × (size_at (chunks ++ c ∷ []) q ≡ Some c.size)
+  in_last chunks c q last =
+      let found = ap (slice_get (chunks ++ c ∷ [])) last ∙ slice_get-push chunks c in
+      (ap (option_and_then (λ c. slice_get c.cells (q % 512))) found, ap (option_map (λ c. c.size)) found)
 
-  module _ (chunks : List (Chunk H)) (c : Chunk H) (size : ℕ) (last : Option ℕ) (own : c.size ≡ size) where
-    -- the slots of the new chunk are in front of the old list
-    FreeFrom-fresh : (count old left : ℕ) → count ≤ 512 → left ≤ count
-        → IsFresh c.cells (length chunks * 512) count last
-        → FreeFrom chunks size old last
-        → FreeFrom (chunks ++ c ∷ []) size (left + old) (left_first (length chunks * 512) count left last)
-    FreeFrom-fresh count old zero few within fresh list =
-        rw zero-add (FreeFrom-push chunks c size old last list)
-    FreeFrom-fresh count old (suc left) few within fresh list =
-        let index : ℕ = count - suc left in
-        let slot : ℕ = length chunks * 512 + index in
-        let chunk : slot / 512 ≡ length chunks = omega arith in
-        let within_chunk : slot % 512 ≡ index = omega arith in
-        let found : slice_get (chunks ++ c ∷ []) (slot / 512) ≡ Some c =
-        ap (slice_get (chunks ++ c ∷ [])) chunk ∙ slice_get-push chunks c in
-        rw suc-add (
-          slot,
-          next_in (length chunks * 512) count index last,
-          refl,
-          ap (option_map (λ c. c.size)) found ∙ ap Some own,
-          ap (option_and_then (λ c. slice_get c.cells (slot % 512))) found
-              ∙ ap (slice_get c.cells) within_chunk ∙ fresh.leads index (omega arith),
-          rw (next_left (length chunks * 512) count left last within)
-              (FreeFrom-fresh count old left few (omega arith) fresh list),
-        )
+  -- a slot of some size lies in a chunk from before or in the new one
+  which_chunk : (chunks : List (Chunk H)) (c : Chunk H) (q size : ℕ)
+      → size_at (chunks ++ c ∷ []) q ≡ Some size → (q / 512 < length chunks) ⊎ (q / 512 ≡ length chunks)
+  which_chunk chunks c q size is =
+      less_or_same (omega (arith, in_chunk (chunks ++ c ∷ []) q size is, length-append chunks (c ∷ [])))
+    where
+      less_or_same : {a b : ℕ} → a < b + 1 → (a < b) ⊎ (a ≡ b)
+      less_or_same below = grind arith
+
+  -- a slot that was free or has a record is of the size that it was before
+  of_size_before : (chunks : List (Chunk H)) (c : Chunk H) (size q : ℕ) → q / 512 < length chunks
+      → IsOfSize (chunks ++ c ∷ []) size q → IsOfSize chunks size q
+  of_size_before chunks c size q before of =
+      let same = before_push chunks c q before in
+      (sym same.1 ∙ of.0, rw (← same.0) of.1)
+
+  free_still : (chunks : List (Chunk H)) (c : Chunk H) (size q : ℕ) → IsFree chunks size q
+      → IsFree (chunks ++ c ∷ []) size q
+  free_still chunks c size q free =
+      let same = before_push chunks c q (in_chunk chunks q size free.0) in
+      (same.1 ∙ free.0, same.0 ∙ free.1)
+
+  -- the lists of the other sizes
+  IsSpare-push : (chunks : List (Chunk H)) (c : Chunk H) (size : ℕ) (s : Spare) → size ≢ c.size
+      → IsSpare chunks size s → IsSpare (chunks ++ c ∷ []) size s
+  IsSpare-push chunks c size s other kept =
+      record {
+        distinct = kept.distinct;
+        free = λ q at. free_still chunks c size q (kept.free q at);
+        all = kept.all;
+        counted = kept.counted;
+        covers = λ q of. by_chunk q of (which_chunk chunks c q size of.0);
+        bounded = omega (arith, kept.bounded, length-append chunks (c ∷ []));
+      }
+    where
+      by_chunk : (q : ℕ) → IsOfSize (chunks ++ c ∷ []) size q
+          → (q / 512 < length chunks) ⊎ (q / 512 ≡ length chunks) → is_member nat_eq kept.all q ≡ true
+      by_chunk q of (inl before) = kept.covers q (of_size_before chunks c size q before of)
+      by_chunk q of (inr last) =
+          let its = sym (in_last chunks c q last).1 ∙ of.0 in
+          absurd (other cc)
+
+  -- the list of the new chunk's size
+  IsSpare-grown : (chunks : List (Chunk H)) (c : Chunk H) (size count : ℕ) (s : Spare) → c.size ≡ size
+      → count ≤ 512 → IsFresh c.cells count → IsSpare chunks size s
+      → IsSpare (chunks ++ c ∷ []) size (with_chunk s (length chunks * 512) count)
+  IsSpare-grown chunks c size count s own few fresh kept =
+      record {
+        distinct = row_distinct s.slots first count kept.distinct
+            (λ q at. omega (arith, in_chunk chunks q size (kept.free q at).0));
+        free = λ q at. by_list q (row_member s.slots first count q at);
+        all = with_row kept.all first count;
+        counted = omega (arith, length-with_row kept.all first count, kept.counted);
+        covers = λ q of. by_chunk q of (which_chunk chunks c q size of.0);
+        bounded = omega (arith, kept.bounded, length-append chunks (c ∷ []));
+      }
+    where
+      first : ℕ
+      first = length chunks * 512
+
+      by_list : (q : ℕ) → (is_member nat_eq s.slots q ≡ true) ⊎ ((first ≤ q) × (q < first + count))
+          → IsFree (chunks ++ c ∷ []) size q
+      by_list q (inl old) = free_still chunks c size q (kept.free q old)
+      by_list q (inr new) =
+          let last : q / 512 ≡ length chunks = omega (arith, new.0, new.1) in
+          let below : q % 512 < count = omega (arith, new.0, new.1) in
+          let lies = in_last chunks c q last in
+          (lies.1 ∙ ap Some own, lies.0 ∙ fresh.free (q % 512) below)
+
+      by_chunk : (q : ℕ) → IsOfSize (chunks ++ c ∷ []) size q
+          → (q / 512 < length chunks) ⊎ (q / 512 ≡ length chunks)
+          → is_member nat_eq (with_row kept.all first count) q ≡ true
+      by_chunk q of (inl before) =
+          row_old kept.all first count q (kept.covers q (of_size_before chunks c size q before of))
+      by_chunk q of (inr last) =
+          let below = within_some c.cells (q % 512) (rw (in_last chunks c q last).0 at of.1) in
+          row_new kept.all first count q (omega (arith, last)) (omega (arith, last, below, fresh.slots))
 
   -- no slot of the new chunk is live
-  record_in-push : (chunks : List (Chunk H)) (c : Chunk H) (start count : ℕ) (last : Option ℕ)
-      → IsFresh c.cells start count last → (q : ℕ) → record_in (chunks ++ c ∷ []) q ≡ record_in chunks q
-  record_in-push chunks c start count last fresh q = by_chunk (nat_cases (q / 512) (length chunks))
+  record_in-push : (chunks : List (Chunk H)) (c : Chunk H) (count : ℕ)
+      → IsFresh c.cells count → (q : ℕ) → record_in (chunks ++ c ∷ []) q ≡ record_in chunks q
+  record_in-push chunks c count fresh q = by_chunk (nat_cases (q / 512) (length chunks))
     where
       nat_cases : (a b : ℕ) → (a < b) ⊎ (b ≤ a)
       nat_cases a b = grind arith
@@ -146,7 +191,7 @@ module _ {H : Type 0} where
       absent none = ap (λ o. option_and_then held (option_and_then (λ c. slice_get c.cells (q % 512)) o)) none
 
       in_fresh : (i : ℕ) → (i < count) ⊎ (count ≤ i) → option_and_then held (slice_get c.cells i) ≡ None
-      in_fresh i (inl below) = ap (option_and_then held) (fresh.leads i below)
+      in_fresh i (inl below) = ap (option_and_then held) (fresh.free i below)
       in_fresh i (inr past) =
           ap (option_and_then held) (slice_get_past c.cells i (omega (arith, fresh.slots)))
 
@@ -172,56 +217,45 @@ module _ {H : Type 0} where
           at_last _ (from_last past (same_or_other (q / 512) (length chunks)))
           ∙ sym (absent (slice_get_past chunks (q / 512) past))
 
-  pub records_of-push : (chunks : List (Chunk H)) (c : Chunk H) (start count : ℕ) (last : Option ℕ)
-      → IsFresh c.cells start count last → records_of (chunks ++ c ∷ []) ≡ records_of chunks
-  records_of-push chunks c start count last fresh =
-      same_records chunks (chunks ++ c ∷ []) (record_in-push chunks c start count last fresh)
+  pub records_of-push : (chunks : List (Chunk H)) (c : Chunk H) (count : ℕ)
+      → IsFresh c.cells count → records_of (chunks ++ c ∷ []) ≡ records_of chunks
+  records_of-push chunks c count fresh =
+      same_records chunks (chunks ++ c ∷ []) (record_in-push chunks c count fresh)
 
-  pub IsKept-grown : (chunks : List (Chunk H)) (first : List (Option ℕ)) (spare : List ℕ)
-      (live size count : ℕ) (c : Chunk H)
-      → IsKept chunks first spare live → length chunks < 8388608 → size < 10 → length first ≡ 10
-      → length spare ≡ 10
-      → c.size ≡ size → 0 < count → count ≤ 512
-      → IsFresh c.cells (length chunks * 512) count (slice_index_or first size None)
-      → IsKept (chunks ++ c ∷ []) (set first size (Some (length chunks * 512)))
-      (set spare size (slice_index spare size + count)) live
-  IsKept-grown chunks first spare live size count c kept room below firsts spares own some few fresh =
+  pub IsKept-grown : (chunks : List (Chunk H)) (spares : List Spare) (live size count : ℕ) (c : Chunk H)
+      → IsKept chunks spares live → length chunks < 8388608 → size < 10 → c.size ≡ size → count ≤ 512
+      → IsFresh c.cells count
+      → IsKept (chunks ++ c ∷ [])
+      (set spares size (with_chunk (spare_at spares size) (length chunks * 512) count)) live
+  IsKept-grown chunks spares live size count c kept room below own few fresh =
       record {
         few = omega (arith, length-append chunks (c ∷ []));
+        ten = length-set spares size _ ∙ kept.ten;
         lists = λ s s_below. by_size s s_below (same_or_other s size);
-        sized = λ q x found. let was = kept.sized q x (sym (record_in-push chunks c _ _ _ fresh q) ∙ found) in
+        sized = λ q x found. let was = kept.sized q x (sym (record_in-push chunks c _ fresh q) ∙ found) in
             (before_push chunks c q (in_chunk chunks q _ was)).1 ∙ was;
-        counted = kept.counted ∙ ap map.len (sym (records_of-push chunks c _ _ _ fresh));
+        counted = kept.counted ∙ ap map.len (sym (records_of-push chunks c _ fresh));
         bounded =
             omega (
               arith,
               kept.bounded,
               length-append chunks (c ∷ []),
-              sum-set spare size (slice_index spare size + count) (omega arith),
+              sum_counts spares size grown within,
+              length-with_row (spare_at spares size).slots (length chunks * 512) count,
             );
       }
     where
-      at_start : (n : ℕ) → 0 < n
-          → left_first (length chunks * 512) n n (slice_index_or first size None) ≡ Some (length chunks * 512)
-      at_start zero some = absurd (omega arith)
-      at_start (suc n) some = ap Some (omega arith)
+      grown : Spare
+      grown = with_chunk (spare_at spares size) (length chunks * 512) count
+
+      within : size < length spares
+      within = omega (arith, kept.ten)
 
       by_size : (s : ℕ) → s < 10 → (s ≡ size) ⊎ (s ≢ size)
-          → FreeFrom (chunks ++ c ∷ []) s (slice_index (set spare size (slice_index spare size + count)) s)
-          (slice_index_or (set first size (Some (length chunks * 512))) s None)
+          → IsSpare (chunks ++ c ∷ []) s (spare_at (set spares size grown) s)
       by_size s s_below (inl same) =
-          rw (
-            same,
-            get_or-set_same spare size (slice_index spare size + count) 0 (omega arith),
-            get_or-set_same first size (Some (length chunks * 512)) None (omega arith),
-            add_comm (slice_index spare size) count,
-            ← at_start count some,
-          )
-          (FreeFrom-fresh chunks c size _ own count (slice_index spare size) count few (omega arith) fresh
-          (kept.lists size below))
+          rw (same, spare_at-set_same spares size grown within)
+          (IsSpare-grown chunks c size count (spare_at spares size) own few fresh (kept.lists size below))
       by_size s s_below (inr other) =
-          rw (
-            get_or-set_other spare size s (slice_index spare size + count) 0 other,
-            get_or-set_other first size s (Some (length chunks * 512)) None other,
-          )
-          (FreeFrom-push chunks c s _ _ (kept.lists s s_below))
+          rw (spare_at-set_other spares size s grown other)
+          (IsSpare-push chunks c s (spare_at spares s) (λ e. other (e ∙ own)) (kept.lists s s_below))

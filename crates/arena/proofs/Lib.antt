@@ -1,6 +1,7 @@
 pub mod Sizes
 pub mod Cells
 pub mod Slots
+pub mod Lists
 pub mod Records
 pub mod Keeping
 pub mod Growing

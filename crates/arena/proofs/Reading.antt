@@ -30,6 +30,7 @@ use Rattle.arena.specs.Entry.{held, held_at}
 use Rattle.arena.specs.Chunk.{Chunk}
 use Rattle.arena.specs.ChunkLends as chunk
 use Rattle.arena.specs.Kept.{cell_at, records_of, IsKept}
+use Rattle.arena.specs.Spares.{Spare}
 use Rattle.arena.specs.declared.entry.Entry.{Entry}
 use Rattle.arena.specs.declared.entry.Entry.TheVariants.{Free, Live}
 use Rattle.arena.proofs.Slots.{Writes, Writes-set}
@@ -75,7 +76,7 @@ module _ {H : Type 0} where
       by_get : (o : Option (Entry (Record H))) → slice_get cells i ≡ o
           → (r : Record H) × (slice_get cells i ≡ Some (Live r))
       by_get None none = let absent = ap (option_and_then held) none in cc
-      by_get (Some (Free n)) found = let absent = ap (option_and_then held) found in cc
+      by_get (Some Free) found = let absent = ap (option_and_then held) found in cc
       by_get (Some (Live r)) found = (r, found)
 
   -- the slot's record with another header
@@ -125,9 +126,8 @@ module _ {H : Type 0} where
       ∙ ap (option_and_then held) lent.was) in
       rw key (records_of-put chunks _ slot (with lent.old header) lent.writes)
 
-  pub lent_kept : (chunks : List (Chunk H)) (first : List (Option ℕ)) (spare : List ℕ) (live slot : ℕ)
-      (read : Chunk H) (header : H)
-      → IsKept chunks first spare live → Lent chunks slot read header
-      → IsKept (set chunks (slot / 512) (chunk.with_header read (slot % 512) header)) first spare live
-  lent_kept chunks first spare live slot read header kept lent =
-      IsKept-lent chunks _ first spare live slot lent.old _ kept lent.was refl lent.writes
+  pub lent_kept : (chunks : List (Chunk H)) (spares : List Spare) (live slot : ℕ) (read : Chunk H) (header : H)
+      → IsKept chunks spares live → Lent chunks slot read header
+      → IsKept (set chunks (slot / 512) (chunk.with_header read (slot % 512) header)) spares live
+  lent_kept chunks spares live slot read header kept lent =
+      IsKept-lent chunks _ spares live slot lent.old _ kept lent.was refl lent.writes

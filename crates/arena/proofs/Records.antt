@@ -128,9 +128,9 @@ module _ {H : Type 0} where
           ∙ sym (ap (λ b. cond b (Some r) (map.get (records_of old) q)) (other_number q slot other))
 
   -- a slot that is freed leaves the map
-  pub records_of-freed : (old new : List (Chunk H)) (slot : ℕ) (next : Option ℕ)
-      → Writes old new slot (Free next) → records_of new ≡ map.remove (records_of old) slot
-  records_of-freed old new slot next writes =
+  pub records_of-freed : (old new : List (Chunk H)) (slot : ℕ)
+      → Writes old new slot Free → records_of new ≡ map.remove (records_of old) slot
+  records_of-freed old new slot writes =
       map.same_map nat_cmp_total map.nat_cmp-IsAntisymmetric _ _
       (λ q. get-records_of new q ∙ at q (same_or_other q slot)
       ∙ sym (map.get-remove nat_cmp_total (records_of old) slot q))

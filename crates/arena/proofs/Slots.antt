@@ -1,40 +1,11 @@
 -- What a write to one slot of an arena changes.
-use Rattle.std.proofs.Common.{
-  ◌≡◌,
-  ◌≢◌,
-  ◌⊎◌,
-  inl,
-  inr,
-  ℕ,
-  zero,
-  suc,
-  ◌/◌,
-  ◌%◌,
-  ◌<◌,
-  List,
-  [],
-  ◌∷◌,
-  length,
-  set,
-  slice_get,
-  Option,
-  Some,
-  option_map,
-  refl,
-  sym,
-  ap,
-  subst,
-  ◌∙◌,
-  arith,
-  length-set,
-}
+use Rattle.std.proofs.Common.{◌≡◌, ◌≢◌, ◌⊎◌, inl, inr, ℕ, zero, suc, ◌/◌, ◌%◌, ◌<◌, List, [], ◌∷◌, length, set, slice_get, Some, option_map, refl, sym, ap, subst, ◌∙◌, arith, length-set}
 use Rattle.std.proofs.lemmas.Option.{slice_get_within}
 use Rattle.std.specs.Option.{option_and_then}
 use Rattle.arena.specs.Arena.{Record}
 use Rattle.arena.specs.Chunk.{Chunk}
-use Rattle.arena.specs.Kept.{cell_at, size_at, FreeFrom}
+use Rattle.arena.specs.Kept.{cell_at, size_at}
 use Rattle.arena.specs.declared.entry.Entry.{Entry}
-use Rattle.arena.specs.declared.entry.Entry.TheVariants.{Live}
 
 pub same_or_other : (a b : ℕ) → (a ≡ b) ⊎ (a ≢ b)
 same_or_other a b = grind arith
@@ -116,55 +87,3 @@ module _ {H : Type 0} where
       by_chunk q other (inr apart) =
           ap (option_and_then (λ c. slice_get c.cells (q % 512)))
           (slice_get-set_other chunks (slot / 512) (q / 512) changed apart)
-
-  -- a list of free slots has one length
-  pub FreeFrom-count : (chunks : List (Chunk H)) (size m n : ℕ) (first : Option ℕ)
-      → FreeFrom chunks size m first → FreeFrom chunks size n first → m ≡ n
-  FreeFrom-count chunks size zero zero first p q = refl
-  FreeFrom-count chunks size zero (suc n) first p q = let e = q.2 in cc
-  FreeFrom-count chunks size (suc m) zero first p q = let e = p.2 in cc
-  FreeFrom-count chunks size (suc m) (suc n) first p q =
-      let p_at = p.2 in
-      let q_at = q.2 in
-      let same : p.0 ≡ q.0 = cc in
-      let p_cell = p.4 in
-      let q_cell = ap (cell_at chunks) same ∙ q.4 in
-      let next : p.1 ≡ q.1 = cc in
-      ap suc (FreeFrom-count chunks size m n p.1 p.5 (subst (FreeFrom chunks size n) (sym next) q.5))
-
-  -- a list stays where the slot that was written isn't on it
-  pub FreeFrom-write : (old new : List (Chunk H)) (slot : ℕ) (cell : Entry (Record H))
-      → Writes old new slot cell
-      → (size count : ℕ) (first : Option ℕ)
-      → ((m : ℕ) → m < count → FreeFrom old size (suc m) (Some slot) → ⊥)
-      → FreeFrom old size count first → FreeFrom new size count first
-  FreeFrom-write old new slot cell writes size zero first off list = list
-  FreeFrom-write old new slot cell writes size (suc n) first off list =
-      let at = list.2 in
-      let apart : list.0 ≢ slot =
-      λ e. off n (omega arith) (subst (FreeFrom old size (suc n)) (at ∙ ap Some e) list) in (
-        list.0,
-        list.1,
-        at,
-        writes.sizes list.0 ∙ list.3,
-        writes.others list.0 apart ∙ list.4,
-        FreeFrom-write old new slot cell writes size n list.1 (λ m below. off m (omega arith)) list.5,
-      )
-
-  -- a live slot is on no list
-  pub off_live : (chunks : List (Chunk H)) (slot : ℕ) (r : Record H) → cell_at chunks slot ≡ Some (Live r)
-      → (size m : ℕ) → FreeFrom chunks size (suc m) (Some slot) → ⊥
-  off_live chunks slot r live size m list =
-      let at = list.2 in
-      let same : slot ≡ list.0 = cc in
-      let free = ap (cell_at chunks) same ∙ list.4 in
-      cc
-
-  -- nor is one of another size
-  pub off_size : (chunks : List (Chunk H)) (slot own : ℕ) → size_at chunks slot ≡ Some own → (size m : ℕ)
-      → own ≢ size → FreeFrom chunks size (suc m) (Some slot) → ⊥
-  off_size chunks slot own is size m other list =
-      let at = list.2 in
-      let same : slot ≡ list.0 = cc in
-      let its = ap (size_at chunks) same ∙ list.3 in
-      other cc

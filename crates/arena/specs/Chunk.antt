@@ -1,25 +1,7 @@
 -- What a chunk is seen as: slots of one size, each free or with a record. No public clause cites this module.
-use Rattle.std.specs.Prelude.{
-  ◌≡◌,
-  ℕ,
-  ◌+◌,
-  ◌*◌,
-  ◌<◌,
-  ◌≤◌,
-  nat_lt,
-  if◌then◌else◌,
-  List,
-  [],
-  ◌∷◌,
-  length,
-  take,
-  drop,
-  slice_index,
-  Option,
-  Some,
-}
+use Rattle.std.specs.Prelude.{◌≡◌, ℕ, ◌*◌, ◌<◌, ◌≤◌, List, [], ◌∷◌, length, take, drop, slice_index}
 use Rattle.arena.specs.Arena.{Record, sizes}
-use Rattle.arena.specs.Entry.{LeadsTo}
+use Rattle.arena.specs.Entry.{IsFree}
 use Rattle.arena.specs.declared.entry.Entry.{Entry}
 use Rattle.arena.specs.declared.entry.Entry.TheVariants.{Free, Live}
 use Rattle.arena.specs.declared.entry.Head.{Head}
@@ -29,14 +11,10 @@ pub record Chunk (H : Type 0) : Type 0 where
   pub size : ℕ
   pub cells : List (Entry (Record H))
 
--- what a free slot of a new chunk leads to: the next slot, and the last one to a slot of another chunk
-abbrev pub next_in : ℕ → ℕ → ℕ → Option ℕ → Option ℕ
-next_in first count index last = if nat_lt (index + 1) count then Some (first + (index + 1)) else last
-
 module _ {H : Type 0} where
   -- the slot of this entry, whose key bytes are the first of these
   abbrev pub cell_of : Entry (Head H) → List ℕ → Entry (Record H)
-  cell_of (Free next) bytes = Free next
+  cell_of Free bytes = Free
   cell_of (Live head) bytes = Live (record { header = head.header; key = take head.length bytes })
 
   -- the slots of these entries, each with so many bytes
@@ -45,7 +23,7 @@ module _ {H : Type 0} where
   cells_of (e ∷ es) width bytes = cell_of e bytes ∷ cells_of es width (drop width bytes)
 
   abbrev pub Fits : Entry (Head H) → ℕ → Type 0
-  Fits (Free _) width = Unit {0}
+  Fits Free width = Unit {0}
   Fits (Live head) width = head.length ≤ width
 
   -- no key is longer than its slot
@@ -61,7 +39,7 @@ module _ {H : Type 0} where
     pub room : length bytes ≡ 16384
     pub fit : AllFit es width
 
-  -- all slots are free and lead on, from the first, which has this number, to the last
-  pub record IsFresh (cells : List (Entry (Record H))) (first count : ℕ) (last : Option ℕ) : Type 0 where
+  -- there are so many slots, and all are free
+  pub record IsFresh (cells : List (Entry (Record H))) (count : ℕ) : Type 0 where
     pub slots : length cells ≡ count
-    pub leads : (k : ℕ) → k < count → LeadsTo cells k (next_in first count k last)
+    pub free : (k : ℕ) → k < count → IsFree cells k

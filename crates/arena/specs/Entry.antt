@@ -7,16 +7,13 @@ use Rattle.arena.specs.declared.entry.Entry.TheVariants.{Free, Live}
 module _ {T : Type 0} where
   -- what a live slot holds
   abbrev pub held : Entry T → Option T
-  held (Free _) = None
+  held Free = None
   held (Live x) = Some x
 
   -- what the slot at an index holds, if it is live
   abbrev pub held_at : List (Entry T) → ℕ → Option T
   held_at es index = option_and_then held (slice_get es index)
 
-  -- the slot at an index is free, and leads to this one
-  abbrev pub LeadsTo : List (Entry T) → ℕ → Option ℕ → Type 0
-  LeadsTo es index next = slice_get es index ≡ Some (Free next)
-
+  -- the slot at an index is free
   abbrev pub IsFree : List (Entry T) → ℕ → Type 0
-  IsFree es index = (next : Option ℕ) × LeadsTo es index next
+  IsFree es index = slice_get es index ≡ Some Free

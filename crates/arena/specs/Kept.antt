@@ -10,25 +10,29 @@ use Rattle.std.specs.Prelude.{
   ◌%◌,
   ◌<◌,
   ◌≤◌,
+  true,
   List,
   [],
   ◌∷◌,
   ◌++◌,
   length,
+  nat_eq,
   sum,
   slice_get,
-  slice_index,
-  slice_index_or,
   Option,
   Some,
   None,
+  IsSome,
   option_map,
 }
+use Rattle.std.specs.List.{IsDistinct}
+use Rattle.std.specs.Set.{is_member}
 use Rattle.std.specs.Option.{option_and_then}
 use Rattle.std.specs.FinMap as map
 use Rattle.arena.specs.Arena.{Record, Records, size_of}
 use Rattle.arena.specs.Entry.{held}
 use Rattle.arena.specs.Chunk.{Chunk}
+use Rattle.arena.specs.Spares.{Spare, spare_at, counts_of}
 use Rattle.arena.specs.declared.entry.Entry.{Entry}
 use Rattle.arena.specs.declared.entry.Entry.TheVariants.{Free}
 
@@ -57,23 +61,31 @@ module _ {H : Type 0} where
   abbrev pub records_of : List (Chunk H) → Records H
   records_of chunks = map.from_entries (live_below chunks (512 * length chunks))
 
-  -- so many free slots of the size lead from one to the next, from the first one on
-  abbrev pub FreeFrom : List (Chunk H) → ℕ → ℕ → Option ℕ → Type 0
-  FreeFrom chunks size zero first = first ≡ None
-  FreeFrom chunks size (suc count) first =
-      (slot : ℕ) × (next : Option ℕ) × (first ≡ Some slot) × (size_at chunks slot ≡ Some size)
-      × (cell_at chunks slot ≡ Some (Free next)) × FreeFrom chunks size count next
+  abbrev pub IsFree : List (Chunk H) → ℕ → ℕ → Type 0
+  IsFree chunks size slot = (size_at chunks slot ≡ Some size) × (cell_at chunks slot ≡ Some Free)
+
+  -- a slot of the size, free or with a record
+  abbrev pub IsOfSize : List (Chunk H) → ℕ → ℕ → Type 0
+  IsOfSize chunks size slot = (size_at chunks slot ≡ Some size) × IsSome (cell_at chunks slot)
+
+  -- what is kept of the spare slots of a size
+  pub record IsSpare (chunks : List (Chunk H)) (size : ℕ) (s : Spare) : Type 0 where
+    pub distinct : IsDistinct nat_eq s.slots
+    pub free : (slot : ℕ) → is_member nat_eq s.slots slot ≡ true → IsFree chunks size slot
+    -- all slots of the size are in a list that is no longer than the total
+    pub all : List ℕ
+    pub counted : length all ≤ s.total
+    pub covers : (slot : ℕ) → IsOfSize chunks size slot → is_member nat_eq all slot ≡ true
+    pub bounded : s.total ≤ 512 * length chunks
 
   -- what an arena keeps
-  pub record IsKept (chunks : List (Chunk H)) (first : List (Option ℕ)) (spare : List ℕ)
-      (live : ℕ) : Type 0 where
+  pub record IsKept (chunks : List (Chunk H)) (spares : List Spare) (live : ℕ) : Type 0 where
     -- slots can name them all
     pub few : length chunks ≤ 8388608
-    -- each size's spare slots are a list
-    pub lists : (size : ℕ) → size < 10
-        → FreeFrom chunks size (slice_index spare size) (slice_index_or first size None)
+    pub ten : length spares ≡ 10
+    pub lists : (size : ℕ) → size < 10 → IsSpare chunks size (spare_at spares size)
     -- each record is in a slot of its key's size
     pub sized : (slot : ℕ) (r : Record H) → record_in chunks slot ≡ Some r
         → size_at chunks slot ≡ Some (size_of (length r.key))
     pub counted : live ≡ map.len (records_of chunks)
-    pub bounded : live + sum spare ≤ 512 * length chunks
+    pub bounded : live + sum (counts_of spares) ≤ 512 * length chunks

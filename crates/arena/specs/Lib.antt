@@ -3,5 +3,6 @@ pub mod Arena
 pub mod Entry
 pub mod Chunk
 pub mod ChunkLends
+pub mod Spares
 pub mod Kept
 pub mod Lends

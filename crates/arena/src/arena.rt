@@ -8,7 +8,8 @@ use crate::chunk::Chunk;
 use crate::error::ArenaError;
 use crate::size::{MAX_LENGTH, SIZES, count_sizes, size_of, slots_of};
 use crate::slot::{MAX_CHUNKS, Slot};
-use std::alloc::{AllocError, Allocator, Global};
+use crate::spares::Spares;
+use std::alloc::{Allocator, Global};
 use std::fmt;
 use std::marker::Model;
 
@@ -22,23 +23,22 @@ use std::marker::Model;
 pub struct Arena<H: Copy, A: Allocator + Copy = Global> {
     alloc: A,
     chunks: Vec<Chunk<H, A>, A>,
-    // For each size, the first spare slot. Each leads to the next.
-    first: [Option<Slot>; SIZES],
-    spare: [usize; SIZES],
+    spares: Spares<A>,
     live: usize,
 }
 
 impl<H: Copy, A: Allocator + Copy> Model for Arena<H, A> {
     ghost use Rattle.arena.specs.Arena.{Arena as Slots, arena_code};
     ghost use Rattle.arena.specs.Kept.{records_of, IsKept};
+    ghost use Rattle.arena.specs.Spares.{counts_of};
 
     ghost Value = { Slots H };
 
     ghost coded = { arena_code H.code };
 
-    ghost view = { λ a. record { records = records_of a.chunks.items; spare = a.spare } };
+    ghost view = { λ a. record { records = records_of a.chunks.items; spare = counts_of a.spares } };
 
-    ghost invariant = { λ a. IsKept a.chunks.items a.first a.spare a.live };
+    ghost invariant = { λ a. IsKept a.chunks.items a.spares a.live };
 }
 
 impl<H: Copy, A: Allocator + Copy> Arena<H, A> {
@@ -52,8 +52,7 @@ impl<H: Copy, A: Allocator + Copy> Arena<H, A> {
         Arena {
             alloc,
             chunks: Vec::new(alloc),
-            first: [None; SIZES],
-            spare: [0; SIZES],
+            spares: Spares::new(alloc),
             live: 0,
         }
     }
@@ -182,13 +181,10 @@ impl<H: Copy, A: Allocator + Copy> Arena<H, A> {
         ensures other_sizes { IfSome (key_at self.old slot) (λ key. (size : ℕ) → size ≢ size_of (length key)
             → spare_of self.new size ≡ spare_of self.old size) }
     {
-        let chunk = &self.chunks[slot.chunk()];
-        let size = chunk.size();
-        let next = self.first[size];
         let chunk = &mut self.chunks[slot.chunk()];
-        chunk.free(slot.index(), next);
-        self.first[size] = Some(slot);
-        self.spare[size] += 1;
+        let size = chunk.size();
+        chunk.free(slot.index());
+        self.spares.put(size, slot);
         self.live -= 1;
     }
 
@@ -221,7 +217,7 @@ impl<H: Copy, A: Allocator + Copy> Arena<H, A> {
         ensures no_more { wanted ≤ spare_of self.old size → spare_of self.new size ≡ spare_of self.old size }
         ensures memory { IsOkUnless result ArenaError.Memory }
     {
-        while self.spare[size] < wanted {
+        while self.spares.count(size) < wanted {
             self.grow(size)?;
         }
         Ok(())
@@ -239,7 +235,7 @@ impl<H: Copy, A: Allocator + Copy> Arena<H, A> {
         ensures unchanged { OnErr result (self.new ≡ self.old) }
         ensures memory { IsOkUnless result ArenaError.Memory }
     {
-        if self.spare[size] == 0 {
+        if self.spares.count(size) == 0 {
             self.grow(size)?;
         }
         Ok(())
@@ -259,14 +255,14 @@ impl<H: Copy, A: Allocator + Copy> Arena<H, A> {
         if number == MAX_CHUNKS {
             return Err(ArenaError::Memory);
         }
-        let chunk = Chunk::new(self.alloc, size, number, self.first[size])?;
-        self.chunks.push(chunk).map_err(AllocError::from)?;
-        self.first[size] = Some(Slot::new(number, 0));
-        self.spare[size] += slots_of(size);
+        self.chunks.reserve(1)?;
+        let chunk = Chunk::new(self.alloc, size)?;
+        self.spares.add(self.alloc, size, number, slots_of(size))?;
+        self.chunks.push_reserved(chunk);
         Ok(())
     }
 
-    // Gives the first spare slot of the size to a record.
+    // Gives a spare slot of the size to a record.
     fn give(&mut self, size: usize, header: H, key: &[u8]) -> Slot
         requires size { size ≡ size_of (length key.now) }
         requires fits { length key.now ≤ 16384 }
@@ -277,12 +273,9 @@ impl<H: Copy, A: Allocator + Copy> Arena<H, A> {
         ensures spare { spare_of self.new size + 1 ≡ spare_of self.old size }
         ensures other_sizes { (s : ℕ) → s ≢ size → spare_of self.new s ≡ spare_of self.old s }
     {
-        let slot = self.first[size].unwrap();
+        let slot = self.spares.take(size);
         let chunk = &mut self.chunks[slot.chunk()];
-        let next = chunk.next(slot.index());
         chunk.fill(slot.index(), header, key);
-        self.first[size] = next;
-        self.spare[size] -= 1;
         self.live += 1;
         slot
     }

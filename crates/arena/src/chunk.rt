@@ -5,7 +5,6 @@ ghost use Rattle.arena.specs.Arena.{sizes, slots_of};
 
 use crate::entry::{Entry, Head};
 use crate::size::{CHUNK_BYTES, slots_of, width_of};
-use crate::slot::{MAX_CHUNKS, Slot};
 use std::alloc::{AllocError, Allocator};
 use std::marker::Model;
 
@@ -46,8 +45,7 @@ fn part(bytes: &[u8], from: usize, count: usize) -> &[u8]
 }
 
 impl<H, A: Allocator> Chunk<H, A> {
-    ghost use Rattle.arena.specs.Entry.{held_at, LeadsTo, IsFree};
-    ghost use Rattle.arena.specs.Chunk.{IsFresh};
+    ghost use Rattle.arena.specs.Entry.{held_at};
     ghost use Rattle.arena.specs.ChunkLends.{with_header, lends_header};
     ghost use Rattle.arena.specs.declared.entry.Entry.TheVariants.{Free, Live};
 
@@ -57,17 +55,6 @@ impl<H, A: Allocator> Chunk<H, A> {
         ensures in_range { result < 10 }
     {
         self.size
-    }
-
-    /// Where the slot after a free one in the list of free slots is.
-    pub(crate) fn next(&self, index: usize) -> Option<Slot>
-        requires free { IsFree self.now.cells index }
-        ensures next { LeadsTo self.now.cells index result }
-    {
-        match &self.entries[index] {
-            Entry::Free(next) => *next,
-            Entry::Live(_) => unreachable!(),
-        }
     }
 
     /// Returns the header of a live slot, where it lies.
@@ -96,18 +83,18 @@ impl<H, A: Allocator> Chunk<H, A> {
         }
         match &self.entries[index] {
             Entry::Live(_) => true,
-            Entry::Free(_) => false,
+            Entry::Free => false,
         }
     }
 
-    /// Frees a slot, and lets it lead to the next one that is free.
-    pub(crate) fn free(&mut self, index: usize, next: Option<Slot>)
+    /// Frees a slot.
+    pub(crate) fn free(&mut self, index: usize)
     where
         H: Drop,
         requires inside { index < length self.old.cells }
-        ensures freed { self.new ≡ record self.old { cells = slice_set self.old.cells index (Free next) } }
+        ensures freed { self.new ≡ record self.old { cells = slice_set self.old.cells index Free } }
     {
-        self.entries[index] = Entry::Free(next);
+        self.entries[index] = Entry::Free;
     }
 
     /// Writes a record into a slot.
@@ -140,28 +127,17 @@ impl<H, A: Allocator> Chunk<H, A> {
 impl<H: Drop, A: Allocator + Copy> Chunk<H, A> {
     ghost use Rattle.arena.specs.Chunk.{IsFresh};
 
-    /// Takes the memory for a chunk that has this number. Its slots are free, and the last one leads to `last`.
-    pub(crate) fn new(
-        alloc: A,
-        size: usize,
-        number: usize,
-        last: Option<Slot>,
-    ) -> Result<Self, AllocError>
+    /// Takes the memory for a chunk. Its slots are free.
+    pub(crate) fn new(alloc: A, size: usize) -> Result<Self, AllocError>
         requires size { size < 10 }
-        requires number { number < MAX_CHUNKS }
         ensures size { IfOk result (λ c. c.size ≡ size) }
-        ensures fresh { IfOk result (λ c. IsFresh c.cells (number * 512) (slots_of size) last) }
+        ensures fresh { IfOk result (λ c. IsFresh c.cells (slots_of size)) }
     {
         let count = slots_of(size);
         let width = width_of(size);
         let mut entries = Vec::with_capacity(alloc, count)?;
-        for index in 0..count {
-            let next = if index + 1 < count {
-                Some(Slot::new(number, index + 1))
-            } else {
-                last
-            };
-            entries.push(Entry::Free(next))?;
+        for _ in 0..count {
+            entries.push(Entry::Free)?;
         }
         let bytes = Vec::from_elem(alloc, 0, CHUNK_BYTES)?;
         Ok(Chunk {

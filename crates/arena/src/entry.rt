@@ -2,13 +2,10 @@ ghost use Rattle.std.specs.Prelude.{◌≡◌, Some, IsSome};
 ghost use Rattle.std.specs.Borrow.{Lends, sem};
 ghost use Rattle.arena.specs.Entry.{held};
 
-use crate::slot::Slot;
-
 /// What a slot of a chunk holds beside its key bytes.
 #[derive(Drop)]
 pub(crate) enum Entry<T> {
-    /// Nothing: it leads to the next free slot of its size.
-    Free(Option<Slot>),
+    Free,
     Live(T),
 }
 
@@ -28,7 +25,7 @@ impl<T> Entry<T> {
     {
         match self {
             Entry::Live(held) => held,
-            Entry::Free(_) => unreachable!(),
+            Entry::Free => unreachable!(),
         }
     }
 
@@ -39,7 +36,7 @@ impl<T> Entry<T> {
     {
         match self {
             Entry::Live(held) => held,
-            Entry::Free(_) => unreachable!(),
+            Entry::Free => unreachable!(),
         }
     }
 }

@@ -14,6 +14,8 @@ mod entry;
 mod error;
 mod size;
 mod slot;
+mod spare_slots;
+mod spares;
 
 pub use arena::Arena;
 pub use error::ArenaError;

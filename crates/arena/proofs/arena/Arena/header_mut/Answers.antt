@@ -1,4 +1,5 @@
 use Rattle.std.proofs.Common.{refl, ap, ◌∙◌, option_map, arith}
+use Rattle.arena.specs.Spares.{counts_of}
 use Rattle.arena.proofs.Reading.{in_chunks, IsRead-within, Lent-read, lent_records, lent_kept}
 use Rattle.arena.proofs.arena.Arena.header_mut.Goals as goal
 
@@ -25,7 +26,7 @@ invariant_of-self-lent g c w =
     (in_chunks c.self.inside.chunks.items c.args.slot live) c.chunk.ensures.chunk refl
     c.index_mut-chunk.ensures.value in
     rw (c.chunk.ensures.chunk, c.index.ensures.index)
-    (lent_kept _ _ _ _ c.args.slot _ w c.self.invariant (Lent-read _ _ _ w read live))
+    (lent_kept _ _ _ c.args.slot _ w c.self.invariant (Lent-read _ _ _ w read live))
 
 pub returns : goal.returns
 returns g c =
@@ -37,7 +38,7 @@ returns g c =
       (
         refl,
         λ w. rw (← c.self.view_is, c.chunk.ensures.chunk, c.index.ensures.index)
-            (ap (λ records. record { records = records; spare = c.self.inside.spare })
+            (ap (λ records. record { records = records; spare = counts_of c.self.inside.spares })
             (lent_records _ _ _ w (Lent-read _ _ _ w read live))),
       ),
       record {

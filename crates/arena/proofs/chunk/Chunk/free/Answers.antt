@@ -9,13 +9,12 @@ index_mut-requires g c =
     omega (arith, slot.index)
 
 pub invariant_of-self : goal.invariant_of-self
-invariant_of-self g c = IsChunk-freed _ _ _ _ c.args.index c.args.next c.self.invariant
+invariant_of-self g c = IsChunk-freed _ _ _ _ c.args.index c.self.invariant
 
 pub returns : goal.returns
 returns g c = record {
   freed =
       rw (← c.self.view_is)
       (ap (λ cells. record { size = c.self.inside.size; cells = cells })
-      (cells_of-freed c.self.inside.entries.items c.self.inside.width c.self.inside.bytes.items c.args.index
-      c.args.next));
+      (cells_of-freed c.self.inside.entries.items c.self.inside.width c.self.inside.bytes.items c.args.index));
 }

@@ -22,5 +22,5 @@ returns-in-Free g c =
     let read = slice_get_read c.self.inside.entries.items _ c.args.index c.index.result.now refl (omega arith)
     c.index.ensures in
     record {
-      live = rw (← c.self.view_is) (sym (none_in_free _ _ _ c.args.index _ (read ∙ ap Some c.in-Free.is)));
+      live = rw (← c.self.view_is) (sym (none_in_free _ _ _ c.args.index (read ∙ ap Some c.in-Free.is)));
     }
