@@ -32,7 +32,12 @@ begins_left a b beginning [] stay begins = All-nil (Begins b beginning)
 begins_left a b beginning (key ∷ keys) stay begins =
     let x = All-head (Begins a beginning) key keys begins in
     All-cons (Begins b beginning) key keys
-    (record { rest = x.rest; known = All-head (Stays a b) key keys stay _ x.known; are_bytes = x.are_bytes })
+    (record {
+      text = x.text;
+      known = All-head (Stays a b) key keys stay x.text x.known;
+      are_bytes = x.are_bytes;
+      begins = x.begins;
+    })
     (begins_left a b beginning keys (All-tail (Stays a b) key keys stay) (All-tail (Begins a beginning) key keys begins))
 
 hint_left : (a b : KeyBytes) (hint : Hint) → All (Stays a b) hint.keys → IsHinted a hint → IsHinted b hint

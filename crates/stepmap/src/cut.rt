@@ -44,6 +44,10 @@ impl<'a> Probe for Cut<'a> {
         digest(behind(bytes_of(self.keys, slot), skip))
     }
 
+    fn is_empty(&self, slot: Slot) -> bool {
+        bytes_of(self.keys, slot).is_empty()
+    }
+
     fn common(&self, one: Slot, other: Slot) -> usize {
         common(bytes_of(self.keys, one), bytes_of(self.keys, other))
     }

@@ -1,19 +1,19 @@
 -- What a node's hint tells of the key at an index.
-use Rattle.std.proofs.Common.{◌≡◌, ◌≢◌, ℕ, ◌+◌, ◌<◌, ◌≤◌, Bool, true, false, nat_lt, List, [], ◌∷◌, ◌++◌, length, filter, get_or, take, slice_get, slice_index, option_map, Some, All, sym, ap, subst, ◌∙◌, inl, inr, arith, length-append, length-take, get_or-take, lt-ltb, le-ltb, ltb-true}
+use Rattle.std.proofs.Common.{◌≡◌, ◌≢◌, ◌⊎◌, ℕ, ◌+◌, ◌<◌, ◌≤◌, Bool, true, false, nat_lt, List, [], ◌∷◌, length, filter, get_or, take, slice_get, slice_index, option_map, Some, All, refl, sym, ap, subst, ◌∙◌, inl, inr, arith, length-take, get_or-take, lt-ltb, le-ltb, ltb-true}
 use Rattle.std.specs.Prelude.{unwrap_or}
 use Rattle.std.specs.Int.{w64, to_be_bytes}
 use Rattle.std.proofs.lemmas.Bool.{cases_lt}
-use Rattle.std.proofs.lemmas.List.{take_at, get_or-map}
+use Rattle.std.proofs.lemmas.List.{get_or-map}
 use Rattle.std.proofs.lemmas.Option.{get_or_from_slice_get, slice_get_within, slice_get-get_or, slice_get-map}
 use Rattle.keyspace.specs.Key.{IsBytes, IsBefore}
 use Rattle.tree.specs.declared.entry.Entry.{Entry}
 use Rattle.tree.specs.declared.node.Node.{Node}
 use Rattle.tree.specs.Node.{entries_of, hint_of, keys_of}
-use Rattle.tree.specs.Hints.{KeyBytes, Begins, digest_behind, digest_at, Hint, IsHinted, PassesInOrder, BeginAlike, TellsCommon, Agrees, IsDigestFor}
+use Rattle.tree.specs.Hints.{KeyBytes, Begins, digest_behind, digest_at, Hint, IsHinted, PassesInOrder, TellsCommon, Agrees, IsDigestFor}
 use Rattle.tree.specs.Path.{IsCut}
 use Rattle.tree.proofs.Cuts.{length-passing, none_fail, not_both}
 use Rattle.tree.proofs.HintCounts.{fewer_pass, length-filter_map, passing_before, passing_inside}
-use Rattle.tree.proofs.HintOrder.{told_by_digests, before_too, tells_too, common_by_digests}
+use Rattle.tree.proofs.HintOrder.{empty_digest, empty_before, empty_before_too, tells_empty, told_by_digests, before_too, tells_too, common_by_digests}
 
 some_same : {X : Type 0} (a b : X) → Some a ≡ Some b → a ≡ b
 some_same a b e = cc
@@ -42,9 +42,13 @@ pub record IsKeyAt (bytes : KeyBytes) (hint : Hint) (beginning : List ℕ) (inde
   pub text : List ℕ
   pub known : bytes key ≡ Some text
   pub are_bytes : IsBytes text
-  pub begins : take hint.skip text ≡ beginning
-  pub long : hint.skip ≤ length text
+  pub begins : (text ≡ []) ⊎ ((take hint.skip text ≡ beginning) × (hint.skip ≤ length text))
   pub digest : get_or hint.digests index 0 ≡ digest_behind hint.skip text
+
+-- a list without an element
+nothing_in : (xs : List ℕ) → length xs ≡ 0 → xs ≡ []
+nothing_in [] none = refl
+nothing_in (x ∷ xs) none = absurd (omega arith)
 
 module _ (bytes : KeyBytes) (hint : Hint) (h : IsHinted bytes hint) where
   pub key_at : (index key : ℕ) → slice_get hint.keys index ≡ Some key → IsKeyAt bytes hint h.beginning index key
@@ -53,11 +57,15 @@ module _ (bytes : KeyBytes) (hint : Hint) (h : IsHinted bytes hint) where
       let read : get_or hint.keys index key ≡ key = get_or_from_slice_get hint.keys index key key there in
       let own : Begins bytes h.beginning key = subst (Begins bytes h.beginning) read (h.begins index key inside) in
       record {
-        text = h.beginning ++ own.rest;
+        text = own.text;
         known = own.known;
         are_bytes = own.are_bytes;
-        begins = take_at h.beginning own.rest hint.skip h.skip;
-        long = omega (arith, h.skip, length-append h.beginning own.rest);
+        begins = elim own.begins [
+          | inl empty ↦ inl empty
+          | inr same ↦
+              let begins : take hint.skip own.text ≡ h.beginning = ap (λ n. take n own.text) (sym h.skip) ∙ same in
+              inr (begins, omega (arith, h.skip, ap length begins, length-take hint.skip own.text))
+        ];
         digest = ap (λ (ds : List ℕ). get_or ds index 0) h.digests
             ∙ get_or-map (digest_at bytes hint.skip) hint.keys index key 0 inside ∙ ap (digest_at bytes hint.skip) read
             ∙ ap (λ o. digest_behind hint.skip (unwrap_or o [])) own.known;
@@ -70,30 +78,49 @@ module _ (bytes : KeyBytes) (hint : Hint) (h : IsHinted bytes hint) where
       let k = key_at index key there in
       some_same k.text text (sym k.known ∙ known)
 
-  begins_at : (index key : ℕ) → slice_get hint.keys index ≡ Some key → (text : List ℕ) → bytes key ≡ Some text
-      → take hint.skip text ≡ h.beginning
-  begins_at index key there text known =
-      sym (ap (take hint.skip) (text_at index key there text known)) ∙ (key_at index key there).begins
+  -- a key whose digest isn't zero isn't empty
+  long_at : (index key : ℕ) (there : slice_get hint.keys index ≡ Some key)
+      → (hint.skip ≡ 0) ⊎ (get_or hint.digests index 0 ≢ 0) → hint.skip ≤ length (key_at index key there).text
+  long_at index key there filled =
+      let k = key_at index key there in
+      elim k.begins [
+        | inr long ↦ long.1
+        | inl empty ↦ elim filled [
+          | inl none ↦ omega (arith, none)
+          | inr differ ↦
+              absurd (differ (k.digest ∙ ap (digest_behind hint.skip) empty ∙ empty_digest hint.skip))
+        ]
+      ]
 
   -- What is looked for begins as all keys do.
   sought_begins : (sought : List ℕ) → Agrees bytes hint sought → h.beginning ≡ take hint.skip sought
   sought_begins sought agrees =
       let there : slice_get hint.keys agrees.there.0 ≡ Some agrees.key =
       slice_get-get_or hint.keys agrees.there.0 agrees.key agrees.there.1 ∙ ap Some agrees.there.2 in
-      sym (begins_at agrees.there.0 agrees.key there agrees.text agrees.known) ∙ agrees.same
+      let k = key_at agrees.there.0 agrees.key there in
+      let same : k.text ≡ agrees.text = text_at agrees.there.0 agrees.key there agrees.text agrees.known in
+      elim k.begins [
+        | inr long ↦ sym long.0 ∙ ap (take hint.skip) same ∙ agrees.same
+        | inl empty ↦
+            let none : hint.skip ≡ 0 = omega (arith, agrees.long, ap length same, ap length empty) in
+            nothing_in h.beginning (h.skip ∙ none) ∙ sym (ap (λ n. take n sought) none)
+      ]
 
-  -- It does if it begins as the first key.
-  pub agrees_with_first : (shared : ℕ) (sought : List ℕ) (key : ℕ) → slice_get hint.keys 0 ≡ Some key
-      → hint.skip ≤ shared → ((text : List ℕ) → bytes key ≡ Some text → BeginAlike shared text sought)
+  -- It does if it begins as one of them that isn't empty.
+  pub agrees_at : (index key : ℕ) (sought : List ℕ) → slice_get hint.keys index ≡ Some key
+      → (hint.skip ≡ 0) ⊎ (get_or hint.digests index 0 ≢ 0)
+      → ((text : List ℕ) → bytes key ≡ Some text → hint.skip ≤ length text → take hint.skip text ≡ take hint.skip sought)
       → Agrees bytes hint sought
-  agrees_with_first shared sought key there enough alike =
-      let k = key_at 0 key there in
+  agrees_at index key sought there filled alike =
+      let k = key_at index key there in
+      let long = long_at index key there filled in
       record {
         key = key;
         text = k.text;
-        there = (0, slice_get_within hint.keys 0 key there, get_or_from_slice_get hint.keys 0 key key there);
+        there = (index, slice_get_within hint.keys index key there, get_or_from_slice_get hint.keys index key key there);
         known = k.known;
-        same = alike k.text k.known hint.skip k.long enough;
+        long = long;
+        same = alike k.text k.known long;
       }
 
   module _ (sought : List ℕ) (passes : ℕ → Bool)
@@ -107,12 +134,23 @@ module _ (bytes : KeyBytes) (hint : Hint) (h : IsHinted bytes hint) where
         → digest ≢ get_or hint.digests index 0 → nat_lt (get_or hint.digests index 0) digest ≡ passes key
     told_at index key digest there is differ =
         let k = key_at index key there in
-        let same : take hint.skip k.text ≡ take hint.skip sought = k.begins ∙ sought_begins sought is.agrees in
         let apart : digest_behind hint.skip k.text ≢ digest_behind hint.skip sought =
         λ e. differ (is.digest_is ∙ sym e ∙ sym k.digest) in
-        ap (λ d. nat_lt d digest) k.digest ∙ ap (nat_lt (digest_behind hint.skip k.text)) is.digest_is
-        ∙ told_by_digests hint.skip k.text sought (passes key) k.are_bytes is.are_bytes k.long same apart
-        (order key k.text k.known)
+        elim k.begins [
+          | inr long ↦
+              let same : take hint.skip k.text ≡ take hint.skip sought = long.0 ∙ sought_begins sought is.agrees in
+              ap (λ d. nat_lt d digest) k.digest ∙ ap (nat_lt (digest_behind hint.skip k.text)) is.digest_is
+              ∙ told_by_digests hint.skip k.text sought (passes key) k.are_bytes is.are_bytes long.1 same apart
+              (order key k.text k.known)
+          | inl empty ↦
+              let own : get_or hint.digests index 0 ≡ 0 =
+              k.digest ∙ ap (digest_behind hint.skip) empty ∙ empty_digest hint.skip in
+              let before : IsBefore k.text sought =
+              subst (λ t. IsBefore t sought) (sym empty)
+              (empty_before hint.skip sought (λ e. differ (is.digest_is ∙ e ∙ sym own))) in
+              lt-ltb (get_or hint.digests index 0) digest (omega (arith, own, differ))
+              ∙ sym ((order key k.text k.known).before before)
+        ]
 
     -- A key whose digest is less passes.
     pub less_passes : (index key digest : ℕ) → slice_get hint.keys index ≡ Some key → IsDigestFor bytes hint sought digest
@@ -121,16 +159,33 @@ module _ (bytes : KeyBytes) (hint : Hint) (h : IsHinted bytes hint) where
         sym (told_at index key digest there is (λ e. absurd (omega (arith, ltb-true (get_or hint.digests index 0) digest less))))
         ∙ less
 
-    -- Where the first key passes, and differs from what is looked for before all keys' common beginning ends, all keys pass.
-    module _ (shared first : ℕ) (at_first : slice_get hint.keys 0 ≡ Some first) (less : shared < hint.skip)
-        (passed : passes first ≡ true)
+    -- Where the first key isn't empty and passes, and differs from what is looked for before all keys' common beginning
+    -- ends, all keys pass.
+    module _ (shared first : ℕ) (at_first : slice_get hint.keys 0 ≡ Some first) (filled : get_or hint.digests 0 0 ≢ 0)
+        (less : shared < hint.skip) (passed : passes first ≡ true)
         (tells : (text : List ℕ) → bytes first ≡ Some text → TellsCommon shared text sought) where
+      first_begins : take hint.skip (key_at 0 first at_first).text ≡ h.beginning
+      first_begins =
+          let f = key_at 0 first at_first in
+          elim f.begins [
+            | inr long ↦ long.0
+            | inl empty ↦ absurd (filled (f.digest ∙ ap (digest_behind hint.skip) empty ∙ empty_digest hint.skip))
+          ]
+
       pub passes_too : (index key : ℕ) → slice_get hint.keys index ≡ Some key → passes key ≡ true
       passes_too index key there =
           let f = key_at 0 first at_first in
           let k = key_at index key there in
-          (order key k.text k.known).before (before_too shared hint.skip f.text k.text sought less f.long k.long
-          (k.begins ∙ sym f.begins) (tells f.text f.known) (not_behind first f.text f.known passed))
+          let long = long_at 0 first at_first (inr filled) in
+          let ahead = not_behind first f.text f.known passed in
+          (order key k.text k.known).before
+          (elim k.begins [
+            | inr begins ↦
+                before_too shared hint.skip f.text k.text sought less long begins.1 (begins.0 ∙ sym first_begins)
+                (tells f.text f.known) ahead
+            | inl empty ↦
+                subst (λ t. IsBefore t sought) (sym empty) (empty_before_too f.text sought (omega (arith, long, less)) ahead)
+          ])
 
       -- and differ from it as the first one does
       pub differs_too : (index key : ℕ) → slice_get hint.keys index ≡ Some key → (text : List ℕ) → bytes key ≡ Some text
@@ -139,8 +194,12 @@ module _ (bytes : KeyBytes) (hint : Hint) (h : IsHinted bytes hint) where
           let f = key_at 0 first at_first in
           let k = key_at index key there in
           subst (λ t. TellsCommon shared t sought) (text_at index key there text known)
-          (tells_too shared hint.skip f.text k.text sought less f.long k.long (k.begins ∙ sym f.begins)
-          (tells f.text f.known))
+          (elim k.begins [
+            | inr begins ↦
+                tells_too shared hint.skip f.text k.text sought less (long_at 0 first at_first (inr filled)) begins.1
+                (begins.0 ∙ sym first_begins) (tells f.text f.known)
+            | inl empty ↦ subst (λ t. TellsCommon shared t sought) (sym empty) (tells_empty shared sought)
+          ])
 
     -- How far a key that passes and what is looked for begin alike is told by its digest, if that isn't the one of what is
     -- looked for.
@@ -152,31 +211,38 @@ module _ (bytes : KeyBytes) (hint : Hint) (h : IsHinted bytes hint) where
         → (text : List ℕ) → bytes key ≡ Some text → TellsCommon (hint.skip + count) text sought
     common_at index key digest count there is passed apart few alike differ text known =
         let k = key_at index key there in
-        let same : take hint.skip k.text ≡ take hint.skip sought = k.begins ∙ sought_begins sought is.agrees in
         let own = k.digest in
         let other = is.digest_is in
         let begin : take count (to_be_bytes w64 (digest_behind hint.skip k.text))
         ≡ take count (to_be_bytes w64 (digest_behind hint.skip sought)) =
         sym (ap (λ d. take count (to_be_bytes w64 d)) own) ∙ alike ∙ ap (λ d. take count (to_be_bytes w64 d)) other in
         subst (λ t. TellsCommon (hint.skip + count) t sought) (text_at index key there text known)
-        (common_by_digests hint.skip count k.text sought k.are_bytes is.are_bytes k.long same
-        (λ e. apart (own ∙ e ∙ sym other)) few begin
-        (λ less e. differ less (ap (λ d. slice_index (to_be_bytes w64 d) count) own ∙ e
-        ∙ sym (ap (λ d. slice_index (to_be_bytes w64 d) count) other)))
-        (not_behind key k.text k.known passed))
+        (elim k.begins [
+          | inl empty ↦
+              subst (λ t. TellsCommon (hint.skip + count) t sought) (sym empty) (tells_empty (hint.skip + count) sought)
+          | inr begins ↦
+              let same : take hint.skip k.text ≡ take hint.skip sought = begins.0 ∙ sought_begins sought is.agrees in
+              common_by_digests hint.skip count k.text sought k.are_bytes is.are_bytes begins.1 same
+              (λ e. apart (own ∙ e ∙ sym other)) few begin
+              (λ less e. differ less (ap (λ d. slice_index (to_be_bytes w64 d) count) own ∙ e
+              ∙ sym (ap (λ d. slice_index (to_be_bytes w64 d) count) other)))
+              (not_behind key k.text k.known passed)
+        ])
 
 module _ {N : ℕ} (bytes : KeyBytes) (node : Node N) (h : IsHinted bytes (hint_of node)) (sought : List ℕ) (passes : ℕ → Bool)
     (order : (key : ℕ) (text : List ℕ) → bytes key ≡ Some text → PassesInOrder text sought (passes key)) where
-  -- Where the first key passes, and differs from what is looked for before all keys' common beginning ends, all entries pass.
-  pub all_pass : (shared : ℕ) (first : Entry) → slice_get (entries_of node) 0 ≡ Some first → shared < node.skip
-      → passes first.key ≡ true → ((text : List ℕ) → bytes first.key ≡ Some text → TellsCommon shared text sought)
+  -- Where the first key isn't empty and passes, and differs from what is looked for before all keys' common beginning ends,
+  -- all entries pass.
+  pub all_pass : (shared : ℕ) (first : Entry) → slice_get (entries_of node) 0 ≡ Some first
+      → get_or (hint_of node).digests 0 0 ≢ 0 → shared < node.skip → passes first.key ≡ true → ((text : List ℕ) → bytes first.key ≡ Some text → TellsCommon shared text sought)
       → filter (λ (e : Entry). passes e.key) (entries_of node) ≡ entries_of node
-  all_pass shared first there less passed tells =
+  all_pass shared first there filled less passed tells =
       let es = entries_of node in
       let all : All (λ (e : Entry). passes e.key ≡ true) es =
       λ i d inside.
       let e = get_or es i d in
-      passes_too bytes (hint_of node) h sought passes order shared first.key (key_there es 0 first there) less passed tells
+      passes_too bytes (hint_of node) h sought passes order shared first.key (key_there es 0 first there) filled less
+      passed tells
       i e.key (key_there es i e (slice_get-get_or es i d inside)) in
       (none_fail (λ (e : Entry). passes e.key) es all).0
 

@@ -1,15 +1,15 @@
 -- What nodes know of the bytes of their keys, through changes of these.
 use Rattle.std.proofs.Math.Nat.{min-le_left, min-le_right}
-use Rattle.std.proofs.Common.{◌≡◌, ℕ, ◌+◌, ◌-◌, ◌<◌, ◌≤◌, min, List, [], ◌∷◌, ◌++◌, Some, length, get_or, take, drop, map, All, refl, sym, ◌∙◌, ap, ap₂, subst, arith, append_assoc, length-append, length-drop}
-use Rattle.std.specs.Prelude.{unwrap_or, slice_set}
+use Rattle.std.proofs.Common.{◌≡◌, ◌≢◌, ◌⊎◌, inl, inr, ℕ, ◌+◌, ◌-◌, ◌<◌, ◌≤◌, min, List, [], ◌∷◌, ◌++◌, Some, length, get_or, take, drop, map, All, refl, sym, ◌∙◌, ap, ap₂, subst, arith, append_assoc, length-append, length-drop}
+use Rattle.std.specs.Prelude.{unwrap_or, slice_get, slice_set}
 use Rattle.std.specs.List.{Contains, copy_within}
-use Rattle.std.proofs.lemmas.List.{get_or-map, get_or-take, length-map, length-take-le, map-append, map-set, map_more, set-get_or, take_all, take-append-drop, take-append-le, take_at, drop_at, take-map, drop-map, take-take, take_more_set, drop-take}
+use Rattle.std.proofs.lemmas.List.{get_or-map, get_or-take, length-map, length-take, length-take-le, map-append, map-set, map_more, set-get_or, take_all, take-append-drop, take-append-le, take_at, drop_at, take-map, drop-map, take-take, take_more_set, drop-take}
+use Rattle.std.proofs.lemmas.Option.{slice_get_within, get_or_from_slice_get}
 use Rattle.std.proofs.lemmas.List.Elements.{All-nil, All-append, All-contains, All-drop, All-more, All-set, All-take, All-weaker}
-use Rattle.keyspace.specs.Key.{IsBytes}
 use Rattle.tree.specs.declared.entry.Entry.{Entry}
 use Rattle.tree.specs.Hints.{KeyBytes, IsKnown, Begins, Hint, IsHinted, Agrees, digest_behind, digest_at}
 use Rattle.tree.specs.Node.{keys_of}
-use Rattle.tree.proofs.Hinted.{all_known}
+use Rattle.tree.proofs.Hinted.{all_known, begins_if_long}
 
 -- One more element of the second list becomes that of the first one.
 pub map_further : {X Y : Type 0} (f : X → Y) (xs : List X) (ys : List Y) (i : ℕ) (x : X) (y : Y)
@@ -108,6 +108,12 @@ keys_there es i e inside is =
     let key : Entry → ℕ = λ x. x.key in
     (i, omega (arith, length-map es key, inside), get_or-map key es i e e.key inside ∙ ap key is)
 
+-- the key of the last one
+pub last_there : (es : List Entry) (e : Entry) → slice_get es (length es - 1) ≡ Some e → Contains (keys_of es) e.key
+last_there es e is =
+    let i = length es - 1 in
+    keys_there es i e (slice_get_within es i e is) (get_or_from_slice_get es i e e is)
+
 -- Entries of which some are in use, and one of these.
 module _ (es : List Entry) (len i : ℕ) (e : Entry) (inside : i < len) (most : len ≤ length es) (is : e ≡ get_or es i e) where
   -- its key
@@ -139,14 +145,14 @@ module _ (es : List Entry) (len i : ℕ) (e : Entry) (inside : i < len) (most : 
       ∙ ap (λ k. slice_set (keys_of (take len es)) i k) (sym same ∙ key_read)
       ∙ set-get_or (keys_of (take len es)) i e.key
 
--- A key begins as the keys do of which this is known.
+-- A key is empty, or begins as the keys do of which this is known.
 abbrev pub BeginsAsThese : KeyBytes → Hint → ℕ → Type 0
-BeginsAsThese bytes hint key = (text : List ℕ) → bytes key ≡ Some text → Agrees bytes hint text
+BeginsAsThese bytes hint key = (text : List ℕ) → bytes key ≡ Some text → (text ≡ []) ⊎ Agrees bytes hint text
 
--- A key begins with so many bytes in common with a first one, and that one is no shorter.
+-- A key is empty, or begins with so many bytes in common with a first one, and that one is no shorter.
 abbrev pub BeginsAsFirst : KeyBytes → ℕ → ℕ → ℕ → Type 0
 BeginsAsFirst bytes first count key =
-    (a b : List ℕ) → bytes first ≡ Some a → bytes key ≡ Some b → (count ≤ length a) × (take count a ≡ take count b)
+    (a b : List ℕ) → bytes first ≡ Some a → bytes key ≡ Some b → (b ≡ []) ⊎ ((count ≤ length a) × (take count a ≡ take count b))
 
 module _ (bytes : KeyBytes) where
   -- the digest of a key is that of its bytes
@@ -159,53 +165,66 @@ module _ (bytes : KeyBytes) where
   pub agrees_begins : (hint : Hint) (h : IsHinted bytes hint) (key : ℕ) → IsKnown bytes key
       → BeginsAsThese bytes hint key → Begins bytes h.beginning key
   agrees_begins hint h key k agrees =
-      let a = agrees k.text k.known in
-      let b = All-contains (Begins bytes h.beginning) hint.keys a.key h.begins a.there in
-      let one : Some a.text ≡ Some (h.beginning ++ b.rest) = sym a.known ∙ b.known in
-      let texts : a.text ≡ h.beginning ++ b.rest = cc in
-      let begin : h.beginning ≡ take hint.skip k.text =
-      sym (take_at h.beginning b.rest hint.skip h.skip) ∙ ap (take hint.skip) (sym texts) ∙ a.same in
-      let whole : h.beginning ++ drop hint.skip k.text ≡ k.text =
-      ap (λ xs. xs ++ drop hint.skip k.text) begin ∙ take-append-drop hint.skip k.text in
       record {
-        rest = drop hint.skip k.text;
-        known = k.known ∙ ap Some (sym whole);
-        are_bytes = subst IsBytes (sym whole) k.are_bytes;
+        text = k.text;
+        known = k.known;
+        are_bytes = k.are_bytes;
+        begins = elim (agrees k.text k.known) [
+          | inl empty ↦ inl empty
+          | inr a ↦ inr (same a)
+        ];
       }
+    where
+      same : Agrees bytes hint k.text → take (length h.beginning) k.text ≡ h.beginning
+      same a =
+          let b = All-contains (Begins bytes h.beginning) hint.keys a.key h.begins a.there in
+          let one : Some b.text ≡ Some a.text = sym b.known ∙ a.known in
+          let texts : b.text ≡ a.text = cc in
+          let long : length h.beginning ≤ length b.text = omega (arith, a.long, h.skip, ap length texts) in
+          ap (λ n. take n k.text) h.skip ∙ sym a.same ∙ ap₂ take (sym h.skip) (sym texts)
+          ∙ begins_if_long h.beginning b.text b.begins long
 
   -- a key of the node itself does
-  pub key_agrees : (hint : Hint) (key : ℕ) → Contains hint.keys key → BeginsAsThese bytes hint key
-  key_agrees hint key there text known = record { key = key; text = text; there = there; known = known; same = refl }
+  pub key_agrees : (hint : Hint) (h : IsHinted bytes hint) (key : ℕ) → Contains hint.keys key → BeginsAsThese bytes hint key
+  key_agrees hint h key there text known =
+      let b = All-contains (Begins bytes h.beginning) hint.keys key h.begins there in
+      let one : Some text ≡ Some b.text = sym known ∙ b.known in
+      let texts : text ≡ b.text = cc in
+      elim b.begins [
+        | inl empty ↦ inl (texts ∙ empty)
+        | inr same ↦ inr (record {
+          key = key;
+          text = text;
+          there = there;
+          known = known;
+          long = omega (
+            arith,
+            ap length texts,
+            ap length same,
+            h.skip,
+            length-take (length h.beginning) b.text,
+            min-le_right (length h.beginning) (length b.text),
+          );
+          same = refl;
+        })
+      ]
 
   -- and a key that begins as one of them for so many bytes does
   pub common_agrees : (hint : Hint) (h : IsHinted bytes hint) (first key count : ℕ) → Contains hint.keys first
       → hint.skip ≤ count
       → ((a b : List ℕ) → bytes first ≡ Some a → bytes key ≡ Some b → take count a ≡ take count b)
-      → BeginsAsThese bytes hint key
-  common_agrees hint h first key count there enough same text known =
+      → ((a b : List ℕ) → bytes first ≡ Some a → bytes key ≡ Some b → (count ≤ length a) × (count ≤ length b))
+      → (text : List ℕ) → bytes key ≡ Some text → Agrees bytes hint text
+  common_agrees hint h first key count there enough same within text known =
       let b = All-contains (Begins bytes h.beginning) hint.keys first h.begins there in
-      let own = h.beginning ++ b.rest in
       record {
         key = first;
-        text = own;
+        text = b.text;
         there = there;
         known = b.known;
-        same = sym (take-take hint.skip count own enough) ∙ ap (take hint.skip) (same own text b.known known)
+        long = omega (arith, enough, (within b.text text b.known known).0);
+        same = sym (take-take hint.skip count b.text enough) ∙ ap (take hint.skip) (same b.text text b.known known)
             ∙ take-take hint.skip count text enough;
-      }
-
-  -- a key that begins with as many bytes in common with a text begins with these
-  pub begins_common : (text : List ℕ) (count less key : ℕ) → less ≤ count → (k : IsKnown bytes key)
-      → take count text ≡ take count k.text → Begins bytes (take less text) key
-  begins_common text count less key fewer k same =
-      let begin : take less text ≡ take less k.text =
-      sym (take-take less count text fewer) ∙ ap (take less) same ∙ take-take less count k.text fewer in
-      let whole : take less text ++ drop less k.text ≡ k.text =
-      ap (λ xs. xs ++ drop less k.text) begin ∙ take-append-drop less k.text in
-      record {
-        rest = drop less k.text;
-        known = k.known ∙ ap Some (sym whole);
-        are_bytes = subst IsBytes (sym whole) k.are_bytes;
       }
 
   -- keys that begin as all others do
@@ -223,7 +242,7 @@ module _ (bytes : KeyBytes) where
   first_more first count common i keys key inside is same within before =
       let less = min count common in
       let fewer : less ≤ common = min-le_right count common in
-      let here : BeginsAsFirst bytes first less key = λ a b one other. (
+      let here : BeginsAsFirst bytes first less key = λ a b one other. inr (
         omega (arith, (within a b one other).0, fewer),
         sym (take-take less common a fewer) ∙ ap (take less) (same a b one other) ∙ take-take less common b fewer,
       ) in
@@ -235,25 +254,57 @@ module _ (bytes : KeyBytes) where
       weaker k b one other is_one is_other =
           let less = min count common in
           let fewer : less ≤ count = min-le_left count common in
-          let h = b one other is_one is_other in (
-            omega (arith, h.0, fewer),
-            sym (take-take less count one fewer) ∙ ap (take less) h.1 ∙ take-take less count other fewer,
-          )
+          elim (b one other is_one is_other) [
+            | inl empty ↦ inl empty
+            | inr h ↦ inr (
+              omega (arith, h.0, fewer),
+              sym (take-take less count one fewer) ∙ ap (take less) h.1 ∙ take-take less count other fewer,
+            )
+          ]
 
-  -- Keys that all begin as the first one does begin with bytes of it.
-  pub begin_of_first : (count : ℕ) (keys : List ℕ) → 0 < length keys → All (IsKnown bytes) keys
-      → All (BeginsAsFirst bytes (get_or keys 0 0) count) keys
-      → (beginning : List ℕ) × (length beginning ≡ count) × All (Begins bytes beginning) keys
-  begin_of_first count keys some known common =
-      let k = known 0 0 some in
-      let long = (common 0 0 some k.text k.text k.known k.known).0 in (
-        take count k.text,
-        length-take-le count k.text long,
+  -- an empty key more
+  pub first_empty : (first count i : ℕ) (keys : List ℕ) (key : ℕ) → i < length keys → key ≡ get_or keys i key
+      → ((b : List ℕ) → bytes key ≡ Some b → b ≡ [])
+      → All (BeginsAsFirst bytes first count) (take i keys) → All (BeginsAsFirst bytes first count) (take (i + 1) keys)
+  first_empty first count i keys key inside is empty before =
+      let here : BeginsAsFirst bytes first count key = λ a b one other. inl (empty b other) in
+      All-more (BeginsAsFirst bytes first count) keys i key inside before (subst (BeginsAsFirst bytes first count) is here)
+
+  -- Keys that all begin as one of them does that isn't empty begin with bytes of it.
+  pub begin_of_first : (first count : ℕ) (keys : List ℕ) → Contains keys first → All (IsKnown bytes) keys
+      → All (BeginsAsFirst bytes first count) keys
+      → (text : List ℕ) → bytes first ≡ Some text → text ≢ []
+      → (count ≤ length text) × All (Begins bytes (take count text)) keys
+  begin_of_first first count keys there known common text is filled =
+      let long : count ≤ length text =
+      elim (All-contains (BeginsAsFirst bytes first count) keys first common there text text is is) [
+        | inl empty ↦ absurd (filled empty)
+        | inr h ↦ h.0
+      ] in (
+        long,
         λ i d inside.
             let other = known i d inside in
-            begins_common k.text count count (get_or keys i d) (omega arith) other
-            (common i d inside k.text other.text k.known other.known).1,
+            record {
+              text = other.text;
+              known = other.known;
+              are_bytes = other.are_bytes;
+              begins = elim (common i d inside text other.text is other.known) [
+                | inl empty ↦ inl empty
+                | inr h ↦ inr (ap (λ n. take n other.text) (length-take-le count text long) ∙ sym h.1)
+              ];
+            },
       )
+
+  -- Where no bytes are asked for, known keys begin with them.
+  pub begin_none : (keys : List ℕ) → All (IsKnown bytes) keys
+      → (beginning : List ℕ) × (length beginning ≡ 0) × All (Begins bytes beginning) keys
+  begin_none keys known = (
+    [],
+    refl,
+    λ i d inside.
+        let k = known i d inside in
+        record { text = k.text; known = k.known; are_bytes = k.are_bytes; begins = inr refl },
+  )
 
   -- Another key that begins alike is set.
   pub hinted_set : (hint new : Hint) (h : IsHinted bytes hint) (i key digest : ℕ) → IsKnown bytes key → BeginsAsThese bytes hint key

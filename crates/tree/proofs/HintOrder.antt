@@ -1,5 +1,5 @@
 -- What the bytes with which a key and what is looked for begin, and the digests of what stands behind, tell of the two.
-use Rattle.std.proofs.Common.{◌≡◌, ◌≢◌, ℕ, ◌+◌, ◌-◌, ◌<◌, ◌≤◌, Bool, nat_lt, List, ◌++◌, length, get_or, take, drop, replicate, slice_index, refl, sym, ap, subst, ◌∙◌, inl, inr, arith, length-append, length-take, get_or-take, lt-ltb, le-ltb}
+use Rattle.std.proofs.Common.{◌≡◌, ◌≢◌, ℕ, zero, suc, ◌+◌, ◌-◌, ◌<◌, ◌≤◌, Bool, nat_lt, List, [], ◌∷◌, ◌++◌, length, get_or, take, drop, replicate, slice_index, refl, sym, ap, subst, ◌∙◌, inl, inr, arith, length-append, length-take, get_or-take, lt-ltb, le-ltb}
 use Rattle.std.specs.Int.{w64, to_be_bytes, from_be_bytes}
 use Rattle.std.proofs.lemmas.Bool.{cases_lt, cases_order}
 use Rattle.std.proofs.lemmas.List.{take-take, take-append-le, take-append-drop, take_more_same, length-take-le, drop-take, length-drop, get_or_append_left, get_or_past}
@@ -31,6 +31,28 @@ pub as_long : (n : ℕ) (a b : List ℕ) → n ≤ length a → take n a ≡ tak
 as_long n a b long same =
     let equal : length (take n a) ≡ length (take n b) = ap length same in
     omega (arith, equal, length-take-le n a long, length-take n b)
+
+-- the digest of the empty key
+pub empty_digest : (skip : ℕ) → digest_behind skip [] ≡ 0
+unfolding digest_of
+empty_digest zero = refl
+empty_digest (suc skip) = refl
+
+-- It comes before what is looked for, if that has another digest
+pub empty_before : (skip : ℕ) (sought : List ℕ) → digest_behind skip sought ≢ 0 → IsBefore [] sought
+empty_before skip [] differ = absurd (differ (empty_digest skip))
+empty_before skip (x ∷ xs) differ = refl
+
+-- or isn't before a key that isn't empty.
+pub empty_before_too : (text sought : List ℕ) → 0 < length text → (IsBefore sought text → ⊥) → IsBefore [] sought
+empty_before_too [] sought some not_behind = absurd (omega arith)
+empty_before_too (y ∷ ys) [] some not_behind = absurd (not_behind refl)
+empty_before_too (y ∷ ys) (x ∷ xs) some not_behind = refl
+
+-- Nothing is told of how far the empty key begins as what is looked for.
+pub tells_empty : (shared : ℕ) (sought : List ℕ) → TellsCommon shared [] sought
+tells_empty shared sought zero within = ((λ le. refl), (λ alike. omega arith))
+tells_empty shared sought (suc count) within = absurd (omega arith)
 
 -- Where the digests behind a common beginning differ, they tell whether the key passes.
 pub told_by_digests : (skip : ℕ) (text sought : List ℕ) (passes : Bool) → IsBytes text → IsBytes sought

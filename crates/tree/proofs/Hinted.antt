@@ -1,5 +1,5 @@
 -- What nodes know of the bytes of keys, while nodes are put, placed and released.
-use Rattle.std.proofs.Common.{rules, ◌≡◌, ◌≢◌, ◌⊎◌, inl, inr, ℕ, cond, List, [], ◌∷◌, ◌++◌, map, Option, Some, None, option_map, unwrap_or, refl, sym, ap, ap₂, subst, ◌∙◌}
+use Rattle.std.proofs.Common.{rules, ◌≡◌, ◌≢◌, ◌⊎◌, inl, inr, ℕ, ◌≤◌, cond, List, [], ◌∷◌, length, map, take, Option, Some, None, option_map, unwrap_or, refl, sym, ap, ap₂, subst, arith, ◌∙◌}
 use Rattle.std.specs.Prelude.{IfSome}
 use Rattle.std.specs.List.{All}
 use Rattle.std.proofs.lemmas.List.Elements.{All-weaker, All-head, All-tail}
@@ -15,7 +15,17 @@ use Rattle.tree.proofs.Times.{once_cases}
 
 -- a key that begins with some bytes is known
 pub known_if_begins : (bytes : KeyBytes) (beginning : List ℕ) (key : ℕ) → Begins bytes beginning key → IsKnown bytes key
-known_if_begins bytes beginning key b = record { text = beginning ++ b.rest; known = b.known; are_bytes = b.are_bytes }
+known_if_begins bytes beginning key b = record { text = b.text; known = b.known; are_bytes = b.are_bytes }
+
+-- a text that isn't too short for it begins with these bytes
+pub begins_if_long : (beginning text : List ℕ) → (text ≡ []) ⊎ (take (length beginning) text ≡ beginning)
+    → length beginning ≤ length text → take (length beginning) text ≡ beginning
+begins_if_long [] text begins long = refl
+begins_if_long (x ∷ xs) text begins long =
+    elim begins [
+      | inl empty ↦ absurd (omega (arith, long, ap length empty))
+      | inr same ↦ same
+    ]
 
 -- each key of which a node knows is known
 pub all_known : (bytes : KeyBytes) (hint : Hint) → IsHinted bytes hint → All (IsKnown bytes) hint.keys
@@ -46,7 +56,7 @@ hint_kept a b same hint h =
       beginning = h.beginning;
       skip = h.skip;
       begins = All-weaker (Begins a h.beginning) (Begins b h.beginning)
-          (λ key x. record { rest = x.rest; known = same key (h.beginning ++ x.rest) x.known; are_bytes = x.are_bytes })
+          (λ key x. record { text = x.text; known = same key x.text x.known; are_bytes = x.are_bytes; begins = x.begins })
           hint.keys h.begins;
       digests = h.digests ∙ digests_kept a b hint.skip same hint.keys (all_known a hint h);
     }

@@ -1,5 +1,5 @@
 -- The leaf that a probe finds, as it is read, and the keys that it has once it is changed.
-use Rattle.std.proofs.Common.{rules, option_map, unwrap_or, ◌≢◌, ◌≡◌, ℕ, zero, suc, ◌≤◌, Bool, true, false, not, List, [], ◌∷◌, ◌++◌, Some, length, get_or, set, take, drop, filter, map, All, refl, sym, ◌∙◌, ap, subst, arith}
+use Rattle.std.proofs.Common.{rules, option_map, unwrap_or, ◌≢◌, ◌≡◌, inl, ℕ, zero, suc, ◌≤◌, Bool, true, false, not, List, [], ◌∷◌, ◌++◌, Some, length, get_or, set, take, drop, filter, map, All, refl, sym, ◌∙◌, ap, subst, arith}
 use Rattle.std.specs.Prelude.{IfSome}
 use Rattle.std.proofs.lemmas.List.{take_at, drop_at, length-map}
 use Rattle.std.proofs.lemmas.List.Elements.{All-nil, All-cons, All-head, All-tail}
@@ -97,7 +97,7 @@ hinted_empty bytes key empty =
     record {
       beginning = [];
       skip = refl;
-      begins = All-cons (Begins bytes []) key [] (record { rest = []; known = empty; are_bytes = no_bytes }) (All-nil (Begins bytes []));
+      begins = All-cons (Begins bytes []) key [] (record { text = []; known = empty; are_bytes = no_bytes; begins = inl refl }) (All-nil (Begins bytes []));
       digests = ap (λ d. d ∷ []) (sym (ap (digest_behind 0) text ∙ empty_digest));
     }
 

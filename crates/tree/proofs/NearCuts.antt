@@ -27,13 +27,13 @@ begin_alike bytes near passes sought other es (Some known) n knows most alike sa
     tells.0 (omega (arith, few, most)) ∙ sym (fewer_alike count n other sought few alike)
 
 -- Keys whose bytes begin as what another probe looks for do begin as all keys of the leaf do.
-pub agree : (bytes near : KeyBytes) (hint : Hint) (own other : List ℕ) (shared n : ℕ) (digest : Option ℕ)
+pub agree : (bytes near : KeyBytes) (hint : Hint) (own other : List ℕ) (shared : ℕ) (digest : Option ℕ)
     → ((key : ℕ) → near key ≡ bytes key) → IfSome digest (IsDigestFor near hint other)
-    → IfSome digest (λ _. hint.skip ≤ n) → n ≤ shared → take shared other ≡ take shared own → is_some digest ≡ true
+    → hint.skip ≤ shared → take shared other ≡ take shared own → is_some digest ≡ true
     → (key : ℕ) → bytes key ≡ Some own → (text : List ℕ) → bytes key ≡ Some text → Agrees bytes hint text
-agree bytes near hint own other shared n None same for short most alike some key is text there =
+agree bytes near hint own other shared None same for short alike some key is text there =
     absurd (let t : false ≡ true = some in cc)
-agree bytes near hint own other shared n (Some digest) same for short most alike some key is text there =
+agree bytes near hint own other shared (Some digest) same for short alike some key is text there =
     let a = for.agrees in
     let e : own ≡ text = let s : Some own ≡ Some text = sym is ∙ there in cc in
     record {
@@ -41,7 +41,8 @@ agree bytes near hint own other shared n (Some digest) same for short most alike
       text = a.text;
       there = a.there;
       known = sym (same a.key) ∙ a.known;
-      same = a.same ∙ fewer_alike hint.skip shared other own (omega (arith, short, most)) alike ∙ ap (take hint.skip) e;
+      long = a.long;
+      same = a.same ∙ fewer_alike hint.skip shared other own short alike ∙ ap (take hint.skip) e;
     }
 
 -- what holds of both keys holds of those of the entries that are put in

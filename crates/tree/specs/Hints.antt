@@ -1,5 +1,5 @@
 -- What nodes know of the bytes of keys. This project's own.
-use Rattle.std.specs.Prelude.{◌≡◌, ◌≤◌, ◌↔◌, ℕ, Bool, true, false, List, [], ◌++◌, length, map, take, drop, Option, Some, slice_get, unwrap_or, IfSome, MatchOption}
+use Rattle.std.specs.Prelude.{◌≡◌, ◌⊎◌, ◌≤◌, ◌↔◌, ℕ, Bool, true, false, List, [], length, map, take, drop, Option, Some, slice_get, unwrap_or, IfSome, MatchOption}
 use Rattle.std.specs.List.{All, Contains}
 use Rattle.keyspace.specs.Key.{IsBytes, IsBefore}
 use Rattle.keyspace.specs.Digest.{digest_of}
@@ -15,11 +15,12 @@ pub record IsKnown (bytes : KeyBytes) (key : ℕ) : Type 0 where
   pub known : bytes key ≡ Some text
   pub are_bytes : IsBytes text
 
--- the key is known, and begins with these bytes
+-- the key is known, and begins with these bytes unless it is empty
 pub record Begins (bytes : KeyBytes) (beginning : List ℕ) (key : ℕ) : Type 0 where
-  pub rest : List ℕ
-  pub known : bytes key ≡ Some (beginning ++ rest)
-  pub are_bytes : IsBytes (beginning ++ rest)
+  pub text : List ℕ
+  pub known : bytes key ≡ Some text
+  pub are_bytes : IsBytes text
+  pub begins : (text ≡ []) ⊎ (take (length beginning) text ≡ beginning)
 
 -- the digest of what stands in a key behind so many bytes
 abbrev pub digest_behind : ℕ → List ℕ → ℕ
@@ -29,7 +30,7 @@ digest_behind skip text = digest_of (drop skip text)
 abbrev pub digest_at : KeyBytes → ℕ → ℕ → ℕ
 digest_at bytes skip key = digest_behind skip (unwrap_or (bytes key) [])
 
--- what a node knows: its keys, with how many bytes all of them begin, and the digest of each behind these
+-- what a node knows: its keys, with how many bytes all of them but an empty one begin, and the digest of each behind these
 pub record Hint : Type 0 where
   pub keys : List ℕ
   pub skip : ℕ
@@ -70,12 +71,13 @@ abbrev pub KnowsAt : KeyBytes → (ℕ → Bool) → List ℕ → Option ℕ →
 KnowsAt bytes passes sought known entries index =
     (e : Entry) → slice_get entries index ≡ Some e → Knows bytes passes sought known e.key
 
--- What is looked for begins as all keys of the node do: as one of them, so far as the node tells.
+-- What is looked for begins as all keys of the node do: as one of them that is long enough, so far as the node tells.
 pub record Agrees (bytes : KeyBytes) (hint : Hint) (sought : List ℕ) : Type 0 where
   pub key : ℕ
   pub text : List ℕ
   pub there : Contains hint.keys key
   pub known : bytes key ≡ Some text
+  pub long : hint.skip ≤ length text
   pub same : take hint.skip text ≡ take hint.skip sought
 
 -- The digest of what is looked for, which begins as all keys do.

@@ -221,6 +221,7 @@ fn write_over_leaf<P: Probe, Q: Probe, R: Probe, const N: usize>(
     } else {
         behind.is_some_and(|key| new.past.passes(key))
     };
+    let begin_alike = digest.is_some() && leaf.skip() <= new.shared;
     let last = leaf.entries()[end - 1].version;
     let entries = [new.first, item(new.second, last)];
     let entries = if ended { &entries[..1] } else { &entries[..] };
@@ -231,7 +232,7 @@ fn write_over_leaf<P: Probe, Q: Probe, R: Probe, const N: usize>(
         split_leaf(nodes, slot, begin, end, entries, new.to)
     } else {
         let leaf = nodes.header_mut(slot);
-        leaf.splice_hinted(begin, end, entries, new.to, digest.is_some());
+        leaf.splice_hinted(begin, end, entries, new.to, begin_alike);
         None
     };
     Some(Done { ended, added })

@@ -1,6 +1,6 @@
 //! What is looked for in a tree.
 
-ghost use Rattle.std.specs.Prelude.{◌≡◌, ◌≤◌, ℕ, Bool, List, length, take, Option, Some};
+ghost use Rattle.std.specs.Prelude.{◌≡◌, ◌≤◌, ◌↔◌, ℕ, Bool, List, [], length, take, Option, Some, IsTrue};
 ghost use Rattle.keyspace.specs.Key.{IsBytes};
 ghost use Rattle.tree.specs.Hints.{KeyBytes, digest_behind, PassesInOrder, TellsCommon};
 
@@ -32,6 +32,10 @@ pub trait Probe {
     /// Returns the digest of a key, behind so many bytes.
     fn digest_of(&self, key: Slot, skip: usize) -> u64
         ensures digest { (text : List ℕ) → bytes self.now key ≡ Some text → result ≡ digest_behind skip text };
+
+    /// Returns whether a key is empty.
+    fn is_empty(&self, key: Slot) -> bool
+        ensures empty { (text : List ℕ) → bytes self.now key ≡ Some text → IsTrue result ↔ (text ≡ []) };
 
     /// Returns how many bytes two keys begin with in common.
     fn common(&self, one: Slot, other: Slot) -> usize

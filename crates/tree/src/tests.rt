@@ -44,6 +44,10 @@ impl Probe for All {
         0
     }
 
+    fn is_empty(&self, _key: Slot) -> bool {
+        true
+    }
+
     ghost order = { λ _ _ text is. all_in_order text is };
 }
 
@@ -78,6 +82,10 @@ impl Probe for Nothing {
 
     fn common_with(&self, _key: Slot) -> usize {
         0
+    }
+
+    fn is_empty(&self, _key: Slot) -> bool {
+        true
     }
 
     ghost order = { λ _ _ text is. none_in_order text is };

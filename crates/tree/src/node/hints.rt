@@ -1,8 +1,8 @@
 //! What a node knows of the bytes of its keys, and the search by it.
 
-ghost use Rattle.std.specs.Prelude.{◌≡◌, ◌≢◌, ◌<◌, ◌≤◌, ◌+◌, ◌-◌, ◌++◌, ℕ, List, length, filter, map, take, drop, nat_lt, get_or, slice_get, slice_index, slice_set, None, Some, IfSome, IsTrue};
+ghost use Rattle.std.specs.Prelude.{◌≡◌, ◌≢◌, ◌<◌, ◌≤◌, ◌+◌, ◌-◌, ◌++◌, ◌⊎◌, ℕ, List, [], length, filter, map, take, drop, nat_lt, get_or, slice_get, slice_index, slice_set, None, Some, IfSome, IsTrue};
 ghost use Rattle.std.specs.Int.{w64, to_be_bytes};
-ghost use Rattle.std.specs.List.{All};
+ghost use Rattle.std.specs.List.{All, Contains};
 ghost use Rattle.tree.specs.Hints.{Agrees, BeginAlike, IsDigestFor, IsHinted, IsKnown, KnowsAt, Begins, digest_at};
 ghost use Rattle.tree.specs.Node.{entries_of, hint_of, keys_of};
 ghost use Rattle.tree.specs.Path.{IsCut, index_in};
@@ -12,6 +12,9 @@ use crate::entry::Entry;
 use crate::probe::Probe;
 use crate::search::passing;
 use arena::Slot;
+
+// Where one key is empty, so few bytes with which the others begin in common don't count.
+const FEW: u16 = 6;
 
 /// Where a search goes on in a node.
 #[derive(Clone, Copy, Debug)]
@@ -23,7 +26,7 @@ pub struct Step {
 }
 
 impl<const N: usize> Node<N> {
-    /// Returns how many bytes all keys begin with in common, or fewer.
+    /// Returns how many bytes all keys but an empty one begin with in common, or fewer.
     pub fn skip(&self) -> usize
         ensures skip { result ≡ (hint_of self.now).skip }
         ensures short { result ≤ 65535 }
@@ -65,10 +68,26 @@ impl<const N: usize> Node<N> {
             return 0;
         };
         let Some(digest) = self.digest_for(probe, shared) else {
-            return self.len();
+            return self.count_without(probe);
         };
         let below = count_below(&self.digests[..self.len], digest);
         self.count_on(below, probe, Some(digest))
+    }
+
+    // Returns how many of the entries pass, where the first one does and what is looked for doesn't begin as all keys do.
+    fn count_without<P: Probe>(&self, probe: &P) -> usize
+        requires hinted { IsHinted (P.bytes probe.now) (hint_of self.now) }
+        requires cut { IsCut (λ e. P.lets_pass probe.now e.key) (entries_of self.now) }
+        requires all { get_or (hint_of self.now).digests 0 0 ≢ 0
+            → length (filter (λ e. P.lets_pass probe.now e.key) (entries_of self.now)) ≡ length (entries_of self.now) }
+        requires some { 0 < length (entries_of self.now) }
+        ensures within { result ≤ length (entries_of self.now) }
+        ensures count { result ≡ length (filter (λ e. P.lets_pass probe.now e.key) (entries_of self.now)) }
+    {
+        if self.digests[0] == 0 {
+            return self.count_on(0, probe, None);
+        }
+        self.len()
     }
 
     // Returns how many bytes the key at an index and what is looked for begin with in common. `shared` is the same of
@@ -86,7 +105,11 @@ impl<const N: usize> Node<N> {
             return shared;
         }
         let Some(digest) = self.digest_for(probe, shared) else {
-            return shared;
+            return if self.digests[0] == 0 {
+                probe.common_with(self.entries[index].key)
+            } else {
+                shared
+            };
         };
         if self.digests[index] == digest {
             return probe.common_with(self.entries[index].key);
@@ -95,20 +118,35 @@ impl<const N: usize> Node<N> {
     }
 
     /// Returns the digest of what is looked for behind the bytes that all keys begin with, if it begins with them, too.
-    /// The first key and what is looked for begin with `shared` bytes in common, at least.
+    /// The first key and what is looked for begin with `shared` bytes in common, at least, unless that key is empty.
     pub fn digest_for<P: Probe>(&self, probe: &P, shared: usize) -> Option<u64>
         requires hinted { IsHinted (P.bytes probe.now) (hint_of self.now) }
         requires some { 0 < length (entries_of self.now) }
         requires shared { (e : Entry) (text : List ℕ) → slice_get (entries_of self.now) 0 ≡ Some e
             → P.bytes probe.now e.key ≡ Some text → BeginAlike shared text (P.sought probe.now) }
         ensures digest { IfSome result (λ digest. IsDigestFor (P.bytes probe.now) (hint_of self.now) (P.sought probe.now) digest) }
-        ensures some { IfSome result (λ _. (hint_of self.now).skip ≤ shared) }
-        ensures none { result ≡ None → shared < (hint_of self.now).skip }
+        ensures none { result ≡ None → get_or (hint_of self.now).digests 0 0 ≢ 0 → shared < (hint_of self.now).skip }
     {
-        if shared < self.skip() {
+        let alike = if self.digests[0] == 0 && self.skip > 0 {
+            self.agrees_with_last(probe)
+        } else {
+            shared >= self.skip()
+        };
+        if !alike {
             return None;
         }
         Some(probe.digest(self.skip()))
+    }
+
+    // Returns whether what is looked for begins as the last key does, as far as all keys begin alike. It may be said that
+    // it doesn't where that key may be empty.
+    fn agrees_with_last<P: Probe>(&self, probe: &P) -> bool
+        requires hinted { IsHinted (P.bytes probe.now) (hint_of self.now) }
+        requires some { 0 < length (entries_of self.now) }
+        ensures agrees { IsTrue result → Agrees (P.bytes probe.now) (hint_of self.now) (P.sought probe.now) }
+    {
+        let last = self.len() - 1;
+        self.digests[last] != 0 && probe.common_with(self.entries[last].key) >= self.skip()
     }
 
     /// Returns whether the entry at an index passes. `digest` is that of what is looked for, if it begins as all keys
@@ -193,21 +231,25 @@ impl<const N: usize> Node<N> {
         }
     }
 
-    // Returns how many bytes all keys begin with in common, but no more than fit.
+    // Returns how many bytes all keys but an empty one begin with in common, but no more than fit. Where the first key is
+    // empty, a few bytes aren't worth it.
     fn beginning<P: Probe>(&self, probe: &P) -> u16
         requires known { All (IsKnown (P.bytes probe.now)) (keys_of (entries_of self.now)) }
         ensures begin { (beginning : List ℕ) × (length beginning ≡ result)
             × All (Begins (P.bytes probe.now) beginning) (keys_of (entries_of self.now)) }
     {
-        let mut count = usize::from(u16::MAX);
         let entries = self.entries();
-        for entry in entries {
-            count = count.min(probe.common(entries[0].key, entry.key));
-        }
-        if entries.is_empty() {
+        let (Some(first), Some(last)) = (entries.first(), entries.last()) else {
+            return 0;
+        };
+        if probe.is_empty(last.key) {
             return 0;
         }
-        count as u16
+        let count = common_beginning(entries, last.key, probe);
+        if count < FEW && probe.is_empty(first.key) {
+            return 0;
+        }
+        count
     }
 
     /// Sets the entry at an index, and takes its hints unless its key stays.
@@ -290,14 +332,14 @@ impl<const N: usize> Node<N> {
         }
     }
 
-    // Returns the digest of a key that begins as all keys do, and the index where the next key may be. The key is looked
+    // Returns the digest of a key that is empty or begins as all keys do, and the index where the next key may be. The key is looked
     // for where it may be first.
     fn digest_of<P: Probe>(&self, key: Slot, guess: usize, probe: &P) -> Option<(u64, usize)>
         requires hinted { IsHinted (P.bytes probe.now) (hint_of self.now) }
         requires known { IsKnown (P.bytes probe.now) key }
         ensures digest { IfSome result (λ found. found.0 ≡ digest_at (P.bytes probe.now) (hint_of self.now).skip key) }
         ensures agrees { IfSome result (λ _. (text : List ℕ) → P.bytes probe.now key ≡ Some text
-            → Agrees (P.bytes probe.now) (hint_of self.now) text) }
+            → (text ≡ []) ⊎ Agrees (P.bytes probe.now) (hint_of self.now) text) }
     {
         if guess < self.len && self.entries[guess].key == key {
             return Some((self.digests[guess], guess + 1));
@@ -317,8 +359,8 @@ impl<const N: usize> Node<N> {
         ensures agrees { IsTrue result → (text : List ℕ) → P.bytes probe.now key ≡ Some text
             → Agrees (P.bytes probe.now) (hint_of self.now) text }
     {
-        match self.entries().first() {
-            Some(first) => probe.common(first.key, key) >= self.skip(),
+        match self.entries().last() {
+            Some(last) => probe.common(last.key, key) >= self.skip(),
             None => false,
         }
     }
@@ -331,6 +373,23 @@ impl<const N: usize> Node<N> {
             _ => false,
         }
     }
+}
+
+// Returns how many bytes the keys but empty ones begin with in common with one that isn't empty, but no more than fit.
+fn common_beginning<P: Probe>(entries: &[Entry], key: Slot, probe: &P) -> u16
+    requires known { All (IsKnown (P.bytes probe.now)) (keys_of entries.now) }
+    requires there { Contains (keys_of entries.now) key }
+    requires filled { (text : List ℕ) → P.bytes probe.now key ≡ Some text → text ≢ [] }
+    ensures begin { (text : List ℕ) → P.bytes probe.now key ≡ Some text → (result ≤ length text)
+        × All (Begins (P.bytes probe.now) (take result text)) (keys_of entries.now) }
+{
+    let mut count = usize::from(u16::MAX);
+    for entry in entries {
+        if !probe.is_empty(entry.key) {
+            count = count.min(probe.common(key, entry.key));
+        }
+    }
+    count as u16
 }
 
 // Returns how many of the digests are below this one.

@@ -1,8 +1,9 @@
 use Rattle.std.proofs.Common.{rules, ℕ, ◌≡◌, ◌≤◌, ◌<◌, ◌-◌, ◌∙◌, ap, sym, subst, refl, Bool, List, []}
-use Rattle.std.proofs.Common.{Some, ◌++◌, length, get_or, take, drop, filter, map, arith}
+use Rattle.std.proofs.Common.{true, false, is_some, Some, ◌++◌, length, get_or, take, drop, filter, map, arith}
 use Rattle.std.proofs.Common.{ℤ, SFits, w64}
 use Rattle.std.specs.Prelude.{◌≢◌}
 use Rattle.std.specs.List.{All}
+use Rattle.std.proofs.lemmas.Bool.{leb-true}
 use Rattle.std.proofs.lemmas.Int.{to_z-of_z}
 use Rattle.std.proofs.lemmas.List.{drop_all, length-take-le}
 use Rattle.tree.specs.declared.entry.Entry.{Entry}
@@ -26,7 +27,7 @@ use Rattle.tree.proofs.overwrite.write_over_leaf.Goals.{then-ended, else-ended, 
 use Rattle.tree.proofs.overwrite.write_over_leaf.Goals.{then-begin-entries, else-begin-entries}
 use Rattle.tree.proofs.overwrite.write_over_leaf.Goals.{then-begin-end, else-begin-end, Joined-begin-end}
 use Rattle.tree.proofs.overwrite.write_over_leaf.Goals.{After-header_ref-leaf, After-count_back-begin, Joined-ended}
-use Rattle.tree.proofs.overwrite.write_over_leaf.Goals.{Joined-begin-entries}
+use Rattle.tree.proofs.overwrite.write_over_leaf.Goals.{Joined-begin-entries, Joined-is_some, then-is_some, else-is_some}
 use Rattle.tree.proofs.overwrite.write_over_leaf.Given as given
 use Rattle.tree.proofs.overwrite.write_over_leaf.Goals as goal
 
@@ -291,6 +292,19 @@ split_leaf-added-requires g c =
       ),
     )
 
+-- what is said of both new keys: they begin as all keys do, so far as the probe tells
+told_alike : (g : given.Over) (c : Joined-is_some g) → c.if-is_some.begin_alike ≡ true
+    → ((hint_of c.header_ref-leaf.result.now).skip ≤ c.args.new.now.shared)
+    × (is_some c.digest_for-digest.result ≡ true)
+told_alike g c said =
+    let shared = c.args.new.now.shared in
+    elim c.if-is_some.branch [
+      | then-is_some w ↦
+          let least : w.skip.result ≤ shared = leb-true w.skip.result shared (sym w.begin_alike-is ∙ said) in
+          (omega (arith, least, w.skip.ensures.skip), sym c.is_some.ensures ∙ w.if-is_some.true)
+      | else-is_some w ↦ absurd (let no : false ≡ true = sym w.if-is_some.false ∙ (sym w.begin_alike-is ∙ said) in cc)
+    ]
+
 pub splice_hinted-requires : goal.splice_hinted-requires
 splice_hinted-requires g c =
     let at = goal.at.splice_hinted-requires g c in
@@ -310,7 +324,6 @@ splice_hinted-requires g c =
     let size : length (entries_of read) ≡ length (entries_of leaf) =
     ap (λ (node : Node g.row.N). length (entries_of node)) same in
     let Agree : ℕ → Type 0 = λ key. (text : List ℕ) → bytes key ≡ Some text → Agrees bytes (hint_of read) text in
-    let least : c.min.result ≤ new.shared = omega (arith, c.min.ensures) in
     let second_is : bytes c.item.result.key ≡ Some to = ap bytes (second_key g j) ∙ new.second_is in (
       omega (arith, c.requires.few),
       (
@@ -330,16 +343,16 @@ splice_hinted-requires g c =
               subst (λ (node : Node g.row.N). IsHinted bytes (hint_of node)) same (leaf_hinted g h),
               (
                 new_known g j,
-                λ yes. subst (λ (node : Node g.row.N). All (λ key. (text : List ℕ) → bytes key ≡ Some text
+                λ said.
+                    let t = told_alike g at.Joined-is_some said in
+                    subst (λ (node : Node g.row.N). All (λ key. (text : List ℕ) → bytes key ≡ Some text
                     → Agrees bytes (hint_of node) text) (keys_of c.if-ended.entries.now)) same
                     (subst (λ es. All Agree (keys_of es)) (sym (new_is g j))
                     (both_put Agree ended new.first c.item.result
-                    (agree bytes near (hint_of read) from from new.shared c.min.result d.result new.bytes
-                    d.ensures.digest d.ensures.some least refl (sym c.is_some.ensures ∙ yes) new.first.key
-                    new.first_is)
-                    (agree bytes near (hint_of read) to from new.shared c.min.result d.result new.bytes
-                    d.ensures.digest d.ensures.some least new.begin_alike (sym c.is_some.ensures ∙ yes)
-                    c.item.result.key second_is))),
+                    (agree bytes near (hint_of read) from from new.shared d.result new.bytes d.ensures.digest t.0 refl
+                    t.1 new.first.key new.first_is)
+                    (agree bytes near (hint_of read) to from new.shared d.result new.bytes d.ensures.digest t.0
+                    new.begin_alike t.1 c.item.result.key second_is))),
               ),
             ),
           ),

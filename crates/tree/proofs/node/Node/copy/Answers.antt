@@ -37,7 +37,7 @@ returns-clause-hinted g c bytes h =
     let there = key_there node.entries node.len from e from_inside most is in
     let known = All-contains (IsKnown bytes) hint.keys e.key (all_known bytes hint h) there in
     let read = get_or node.entries from e in
-    hinted_set bytes hint _ h to e.key (get_or node.digests from 0) known (key_agrees bytes hint e.key there)
+    hinted_set bytes hint _ h to e.key (get_or node.digests from 0) known (key_agrees bytes hint h e.key there)
     (digest_there node.entries node.len from e from_inside most is (digest_at bytes node.skip) node.digests h.digests)
     (ap keys_of (take-set-lt node.len node.entries to read to_inside)
     ∙ map-set (λ (x : Entry). x.key) (entries_of node) to read

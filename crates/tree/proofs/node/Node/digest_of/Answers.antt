@@ -49,7 +49,7 @@ returns-then-eq-clause-agrees g c =
     ap (λ (x : Entry). x.key) c.index-self-guess.is
     ∙ eqb-true (slice_index_or node.entries c.args.guess e).key c.args.key (sym c.eq.ensures ∙ c.if-eq.true) in
     subst (BeginsAsThese bytes (hint_of node)) same
-    (key_agrees bytes (hint_of node) e.key (key_there node.entries node.len c.args.guess e c.if-guess-self.true most c.index-self-guess.is))
+    (key_agrees bytes (hint_of node) c.requires.hinted e.key (key_there node.entries node.len c.args.guess e c.if-guess-self.true most c.index-self-guess.is))
 
 pub returns-in-Some : goal.returns-in-Some
 returns-in-Some g c =
@@ -74,5 +74,5 @@ returns-in-Some g c =
     record {
       digest = sym (get_or-take node.len node.digests i 0 used) ∙ ap (λ ds. get_or ds i 0) c.requires.hinted.digests
           ∙ get_or-map f keys i key 0 inside ∙ ap f here;
-      agrees = key_agrees bytes (hint_of node) key (i, inside, here);
+      agrees = key_agrees bytes (hint_of node) c.requires.hinted key (i, inside, here);
     }

@@ -1,4 +1,4 @@
-use Rattle.std.proofs.Common.{rules, ◌≡◌, ◌<◌, ◌≤◌, ◌∙◌, ℕ, List, length, slice_index_or, take, slice_set, ap, sym, subst, arith}
+use Rattle.std.proofs.Common.{rules, ◌≡◌, ◌<◌, ◌≤◌, ◌∙◌, inr, ℕ, List, length, slice_index_or, take, slice_set, ap, sym, subst, arith}
 use Rattle.std.proofs.lemmas.Bool.{eqb-true}
 use Rattle.std.proofs.lemmas.List.{length-set, length-take-le, map-set}
 use Rattle.std.proofs.Math.Seq.{take-set-lt}
@@ -52,7 +52,7 @@ returns-clause-hinted g c =
     digest_known bytes c.skip.result key digest c.requires.known c.digest_of.ensures.digest
     ∙ ap (λ n. digest_at bytes n key) (c.skip.ensures.skip ∙ skip) in
     hinted_set bytes (hint_of old) now c.requires.hinted i key digest c.requires.known
-    (c.begins-begins.ensures.agrees c.if-not-begins.false) right
+    (λ text known. inr (c.begins-begins.ensures.agrees c.if-not-begins.false text known)) right
     (ap keys_of c.set-2.ensures.entries ∙ map-set (λ (x : Entry). x.key) (entries_of old) i c.args.entry) skip
     (take-set-lt new.len new.digests i digest inside
     ∙ ap (λ (h : Hint). slice_set h.digests i digest) c.set-2.ensures.hint)

@@ -1,4 +1,4 @@
-use Rattle.std.proofs.Common.{rules, ◌≡◌, ◌<◌, ◌+◌, ◌∙◌, sym, ap, get_or, get_or-take, slice_get, slice_index, subst, arith, length, length-take, take, IfSome}
+use Rattle.std.proofs.Common.{rules, ◌≡◌, ◌≢◌, ◌<◌, ◌+◌, ◌∙◌, sym, ap, get_or, get_or-take, slice_get, slice_index, subst, arith, length, length-take, take, IfSome}
 use Rattle.std.specs.Int.{w64, to_be_bytes}
 use Rattle.tree.specs.Hints.{IsDigestFor, TellsCommon}
 use Rattle.tree.specs.Node.{entries_of, hint_of}
@@ -23,18 +23,22 @@ digest_for-requires g c =
       ),
     )
 
-pub returns-in_default : goal.returns-in_default
-returns-in_default g c = record {
+pub returns-else-self-eq0 : goal.returns-else-self-eq0
+returns-else-self-eq0 g c = record {
   known = λ e there.
       let node = c.args.self.now in
       let es = entries_of node in
       let probe = c.args.probe.now in
       let first = entry_at es 0 (omega (arith, c.requires.within)) in
+      let inside : 0 < node.len = omega (arith, c.requires.within, length-take node.len node.entries) in
+      let own : get_or (hint_of node).digests 0 0 ≡ get_or node.digests 0 0 =
+      get_or-take node.len node.digests 0 0 inside in
+      let filled : get_or (hint_of node).digests 0 0 ≢ 0 = λ zero. c.if-self-eq0.false (sym own ∙ zero) in
       let known = c.requires.known first.0 first.1 in (
         c.requires.passes e there,
         differs_too (g.P.Probe.bytes probe) (hint_of node) c.requires.hinted (g.P.Probe.sought probe)
             (g.P.Probe.lets_pass probe) (g.met.P.Probe.order probe) c.args.shared first.0.key (key_there es 0 first.0 first.1)
-            (c.digest_for.ensures.none c.in_default.is) known.0 known.1 c.args.index e.key
+            filled (c.digest_for.ensures.none c.in_default.is filled) known.0 known.1 c.args.index e.key
             (key_there es c.args.index e there),
       );
 }
@@ -43,9 +47,9 @@ pub returns-then-self-index : goal.returns-then-self-index
 returns-then-self-index g c = record {
   known = λ e there.
       let node = c.args.self.now in
-      let same = entry_there node.entries node.len c.args.index e c.index-self-index.result there in (
+      let same = entry_there node.entries node.len c.args.index e c.index-self-index-then-self-index.result there in (
         c.requires.passes e there,
-        λ text known. c.common_with.ensures.common text (ap (λ d. g.P.Probe.bytes c.args.probe.now d.key) same ∙ known),
+        λ text known. c.common_with-then-self-index.ensures.common text (ap (λ d. g.P.Probe.bytes c.args.probe.now d.key) same ∙ known),
       );
 }
 

@@ -1,4 +1,4 @@
-use Rattle.std.proofs.Common.{rules, ◌≡◌, ◌<◌, ◌≤◌, ◌+◌, ◌-◌, ◌++◌, ◌∙◌, List, length, take, drop, map, All, refl, ap, ap₂, sym, subst, arith}
+use Rattle.std.proofs.Common.{rules, ◌≡◌, ◌<◌, ◌≤◌, ◌+◌, ◌-◌, ◌++◌, ◌∙◌, inr, List, length, take, drop, map, All, refl, ap, ap₂, sym, subst, arith}
 use Rattle.std.specs.List.{copy_within}
 use Rattle.std.proofs.Math.Nat.{min-le_right}
 use Rattle.std.proofs.lemmas.List.{length-map, length-set, length-take, length-take-le, drop-set-lt}
@@ -139,6 +139,6 @@ returns-clause-hinted g c =
       beginning = hinted.beginning;
       skip = hinted.skip ∙ sym skip;
       begins = begin_spliced bytes (hint_of old) hinted (keys_of new) keys from to c.requires.known
-          (c.requires.begin c.if-not-begin.false) keys_are;
+          (λ k d inside text known. inr (c.requires.begin c.if-not-begin.false k d inside text known)) keys_are;
       digests = map_parts f keys node.digests node.len end within front back;
     }

@@ -1,12 +1,12 @@
-use Rattle.std.proofs.Common.{◌≤◌, get_or, take}
+use Rattle.std.proofs.Common.{◌≤◌, take}
 use Rattle.std.specs.List.{All}
 use Rattle.tree.specs.Node.{keys_of}
 use Rattle.tree.proofs.HintChanges.{BeginsAsFirst}
-use Rattle.tree.proofs.node.Node.beginning.Given as goal
+use Rattle.tree.proofs.node.hints.common_beginning.Given as goal
 
 abbrev pub invariant-loop-entry : goal.invariant-loop-entry
 invariant-loop-entry g l =
     record {
       most : l.count ≤ 65535;
-      common : All (BeginsAsFirst (g.P.Probe.bytes l.probe) (get_or (keys_of l.entries) 0 0) l.count) (take l.entry-index (keys_of l.entries));
+      common : All (BeginsAsFirst (g.P.Probe.bytes l.probe) l.key l.count) (take l.entry-index (keys_of l.entries));
     }
