@@ -1,7 +1,7 @@
 //! The writing of what a batch commits, as ranges apart that hold the same keys.
 
 ghost use Rattle.std.specs.Prelude.{◌≡◌, ◌+◌, ◌*◌, ◌<◌, ◌≤◌, ◌≤ℤ◌, ◌⊎◌, List, ◌++◌, length, map};
-ghost use Rattle.std.specs.Prelude.{OnOk, OnErr, IfOk, Err, Some, slice_get};
+ghost use Rattle.std.specs.Prelude.{ℕ, OnOk, OnErr, IfOk, MatchOption, Err, Some, slice_get};
 ghost use Rattle.keyspace.specs.declared.range.Range.{Range};
 ghost use Rattle.keyspace.specs.Writes.{Write, at_version};
 ghost use Rattle.stepmap.specs.declared.step_map.TheConstants.{MAX_LIMIT};
@@ -95,7 +95,8 @@ fn gather_lengths(
     Ok(())
 }
 
-// Writes the ranges that the runs span one after the other, where none is written yet. Takes no memory.
+// Writes the ranges that the runs span one after the other, where none is written yet. Takes no memory. The range behind
+// each is looked up before it is written: the reads of its keys don't wait for what the write stores.
 fn write_prepared(steps: &mut StepMap, batch: &Batch, ends: &[End], runs: &[(usize, usize)])
     requires rising { AreRising (keys_of batch.now.txns ends.now) }
     requires spanned { (united : List Range) × AreSpanned (keys_of batch.now.txns ends.now) runs.now united }
@@ -109,8 +110,30 @@ fn write_prepared(steps: &mut StepMap, batch: &Batch, ends: &[End], runs: &[(usi
     ensures limit { steps.new.limit ≡ steps.old.limit }
 {
     laws::writing();
-    for run in runs {
-        steps.write(range_of(batch, ends, *run), batch.version);
+    let mut index = 0;
+    let mut next = range_at(batch, ends, runs, index);
+    while let Some(range) = next {
+        index += 1;
+        next = range_at(batch, ends, runs, index);
+        steps.write(range, batch.version);
+    }
+}
+
+// Returns the range that the run at an index spans, or none where there is no run.
+fn range_at<'a>(
+    batch: &'a Batch,
+    ends: &[End],
+    runs: &[(usize, usize)],
+    index: usize,
+) -> Option<RangeRef<'a>>
+    requires rising { AreRising (keys_of batch.now.txns ends.now) }
+    requires spanned { (united : List Range) × AreSpanned (keys_of batch.now.txns ends.now) runs.now united }
+    ensures range { MatchOption result (length runs.now ≤ index) (λ range. (run : ℕ × ℕ)
+        × (slice_get runs.now index ≡ Some run) × Spans (keys_of batch.now.txns ends.now) run range) }
+{
+    match runs.get(index) {
+        Some(run) => Some(range_of(batch, ends, *run)),
+        None => None,
     }
 }
 

@@ -26,7 +26,7 @@ use Rattle.std.proofs.Common.{
   arith,
 }
 use Rattle.std.proofs.lemmas.Grind.{flat_map-append}
-use Rattle.std.proofs.lemmas.List.{take_more}
+use Rattle.std.proofs.lemmas.List.{take_all, take_more}
 use Rattle.keyspace.specs.declared.txn.Txn.{Txn}
 use Rattle.keyspace.specs.declared.ends.Kind.TheVariants.{Read, Write}
 use Rattle.keyspace.specs.declared.ends.End.{End}
@@ -50,6 +50,13 @@ ranges_few (suc j) (t ∷ ts) =
 pub first_few : (first j n : ℕ) (ts : List Txn) → first ≡ length (ranges_in (take j ts)) → j < n → n ≤ 4096
     → first + 2048 ≤ 8388608
 first_few first j n ts is lt few = let h = ranges_few j ts in omega arith
+
+-- all ranges of few transactions are few
+pub all_few : (count : ℕ) (ts : List Txn) → count ≡ length (ranges_in ts) → length ts ≤ 4096 → count ≤ 8388608
+all_few count ts is few =
+    let h = ranges_few (length ts) ts in
+    let whole = ap (λ us. length (ranges_in us)) (take_all (length ts) ts (omega arith)) in
+    omega arith
 
 -- the index of the first range of the next transaction
 pub first_of_next : (first next j : ℕ) (ts : List Txn) (t : Txn) → j < length ts → t ≡ get_or ts j t

@@ -1,5 +1,5 @@
 //! The ends of the ranges of transactions, sorted and made distinct, and the runs of gaps between them that the ranges cover.
-ghost use Rattle.std.specs.Prelude.{◌≡◌, ◌≤◌, ◌*◌, ◌++◌, List, length, OnOk, IfOk};
+ghost use Rattle.std.specs.Prelude.{◌≡◌, ◌≤◌, ◌*◌, ◌++◌, List, length, OnOk};
 ghost use Rattle.keyspace.specs.Ends.{key_of_end, ranges_in};
 ghost use Rattle.keyspace.specs.Gathering.{all_numbered, ends_from, numbered};
 ghost use Rattle.keyspace.specs.Ranks.{AreRanked};
@@ -55,8 +55,9 @@ pub fn gather(
     requires few { length txns.now ≤ MAX_TXNS }
     ensures ranked { OnOk result (AreRanked txns.now ends.new.items runs.new.items) }
 {
-    let mut sorted = Vec::new(alloc);
-    let count = push_all(&mut sorted, txns)?;
+    let count = range_count(txns);
+    let mut sorted = Vec::with_capacity(alloc, 2 * count)?;
+    push_all(&mut sorted, txns)?;
     sort(&mut sorted, txns);
     runs.clear();
     runs.resize(count, (0, 0))?;
@@ -116,12 +117,23 @@ fn push_ends(
     Ok(())
 }
 
-// Appends the ends of the transactions, and returns how many ranges these have.
-fn push_all(ends: &mut Vec<Digested>, txns: &[Txn]) -> Result<usize, AllocError>
+// Returns how many ranges the transactions have.
+fn range_count(txns: &[Txn]) -> usize
+    requires few { length txns.now ≤ MAX_TXNS }
+    ensures count { result ≡ length (ranges_in txns.now) }
+{
+    let mut count = 0;
+    for txn in txns {
+        count += txn.reads.len() + txn.writes.len();
+    }
+    count
+}
+
+// Appends the ends of the transactions.
+fn push_all(ends: &mut Vec<Digested>, txns: &[Txn]) -> Result<(), AllocError>
     requires few { length txns.now ≤ MAX_TXNS }
     ensures items { OnOk result (places_of ends.new.items
         ≡ places_of ends.old.items ++ all_numbered 0 0 txns.now) }
-    ensures count { IfOk result (λ count. count ≡ length (ranges_in txns.now)) }
 {
     let mut first = 0;
     for (index, txn) in txns.iter().enumerate() {
@@ -136,5 +148,5 @@ fn push_all(ends: &mut Vec<Digested>, txns: &[Txn]) -> Result<usize, AllocError>
         )?;
         first += txn.writes.len();
     }
-    Ok(first)
+    Ok(())
 }

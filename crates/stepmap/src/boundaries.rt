@@ -205,6 +205,7 @@ impl<const N: usize> Boundaries<N> {
         }
         let begin_key = self.keys.place((), range.begin()).unwrap();
         let end_key = self.keys.place((), range.end()).unwrap();
+        let to = range.end();
         let begin = Cut {
             keys: &self.keys,
             key: range.begin(),
@@ -212,15 +213,19 @@ impl<const N: usize> Boundaries<N> {
         };
         let end = Cut {
             keys: &self.keys,
-            key: range.end(),
+            key: to,
             up_to: false,
         };
-        let past = Cut { up_to: true, ..end };
+        let past = Cut {
+            keys: &self.keys,
+            key: to,
+            up_to: true,
+        };
         let new = Overwrite {
             from: &begin,
             to: &end,
             past: &past,
-            shared: common(range.begin(), range.end()),
+            shared: common(range.begin(), to),
             first: item(begin_key, version),
             second: end_key,
         };

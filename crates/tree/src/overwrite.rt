@@ -6,7 +6,7 @@ ghost use Rattle.arena.specs.Arena.{IsLive, spare_of};
 ghost use Rattle.keyspace.specs.Key.{IsBytes};
 ghost use Rattle.tree.specs.Hints.{AreHinted, IsKnown, KnowsAt};
 ghost use Rattle.tree.specs.Item.{item_of};
-ghost use Rattle.tree.specs.Node.{hints_of, keys_of};
+ghost use Rattle.tree.specs.Node.{entries_of, hints_of, keys_of};
 ghost use Rattle.tree.specs.Overwrite.{IsOverwritten, entries_of_run, lets_pass_first};
 ghost use Rattle.tree.specs.Path.{IsCut, passing, behind as behind_cut, between, first_key};
 ghost use Rattle.tree.specs.Replace.{entries_at_both, items_with, slot_taken, slots_with, Changes, IsKeyless};
@@ -226,7 +226,7 @@ fn write_over_leaf<P: Probe, Q: Probe, R: Probe, const N: usize>(
     let entries = [new.first, item(new.second, last)];
     let entries = if ended { &entries[..1] } else { &entries[..] };
     if begin < end {
-        *run = Some(leaf.run(begin, end));
+        hand_out(leaf, begin, end, run);
     }
     let added = if begin + entries.len() > N - (leaf.len() - end) {
         split_leaf(nodes, slot, begin, end, entries, new.to)
@@ -236,6 +236,15 @@ fn write_over_leaf<P: Probe, Q: Probe, R: Probe, const N: usize>(
         None
     };
     Some(Done { ended, added })
+}
+
+// Puts the entries of a leaf from one index up to another into `run`.
+fn hand_out<const N: usize>(leaf: &Node<N>, from: usize, to: usize, run: &mut Option<Node<N>>)
+    requires ordered { from ≤ to }
+    requires within { to ≤ length (entries_of leaf.now) }
+    ensures run { entries_of_run run.new ≡ drop from (take to (entries_of leaf.now)) }
+{
+    *run = Some(leaf.run(from, to));
 }
 
 // Puts entries in place of those of a leaf from one index up to another, which is split for it. Returns the slot of its

@@ -30,6 +30,7 @@ pub fn keep_distinct(
         → runs.new ≡ runs_of (keys_of txns.now ends.new.items) ranges) }
 {
     ends.clear();
+    ends.reserve(sorted.len())?;
     for (index, digested) in sorted.iter().enumerate() {
         if index == 0 || !have_one_key(&sorted[index - 1], digested, txns) {
             ends.push(digested.end)?;

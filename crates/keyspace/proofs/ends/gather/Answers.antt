@@ -1,19 +1,25 @@
-use Rattle.std.proofs.Common.{◌≡◌, length, take, drop, ◌++◌, ◌∙◌}
+use Rattle.std.proofs.Common.{◌≡◌, length, take, drop, ◌++◌, ◌∙◌, arith}
 use Rattle.std.proofs.lemmas.Result.{on_ok_weaker}
 use Rattle.keyspace.specs.Ends.{ranges_in}
 use Rattle.keyspace.specs.Sorting.{places_of, ArePlaced}
+use Rattle.keyspace.proofs.RanksAll.{all_few}
 use Rattle.keyspace.proofs.RanksGathered.{sorted_are_placed, placed_within, filled_runs, written_whole, are_ranked}
 use Rattle.keyspace.proofs.ends.gather.Goals as goal
+
+pub overflow_mul-count : goal.overflow_mul-count
+overflow_mul-count c =
+    let h = all_few c.range_count-count.result c.args.txns.now c.range_count-count.ensures.count c.requires.few in
+    omega arith
 
 pub keep_distinct-requires-clause-within : goal.keep_distinct-requires-clause-within
 keep_distinct-requires-clause-within c =
     let txns = c.args.txns.now in
     let placed : ArePlaced txns (ranges_in txns) (places_of c.deref.result.now) =
     sorted_are_placed txns _ _ c.push_all.new.ends.items c.deref_mut.result.now c.sort.new.ends c.deref.result.now
-    c.new-sorted.ensures.items c.in_ok-count.ensures.items c.deref_mut.ensures.value c.deref_mut.ensures.len
+    c.in_ok-sorted.ensures.items c.in_ok-push_all.ensures.items c.deref_mut.ensures.value c.deref_mut.ensures.len
     c.sort.ensures.same c.deref.ensures.value in
     placed_within txns (ranges_in txns) c.deref.result.now (length c.deref_mut-2.result.now)
-    (c.deref_mut-2.ensures.len ∙ c.in_ok-resize.ensures.len ∙ c.in_ok-count.ensures.count) placed
+    (c.deref_mut-2.ensures.len ∙ c.in_ok-resize.ensures.len ∙ c.range_count-count.ensures.count) placed
 
 pub returns : goal.returns
 returns c =
@@ -24,11 +30,11 @@ returns c =
     let runs = c.keep_distinct.new.runs in
     let placed : ArePlaced txns ranges (places_of sorted) =
     sorted_are_placed txns _ _ c.push_all.new.ends.items c.deref_mut.result.now c.sort.new.ends sorted
-    c.new-sorted.ensures.items c.in_ok-count.ensures.items c.deref_mut.ensures.value c.deref_mut.ensures.len
+    c.in_ok-sorted.ensures.items c.in_ok-push_all.ensures.items c.deref_mut.ensures.value c.deref_mut.ensures.len
     c.sort.ensures.same c.deref.ensures.value in
-    let empty = filled_runs c.in_ok-count.count (length ranges) _ c.clear.new.self.items c.resize.new.self.items
+    let empty = filled_runs c.range_count-count.result (length ranges) _ c.clear.new.self.items c.resize.new.self.items
     c.deref_mut-2.result.now c.clear.ensures.items c.clear.ensures.len c.in_ok-resize.ensures.items
-    c.deref_mut-2.ensures.value c.in_ok-count.ensures.count in
+    c.deref_mut-2.ensures.value c.range_count-count.ensures.count in
     let kept = take c.resize.new.self.len (runs ++ drop (length runs) c.resize.new.self.items) in
     let whole : kept ≡ runs = written_whole c.resize.new.self.len runs c.resize.new.self.items
     (c.keep_distinct.ensures.count ∙ c.deref_mut-2.ensures.len) in

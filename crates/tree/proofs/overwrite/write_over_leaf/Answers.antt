@@ -176,9 +176,9 @@ overflow_sub-last g c =
     let b = (goal.at.overflow_sub-last g c).After-count_back-begin in
     omega (arith, ordered g b, c.if-begin-eq0.false)
 
-pub run-requires : goal.run-requires
-run-requires g c =
-    let b = (goal.at.run-requires g c).After-count_back-begin in
+pub hand_out-requires : goal.hand_out-requires
+hand_out-requires g c =
+    let b = (goal.at.hand_out-requires g c).After-count_back-begin in
     (omega (arith, c.requires.few), (ordered g b, c.count-end.ensures.within))
 
 -- the entries that are taken out
@@ -190,7 +190,7 @@ taken_out g c =
     let end = c.count-end.result in
     let es = entries_of c.header_ref-leaf.result.now in
     elim c.if-begin-end.branch [
-      | then-begin-end w ↦ ap entries_of_run w.run-is ∙ w.run.ensures.entries
+      | then-begin-end w ↦ ap entries_of_run w.run-is ∙ w.hand_out.ensures.run
       | else-begin-end w ↦
           let size : length (take end es) ≡ end = length-take-le end es c.count-end.ensures.within in
           let none : drop begin (take end es) ≡ [] =

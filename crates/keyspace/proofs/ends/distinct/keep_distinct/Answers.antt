@@ -18,8 +18,8 @@ use Rattle.keyspace.proofs.ends.distinct.keep_distinct.Goals as goal
 
 pub loop-index-init : goal.loop-index-init
 loop-index-init c = record {
-  kept = rw c.clear.ensures.items kept_none;
-  set = λ ranges placed e. none_set ranges (keys_of c.args.txns.now c.clear.new.self.items) c.args.runs.now e;
+  kept = rw (c.reserve.ensures.items ∙ c.clear.ensures.items) kept_none;
+  set = λ ranges placed e. none_set ranges (keys_of c.args.txns.now c.reserve.new.self.items) c.args.runs.now e;
 }
 
 pub overflow_sub-rank : goal.overflow_sub-rank

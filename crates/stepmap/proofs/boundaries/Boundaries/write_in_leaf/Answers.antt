@@ -95,9 +95,9 @@ cuts g c up_to key =
     (both c.args.range.now c.args.version w c.unwrap-begin_key.result (Some c.unwrap-end_key.result)) (ready_at g c)
     c.self.inside.tree c.self.invariant.stored up_to key).cut
 
-rises : (g : given.Over) (c : After-item g) → IsBefore c.begin-3.result.now c.end-2.result.now
+rises : (g : given.Over) (c : After-item g) → IsBefore c.begin-3.result.now c.end-to.result.now
 rises g c =
-    rw (c.begin-3.ensures.bytes, c.end-2.ensures.bytes) (begins_before_end c.args.range.now c.requires.filled)
+    rw (c.begin-3.ensures.bytes, c.end-to.ensures.bytes) (begins_before_end c.args.range.now c.requires.filled)
 
 room : (g : given.Over) (c : After-item g) → length c.self.inside.tree.items + 2 ≤ c.self.inside.tree.room
 room g c =
@@ -119,7 +119,7 @@ invariant_of-new g c =
     let keys = c.place-2.new.self in
     let range = c.args.range.now in
     let begin = c.begin-3.result.now in
-    let end = c.end-2.result.now in
+    let end = c.end-to.result.now in
     let w = value_at (boundaries_of c.self.inside.keys c.self.inside.tree.items) range.end in
     let first = at_begin range c.args.version w c.unwrap-begin_key.result in
     let rest = at_end range c.args.version w c.unwrap-begin_key.result (Some c.unwrap-end_key.result) in
@@ -137,20 +137,19 @@ invariant_of-new g c =
       outer = nested_around keys end;
       bytes = λ key. refl;
       past_bytes = λ key. refl;
-      begin_alike = ap (take n) (c.begin-3.ensures.bytes ∙ sym c.begin-4.ensures.bytes) ∙ c.common.ensures.same
-          ∙ ap (take n) (c.end-3.ensures.bytes ∙ sym c.end-2.ensures.bytes);
+      begin_alike = ap (take n) (c.begin-3.ensures.bytes ∙ sym c.begin-4.ensures.bytes) ∙ c.common.ensures.same;
       past_sought = refl;
       first_is = begin_at ∙ ap (λ k. Some k) (sym c.begin-3.ensures.bytes);
-      second_is = end_at ∙ ap (λ k. Some k) (sym c.end-2.ensures.bytes);
+      second_is = end_at ∙ ap (λ k. Some k) (sym c.end-to.ensures.bytes);
       from_bytes = subst IsBytes (sym c.begin-3.ensures.bytes) range.begin_is_key.bytes;
-      to_bytes = subst IsBytes (sym c.end-2.ensures.bytes) range.end_is_key.bytes;
+      to_bytes = subst IsBytes (sym c.end-to.ensures.bytes) range.end_is_key.bytes;
     }
 
 pub overwrite-requires : goal.overwrite-requires
 overwrite-requires g c =
     let at = (goal.at.overwrite-requires g c).After-item in
     let begin = c.begin-3.result.now in
-    let end = c.end-2.result.now in (
+    let end = c.end-to.result.now in (
       omega arith,
       (
         omega (arith, c.self.inside.few),
@@ -263,8 +262,8 @@ put_at g c es same =
     ∙ ap (λ v. record { key = slot; version = v }) (to_z-of_z w64 c.args.version c.ranges.version) in
     subst (IsPut keys tree end es ended next c.args.range.now.begin c.args.range.now.end) first_is
     (subst (λ k. IsPut keys tree end es ended next c.args.range.now.begin k (item_of c.item.result))
-    c.end-2.ensures.bytes
-    (subst (λ k. IsPut keys tree end es ended next k c.end-2.result.now (item_of c.item.result))
+    c.end-to.ensures.bytes
+    (subst (λ k. IsPut keys tree end es ended next k c.end-to.result.now (item_of c.item.result))
     c.begin-3.ensures.bytes
     (record {
       taken = c.in-Some.ensures.run ∙ ap (map item_of) same;
