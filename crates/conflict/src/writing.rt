@@ -95,8 +95,8 @@ fn gather_lengths(
     Ok(())
 }
 
-// Writes the ranges that the runs span one after the other, where none is written yet. Takes no memory. The range behind
-// each is looked up before it is written: the reads of its keys don't wait for what the write stores.
+// Writes the ranges that the runs span one after the other, where none is written yet. Takes no memory. The next range
+// is looked up before each write, so that its keys are read while the write goes on.
 fn write_prepared(steps: &mut StepMap, batch: &Batch, ends: &[End], runs: &[(usize, usize)])
     requires rising { AreRising (keys_of batch.now.txns ends.now) }
     requires spanned { (united : List Range) × AreSpanned (keys_of batch.now.txns ends.now) runs.now united }
