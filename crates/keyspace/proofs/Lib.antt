@@ -17,6 +17,7 @@ pub mod RanksPlaced
 pub mod RanksSet
 pub mod RanksGathered
 pub mod RanksPushed
+pub mod Presorting
 pub mod RanksAll
 pub mod RanksKeys
 pub mod SortingEnds

@@ -117,6 +117,14 @@ pub written_whole : {X : Type 0} (n : ℕ) (new old : List X) → length new ≡
 written_whole n new old is =
     subst (λ k. take k (new ++ drop (length new) old) ≡ new) is (take-append_seam new (drop (length new) old))
 
+-- what was written over all the ends is what they are afterwards
+pub sorted_whole : (n : ℕ) (pushed old new sorted : List Digested) → length old ≡ n
+    → IsPermutation (places_of old) (places_of new) → sorted ≡ take n (new ++ drop (length new) pushed) → sorted ≡ new
+sorted_whole n pushed old new sorted len moved written =
+    let same_length : length new ≡ n =
+    sym (length-map new _) ∙ length_permutation (places_of old) (places_of new) moved ∙ length-map old _ ∙ len in
+    written ∙ written_whole n new pushed same_length
+
 -- the ends of the transactions are placed after they are sorted
 pub sorted_are_placed : (txns : List Txn) (n : ℕ) (before pushed old new sorted : List Digested) → before ≡ []
     → places_of pushed ≡ places_of before ++ all_numbered 0 0 txns → old ≡ pushed → length old ≡ n
@@ -125,9 +133,7 @@ pub sorted_are_placed : (txns : List Txn) (n : ℕ) (before pushed old new sorte
 sorted_are_placed txns n before pushed old new sorted empty push is len moved written =
     let places : places_of old ≡ all_numbered 0 0 txns =
     ap places_of is ∙ push ∙ ap (λ ds. places_of ds ++ all_numbered 0 0 txns) empty in
-    let same_length : length new ≡ n =
-    sym (length-map new _) ∙ length_permutation (places_of old) (places_of new) moved ∙ length-map old _ ∙ len in
-    let all : sorted ≡ new = written ∙ written_whole n new pushed same_length in
+    let all : sorted ≡ new = sorted_whole n pushed old new sorted len moved written in
     let ranges = ranges_in txns in
     subst (λ ds. ArePlaced txns ranges (places_of ds)) (sym all)
     (placed_permuted txns ranges (places_of old) (places_of new) moved

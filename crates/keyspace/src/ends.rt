@@ -58,7 +58,7 @@ pub fn gather(
     let count = range_count(txns);
     let mut sorted = Vec::with_capacity(alloc, 2 * count)?;
     push_all(&mut sorted, txns)?;
-    sort(&mut sorted, txns);
+    sort(alloc, &mut sorted, txns)?;
     runs.clear();
     runs.resize(count, (0, 0))?;
     keep_distinct(ends, runs, &sorted, txns)

@@ -9,7 +9,7 @@ use Rattle.keyspace.specs.Key.{IsBytes, IsBefore}
 use Rattle.tree.specs.declared.entry.Entry.{Entry}
 use Rattle.tree.specs.declared.node.Node.{Node}
 use Rattle.tree.specs.Node.{entries_of, hint_of, keys_of}
-use Rattle.tree.specs.Hints.{KeyBytes, Begins, digest_behind, digest_at, Hint, IsHinted, PassesInOrder, TellsCommon, Agrees, IsDigestFor}
+use Rattle.tree.specs.Hints.{KeyBytes, Begins, digest_behind, digest_at, Hint, IsHinted, PassesInOrder, TellsCommon, KnowsAt, Agrees, IsDigestFor}
 use Rattle.tree.specs.Path.{IsCut}
 use Rattle.tree.proofs.Cuts.{length-passing, none_fail, not_both}
 use Rattle.tree.proofs.HintCounts.{fewer_pass, length-filter_map, passing_before, passing_inside}
@@ -245,6 +245,15 @@ module _ {N : ℕ} (bytes : KeyBytes) (node : Node N) (h : IsHinted bytes (hint_
       passed tells
       i e.key (key_there es i e (slice_get-get_or es i d inside)) in
       (none_fail (λ (e : Entry). passes e.key) es all).0
+
+  -- The same where only that of the first entry is known.
+  pub all_known : (shared : ℕ) → 0 < length (entries_of node) → KnowsAt bytes passes sought (Some shared) (entries_of node) 0
+      → (get_or (hint_of node).digests 0 0 ≢ 0 → shared < node.skip) → get_or (hint_of node).digests 0 0 ≢ 0
+      → length (filter (λ (e : Entry). passes e.key) (entries_of node)) ≡ length (entries_of node)
+  all_known shared some knows less filled =
+      let first = entry_at (entries_of node) 0 some in
+      let known = knows first.0 first.1 in
+      ap length (all_pass shared first.0 first.1 filled (less filled) known.0 known.1)
 
   -- No more digests are below that of what is looked for than entries pass.
   pub few_below : (digest : ℕ) → IsDigestFor bytes (hint_of node) sought digest

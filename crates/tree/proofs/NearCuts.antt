@@ -26,6 +26,22 @@ begin_alike bytes near passes sought other es (Some known) n knows most alike sa
     let tells = (knows e is).1 text (sym (same e.key) ∙ there) count within in
     tells.0 (omega (arith, few, most)) ∙ sym (fewer_alike count n other sought few alike)
 
+-- What begins as far alike as what another probe looks for, which has a digest, begins as all keys do.
+pub agrees_too : (bytes near : KeyBytes) (hint : Hint) (sought other : List ℕ) (shared : ℕ) (digest : Option ℕ)
+    → ((key : ℕ) → near key ≡ bytes key) → IfSome digest (IsDigestFor near hint other) → is_some digest ≡ true
+    → hint.skip ≤ shared → take shared other ≡ take shared sought → Agrees bytes hint sought
+agrees_too bytes near hint sought other shared None same for some short alike = absurd (let t : false ≡ true = some in cc)
+agrees_too bytes near hint sought other shared (Some digest) same for some short alike =
+    let a = for.agrees in
+    record {
+      key = a.key;
+      text = a.text;
+      there = a.there;
+      known = sym (same a.key) ∙ a.known;
+      long = a.long;
+      same = a.same ∙ fewer_alike hint.skip shared other sought short alike;
+    }
+
 -- Keys whose bytes begin as what another probe looks for do begin as all keys of the leaf do.
 pub agree : (bytes near : KeyBytes) (hint : Hint) (own other : List ℕ) (shared : ℕ) (digest : Option ℕ)
     → ((key : ℕ) → near key ≡ bytes key) → IfSome digest (IsDigestFor near hint other)

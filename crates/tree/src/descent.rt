@@ -114,16 +114,18 @@ pub fn told<P: Probe, Q: Probe, const N: usize>(
 {
     let node = nodes.header_ref(slot);
     let entries = node.entries();
-    let digest = node.digest_for(to, known.min(shared));
+    let own = node.digest_for(from, known);
+    let agrees = own.is_some() && node.skip() <= shared;
+    let digest = node.digest_given(agrees, to, known.min(shared));
     if height == 0 {
-        let begin = node.count(from, Some(known));
+        let begin = node.count_by(from, own);
         let end = node.count_on(begin, to, digest);
         if end == entries.len() && !clear {
             return None;
         }
         return Some(any_above(&entries[begin - 1..end], version));
     }
-    let step = node.step(from, Some(known));
+    let step = node.step_by(from, known, own);
     let next = step.index + 1;
     let clear = if next < entries.len() {
         !node.passes_at(next, to, digest)

@@ -46,12 +46,36 @@ impl<const N: usize> Node<N> {
         ensures known { KnowsAt (P.bytes probe.now) (P.lets_pass probe.now) (P.sought probe.now) result.known
             (entries_of self.now) result.index }
     {
-        let index = self.count(probe, known).saturating_sub(1);
-        let known = match known {
-            Some(shared) => Some(self.shared_at(index, probe, shared)),
-            None => None,
+        let Some(shared) = known else {
+            return Step {
+                index: 0,
+                known: None,
+            };
         };
-        Step { index, known }
+        self.step_by(probe, shared, self.digest_for(probe, shared))
+    }
+
+    /// Finds the last entry that passes, where the first one does. `shared` is how many bytes the first key and what is
+    /// looked for begin with in common. `digest` is what `digest_for` returns for it.
+    pub fn step_by<P: Probe>(&self, probe: &P, shared: usize, digest: Option<u64>) -> Step
+        requires hinted { IsHinted (P.bytes probe.now) (hint_of self.now) }
+        requires cut { IsCut (λ e. P.lets_pass probe.now e.key) (entries_of self.now) }
+        requires some { 0 < length (entries_of self.now) }
+        requires known { KnowsAt (P.bytes probe.now) (P.lets_pass probe.now) (P.sought probe.now) (Some shared)
+            (entries_of self.now) 0 }
+        requires digest { IfSome digest (λ d. IsDigestFor (P.bytes probe.now) (hint_of self.now) (P.sought probe.now) d) }
+        requires none { digest ≡ None → get_or (hint_of self.now).digests 0 0 ≢ 0 → shared < (hint_of self.now).skip }
+        ensures index { result.index ≡ index_in (P.lets_pass probe.now) (entries_of self.now) }
+        ensures within { result.index < length (entries_of self.now) }
+        ensures known { KnowsAt (P.bytes probe.now) (P.lets_pass probe.now) (P.sought probe.now) result.known
+            (entries_of self.now) result.index }
+    {
+        let index = self.count_by(probe, digest).saturating_sub(1);
+        let shared = self.shared_at(index, probe, shared, digest);
+        Step {
+            index,
+            known: Some(shared),
+        }
     }
 
     /// Returns how many of the entries pass. `known` is how many bytes the first key and what is looked for begin with
@@ -67,7 +91,21 @@ impl<const N: usize> Node<N> {
         let Some(shared) = known else {
             return 0;
         };
-        let Some(digest) = self.digest_for(probe, shared) else {
+        self.count_by(probe, self.digest_for(probe, shared))
+    }
+
+    /// Returns how many of the entries pass. `digest` is that of what is looked for, if it begins as all keys do.
+    pub fn count_by<P: Probe>(&self, probe: &P, digest: Option<u64>) -> usize
+        requires hinted { IsHinted (P.bytes probe.now) (hint_of self.now) }
+        requires cut { IsCut (λ e. P.lets_pass probe.now e.key) (entries_of self.now) }
+        requires some { 0 < length (entries_of self.now) }
+        requires digest { IfSome digest (λ d. IsDigestFor (P.bytes probe.now) (hint_of self.now) (P.sought probe.now) d) }
+        requires none { digest ≡ None → get_or (hint_of self.now).digests 0 0 ≢ 0
+            → length (filter (λ e. P.lets_pass probe.now e.key) (entries_of self.now)) ≡ length (entries_of self.now) }
+        ensures within { result ≤ length (entries_of self.now) }
+        ensures count { result ≡ length (filter (λ e. P.lets_pass probe.now e.key) (entries_of self.now)) }
+    {
+        let Some(digest) = digest else {
             return self.count_without(probe);
         };
         let below = count_below(&self.digests[..self.len], digest);
@@ -91,20 +129,28 @@ impl<const N: usize> Node<N> {
     }
 
     // Returns how many bytes the key at an index and what is looked for begin with in common. `shared` is the same of
-    // the first key. Both pass.
-    fn shared_at<P: Probe>(&self, index: usize, probe: &P, shared: usize) -> usize
+    // the first key. Both pass. `digest` is that of what is looked for, if it begins as all keys do.
+    fn shared_at<P: Probe>(
+        &self,
+        index: usize,
+        probe: &P,
+        shared: usize,
+        digest: Option<u64>,
+    ) -> usize
         requires hinted { IsHinted (P.bytes probe.now) (hint_of self.now) }
         requires within { index < length (entries_of self.now) }
         requires known { KnowsAt (P.bytes probe.now) (P.lets_pass probe.now) (P.sought probe.now) (Some shared)
             (entries_of self.now) 0 }
         requires passes { (e : Entry) → slice_get (entries_of self.now) index ≡ Some e → IsTrue (P.lets_pass probe.now e.key) }
+        requires digest { IfSome digest (λ d. IsDigestFor (P.bytes probe.now) (hint_of self.now) (P.sought probe.now) d) }
+        requires none { digest ≡ None → get_or (hint_of self.now).digests 0 0 ≢ 0 → shared < (hint_of self.now).skip }
         ensures known { KnowsAt (P.bytes probe.now) (P.lets_pass probe.now) (P.sought probe.now) (Some result)
             (entries_of self.now) index }
     {
         if index == 0 {
             return shared;
         }
-        let Some(digest) = self.digest_for(probe, shared) else {
+        let Some(digest) = digest else {
             return if self.digests[0] == 0 {
                 probe.common_with(self.entries[index].key)
             } else {
@@ -136,6 +182,22 @@ impl<const N: usize> Node<N> {
             return None;
         }
         Some(probe.digest(self.skip()))
+    }
+
+    /// Returns the digest as `digest_for` does. `agrees` tells that what is looked for begins as all keys do, and may be
+    /// false although it does.
+    pub fn digest_given<P: Probe>(&self, agrees: bool, probe: &P, shared: usize) -> Option<u64>
+        requires hinted { IsHinted (P.bytes probe.now) (hint_of self.now) }
+        requires some { 0 < length (entries_of self.now) }
+        requires agrees { IsTrue agrees → Agrees (P.bytes probe.now) (hint_of self.now) (P.sought probe.now) }
+        requires shared { (e : Entry) (text : List ℕ) → slice_get (entries_of self.now) 0 ≡ Some e
+            → P.bytes probe.now e.key ≡ Some text → BeginAlike shared text (P.sought probe.now) }
+        ensures digest { IfSome result (λ digest. IsDigestFor (P.bytes probe.now) (hint_of self.now) (P.sought probe.now) digest) }
+    {
+        if agrees {
+            return Some(probe.digest(self.skip()));
+        }
+        self.digest_for(probe, shared)
     }
 
     // Returns whether what is looked for begins as the last key does, as far as all keys begin alike. It may be said that
@@ -175,8 +237,11 @@ impl<const N: usize> Node<N> {
     {
         let (from, to) = match digest {
             Some(digest) => self.tied(from, digest),
-            None => (from, self.len),
+            None => (from, self.len()),
         };
+        if from == to {
+            return from;
+        }
         from + passing(&self.entries()[from..to], probe)
     }
 

@@ -1,9 +1,11 @@
-use Rattle.std.proofs.Common.{rules, ◌≡◌, ◌≤◌, ◌<◌, All, ℕ, ◌+◌, ◌-◌, false, List, length, filter, flat_map, drop, slice_get, Some, refl, sym, ap, subst, ◌∙◌, w64, arith}
+use Rattle.std.proofs.Common.{rules, ◌≡◌, ◌≤◌, ◌<◌, All, ℕ, ◌+◌, ◌-◌, true, false, List, length, filter, flat_map, drop, slice_get, Some, refl, sym, ap, subst, ◌∙◌, w64, arith}
+use Rattle.std.specs.Prelude.{IsTrue}
+use Rattle.std.proofs.lemmas.Bool.{leb-true}
 use Rattle.std.proofs.lemmas.Int.{to_z-of_z}
 use Rattle.std.proofs.lemmas.Option.{slice_get_read}
 use mir.Val.{SFits}
 use Rattle.tree.specs.declared.entry.Entry.{Entry}
-use Rattle.tree.specs.Hints.{IsHinted, KnowsAt, BeginAlike}
+use Rattle.tree.specs.Hints.{IsHinted, KnowsAt, BeginAlike, Agrees}
 use Rattle.tree.specs.Item.{Tells}
 use Rattle.tree.specs.Node.{entries_of, hint_of}
 use Rattle.tree.specs.Path.{IsCut}
@@ -12,7 +14,9 @@ use Rattle.tree.specs.Tree.{least_of}
 use Rattle.tree.proofs.Above.{not_above_tested}
 use Rattle.tree.proofs.Cuts.{not_true}
 use Rattle.tree.proofs.Found.{entries_read}
+use Rattle.tree.proofs.HintAt.{all_known}
 use Rattle.tree.proofs.Hinted.{hint_kept, hinted_at}
+use Rattle.tree.proofs.NearCuts.{agrees_too}
 use Rattle.tree.proofs.Looks.{IsLook, look_cut, look_ordered, look_tell, child_from, child_to}
 use Rattle.tree.proofs.Told.{Clears, clears_behind, clears_same, told_by_child, told_by_entry, told_by_leaf}
 use Rattle.tree.proofs.ToldKeys.{alike_for_other, some_pass, last_passes}
@@ -20,9 +24,11 @@ use Rattle.tree.proofs.FirstKeys.{child_at, knows_child}
 use Rattle.tree.proofs.descent.+told.Given.{Over}
 use Rattle.tree.proofs.descent.+told.Goals as goal
 use Rattle.tree.proofs.descent.+told.Goals.{
-  After-min,
+  After-entries-entries,
   After-count_on-end,
   After-index-entries-step,
+  then-is_some,
+  else-is_some,
   then-next-entries,
   else-next-entries,
   else-end-entries-via-then-end-entries+else-not-clear,
@@ -30,13 +36,13 @@ use Rattle.tree.proofs.descent.+told.Goals.{
 }
 
 -- the entries that the code has read
-read : (g : Over) (t : ℕ) (c : After-min g t) → entries_at c.args.nodes.now c.args.slot ≡ c.entries-entries.result.now
+read : (g : Over) (t : ℕ) (c : After-entries-entries g t) → entries_at c.args.nodes.now c.args.slot ≡ c.entries-entries.result.now
 read g t c =
     entries_read c.args.nodes.now c.args.slot c.header_ref-node.result.now c.entries-entries.result.now
     c.header_ref-node.ensures.header c.entries-entries.ensures.entries
 
 -- the two cuts of the node
-look : (g : Over) (t : ℕ) (c : After-min g t) (begin end : ℕ)
+look : (g : Over) (t : ℕ) (c : After-entries-entries g t) (begin end : ℕ)
     → begin ≡ length (filter (λ e. g.P.Probe.lets_pass c.args.from.now e.key) c.entries-entries.result.now)
     → end ≡ length (filter (λ e. g.Q.Probe.lets_pass c.args.to.now e.key) c.entries-entries.result.now)
     → IsLook c.args.nodes.now (least_of g.row.N) c.args.height c.args.slot (g.P.Probe.lets_pass c.args.from.now)
@@ -51,10 +57,10 @@ look g t c begin end b e = record {
   end_is = e;
 }
 
-some : (g : Over) (t : ℕ) (c : After-min g t) → 1 ≤ length c.entries-entries.result.now
+some : (g : Over) (t : ℕ) (c : After-entries-entries g t) → 1 ≤ length c.entries-entries.result.now
 some g t c = subst (λ (es : List Entry). 1 ≤ length es) (read g t c) c.requires.some
 
-knows : (g : Over) (t : ℕ) (c : After-min g t)
+knows : (g : Over) (t : ℕ) (c : After-entries-entries g t)
     → KnowsAt (g.P.Probe.bytes c.args.from.now) (g.P.Probe.lets_pass c.args.from.now) (g.P.Probe.sought c.args.from.now)
     (Some c.args.known) c.entries-entries.result.now 0
 knows g t c =
@@ -62,33 +68,33 @@ knows g t c =
     (λ es. KnowsAt (g.P.Probe.bytes c.args.from.now) (g.P.Probe.lets_pass c.args.from.now) (g.P.Probe.sought c.args.from.now)
     (Some c.args.known) es 0) (read g t c) c.requires.known
 
-passes : (g : Over) (t : ℕ) (c : After-min g t)
+passes : (g : Over) (t : ℕ) (c : After-entries-entries g t)
     → 1 ≤ length (filter (λ e. g.P.Probe.lets_pass c.args.from.now e.key) c.entries-entries.result.now)
 passes g t c =
     some_pass (g.P.Probe.lets_pass c.args.from.now) c.entries-entries.result.now (some g t c)
     (λ e is. (knows g t c e is).0)
 
-hinted : (g : Over) (t : ℕ) (c : After-min g t)
+hinted : (g : Over) (t : ℕ) (c : After-entries-entries g t)
     → IsHinted (g.P.Probe.bytes c.args.from.now) (hint_of c.header_ref-node.result.now)
 hinted g t c =
     hinted_at (g.P.Probe.bytes c.args.from.now) c.args.nodes.now c.args.slot c.header_ref-node.result.now c.requires.hinted
     c.header_ref-node.ensures.header
 
 -- the other probe knows the same bytes
-hinted_too : (g : Over) (t : ℕ) (c : After-min g t)
+hinted_too : (g : Over) (t : ℕ) (c : After-entries-entries g t)
     → IsHinted (g.Q.Probe.bytes c.args.to.now) (hint_of c.header_ref-node.result.now)
 hinted_too g t c =
     hint_kept (g.P.Probe.bytes c.args.from.now) (g.Q.Probe.bytes c.args.to.now) (λ key text is. sym (c.requires.bytes key) ∙ is)
     (hint_of c.header_ref-node.result.now) (hinted g t c)
 
-cut_from : (g : Over) (t : ℕ) (c : After-min g t)
+cut_from : (g : Over) (t : ℕ) (c : After-entries-entries g t)
     → IsCut (λ e. g.P.Probe.lets_pass c.args.from.now e.key) c.entries-entries.result.now
 cut_from g t c =
     look_cut c.args.nodes.now (least_of g.row.N) c.args.height c.args.slot (g.P.Probe.lets_pass c.args.from.now)
     c.header_ref-node.result.now c.entries-entries.result.now c.requires.subtree c.requires.from
     c.header_ref-node.ensures.header c.entries-entries.ensures.entries
 
-cut_to : (g : Over) (t : ℕ) (c : After-min g t)
+cut_to : (g : Over) (t : ℕ) (c : After-entries-entries g t)
     → IsCut (λ e. g.Q.Probe.lets_pass c.args.to.now e.key) c.entries-entries.result.now
 cut_to g t c =
     look_cut c.args.nodes.now (least_of g.row.N) c.args.height c.args.slot (g.Q.Probe.lets_pass c.args.to.now)
@@ -96,7 +102,7 @@ cut_to g t c =
     c.header_ref-node.ensures.header c.entries-entries.ensures.entries
 
 -- what is asked of the search in a node
-asked : (g : Over) (t : ℕ) (c : After-min g t) → record {
+asked : (g : Over) (t : ℕ) (c : After-entries-entries g t) → record {
   hinted : IsHinted (g.P.Probe.bytes c.args.from.now) (hint_of c.header_ref-node.result.now);
   cut : IsCut (λ e. g.P.Probe.lets_pass c.args.from.now e.key) (entries_of c.header_ref-node.result.now);
   some : 1 ≤ length (entries_of c.header_ref-node.result.now);
@@ -114,52 +120,96 @@ asked g t c =
           (g.P.Probe.sought c.args.from.now) (Some c.args.known) es 0) is (knows g t c);
     }
 
-pub digest_for-digest-requires : goal.digest_for-digest-requires
-digest_for-digest-requires g t c =
-    let at = (goal.at.digest_for-digest-requires g t c).After-min in
+pub digest_for-own-requires : goal.digest_for-own-requires
+digest_for-own-requires g t c =
+    let a = asked g t (goal.at.digest_for-own-requires g t c).After-entries-entries in (
+      search rules,
+      (
+        a.hinted,
+        (a.some, (λ e text there known count inside le. ((a.known e there).1 text known count inside).0 le)),
+      ),
+    )
+
+pub digest_given-digest-requires : goal.digest_given-digest-requires
+digest_given-digest-requires g t c =
+    let at = (goal.at.digest_given-digest-requires g t c).After-entries-entries in
     let is = c.entries-entries.ensures.entries in
+    let sought = g.P.Probe.sought c.args.from.now in
+    let other = g.Q.Probe.sought c.args.to.now in
+    let near = g.Q.Probe.bytes c.args.to.now in
+    let hint = hint_of c.header_ref-node.result.now in
+    let agrees : IsTrue c.if-is_some.agrees → Agrees near hint other =
+    elim c.if-is_some.branch [
+      | then-is_some w ↦
+          λ yes.
+          let short : w.skip.result ≤ c.args.shared = leb-true w.skip.result c.args.shared (sym w.agrees-is ∙ yes) in
+          agrees_too near (g.P.Probe.bytes c.args.from.now) hint other sought c.args.shared c.digest_for-own.result
+          c.requires.bytes c.digest_for-own.ensures.digest (sym c.is_some.ensures ∙ w.if-is_some.true)
+          (omega (arith, short, w.skip.ensures.skip)) c.requires.shared
+      | else-is_some w ↦ λ yes. absurd (let f : false ≡ true = sym w.if-is_some.false ∙ sym w.agrees-is ∙ yes in cc)
+    ] in
     let alike = λ (e : Entry) (text : List ℕ) (there : slice_get c.entries-entries.result.now 0 ≡ Some e)
-    (known : g.Q.Probe.bytes c.args.to.now e.key ≡ Some text).
-    subst (λ n. BeginAlike n text (g.Q.Probe.sought c.args.to.now)) (sym c.min.ensures)
-    (alike_for_other c.args.known c.args.shared text (g.P.Probe.sought c.args.from.now) (g.Q.Probe.sought c.args.to.now)
+    (known : near e.key ≡ Some text).
+    subst (λ n. BeginAlike n text other) (sym c.min.ensures)
+    (alike_for_other c.args.known c.args.shared text sought other
     ((knows g t at e there).1 text (c.requires.bytes e.key ∙ known)) c.requires.shared) in (
       search rules,
       (
         hinted_too g t at,
         (
           (asked g t at).some,
-          subst
-              (λ es. (e : Entry) (text : List ℕ) → slice_get es 0 ≡ Some e → g.Q.Probe.bytes c.args.to.now e.key ≡ Some text
-              → BeginAlike c.min.result text (g.Q.Probe.sought c.args.to.now)) is alike,
+          (
+            agrees,
+            subst
+                (λ es. (e : Entry) (text : List ℕ) → slice_get es 0 ≡ Some e → near e.key ≡ Some text
+                → BeginAlike c.min.result text other) is alike,
+          ),
         ),
       ),
     )
 
-pub count-begin-requires : goal.count-begin-requires
-count-begin-requires g t c =
-    let a = asked g t (goal.at.count-begin-requires g t c).After-min in
-    (search rules, (a.hinted, (a.cut, (a.some, a.known))))
+pub count_by-begin-requires : goal.count_by-begin-requires
+count_by-begin-requires g t c =
+    let a = asked g t (goal.at.count_by-begin-requires g t c).After-entries-entries in
+    let probe = c.args.from.now in (
+      search rules,
+      (
+        a.hinted,
+        (
+          a.cut,
+          (
+            a.some,
+            (
+              c.digest_for-own.ensures.digest,
+              (λ none. all_known
+                  (g.P.Probe.bytes probe) c.header_ref-node.result.now a.hinted (g.P.Probe.sought probe) (g.P.Probe.lets_pass probe)
+                  (g.met.P.Probe.order probe) c.args.known a.some a.known (c.digest_for-own.ensures.none none)),
+            ),
+          ),
+        ),
+      ),
+    )
 
-pub step-step-requires : goal.step-step-requires
-step-step-requires g t c =
-    let a = asked g t (goal.at.step-step-requires g t c).After-min in
-    (search rules, (a.hinted, (a.cut, (a.some, a.known))))
+pub step_by-step-requires : goal.step_by-step-requires
+step_by-step-requires g t c =
+    let a = asked g t (goal.at.step_by-step-requires g t c).After-entries-entries in
+    (search rules, (a.hinted, (a.cut, (a.some, (a.known, (c.digest_for-own.ensures.digest, c.digest_for-own.ensures.none))))))
 
 pub count_on-end-requires : goal.count_on-end-requires
 count_on-end-requires g t c =
-    let at = (goal.at.count_on-end-requires g t c).After-min in
+    let at = (goal.at.count_on-end-requires g t c).After-entries-entries in
     let is = c.entries-entries.ensures.entries in
     let le = look_ordered _ _ _ _ _ _ _ _ _ (look g t at _ _ refl refl) in
-    let most : c.count-begin.result
+    let most : c.count_by-begin.result
     ≤ length (filter (λ e. g.Q.Probe.lets_pass c.args.to.now e.key) (entries_of c.header_ref-node.result.now)) =
     rw is at (subst (λ n. n ≤ length (filter (λ (e : Entry). g.Q.Probe.lets_pass c.args.to.now e.key) c.entries-entries.result.now))
-    (sym (rw (sym is) at c.count-begin.ensures.count)) le) in (
+    (sym (rw (sym is) at c.count_by-begin.ensures.count)) le) in (
       search rules,
       (
         hinted_too g t at,
         (
           subst (IsCut (λ (e : Entry). g.Q.Probe.lets_pass c.args.to.now e.key)) is (cut_to g t at),
-          (c.digest_for-digest.ensures.digest, most),
+          (c.digest_given-digest.ensures.digest, most),
         ),
       ),
     )
@@ -167,7 +217,7 @@ count_on-end-requires g t c =
 -- the two cuts of a leaf
 leaf : (g : Over) (t : ℕ) (c : After-count_on-end g t)
     → IsLook c.args.nodes.now (least_of g.row.N) c.args.height c.args.slot (g.P.Probe.lets_pass c.args.from.now)
-    (g.Q.Probe.lets_pass c.args.to.now) c.entries-entries.result.now c.count-begin.result c.count_on-end.result
+    (g.Q.Probe.lets_pass c.args.to.now) c.entries-entries.result.now c.count_by-begin.result c.count_on-end.result
 leaf g t c =
     let is = c.entries-entries.ensures.entries in
     record {
@@ -177,7 +227,7 @@ leaf g t c =
       nested = c.requires.nested;
       read = entries_read c.args.nodes.now c.args.slot c.header_ref-node.result.now c.entries-entries.result.now
           c.header_ref-node.ensures.header is;
-      begin_is = c.count-begin.ensures.count
+      begin_is = c.count_by-begin.ensures.count
           ∙ ap (λ es. length (filter (λ (e : Entry). g.P.Probe.lets_pass c.args.from.now e.key) es)) (sym is);
       end_is = c.count_on-end.ensures.count
           ∙ ap (λ es. length (filter (λ (e : Entry). g.Q.Probe.lets_pass c.args.to.now e.key) es)) (sym is);
@@ -191,13 +241,13 @@ slice_bounds-any_above-count g t c =
 pub slice_bounds-any_above-start : goal.slice_bounds-any_above-start
 slice_bounds-any_above-start g t c =
     let le = look_ordered _ _ _ _ _ _ _ _ _ (leaf g t (goal.at.slice_bounds-any_above-start g t c).After-count_on-end) in
-    let less : c.count-begin.result - 1 ≤ c.count_on-end.result = omega (arith, le) in
+    let less : c.count_by-begin.result - 1 ≤ c.count_on-end.result = omega (arith, le) in
     search rules
 
 pub returns-then-height-eq0 : goal.returns-then-height-eq0
 returns-then-height-eq0 g t c =
     let k = leaf g t (goal.at.returns-then-height-eq0 g t c).After-count_on-end in
-    let least = passes g t (goal.at.returns-then-height-eq0 g t c).After-min in
+    let least = passes g t (goal.at.returns-then-height-eq0 g t c).After-entries-entries in
     let said = rw (to_z-of_z w64 c.args.version c.ranges.version) at c.any_above.ensures.above in
     record {
       told = told_by_leaf _ _ _ _ _ _ _ _ _ k c.args.version c.args.clear c.any_above.result c.if-height-eq0.true
@@ -209,10 +259,10 @@ returns-then-height-eq0 g t c =
     }
 
 -- the entry at which the search goes on is one of them
-within : (g : Over) (t : ℕ) (c : After-index-entries-step g t) → c.step-step.result.index < length c.entries-entries.result.now
+within : (g : Over) (t : ℕ) (c : After-index-entries-step g t) → c.step_by-step.result.index < length c.entries-entries.result.now
 within g t c =
-    subst (λ (es : List Entry). c.step-step.result.index < length es) (sym c.entries-entries.ensures.entries)
-    c.step-step.ensures.within
+    subst (λ (es : List Entry). c.step_by-step.result.index < length es) (sym c.entries-entries.ensures.entries)
+    c.step_by-step.ensures.within
 
 -- its child
 child : (g : Over) (t : ℕ) (c : After-index-entries-step g t)
@@ -220,7 +270,7 @@ child : (g : Over) (t : ℕ) (c : After-index-entries-step g t)
     (IsSubtree c.args.nodes.now (least_of g.row.N) (c.args.height - 1)) c.index-entries-step.result
 child g t c =
     child_at c.args.nodes.now (least_of g.row.N) c.args.height c.args.slot c.entries-entries.result.now
-    c.step-step.result.index c.index-entries-step.result c.if-height-eq0.false c.requires.subtree
+    c.step_by-step.result.index c.index-entries-step.result c.if-height-eq0.false c.requires.subtree
     (entries_read c.args.nodes.now c.args.slot c.header_ref-node.result.now c.entries-entries.result.now
     c.header_ref-node.ensures.header c.entries-entries.ensures.entries) (within g t c) c.index-entries-step.is
 
@@ -229,12 +279,12 @@ behind : (g : Over) (t : ℕ) (c : After-index-entries-step g t)
     → All (λ e. Tells e (items_in c.args.nodes.now (c.args.height - 1) e.child)) c.entries-entries.result.now
     → Clears (g.Q.Probe.lets_pass c.args.to.now) c.args.clear c.if-next-entries.clear
     (flat_map (λ e. items_in c.args.nodes.now (c.args.height - 1) e.child)
-    (drop (c.step-step.result.index + 1) c.entries-entries.result.now))
+    (drop (c.step_by-step.result.index + 1) c.entries-entries.result.now))
 behind g t c tell =
     let q = g.Q.Probe.lets_pass c.args.to.now in
     let below = λ (e : Entry). items_in c.args.nodes.now (c.args.height - 1) e.child in
     let es = c.entries-entries.result.now in
-    let next = c.step-step.result.index + 1 in
+    let next = c.step_by-step.result.index + 1 in
     elim c.if-next-entries.branch [
       | then-next-entries w ↦
           clears_behind q below es next c.args.clear c.if-next-entries.clear tell w.if-next-entries.true
@@ -248,17 +298,17 @@ behind g t c tell =
 pub told-requires : goal.told-requires
 told-requires g t c κs within_lives =
     let at = (goal.at.told-requires g t c).After-index-entries-step in
-    let k = look g t (goal.at.told-requires g t c).After-min _ _ refl refl in
+    let k = look g t (goal.at.told-requires g t c).After-entries-entries _ _ refl refl in
     let e = c.index-entries-step.result in
-    let i = c.step-step.result.index in
+    let i = c.step_by-step.result.index in
     let node = child g t at in
     let inside = within g t at in
     let is = c.index-entries-step.is in
     let es = c.entries-entries.result.now in
     let there : slice_get es i ≡ Some e = slice_get_read es (length es) i e refl inside is in
     let knows = knows_child c.args.nodes.now (least_of g.row.N) (c.args.height - 1) e e.child (g.P.Probe.bytes c.args.from.now)
-    (g.P.Probe.lets_pass c.args.from.now) (g.P.Probe.sought c.args.from.now) c.step-step.result.known node refl
-    (c.step-step.ensures.known e (subst (λ es. slice_get es i ≡ Some e) c.entries-entries.ensures.entries there)) in (
+    (g.P.Probe.lets_pass c.args.from.now) (g.P.Probe.sought c.args.from.now) c.step_by-step.result.known node refl
+    (c.step_by-step.ensures.known e (subst (λ es. slice_get es i ≡ Some e) c.entries-entries.ensures.entries there)) in (
       search rules,
       (
         search rules,
@@ -290,10 +340,10 @@ told-requires g t c κs within_lives =
 pub returns-then-entry-version : goal.returns-then-entry-version
 returns-then-entry-version g t c =
     let at = (goal.at.returns-then-entry-version g t c).After-index-entries-step in
-    let k = look g t (goal.at.returns-then-entry-version g t c).After-min _ _ refl refl in
+    let k = look g t (goal.at.returns-then-entry-version g t c).After-entries-entries _ _ refl refl in
     let said = rw (to_z-of_z w64 c.args.version c.ranges.version) at c.told.ensures.told in
     record {
-      told = told_by_child _ _ _ _ _ _ _ _ _ k c.args.version c.args.clear c.if-height-eq0.false c.step-step.result.index
+      told = told_by_child _ _ _ _ _ _ _ _ _ k c.args.version c.args.clear c.if-height-eq0.false c.step_by-step.result.index
           c.index-entries-step.result (within g t at) c.index-entries-step.is c.if-next-entries.clear c.told.result
           (behind g t at (look_tell _ _ _ _ _ _ _ _ _ k c.if-height-eq0.false)) said;
     }
@@ -301,7 +351,7 @@ returns-then-entry-version g t c =
 pub returns-then-clear : goal.returns-then-clear
 returns-then-clear g t c =
     let at = (goal.at.returns-then-clear g t c).After-index-entries-step in
-    let first = (goal.at.returns-then-clear g t c).After-min in
+    let first = (goal.at.returns-then-clear g t c).After-entries-entries in
     let k = look g t first _ _ refl refl in
     let e = c.index-entries-step.result in
     let v = c.args.version in
@@ -309,11 +359,11 @@ returns-then-clear g t c =
     let p = g.P.Probe.lets_pass c.args.from.now in
     let fits : SFits w64 e.version = search rules in
     let le = not_above_tested v e.version c.ranges.version fits c.if-entry-version.false in
-    let index = c.step-step.ensures.index
+    let index = c.step_by-step.ensures.index
     ∙ ap (λ es. length (filter (λ (e : Entry). p e.key) es) - 1) (sym c.entries-entries.ensures.entries) in
-    let passed = last_passes p es c.step-step.result.index e (cut_from g t first) (passes g t first) index c.index-entries-step.is in
+    let passed = last_passes p es c.step_by-step.result.index e (cut_from g t first) (passes g t first) index c.index-entries-step.is in
     record {
-      told = told_by_child _ _ _ _ _ _ _ _ _ k v c.args.clear c.if-height-eq0.false c.step-step.result.index e (within g t at)
+      told = told_by_child _ _ _ _ _ _ _ _ _ k v c.args.clear c.if-height-eq0.false c.step_by-step.result.index e (within g t at)
           c.index-entries-step.is c.if-next-entries.clear (Some false)
           (behind g t at (look_tell _ _ _ _ _ _ _ _ _ k c.if-height-eq0.false))
           (told_by_entry p (g.Q.Probe.lets_pass c.args.to.now) v c.requires.nested e

@@ -1,9 +1,11 @@
-use Rattle.std.proofs.Common.{rules, ◌≡◌, ◌≢◌, ap, filter, get_or, length, subst, arith, IfSome}
+use Rattle.std.proofs.Common.{rules, Some, subst, arith}
 use Rattle.tree.specs.declared.entry.Entry.{Entry}
-use Rattle.tree.specs.Hints.{IsDigestFor, Knows}
-use Rattle.tree.specs.Node.{entries_of, hint_of}
-use Rattle.tree.proofs.HintAt.{entry_at, all_pass, few_below}
+use Rattle.tree.specs.Hints.{Knows, KnowsAt}
+use Rattle.tree.specs.Node.{entries_of}
+use Rattle.tree.proofs.HintAt.{entry_at, all_known}
 use Rattle.tree.proofs.HintCounts.{passing_before}
+use Rattle.tree.proofs.node.Node.count.Goals.{In-Some}
+use Rattle.tree.proofs.node.Node.count.Given as given
 use Rattle.tree.proofs.node.Node.count.Goals as goal
 
 pub returns-in_default-clause-count : goal.returns-in_default-clause-count
@@ -16,27 +18,46 @@ returns-in_default-clause-count g c =
     let none = passing_before (λ (e : Entry). g.P.Probe.lets_pass probe e.key) es 0 e.0 c.requires.cut e.1 fails in
     omega (arith, none)
 
-pub count_without-requires : goal.count_without-requires
-count_without-requires g c =
-    let node = c.args.self.now in
-    let es = entries_of node in
+-- what is known of the first key
+knows : (g : given.Over) (c : In-Some g)
+    → KnowsAt (g.P.Probe.bytes c.args.probe.now) (g.P.Probe.lets_pass c.args.probe.now) (g.P.Probe.sought c.args.probe.now)
+    (Some c.in-Some.shared) (entries_of c.args.self.now) 0
+knows g c =
     let probe = c.args.probe.now in
-    let e = entry_at es 0 c.requires.some in
-    let known = subst (λ o. Knows (g.P.Probe.bytes probe) (g.P.Probe.lets_pass probe) (g.P.Probe.sought probe) o e.0.key)
-    c.in-Some.is (c.requires.known e.0 e.1) in
-    let all : get_or (hint_of node).digests 0 0 ≢ 0
-    → length (filter (λ (e : Entry). g.P.Probe.lets_pass probe e.key) es) ≡ length es =
-    λ filled. ap length (all_pass (g.P.Probe.bytes probe) node c.requires.hinted (g.P.Probe.sought probe)
-    (g.P.Probe.lets_pass probe) (g.met.P.Probe.order probe) c.in-Some.shared e.0 e.1 filled
-    (c.digest_for.ensures.none c.in_default-digest_for.is filled) known.0 known.1) in
-    (search rules, (c.requires.hinted, (c.requires.cut, (all, c.requires.some))))
+    subst (λ o. KnowsAt (g.P.Probe.bytes probe) (g.P.Probe.lets_pass probe) (g.P.Probe.sought probe) o
+    (entries_of c.args.self.now) 0) c.in-Some.is c.requires.known
 
-pub count_on-requires : goal.count_on-requires
-count_on-requires g c =
-    let node = c.args.self.now in
+pub digest_for-requires : goal.digest_for-requires
+digest_for-requires g c = (
+  search rules,
+  (
+    c.requires.hinted,
+    (
+      c.requires.some,
+      (λ e text there known count inside le.
+          ((knows g (goal.at.digest_for-requires g c).In-Some e there).1 text known count inside).0 le),
+    ),
+  ),
+)
+
+pub count_by-requires : goal.count_by-requires
+count_by-requires g c =
     let probe = c.args.probe.now in
-    let is = subst (λ o. IfSome o (IsDigestFor (g.P.Probe.bytes probe) (hint_of node) (g.P.Probe.sought probe)))
-    c.in-Some-digest_for.is c.digest_for.ensures.digest in
-    let least = few_below (g.P.Probe.bytes probe) node c.requires.hinted (g.P.Probe.sought probe)
-    (g.P.Probe.lets_pass probe) (g.met.P.Probe.order probe) c.in-Some-digest_for.digest is in
-    (search rules, (c.requires.hinted, (c.requires.cut, (is, omega (arith, c.count_below-below.ensures.count, least)))))
+    let known = knows g (goal.at.count_by-requires g c).In-Some in (
+      search rules,
+      (
+        c.requires.hinted,
+        (
+          c.requires.cut,
+          (
+            c.requires.some,
+            (
+              c.digest_for.ensures.digest,
+              (λ none. all_known
+                  (g.P.Probe.bytes probe) c.args.self.now c.requires.hinted (g.P.Probe.sought probe) (g.P.Probe.lets_pass probe)
+                  (g.met.P.Probe.order probe) c.in-Some.shared c.requires.some known (c.digest_for.ensures.none none)),
+            ),
+          ),
+        ),
+      ),
+    )

@@ -1,4 +1,4 @@
-use Rattle.std.proofs.Common.{◌≡◌, ◌-◌, ◌∙◌, List, ap, filter, length, length-take, sym, subst, take, drop, arith, IfSome}
+use Rattle.std.proofs.Common.{◌≡◌, ◌≤◌, ◌+◌, ◌-◌, ◌∙◌, List, ap, filter, length, sym, subst, take, drop, arith, IfSome}
 use Rattle.tree.specs.declared.entry.Entry.{Entry}
 use Rattle.tree.specs.Hints.{IsDigestFor}
 use Rattle.tree.specs.Node.{entries_of, hint_of}
@@ -7,7 +7,8 @@ use Rattle.tree.proofs.Cuts.{IsCut-range, length-passing}
 use Rattle.tree.proofs.HintAt.{few_pass, many_pass}
 use Rattle.tree.proofs.HintCounts.{count_range}
 use Rattle.tree.proofs.node.Node.count_on.Goals as goal
-use Rattle.tree.proofs.node.Node.count_on.Goals.{in-Some, in-None}
+use Rattle.tree.proofs.node.Node.count_on.Goals.{in-Some, in-None, Joined-digest}
+use Rattle.tree.proofs.node.Node.count_on.Given as given
 
 pub passing-requires : goal.passing-requires
 passing-requires g c =
@@ -16,16 +17,18 @@ passing-requires g c =
     let cut = subst (IsCut p) (sym c.entries.ensures.entries) c.requires.cut in
     record { cut = IsCut-range p c.entries.result.now range.0 (range.1 - range.0) cut }
 
-pub returns-clause-count : goal.returns-clause-count
-returns-clause-count g c =
+-- those that pass are the first ones and those of the part that is looked at
+parts : (g : given.Over) (c : Joined-digest g)
+    → c.match-digest.from.0 + length (filter (λ e. g.P.Probe.lets_pass c.args.probe.now e.key)
+    (take (c.match-digest.from.1 - c.match-digest.from.0) (drop c.match-digest.from.0 (entries_of c.args.self.now))))
+    ≡ length (filter (λ e. g.P.Probe.lets_pass c.args.probe.now e.key) (entries_of c.args.self.now))
+parts g c =
     let node = c.args.self.now in
     let es = entries_of node in
     let probe = c.args.probe.now in
     let passes = g.P.Probe.lets_pass probe in
     let p = λ (e : Entry). passes e.key in
     let range = c.match-digest.from in
-    let part = λ (xs : List Entry). length (filter p (take (range.1 - range.0) (drop range.0 xs))) in
-    let counted : c.passing.result ≡ part es = c.passing.ensures.count ∙ ap part c.entries.ensures.entries in
     let sum = count_range p es range.0 range.1 c.requires.cut in
     elim c.match-digest.branch [
       | in-Some w ↦
@@ -41,16 +44,55 @@ returns-clause-count g c =
           let least = many_pass bytes node hinted sought passes order digest is cut c.args.from w.tied.result.0
           c.requires.least (omega (arith, found.ordered, found.within)) found.below in
           let most = few_pass bytes node hinted sought passes order digest is cut w.tied.result.1 found.above in
-          let all = sum (omega (arith, least, ap (λ r. r.0) w.from-is))
-          (omega (arith, most, ap (λ r. r.1) w.from-is)) in
-          omega (arith, counted, all)
+          sum (omega (arith, least, ap (λ r. r.0) w.from-is)) (omega (arith, most, ap (λ r. r.1) w.from-is))
       | in-None w ↦
           let most = length-passing p es in
-          let len = length-take node.len node.entries in
-          let all = sum (omega (arith, c.requires.least, ap (λ r. r.0) w.from-is))
-          (omega (arith, most, len, ap (λ r. r.1) w.from-is)) in
-          omega (arith, counted, all)
+          let len = w.len.ensures.len in
+          sum (omega (arith, c.requires.least, ap (λ r. r.0) w.from-is))
+          (omega (arith, most, len, ap (λ r. r.1) w.from-is))
     ]
+
+pub returns-then-from-to-clause-count : goal.returns-then-from-to-clause-count
+returns-then-from-to-clause-count g c =
+    let es = entries_of c.args.self.now in
+    let p = λ (e : Entry). g.P.Probe.lets_pass c.args.probe.now e.key in
+    let range = c.match-digest.from in
+    let empty : range.1 - range.0 ≡ 0 = omega (arith, c.if-from-to.true) in
+    let none : length (filter p (take (range.1 - range.0) (drop range.0 es))) ≡ 0 =
+    ap (λ n. length (filter p (take n (drop range.0 es)))) empty in
+    omega (arith, none, parts g (goal.at.returns-then-from-to-clause-count g c).Joined-digest)
+
+-- the part lies within the entries
+bounds : (g : given.Over) (c : Joined-digest g)
+    → (c.match-digest.from.0 ≤ c.match-digest.from.1) × (c.match-digest.from.1 ≤ length (entries_of c.args.self.now))
+bounds g c =
+    let node = c.args.self.now in
+    let most = length-passing (λ (e : Entry). g.P.Probe.lets_pass c.args.probe.now e.key) (entries_of node) in
+    elim c.match-digest.branch [
+      | in-Some w ↦
+          let found = w.tied.ensures in (
+            omega (arith, found.ordered, ap (λ r. r.0) w.from-is, ap (λ r. r.1) w.from-is),
+            omega (arith, found.within, ap (λ r. r.1) w.from-is),
+          )
+      | in-None w ↦ (
+        omega (arith, c.requires.least, most, w.len.ensures.len, ap (λ r. r.0) w.from-is, ap (λ r. r.1) w.from-is),
+        omega (arith, w.len.ensures.len, ap (λ r. r.1) w.from-is),
+      )
+    ]
+
+pub slice_bounds-passing-end : goal.slice_bounds-passing-end
+slice_bounds-passing-end g c =
+    let b = bounds g (goal.at.slice_bounds-passing-end g c).Joined-digest in
+    omega (arith, b.0, b.1, ap length c.entries.ensures.entries)
+
+pub returns-clause-count : goal.returns-clause-count
+returns-clause-count g c =
+    let p = λ (e : Entry). g.P.Probe.lets_pass c.args.probe.now e.key in
+    let range = c.match-digest.from in
+    let part = λ (xs : List Entry). length (filter p (take (range.1 - range.0) (drop range.0 xs))) in
+    let counted : c.passing.result ≡ part (entries_of c.args.self.now) =
+    c.passing.ensures.count ∙ ap part c.entries.ensures.entries in
+    omega (arith, counted, parts g (goal.at.returns-clause-count g c).Joined-digest)
 
 pub returns-clause-within : goal.returns-clause-within
 returns-clause-within g c =

@@ -1,4 +1,4 @@
-use Rattle.std.proofs.Common.{rules, ◌≡◌, ◌≢◌, ◌<◌, ◌+◌, ◌∙◌, sym, ap, get_or, get_or-take, slice_get, slice_index, subst, arith, length, length-take, take, IfSome}
+use Rattle.std.proofs.Common.{◌≡◌, ◌≢◌, ◌<◌, ◌+◌, ◌∙◌, sym, ap, get_or, get_or-take, slice_get, slice_index, subst, arith, length-take, take, IfSome}
 use Rattle.std.specs.Int.{w64, to_be_bytes}
 use Rattle.tree.specs.Hints.{IsDigestFor, TellsCommon}
 use Rattle.tree.specs.Node.{entries_of, hint_of}
@@ -9,19 +9,6 @@ pub returns-then-index-eq0 : goal.returns-then-index-eq0
 returns-then-index-eq0 g c = record {
   known = λ e there. c.requires.known e (ap (slice_get (entries_of c.args.self.now)) (sym c.if-index-eq0.true) ∙ there);
 }
-
-pub digest_for-requires : goal.digest_for-requires
-digest_for-requires g c =
-    let some : 0 < length (entries_of c.args.self.now) = omega (arith, c.requires.within) in (
-      search rules,
-      (
-        c.requires.hinted,
-        (
-          some,
-          (λ e text there known count inside le. ((c.requires.known e there).1 text known count inside).0 le),
-        ),
-      ),
-    )
 
 pub returns-else-self-eq0 : goal.returns-else-self-eq0
 returns-else-self-eq0 g c = record {
@@ -38,7 +25,7 @@ returns-else-self-eq0 g c = record {
         c.requires.passes e there,
         differs_too (g.P.Probe.bytes probe) (hint_of node) c.requires.hinted (g.P.Probe.sought probe)
             (g.P.Probe.lets_pass probe) (g.met.P.Probe.order probe) c.args.shared first.0.key (key_there es 0 first.0 first.1)
-            filled (c.digest_for.ensures.none c.in_default.is filled) known.0 known.1 c.args.index e.key
+            filled (c.requires.none c.in_default.is filled) known.0 known.1 c.args.index e.key
             (key_there es c.args.index e there),
       );
 }
@@ -63,7 +50,7 @@ returns g c = record {
       let sought = g.P.Probe.sought probe in
       let hint = hint_of node in
       let is : IsDigestFor bytes hint sought c.in-Some.digest =
-      subst (λ o. IfSome o (IsDigestFor bytes hint sought)) c.in-Some.is c.digest_for.ensures.digest in
+      subst (λ o. IfSome o (IsDigestFor bytes hint sought)) c.in-Some.is c.requires.digest in
       let inside : c.args.index < node.len = omega (arith, c.requires.within, length-take node.len node.entries) in
       let own : get_or hint.digests c.args.index 0 ≡ slice_index node.digests c.args.index =
       get_or-take node.len node.digests c.args.index 0 inside in

@@ -1,41 +1,51 @@
-use Rattle.std.proofs.Common.{rules, ◌≡◌, ◌<◌, ◌∙◌, ap, filter, length, subst, arith, slice_get}
+use Rattle.std.proofs.Common.{rules, Some, subst, arith}
 use Rattle.tree.specs.declared.entry.Entry.{Entry}
-use Rattle.tree.specs.Hints.{KnowsAt}
+use Rattle.tree.specs.Hints.{Knows, KnowsAt}
 use Rattle.tree.specs.Node.{entries_of}
 use Rattle.tree.proofs.HintAt.{entry_at}
-use Rattle.tree.proofs.HintCounts.{passing_at, passing_before, passing_inside}
+use Rattle.tree.proofs.HintCounts.{passing_before}
+use Rattle.tree.proofs.node.Node.step.Goals.{In-Some}
+use Rattle.tree.proofs.node.Node.step.Given as given
 use Rattle.tree.proofs.node.Node.step.Goals as goal
 
-pub shared_at-requires : goal.shared_at-requires
-shared_at-requires g c =
-    let node = c.args.self.now in
-    let es = entries_of node in
+pub returns-in_default-clause-index : goal.returns-in_default-clause-index
+returns-in_default-clause-index g c =
+    let es = entries_of c.args.self.now in
     let probe = c.args.probe.now in
-    let bytes = g.P.Probe.bytes probe in
-    let passes = g.P.Probe.lets_pass probe in
-    let sought = g.P.Probe.sought probe in
-    let known = subst (λ o. KnowsAt bytes passes sought o es 0) c.in-Some.is c.requires.known in
-    let first = entry_at es 0 c.requires.some in
-    let some = passing_inside (λ (e : Entry). passes e.key) es 0 first.0 c.requires.cut first.1 (known first.0 first.1).0 in
-    let i = c.saturating_sub-index.result in
-    let less : i < length (filter (λ (e : Entry). passes e.key) es) =
-    omega (arith, some, c.saturating_sub-index.ensures, c.count.ensures.count) in
-    let inside : i < length es = omega (arith, less, c.count.ensures.count, c.count.ensures.within) in (
+    let e = entry_at es 0 c.requires.some in
+    let fails = subst (λ o. Knows (g.P.Probe.bytes probe) (g.P.Probe.lets_pass probe) (g.P.Probe.sought probe) o e.0.key)
+    c.in_default.is (c.requires.known e.0 e.1) in
+    let none = passing_before (λ (e : Entry). g.P.Probe.lets_pass probe e.key) es 0 e.0 c.requires.cut e.1 fails in
+    omega (arith, none)
+
+-- what is known of the first key
+knows : (g : given.Over) (c : In-Some g)
+    → KnowsAt (g.P.Probe.bytes c.args.probe.now) (g.P.Probe.lets_pass c.args.probe.now) (g.P.Probe.sought c.args.probe.now)
+    (Some c.in-Some.shared) (entries_of c.args.self.now) 0
+knows g c =
+    let probe = c.args.probe.now in
+    subst (λ o. KnowsAt (g.P.Probe.bytes probe) (g.P.Probe.lets_pass probe) (g.P.Probe.sought probe) o
+    (entries_of c.args.self.now) 0) c.in-Some.is c.requires.known
+
+pub digest_for-requires : goal.digest_for-requires
+digest_for-requires g c = (
+  search rules,
+  (
+    c.requires.hinted,
+    (
+      c.requires.some,
+      (λ e text there known count inside le.
+          ((knows g (goal.at.digest_for-requires g c).In-Some e there).1 text known count inside).0 le),
+    ),
+  ),
+)
+
+pub step_by-requires : goal.step_by-requires
+step_by-requires g c =
+    let known = knows g (goal.at.step_by-requires g c).In-Some in (
       search rules,
       (
         c.requires.hinted,
-        (inside, (known, (λ e there. passing_at (λ (e : Entry). passes e.key) es i e c.requires.cut there less))),
+        (c.requires.cut, (c.requires.some, (known, (c.digest_for.ensures.digest, c.digest_for.ensures.none)))),
       ),
     )
-
-pub returns-in-None-clause-known : goal.returns-in-None-clause-known
-returns-in-None-clause-known g c =
-    let es = entries_of c.args.self.now in
-    let probe = c.args.probe.now in
-    let passes = g.P.Probe.lets_pass probe in
-    let known = subst (λ o. KnowsAt (g.P.Probe.bytes probe) passes (g.P.Probe.sought probe) o es 0) c.in-None.is
-    c.requires.known in
-    let first = entry_at es 0 c.requires.some in
-    let none = passing_before (λ (e : Entry). passes e.key) es 0 first.0 c.requires.cut first.1 (known first.0 first.1) in
-    let at : 0 ≡ c.saturating_sub-index.result = omega (arith, none, c.saturating_sub-index.ensures, c.count.ensures.count) in
-    λ e there. known e (ap (slice_get es) at ∙ there)
