@@ -1,4 +1,5 @@
 -- In the order in which one reads them aloud.
+pub mod Bytes
 pub mod Key
 pub mod Digest
 pub mod Range

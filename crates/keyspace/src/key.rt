@@ -1,4 +1,4 @@
-ghost use Rattle.std.specs.Prelude.{◌≡◌, ◌≤◌, ◌==◌, IfOk, length, vec_len};
+ghost use Rattle.std.specs.Prelude.{◌≡◌, ◌≤◌, ◌==◌, IfOk, length, take, vec_len};
 ghost use Rattle.std.proofs.Common.{rules};
 ghost use Rattle.std.specs.Cmp.{partial_order_from_own_ties};
 ghost use Rattle.std.specs.Cmp.Rules.{comparing};
@@ -8,7 +8,7 @@ ghost use Rattle.std.proofs.lemmas.Cmp.{nat_list_cmp_total, nat_list_eq_equiv};
 ghost use lib.Pointwise.{pointwise};
 ghost use Rattle.keyspace.specs.Key.{IsKey};
 
-use smallvec::SmallVec;
+use crate::bytes::Bytes;
 use std::alloc::{AllocError, Global};
 use std::cmp::Ordering;
 use std::marker::Model;
@@ -17,14 +17,11 @@ use std::marker::Model;
 /// after a longest one has one more. That a range may end with such a key is this project's own limit.
 pub const MAX_KEY_LENGTH: usize = 10_001;
 
-// So many bytes a key keeps in itself. Longer keys take memory.
-const INLINE: usize = 40;
-
 /// A byte string of at most [`MAX_KEY_LENGTH`] bytes. Keys are compared byte by byte; a proper prefix comes first. Short keys
 /// take no memory beside their own.
 #[derive(Debug, Drop)]
 pub struct Key {
-    bytes: SmallVec<u8, INLINE>,
+    bytes: Bytes,
 }
 
 impl Model for Key {
@@ -33,9 +30,9 @@ impl Model for Key {
 
     ghost Value = { List ℕ };
 
-    ghost view = { λ k. k.bytes.items };
+    ghost view = { λ k. k.bytes };
 
-    ghost invariant = { λ k. IsKey k.bytes.items };
+    ghost invariant = { λ k. IsKey k.bytes };
 }
 
 impl Key {
@@ -45,7 +42,7 @@ impl Key {
         ensures bytes { result ≡ bytes.items }
     {
         Key {
-            bytes: SmallVec::from_vec(bytes),
+            bytes: Bytes::new(bytes),
         }
     }
 
@@ -54,8 +51,18 @@ impl Key {
         requires short { length bytes.now ≤ MAX_KEY_LENGTH }
         ensures bytes { IfOk result (λ key. key ≡ bytes.now) }
     {
+        Key::front(alloc, bytes, bytes.len())
+    }
+
+    /// Creates a key of a copy of the first `count` bytes, or returns an error if memory is refused. This is faster than
+    /// [`Key::copied`] where more bytes follow.
+    pub fn front(alloc: Global, bytes: &[u8], count: usize) -> Result<Self, AllocError>
+        requires short { count ≤ MAX_KEY_LENGTH }
+        requires within { count ≤ length bytes.now }
+        ensures bytes { IfOk result (λ key. key ≡ take count bytes.now) }
+    {
         Ok(Key {
-            bytes: SmallVec::from_slice(alloc, bytes)?,
+            bytes: Bytes::front(alloc, bytes, count)?,
         })
     }
 

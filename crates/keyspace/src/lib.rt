@@ -12,6 +12,7 @@
 
 mod answer;
 mod batch;
+mod bytes;
 mod ends;
 mod key;
 pub mod laws;

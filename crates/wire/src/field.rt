@@ -106,8 +106,8 @@ pub fn key_of(alloc: Global, limit: usize, bytes: &[u8]) -> Result<(Key, &[u8]),
     if rest.len() < length {
         return Err(WireError::Cut);
     }
-    let (key, rest) = rest.split_at(length);
-    Ok((Key::copied(alloc, key)?, rest))
+    let key = Key::front(alloc, rest, length)?;
+    Ok((key, &rest[length..]))
 }
 
 /// Returns the body of the frame at the front.
