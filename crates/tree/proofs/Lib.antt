@@ -18,6 +18,7 @@ pub mod HintCounts
 pub mod HintList
 pub mod HintOrder
 pub mod Hinted
+pub mod InTurn
 pub mod Inserting
 pub mod Keys
 pub mod KnownItems

@@ -11,6 +11,7 @@ mod mend;
 mod node;
 mod overwrite;
 mod probe;
+mod question;
 mod replace;
 mod root;
 mod search;
@@ -22,6 +23,7 @@ pub use entry::Entry;
 pub use node::Node;
 pub use overwrite::Overwrite;
 pub use probe::Probe;
+pub use question::Question;
 pub use thin::Thinned;
 pub use tree::{Overwritten, Tree, item};
 

@@ -1,7 +1,7 @@
 //! The tree.
 
-ghost use Rattle.std.specs.Prelude.{◌≡◌, ◌≢◌, ◌<◌, ◌≤◌, ◌<ℤ◌, ◌≤ℤ◌, ◌↔◌, ◌+◌, ◌-◌, ◌++◌, ◌∷◌, ℕ, List, [], true, not, drop, filter, length, take, map, OnErr, OnOk, IfOk, IfSome, IsOkUnless, IsTrue, MatchOption};
-ghost use Rattle.std.specs.List.{Any};
+ghost use Rattle.std.specs.Prelude.{◌≡◌, ◌≢◌, ◌<◌, ◌≤◌, ◌<ℤ◌, ◌≤ℤ◌, ◌↔◌, ◌+◌, ◌-◌, ◌++◌, ◌∷◌, ℕ, Bool, List, [], true, not, drop, filter, length, take, map, OnErr, OnOk, IfOk, IfSome, IsOkUnless, IsTrue, MatchOption};
+ghost use Rattle.std.specs.List.{All, AllZip, Any};
 ghost use Rattle.tree.specs.Item.{Item, item_of, IsGreatest};
 ghost use Rattle.tree.specs.Hints.{AreHinted, IsHinted, IsKnown, KeyBytes};
 ghost use Rattle.tree.specs.Node.{entries_of, hint_of};
@@ -15,11 +15,12 @@ use crate::mend::least;
 use crate::node::Node;
 use crate::overwrite::{Done, Overwrite};
 use crate::probe::Probe;
+use crate::question::Question;
 use crate::root::{Root, overwrite, put, reach};
 use crate::search::{exceeds, exceeds_from_last, greatest, key_behind, passing};
 use crate::thin::{Thinned, thin};
 use arena::{Arena, ArenaError, Slot};
-use std::alloc::Global;
+use std::alloc::{AllocError, Global};
 use std::fmt;
 use std::marker::Model;
 
@@ -197,6 +198,34 @@ impl<const N: usize> Tree<N> {
             Some(above) => above,
             None => exceeds_from_last(&self.nodes, slot, height, from, Some(to), version),
         }
+    }
+
+    /// Answers each question as `exceeds_from_last` does, and appends the answers in their order. After an error some of
+    /// them may have been appended.
+    pub fn exceeds_each<P: Probe, Q: Probe>(
+        &self,
+        alloc: Global,
+        questions: &[Question<P, Q>],
+        answers: &mut Vec<bool>,
+    ) -> Result<(), AllocError>
+        requires from { All (λ q. IsCut (λ x. P.lets_pass q.from x.key) self.now.items) questions.now }
+        requires to { All (λ q. IsCut (λ x. Q.lets_pass q.to x.key) self.now.items) questions.now }
+        requires some { All (λ q. passing_of (P.lets_pass q.from) self.now.items ≢ []) questions.now }
+        requires hinted { All (λ q. AreHinted (P.bytes q.from) (hints_in self.now)) questions.now }
+        ensures told { OnOk result ((told : List Bool) × (answers.new.items ≡ answers.old.items ++ told)
+            × AllZip (λ q above. IsTrue above ↔ Any (λ x. q.version <ℤ x.version)
+            (from_last (P.lets_pass q.from) (Some (Q.lets_pass q.to)) self.now.items)) questions.now told) }
+    {
+        for question in questions {
+            let Question {
+                from,
+                to,
+                shared,
+                version,
+            } = question;
+            answers.push(self.exceeds_from_last(from, to, *shared, *version))?;
+        }
+        Ok(())
     }
 
     /// Returns the greatest version of the items from one cut to another, or none if there is no item.

@@ -1,0 +1,19 @@
+//! What a tree is asked.
+
+ghost use Rattle.std.specs.Prelude.{◌≡◌, ℕ, true, take};
+
+use crate::probe::Probe;
+
+/// Asks whether a version of the items before the second cut, of those before the first one the last alone, is above this
+/// one.
+#[derive(Drop)]
+pub struct Question<P: Probe, Q: Probe> {
+    pub from: P,
+    pub to: Q,
+    /// How many bytes what the two cuts look for begins with in common, or fewer.
+    pub shared: usize,
+    pub version: i64,
+    ghost nested: { (key : ℕ) → P.lets_pass from key ≡ true → Q.lets_pass to key ≡ true },
+    ghost bytes: { (key : ℕ) → P.bytes from key ≡ Q.bytes to key },
+    ghost begin_alike: { take shared (P.sought from) ≡ take shared (Q.sought to) },
+}
