@@ -1,3 +1,4 @@
+pub mod InTurn
 pub mod Order
 pub mod Parting
 pub mod Values
@@ -38,6 +39,7 @@ pub mod Inserted
 pub mod Placed
 pub mod WrittenInParts
 pub mod LastAndInside
+pub mod Asking
 pub mod PlacedKeys
 pub mod Exchanged
 pub mod WrittenInLeaf

@@ -12,4 +12,5 @@ pub mod Laws
 pub mod Indexes
 pub mod Cut
 pub mod Stored
+pub mod Asking
 pub mod Kept

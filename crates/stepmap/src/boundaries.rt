@@ -1,15 +1,18 @@
 //! The boundaries of a step function: their versions in a tree, and their keys in an arena.
 ghost use Rattle.std.specs.Prelude.{◌≡◌, ℕ, ◌+◌, ◌*◌, ◌<◌, ◌≤◌, ◌<ℤ◌, ◌≤ℤ◌, negsuc, ◌↔◌};
-ghost use Rattle.std.specs.Prelude.{List, [], ◌∷◌, ◌++◌, length, Any, IsTrue, IfOk, OnOk, IsOkUnless};
+ghost use Rattle.std.specs.Prelude.{Bool, List, [], ◌∷◌, ◌++◌, length, take, Any, IsTrue, IfOk, OnOk, IsOkUnless};
+ghost use Rattle.std.specs.List.{AllZip};
 ghost use Rattle.arena.specs.Arena.{size_of, wanted_of};
 ghost use Rattle.keyspace.specs.Key.{IsBytes};
 ghost use Rattle.keyspace.specs.Range.{Holds, IsEmpty};
+ghost use Rattle.stepmap.specs.Asking.{Exceeds};
 ghost use Rattle.stepmap.specs.Boundary.{AreBoundaries, value_at, below, from_on};
 ghost use Rattle.stepmap.specs.Indexes.{after};
 ghost use Rattle.stepmap.specs.Stored.{spare_in, each_length};
 ghost use Rattle.stepmap.specs.Sweeping.{passed_to};
 ghost use Rattle.stepmap.specs.Writing.{written};
 
+use crate::asked::{Asked, SIDE, filled, put_questions};
 use crate::cut::Cut;
 use crate::key_lengths::{KeyLengths, each_length};
 use crate::release::release;
@@ -18,7 +21,7 @@ use arena::{Arena, ArenaError};
 use keyspace::{Range, RangeRef, common};
 use std::alloc::{AllocError, Global};
 use std::marker::Model;
-use tree::{Overwrite, Tree, item};
+use tree::{Overwrite, Question, Tree, item};
 
 // The boundaries of a step function, in the order of their keys, the empty key first. Contracts see them, and for how
 // many more there is memory.
@@ -145,6 +148,46 @@ impl<const N: usize> Boundaries<N> {
         };
         let shared = common(range.begin.as_bytes(), range.end.as_bytes());
         self.tree.exceeds_from_last(&begin, &end, shared, version)
+    }
+
+    // Answers for each of these, in order, whether the version at some key of the range is above this one. The answers
+    // replace those that there are.
+    pub fn are_above(&self, asked: &[Asked<'_>], answers: &mut Vec<bool>) -> Result<(), AllocError>
+        requires boundaries { AreBoundaries self.now.boundaries }
+        ensures above { OnOk result (AllZip (λ a above. IsTrue above ↔ Exceeds self.now.boundaries a)
+            asked.now answers.new.items) }
+    {
+        answers.clear();
+        let mut questions = Vec::with_capacity(self.alloc, SIDE)?;
+        let mut from = 0;
+        while from < asked.len() {
+            from += self.answer_some(&asked[from..], &mut questions, answers)?;
+        }
+        Ok(())
+    }
+
+    // Answers the first of these, several of them side by side, and appends the answers. Returns how many it has answered.
+    // An empty range is answered alone: the tree isn't asked for it.
+    fn answer_some<'a>(
+        &'a self,
+        asked: &[Asked<'a>],
+        questions: &mut Vec<Question<Cut<'a>, Cut<'a>>>,
+        answers: &mut Vec<bool>,
+    ) -> Result<usize, AllocError>
+        requires boundaries { AreBoundaries self.now.boundaries }
+        requires some { 1 ≤ length asked.now }
+        ensures some { IfOk result (λ count. (1 ≤ count) × (count ≤ length asked.now)) }
+        ensures told { IfOk result (λ count. (told : List Bool) × (answers.new.items ≡ answers.old.items ++ told)
+            × AllZip (λ a above. IsTrue above ↔ Exceeds self.now.boundaries a) (take count asked.now) told) }
+    {
+        let count = filled(asked);
+        if count == 0 {
+            answers.push(false)?;
+            return Ok(1);
+        }
+        put_questions(&self.keys, &asked[..count], questions)?;
+        self.tree.exceeds_each(self.alloc, questions, answers)?;
+        Ok(count)
     }
 
     // Takes the memory for the boundaries of ranges with keys of these lengths.

@@ -10,6 +10,7 @@
 //! these to lists of writes. How the boundaries are kept shows nowhere.
 #![tactic(auto)]
 
+mod asked;
 mod boundaries;
 mod cut;
 mod error;
@@ -19,6 +20,7 @@ mod release;
 mod step_map;
 mod sweeping;
 
+pub use asked::Asked;
 pub use error::StepError;
 pub use key_lengths::KeyLengths;
 pub use step_map::{MAX_LIMIT, StepMap, SweepEnd};

@@ -1,6 +1,7 @@
 ghost use Rattle.std.specs.Prelude.{◌≡◌, ℕ, ◌+◌, ◌*◌, ◌≤◌, ◌<◌, nat_le, ℤ, negsuc, ◌≤ℤ◌, ◌↔◌};
 ghost use Rattle.std.specs.Prelude.{List, [], length, slice_get, Some, None, Err};
 ghost use Rattle.std.specs.Prelude.{IfOk, OnOk, OnErr, IfErr, IsTrue};
+ghost use Rattle.std.specs.List.{AllZip};
 ghost use Rattle.keyspace.specs.Key.{IsBytes};
 ghost use Rattle.keyspace.specs.Range.{Holds, IsEmpty};
 ghost use Rattle.keyspace.specs.Writes.{Write, with_write};
@@ -13,6 +14,7 @@ ghost use Rattle.stepmap.specs.Covers.{SameFrom, MapCovers, IsAbove};
 ghost use Rattle.stepmap.specs.Rooted.{Ends, Rooted};
 ghost use Rattle.stepmap.specs.Counting.{live_count};
 
+use crate::asked::Asked;
 use crate::boundaries::Boundaries;
 use crate::error::StepError;
 use crate::key_lengths::{KeyLengths, keep};
@@ -115,6 +117,18 @@ impl StepMap {
         ensures above { IsTrue result ↔ IsAbove self.now range.now version }
     {
         !range.is_empty() && self.boundaries.is_above(range, version)
+    }
+
+    /// Answers for each of these, in order, what `exceeds` returns for the range and the version. The answers replace those
+    /// that there are. Several are looked up side by side. After an error the answers are unspecified.
+    pub fn exceeds_each(
+        &self,
+        asked: &[Asked<'_>],
+        answers: &mut Vec<bool>,
+    ) -> Result<(), AllocError>
+        ensures above { OnOk result (AllZip (λ a above. IsTrue above ↔ IsAbove self.now a.range.now a.version) asked.now answers.new.items) }
+    {
+        self.boundaries.are_above(asked, answers)
     }
 
     /// Returns the number of boundaries, that at the empty key included.

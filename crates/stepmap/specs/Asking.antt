@@ -1,0 +1,25 @@
+-- What boundaries are asked, and what their tree is asked for that. This project's own.
+use Rattle.std.specs.Prelude.{◌≡◌, ℕ, ◌<ℤ◌, Bool, true, false, List}
+use Rattle.arena.specs.Arena.{Arena}
+use Rattle.keyspace.specs.Key.{IsBytes}
+use Rattle.keyspace.specs.Range.{Holds, IsEmpty}
+use Rattle.keyspace.specs.declared.range.Range.{Range}
+use Rattle.stepmap.specs.Boundary.{Boundary, value_at}
+use Rattle.stepmap.specs.declared.asked.Asked.{Asked}
+use Rattle.stepmap.specs.declared.cut.Cut.{Cut}
+
+-- the function is above the version at some key of the range
+abbrev pub Exceeds : List Boundary → Asked → Type 0
+Exceeds bs a = (key : List ℕ) × IsBytes key × Holds a.range.now key × (a.version <ℤ value_at bs key)
+
+-- the cut is the one up to a key, or before it, through boundaries whose keys are in this arena
+pub record IsAt (keys : Arena (Unit {0})) (up_to : Bool) (key : List ℕ) (cut : Cut) : Type 0 where
+  pub arena : cut.keys.now ≡ keys
+  pub side : cut.up_to ≡ up_to
+  pub sought : cut.key.now ≡ key
+
+-- the cuts are the one up to the begin of a range, which isn't empty, and the one before its end
+pub record AsksFor (keys : Arena (Unit {0})) (range : Range) (from to : Cut) : Type 0 where
+  pub filled : ¬ IsEmpty range
+  pub begin : IsAt keys true range.begin from
+  pub end : IsAt keys false range.end to
