@@ -1,5 +1,5 @@
 -- Whether a version is above another, of items and of the entries for them.
-use Rattle.std.proofs.Common.{◌≡◌, Bool, true, false, List, [], ◌∷◌, ◌++◌, filter, flat_map, map, IsTrue, ◌↔◌, All, Any, int_lt, cond, sym, subst, inl, inr, arith}
+use Rattle.std.proofs.Common.{◌≡◌, Bool, true, false, List, [], ◌∷◌, ◌++◌, filter, flat_map, map, IsTrue, ◌↔◌, All, Any, int_lt, int_le, cond, sym, subst, inl, inr, arith}
 use Rattle.std.specs.Prelude.{ℤ, ◌<ℤ◌, ◌≤ℤ◌}
 use Rattle.std.proofs.lemmas.Bool.{cases_Bool}
 use Rattle.std.proofs.lemmas.Int.{ints, to_z-of_z}
@@ -30,6 +30,13 @@ pub not_above_tested : (a b : ℤ) → SFits w64 a → SFits w64 b
     → int_lt (to_z w64 (of_z w64 a)) (to_z w64 (of_z w64 b)) ≡ false → b ≤ℤ a
 not_above_tested a b f g h =
     rw (to_z-of_z w64 a f, to_z-of_z w64 b g) at (le_from_test (to_z w64 (of_z w64 a)) (to_z w64 (of_z w64 b)) h)
+
+-- the other way about
+pub at_most_tested : (a b : ℤ) → SFits w64 a → SFits w64 b
+    → int_le (to_z w64 (of_z w64 a)) (to_z w64 (of_z w64 b)) ≡ true → a ≤ℤ b
+at_most_tested a b f g h =
+    let t : int_le a b ≡ true = rw (to_z-of_z w64 a f, to_z-of_z w64 b g) at h in
+    grind (arith, ints)
 
 pub Any-filter : {X : Type 0} (P : X → Type 0) (p : X → Bool) (xs : List X) → Any P (filter p xs) → Any P xs
 Any-filter P p [] a = a

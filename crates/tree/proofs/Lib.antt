@@ -1,5 +1,6 @@
 -- lemmas
 pub mod Above
+pub mod Approaches
 pub mod Changing
 pub mod Constant
 pub mod Counting

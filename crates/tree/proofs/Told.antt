@@ -11,6 +11,7 @@ use Rattle.tree.specs.declared.entry.Entry.{Entry}
 use Rattle.tree.specs.declared.node.Node.{Node}
 use Rattle.tree.specs.Item.{Item, Tells, item_of}
 use Rattle.tree.specs.Path.{IsCut, from_last}
+use Rattle.tree.specs.Question.{IsTold}
 use Rattle.tree.specs.Subtree.{items_in}
 use Rattle.tree.proofs.Above.{IsAbove, none_above, part_above, leaf_above}
 use Rattle.tree.proofs.Cuts.{All-front, not_both, none_pass, none_fail, IsCut-parts, rest_fails}
@@ -55,13 +56,6 @@ module _ {X : Type 0} (p q : X → Bool) (n : (x : X) → p x ≡ true → q x �
 -- None of these passes the cut.
 abbrev AllFail : (ℕ → Bool) → List Item → Type 0
 AllFail passes items = All (λ x. passes x.key ≡ false) items
-
--- What is told of some items, whatever stands before them, and behind them items that don't pass the second cut if `clear` holds.
-abbrev pub IsTold : (ℕ → Bool) → (ℕ → Bool) → ℤ → Bool → List Item → Option Bool → Type 0
-IsTold p q v clear items result =
-    (before after : List Item) → (IsTrue clear → All (λ x. q x.key ≡ false) after)
-    → IsCut (λ x. p x.key) (before ++ (items ++ after)) → IsCut (λ x. q x.key) (before ++ (items ++ after))
-    → IfSome result (λ told. IsTrue told ↔ IsAbove v (from_last p (Some q) (before ++ (items ++ after))))
 
 -- that `next` tells of some items and those behind them that none passes, where `clear` tells it of those behind
 abbrev pub Clears : (ℕ → Bool) → Bool → Bool → List Item → Type 0

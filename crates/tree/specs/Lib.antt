@@ -4,6 +4,7 @@ pub mod Hints
 pub mod Node
 pub mod Subtree
 pub mod Path
+pub mod Question
 pub mod Tree
 pub mod Replace
 pub mod Overwrite

@@ -12,6 +12,7 @@ mod node;
 mod overwrite;
 mod probe;
 mod question;
+mod questions;
 mod replace;
 mod root;
 mod search;

@@ -9,15 +9,15 @@ ghost use Rattle.tree.specs.Overwrite.{IsOverwritten, entries_of_run};
 ghost use Rattle.tree.specs.Path.{IsCut, passing as passing_of, behind, first_key, between, from_last};
 ghost use Rattle.tree.specs.Tree.{IsLast, ended_by, thin as thin_of, gone, hints_in, KnowItems};
 
-use crate::descent::{known_at, told};
 use crate::entry::Entry;
 use crate::mend::least;
 use crate::node::Node;
 use crate::overwrite::{Done, Overwrite};
 use crate::probe::Probe;
 use crate::question::Question;
+use crate::questions::{answer, answer_each, descend_each, descend_from, look_at, look_at_each};
 use crate::root::{Root, overwrite, put, reach};
-use crate::search::{exceeds, exceeds_from_last, greatest, key_behind, passing};
+use crate::search::{exceeds, greatest, key_behind, passing};
 use crate::thin::{Thinned, thin};
 use arena::{Arena, ArenaError, Slot};
 use std::alloc::{AllocError, Global};
@@ -182,22 +182,9 @@ impl<const N: usize> Tree<N> {
         ensures above { IsTrue result ↔ Any (λ x. version <ℤ x.version)
             (from_last (P.lets_pass from.now) (Some (Q.lets_pass to.now)) self.now.items) }
     {
-        let (slot, height) = (self.root.slot, self.root.height);
-        let known = known_at(&self.nodes, slot, from).unwrap_or(0);
-        match told(
-            &self.nodes,
-            slot,
-            height,
-            from,
-            to,
-            version,
-            known,
-            shared,
-            true,
-        ) {
-            Some(above) => above,
-            None => exceeds_from_last(&self.nodes, slot, height, from, Some(to), version),
-        }
+        let way = descend_from(&self.nodes, self.root, from, to, version, shared);
+        let look = look_at(&self.nodes, &way, from);
+        answer(&self.nodes, self.root, from, to, version, shared, look)
     }
 
     /// Answers each question as `exceeds_from_last` does, and appends the answers in their order. After an error some of
@@ -216,16 +203,9 @@ impl<const N: usize> Tree<N> {
             × AllZip (λ q above. IsTrue above ↔ Any (λ x. q.version <ℤ x.version)
             (from_last (P.lets_pass q.from) (Some (Q.lets_pass q.to)) self.now.items)) questions.now told) }
     {
-        for question in questions {
-            let Question {
-                from,
-                to,
-                shared,
-                version,
-            } = question;
-            answers.push(self.exceeds_from_last(from, to, *shared, *version))?;
-        }
-        Ok(())
+        let ways = descend_each(alloc, &self.nodes, &self.root, questions)?;
+        let looks = look_at_each(alloc, &self.nodes, questions, &ways)?;
+        answer_each(&self.nodes, &self.root, questions, &looks, answers)
     }
 
     /// Returns the greatest version of the items from one cut to another, or none if there is no item.

@@ -1,38 +1,111 @@
-use Rattle.std.proofs.Common.{rules, ◌≡◌, ◌≢◌, ◌<◌, ◌++◌, ◌∷◌, ◌∙◌, ℤ, Bool, [], Some, filter, take, ap, sym, subst, w64, to_z, of_z, append_assoc, arith}
+use Rattle.std.proofs.Common.{rules, ◌≡◌, ◌≢◌, ◌≤◌, ◌∙◌, ◌++◌, All, Bool, List, Some, OnOk, [], true, length, map, filter, sym, subst}
 use Rattle.std.specs.Prelude.{◌↔◌, ◌<ℤ◌, IsTrue}
 use Rattle.std.specs.List.{AllZip, Any}
-use Rattle.std.proofs.lemmas.Int.{to_z-of_z}
-use Rattle.std.proofs.lemmas.List.{take_all}
-use Rattle.std.proofs.lemmas.List.Elements.{All-get_or}
+use Rattle.std.proofs.lemmas.List.Elements.{All-weaker}
+use Rattle.tree.specs.declared.questions.Look.{Look}
 use Rattle.tree.specs.Hints.{AreHinted}
 use Rattle.tree.specs.Item.{Item}
+use Rattle.tree.specs.Node.{hints_of}
 use Rattle.tree.specs.Path.{IsCut, from_last}
-use Rattle.tree.specs.Tree.{hints_in}
-use Rattle.tree.proofs.InTurn.{AllZip-next}
+use Rattle.tree.specs.Question.{IsApproach, IsLeading, IsLooked}
+use Rattle.tree.specs.Subtree.{entries_at, items_in}
+use Rattle.tree.specs.Tree.{Items, hints_in}
+use Rattle.tree.proofs.Approaches.{leading_of}
+use Rattle.tree.proofs.HintList.{hinted_from_list}
+use Rattle.tree.proofs.InTurn.{AllZip-unmap, AllZip-weaker}
+use Rattle.tree.proofs.LeafChange.{root_some}
+use Rattle.tree.proofs.tree.Tree.exceeds_each.Given.{Over}
 use Rattle.tree.proofs.tree.Tree.exceeds_each.Goals as goal
+use Rattle.tree.proofs.tree.Tree.exceeds_each.Goals.{After-self}
 
-pub exceeds_from_last-requires : goal.exceeds_from_last-requires
-exceeds_from_last-requires g c =
-    let q = c.question-item.result in
-    let i = c.loop-question.question-index in
+-- what is required, of the nodes
+inside : (g : Over) (c : After-self g) → record {
+  some : 1 ≤ length (entries_at c.self.inside.nodes c.self.inside.root.slot);
+  from : All (λ q. IsCut (λ x. g.P.Probe.lets_pass q.from x.key)
+      (items_in c.self.inside.nodes c.self.inside.root.height c.self.inside.root.slot)) c.args.questions.now;
+  to : All (λ q. IsCut (λ x. g.Q.Probe.lets_pass q.to x.key)
+      (items_in c.self.inside.nodes c.self.inside.root.height c.self.inside.root.slot)) c.args.questions.now;
+  passing : All (λ q. filter (λ x. g.P.Probe.lets_pass q.from x.key)
+      (items_in c.self.inside.nodes c.self.inside.root.height c.self.inside.root.slot) ≢ []) c.args.questions.now;
+  hinted : All (λ q. AreHinted (g.P.Probe.bytes q.from) (hints_of c.self.inside.nodes)) c.args.questions.now;
+}
+inside g c =
+    let t = c.self.inside in
     let qs = c.args.questions.now in
-    let items = c.args.self.now.items in
-    let from = All-get_or (λ q. IsCut (λ (x : Item). g.P.Probe.lets_pass q.from x.key) items) qs i q c.loop-question-test.true c.requires.from in
-    let to = All-get_or (λ q. IsCut (λ (x : Item). g.Q.Probe.lets_pass q.to x.key) items) qs i q c.loop-question-test.true c.requires.to in
-    let some = All-get_or (λ q. filter (λ (x : Item). g.P.Probe.lets_pass q.from x.key) items ≢ []) qs i q c.loop-question-test.true c.requires.some in
-    let hinted = All-get_or (λ q. AreHinted (g.P.Probe.bytes q.from) (hints_in c.args.self.now)) qs i q c.loop-question-test.true c.requires.hinted in (
+    let view = sym c.self.view_is in
+    record {
+      some = root_some t.nodes t.root.slot t.root.height t.len t.room c.self.invariant;
+      from = subst (λ (v : Items). All (λ q. IsCut (λ (x : Item). g.P.Probe.lets_pass q.from x.key) v.items) qs) view
+          c.requires.from;
+      to = subst (λ (v : Items). All (λ q. IsCut (λ (x : Item). g.Q.Probe.lets_pass q.to x.key) v.items) qs) view c.requires.to;
+      passing = subst (λ (v : Items). All (λ q. filter (λ (x : Item). g.P.Probe.lets_pass q.from x.key) v.items ≢ []) qs) view
+          c.requires.some;
+      hinted = All-weaker (λ q. AreHinted (g.P.Probe.bytes q.from) (hints_in c.args.self.now))
+          (λ q. AreHinted (g.P.Probe.bytes q.from) (hints_of t.nodes))
+          (λ q h. hinted_from_list (g.P.Probe.bytes q.from) t.nodes
+          (subst (λ v. AreHinted (g.P.Probe.bytes q.from) (hints_in v)) view h)) qs c.requires.hinted;
+    }
+
+pub descend_each-requires : goal.descend_each-requires
+descend_each-requires g c =
+    let i = inside g (goal.at.descend_each-requires g c).After-self in
+    (search rules, (c.self.invariant.rooted.subtree, (i.some, (i.from, (i.to, (i.passing, i.hinted))))))
+
+pub look_at_each-requires : goal.look_at_each-requires
+look_at_each-requires g c =
+    let t = c.self.inside in
+    let i = inside g (goal.at.look_at_each-requires g c).After-self in
+    let qs = c.args.questions.now in
+    let ways = c.in_ok-ways.ways.items in
+    let leading : AllZip
+    (λ q way. IsLeading t.nodes (g.P.Probe.bytes q.from) (g.P.Probe.lets_pass q.from) (g.P.Probe.sought q.from) way) qs ways =
+    AllZip-weaker _ _
+    (λ q way is. leading_of t.nodes (g.P.Probe.bytes q.from) (g.P.Probe.lets_pass q.from) (g.Q.Probe.lets_pass q.to)
+    (g.P.Probe.sought q.from) q.version t.root.height t.root.slot true way is) qs ways c.in_ok-ways.ensures.ways in (
       search rules,
       (
-        subst (λ q. IsCut (λ (x : Item). g.P.Probe.lets_pass q.from x.key) items) (sym c.question-item.is) from,
+        subst
+            (λ ways. AllZip (λ q way. IsLeading t.nodes (g.P.Probe.bytes q.from) (g.P.Probe.lets_pass q.from)
+            (g.P.Probe.sought q.from) way) qs ways) (sym c.deref.ensures.value) leading,
+        i.hinted,
+      ),
+    )
+
+pub answer_each-requires : goal.answer_each-requires
+answer_each-requires g c =
+    let t = c.self.inside in
+    let i = inside g (goal.at.answer_each-requires g c).After-self in
+    let qs = c.args.questions.now in
+    let looks = c.in_ok-looks.looks.items in
+    let made : map (λ (l : Look). l.way) looks ≡ c.in_ok-ways.ways.items = c.in_ok-looks.ensures.ways ∙ c.deref.ensures.value in
+    let ways : AllZip
+    (λ q way. IsApproach t.nodes t.root.height t.root.slot (g.P.Probe.bytes q.from) (g.P.Probe.lets_pass q.from)
+    (g.Q.Probe.lets_pass q.to) (g.P.Probe.sought q.from) q.version true way) qs (map (λ (l : Look). l.way) looks) =
+    subst
+    (λ ways. AllZip
+    (λ q way. IsApproach t.nodes t.root.height t.root.slot (g.P.Probe.bytes q.from) (g.P.Probe.lets_pass q.from)
+    (g.Q.Probe.lets_pass q.to) (g.P.Probe.sought q.from) q.version true way) qs ways) (sym made) c.in_ok-ways.ensures.ways in
+    let value = sym c.deref-2.ensures.value in (
+      search rules,
+      (
+        c.self.invariant.rooted.subtree,
         (
-          subst (λ q. IsCut (λ (x : Item). g.Q.Probe.lets_pass q.to x.key) items) (sym c.question-item.is) to,
+          i.from,
           (
-            q.nested,
+            i.to,
             (
-              subst (λ q. filter (λ (x : Item). g.P.Probe.lets_pass q.from x.key) items ≢ []) (sym c.question-item.is) some,
+              i.passing,
               (
-                subst (λ q. AreHinted (g.P.Probe.bytes q.from) (hints_in c.args.self.now)) (sym c.question-item.is) hinted,
-                (q.bytes, q.begin_alike),
+                i.hinted,
+                (
+                  subst
+                      (λ looks. AllZip (λ q l. IsApproach t.nodes t.root.height t.root.slot (g.P.Probe.bytes q.from)
+                      (g.P.Probe.lets_pass q.from) (g.Q.Probe.lets_pass q.to) (g.P.Probe.sought q.from) q.version true l.way)
+                      qs looks) value (AllZip-unmap _ (λ (l : Look). l.way) qs looks ways),
+                  subst
+                      (λ looks. AllZip (λ q l. IsLooked t.nodes (g.P.Probe.bytes q.from) (g.P.Probe.sought q.from) l.way l.own)
+                      qs looks) value c.in_ok-looks.ensures.looked,
+                ),
               ),
             ),
           ),
@@ -40,15 +113,12 @@ exceeds_from_last-requires g c =
       ),
     )
 
-pub loop-question-preserved : goal.loop-question-preserved
-loop-question-preserved g c =
-    let q = c.question-item.result in
-    let before = c.loop-question.invariant in
-    let above = c.exceeds_from_last.result in
-    let Above = λ (version : ℤ). IsTrue above ↔ Any (λ (x : Item). version <ℤ x.version)
-    (from_last (g.P.Probe.lets_pass q.from) (Some (g.Q.Probe.lets_pass q.to)) c.args.self.now.items) in
-    let said : Above q.version = rw (to_z-of_z w64 q.version (search rules)) at c.exceeds_from_last.ensures.above in (
-      before.0 ++ above ∷ [],
-      c.in_ok-push.ensures.items ∙ ap (λ bs. bs ++ above ∷ []) before.1 ∙ append_assoc c.args.answers.now.items before.0 (above ∷ []),
-      AllZip-next _ c.args.questions.now c.loop-question.question-index before.0 q above c.loop-question-test.true c.question-item.is before.2 said,
-    )
+pub returns : goal.returns
+returns g c = record {
+  told = subst
+      (λ (v : Items). OnOk c.answer_each.result ((told : List Bool)
+      × (c.answer_each.new.answers.items ≡ c.args.answers.now.items ++ told)
+      × AllZip (λ q above. IsTrue above ↔ Any (λ (x : Item). q.version <ℤ x.version)
+      (from_last (g.P.Probe.lets_pass q.from) (Some (g.Q.Probe.lets_pass q.to)) v.items)) c.args.questions.now told))
+      c.self.view_is c.answer_each.ensures.told;
+}

@@ -7,32 +7,31 @@ use mir.Val.{SFits}
 use Rattle.tree.specs.declared.entry.Entry.{Entry}
 use Rattle.tree.specs.Hints.{IsHinted, KnowsAt, BeginAlike, Agrees}
 use Rattle.tree.specs.Item.{Tells}
+use Rattle.tree.specs.Item.{Item}
+use Rattle.tree.specs.Question.{IsTold}
+use Rattle.tree.proofs.Approaches.{approach_wider}
 use Rattle.tree.specs.Node.{entries_of, hint_of}
 use Rattle.tree.specs.Path.{IsCut}
 use Rattle.tree.specs.Subtree.{entries_at, items_in, IsChild, IsSubtree}
 use Rattle.tree.specs.Tree.{least_of}
-use Rattle.tree.proofs.Above.{not_above_tested}
+use Rattle.tree.proofs.Above.{at_most_tested}
 use Rattle.tree.proofs.Cuts.{not_true}
 use Rattle.tree.proofs.Found.{entries_read}
-use Rattle.tree.proofs.HintAt.{all_known}
 use Rattle.tree.proofs.Hinted.{hint_kept, hinted_at}
 use Rattle.tree.proofs.NearCuts.{agrees_too}
-use Rattle.tree.proofs.Looks.{IsLook, look_cut, look_ordered, look_tell, child_from, child_to}
-use Rattle.tree.proofs.Told.{Clears, clears_behind, clears_same, told_by_child, told_by_entry, told_by_leaf}
+use Rattle.tree.proofs.Looks.{IsLook, look_cut, look_tell, child_from, child_to}
+use Rattle.tree.proofs.Told.{Clears, clears_behind, clears_same, told_by_child, told_by_entry}
 use Rattle.tree.proofs.ToldKeys.{alike_for_other, some_pass, last_passes}
 use Rattle.tree.proofs.FirstKeys.{child_at, knows_child}
-use Rattle.tree.proofs.descent.+told.Given.{Over}
-use Rattle.tree.proofs.descent.+told.Goals as goal
-use Rattle.tree.proofs.descent.+told.Goals.{
+use Rattle.tree.proofs.questions.+descend.Given.{Over}
+use Rattle.tree.proofs.questions.+descend.Goals as goal
+use Rattle.tree.proofs.questions.+descend.Goals.{
   After-entries-entries,
-  After-count_on-end,
   After-index-entries-step,
   then-is_some,
   else-is_some,
   then-next-entries,
   else-next-entries,
-  else-end-entries-via-then-end-entries+else-not-clear,
-  else-end-entries-via-else-end-entries,
 }
 
 -- the entries that the code has read
@@ -168,95 +167,10 @@ digest_given-digest-requires g t c =
       ),
     )
 
-pub count_by-begin-requires : goal.count_by-begin-requires
-count_by-begin-requires g t c =
-    let a = asked g t (goal.at.count_by-begin-requires g t c).After-entries-entries in
-    let probe = c.args.from.now in (
-      search rules,
-      (
-        a.hinted,
-        (
-          a.cut,
-          (
-            a.some,
-            (
-              c.digest_for-own.ensures.digest,
-              (λ none. all_known
-                  (g.P.Probe.bytes probe) c.header_ref-node.result.now a.hinted (g.P.Probe.sought probe) (g.P.Probe.lets_pass probe)
-                  (g.met.P.Probe.order probe) c.args.known a.some a.known (c.digest_for-own.ensures.none none)),
-            ),
-          ),
-        ),
-      ),
-    )
-
 pub step_by-step-requires : goal.step_by-step-requires
 step_by-step-requires g t c =
     let a = asked g t (goal.at.step_by-step-requires g t c).After-entries-entries in
     (search rules, (a.hinted, (a.cut, (a.some, (a.known, (c.digest_for-own.ensures.digest, c.digest_for-own.ensures.none))))))
-
-pub count_on-end-requires : goal.count_on-end-requires
-count_on-end-requires g t c =
-    let at = (goal.at.count_on-end-requires g t c).After-entries-entries in
-    let is = c.entries-entries.ensures.entries in
-    let le = look_ordered _ _ _ _ _ _ _ _ _ (look g t at _ _ refl refl) in
-    let most : c.count_by-begin.result
-    ≤ length (filter (λ e. g.Q.Probe.lets_pass c.args.to.now e.key) (entries_of c.header_ref-node.result.now)) =
-    rw is at (subst (λ n. n ≤ length (filter (λ (e : Entry). g.Q.Probe.lets_pass c.args.to.now e.key) c.entries-entries.result.now))
-    (sym (rw (sym is) at c.count_by-begin.ensures.count)) le) in (
-      search rules,
-      (
-        hinted_too g t at,
-        (
-          subst (IsCut (λ (e : Entry). g.Q.Probe.lets_pass c.args.to.now e.key)) is (cut_to g t at),
-          (c.digest_given-digest.ensures.digest, most),
-        ),
-      ),
-    )
-
--- the two cuts of a leaf
-leaf : (g : Over) (t : ℕ) (c : After-count_on-end g t)
-    → IsLook c.args.nodes.now (least_of g.row.N) c.args.height c.args.slot (g.P.Probe.lets_pass c.args.from.now)
-    (g.Q.Probe.lets_pass c.args.to.now) c.entries-entries.result.now c.count_by-begin.result c.count_on-end.result
-leaf g t c =
-    let is = c.entries-entries.ensures.entries in
-    record {
-      subtree = c.requires.subtree;
-      from = c.requires.from;
-      to = c.requires.to;
-      nested = c.requires.nested;
-      read = entries_read c.args.nodes.now c.args.slot c.header_ref-node.result.now c.entries-entries.result.now
-          c.header_ref-node.ensures.header is;
-      begin_is = c.count_by-begin.ensures.count
-          ∙ ap (λ es. length (filter (λ (e : Entry). g.P.Probe.lets_pass c.args.from.now e.key) es)) (sym is);
-      end_is = c.count_on-end.ensures.count
-          ∙ ap (λ es. length (filter (λ (e : Entry). g.Q.Probe.lets_pass c.args.to.now e.key) es)) (sym is);
-    }
-
-pub slice_bounds-any_above-count : goal.slice_bounds-any_above-count
-slice_bounds-any_above-count g t c =
-    let le = look_ordered _ _ _ _ _ _ _ _ _ (leaf g t (goal.at.slice_bounds-any_above-count g t c).After-count_on-end) in
-    omega (arith, le)
-
-pub slice_bounds-any_above-start : goal.slice_bounds-any_above-start
-slice_bounds-any_above-start g t c =
-    let le = look_ordered _ _ _ _ _ _ _ _ _ (leaf g t (goal.at.slice_bounds-any_above-start g t c).After-count_on-end) in
-    let less : c.count_by-begin.result - 1 ≤ c.count_on-end.result = omega (arith, le) in
-    search rules
-
-pub returns-then-height-eq0 : goal.returns-then-height-eq0
-returns-then-height-eq0 g t c =
-    let k = leaf g t (goal.at.returns-then-height-eq0 g t c).After-count_on-end in
-    let least = passes g t (goal.at.returns-then-height-eq0 g t c).After-entries-entries in
-    let said = rw (to_z-of_z w64 c.args.version c.ranges.version) at c.any_above.ensures.above in
-    record {
-      told = told_by_leaf _ _ _ _ _ _ _ _ _ k c.args.version c.args.clear c.any_above.result c.if-height-eq0.true
-          (omega (arith, least, k.begin_is))
-          (λ all. elim c.else-end-entries.branch [
-            | else-end-entries-via-then-end-entries+else-not-clear w ↦ w.if-not-clear.false
-            | else-end-entries-via-else-end-entries w ↦ absurd (w.if-end-entries.false all)
-          ]) said;
-    }
 
 -- the entry at which the search goes on is one of them
 within : (g : Over) (t : ℕ) (c : After-index-entries-step g t) → c.step_by-step.result.index < length c.entries-entries.result.now
@@ -295,10 +209,10 @@ behind g t c tell =
           clears_same q below es next c.args.clear c.if-next-entries.clear w.if-next-entries.false w.clear-is
     ]
 
-pub told-requires : goal.told-requires
-told-requires g t c κs within_lives =
-    let at = (goal.at.told-requires g t c).After-index-entries-step in
-    let k = look g t (goal.at.told-requires g t c).After-entries-entries _ _ refl refl in
+pub descend-requires : goal.descend-requires
+descend-requires g t c κs within_lives =
+    let at = (goal.at.descend-requires g t c).After-index-entries-step in
+    let k = look g t (goal.at.descend-requires g t c).After-entries-entries _ _ refl refl in
     let e = c.index-entries-step.result in
     let i = c.step_by-step.result.index in
     let node = child g t at in
@@ -326,7 +240,7 @@ told-requires g t c κs within_lives =
                     child_from _ _ _ _ _ _ _ _ _ k c.if-height-eq0.false i e inside is,
                     (
                       child_to _ _ _ _ _ _ _ _ _ k c.if-height-eq0.false i e inside is,
-                      (c.requires.nested, (c.requires.hinted, (rw c.in_ok-step.was at knows, (c.requires.shared, c.requires.bytes)))),
+                      (c.requires.nested, (c.requires.hinted, (rw c.in-Some.is at knows, (c.requires.shared, c.requires.bytes)))),
                     ),
                   ),
                 ),
@@ -337,15 +251,47 @@ told-requires g t c κs within_lives =
       ),
     )
 
-pub returns-then-entry-version : goal.returns-then-entry-version
-returns-then-entry-version g t c =
-    let at = (goal.at.returns-then-entry-version g t c).After-index-entries-step in
-    let k = look g t (goal.at.returns-then-entry-version g t c).After-entries-entries _ _ refl refl in
-    let said = rw (to_z-of_z w64 c.args.version c.ranges.version) at c.told.ensures.told in
+pub returns-then-height-eq0 : goal.returns-then-height-eq0
+returns-then-height-eq0 g t c =
+    let nodes = c.args.nodes.now in
+    let slot = c.args.slot in
+    let p = g.P.Probe.lets_pass c.args.from.now in
+    let q = g.Q.Probe.lets_pass c.args.to.now in
+    let zero = c.if-height-eq0.true in
     record {
-      told = told_by_child _ _ _ _ _ _ _ _ _ k c.args.version c.args.clear c.if-height-eq0.false c.step_by-step.result.index
-          c.index-entries-step.result (within g t at) c.index-entries-step.is c.if-next-entries.clear c.told.result
-          (behind g t at (look_tell _ _ _ _ _ _ _ _ _ k c.if-height-eq0.false)) said;
+      approach = record {
+        near_is = record {
+          live = subst (λ h. IsSubtree nodes (least_of g.row.N) h slot) zero c.requires.subtree;
+          some = c.requires.some;
+          known = c.requires.known;
+        };
+        from = subst (λ h. IsCut (λ (x : Item). p x.key) (items_in nodes h slot)) zero c.requires.from;
+        to = subst (λ h. IsCut (λ (x : Item). q x.key) (items_in nodes h slot)) zero c.requires.to;
+        tells = λ result told.
+            subst (λ h. IsTold p q c.args.version c.args.clear (items_in nodes h slot) result) (sym zero) told;
+      };
+    }
+
+pub returns : goal.returns
+returns g t c =
+    let at = (goal.at.returns g t c).After-index-entries-step in
+    let k = look g t (goal.at.returns g t c).After-entries-entries _ _ refl refl in
+    let nodes = c.args.nodes.now in
+    let e = c.index-entries-step.result in
+    let bytes = g.P.Probe.bytes c.args.from.now in
+    let p = g.P.Probe.lets_pass c.args.from.now in
+    let q = g.Q.Probe.lets_pass c.args.to.now in
+    let sought = g.P.Probe.sought c.args.from.now in
+    let next = c.if-next-entries.clear in
+    let low = c.args.height - 1 in
+    let found = rw (to_z-of_z w64 c.args.version c.ranges.version) at c.descend.ensures.approach in
+    record {
+      approach = approach_wider nodes bytes p q sought c.args.version c.args.height c.args.slot low e.child c.args.clear next
+          c.descend.result
+          (λ result told. told_by_child _ _ _ _ _ _ _ _ _ k c.args.version c.args.clear c.if-height-eq0.false
+          c.step_by-step.result.index e (within g t at) c.index-entries-step.is next result
+          (behind g t at (look_tell _ _ _ _ _ _ _ _ _ k c.if-height-eq0.false)) told)
+          found;
     }
 
 pub returns-then-clear : goal.returns-then-clear
@@ -358,12 +304,12 @@ returns-then-clear g t c =
     let es = c.entries-entries.result.now in
     let p = g.P.Probe.lets_pass c.args.from.now in
     let fits : SFits w64 e.version = search rules in
-    let le = not_above_tested v e.version c.ranges.version fits c.if-entry-version.false in
+    let le = at_most_tested e.version v fits c.ranges.version c.if-entry-version.true in
     let index = c.step_by-step.ensures.index
     ∙ ap (λ es. length (filter (λ (e : Entry). p e.key) es) - 1) (sym c.entries-entries.ensures.entries) in
     let passed = last_passes p es c.step_by-step.result.index e (cut_from g t first) (passes g t first) index c.index-entries-step.is in
     record {
-      told = told_by_child _ _ _ _ _ _ _ _ _ k v c.args.clear c.if-height-eq0.false c.step_by-step.result.index e (within g t at)
+      approach = told_by_child _ _ _ _ _ _ _ _ _ k v c.args.clear c.if-height-eq0.false c.step_by-step.result.index e (within g t at)
           c.index-entries-step.is c.if-next-entries.clear (Some false)
           (behind g t at (look_tell _ _ _ _ _ _ _ _ _ k c.if-height-eq0.false))
           (told_by_entry p (g.Q.Probe.lets_pass c.args.to.now) v c.requires.nested e

@@ -1,12 +1,13 @@
-use Rattle.std.proofs.Common.{◌≡◌, ◌++◌, Bool, List, Some, IsTrue, take}
+use Rattle.std.proofs.Common.{◌≡◌, ◌++◌, Bool, List, Some, IsTrue, length, take}
 use Rattle.std.specs.Prelude.{◌↔◌, ◌<ℤ◌}
 use Rattle.std.specs.List.{AllZip, Any}
 use Rattle.tree.specs.Path.{from_last}
-use Rattle.tree.proofs.tree.Tree.exceeds_each.Given as goal
+use Rattle.tree.specs.Subtree.{items_in}
+use Rattle.tree.proofs.questions.answer_each.Given as goal
 
 abbrev pub invariant-loop-question : goal.invariant-loop-question
 invariant-loop-question g l =
     (told : List Bool) × (l.answers.items ≡ l.fn.answers.items ++ told)
     × AllZip (λ q above. IsTrue above ↔ Any (λ x. q.version <ℤ x.version)
-    (from_last (g.P.Probe.lets_pass q.from) (Some (g.Q.Probe.lets_pass q.to)) l.self.items))
-    (take l.question-index l.questions) told
+    (from_last (g.P.Probe.lets_pass q.from) (Some (g.Q.Probe.lets_pass q.to)) (items_in l.nodes l.root.height l.root.slot)))
+    (take (length l.yielded) l.questions) told

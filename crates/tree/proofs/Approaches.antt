@@ -1,0 +1,31 @@
+-- Where the way of a question leads.
+use Rattle.std.proofs.Common.{ℕ, Bool, false, List, Option, Some}
+use Rattle.std.specs.Prelude.{ℤ}
+use Rattle.arena.specs.Arena.{Arena}
+use Rattle.tree.specs.declared.node.Node.{Node}
+use Rattle.tree.specs.declared.questions.Approach.{Approach}
+use Rattle.tree.specs.declared.questions.Approach.TheVariants.{Leaf, Clear, Open}
+use Rattle.tree.specs.Hints.{KeyBytes}
+use Rattle.tree.specs.Question.{IsApproach, IsLeading, IsTold}
+use Rattle.tree.specs.Subtree.{items_in}
+
+module _ {N : ℕ} (nodes : Arena (Node N)) (bytes : KeyBytes) (p q : ℕ → Bool) (sought : List ℕ) (v : ℤ) where
+  -- What answers for a part answers for the whole, where what is told of the part is told of the whole.
+  pub approach_wider : (height slot low child : ℕ) (clear next : Bool) (way : Approach)
+      → ((result : Option Bool) → IsTold p q v next (items_in nodes low child) result
+      → IsTold p q v clear (items_in nodes height slot) result)
+      → IsApproach nodes low child bytes p q sought v next way → IsApproach nodes height slot bytes p q sought v clear way
+  approach_wider height slot low child clear next (Leaf near) wider is = record {
+    near_is = is.near_is;
+    from = is.from;
+    to = is.to;
+    tells = λ result told. wider result (is.tells result told);
+  }
+  approach_wider height slot low child clear next Clear wider is = wider (Some false) is
+  approach_wider height slot low child clear next Open wider is = tt
+
+  pub leading_of : (height slot : ℕ) (clear : Bool) (way : Approach) → IsApproach nodes height slot bytes p q sought v clear way
+      → IsLeading nodes bytes p sought way
+  leading_of height slot clear (Leaf near) is = is.near_is
+  leading_of height slot clear Clear is = tt
+  leading_of height slot clear Open is = tt

@@ -1,0 +1,5 @@
+use Rattle.tree.proofs.questions.+descend.Given as goal
+
+-- A child's subtree is lower.
+abbrev pub decreases-descend : goal.decreases-descend
+decreases-descend g l = l.height

@@ -1,0 +1,116 @@
+use Rattle.std.proofs.Common.{rules, ◌≡◌, ◌≢◌, ◌≤◌, ◌<◌, ◌++◌, ◌∷◌, ◌∙◌, ◌+◌, ℤ, [], true, Some, None, filter, length, get_or, min, refl, ap, sym, subst, w64, to_z, of_z, append_assoc, length-append, arith}
+use Rattle.std.specs.Prelude.{◌↔◌, ◌<ℤ◌, IsTrue}
+use Rattle.std.specs.List.{Any}
+use Rattle.std.proofs.lemmas.Int.{to_z-of_z}
+use Rattle.std.proofs.lemmas.List.Elements.{All-get_or}
+use Rattle.std.proofs.lemmas.Slice.Zip.{AllZip-long, zip_turn, zip_end}
+use Rattle.tree.specs.Hints.{AreHinted}
+use Rattle.tree.specs.Item.{Item}
+use Rattle.tree.specs.Node.{hints_of}
+use Rattle.tree.specs.Path.{IsCut, from_last}
+use Rattle.tree.specs.Question.{IsApproach}
+use Rattle.tree.specs.Subtree.{items_in}
+use Rattle.tree.proofs.InTurn.{AllZip-at, AllZip-turn, AllZip-whole}
+use Rattle.tree.proofs.questions.answer_each.Given.{Over}
+use Rattle.tree.proofs.questions.answer_each.Goals as goal
+use Rattle.tree.proofs.questions.answer_each.Goals.{In-Some, In-None}
+
+-- where the loop stands in the two lists
+turn : (g : Over) (c : In-Some g)
+    → (length c.loop-question.yielded < length c.args.questions.now) × (length c.loop-question.yielded < length c.args.looks.now)
+    × (c.in-Some.question.now ≡ get_or c.args.questions.now (length c.loop-question.yielded) c.in-Some.question.now)
+    × (c.in-Some.look.now ≡ get_or c.args.looks.now (length c.loop-question.yielded) c.in-Some.look.now)
+turn g c =
+    let t = zip_turn c.args.questions.now c.args.looks.now c.loop-question.yielded c.into_iter-question-iterator.result
+    c.loop-question.question-iterator c.next.new.self (Some (c.in-Some.question, c.in-Some.look)) (search rules) (search rules)
+    c.loop-question.yielded_by (c.in-Some.question, c.in-Some.look) refl c.in-Some.ensures.steps in
+    (t.0, t.1, t.2 c.in-Some.question.now, t.3 c.in-Some.look.now)
+
+-- how far the loop has come at its end
+end : (g : Over) (c : In-None g) → length c.loop-question.yielded ≡ min (length c.args.questions.now) (length c.args.looks.now)
+end g c =
+    zip_end c.args.questions.now c.args.looks.now c.loop-question.yielded c.into_iter-question-iterator.result
+    c.loop-question.question-iterator c.next.new.self None (search rules) (search rules) c.loop-question.yielded_by refl c.in-None.ensures.steps
+
+pub answer-requires : goal.answer-requires
+answer-requires g c =
+    let t = turn g (goal.at.answer-requires g c).In-Some in
+    let q = c.in-Some.question.now in
+    let k = c.in-Some.look.now in
+    let i = length c.loop-question.yielded in
+    let qs = c.args.questions.now in
+    let ks = c.args.looks.now in
+    let nodes = c.args.nodes.now in
+    let height = c.args.root.now.height in
+    let slot = c.args.root.now.slot in
+    let items = items_in nodes height slot in
+    let same = sym t.2 in
+    let from = All-get_or (λ q. IsCut (λ (x : Item). g.P.Probe.lets_pass q.from x.key) items) qs i q t.0 c.requires.from in
+    let to = All-get_or (λ q. IsCut (λ (x : Item). g.Q.Probe.lets_pass q.to x.key) items) qs i q t.0 c.requires.to in
+    let passing = All-get_or (λ q. filter (λ (x : Item). g.P.Probe.lets_pass q.from x.key) items ≢ []) qs i q t.0
+    c.requires.passing in
+    let hinted = All-get_or (λ q. AreHinted (g.P.Probe.bytes q.from) (hints_of nodes)) qs i q t.0 c.requires.hinted in
+    let way : IsApproach nodes height slot (g.P.Probe.bytes q.from) (g.P.Probe.lets_pass q.from) (g.Q.Probe.lets_pass q.to)
+    (g.P.Probe.sought q.from) q.version true k.way = AllZip-at _ qs ks i q k t.0 t.2 t.3 c.requires.approach in
+    let looked = AllZip-at _ qs ks i q k t.0 t.2 t.3 c.requires.looked in
+    let is : to_z w64 (of_z w64 q.version) ≡ q.version = to_z-of_z w64 q.version (search rules) in (
+      search rules,
+      (
+        c.requires.subtree,
+        (
+          subst (λ q. IsCut (λ (x : Item). g.P.Probe.lets_pass q.from x.key) items) same from,
+          (
+            subst (λ q. IsCut (λ (x : Item). g.Q.Probe.lets_pass q.to x.key) items) same to,
+            (
+              q.nested,
+              (
+                subst (λ q. filter (λ (x : Item). g.P.Probe.lets_pass q.from x.key) items ≢ []) same passing,
+                (
+                  subst (λ q. AreHinted (g.P.Probe.bytes q.from) (hints_of nodes)) same hinted,
+                  (
+                    q.begin_alike,
+                    (
+                      q.bytes,
+                      (
+                        subst
+                            (λ version. IsApproach nodes height slot (g.P.Probe.bytes q.from) (g.P.Probe.lets_pass q.from)
+                            (g.Q.Probe.lets_pass q.to) (g.P.Probe.sought q.from) version true k.way) (sym is) way,
+                        looked,
+                      ),
+                    ),
+                  ),
+                ),
+              ),
+            ),
+          ),
+        ),
+      ),
+    )
+
+pub loop-question-preserved : goal.loop-question-preserved
+loop-question-preserved g c =
+    let t = turn g (goal.at.loop-question-preserved g c).In-Some in
+    let q = c.in-Some.question.now in
+    let i = length c.loop-question.yielded in
+    let before = c.loop-question.invariant in
+    let above = c.answer.result in
+    let items = items_in c.args.nodes.now c.args.root.now.height c.args.root.now.slot in
+    let Above = λ (version : ℤ). IsTrue above ↔ Any (λ (x : Item). version <ℤ x.version)
+    (from_last (g.P.Probe.lets_pass q.from) (Some (g.Q.Probe.lets_pass q.to)) items) in
+    let said : Above q.version = rw (to_z-of_z w64 q.version (search rules)) at c.answer.ensures.above in
+    let more : length (c.loop-question.yielded ++ (c.in-Some.question, c.in-Some.look) ∷ []) ≡ i + 1 =
+    length-append c.loop-question.yielded ((c.in-Some.question, c.in-Some.look) ∷ []) in (
+      before.0 ++ above ∷ [],
+      c.in_ok-push.ensures.items ∙ ap (λ bs. bs ++ above ∷ []) before.1 ∙ append_assoc c.args.answers.now.items before.0 (above ∷ []),
+      AllZip-turn _ c.args.questions.now i _ before.0 _ q above t.0 t.2 more refl before.2 said,
+    )
+
+pub returns : goal.returns
+returns g c =
+    let same = AllZip-long _ c.args.questions.now c.args.looks.now c.requires.looked in
+    let most : length c.args.questions.now ≤ length c.loop-question.yielded =
+    omega (arith, same, end g (goal.at.returns g c).In-None) in
+    let told = c.loop-question.invariant in
+    record {
+      told = (told.0, told.1, AllZip-whole _ c.args.questions.now (length c.loop-question.yielded) told.0 most told.2);
+    }

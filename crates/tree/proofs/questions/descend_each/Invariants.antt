@@ -1,0 +1,10 @@
+use Rattle.std.proofs.Common.{true, take}
+use Rattle.std.specs.List.{AllZip}
+use Rattle.tree.specs.Question.{IsApproach}
+use Rattle.tree.proofs.questions.descend_each.Given as goal
+
+abbrev pub invariant-loop-question : goal.invariant-loop-question
+invariant-loop-question g l =
+    AllZip (λ q way. IsApproach l.nodes l.root.height l.root.slot (g.P.Probe.bytes q.from) (g.P.Probe.lets_pass q.from)
+    (g.Q.Probe.lets_pass q.to) (g.P.Probe.sought q.from) q.version true way)
+    (take l.question-index l.questions) l.ways.items
