@@ -1,4 +1,4 @@
--- What the step map answers of a read range is what the scan tests.
+-- What the step map answers of a read range is what the scan tests, and the places where it hits.
 use Rattle.std.proofs.Common.{
   ◌≡◌,
   ℕ,
@@ -8,15 +8,16 @@ use Rattle.std.proofs.Common.{
   append-nil,
   ◌+◌,
   ◌<◌,
+  ◌||◌,
   Bool,
   true,
   false,
-  ◌||◌,
   List,
   [],
   ◌∷◌,
   ◌++◌,
   length,
+  map,
   take,
   get_or,
   cond,
@@ -30,13 +31,13 @@ use Rattle.std.proofs.Common.{
   inl,
   inr,
 }
+use mathlib.Core.Bool.{beq}
 use Rattle.std.specs.Prelude.{◌≤ℤ◌, IsTrue, All}
+use Rattle.std.specs.List.{list_any}
 use Rattle.std.specs.List.Sorted.{IsStrictlyIncreasing}
 use Rattle.std.proofs.Math.Seq.{get_or-append_seam}
 use Rattle.std.proofs.lemmas.List.{length-append, get_or_append_left}
 use Rattle.std.proofs.lemmas.List.Elements.{All-push}
-use Rattle.std.specs.List.{list_any}
-use Rattle.std.proofs.lemmas.List.Folds.{list_any_more, list_any-from_Any}
 use Rattle.keyspace.specs.declared.range.Range.{Range}
 use Rattle.keyspace.specs.declared.txn.Txn.{Txn}
 use Rattle.keyspace.specs.Writes.{Write}
@@ -46,6 +47,7 @@ use Rattle.keyspace.proofs.Scans.{range_hit_from_test, test_from_range_hit}
 use Rattle.stepmap.specs.StepMap.{Steps}
 use Rattle.stepmap.specs.Covers.{MapCovers, IsAbove}
 use Rattle.stepmap.specs.Laws.{TellsHits}
+use Rattle.conflict.specs.Asking.{true_places}
 
 false_is_true : false ≡ true → ⊥
 false_is_true e = cc
@@ -60,58 +62,45 @@ exceeds_is_hit tells m ws t range false covers late above =
     (λ hit. false_is_true
     (above.1 ((tells m ws range t.snapshot covers late).1 (range_hit_from_test ws t range hit)))))
 
--- one that passes is among them
-pub any_at : {X : Type 0} (test : X → Bool) (xs : List X) (i : ℕ) (x : X) → i < length xs → x ≡ get_or xs i x
-    → test x ≡ true → list_any test xs ≡ true
-any_at test xs i x inside is passes = list_any-from_Any test xs (i, x, inside, sym is, passes)
+-- there is a hit exactly if some range passes the test
+pub any_of_hits : (hits : List Bool) (test : Range → Bool) (ranges : List Range) → hits ≡ map test ranges
+    → list_any (λ hit. beq hit true) hits ≡ list_any test ranges
+any_of_hits hits test ranges is = ap (list_any (λ hit. beq hit true)) is ∙ in_order ranges
+  where
+    same : (hit : Bool) → beq hit true ≡ hit
+    same true = refl
+    same false = refl
 
--- none of the first ones passes, nor the next
-pub none_more : {X : Type 0} (test : X → Bool) (xs : List X) (i : ℕ) (x : X) → i < length xs
-    → x ≡ get_or xs i x
-    → test x ≡ false → list_any test (take i xs) ≡ false → list_any test (take (i + 1) xs) ≡ false
-none_more test xs i x inside is fails none =
-    list_any_more test xs i x inside ∙ ap (λ b. b || test (get_or xs i x)) none ∙ ap test (sym is) ∙ fails
+    in_order : (ranges : List Range) → list_any (λ hit. beq hit true) (map test ranges) ≡ list_any test ranges
+    in_order [] = refl
+    in_order (range ∷ ranges) =
+        ap (λ b. b || list_any (λ hit. beq hit true) (map test ranges)) (same (test range))
+        ∙ ap (λ b. test range || b) (in_order ranges)
 
--- the places of the first ones, and the next place where it passes
-places_next : (n : ℕ) (test : Range → Bool) (xs : List Range) (i : ℕ) (x : Range) → i < length xs
-    → x ≡ get_or xs i x
-    → places_from n test (take (suc i) xs)
-    ≡ places_from n test (take i xs) ++ cond (test x) ((n + i) ∷ []) []
-places_next n test [] i x inside is = absurd (omega arith)
-places_next n test (y ∷ ys) zero x inside is = elim (test x) as (λ b. test x ≡ b
-    → places_from n test (y ∷ []) ≡ cond b ((n + 0) ∷ []) []) [
-      | true ↦ λ e. rw (ap test (sym is) ∙ e) (ap (λ m. m ∷ []) (omega arith))
-      | false ↦ λ e. rw (ap test (sym is) ∙ e) refl
-    ] refl
-places_next n test (y ∷ ys) (suc i) x inside is =
-    let rest = places_next (n + 1) test ys i x (omega arith) is in
-    let same : cond (test x) (((n + 1) + i) ∷ []) [] ≡ cond (test x) ((n + suc i) ∷ []) [] =
-    ap (λ m. cond (test x) (m ∷ []) []) (omega arith) in
-    elim (test y) as (λ b. cond b (n ∷ places_from (n + 1) test (take (suc i) ys))
-    (places_from (n + 1) test (take (suc i) ys))
-    ≡ cond b (n ∷ places_from (n + 1) test (take i ys)) (places_from (n + 1) test (take i ys))
-    ++ cond (test x) ((n + suc i) ∷ []) []) [
-      | true ↦ ap (λ l. n ∷ l) (rest ∙ ap (λ l. places_from (n + 1) test (take i ys) ++ l) same)
-      | false ↦ rest ∙ ap (λ l. places_from (n + 1) test (take i ys) ++ l) same
+-- the places of the hits are those of the ranges that pass the test
+pub places_of_hits : (i : ℕ) (test : Range → Bool) (ranges : List Range)
+    → true_places i (map test ranges) ≡ places_from i test ranges
+places_of_hits i test [] = refl
+places_of_hits i test (range ∷ ranges) =
+    ap (λ rest. cond (test range) (i ∷ rest) rest) (places_of_hits (i + 1) test ranges)
+
+-- the places of the first ones, and the next place where it is a hit
+places_next : (n : ℕ) (hits : List Bool) (i : ℕ) (hit : Bool) → i < length hits → get_or hits i false ≡ hit
+    → true_places n (take (suc i) hits) ≡ true_places n (take i hits) ++ cond hit ((n + i) ∷ []) []
+places_next n [] i hit inside is = absurd (omega arith)
+places_next n (first ∷ hits) zero true inside is = rw is (ap (λ m. m ∷ []) (omega arith))
+places_next n (first ∷ hits) zero false inside is = rw is refl
+places_next n (first ∷ hits) (suc i) hit inside is =
+    let rest = places_next (n + 1) hits i hit (omega arith) is in
+    let same : cond hit (((n + 1) + i) ∷ []) [] ≡ cond hit ((n + suc i) ∷ []) [] =
+    ap (λ m. cond hit (m ∷ []) []) (omega arith) in
+    let both = rest ∙ ap (λ l. true_places (n + 1) (take i hits) ++ l) same in
+    elim first as (λ b. cond b (n ∷ true_places (n + 1) (take (suc i) hits)) (true_places (n + 1) (take (suc i) hits))
+    ≡ cond b (n ∷ true_places (n + 1) (take i hits)) (true_places (n + 1) (take i hits))
+    ++ cond hit ((n + suc i) ∷ []) []) [
+      | true ↦ ap (λ l. n ∷ l) both
+      | false ↦ both
     ]
-
--- one that passes adds its place
-pub places_more : (test : Range → Bool) (xs : List Range) (i : ℕ) (x : Range) → i < length xs
-    → x ≡ get_or xs i x
-    → test x ≡ true → places_from 0 test (take (i + 1) xs) ≡ places_from 0 test (take i xs) ++ i ∷ []
-places_more test xs i x inside is passes =
-    ap (λ n. places_from 0 test (take n xs)) (add-one i) ∙ places_next 0 test xs i x inside is
-    ∙ ap (λ b. places_from 0 test (take i xs) ++ cond b ((0 + i) ∷ []) []) passes
-    ∙ ap (λ m. places_from 0 test (take i xs) ++ m ∷ []) (omega arith)
-
--- one that doesn't adds none
-pub places_same : (test : Range → Bool) (xs : List Range) (i : ℕ) (x : Range) → i < length xs
-    → x ≡ get_or xs i x
-    → test x ≡ false → places_from 0 test (take (i + 1) xs) ≡ places_from 0 test (take i xs)
-places_same test xs i x inside is fails =
-    ap (λ n. places_from 0 test (take n xs)) (add-one i) ∙ places_next 0 test xs i x inside is
-    ∙ ap (λ b. places_from 0 test (take i xs) ++ cond b ((0 + i) ∷ []) []) fails
-    ∙ append-nil (places_from 0 test (take i xs))
 
 -- a place behind all of them rises
 rising_push : (xs : List ℕ) (x : ℕ) → IsStrictlyIncreasing xs → All (λ y. y < x) xs
@@ -131,35 +120,34 @@ rising_push xs x rising below k inside =
     less_or_same : (m n : ℕ) → m < n + 1 → (m < n) ⊎ (m ≡ n)
     less_or_same m n h = grind arith
 
-module _ (m : Steps) (t : Txn) where
-  -- the places of those of the first i read ranges that hit the history
+module _ (hits : List Bool) where
+  -- the places of those of the first i that are hits
   pub record GatheredTo (i : ℕ) (places : List ℕ) : Type 0 where
     pub rising : IsStrictlyIncreasing places
     pub below : All (λ place. place < i) places
-    pub tells : (ws : List Write) → MapCovers m ws → places ≡ places_from 0 (is_hit ws t) (take i t.reads)
+    pub tells : places ≡ true_places 0 (take i hits)
 
   below_later : (i : ℕ) (places : List ℕ) → All (λ place. place < i) places
       → All (λ place. place < i + 1) places
   below_later i places below k d inside = omega (arith, below k d inside)
 
-  pub gathered_more : (i : ℕ) (range : Range) (places : List ℕ) → i < length t.reads
-      → range ≡ get_or t.reads i range
-      → ((ws : List Write) → MapCovers m ws → is_hit ws t range ≡ true) → GatheredTo i places
-      → GatheredTo (i + 1) (places ++ i ∷ [])
-  gathered_more i range places inside is hit g = record {
-    rising = rising_push places i g.rising g.below;
-    below = All-push (λ place. place < i + 1) places i (below_later i places g.below) (omega arith);
-    tells = λ ws covers. ap (λ l. l ++ i ∷ []) (g.tells ws covers)
-        ∙ sym (places_more (is_hit ws t) t.reads i range inside is (hit ws covers));
-  }
+  module _ (i : ℕ) (places : List ℕ) (inside : i < length hits) (g : GatheredTo i places) where
+    -- a hit adds its place
+    pub gathered_more : get_or hits i false ≡ true → GatheredTo (i + 1) (places ++ i ∷ [])
+    gathered_more is = record {
+      rising = rising_push places i g.rising g.below;
+      below = All-push (λ place. place < i + 1) places i (below_later i places g.below) (omega arith);
+      tells = ap (λ l. l ++ i ∷ []) g.tells
+          ∙ sym (ap (λ n. true_places 0 (take n hits)) (add-one i) ∙ places_next 0 hits i true inside is
+          ∙ ap (λ m. true_places 0 (take i hits) ++ m ∷ []) (omega arith));
+    }
 
-  pub gathered_same : (i : ℕ) (range : Range) (places : List ℕ) → i < length t.reads
-      → range ≡ get_or t.reads i range
-      → ((ws : List Write) → MapCovers m ws → is_hit ws t range ≡ false) → GatheredTo i places
-      → GatheredTo (i + 1) places
-  gathered_same i range places inside is hit g = record {
-    rising = g.rising;
-    below = below_later i places g.below;
-    tells = λ ws covers. g.tells ws covers
-        ∙ sym (places_same (is_hit ws t) t.reads i range inside is (hit ws covers));
-  }
+    -- what isn't a hit adds none
+    pub gathered_same : get_or hits i false ≡ false → GatheredTo (i + 1) places
+    gathered_same is = record {
+      rising = g.rising;
+      below = below_later i places g.below;
+      tells = g.tells
+          ∙ sym (ap (λ n. true_places 0 (take n hits)) (add-one i) ∙ places_next 0 hits i false inside is
+          ∙ append-nil (true_places 0 (take i hits)));
+    }

@@ -9,6 +9,7 @@ ghost use Rattle.keyspace.specs.Ends.{keys_of};
 ghost use Rattle.keyspace.specs.Ranks.{AreRanked};
 ghost use Rattle.conflict.specs.Judging.{TellWritten};
 
+use crate::asking::list_asked;
 use crate::gaps::Gaps;
 use crate::history::judge_by_history;
 use crate::in_batch::judge_in_batch;
@@ -42,7 +43,7 @@ pub fn judge_batch(
     Ok(entries)
 }
 
-// Judges each transaction by the history alone.
+// Judges each transaction by the history alone, which is asked once, for all of them.
 fn judge_all_by_history(
     alloc: Global,
     steps: &StepMap,
@@ -54,9 +55,16 @@ fn judge_all_by_history(
         → entries.items ≡ map (by_history oldest ws) batch.now.txns) }
     ensures count { IfOk result (λ entries. length entries.items ≡ length batch.now.txns) }
 {
+    stepmap::laws::hits();
+    let asked = list_asked(alloc, batch)?;
+    let mut answers = Vec::with_capacity(alloc, asked.len())?;
+    steps.exceeds_each(&asked, &mut answers)?;
     let mut entries = Vec::with_capacity(alloc, batch.txns.len())?;
+    let mut rest = answers.as_slice();
     for txn in batch.txns.as_slice() {
-        entries.push(judge_by_history(alloc, steps, oldest, txn)?)?;
+        let (own, later) = rest.split_at(txn.reads.len());
+        entries.push(judge_by_history(alloc, own, oldest, txn)?)?;
+        rest = later;
     }
     Ok(entries)
 }

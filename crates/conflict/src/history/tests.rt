@@ -3,7 +3,8 @@ ghost use Rattle.std.specs.Prelude.{◌≡◌, ◌≤◌, ◌≤ℤ◌, pos, len
 ghost use Rattle.keyspace.specs.Key.{IsBefore, IsAtMost};
 
 use super::judge_by_history;
-use keyspace::{Key, MAX_KEY_LENGTH, Range, Sequence, Txn, Verdict};
+use crate::asking::push_asked;
+use keyspace::{Entry, Key, MAX_KEY_LENGTH, Range, Sequence, Txn, Verdict};
 use std::alloc::{AllocError, Global};
 use std::test::Fail;
 use stepmap::{KeyLengths, StepMap};
@@ -40,6 +41,18 @@ fn reads(alloc: Global, snapshot: i64) -> Result<Txn, AllocError>
     ))
 }
 
+// Asks the step map for the read ranges, and judges the transaction by the answers.
+fn judge(alloc: Global, map: &StepMap, oldest: i64, txn: &Txn) -> Result<Entry, Fail> {
+    let mut asked = Vec::new(alloc);
+    push_asked(&mut asked, txn)?;
+    let mut hits = Vec::new(alloc);
+    map.exceeds_each(&asked, &mut hits)?;
+    if hits.len() != txn.reads.len() {
+        return Err("answers that aren't one a read range")?;
+    }
+    Ok(judge_by_history(alloc, &hits, oldest, txn)?)
+}
+
 #[test]
 fn judged_by_history(rt: HostRuntime) -> Result<(), Fail> {
     let alloc = rt.alloc();
@@ -47,16 +60,16 @@ fn judged_by_history(rt: HostRuntime) -> Result<(), Fail> {
     let written = [range(alloc, b"a", b"b")?];
     map.prepare(&[KeyLengths::of(written[0].as_ref())])?;
     map.write(written[0].as_ref(), 100);
-    let at_write = judge_by_history(alloc, &map, 0, &reads(alloc, 100)?)?;
+    let at_write = judge(alloc, &map, 0, &reads(alloc, 100)?)?;
     assert_eq!(rt; at_write.verdict, Verdict::Committed);
-    let before_write = judge_by_history(alloc, &map, 0, &reads(alloc, 99)?)?;
+    let before_write = judge(alloc, &map, 0, &reads(alloc, 99)?)?;
     assert_eq!(rt; before_write.verdict, Verdict::Conflict);
     assert_eq!(rt; before_write.places.as_slice(), [1].as_slice());
-    let below_oldest = judge_by_history(alloc, &map, 100, &reads(alloc, 99)?)?;
+    let below_oldest = judge(alloc, &map, 100, &reads(alloc, 99)?)?;
     assert_eq!(rt; below_oldest.verdict, Verdict::TooOld);
     let none = Sequence::new(Vec::new(alloc));
     let writes = Sequence::new(vec![in alloc; range(alloc, b"a", b"b")?]?);
-    let old_writer = judge_by_history(alloc, &map, 100, &Txn::new(0, true, none, writes))?;
+    let old_writer = judge(alloc, &map, 100, &Txn::new(0, true, none, writes))?;
     assert_eq!(rt; old_writer.verdict, Verdict::Committed);
     Ok(())
 }
