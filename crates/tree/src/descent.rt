@@ -1,19 +1,16 @@
 //! The way down a tree by what its nodes know of the bytes of keys.
 
-ghost use Rattle.std.specs.Prelude.{◌≡◌, ◌≤◌, ◌<◌, ◌<ℤ◌, ◌↔◌, ◌++◌, ℕ, Bool, true, false, List, length, map, take, Some, None, [], IfSome, IsTrue};
-ghost use Rattle.std.specs.List.{All, Any};
+ghost use Rattle.std.specs.Prelude.{◌≡◌, ◌≤◌, length};
 ghost use Rattle.arena.specs.Arena.{IsLive};
 ghost use Rattle.tree.specs.Hints.{AreHinted, KnowsAt};
-ghost use Rattle.tree.specs.Item.{Item, item_of};
 ghost use Rattle.tree.specs.Node.{hints_of};
 ghost use Rattle.tree.specs.Subtree.{entries_at, items_in, IsSubtree};
 ghost use Rattle.tree.specs.Tree.{least_of};
-ghost use Rattle.tree.specs.Path.{IsCut, leaf_in, behind_leaf, first_key, from_last};
+ghost use Rattle.tree.specs.Path.{IsCut, leaf_in, behind_leaf, first_key};
 
 use crate::node::Node;
 use crate::probe::Probe;
 use crate::search::key_at;
-use crate::span::any_above;
 use arena::{Arena, Slot};
 
 /// Where a search has come to.

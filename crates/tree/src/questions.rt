@@ -3,7 +3,6 @@
 
 ghost use Rattle.std.specs.Prelude.{◌≡◌, ◌≢◌, ◌≤◌, ◌<ℤ◌, ◌↔◌, ◌++◌, ℕ, Bool, true, List, length, map, take, Some, [], IfOk, IfSome, IsTrue, OnOk};
 ghost use Rattle.std.specs.List.{All, AllZip, Any};
-ghost use Rattle.arena.specs.Arena.{IsLive};
 ghost use Rattle.tree.specs.Hints.{AreHinted, KnowsAt};
 ghost use Rattle.tree.specs.Node.{hints_of};
 ghost use Rattle.tree.specs.Path.{IsCut, from_last, passing as passing_of};
