@@ -150,7 +150,7 @@ impl<const N: usize> Boundaries<N> {
         self.tree.exceeds_from_last(&begin, &end, shared, version)
     }
 
-    // Answers for each of these, in order, whether the version at some key of the range is above this one. The answers
+    // Answers for each of these, in order, whether the version at some key of its range is above its own. The answers
     // replace those that there are.
     pub fn are_above(&self, asked: &[Asked<'_>], answers: &mut Vec<bool>) -> Result<(), AllocError>
         requires boundaries { AreBoundaries self.now.boundaries }

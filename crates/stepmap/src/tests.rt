@@ -182,60 +182,52 @@ fn greatest_versions(rt: HostRuntime) -> Result<(), Fail> {
     Ok(())
 }
 
-// The answers to a handful of questions at once, empty ranges among them, are those to each one alone.
+// Asks at once for each of these ranges with some versions. A range comes with the greatest version in it.
+fn assert_each(
+    rt: &impl Abort,
+    alloc: Global,
+    map: &StepMap,
+    rows: &[(&Range, i64)],
+) -> Result<(), Fail> {
+    let mut asked = Vec::new(alloc);
+    let mut expected = Vec::new(alloc);
+    for (range, greatest) in rows {
+        for version in [-2, -1, 99, 100, 199, 200] {
+            let above = version < *greatest;
+            assert_eq!(rt;
+                map.exceeds(range, version),
+                above,
+                "{version} in {range:?}"
+            );
+            asked.push(Asked { range, version })?;
+            expected.push(above)?;
+        }
+    }
+    let mut answers = Vec::from_slice(alloc, &[true])?;
+    map.exceeds_each(&asked, &mut answers)?;
+    assert_eq!(rt; answers.as_slice(), expected.as_slice());
+    Ok(())
+}
+
+// An empty range, and more of the others in a row than are looked up side by side.
 #[test]
 fn each_as_alone(rt: HostRuntime) -> Result<(), Fail> {
     let alloc = rt.alloc();
     let map = two_writes(&rt, alloc)?;
     let none = range(alloc, b"b", b"b")?;
-    let first = range(alloc, b"", b"a")?;
+    let low = range(alloc, b"", b"a")?;
     let at_a = range(alloc, b"a", b"b")?;
-    let to_bb = range(alloc, b"a", b"bb")?;
-    let from_bb = range(alloc, b"bb", b"c")?;
-    let last = range(alloc, b"c", b"z")?;
-    let all = range(alloc, b"", b"z")?;
+    let high = range(alloc, b"bb", b"z")?;
     let rows = [
-        (&none, -2, false),
-        (&none, 300, false),
-        (&first, -2, true),
-        (&first, -1, false),
-        (&at_a, -1, true),
-        (&at_a, 99, true),
-        (&at_a, 100, false),
-        (&to_bb, 100, true),
-        (&to_bb, 199, true),
-        (&to_bb, 200, false),
-        (&from_bb, 100, true),
-        (&from_bb, 199, true),
-        (&from_bb, 200, false),
-        (&last, -1, true),
-        (&last, 99, true),
-        (&last, 100, false),
-        (&all, -1, true),
-        (&all, 150, true),
-        (&all, 199, true),
-        (&all, 200, false),
-        (&none, -2, false),
-        (&from_bb, 150, true),
-        (&first, 0, false),
+        (&low, -1),
+        (&none, i64::MIN),
+        (&at_a, 100),
+        (&high, 200),
+        (&low, -1),
+        (&none, i64::MIN),
     ];
-    let mut asked = Vec::new(alloc);
-    for (range, version, _) in rows {
-        asked.push(Asked { range, version })?;
-    }
-    let mut answers = Vec::from_slice(alloc, &[true])?;
-    map.exceeds_each(&asked, &mut answers)?;
-    assert_eq!(rt; answers.len(), rows.len());
-    for ((range, version, above), answer) in rows.iter().zip(&answers) {
-        assert_eq!(rt; answer, above, "{version} in {range:?}");
-        assert_eq!(rt;
-            map.exceeds(range, *version),
-            *above,
-            "{version} in {range:?}"
-        );
-    }
-    map.exceeds_each(&[], &mut answers)?;
-    assert!(rt; answers.is_empty());
+    assert_each(&rt, alloc, &map, &rows)?;
+    assert_each(&rt, alloc, &map, &[])?;
     Ok(())
 }
 
