@@ -7,8 +7,8 @@ use std::alloc::{AllocError, Global};
 use std::fmt;
 use std::marker::Model;
 
-// So many bytes lie in the value itself, which then has 32 bytes.
-const SHORT: usize = 30;
+// So many bytes lie in the value itself, which then has 40 bytes.
+const SHORT: usize = 38;
 
 /// A byte string. Up to `SHORT` bytes take no memory beside the value.
 #[derive(Drop)]
