@@ -3,6 +3,7 @@ pub mod Bytes
 pub mod Key
 pub mod Digest
 pub mod Range
+pub mod Ranges
 pub mod Places
 pub mod Processed
 pub mod Writes

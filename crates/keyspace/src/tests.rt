@@ -1,5 +1,6 @@
 use super::*;
 use std::alloc::Global;
+use std::sync::Arc;
 use std::test::Fail;
 
 pub(crate) fn key(alloc: Global, bytes: &[u8]) -> Result<Key, Fail> {
@@ -46,6 +47,25 @@ fn copies_a_range(rt: HostRuntime) -> Result<(), Fail> {
     assert_eq!(rt; copied.begin.as_bytes(), b"a".as_slice());
     assert_eq!(rt; copied.end.as_bytes(), b"b".as_slice());
     assert!(rt; copied.meets(&range) && copied.holds(b"a") && !copied.holds(b"b"));
+    Ok(())
+}
+
+#[test]
+fn shares_ranges(rt: HostRuntime) -> Result<(), Fail> {
+    let alloc = rt.alloc();
+    let mut all = Vec::new(alloc);
+    for (begin, end) in [(b"a", b"b"), (b"c", b"d"), (b"e", b"f")] {
+        all.push(range(key(alloc, begin)?, key(alloc, end)?)?)?;
+    }
+    let all = Arc::new(alloc, Sequence::new(all))?;
+    let reads = Ranges::part(Arc::try_clone(&all)?, 0, 1);
+    let writes = Ranges::part(all, 1, 3);
+    let txn = Txn::with_ranges(7, true, reads, writes);
+    assert!(rt; txn.snapshot == 7 && txn.marked && !txn.reads.is_empty());
+    assert_eq!(rt; (txn.reads.len(), txn.writes.len()), (1, 2));
+    assert_eq!(rt; txn.reads.as_slice()[0].end.as_bytes(), b"b".as_slice());
+    assert_eq!(rt; txn.writes.as_slice()[0].begin.as_bytes(), b"c".as_slice());
+    assert_eq!(rt; txn.writes.as_slice()[1].end.as_bytes(), b"f".as_slice());
     Ok(())
 }
 

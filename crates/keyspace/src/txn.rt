@@ -2,6 +2,7 @@ ghost use Rattle.std.specs.Prelude.{◌≡◌, ◌≤◌, ◌≤ℤ◌, pos, len
 ghost use Rattle.keyspace.specs.declared.txn.TheConstants.{MAX_RANGES};
 
 use crate::range::Range;
+use crate::ranges::Ranges;
 use crate::sequence::Sequence;
 
 /// The greatest number of read ranges of a transaction, and of write ranges: this project's own limit.
@@ -15,9 +16,9 @@ pub struct Txn {
     /// Whether the transaction asks for the places of its read ranges in conflict.
     pub marked: bool,
     /// The read conflict ranges, at most [`MAX_RANGES`], in the order sent.
-    pub reads: Sequence<Range>,
+    pub reads: Ranges,
     /// The write conflict ranges, at most [`MAX_RANGES`], in the order sent.
-    pub writes: Sequence<Range>,
+    pub writes: Ranges,
     ghost natural: { pos 0 ≤ℤ snapshot },
     ghost few_reads: { length reads ≤ MAX_RANGES },
     ghost few_writes: { length writes ≤ MAX_RANGES },
@@ -26,6 +27,19 @@ pub struct Txn {
 impl Txn {
     /// Creates a transaction, with its ranges in the order sent.
     pub fn new(snapshot: i64, marked: bool, reads: Sequence<Range>, writes: Sequence<Range>) -> Self
+        requires natural { pos 0 ≤ℤ snapshot }
+        requires few_reads { length reads ≤ MAX_RANGES }
+        requires few_writes { length writes ≤ MAX_RANGES }
+        ensures snapshot { result.snapshot ≡ snapshot }
+        ensures marked { result.marked ≡ marked }
+        ensures reads { result.reads ≡ reads }
+        ensures writes { result.writes ≡ writes }
+    {
+        Txn::with_ranges(snapshot, marked, Ranges::new(reads), Ranges::new(writes))
+    }
+
+    /// Creates a transaction as [`Txn::new`] does, whose ranges may lie among those of others.
+    pub fn with_ranges(snapshot: i64, marked: bool, reads: Ranges, writes: Ranges) -> Self
         requires natural { pos 0 ≤ℤ snapshot }
         requires few_reads { length reads ≤ MAX_RANGES }
         requires few_writes { length writes ≤ MAX_RANGES }

@@ -1,4 +1,5 @@
 pub mod Loop
+pub mod Appending
 pub mod Steps
 pub mod Taken
 pub mod Singles

@@ -11,6 +11,10 @@ Reading A = Result (A × List ℕ) WireError
 abbrev pub with_front : {A : Type 0} → List A → Reading (List A) → Reading (List A)
 with_front front read = read >>= λ x. Ok (front ++ x.0, x.1)
 
+pub with_none : {A : Type 0} (read : Reading (List A)) → with_front [] read ≡ read
+with_none (Ok x) = refl
+with_none (Err e) = refl
+
 regroup : {A : Type 0} (front : List A) (a : A) (read : Reading (List A))
     → with_front front (read >>= λ x. Ok (a ∷ x.0, x.1)) ≡ with_front (front ++ a ∷ []) read
 regroup {A} front a (Ok x) = ap (λ (all : List A). Ok (all, x.1)) (simp append_assoc)

@@ -1,4 +1,5 @@
 pub mod Fields
+pub mod Head
 pub mod Spelling
 pub mod Reading
 pub mod Source

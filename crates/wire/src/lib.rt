@@ -17,6 +17,7 @@ mod error;
 mod field;
 mod fill;
 mod frames;
+mod head;
 pub mod laws;
 mod length;
 mod put;

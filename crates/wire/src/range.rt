@@ -1,4 +1,4 @@
-ghost use Rattle.std.specs.Prelude.{◌≡◌, ◌≤◌, IfOk, vec_len, map};
+ghost use Rattle.std.specs.Prelude.{◌≡◌, ◌+◌, OnOk, length, map, take, drop};
 ghost use Rattle.wire.specs.Fields.{range_fields};
 ghost use Rattle.wire.specs.Reading.{Gives, ends_at, form_at, formed_at, range_at, many_at};
 
@@ -69,24 +69,25 @@ fn range_of(alloc: Global, version: WireVersion, bytes: &[u8]) -> Result<(Range,
     }
 }
 
-/// Reads `count` ranges.
-pub fn ranges_of(
+/// Reads `count` ranges, and appends them to those that there are.
+pub fn push_ranges<'a>(
     alloc: Global,
     version: WireVersion,
     count: u16,
-    bytes: &[u8],
-) -> Result<(Vec<Range>, &[u8]), WireError>
-    ensures reads { Gives (λ x. (map range_fields x.0.items, x.1.now)) result
+    ranges: &mut Vec<Range>,
+    bytes: &'a [u8],
+) -> Result<&'a [u8], WireError>
+    ensures reads { Gives (λ rest. (map range_fields (drop (length ranges.old.items) ranges.new.items), rest.now)) result
         (many_at (range_at version) count bytes.now) }
-    ensures count { IfOk result (λ x. vec_len x.0 ≡ count) }
+    ensures front { OnOk result (take (length ranges.old.items) ranges.new.items ≡ ranges.old.items) }
+    ensures count { OnOk result (length ranges.new.items ≡ length ranges.old.items + count) }
 {
-    let room = room_for(count, MIN_RANGE_LENGTH, bytes);
-    let mut ranges = Vec::with_capacity(alloc, room)?;
+    ranges.reserve(room_for(count, MIN_RANGE_LENGTH, bytes))?;
     let mut rest = bytes;
     for _ in 0..count {
         let (range, after) = range_of(alloc, version, rest)?;
         ranges.push(range)?;
         rest = after;
     }
-    Ok((ranges, rest))
+    Ok(rest)
 }
