@@ -1,11 +1,11 @@
 -- Ranges that are appended to others, and what lies among the first of them.
-use Rattle.std.proofs.Common.{◌≡◌, ℕ, ◌+◌, ◌-◌, ◌≤◌, List, [], ◌∷◌, ◌++◌, length, map, take, drop, refl, sym, ap, ◌∙◌, arith}
+use Rattle.std.proofs.Common.{◌≡◌, ℕ, ◌-◌, ◌≤◌, List, [], ◌∷◌, ◌++◌, length, map, take, drop, refl, sym, ap, ◌∙◌, arith}
 use Rattle.std.specs.List.{All, slice_range}
 use Rattle.std.proofs.lemmas.List.{take-append-le, drop-append-le, take-append-drop, take_rest, length-take, length-drop, map_push}
 use Rattle.std.proofs.lemmas.List.Elements.{All-head, All-tail, All-weaker, All-push}
 use Rattle.keyspace.specs.declared.range.Range.{Range}
 use Rattle.wire.specs.declared.head.Head.{Head}
-use Rattle.wire.specs.Fields.{TxnFields, range_fields}
+use Rattle.wire.specs.Fields.{TxnFields}
 use Rattle.wire.specs.Head.{fields_of_head, EndsWithin}
 
 -- what one more element does to those behind the first n

@@ -1,6 +1,5 @@
-use Rattle.std.proofs.Common.{◌≡◌, ◌≤◌, ◌+◌, drop, length, map, sym, ap, ◌∙◌, rules, arith}
+use Rattle.std.proofs.Common.{◌≡◌, ◌≤◌, drop, length, ap, ◌∙◌, rules, arith}
 use Rattle.std.specs.List.{slice_range}
-use Rattle.wire.specs.Fields.{range_fields}
 use Rattle.wire.specs.Reading.{txn_at, version_at}
 use Rattle.wire.proofs.Appending.{part_stays, part_to_end}
 use Rattle.wire.proofs.txn.head_of.Goals as goal
