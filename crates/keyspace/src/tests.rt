@@ -53,11 +53,11 @@ fn copies_a_range(rt: HostRuntime) -> Result<(), Fail> {
 #[test]
 fn shares_ranges(rt: HostRuntime) -> Result<(), Fail> {
     let alloc = rt.alloc();
-    let mut all = Vec::new(alloc);
-    for (begin, end) in [(b"a", b"b"), (b"c", b"d"), (b"e", b"f")] {
-        all.push(range(key(alloc, begin)?, key(alloc, end)?)?)?;
-    }
-    let all = Arc::new(alloc, Sequence::new(all))?;
+    let first = range(key(alloc, b"a")?, key(alloc, b"b")?)?;
+    let second = range(key(alloc, b"c")?, key(alloc, b"d")?)?;
+    let third = range(key(alloc, b"e")?, key(alloc, b"f")?)?;
+    let all = Sequence::new(vec![in alloc; first, second, third]?);
+    let all = Arc::new(alloc, all)?;
     let reads = Ranges::part(Arc::try_clone(&all)?, 0, 1);
     let writes = Ranges::part(all, 1, 3);
     let txn = Txn::with_ranges(7, true, reads, writes);
