@@ -69,7 +69,7 @@ fn range_of(alloc: Global, version: WireVersion, bytes: &[u8]) -> Result<(Range,
     }
 }
 
-/// Reads `count` ranges, and appends them to those that there are.
+/// Reads `count` ranges, and appends them to those that there are. After an error some of them may have been appended.
 pub fn push_ranges<'a>(
     alloc: Global,
     version: WireVersion,

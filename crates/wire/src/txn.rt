@@ -16,7 +16,7 @@ use std::sync::Arc;
 // The fewest bytes that a transaction takes.
 const MIN_TXN_LENGTH: usize = 13;
 
-// Reads a transaction, and appends its ranges, the read ranges first.
+// Reads a transaction, and appends its ranges, the read ranges first. After an error some of them may have been appended.
 #[tactic(auto, unfolding(crate::specs::Reading::txn_at, crate::specs::Reading::version_at))]
 fn head_of<'a>(
     alloc: Global,
@@ -85,6 +85,7 @@ pub fn txns_of(
 {
     let room = room_for(count, MIN_TXN_LENGTH, bytes);
     let mut heads = Vec::with_capacity(alloc, room)?;
+    // Room for two ranges of each transaction, one read and one written. Where there are more, it grows.
     let mut ranges = Vec::with_capacity(alloc, 2 * room)?;
     let mut rest = bytes;
     for _ in 0..count {
