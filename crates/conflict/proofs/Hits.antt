@@ -9,6 +9,7 @@ use Rattle.std.proofs.Common.{
   ◌+◌,
   ◌<◌,
   ◌||◌,
+  ◌&&◌,
   Bool,
   true,
   false,
@@ -32,12 +33,13 @@ use Rattle.std.proofs.Common.{
   inr,
 }
 use mathlib.Core.Bool.{beq}
-use Rattle.std.specs.Prelude.{◌≤ℤ◌, IsTrue, All}
+use Rattle.std.specs.Prelude.{not, ◌≤ℤ◌, IsTrue, All}
 use Rattle.std.specs.List.{list_any}
 use Rattle.std.specs.List.Sorted.{IsStrictlyIncreasing}
 use Rattle.std.proofs.Math.Seq.{get_or-append_seam}
 use Rattle.std.proofs.lemmas.List.{length-append, get_or_append_left}
 use Rattle.std.proofs.lemmas.List.Elements.{All-push}
+use Rattle.std.proofs.lemmas.List.Folds.{list_any-append}
 use Rattle.keyspace.specs.declared.range.Range.{Range}
 use Rattle.keyspace.specs.declared.txn.Txn.{Txn}
 use Rattle.keyspace.specs.Writes.{Write}
@@ -47,7 +49,7 @@ use Rattle.keyspace.proofs.Scans.{range_hit_from_test, test_from_range_hit}
 use Rattle.stepmap.specs.StepMap.{Steps}
 use Rattle.stepmap.specs.Covers.{MapCovers, IsAbove}
 use Rattle.stepmap.specs.Laws.{TellsHits}
-use Rattle.conflict.specs.Asking.{true_places}
+use Rattle.conflict.specs.Asking.{is_settled, true_places}
 
 false_is_true : false ≡ true → ⊥
 false_is_true e = cc
@@ -62,20 +64,70 @@ exceeds_is_hit tells m ws t range false covers late above =
     (λ hit. false_is_true
     (above.1 ((tells m ws range t.snapshot covers late).1 (range_hit_from_test ws t range hit)))))
 
--- there is a hit exactly if some range passes the test
-pub any_of_hits : (hits : List Bool) (test : Range → Bool) (ranges : List Range) → hits ≡ map test ranges
-    → list_any (λ hit. beq hit true) hits ≡ list_any test ranges
-any_of_hits hits test ranges is = ap (list_any (λ hit. beq hit true)) is ∙ in_order ranges
+-- some hit is true, as a search for it says
+pub any_true : (hits : List Bool) → list_any (λ hit. beq hit true) hits ≡ list_any (λ hit. hit) hits
+any_true [] = refl
+any_true (hit ∷ hits) =
+    ap (λ b. b || list_any (λ other. beq other true) hits) (same hit) ∙ ap (λ b. hit || b) (any_true hits)
   where
     same : (hit : Bool) → beq hit true ≡ hit
     same true = refl
     same false = refl
 
-    in_order : (ranges : List Range) → list_any (λ hit. beq hit true) (map test ranges) ≡ list_any test ranges
-    in_order [] = refl
-    in_order (range ∷ ranges) =
-        ap (λ b. b || list_any (λ hit. beq hit true) (map test ranges)) (same (test range))
-        ∙ ap (λ b. test range || b) (in_order ranges)
+-- there is a hit exactly if some range passes the test
+pub any_of_hits : (test : Range → Bool) (ranges : List Range)
+    → list_any (λ hit. hit) (map test ranges) ≡ list_any test ranges
+any_of_hits test [] = refl
+any_of_hits test (range ∷ ranges) = ap (λ b. test range || b) (any_of_hits test ranges)
+
+-- whether one of the first or one of the others is true, both together
+module _ (first others : List Bool) where
+  any_of_both : list_any (λ hit. hit) (first ++ others)
+      ≡ (list_any (λ hit. beq hit true) first || list_any (λ hit. beq hit true) others)
+  any_of_both =
+      list_any-append (λ hit. hit) first others
+      ∙ sym (ap (λ b. b || list_any (λ hit. beq hit true) others) (any_true first)
+      ∙ ap (λ b. list_any (λ hit. hit) first || b) (any_true others))
+
+  pub none_true : list_any (λ hit. beq hit true) first ≡ false → list_any (λ hit. beq hit true) others ≡ false
+      → list_any (λ hit. hit) (first ++ others) ≡ false
+  none_true none none_later = any_of_both ∙ rw (none, none_later) refl
+
+  pub first_true : list_any (λ hit. beq hit true) first ≡ true → list_any (λ hit. hit) (first ++ others) ≡ true
+  first_true some = any_of_both ∙ rw some refl
+
+  pub later_true : list_any (λ hit. beq hit true) first ≡ false → list_any (λ hit. beq hit true) others ≡ true
+      → list_any (λ hit. hit) (first ++ others) ≡ true
+  later_true none some = any_of_both ∙ rw (none, some) refl
+
+-- what the hits say of all read ranges
+module _ (ws : List Write) (t : Txn) (hits : List Bool) where
+  -- where none is true, they don't settle the transaction
+  pub none_hit : (is_settled t hits ≡ false → hits ≡ map (is_hit ws t) t.reads) → list_any (λ hit. hit) hits ≡ false
+      → list_any (is_hit ws t) t.reads ≡ false
+  none_hit whole none =
+      sym (any_of_hits (is_hit ws t) t.reads) ∙ sym (ap (list_any (λ hit. hit)) (whole unsettled)) ∙ none
+    where
+      and_false : (a : Bool) → (a && false) ≡ false
+      and_false true = refl
+      and_false false = refl
+
+      unsettled : is_settled t hits ≡ false
+      unsettled = ap (λ b. not t.marked && b) none ∙ and_false (not t.marked)
+
+  -- one is enough
+  pub some_hit : (others : List Bool) → hits ++ others ≡ map (is_hit ws t) t.reads → list_any (λ hit. hit) hits ≡ true
+      → list_any (is_hit ws t) t.reads ≡ true
+  some_hit others begin some =
+      sym (any_of_hits (is_hit ws t) t.reads)
+      ∙ sym (ap (list_any (λ hit. hit)) begin)
+      ∙ list_any-append (λ hit. hit) hits others
+      ∙ ap (λ b. b || list_any (λ hit. hit) others) some
+
+  -- they don't settle a marked transaction
+  pub marked_whole : (is_settled t hits ≡ false → hits ≡ map (is_hit ws t) t.reads) → t.marked ≡ true
+      → hits ≡ map (is_hit ws t) t.reads
+  marked_whole whole marked = whole (ap (λ b. not b && list_any (λ hit. hit) hits) marked)
 
 -- the places of the hits are those of the ranges that pass the test
 pub places_of_hits : (i : ℕ) (test : Range → Bool) (ranges : List Range)

@@ -1,34 +1,27 @@
 -- What is asked for a batch, transaction by transaction, and what the answers say of each.
-use Rattle.std.proofs.Common.{◌≡◌, ◌↔◌, ℕ, zero, suc, ◌+◌, ◌*◌, ◌<◌, ◌≤◌, Bool, List, [], ◌∷◌, ◌++◌, length, map, get_or, take, drop, refl, sym, ap, subst, ◌∙◌, arith, append-nil}
-use Rattle.std.specs.Prelude.{ℤ, ◌≤ℤ◌, IsTrue}
+use Rattle.std.proofs.Common.{◌≡◌, ◌↔◌, ℕ, zero, suc, ◌+◌, ◌*◌, ◌<◌, ◌≤◌, Bool, true, false, true≢false, cond, ◌||◌, List, [], ◌∷◌, ◌++◌, length, map, get_or, take, drop, refl, sym, ap, subst, ◌∙◌, arith, append-nil, append_assoc}
+use Rattle.std.specs.Prelude.{ℤ, ◌≤ℤ◌, IsTrue, flat_map}
 use Rattle.std.specs.List.{AllZip}
-use Rattle.std.proofs.lemmas.Grind.{flat_map-append}
 use Rattle.std.proofs.lemmas.List.{length-map, length-append, length-take, map-append, take_more, drop_more}
 use Rattle.keyspace.specs.declared.range.Range.{Range}
 use Rattle.keyspace.specs.declared.txn.Txn.{Txn}
 use Rattle.keyspace.specs.declared.reply.Entry.{Entry}
 use Rattle.keyspace.specs.Writes.{Write}
-use Rattle.keyspace.specs.Judge.{is_hit}
+use Rattle.keyspace.specs.Judge.{is_hit, is_too_old}
 use Rattle.stepmap.specs.StepMap.{Steps}
 use Rattle.stepmap.specs.Covers.{MapCovers, IsAbove}
 use Rattle.stepmap.specs.Laws.{TellsHits}
 use Rattle.stepmap.specs.declared.asked.Asked.{Asked}
-use Rattle.conflict.specs.Asking.{question, asked_of, asked_in, AreAnswers, AreHits}
+use Rattle.conflict.specs.Asking.{question, asked_at, is_settled, first_asked, then_asked, all_first, all_then, AreAnswers, AreHits}
 use Rattle.conflict.proofs.InBatch.{late_unless_old}
 use Rattle.conflict.proofs.Hits.{exceeds_is_hit}
 
 module _ (ts : List Txn) (i : ℕ) (t : Txn) (inside : i < length ts) (is_next : t ≡ get_or ts i t) where
-  -- one more transaction is gone through
-  pub asked_more : asked_in (take (i + 1) ts) ≡ asked_in (take i ts) ++ asked_of t
-  asked_more =
-      ap asked_in (take_more ts i t inside ∙ ap (λ u. take i ts ++ u ∷ []) (sym is_next))
-      ∙ flat_map-append asked_of (take i ts) (t ∷ [])
-      ∙ ap (λ rs. asked_in (take i ts) ++ rs) (append-nil (asked_of t))
+  -- the next transaction comes before those after it
+  pub txns_left : drop i ts ≡ t ∷ drop (i + 1) ts
+  txns_left = drop_more ts i t inside ∙ ap (λ u. u ∷ drop (i + 1) ts) (sym is_next)
 
-  asked_left : asked_in (drop i ts) ≡ asked_of t ++ asked_in (drop (i + 1) ts)
-  asked_left = ap asked_in (drop_more ts i t inside ∙ ap (λ u. u ∷ drop (i + 1) ts) (sym is_next))
-
-  -- and one more is judged
+  -- one more is judged
   pub judged_more : (f : Txn → Entry) (es : List Entry) (e : Entry) → es ≡ map f (take i ts) → e ≡ f t
       → es ++ e ∷ [] ≡ map f (take (i + 1) ts)
   judged_more f es e before is =
@@ -36,15 +29,34 @@ module _ (ts : List Txn) (i : ℕ) (t : Txn) (inside : i < length ts) (is_next :
       ∙ ap (λ d. map f (take i ts) ++ d ∷ []) (is ∙ ap f is_next)
       ∙ sym (ap (map f) (take_more ts i t inside) ∙ map-append f (take i ts) (get_or ts i t ∷ []))
 
--- the first transactions ask few questions
-pub asked_few : (i : ℕ) (ts : List Txn) → length (asked_in (take i ts)) ≤ i * 1024
-asked_few zero ts = omega arith
-asked_few (suc i) [] = omega arith
-asked_few (suc i) (t ∷ ts) =
+-- what is asked of one more, first and then
+module _ (oldest : ℤ) (ts : List Txn) (i : ℕ) (t : Txn) (inside : i < length ts) (is_next : t ≡ get_or ts i t) where
+  pub first_count : length (all_first oldest (drop i ts))
+      ≡ length (first_asked oldest t) + length (all_first oldest (drop (i + 1) ts))
+  first_count =
+      let long : length (asked_at t.snapshot (first_asked oldest t)) ≡ length (first_asked oldest t) =
+      length-map (first_asked oldest t) (λ range. (range, t.snapshot)) in
+      ap (λ us. length (all_first oldest us)) (txns_left ts i t inside is_next)
+      ∙ length-append (asked_at t.snapshot (first_asked oldest t)) (all_first oldest (drop (i + 1) ts))
+      ∙ ap (λ n. n + length (all_first oldest (drop (i + 1) ts))) long
+
+  pub then_more : (done : List (Range × ℤ)) (hits : List Bool)
+      → (done ++ asked_at t.snapshot (then_asked oldest t (take (length (first_asked oldest t)) hits)))
+      ++ all_then oldest (drop (i + 1) ts) (drop (length (first_asked oldest t)) hits)
+      ≡ done ++ all_then oldest (drop i ts) hits
+  then_more done hits =
+      append_assoc done (asked_at t.snapshot (then_asked oldest t (take (length (first_asked oldest t)) hits)))
+      (all_then oldest (drop (i + 1) ts) (drop (length (first_asked oldest t)) hits))
+      ∙ ap (λ us. done ++ all_then oldest us hits) (sym (txns_left ts i t inside is_next))
+
+-- the first transactions have few read ranges
+pub reads_few : (i : ℕ) (ts : List Txn) → length (flat_map (λ (t : Txn). t.reads) (take i ts)) ≤ i * 1024
+reads_few zero ts = omega arith
+reads_few (suc i) [] = omega arith
+reads_few (suc i) (t ∷ ts) =
     let few_reads = t.few_reads in
-    let own : length (asked_of t) ≡ length t.reads = length-map t.reads (λ range. (range, t.snapshot)) in
-    let rest = asked_few i ts in
-    let both = length-append (asked_of t) (asked_in (take i ts)) in
+    let rest = reads_few i ts in
+    let both = length-append t.reads (flat_map (λ (u : Txn). u.reads) (take i ts)) in
     omega arith
 
 -- the answers to the first questions, and those to the others
@@ -62,6 +74,10 @@ zip_count R [] (y ∷ ys) all = absurd all
 zip_count R (x ∷ xs) [] all = absurd all
 zip_count R (x ∷ xs) (y ∷ ys) all = ap suc (zip_count R xs ys all.1)
 
+pub answer_count : (m : Steps) (asked : List (Range × ℤ)) (answers : List Bool) → AreAnswers m asked answers
+    → length answers ≡ length asked
+answer_count m asked answers all = zip_count _ asked answers all
+
 zip_map : {X Y Z : Type 0} (R : Z → Y → Type 0) (f : X → Z) (xs : List X) (ys : List Y)
     → AllZip (λ x y. R (f x) y) xs ys → AllZip R (map f xs) ys
 zip_map R f [] [] all = tt
@@ -69,39 +85,100 @@ zip_map R f [] (y ∷ ys) all = absurd all
 zip_map R f (x ∷ xs) [] all = absurd all
 zip_map R f (x ∷ xs) (y ∷ ys) all = (all.0, zip_map R f xs ys all.1)
 
--- what is answered, of what is asked for all transactions
-pub all_answered : (m : Steps) (asked : List Asked) (ts : List Txn) (bs : List Bool)
-    → map question asked ≡ asked_in ts
-    → AllZip (λ a above. IsTrue above ↔ IsAbove m a.range.now a.version) asked bs → AreAnswers m (asked_in ts) bs
-all_answered m asked ts bs is all =
-    subst (λ qs. AreAnswers m qs bs) is
-    (zip_map (λ (a : Range × ℤ) above. IsTrue above ↔ IsAbove m a.0 a.1) question asked bs all)
+-- the answers to what is listed are those to its questions
+pub all_answered : (m : Steps) (asked : List Asked) (bs : List Bool)
+    → AllZip (λ a above. IsTrue above ↔ IsAbove m a.range.now a.version) asked bs → AreAnswers m (map question asked) bs
+all_answered m asked bs all =
+    zip_map (λ (a : Range × ℤ) above. IsTrue above ↔ IsAbove m a.0 a.1) question asked bs all
 
-module _ (m : Steps) (ts : List Txn) (i : ℕ) (rest : List Bool) (t : Txn) (inside : i < length ts)
-    (is_next : t ≡ get_or ts i t) (answers : AreAnswers m (asked_in (drop i ts)) rest) where
-  own_long : length (asked_of t) ≡ length t.reads
-  own_long = length-map t.reads (λ range. (range, t.snapshot))
+module _ (m : Steps) (snapshot : ℤ) (ranges : List Range) (others : List (Range × ℤ)) (answers : List Bool)
+    (all : AreAnswers m (asked_at snapshot ranges ++ others) answers) where
+  long : length (asked_at snapshot ranges) ≡ length ranges
+  long = length-map ranges (λ range. (range, snapshot))
 
-  both : AreAnswers m (asked_of t) (take (length t.reads) rest)
-      × AreAnswers m (asked_in (drop (i + 1) ts)) (drop (length t.reads) rest)
+  both : AreAnswers m (asked_at snapshot ranges) (take (length ranges) answers)
+      × AreAnswers m others (drop (length ranges) answers)
   both = subst
-      (λ n. AreAnswers m (asked_of t) (take n rest) × AreAnswers m (asked_in (drop (i + 1) ts)) (drop n rest)) own_long
-      (zip_split _ (asked_of t) (asked_in (drop (i + 1) ts)) rest
-      (subst (λ qs. AreAnswers m qs rest) (asked_left ts i t inside is_next) answers))
+      (λ n. AreAnswers m (asked_at snapshot ranges) (take n answers) × AreAnswers m others (drop n answers)) long
+      (zip_split _ (asked_at snapshot ranges) others answers all)
 
-  -- the answers of the next transaction come first
-  pub own_answers : AreAnswers m (asked_of t) (take (length t.reads) rest)
+  own_answers : AreAnswers m (asked_at snapshot ranges) (take (length ranges) answers)
   own_answers = both.0
 
-  -- then those of the transactions after it
-  pub later_answers : AreAnswers m (asked_in (drop (i + 1) ts)) (drop (length t.reads) rest)
+  later_answers : AreAnswers m others (drop (length ranges) answers)
   later_answers = both.1
 
-  -- the next transaction has an answer a read range
-  pub own_within : length t.reads ≤ length rest
+  own_within : length ranges ≤ length answers
   own_within =
-      let count = zip_count _ (asked_of t) (take (length t.reads) rest) both.0 in
-      omega (arith, count, own_long, length-take (length t.reads) rest)
+      let count = zip_count _ (asked_at snapshot ranges) (take (length ranges) answers) both.0 in
+      omega (arith, count, long, length-take (length ranges) answers)
+
+-- What is left of the questions begins with those of the next transaction, and so do the answers.
+module _ (m : Steps) (oldest : ℤ) (ts : List Txn) (i : ℕ) (t : Txn) (inside : i < length ts)
+    (is_next : t ≡ get_or ts i t) (firsts : List Bool) (told : AreAnswers m (all_first oldest (drop i ts)) firsts) where
+  abbrev ranges : List Range
+  ranges = first_asked oldest t
+
+  abbrev own : List Bool
+  own = take (length ranges) firsts
+
+  left : AreAnswers m (asked_at t.snapshot ranges ++ all_first oldest (drop (i + 1) ts)) firsts
+  left = subst (λ us. AreAnswers m (all_first oldest us) firsts) (txns_left ts i t inside is_next) told
+
+  pub first_own : AreAnswers m (asked_at t.snapshot (first_asked oldest t)) (take (length (first_asked oldest t)) firsts)
+  first_own = own_answers m t.snapshot ranges (all_first oldest (drop (i + 1) ts)) firsts left
+
+  pub first_later : AreAnswers m (all_first oldest (drop (i + 1) ts)) (drop (length (first_asked oldest t)) firsts)
+  first_later = later_answers m t.snapshot ranges (all_first oldest (drop (i + 1) ts)) firsts left
+
+  pub first_within : length (first_asked oldest t) ≤ length firsts
+  first_within = own_within m t.snapshot ranges (all_first oldest (drop (i + 1) ts)) firsts left
+
+  module _ (others : List Bool) (others_told : AreAnswers m (all_then oldest (drop i ts) firsts) others) where
+    abbrev other_ranges : List Range
+    other_ranges = then_asked oldest t own
+
+    others_left : AreAnswers m
+        (asked_at t.snapshot other_ranges ++ all_then oldest (drop (i + 1) ts) (drop (length ranges) firsts)) others
+    others_left =
+        subst (λ us. AreAnswers m (all_then oldest us firsts) others) (txns_left ts i t inside is_next) others_told
+
+    pub other_own : AreAnswers m (asked_at t.snapshot (then_asked oldest t (take (length (first_asked oldest t)) firsts)))
+        (take (length (then_asked oldest t (take (length (first_asked oldest t)) firsts))) others)
+    other_own = own_answers m t.snapshot other_ranges (all_then oldest (drop (i + 1) ts) (drop (length ranges) firsts))
+        others others_left
+
+    pub other_later : AreAnswers m (all_then oldest (drop (i + 1) ts) (drop (length (first_asked oldest t)) firsts))
+        (drop (length (then_asked oldest t (take (length (first_asked oldest t)) firsts))) others)
+    other_later = later_answers m t.snapshot other_ranges
+        (all_then oldest (drop (i + 1) ts) (drop (length ranges) firsts)) others others_left
+
+    pub other_within : length (then_asked oldest t (take (length (first_asked oldest t)) firsts)) ≤ length others
+    other_within = own_within m t.snapshot other_ranges
+        (all_then oldest (drop (i + 1) ts) (drop (length ranges) firsts)) others others_left
+
+-- an answer a question of the next transaction, at most one a read range of it
+pub answers_few : (m : Steps) (oldest : ℤ) (t : Txn) (first others : List Bool)
+    → AreAnswers m (asked_at t.snapshot (first_asked oldest t)) first
+    → AreAnswers m (asked_at t.snapshot (then_asked oldest t first)) others
+    → length first + length others ≤ length t.reads
+answers_few m oldest t first others told others_told =
+    let count = zip_count _ (asked_at t.snapshot (first_asked oldest t)) first told in
+    let others_count = zip_count _ (asked_at t.snapshot (then_asked oldest t first)) others others_told in
+    let long : length (asked_at t.snapshot (first_asked oldest t)) ≡ length (first_asked oldest t) =
+    length-map (first_asked oldest t) (λ range. (range, t.snapshot)) in
+    let others_long : length (asked_at t.snapshot (then_asked oldest t first)) ≡ length (then_asked oldest t first) =
+    length-map (then_asked oldest t first) (λ range. (range, t.snapshot)) in
+    let few = parts_few (is_too_old oldest t) (is_settled t first) t.reads in
+    omega (arith, count, others_count, long, others_long, few)
+  where
+    parts_few : (old settled : Bool) (reads : List Range)
+        → length (cond old [] (take 1 reads)) + length (cond (old || settled) [] (drop 1 reads)) ≤ length reads
+    parts_few true settled reads = omega arith
+    parts_few false true [] = omega arith
+    parts_few false true (r ∷ rs) = omega arith
+    parts_few false false [] = omega arith
+    parts_few false false (r ∷ rs) = omega arith
 
 hits_told : TellsHits → (m : Steps) (ws : List Write) (t : Txn) → MapCovers m ws → (ranges : List Range) (bs : List Bool)
     → (0 < length ranges → m.edge ≤ℤ t.snapshot)
@@ -115,7 +192,56 @@ hits_told tells m ws t covers (range ∷ ranges) (b ∷ bs) late answers =
     ∙ ap (λ hits. is_hit ws t range ∷ hits) (hits_told tells m ws t covers ranges bs (λ some. now) answers.1)
 
 -- the answers of a transaction say what the writes hit, where the step map covers these
-pub hits_from_answers : TellsHits → (m : Steps) (ws : List Write) (oldest : ℤ) (t : Txn) (bs : List Bool)
-    → MapCovers m ws → m.edge ≤ℤ oldest → AreAnswers m (asked_of t) bs → AreHits oldest ws t bs
-hits_from_answers tells m ws oldest t bs covers below answers =
-    λ young. hits_told tells m ws t covers t.reads bs (late_unless_old oldest m.edge t young below) answers
+pub hits_from_answers : TellsHits → (m : Steps) (ws : List Write) (oldest : ℤ) (t : Txn) (first others : List Bool)
+    → MapCovers m ws → m.edge ≤ℤ oldest
+    → AreAnswers m (asked_at t.snapshot (first_asked oldest t)) first
+    → AreAnswers m (asked_at t.snapshot (then_asked oldest t first)) others
+    → AreHits oldest ws t (first ++ others)
+hits_from_answers tells m ws oldest t first others covers below told others_told = λ young.
+    let late = late_unless_old oldest m.edge t young below in
+    by_settled (first_hits young late) late (is_settled t first) refl
+    (subst (λ old. AreAnswers m (asked_at t.snapshot (cond (old || is_settled t first) [] (drop 1 t.reads))) others)
+    young others_told)
+  where
+    some_reads : (reads : List Range) → 0 < length (take 1 reads) → 0 < length reads
+    some_reads [] some = some
+    some_reads (r ∷ rs) some = omega arith
+
+    some_later : (reads : List Range) → 0 < length (drop 1 reads) → 0 < length reads
+    some_later [] some = some
+    some_later (r ∷ rs) some = omega arith
+
+    both_parts : (reads : List Range)
+        → map (is_hit ws t) (take 1 reads) ++ map (is_hit ws t) (drop 1 reads) ≡ map (is_hit ws t) reads
+    both_parts [] = refl
+    both_parts (r ∷ rs) = refl
+
+    none_answered : (bs : List Bool) → AreAnswers m [] bs → bs ≡ []
+    none_answered [] all = refl
+    none_answered (b ∷ bs) all = absurd all
+
+    first_hits : is_too_old oldest t ≡ false → (0 < length t.reads → m.edge ≤ℤ t.snapshot)
+        → first ≡ map (is_hit ws t) (take 1 t.reads)
+    first_hits young late = hits_told tells m ws t covers (take 1 t.reads) first
+        (λ some. late (some_reads t.reads some))
+        (subst (λ old. AreAnswers m (asked_at t.snapshot (cond old [] (take 1 t.reads))) first) young told)
+
+    by_settled : first ≡ map (is_hit ws t) (take 1 t.reads) → (0 < length t.reads → m.edge ≤ℤ t.snapshot)
+        → (settled : Bool) → is_settled t first ≡ settled
+        → AreAnswers m (asked_at t.snapshot (cond settled [] (drop 1 t.reads))) others
+        → ((rest : List Bool) × ((first ++ others) ++ rest ≡ map (is_hit ws t) t.reads))
+        × (is_settled t (first ++ others) ≡ false → first ++ others ≡ map (is_hit ws t) t.reads)
+    by_settled firsts late true settled answers =
+        let none = none_answered others answers in
+        let alone : first ++ others ≡ first = ap (λ bs. first ++ bs) none ∙ append-nil first in (
+          (
+            map (is_hit ws t) (drop 1 t.reads),
+            ap (λ bs. bs ++ map (is_hit ws t) (drop 1 t.reads)) (alone ∙ firsts) ∙ both_parts t.reads,
+          ),
+          λ is. absurd (true≢false (sym settled ∙ sym (ap (is_settled t) alone) ∙ is)),
+        )
+    by_settled firsts late false settled answers =
+        let then = hits_told tells m ws t covers (drop 1 t.reads) others (λ some. late (some_later t.reads some)) answers in
+        let whole : first ++ others ≡ map (is_hit ws t) t.reads =
+        ap (λ bs. bs ++ others) firsts ∙ ap (λ bs. map (is_hit ws t) (take 1 t.reads) ++ bs) then ∙ both_parts t.reads in
+        (([], append-nil (first ++ others) ∙ whole), λ is. whole)

@@ -1,6 +1,6 @@
 //! The check of a transaction against the history.
 
-ghost use Rattle.std.specs.Prelude.{◌≡◌, ◌≤◌, List, length, IfOk};
+ghost use Rattle.std.specs.Prelude.{◌≡◌, ◌+◌, ◌≤◌, List, ◌++◌, length, IfOk};
 ghost use Rattle.keyspace.specs.declared.txn.TheConstants.{MAX_RANGES};
 ghost use Rattle.keyspace.specs.Writes.{Write};
 ghost use Rattle.keyspace.specs.Judge.{is_too_old};
@@ -10,8 +10,8 @@ ghost use Rattle.conflict.specs.Asking.{AreHits, true_places};
 use keyspace::{Entry, Places, Txn, Verdict};
 use std::alloc::{AllocError, Global};
 
-// Returns `true` if the transaction reads, at a snapshot below the oldest version that may be read.
-fn is_old(txn: &Txn, oldest: i64) -> bool
+/// Returns `true` if the transaction reads, at a snapshot below the oldest version that may be read.
+pub fn is_old(txn: &Txn, oldest: i64) -> bool
     ensures too_old { result ≡ is_too_old oldest txn.now }
 {
     !txn.reads.is_empty() && txn.snapshot < oldest
@@ -31,29 +31,33 @@ fn hit_places(alloc: Global, hits: &[bool]) -> Result<Places, AllocError>
     Ok(Places::new(places))
 }
 
-/// Judges the transaction by the history alone. The hits say of each read range, in order, whether it hits the history;
-/// those of a transaction that is too old aren't looked at. The snapshot is too old if it is below `oldest`.
+/// Judges the transaction by the history alone. The first hits say of its first read ranges, in order, whether each hits the
+/// history, and the other hits say so of those that come next. They needn't say it of the rest where these settle the
+/// transaction. Those of one that is too old aren't looked at. The snapshot is too old if it is below `oldest`.
 pub fn judge_by_history(
     alloc: Global,
-    hits: &[bool],
+    first: &[bool],
+    others: &[bool],
     oldest: i64,
     txn: &Txn,
 ) -> Result<Entry, AllocError>
-    requires count { length hits.now ≡ length txn.now.reads }
-    ensures judged { IfOk result (λ entry. (ws : List Write) → AreHits oldest ws txn.now hits.now
+    requires few { length first.now + length others.now ≤ MAX_RANGES }
+    ensures judged { IfOk result (λ entry. (ws : List Write) → AreHits oldest ws txn.now (first.now ++ others.now)
         → entry ≡ by_history oldest ws txn.now) }
 {
     let none = Places::new(Vec::new(alloc));
     if is_old(txn, oldest) {
         return Ok(Entry::new(Verdict::TooOld, none));
     }
-    if !hits.contains(&true) {
+    if !first.contains(&true) && !others.contains(&true) {
         return Ok(Entry::new(Verdict::Committed, none));
     }
     if !txn.marked {
         return Ok(Entry::new(Verdict::Conflict, none));
     }
-    let places = hit_places(alloc, hits)?;
+    let mut hits = Vec::from_slice(alloc, first)?;
+    hits.extend_from_slice(others)?;
+    let places = hit_places(alloc, &hits)?;
     Ok(Entry::new(Verdict::Conflict, places))
 }
 

@@ -5,18 +5,19 @@ ghost use Rattle.keyspace.specs.Writes.{Write, committed};
 ghost use Rattle.keyspace.specs.Judge.{judge_txns};
 ghost use Rattle.stepmap.specs.Covers.{MapCovers};
 ghost use Rattle.conflict.specs.InBatch.{by_history};
+ghost use Rattle.conflict.specs.Asking.{question, AreAnswers};
 ghost use Rattle.keyspace.specs.Ends.{keys_of};
 ghost use Rattle.keyspace.specs.Ranks.{AreRanked};
 ghost use Rattle.conflict.specs.Judging.{TellWritten};
 
-use crate::asking::list_asked;
+use crate::asking::{first_reads, list_first, list_others, other_reads};
 use crate::gaps::Gaps;
 use crate::history::judge_by_history;
 use crate::in_batch::judge_in_batch;
 use crate::laws;
 use keyspace::{Batch, Entry, Ranks};
 use std::alloc::{AllocError, Global};
-use stepmap::StepMap;
+use stepmap::{Asked, StepMap};
 
 /// Judges the transactions of a batch. A snapshot is too old if it is below `oldest`. Afterwards the gaps say what
 /// the batch writes.
@@ -43,7 +44,8 @@ pub fn judge_batch(
     Ok(entries)
 }
 
-// Judges each transaction by the history alone, which is asked once, for all of them.
+// Judges each transaction by the history alone, which is asked twice for all of them: first for one read range of each, and
+// then for the others of those that aren't settled.
 fn judge_all_by_history(
     alloc: Global,
     steps: &StepMap,
@@ -56,15 +58,30 @@ fn judge_all_by_history(
     ensures count { IfOk result (λ entries. length entries.items ≡ length batch.now.txns) }
 {
     stepmap::laws::hits();
-    let asked = list_asked(alloc, batch)?;
-    let mut answers = Vec::with_capacity(alloc, asked.len())?;
-    steps.exceeds_each(&asked, &mut answers)?;
+    let first_answers = ask(alloc, steps, &list_first(alloc, oldest, batch)?)?;
+    let other_answers = ask(
+        alloc,
+        steps,
+        &list_others(alloc, oldest, batch, &first_answers)?,
+    )?;
     let mut entries = Vec::with_capacity(alloc, batch.txns.len())?;
-    let mut rest = answers.as_slice();
+    let mut firsts = first_answers.as_slice();
+    let mut others = other_answers.as_slice();
     for txn in batch.txns.as_slice() {
-        let (own, later) = rest.split_at(txn.reads.len());
-        entries.push(judge_by_history(alloc, own, oldest, txn)?)?;
-        rest = later;
+        let (first, later_firsts) = firsts.split_at(first_reads(txn, oldest).len());
+        let (other, later_others) = others.split_at(other_reads(txn, oldest, first).len());
+        entries.push(judge_by_history(alloc, first, other, oldest, txn)?)?;
+        firsts = later_firsts;
+        others = later_others;
     }
     Ok(entries)
+}
+
+// Returns the answers of the history, in order.
+fn ask(alloc: Global, steps: &StepMap, asked: &[Asked<'_>]) -> Result<Vec<bool>, AllocError>
+    ensures answers { IfOk result (λ answers. AreAnswers steps.now (map question asked.now) answers.items) }
+{
+    let mut answers = Vec::with_capacity(alloc, asked.len())?;
+    steps.exceeds_each(asked, &mut answers)?;
+    Ok(answers)
 }

@@ -1,8 +1,8 @@
 //! Verdicts and reports of a batch, over the step map that remembers committed writes.
 //!
 //! [`ConflictSet::resolve`] judges a batch after all writes that the set remembers, and remembers what the batch
-//! commits. First the history is asked for all read ranges of the batch, which `asking`
-//! lists, and `history` judges each transaction by the answers alone. Those that are left `in_batch` judges in order:
+//! commits. First the history is asked, for as many read ranges of each transaction as `asking` lists, and `history` judges
+//! each transaction by the answers alone. Those that are left `in_batch` judges in order:
 //! a batch knows which gaps between its keys each of its ranges covers, and `gaps` keeps those that earlier transactions
 //! wrote. The runs of these gaps are the `union` of what the batch commits, and `writing` writes it.
 //! `laws` ties these parts to the reference definitions.

@@ -1,6 +1,6 @@
 //! A transaction that reads what was written at 100, by snapshot and oldest version.
 ghost use Rattle.std.specs.Prelude.{◌≡◌, ◌≤◌, ◌≤ℤ◌, pos, length, IfOk};
-ghost use Rattle.keyspace.specs.Key.{IsBefore, IsAtMost};
+ghost use Rattle.keyspace.specs.Key.{IsAtMost};
 
 use super::judge_by_history;
 use crate::asking::push_asked;
@@ -44,13 +44,13 @@ fn reads(alloc: Global, snapshot: i64) -> Result<Txn, AllocError>
 // Asks the step map for the read ranges, and judges the transaction by the answers.
 fn judge(alloc: Global, map: &StepMap, oldest: i64, txn: &Txn) -> Result<Entry, Fail> {
     let mut asked = Vec::new(alloc);
-    push_asked(&mut asked, txn)?;
+    push_asked(&mut asked, txn.reads.as_slice(), txn.snapshot)?;
     let mut hits = Vec::new(alloc);
     map.exceeds_each(&asked, &mut hits)?;
     if hits.len() != txn.reads.len() {
         return Err("answers that aren't one a read range")?;
     }
-    Ok(judge_by_history(alloc, &hits, oldest, txn)?)
+    Ok(judge_by_history(alloc, &hits, &[], oldest, txn)?)
 }
 
 #[test]

@@ -1,50 +1,90 @@
-use Rattle.std.proofs.Common.{ap, sym, ◌∙◌, w64}
-use Rattle.keyspace.specs.Judge.{is_hit, is_too_old}
+use Rattle.std.proofs.Common.{◌≡◌, ◌++◌, ap, sym, ◌∙◌, true, w64}
+use Rattle.std.specs.List.{list_any}
 use Rattle.std.proofs.lemmas.Int.{to_z-of_z}
+use Rattle.keyspace.specs.Judge.{is_hit, is_too_old}
 use Rattle.conflict.specs.Asking.{true_places}
-use Rattle.conflict.proofs.Hits.{any_of_hits, places_of_hits}
+use Rattle.conflict.proofs.Hits.{
+  none_true,
+  first_true,
+  later_true,
+  none_hit,
+  some_hit,
+  marked_whole,
+  places_of_hits,
+}
 use Rattle.conflict.proofs.InBatch.{committed_entry, unmarked_entry, marked_entry}
 use Rattle.conflict.proofs.history.judge_by_history.Goals as goal
+use Rattle.conflict.proofs.history.judge_by_history.Goals.{
+  else-not-contains-via-then-not-contains+else-not-contains-2,
+  else-not-contains-via-else-not-contains,
+}
 
-pub returns-then-not-contains : goal.returns-then-not-contains
-returns-then-not-contains c =
+pub returns-then-not-contains-2 : goal.returns-then-not-contains-2
+returns-then-not-contains-2 c =
     let t = c.args.txn.now in
+    let first = c.args.first.now in
+    let others = c.args.others.now in
     let young = sym (c.is_old.ensures.too_old
     ∙ ap (λ oldest. is_too_old oldest t) (to_z-of_z w64 c.args.oldest c.ranges.oldest))
     ∙ c.if-is_old.false in
-    let made = c.new-then-not-contains.ensures in
-    let none = made.places ∙ c.new-none.ensures.places ∙ c.new.ensures.items in
+    let made = c.new-then-not-contains-2.ensures in
+    let places = made.places ∙ c.new-none.ensures.places ∙ c.new.ensures.items in
+    let none = none_true first others (sym c.contains.ensures.value ∙ c.if-not-contains.true)
+    (sym c.contains-then-not-contains.ensures.value ∙ c.if-not-contains-2.true) in
     record {
-      judged = λ ws right.
-          committed_entry c.args.oldest ws t c.new-then-not-contains.result made.verdict none young
-          (sym (c.contains.ensures.value ∙ any_of_hits c.args.hits.now (is_hit ws t) t.reads (right young)) ∙ c.if-not-contains.true);
+      judged = λ ws hits.
+          committed_entry c.args.oldest ws t c.new-then-not-contains-2.result made.verdict places young
+          (none_hit ws t (first ++ others) (hits young).1 none);
     }
 
 pub returns-then-not-txn : goal.returns-then-not-txn
 returns-then-not-txn c =
     let t = c.args.txn.now in
+    let first = c.args.first.now in
+    let others = c.args.others.now in
     let young = sym (c.is_old.ensures.too_old
     ∙ ap (λ oldest. is_too_old oldest t) (to_z-of_z w64 c.args.oldest c.ranges.oldest))
     ∙ c.if-is_old.false in
     let made = c.new-then-not-txn.ensures in
-    let none = made.places ∙ c.new-none.ensures.places ∙ c.new.ensures.items in
+    let places = made.places ∙ c.new-none.ensures.places ∙ c.new.ensures.items in
+    let some : list_any (λ hit. hit) (first ++ others) ≡ true =
+    elim c.else-not-contains.branch [
+      | else-not-contains-via-then-not-contains+else-not-contains-2 w ↦
+          later_true first others (sym c.contains.ensures.value ∙ w.if-not-contains.true)
+          (sym w.contains-then-not-contains.ensures.value ∙ w.if-not-contains-2.false)
+      | else-not-contains-via-else-not-contains w ↦
+          first_true first others (sym c.contains.ensures.value ∙ w.if-not-contains.false)
+    ] in
     record {
-      judged = λ ws right.
-          unmarked_entry c.args.oldest ws t c.new-then-not-txn.result made.verdict none young
-          (sym (c.contains.ensures.value ∙ any_of_hits c.args.hits.now (is_hit ws t) t.reads (right young)) ∙ c.if-not-contains.false) c.if-not-txn.true;
+      judged = λ ws hits.
+          unmarked_entry c.args.oldest ws t c.new-then-not-txn.result made.verdict places young
+          (some_hit ws t (first ++ others) (hits young).0.0 (hits young).0.1 some) c.if-not-txn.true;
     }
 
 pub returns : goal.returns
 returns c =
     let t = c.args.txn.now in
+    let first = c.args.first.now in
+    let others = c.args.others.now in
     let young = sym (c.is_old.ensures.too_old
     ∙ ap (λ oldest. is_too_old oldest t) (to_z-of_z w64 c.args.oldest c.ranges.oldest))
     ∙ c.if-is_old.false in
     let made = c.new-2.ensures in
+    let both = c.deref.ensures.value ∙ c.in_ok-extend_from_slice.ensures.items
+    ∙ ap (λ items. items ++ others) c.in_ok-hits.ensures.items in
+    let some : list_any (λ hit. hit) (first ++ others) ≡ true =
+    elim c.else-not-contains.branch [
+      | else-not-contains-via-then-not-contains+else-not-contains-2 w ↦
+          later_true first others (sym c.contains.ensures.value ∙ w.if-not-contains.true)
+          (sym w.contains-then-not-contains.ensures.value ∙ w.if-not-contains-2.false)
+      | else-not-contains-via-else-not-contains w ↦
+          first_true first others (sym c.contains.ensures.value ∙ w.if-not-contains.false)
+    ] in
     record {
-      judged = λ ws right.
+      judged = λ ws hits.
           marked_entry c.args.oldest ws t c.new-2.result made.verdict
-          (made.places ∙ c.in_ok-places.ensures.places ∙ ap (true_places 0) (right young)
+          (made.places ∙ c.in_ok-places.ensures.places ∙ ap (true_places 0) (both
+          ∙ marked_whole ws t (first ++ others) (hits young).1 c.if-not-txn.false)
           ∙ places_of_hits 0 (is_hit ws t) t.reads) young
-          (sym (c.contains.ensures.value ∙ any_of_hits c.args.hits.now (is_hit ws t) t.reads (right young)) ∙ c.if-not-contains.false) c.if-not-txn.false;
+          (some_hit ws t (first ++ others) (hits young).0.0 (hits young).0.1 some) c.if-not-txn.false;
     }
