@@ -286,22 +286,31 @@ fn seventy_single_keys(rt: HostRuntime) -> Result<(), Fail> {
     Ok(())
 }
 
+// The bytes of the longest key.
+const ONES: [u8; 39] = [1; 39];
+
+// Writes one key of so many bytes, 39 at most, at that version.
+fn write_key(
+    alloc: Global,
+    set: &mut ConflictSet,
+    version: i64,
+    length: usize,
+) -> Result<(), Fail> {
+    let begin = &ONES[..length.min(ONES.len())];
+    let mut end = Vec::from_slice(alloc, begin)?;
+    end.push(0)?;
+    let written = [(begin, end.as_slice())];
+    resolve_rows(alloc, set, version, &[writes(&written)])??;
+    Ok(())
+}
+
 #[test]
 fn boundaries_stay_small(rt: HostRuntime) -> Result<(), Fail> {
     let alloc = rt.alloc();
     let mut set = ConflictSet::new(alloc, WINDOW, LIMIT)?;
     for number in 0..10_000_u32 {
         let length = number as usize % 40;
-        let begin = vec![in alloc; 1; length]?;
-        let mut end = vec![in alloc; 1; length]?;
-        end.push(0)?;
-        let version = 6_000_000 * (i64::from(number) + 1);
-        resolve_rows(
-            alloc,
-            &mut set,
-            version,
-            &[writes(&[(begin.as_slice(), end.as_slice())])],
-        )??;
+        write_key(alloc, &mut set, 6_000_000 * (i64::from(number) + 1), length)?;
         let expected = if length == 0 { 2 } else { 3 };
         assert_eq!(rt; set.boundaries(), expected);
     }
@@ -344,17 +353,26 @@ fn window_largest(rt: HostRuntime) -> Result<(), Fail> {
     assert_rows(&rt, alloc, &forgotten)
 }
 
+// Resolves the transactions as the next batch, which the set refuses as it exceeds its limit.
+fn assert_full(
+    rt: &impl Abort,
+    alloc: Global,
+    set: &mut ConflictSet,
+    version: i64,
+    rows: &[Row],
+) -> Result<(), Fail> {
+    let stopped = resolve_rows(alloc, set, version, rows)?;
+    assert!(rt; matches!(stopped, Err(SetStop::ArenaFull)));
+    Ok(())
+}
+
 #[test]
 fn limit_three_stop(rt: HostRuntime) -> Result<(), Fail> {
     let alloc = rt.alloc();
     let mut set = opened(alloc, WINDOW, 3)?;
-    let first: [Step; 1] = [(100, &[writes(&[(b"a", b"b")])])];
-    assert_resolves(&rt, alloc, &mut set, &first)?;
-    let second = resolve_rows(alloc, &mut set, 200, &[writes(&[(b"c", b"d")])])?;
-    assert!(rt; matches!(second, Err(SetStop::ArenaFull)));
-    let later = resolve_rows(alloc, &mut set, 9_000_000, &[])?;
-    assert!(rt; matches!(later, Err(SetStop::ArenaFull)));
-    Ok(())
+    assert_resolves(&rt, alloc, &mut set, &[(100, &[writes(&[(b"a", b"b")])])])?;
+    assert_full(&rt, alloc, &mut set, 200, &[writes(&[(b"c", b"d")])])?;
+    assert_full(&rt, alloc, &mut set, 9_000_000, &[])
 }
 
 #[test]
@@ -372,12 +390,14 @@ fn limit_three_swept(rt: HostRuntime) -> Result<(), Fail> {
 fn limit_one(rt: HostRuntime) -> Result<(), Fail> {
     let alloc = rt.alloc();
     let mut set = opened(alloc, WINDOW, 1)?;
-    let empty: [Step; 1] = [(100, &[writes(&[(b"a", b"a")])])];
-    assert_resolves(&rt, alloc, &mut set, &empty)?;
+    assert_resolves(&rt, alloc, &mut set, &[(100, &[writes(&[(b"a", b"a")])])])
+}
+
+#[test]
+fn limit_one_stop(rt: HostRuntime) -> Result<(), Fail> {
+    let alloc = rt.alloc();
     let mut set = opened(alloc, WINDOW, 1)?;
-    let stopped = resolve_rows(alloc, &mut set, 100, &[writes(&[(b"a", b"b")])])?;
-    assert!(rt; matches!(stopped, Err(SetStop::ArenaFull)));
-    Ok(())
+    assert_full(&rt, alloc, &mut set, 100, &[writes(&[(b"a", b"b")])])
 }
 
 // A batch that reads, at snapshot 0, the keys that those before it wrote, and writes the next key.
@@ -390,24 +410,26 @@ fn numbered_batch(alloc: Global, number: u8) -> Result<Batch, Fail> {
     batch_at(alloc, version - 1, version, vec![in alloc; reader, writer]?)
 }
 
-// The batches are made first, so that a growth refused after them is one of the set.
-#[test]
-fn refused_allocation_stops_the_set(rt: HostRuntime) -> Result<(), Fail> {
-    let alloc = rt.alloc();
-    let mut batches = Vec::new(alloc);
-    for number in 0..6_u8 {
-        batches.push(numbered_batch(alloc, number)?)?;
-    }
-    let mut set = match ConflictSet::new(alloc, WINDOW, LIMIT) {
-        Ok(set) => set,
+// A set, where one growth may be refused.
+fn set_at_last(rt: &impl Abort, alloc: Global) -> Result<ConflictSet, Fail> {
+    match ConflictSet::new(alloc, WINDOW, LIMIT) {
+        Ok(set) => Ok(set),
         Err(stop) => {
             assert_eq!(rt; stop, SetStop::Memory);
-            ConflictSet::new(alloc, WINDOW, LIMIT)?
+            Ok(ConflictSet::new(alloc, WINDOW, LIMIT)?)
         }
-    };
+    }
+}
+
+// Resolves the batches, and looks that each one is refused once one is.
+fn assert_stops_for_good(
+    rt: &impl Abort,
+    set: &mut ConflictSet,
+    batches: &[Batch],
+) -> Result<(), Fail> {
     let mut is_stopped = false;
-    for batch in &batches {
-        match resolve(&mut set, batch)? {
+    for batch in batches {
+        match resolve(set, batch)? {
             Ok(reply) => {
                 assert!(rt; !is_stopped);
                 assert_eq!(rt; reply.version, batch.version);
@@ -419,4 +441,16 @@ fn refused_allocation_stops_the_set(rt: HostRuntime) -> Result<(), Fail> {
         }
     }
     Ok(())
+}
+
+// The batches are made first, so that a growth refused after them is one of the set.
+#[test]
+fn refused_allocation_stops_the_set(rt: HostRuntime) -> Result<(), Fail> {
+    let alloc = rt.alloc();
+    let mut batches = Vec::new(alloc);
+    for number in 0..6_u8 {
+        batches.push(numbered_batch(alloc, number)?)?;
+    }
+    let mut set = set_at_last(&rt, alloc)?;
+    assert_stops_for_good(&rt, &mut set, &batches)
 }

@@ -6,6 +6,7 @@ use super::judge_by_history;
 use crate::asking::push_asked;
 use keyspace::{Entry, Key, MAX_KEY_LENGTH, Range, Sequence, Txn, Verdict};
 use std::alloc::{AllocError, Global};
+use std::process::Abort;
 use std::test::Fail;
 use stepmap::{KeyLengths, StepMap};
 
@@ -53,23 +54,55 @@ fn judge(alloc: Global, map: &StepMap, oldest: i64, txn: &Txn) -> Result<Entry, 
     Ok(judge_by_history(alloc, &hits, &[], oldest, txn)?)
 }
 
+// Judges the transaction after a write of [a, b) at 100, and compares the entry.
+fn assert_judged(
+    rt: &impl Abort,
+    alloc: Global,
+    oldest: i64,
+    txn: &Txn,
+    expected: Verdict,
+    places: &[u16],
+) -> Result<(), Fail> {
+    let mut map = StepMap::new(alloc, 10)?;
+    let written = range(alloc, b"a", b"b")?;
+    map.prepare(&[KeyLengths::of(written.as_ref())])?;
+    map.write(written.as_ref(), 100);
+    let entry = judge(alloc, &map, oldest, txn)?;
+    assert_eq!(rt; entry.verdict, expected);
+    assert_eq!(rt; entry.places.as_slice(), places);
+    Ok(())
+}
+
 #[test]
 fn judged_by_history(rt: HostRuntime) -> Result<(), Fail> {
     let alloc = rt.alloc();
-    let mut map = StepMap::new(alloc, 10)?;
-    let written = [range(alloc, b"a", b"b")?];
-    map.prepare(&[KeyLengths::of(written[0].as_ref())])?;
-    map.write(written[0].as_ref(), 100);
-    let at_write = judge(alloc, &map, 0, &reads(alloc, 100)?)?;
-    assert_eq!(rt; at_write.verdict, Verdict::Committed);
-    let before_write = judge(alloc, &map, 0, &reads(alloc, 99)?)?;
-    assert_eq!(rt; before_write.verdict, Verdict::Conflict);
-    assert_eq!(rt; before_write.places.as_slice(), [1].as_slice());
-    let below_oldest = judge(alloc, &map, 100, &reads(alloc, 99)?)?;
-    assert_eq!(rt; below_oldest.verdict, Verdict::TooOld);
+    let rows: [(i64, i64, Verdict, &[u16]); 3] = [
+        (0, 100, Verdict::Committed, &[]),
+        (0, 99, Verdict::Conflict, &[1]),
+        (100, 99, Verdict::TooOld, &[]),
+    ];
+    for (oldest, snapshot, expected, places) in rows {
+        if snapshot < 0 {
+            return Err("a snapshot below 0")?;
+        }
+        assert_judged(
+            &rt,
+            alloc,
+            oldest,
+            &reads(alloc, snapshot)?,
+            expected,
+            places,
+        )?;
+    }
+    Ok(())
+}
+
+// A snapshot below the oldest version makes no transaction too old that reads nothing.
+#[test]
+fn writer_is_never_old(rt: HostRuntime) -> Result<(), Fail> {
+    let alloc = rt.alloc();
     let none = Sequence::new(Vec::new(alloc));
     let writes = Sequence::new(vec![in alloc; range(alloc, b"a", b"b")?]?);
-    let old_writer = judge(alloc, &map, 100, &Txn::new(0, true, none, writes))?;
-    assert_eq!(rt; old_writer.verdict, Verdict::Committed);
-    Ok(())
+    let writer = Txn::new(0, true, none, writes);
+    assert_judged(&rt, alloc, 100, &writer, Verdict::Committed, &[])
 }
