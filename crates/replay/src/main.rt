@@ -1,38 +1,18 @@
 //! The program `replay` reads a recorded file of batch frames, resolves the batches in order and prints the verdicts.
 //!
-//! `words` reads the command line and `opening` opens the files. `replay` does all that follows: `running` runs a worker for each
-//! file, in `threads` of their own, and turns the resolver between them; `report` prints the answers and what failed.
+//! `opening` opens the files. The library `player` reads the command line and does all that follows.
 #![tactic(auto)]
 
 ghost use Rattle.std.specs.Prelude.{◌≤◌, vec_len};
 ghost use Rattle.resolver.specs.declared.sequential.TheConstants.{MAX_PROXIES};
 
-mod begin_line;
-mod command;
-mod failures;
-mod gatekeeper;
-mod inbox;
-mod line;
-mod lines;
 mod opening;
-mod options;
-mod outcome;
-mod pause;
-mod refusal;
-mod replay;
-mod report;
-mod running;
-mod start;
-mod status;
-mod threads;
-mod words;
-mod worker;
 
-use gatekeeper::AlwaysOpen;
 use opening::open_files;
-use replay::replay_over;
-use start::{StartError, fail_to_start};
-use status::Status;
+use player::{
+    AlwaysOpen, CommandLine, StartError, Status, fail_to_start, read_words, replay_over,
+};
+use resolver::MAX_PROXIES;
 use std::fs::{File, Files};
 use std::io::{BufWriter, Write};
 use std::process::ExitCode;
@@ -41,7 +21,6 @@ use std::sync::{Arc, Wait};
 use std::thread::Threads;
 use std::{env, io};
 use wire::{Sink, StdSink};
-use words::{CommandLine, read_words};
 
 // Returns the words of the command line. The toolchain opens files by text names alone, so no file is found at a word that
 // isn't UTF-8.
@@ -101,6 +80,3 @@ fn main(rt: HostRuntime) -> ExitCode {
     let status = run(&rt, rt.stdout(), &mut StdSink::new(rt.stderr()));
     ExitCode::from(status.code())
 }
-
-#[cfg(test)]
-mod tests;

@@ -2,7 +2,7 @@
 
 ghost use Rattle.std.specs.Prelude.{◌≡◌, ◌≢◌, ◌<◌, ℕ, length, vec_len, IfOk};
 
-use crate::start::StartError;
+use player::StartError;
 use std::fs::{File, Files};
 use std::io::BufReader;
 use wire::StdSource;

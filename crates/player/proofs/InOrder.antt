@@ -1,0 +1,62 @@
+-- Putting items in order keeps what holds of each, and commutes with what they tell of.
+use Rattle.std.specs.Prelude.{◌≡◌, ℤ, int_lt, List, [], ◌∷◌, map, fold}
+use Rattle.std.specs.List.{All}
+use Rattle.std.proofs.Common.{refl, sym, ap, ◌∙◌, subst, inl, inr, arith}
+use Rattle.std.proofs.lemmas.Bool.{cond-true, cond-false, cases_Bool}
+use Rattle.std.proofs.lemmas.List.Elements.{All-cons, All-head, All-tail}
+use Rattle.player.specs.Lines.{put_in_order, in_order_by}
+
+module _ {X : Type 0} (P : X → Type 0) (version : X → ℤ) where
+  All-put : (xs : List X) (x : X) → P x → All P xs → All P (put_in_order version xs x)
+  All-put [] x one all = All-cons P x [] one all
+  All-put (y ∷ ys) x one all =
+      elim (cases_Bool (int_lt (version x) (version y))) [
+        | inl before ↦ subst (All P) (sym (cond-true _ _ _ before)) (All-cons P x (y ∷ ys) one all)
+        | inr behind ↦ subst (All P) (sym (cond-false _ _ _ behind))
+            (All-cons P y (put_in_order version ys x) (All-head P y ys all) (All-put ys x one (All-tail P y ys all)))
+      ]
+
+  All-put_all : (start received : List X) → All P start → All P received
+      → All P (fold (put_in_order version) start received)
+  All-put_all start [] before all = before
+  All-put_all start (x ∷ received) before all =
+      All-put_all (put_in_order version start x) received (All-put start x (All-head P x received all) before)
+      (All-tail P x received all)
+
+  pub All-in_order : (received : List X) → All P received → All P (in_order_by version received)
+  All-in_order received all = All-put_all [] received (λ k d inside. absurd (omega arith)) all
+
+module _ {X Y : Type 0} (tells : X → Y) (version : X → ℤ) (version_told : Y → ℤ) where
+  -- its version is that of what it tells of
+  abbrev Agrees : X → Type 0
+  Agrees x = version x ≡ version_told (tells x)
+
+  map-put : (xs : List X) (x : X) → Agrees x → All Agrees xs
+      → map tells (put_in_order version xs x) ≡ put_in_order version_told (map tells xs) (tells x)
+  map-put [] x one all = refl
+  map-put (y ∷ ys) x one all =
+      let first = All-head Agrees y ys all in
+      let same : int_lt (version_told (tells x)) (version_told (tells y)) ≡ int_lt (version x) (version y) =
+      sym (λ i. int_lt (one i) (first i)) in
+      elim (cases_Bool (int_lt (version x) (version y))) [
+        | inl before ↦
+            ap (map tells) (cond-true _ _ _ before) ∙ sym (cond-true _ _ _ (same ∙ before))
+        | inr behind ↦
+            ap (map tells) (cond-false _ _ _ behind)
+            ∙ ap (λ l. tells y ∷ l) (map-put ys x one (All-tail Agrees y ys all))
+            ∙ sym (cond-false _ _ _ (same ∙ behind))
+      ]
+
+  map-put_all : (start received : List X) → All Agrees start → All Agrees received
+      → map tells (fold (put_in_order version) start received)
+      ≡ fold (put_in_order version_told) (map tells start) (map tells received)
+  map-put_all start [] before all = refl
+  map-put_all start (x ∷ received) before all =
+      let one = All-head Agrees x received all in
+      map-put_all (put_in_order version start x) received (All-put Agrees version start x one before)
+      (All-tail Agrees x received all)
+      ∙ ap (λ l. fold (put_in_order version_told) l (map tells received)) (map-put start x one before)
+
+  pub map-in_order : (received : List X) → All Agrees received
+      → map tells (in_order_by version received) ≡ in_order_by version_told (map tells received)
+  map-in_order received all = map-put_all [] received (λ k d inside. absurd (omega arith)) all

@@ -1,0 +1,61 @@
+-- What was read, sent, answered and received of one proxy, put together.
+use Rattle.std.specs.Prelude.{◌≡◌, ℕ, ℤ, Bool, true, false, ◌&&◌, List, [], ◌++◌, Option, None, option_to_list}
+use Rattle.std.proofs.Common.{refl, sym, ap, ◌∙◌, append_assoc, append-nil}
+use Rattle.std.proofs.lemmas.Bool.{false≢true}
+use Rattle.keyspace.specs.declared.batch.Batch.{Batch}
+use Rattle.keyspace.specs.declared.answer.Answer.{Answer}
+use Rattle.keyspace.specs.Run.{Step, answers, part}
+use Rattle.resolver.specs.declared.client.Client.{Client}
+use Rattle.resolver.specs.Settled.{SettledFor}
+use Rattle.player.specs.declared.worker.Finished.{Finished}
+use Rattle.player.specs.Line.{answers_of}
+use Rattle.player.specs.Worker.{HasWorked}
+use Rattle.player.specs.Threads.{failure_of}
+use Rattle.player.specs.Run.{IsServed}
+
+pub both : (a b : Bool) → (a && b) ≡ true → (a ≡ true) × (b ≡ true)
+both true b is = (refl, is)
+both false b is = absurd (false≢true is)
+
+-- the worker was given a client that had sent and taken nothing
+pub served : (window : ℤ) (frames : Bool) (log : List Step) (ended complete all_sent : Bool) (bytes : Option (List ℕ))
+    (proxy : ℕ) (given : Client) (finished : Finished) → given.requests.sent ≡ [] → given.replies.taken ≡ []
+    → HasWorked frames proxy bytes given finished → SettledFor window log ended complete proxy finished.client
+    → (all_sent ≡ true → finished.unsent ≡ None)
+    → IsServed window frames log (complete && all_sent) bytes proxy finished.lines.items (failure_of finished)
+served window frames log ended complete all_sent bytes proxy given finished none_sent none_taken worked settled none_unsent =
+    let sends = worked.sends in
+    let keeps = worked.keeps in
+    let unsent = option_to_list finished.unsent in
+    let told = answers_of finished.lines.items in
+    let sent : finished.client.requests.sent ≡ sends.batches =
+    sends.sent ∙ ap (λ (l : List Batch). l ++ sends.batches) none_sent in
+    let taken : finished.client.replies.taken ≡ told ++ keeps.dropped =
+    keeps.taken ∙ ap (λ (l : List Answer). l ++ (told ++ keeps.dropped)) none_taken in
+    record {
+      read = sends.batches ++ unsent;
+      left = sends.left;
+      frames_read = sends.frames;
+      batches = (
+        settled.batches.0 ++ unsent,
+        ap (λ (l : List Batch). l ++ unsent) (sym sent ∙ settled.batches.1)
+            ∙ append_assoc (part log proxy) settled.batches.0 unsent,
+      );
+      all_batches = λ whole no_fault.
+          let parts = both complete all_sent whole in
+          let none = none_unsent parts.1 in (
+            ap (λ (u : Option Batch). sends.batches ++ option_to_list u) none ∙ append-nil sends.batches ∙ sym sent
+                ∙ sym (settled.all_batches (settled.all_ended parts.0)),
+            sends.all no_fault none,
+          );
+      first_fault = sends.first_fault;
+      received = (
+        keeps.dropped ++ settled.received.0,
+        settled.received.1 ∙ ap (λ (l : List Answer). l ++ settled.received.0) taken
+            ∙ append_assoc told keeps.dropped settled.received.0,
+      );
+      all_received = λ whole not_lost.
+          sym (append-nil told) ∙ ap (λ (l : List Answer). told ++ l) (sym (keeps.none_dropped not_lost)) ∙ sym taken
+          ∙ settled.all_received (both complete all_sent whole).0;
+      lines_told = keeps.each;
+    }

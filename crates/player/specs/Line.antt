@@ -1,0 +1,36 @@
+-- Lines that are ready to be printed. This project's own.
+use Rattle.std.specs.Prelude.{◌≡◌, ℕ, ℤ, Bool, List, map, Some, slice_get}
+use Rattle.std.specs.List.{All, flat_map}
+use Rattle.keyspace.specs.declared.answer.Answer.{Answer}
+use Rattle.keyspace.specs.Answer.{version_of_answer}
+use Rattle.player.specs.declared.line.Line.{Line}
+use Rattle.player.specs.Lines.{line}
+
+-- the answer that it tells of
+abbrev pub answer_of : Line → Answer
+answer_of l = l.answer.value
+
+abbrev pub answers_of : List Line → List Answer
+answers_of ls = map answer_of ls
+
+-- the version that it is sorted by
+abbrev pub version_of_line : Line → ℤ
+version_of_line l = l.version
+
+-- it is the line of its answer to this proxy
+pub record IsLineOf (frames : Bool) (proxy : ℕ) (l : Line) : Type 0 where
+  pub text : l.text.items ≡ line frames proxy (answer_of l)
+  pub sorted_by : l.version ≡ version_of_answer (answer_of l)
+
+-- the lines at each number are those of answers to that proxy
+abbrev pub AreLines : Bool → List (List Line) → Type 0
+AreLines frames ls =
+    (proxy : ℕ) (of_proxy : List Line) → slice_get ls proxy ≡ Some of_proxy → All (IsLineOf frames proxy) of_proxy
+
+-- the text of lines as they stand
+abbrev pub text_of : List Line → List ℕ
+text_of ls = flat_map (λ (l : Line). l.text.items) ls
+
+-- the text of the lines of several proxies, as they stand
+abbrev pub texts : List (List Line) → List ℕ
+texts ls = flat_map text_of ls

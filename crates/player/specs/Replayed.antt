@@ -1,0 +1,111 @@
+-- What the program prints, beside the bytes of its files. This project's own.
+use Rattle.std.specs.Prelude.{◌≡◌, ℕ, ◌<◌, ℤ, Bool, if◌then◌else◌, ◌⊎◌, List, length, map, take, Option, None, Some, IfSome, slice_get}
+use Rattle.std.specs.List.{range_with_len}
+use Rattle.std.specs.Io.KnownBytes.{IsAtEnd, Appends}
+use Rattle.keyspace.specs.declared.batch.Batch.{Batch}
+use Rattle.keyspace.specs.declared.answer.Answer.{Answer}
+use Rattle.keyspace.specs.Chain.{IsChain}
+use Rattle.keyspace.specs.Run.{Step, run, answers, part}
+use Rattle.resolver.specs.declared.stop.Stop.{Stop}
+use Rattle.resolver.specs.Resolver.{FinishesLast}
+use Rattle.player.specs.declared.failures.Ending.{Ending}
+use Rattle.player.specs.declared.failures.Ending.TheVariants.{Complete, Incomplete, Stopped}
+use Rattle.player.specs.declared.failures.ProxyFailure.{ProxyFailure}
+use Rattle.player.specs.declared.line.Line.{Line}
+use Rattle.player.specs.declared.options.Options.{Options}
+use Rattle.player.specs.declared.start.StartError.{StartError}
+use Rattle.player.specs.Failures.{failure_lines, with_loss, NothingFailed}
+use Rattle.player.specs.Line.{answers_of}
+use Rattle.player.specs.Lines.{lines}
+use Rattle.player.specs.Run.{TakesOnlyFrom, IsRun}
+use Rattle.player.specs.Start.{start_line}
+use Rattle.player.specs.Worker.{TakesFrames}
+
+-- the bytes are the frames of these batches, each once, in order, and nothing else
+pub record IsFileOf (bytes : Option (List ℕ)) (batches : List Batch) : Type 0 where
+  pub left : Option (List ℕ)
+  pub frames : TakesFrames bytes left batches
+  pub at_end : IsAtEnd left
+
+-- what the reference resolver answers by this log, to each of so many proxies
+abbrev pub answers_each : ℤ → List Step → ℕ → List (List Answer)
+answers_each window log proxies = map (answers window log) (range_with_len 0 proxies)
+
+-- All was read, resolved and printed. There is one log of the reference resolver that holds the batches of each file
+-- once, in order, and no others. The text printed is the lines of its answers, all of them.
+pub record IsReplayed (options : Options) (files : List (Option (List ℕ))) (before after : Option (List ℕ)) :
+    Type 0 where
+  pub log : List Step
+  pub proxies : TakesOnlyFrom (length files) log
+  pub each_file :
+      (proxy : ℕ) (bytes : Option (List ℕ)) → slice_get files proxy ≡ Some bytes →
+      IsFileOf bytes (part log proxy)
+  -- what was processed follows the chain of versions
+  pub chain : IsChain options.window (run options.window log).processed
+  -- no batch is left unanswered
+  pub finish : FinishesLast log
+  pub text : Appends before after (lines options.frames (answers_each options.window log (length files)))
+
+-- what became of a writer
+pub record Written : Type 0 where
+  -- the bytes that it was given, where it tells them
+  pub before : Option (List ℕ)
+  pub after : Option (List ℕ)
+  -- how often it had failed, and has failed
+  pub failures_before : ℕ
+  pub failures_after : ℕ
+
+abbrev pub written : Option (List ℕ) → Option (List ℕ) → ℕ → ℕ → Written
+written before after failures_before failures_after = record {
+  before = before;
+  after = after;
+  failures_before = failures_before;
+  failures_after = failures_after;
+}
+
+abbrev pub HasFailed : Written → Type 0
+HasFailed writer = writer.failures_before < writer.failures_after
+
+-- it was given this text
+abbrev pub Took : Written → List ℕ → Type 0
+Took writer text = Appends writer.before writer.after text
+
+-- a beginning of this text, where it still tells its bytes
+abbrev pub TookBeginning : Written → List ℕ → Type 0
+TookBeginning writer text = IfSome writer.after (λ _. (n : ℕ) × Took writer (take n text))
+
+-- how a run ends that is complete or not, and that met a stop or none
+abbrev pub ending_of : Bool → Option Stop → Ending
+ending_of complete None = if complete then Complete else Incomplete
+ending_of complete (Some stop) = Stopped stop
+
+-- the run could not start: nothing was printed, and the cause was told
+pub record DidNotStart (out error : Written) : Type 0 where
+  pub cause : StartError
+  pub nothing_printed : out.after ≡ out.before
+  pub told : HasFailed error ⊎ Took error (start_line cause)
+
+-- the same failures, with the loss of one proxy
+abbrev pub IsWithLoss : ℕ → List ProxyFailure → List ProxyFailure → Type 0
+IsWithLoss proxies failures told = (proxy : ℕ) × (proxy < proxies) × (told ≡ with_loss proxy failures)
+
+-- The files were replayed, and something failed. `told` is what failed, with the loss of a proxy whose lines could not
+-- be sorted; then nothing was printed.
+pub record RanAndFailed (options : Options) (files : List (Option (List ℕ))) (out error : Written) : Type 0 where
+  pub received : List (List Line)
+  pub failures : List ProxyFailure
+  pub complete : Bool
+  pub stop : Option Stop
+  pub run : IsRun options files received failures complete stop
+  pub told : List ProxyFailure
+  pub failures_told : (told ≡ failures) ⊎ IsWithLoss (length files) failures told
+  pub printed :
+      (HasFailed out × TookBeginning out (lines options.frames (map answers_of received)))
+      ⊎ (((told ≡ failures) × Took out (lines options.frames (map answers_of received)))
+      ⊎ (IsWithLoss (length files) failures told × (out.after ≡ out.before)))
+  pub lines_of_failures : HasFailed error ⊎ Took error (failure_lines told (ending_of complete stop))
+  pub why : HasFailed out ⊎ (HasFailed error ⊎ ¬ (NothingFailed told (ending_of complete stop)))
+
+-- The program failed.
+abbrev pub FailsToReplay : Options → List (Option (List ℕ)) → Written → Written → Type 0
+FailsToReplay options files out error = DidNotStart out error ⊎ RanAndFailed options files out error

@@ -1,0 +1,73 @@
+-- A run, beside the reference resolver: what was read of each file, and what its proxy was answered. This project's
+-- own.
+use Rattle.std.specs.Prelude.{◌≡◌, ◌≢◌, ℕ, ◌<◌, ℤ, Bool, true, false, ◌&&◌, List, [], ◌∷◌, length, Option, None, Some, IfSome, slice_get}
+use Rattle.std.specs.List.{All}
+use Rattle.std.specs.Io.KnownBytes.{IsAtEnd}
+use Rattle.keyspace.specs.declared.batch.Batch.{Batch}
+use Rattle.keyspace.specs.Chain.{IsChain}
+use Rattle.keyspace.specs.Run.{Step, Take, Finish, run, answers, part}
+use Rattle.wire.specs.declared.error.WireError.TheVariants as wire
+use Rattle.wire.specs.NextFrame.{IsFaultOf}
+use Rattle.resolver.specs.declared.stop.Stop.{Stop}
+use Rattle.resolver.specs.declared.turn.Account.{Account}
+use Rattle.resolver.specs.Books.{IsBeginning}
+use Rattle.resolver.specs.Resolver.{ResolverState, StandsOver, FinishesLast}
+use Rattle.player.specs.declared.failures.ProxyFailure.{ProxyFailure}
+use Rattle.player.specs.declared.line.Line.{Line}
+use Rattle.player.specs.declared.options.Options.{Options}
+use Rattle.player.specs.declared.outcome.Outcome.{Outcome}
+use Rattle.player.specs.Line.{answers_of, IsLineOf}
+use Rattle.player.specs.Worker.{TakesFrames}
+
+-- batches are taken from so many proxies alone
+abbrev pub TakesOnlyFrom : ℕ → List Step → Type 0
+TakesOnlyFrom proxies [] = Unit {0}
+TakesOnlyFrom proxies (Take proxy batch ∷ log) = (proxy < proxies) × TakesOnlyFrom proxies log
+TakesOnlyFrom proxies (Finish ∷ log) = TakesOnlyFrom proxies log
+
+-- there is a log for which the resolver stands, of its own proxies alone
+pub record StandsForSome (r : ResolverState) : Type 0 where
+  pub log : List Step
+  pub stands : StandsOver r log
+  pub proxies : TakesOnlyFrom (length r.lanes) log
+
+-- every answer was taken, and every batch that was read was sent
+abbrev pub is_complete : Outcome → Account → Bool
+is_complete outcome account = account.complete && outcome.all_sent
+
+-- What became of one file, whose reader told these bytes, by whether the run is complete: its batches and the lines of
+-- its proxy, beside those of the reference resolver.
+pub record IsServed (window : ℤ) (frames : Bool) (log : List Step) (complete : Bool) (bytes : Option (List ℕ))
+    (proxy : ℕ) (lines : List Line) (failure : ProxyFailure) : Type 0 where
+  -- these batches were read, from the frames at the front, and these bytes are left
+  pub read : List Batch
+  pub left : Option (List ℕ)
+  pub frames_read : TakesFrames bytes left read
+  -- the log holds them once, in order; where all is complete and no fault was met, all of the file
+  pub batches : IsBeginning (part log proxy) read
+  pub all_batches : complete ≡ true → failure.fault ≡ None → (read ≡ part log proxy) × IsAtEnd left
+  -- a fault other than these two is that of the bytes left
+  pub first_fault : IfSome failure.fault (λ e. e ≢ wire.Memory → e ≢ wire.Read → IfSome left (IsFaultOf e))
+  -- the lines are those of the answers of the reference resolver, in order and once; of all where nothing was lost
+  pub received : IsBeginning (answers_of lines) (answers window log proxy)
+  pub all_received : complete ≡ true → failure.lost ≡ false → answers_of lines ≡ answers window log proxy
+  pub lines_told : All (IsLineOf frames proxy) lines
+
+-- What became of all files, whose readers told these bytes, beside one log of the reference resolver. `received` and
+-- `failures` are of each proxy, at its number.
+pub record IsRun (options : Options) (files : List (Option (List ℕ))) (received : List (List Line))
+    (failures : List ProxyFailure) (complete : Bool) (stop : Option Stop) : Type 0 where
+  pub log : List Step
+  pub proxies : TakesOnlyFrom (length files) log
+  pub received_count : length received ≡ length files
+  pub failures_count : length failures ≡ length files
+  pub each :
+      (proxy : ℕ) (bytes : Option (List ℕ)) (lines : List Line) (failure : ProxyFailure) →
+      slice_get files proxy ≡ Some bytes → slice_get received proxy ≡ Some lines →
+      slice_get failures proxy ≡ Some failure →
+      IsServed options.window options.frames log complete bytes proxy lines failure
+  -- what was processed follows the chain of versions
+  pub chain : IsChain options.window (run options.window log).processed
+  -- where all is complete, no batch is left unanswered, and no stop was met
+  pub finish : complete ≡ true → FinishesLast log
+  pub no_stop : complete ≡ true → stop ≡ None

@@ -1,0 +1,61 @@
+-- What each worker is given, and what the workers hand back. This project's own.
+use Rattle.std.specs.Prelude.{◌≡◌, ℕ, ◌+◌, Bool, true, List, [], ◌∷◌, map, Option, None, vec_items}
+use Rattle.std.specs.List.{AllZip, All}
+use Rattle.resolver.specs.declared.client.Client.{Client}
+use Rattle.player.specs.declared.failures.ProxyFailure.{ProxyFailure}
+use Rattle.player.specs.declared.outcome.Outcome.{Outcome}
+use Rattle.player.specs.declared.worker.Finished.{Finished}
+use Rattle.player.specs.declared.threads.Task.{Task}
+use Rattle.player.specs.declared.threads.Work.{Work}
+use Rattle.player.specs.declared.threads.Started.{Started}
+use Rattle.player.specs.Worker.{HasWorked}
+
+-- what a worker is given
+pub record Given (S : Type 0) : Type 0 where
+  pub frames : Bool
+  pub proxy : ℕ
+  pub client : Client
+  pub reader : S
+
+module _ {S : Type 0} where
+  -- from this proxy on, each worker is given the client and the reader at its place
+  abbrev pub given_each : Bool → ℕ → List Client → List S → List (Given S)
+  given_each frames proxy (client ∷ clients) (reader ∷ readers) =
+      record { frames = frames; proxy = proxy; client = client; reader = reader }
+      ∷ given_each frames (proxy + 1) clients readers
+  given_each frames proxy (client ∷ clients) [] = []
+  given_each frames proxy [] readers = []
+
+  -- what the worker of a task is to be given
+  abbrev pub given_by : {G : Type 0} → Task S G → Given S
+  given_by task =
+      record { frames = task.frames; proxy = task.proxy; client = task.client; reader = task.reader }
+
+  -- what a worker was given that was promised this work
+  abbrev pub given_for : Work S → Given S
+  given_for work = record {
+    frames = work.frames;
+    proxy = work.proxy;
+    client = work.client.value;
+    reader = work.reader.value;
+  }
+
+  -- what a worker was given that was started
+  abbrev pub given_to : Started S → Given S
+  given_to worker = given_for worker.handle.promise
+
+  -- a worker has worked on what it was given, whose bytes the reader tells
+  abbrev pub HasWorkedOn : (S → Option (List ℕ)) → Given S → Finished → Type 0
+  HasWorkedOn remaining given finished =
+      HasWorked given.frames given.proxy (remaining given.reader) given.client finished
+
+-- what failed of the proxy
+abbrev pub failure_of : Finished → ProxyFailure
+failure_of finished = record { fault = finished.fault; lost = finished.lost }
+
+-- the outcome is of what was handed back, each at its place
+pub record IsOutcomeOf (finished : List Finished) (outcome : Outcome) : Type 0 where
+  pub clients : outcome.clients.items ≡ map (λ f. f.client) finished
+  pub lines : outcome.lines.items ≡ map (λ f. f.lines) finished
+  pub failures : outcome.failures.items ≡ map failure_of finished
+  pub all_sent : outcome.all_sent ≡ true → All (λ f. f.unsent ≡ None) finished

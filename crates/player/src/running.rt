@@ -1,0 +1,72 @@
+//! A run: the workers read, send and take, while this thread turns the resolver.
+
+ghost use Rattle.std.specs.Prelude.{◌≡◌, ◌≤◌, map, vec_items, vec_len, IfOk};
+ghost use Rattle.resolver.specs.declared.sequential.TheConstants.{MAX_PROXIES};
+ghost use Rattle.resolver.specs.Lanes.{Each, LanesGoOn};
+ghost use Rattle.player.specs.Run.{StandsForSome, IsRun, is_complete};
+
+use crate::gatekeeper::Gatekeeper;
+use crate::options::Options;
+use crate::outcome::Outcome;
+use crate::start::StartError;
+use crate::threads::{join_all, start_workers};
+use resolver::{Account, Resolver, Turn, open};
+use std::alloc::Global;
+use std::sync::{Arc, Wait};
+use std::thread;
+use std::thread::Threads;
+use wire::Source;
+
+/// Runs a worker for each reader, in a thread of its own, and turns the resolver until it is done or has stopped. Returns what
+/// the workers hand back, and the account of the resolver.
+///
+/// Once a thread was started, this one takes no memory but in turns and in starting threads. After an error no thread is joined.
+pub fn run<
+    S: Source + Send + Drop + 'static,
+    G: Gatekeeper + Send + Sync + Drop + 'static,
+    R: Threads + Wait + Copy + Send + 'static,
+>(
+    rt: &R,
+    alloc: Global,
+    readers: Vec<S>,
+    options: Options,
+    gatekeeper: &Arc<G, Global>,
+) -> Result<(Outcome, Account), StartError>
+    requires least_readers { 1 ≤ vec_len readers }
+    requires most_readers { vec_len readers ≤ MAX_PROXIES }
+    ensures run { IfOk result (λ ended. IsRun options (map S.remaining readers.items) (map vec_items ended.0.lines.items)
+        ended.0.failures.items (is_complete ended.0 ended.1) ended.1.stop) }
+{
+    let proxies = readers.len();
+    let Options {
+        capacity,
+        window,
+        limit,
+        frames,
+    } = options;
+    let (mut resolver, clients) = open(alloc, proxies, capacity, window, limit)?;
+    let outcome = Outcome::with_room(alloc, proxies)?;
+    let workers = start_workers(rt, alloc, frames, readers, clients, gatekeeper)?;
+    turn_to_end(rt, &mut resolver);
+    let mut outcome = join_all(rt, workers, outcome);
+    let account = resolver.settle(rt, outcome.clients.as_mut_slice());
+    Ok((outcome, account))
+}
+
+// Turns the resolver until it is done; after a stop, until a turn leaves nothing owed.
+fn turn_to_end<R: Wait>(rt: &R, resolver: &mut Resolver)
+    ensures log { StandsForSome resolver.old → StandsForSome resolver.new }
+    ensures window { resolver.new.core.books.set.window ≡ resolver.old.core.books.set.window }
+    ensures lanes { Each (λ _ l m. LanesGoOn l m) resolver.old.lanes resolver.new.lanes }
+{
+    for _ in rt.forever() {
+        match resolver.turn(rt) {
+            Ok(Turn::Took(_)) => {}
+            Ok(Turn::Idle) => thread::yield_now(),
+            Ok(Turn::Done) => return,
+            Err(_) if resolver.owed() == 0 => return,
+            Err(_) => thread::yield_now(),
+        }
+    }
+    unreachable!()
+}

@@ -1,0 +1,90 @@
+//! The words of the command line.
+
+ghost use Rattle.std.specs.Prelude.{◌≡◌, ◌≤◌, IfOk, IfSome, Some, codes, length, map, string_bytes, vec_len};
+ghost use Rattle.clap.specs.Words.{all_of, found_of, rows_of};
+ghost use Rattle.player.specs.Words.{rows_of_words, HoldsOptions};
+
+use crate::command::command;
+use crate::options::Options;
+use crate::refusal::Refusal;
+use clap::ArgMatches;
+use clap::error::ErrorKind;
+use resolver::MAX_PROXIES;
+use std::alloc::{AllocError, Global};
+
+/// What the command line asks for. `Options` keeps its numbers within their ranges.
+#[derive(Debug, Drop)]
+pub struct CommandLine<'a> {
+    /// The names of the files, from 1 to [`MAX_PROXIES`].
+    pub files: Vec<&'a str>,
+    pub options: Options,
+}
+
+/// Reads the words of the command line, of which the first is the program's name. An error says how the program ends in place of
+/// replaying, by [`Refusal::end`].
+pub fn read_words<'a>(alloc: Global, words: &'a [String]) -> Result<CommandLine<'a>, Refusal>
+    ensures options { IfOk result (λ line.
+        HoldsOptions (rows_of_words (map string_bytes words.entry.now)) line.options) }
+    ensures files { IfOk result (λ line.
+        all_of (codes "FILE") (rows_of_words (map string_bytes words.entry.now))
+        ≡ Some (map (λ name. name.now) line.files.items)) }
+    ensures least { IfOk result (λ line. 1 ≤ vec_len line.files) }
+    ensures most { IfOk result (λ line. vec_len line.files ≤ MAX_PROXIES) }
+{
+    let matches = parse(alloc, words)?;
+    let Some(options) = options_of(&matches) else {
+        let message = "a number is out of its range";
+        return Err(refuse(alloc, ErrorKind::ValueValidation, message)?);
+    };
+    let Some(files) = files_of(&matches) else {
+        let message = "from 1 to 64 files are wanted";
+        return Err(refuse(alloc, ErrorKind::TooManyValues, message)?);
+    };
+    let files = Vec::from_slice(alloc, files)?;
+    Ok(CommandLine { files, options })
+}
+
+// Refuses words that `clap` has taken.
+fn refuse(alloc: Global, kind: ErrorKind, message: &str) -> Result<Refusal, AllocError> {
+    let error = command(alloc)?.error(kind, message)?;
+    Ok(Refusal::of_clap(alloc, &error))
+}
+
+fn parse<'a>(alloc: Global, words: &'a [String]) -> Result<ArgMatches<'a>, Refusal>
+    ensures rows { IfOk result (λ matches.
+        rows_of (found_of matches) ≡ rows_of_words (map string_bytes words.entry.now)) }
+{
+    match command(alloc)?.try_get_matches_from(words) {
+        Ok(matches) => Ok(matches),
+        Err(error) => Err(Refusal::of_clap(alloc, &error)),
+    }
+}
+
+// Returns the files, unless there are none or more than [`MAX_PROXIES`].
+fn files_of<'m, 'a>(matches: &'m ArgMatches<'a>) -> Option<&'m [&'a str]>
+    ensures files { IfSome result (λ files. all_of (codes "FILE") (rows_of (found_of matches.entry.now))
+        ≡ Some (map (λ name. name.now) files.now)) }
+    ensures least { IfSome result (λ files. 1 ≤ length files.now) }
+    ensures most { IfSome result (λ files. length files.now ≤ MAX_PROXIES) }
+{
+    let files = matches.get_strs("FILE")?;
+    if files.is_empty() || files.len() > MAX_PROXIES {
+        return None;
+    }
+    Some(files)
+}
+
+// Returns the options, unless a number is out of its range. `clap` refuses such numbers itself.
+fn options_of(matches: &ArgMatches) -> Option<Options>
+    ensures options { IfSome result (HoldsOptions (rows_of (found_of matches.now))) }
+{
+    Options::new(
+        matches.get_one("capacity")?,
+        matches.get_one("window")?,
+        matches.get_one("limit")?,
+        matches.get_one("frames")?,
+    )
+}
+
+#[cfg(test)]
+mod tests;

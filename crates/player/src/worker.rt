@@ -1,0 +1,204 @@
+//! A worker reads the file of one proxy, sends its batches and takes its answers, in a thread of its own.
+
+ghost use Rattle.std.specs.Prelude.{◌≡◌, ◌≤◌, [], ◌∷◌, ◌++◌, true, false, length, None, OnOk, OnErr, IfErr};
+ghost use Rattle.lane.specs.Lane.{PortGoesOn, HasEnded};
+ghost use Rattle.lane.specs.Refused.{item_of};
+ghost use Rattle.wire.specs.Frames.{frames_reader, refusal_of};
+ghost use Rattle.player.specs.Inbox.{Keeps, InboxGoesOn};
+ghost use Rattle.player.specs.Worker.{HasWorked, SendsFrames, fault_of, unsent_of};
+
+use crate::gatekeeper::Gatekeeper;
+use crate::inbox::Inbox;
+use crate::line::Line;
+use crate::pause::pause;
+use keyspace::Batch;
+use lane::{Port, Refused};
+use resolver::Client;
+use std::alloc::Global;
+use std::sync::Wait;
+use wire::{Frames, Source, WireError, read_frames};
+
+/// What a worker hands back.
+#[derive(Drop)]
+pub struct Finished {
+    /// The client that the worker was given.
+    pub client: Client,
+    /// The lines of the answers, in the order taken.
+    pub lines: Vec<Line>,
+    /// The fault of the file, which ended it.
+    pub fault: Option<WireError>,
+    /// The line of an answer could not be kept. The answers after it were dropped.
+    pub lost: bool,
+    /// The batch that was read last, where the answers ended before it could be sent.
+    pub unsent: Option<Batch>,
+}
+
+// How the reading of a file ended.
+#[derive(Drop)]
+enum FileEnd {
+    // All of it was read and sent.
+    Reached,
+    Fault(WireError),
+    // The batch read last can't be sent any more.
+    Unsent(Batch),
+}
+
+// A proxy's ends of its lanes.
+#[derive(Drop)]
+struct Worker {
+    requests: Port<Batch>,
+    inbox: Inbox,
+    proxy: usize,
+    // the place of the next batch
+    place: u64,
+    ghost counted: { place ≤ length requests.sent },
+}
+
+/// Sends the batches of the frames of a file, in order, up to the file's end or its fault, closes the lane and takes answers
+/// to their end. Where the answers end earlier, it stops sending. With `frames` the lines of replies are their frames.
+pub fn work<S: Source + Drop, G: Gatekeeper, R: Wait>(
+    rt: &R,
+    alloc: Global,
+    frames: bool,
+    proxy: usize,
+    client: Client,
+    reader: S,
+    gatekeeper: &G,
+) -> Finished
+    ensures worked { HasWorked frames proxy (S.remaining reader) client result }
+    ensures closed { result.client.requests.closed ≡ true }
+    ensures ended { HasEnded result.client.replies }
+{
+    let mut worker = Worker::new(alloc, frames, proxy, client);
+    let end = worker.send_frames(rt, gatekeeper, &mut read_frames(alloc, reader));
+    worker.requests.close(rt);
+    worker.inbox.take_to_end(rt, gatekeeper);
+    worker.finish(end)
+}
+
+impl Worker {
+    fn new(alloc: Global, frames: bool, proxy: usize, client: Client) -> Self
+        ensures requests { result.requests ≡ client.requests }
+        ensures replies { result.inbox.replies ≡ client.replies }
+        ensures proxy { result.inbox.proxy ≡ proxy }
+        ensures frames { result.inbox.frames ≡ frames }
+        ensures lines { Keeps client.replies.taken result.inbox }
+    {
+        let Client { requests, replies } = client;
+        Worker {
+            requests,
+            inbox: Inbox::new(alloc, frames, proxy, replies),
+            proxy,
+            place: 0,
+        }
+    }
+
+    // Sends the batches of the frames, in order.
+    fn send_frames<S: Source, G: Gatekeeper, R: Wait>(
+        &mut self,
+        rt: &R,
+        gatekeeper: &G,
+        frames: &mut Frames<S>,
+    ) -> FileEnd
+        requires fresh { refusal_of frames.old ≡ None }
+        ensures requests { PortGoesOn self.old.requests self.new.requests }
+        ensures inbox { InboxGoesOn self.old.inbox self.new.inbox }
+        ensures sent { SendsFrames (S.remaining (frames_reader frames.old)) self.old.requests.sent
+            self.new.requests.sent (fault_of result) (unsent_of result) }
+    {
+        for _ in rt.forever() {
+            match frames.next() {
+                Ok(Some(batch)) => {
+                    if let Err(unsent) = self.send(rt, gatekeeper, batch) {
+                        return FileEnd::Unsent(unsent);
+                    }
+                }
+                Ok(None) => return FileEnd::Reached,
+                Err(fault) => return FileEnd::Fault(fault),
+            }
+        }
+        unreachable!()
+    }
+
+    // Sends a batch as soon as the gatekeeper and the lane let it, and takes answers before each try. Hands the batch back
+    // where the answers have ended, or where the lane takes no more.
+    fn send<G: Gatekeeper, R: Wait>(
+        &mut self,
+        rt: &R,
+        gatekeeper: &G,
+        batch: Batch,
+    ) -> Result<(), Batch>
+        ensures requests { PortGoesOn self.old.requests self.new.requests }
+        ensures inbox { InboxGoesOn self.old.inbox self.new.inbox }
+        ensures sent { OnOk result (self.new.requests.sent ≡ self.old.requests.sent ++ batch ∷ []) }
+        ensures unchanged { OnErr result (self.new.requests.sent ≡ self.old.requests.sent) }
+        ensures handed_back { IfErr result (λ unsent. unsent ≡ batch) }
+    {
+        let mut waiting = batch;
+        for _ in rt.forever() {
+            if self.inbox.take_all(rt, gatekeeper) {
+                return Err(waiting);
+            }
+            waiting = match self.try_send(rt, gatekeeper, waiting) {
+                Ok(()) => return Ok(()),
+                Err(Refused::Full(refused)) => refused,
+                Err(Refused::Closed(refused) | Refused::Worn(refused)) => return Err(refused),
+            };
+            pause(rt);
+        }
+        unreachable!()
+    }
+
+    // Tries once. A batch that the gatekeeper holds back is refused as by a full lane.
+    fn try_send<G: Gatekeeper, R: Wait>(
+        &mut self,
+        rt: &R,
+        gatekeeper: &G,
+        batch: Batch,
+    ) -> Result<(), Refused<Batch>>
+        ensures requests { PortGoesOn self.old.requests self.new.requests }
+        ensures inbox { self.new.inbox ≡ self.old.inbox }
+        ensures sent { OnOk result (self.new.requests.sent ≡ self.old.requests.sent ++ batch ∷ []) }
+        ensures unchanged { OnErr result (self.new.requests.sent ≡ self.old.requests.sent) }
+        ensures handed_back { IfErr result (λ refused. item_of refused ≡ batch) }
+    {
+        if !gatekeeper.may_send(self.proxy, self.place) {
+            return Err(Refused::Full(batch));
+        }
+        self.requests.send(rt, batch)?;
+        self.place += 1;
+        Ok(())
+    }
+
+    fn finish(self, end: FileEnd) -> Finished
+        ensures requests { result.client.requests ≡ self.requests }
+        ensures inbox { (result.client.replies ≡ self.inbox.replies) × (result.lines ≡ self.inbox.lines)
+            × (result.lost ≡ self.inbox.lost) }
+        ensures fault { result.fault ≡ fault_of end }
+        ensures unsent { result.unsent ≡ unsent_of end }
+    {
+        let (fault, unsent) = match end {
+            FileEnd::Reached => (None, None),
+            FileEnd::Fault(fault) => (Some(fault), None),
+            FileEnd::Unsent(batch) => (None, Some(batch)),
+        };
+        let Worker {
+            requests,
+            inbox,
+            ..
+        } = self;
+        let Inbox {
+            replies,
+            lines,
+            lost,
+            ..
+        } = inbox;
+        Finished {
+            client: Client { requests, replies },
+            lines,
+            fault,
+            lost,
+            unsent,
+        }
+    }
+}

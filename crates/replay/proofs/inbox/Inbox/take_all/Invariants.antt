@@ -1,5 +1,0 @@
-use Rattle.replay.specs.Inbox.{InboxGoesOn}
-use Rattle.replay.proofs.inbox.Inbox.take_all.Given as goal
-
-abbrev pub invariant-loop : goal.invariant-loop
-invariant-loop g l = InboxGoesOn l.fn.self l.self
