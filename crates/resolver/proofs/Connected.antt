@@ -19,22 +19,14 @@ use Rattle.std.proofs.Common.{
   ◌∙◌,
   arith,
 }
-use Rattle.std.specs.Prelude.{All, slice_get}
+use Rattle.std.specs.Prelude.{slice_get}
 use Rattle.std.proofs.lemmas.Option.{none-some, same_Some}
 use Rattle.std.proofs.lemmas.List.{length_push, length-map, map_push}
 use Rattle.std.proofs.lemmas.List.Elements.{All-nil, All-push}
 use Rattle.lane.specs.Lane.{SameLane}
 use Rattle.resolver.specs.declared.client.Client.{Client}
 use Rattle.resolver.specs.Resolver.{AreClients, IsNewClient}
-use Rattle.resolver.specs.Links.{LinkView, IsNewLink, lanes_of}
-
--- so many links and clients, all new, those of the same lanes at the same index
-pub record AreConnected (capacity count : ℕ) (links : List LinkView) (clients : List Client) : Type 0 where
-  pub link_count : length links ≡ count
-  pub client_count : length clients ≡ count
-  pub new_links : All IsNewLink links
-  pub new_clients : All (IsNewClient capacity) clients
-  pub same : AreClients (lanes_of links) clients
+use Rattle.resolver.specs.Links.{LinkView, IsNewLink, AreConnected, lanes_of}
 
 module _ {A B : Type 0} (R : A → B → Type 0) where
   -- what holds of the elements at the same index

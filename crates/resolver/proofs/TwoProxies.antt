@@ -1,5 +1,5 @@
 -- Clients served in one thread: what each has sent and taken, beside a log for which the resolver stands.
-use Rattle.std.proofs.Common.{◌≡◌, ℕ, zero, suc, ◌<◌, ◌⊎◌, Bool, true, List, [], ◌∷◌, ◌++◌, length, map, Option, Some, None, Result, Ok, Err, set, refl, sym, ap, subst, ◌∙◌, inl, inr, arith}
+use Rattle.std.proofs.Common.{◌≡◌, ℕ, zero, suc, ◌<◌, ◌⊎◌, Bool, true, List, [], ◌∷◌, ◌++◌, length, map, Option, Some, None, Result, Ok, Err, set, refl, sym, ap, ap₂, subst, ◌∙◌, inl, inr, arith}
 use Rattle.std.specs.Prelude.{ℤ, All, IsSome, IfOk, IfErr, slice_get, slice_index_or}
 use Rattle.std.proofs.lemmas.Bool.{cases_eq}
 use Rattle.std.proofs.lemmas.Option.{none-some, same_Some, slice_get_within, get_or_from_slice_get}
@@ -18,7 +18,7 @@ use Rattle.resolver.specs.Books.{GoOn, IsBeginning}
 use Rattle.resolver.specs.Lanes.{Each, LanesGoOn}
 use Rattle.resolver.specs.Resolver.{ResolverState, StandsOver, TakesFrom, Finishes, TakesNoStep, StepsBy, AreClients, IsNewClient}
 use Rattle.resolver.specs.Settled.{Settled, SettledFor}
-use Rattle.resolver.specs.Served.{ServedFor, AreServed}
+use Rattle.resolver.specs.Served.{ServedFor, AreServed, HasDone, AreServing}
 use Rattle.resolver.proofs.Settling.{slice_get-set_same, slice_get-set_other}
 use Rattle.resolver.proofs.Unchanged.{slice_get_inside}
 use Rattle.resolver.proofs.Later.{ClientGoesOn, port_same, intake_same, clients_same, clients_set, lanes_same, AreClients-later}
@@ -74,23 +74,6 @@ both_same : {A : Type 0} (x : A) (i : ℕ) (y : A) → slice_get (x ∷ x ∷ []
 both_same x zero y at = same_Some x y at
 both_same x (suc zero) y at = same_Some x y at
 both_same x (suc (suc i)) y at = absurd (none-some y at)
-
--- a client that has sent these batches and taken these answers
-pub record HasDone (batches : List Batch) (answers : List Answer) (c : Client) : Type 0 where
-  pub sent : c.requests.sent ≡ batches
-  pub taken : c.replies.taken ≡ answers
-
--- The resolver stands for a log, and the clients are those of its lanes. Each has sent and taken what stands at its number.
-pub record AreServing (window : ℤ) (r : ResolverState) (clients : List Client) (sent : List (List Batch))
-    (taken : List (List Answer)) : Type 0 where
-  pub log : List Step
-  pub stands : StandsOver r log
-  pub window_is : r.core.books.set.window ≡ window
-  pub same_lanes : AreClients r.lanes clients
-  pub sent_count : length sent ≡ length clients
-  pub taken_count : length taken ≡ length clients
-  pub each : (proxy : ℕ) (c : Client) (batches : List Batch) (answers : List Answer) → slice_get clients proxy ≡ Some c
-      → slice_get sent proxy ≡ Some batches → slice_get taken proxy ≡ Some answers → HasDone batches answers c
 
 module _ (window : ℤ) (r : ResolverState) (clients : List Client) (sent : List (List Batch))
     (taken : List (List Answer)) (are : AreServing window r clients sent taken) where
@@ -177,6 +160,27 @@ module _ (window : ℤ) (r : ResolverState) (clients : List Client) (sent : List
         sent = ap (λ p. p.sent) requests ∙ (are.each proxy old batches before at sent_at taken_at).sent;
         taken = takes;
       })
+
+-- the lists sent are those of the clients
+sent_by : (clients : List Client) (sent : List (List Batch)) → length sent ≡ length clients
+    → ((i : ℕ) (c : Client) (batches : List Batch) → slice_get clients i ≡ Some c → slice_get sent i ≡ Some batches
+    → c.requests.sent ≡ batches)
+    → map (λ c. c.requests.sent) clients ≡ sent
+sent_by [] [] count each = refl
+sent_by [] (b ∷ sent) count each = absurd (omega (arith, count))
+sent_by (c ∷ clients) [] count each = absurd (omega (arith, count))
+sent_by (c ∷ clients) (b ∷ sent) count each =
+    ap₂ ◌∷◌ (each zero c b refl refl) (sent_by clients sent (omega (arith, count)) (λ i. each (suc i)))
+
+pub serving_sent_by : (window : ℤ) (r : ResolverState) (clients : List Client) (sent : List (List Batch))
+    (taken : List (List Answer)) → AreServing window r clients sent taken
+    → map (λ c. c.requests.sent) clients ≡ sent
+serving_sent_by window r clients sent taken are =
+    sent_by clients sent are.sent_count (λ i c batches c_at batches_at.
+    let many = are.taken_count in
+    let inside = slice_get_within clients i c c_at in
+    let answers = slice_get_inside taken i (omega (arith, many, inside)) in
+    (are.each i c batches answers.0 c_at batches_at answers.1).sent)
 
 -- a client of a list of new ones is new
 pub new_at : (capacity : ℕ) (clients : List Client) (proxy : ℕ) (c : Client) → All (IsNewClient capacity) clients

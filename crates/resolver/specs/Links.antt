@@ -1,5 +1,5 @@
 -- A resolver's parts, and the resolver that they are. This project's own.
-use Rattle.std.specs.Prelude.{◌≡◌, ℕ, ◌<◌, ◌≤◌, ◌⊎◌, ◌≢◌, Bool, true, false, List, [], ◌∷◌, ◌++◌, length, map, Option, Some, None, IsSome, IfNone, option_to_list, slice_get}
+use Rattle.std.specs.Prelude.{◌≡◌, ℕ, ◌<◌, ◌≤◌, ◌⊎◌, ◌≢◌, Bool, true, false, List, [], ◌∷◌, ◌++◌, length, map, Option, Some, None, IsSome, IfNone, All, option_to_list, slice_get}
 use Rattle.std.specs.List.{sum_by}
 use Rattle.keyspace.specs.declared.batch.Batch.{Batch}
 use Rattle.keyspace.specs.declared.answer.Answer.{Answer}
@@ -9,7 +9,7 @@ use Rattle.resolver.specs.declared.sequential.TheConstants.{MAX_PROXIES}
 use Rattle.resolver.specs.Books.{IsBeginning}
 use Rattle.resolver.specs.Stands.{CoreState}
 use Rattle.resolver.specs.Lanes.{Lanes, LanesGoOn, AreSameLists, all_ended, IsLookedThrough, IsFull}
-use Rattle.resolver.specs.Resolver.{ResolverState, IsThrough, SameClient}
+use Rattle.resolver.specs.Resolver.{ResolverState, IsThrough, SameClient, AreClients, IsNewClient}
 
 -- the resolver's ends of the lanes of a proxy, and the answer that the reply lane has handed back
 pub record LinkView : Type 0 where
@@ -129,6 +129,14 @@ pub record IsNewLink (l : LinkView) : Type 0 where
   pub closed : l.lanes.replies.closed ≡ false
   pub ended : l.lanes.ended ≡ false
   pub waiting : l.waiting ≡ None
+
+-- so many links and clients, all new, those of the same lanes at the same index
+pub record AreConnected (capacity count : ℕ) (links : List LinkView) (clients : List Client) : Type 0 where
+  pub link_count : length links ≡ count
+  pub client_count : length clients ≡ count
+  pub new_links : All IsNewLink links
+  pub new_clients : All (IsNewClient capacity) clients
+  pub same : AreClients (lanes_of links) clients
 
 -- *Lane* of both lanes of the link and its client, before and after, where no list has changed
 pub record SettlesLink (old : LinkView) (client_before : Client) (new : LinkView) (client_after : Client) : Type 0 where

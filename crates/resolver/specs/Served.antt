@@ -1,12 +1,30 @@
 -- What two proxies received that each sent one batch, beside the reference resolver. This project's own.
-use Rattle.std.specs.Prelude.{◌≡◌, ℕ, ℤ, Bool, true, List, [], ◌∷◌, length, None}
+use Rattle.std.specs.Prelude.{◌≡◌, ℕ, ℤ, Bool, true, List, [], ◌∷◌, length, None, Some, slice_get}
 use Rattle.keyspace.specs.declared.answer.Answer.{Answer}
 use Rattle.keyspace.specs.declared.batch.Batch.{Batch}
 use Rattle.keyspace.specs.Chain.{IsChain}
 use Rattle.keyspace.specs.Run.{Step, run, answers, part}
+use Rattle.resolver.specs.declared.client.Client.{Client}
 use Rattle.resolver.specs.declared.serving.Served.{Served}
 use Rattle.resolver.specs.Books.{IsBeginning}
-use Rattle.resolver.specs.Resolver.{FinishesLast}
+use Rattle.resolver.specs.Resolver.{ResolverState, StandsOver, AreClients, FinishesLast}
+
+-- a client that has sent these batches and taken these answers
+pub record HasDone (batches : List Batch) (answers : List Answer) (c : Client) : Type 0 where
+  pub sent : c.requests.sent ≡ batches
+  pub taken : c.replies.taken ≡ answers
+
+-- The resolver stands for a log, and the clients are those of its lanes. Each has sent and taken what stands at its number.
+pub record AreServing (window : ℤ) (r : ResolverState) (clients : List Client) (sent : List (List Batch))
+    (taken : List (List Answer)) : Type 0 where
+  pub log : List Step
+  pub stands : StandsOver r log
+  pub window_is : r.core.books.set.window ≡ window
+  pub same_lanes : AreClients r.lanes clients
+  pub sent_count : length sent ≡ length clients
+  pub taken_count : length taken ≡ length clients
+  pub each : (proxy : ℕ) (c : Client) (batches : List Batch) (answers : List Answer) → slice_get clients proxy ≡ Some c
+      → slice_get sent proxy ≡ Some batches → slice_get taken proxy ≡ Some answers → HasDone batches answers c
 
 -- Of one proxy that sent these batches and received these answers, by whether all is complete.
 pub record ServedFor (window : ℤ) (log : List Step) (complete : Bool) (proxy : ℕ) (sent : List Batch)

@@ -8,7 +8,7 @@ ghost use Rattle.lane.specs.declared.ends.TheConstants.{MAX_CAPACITY};
 ghost use Rattle.resolver.specs.declared.sequential.TheConstants.{MAX_PROXIES};
 ghost use Rattle.resolver.specs.Lanes.{Lanes};
 ghost use Rattle.resolver.specs.Resolver.{StandsOver, AreClients, IsNewClient};
-ghost use Rattle.resolver.specs.Links.{IsNewLink};
+ghost use Rattle.resolver.specs.Links.{IsNewLink, AreConnected};
 
 use crate::client::Client;
 use crate::link::Link;
@@ -45,6 +45,20 @@ pub fn open(
     ensures new_clients { IfOk result (λ opened. All (IsNewClient capacity) opened.1.items) }
 {
     let core = Core::new(alloc, proxies, window, limit)?;
+    let (links, clients) = connect_all(alloc, proxies, capacity)?;
+    Ok((Resolver::new(core, links), clients))
+}
+
+// Makes the lanes of so many proxies.
+fn connect_all(
+    alloc: Global,
+    proxies: usize,
+    capacity: usize,
+) -> Result<(Vec<Link>, Vec<Client>), OpenError>
+    requires least_capacity { 1 ≤ capacity }
+    requires most_capacity { capacity ≤ MAX_CAPACITY }
+    ensures connected { IfOk result (λ ends. AreConnected capacity proxies ends.0.items ends.1.items) }
+{
     let mut links = Vec::with_capacity(alloc, proxies)?;
     let mut clients = Vec::with_capacity(alloc, proxies)?;
     for _ in 0..proxies {
@@ -52,7 +66,7 @@ pub fn open(
         links.push_reserved(link);
         clients.push_reserved(client);
     }
-    Ok((Resolver::new(core, links), clients))
+    Ok((links, clients))
 }
 
 // Makes the two lanes of a proxy.

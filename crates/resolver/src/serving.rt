@@ -5,10 +5,12 @@ ghost use Rattle.keyspace.specs.declared.TheConstants.{WINDOW};
 ghost use Rattle.keyspace.specs.Run.{Step};
 ghost use Rattle.lane.specs.Lane.{PortGoesOn, IntakeGoesOn};
 ghost use Rattle.resolver.specs.Resolver.{IsNewClient};
-ghost use Rattle.resolver.specs.Served.{AreServed};
+ghost use Rattle.keyspace.specs.declared.batch.Batch.{Batch};
+ghost use Rattle.resolver.specs.Served.{AreServed, AreServing};
 
 use crate::client::Client;
 use crate::opening::open;
+use crate::over_lanes::Resolver;
 use crate::stop::OpenError;
 use crate::turn::Account;
 use keyspace::{Answer, Batch, WINDOW};
@@ -45,19 +47,36 @@ pub fn serve_two<R: Wait>(
     let (mut resolver, mut clients) = open(alloc, 2, 1, WINDOW, MAX_LIMIT)?;
     send_only(rt, &mut clients[0], first);
     send_only(rt, &mut clients[1], second);
-    let mut first_received = Vec::new(alloc);
-    let mut second_received = Vec::new(alloc);
-    for _ in 0..turns {
-        let _ = resolver.turn(rt);
-        receive(rt, &mut clients[0], &mut first_received)?;
-        receive(rt, &mut clients[1], &mut second_received)?;
-    }
+    let (first, second) = receive_all(alloc, rt, &mut resolver, &mut clients, turns)?;
     let account = resolver.settle(rt, &mut clients);
     Ok(Served {
-        first: first_received,
-        second: second_received,
+        first,
+        second,
         account,
     })
+}
+
+// Takes so many turns, and an answer of each of two proxies after each of them, if one has come. Returns those of each proxy.
+fn receive_all<R: Wait>(
+    alloc: Global,
+    rt: &R,
+    resolver: &mut Resolver,
+    clients: &mut [Client],
+    turns: usize,
+) -> Result<(Vec<Answer>, Vec<Answer>), AllocError>
+    ghost sent: { List Batch × List Batch }
+    requires serving { AreServing WINDOW resolver.old clients.old (sent.0 ∷ sent.1 ∷ []) ([] ∷ [] ∷ []) }
+    ensures serving { IfOk result (λ received. AreServing WINDOW resolver.new clients.new (sent.0 ∷ sent.1 ∷ [])
+        (received.0.items ∷ received.1.items ∷ [])) }
+{
+    let mut first = Vec::new(alloc);
+    let mut second = Vec::new(alloc);
+    for _ in 0..turns {
+        let _ = resolver.turn(rt);
+        receive(rt, &mut clients[0], &mut first)?;
+        receive(rt, &mut clients[1], &mut second)?;
+    }
+    Ok((first, second))
 }
 
 // Sends the only batch of a new client, and closes its lane. An open lane that was never used has room for it.

@@ -1,5 +1,5 @@
-use Rattle.std.proofs.Common.{[], ◌∷◌, List, length, map, set, refl, sym, ap₂, subst, ◌∙◌, arith}
-use Rattle.std.proofs.lemmas.List.{length-set}
+use Rattle.std.proofs.Common.{◌≡◌, ℕ, [], ◌∷◌, ◌++◌, List, length, map, set, get_or, take, refl, sym, subst, ◌∙◌, arith}
+use Rattle.std.proofs.lemmas.List.{length-set, take-append-le, take_all}
 use Rattle.std.proofs.lemmas.Option.{slice_get_read}
 use Rattle.keyspace.specs.declared.answer.Answer.{Answer}
 use Rattle.keyspace.specs.declared.batch.Batch.{Batch}
@@ -7,16 +7,22 @@ use Rattle.keyspace.specs.declared.TheConstants.{WINDOW}
 use Rattle.resolver.specs.declared.client.Client.{Client}
 use Rattle.keyspace.specs.Run.{Step}
 use Rattle.resolver.specs.Resolver.{AreClients, StandsOver}
+use Rattle.resolver.specs.Served.{AreServing}
 use Rattle.resolver.specs.Settled.{Settled}
-use Rattle.resolver.proofs.Settling.{slice_get-set_other}
-use Rattle.resolver.proofs.TwoProxies.{AreServing, turn_on, serving_turned, serving_sent, serving_received, serving_opened, serving_settled}
+use Rattle.resolver.proofs.TwoProxies.{serving_sent, serving_sent_by, serving_opened, serving_settled}
 use Rattle.resolver.proofs.serving.serve_two.Given.{Over}
 use Rattle.resolver.proofs.serving.serve_two.Goals as goal
-use Rattle.resolver.proofs.serving.serve_two.Goals.{After-new-second_received, In_ok-receive-2}
+use Rattle.resolver.proofs.serving.serve_two.Goals.{After-send_only-2, In_ok-first}
 
-module _ (g : Over) (c : After-new-second_received g) where
+module _ (g : Over) (c : After-send_only-2 g) where
   abbrev clients : List Client
   clients = c.in_ok-resolver.clients.items
+
+  abbrev now : List Client
+  now = set (set clients 0 c.send_only.new.client) 1 c.send_only-2.new.client
+
+  abbrev sent : List (List Batch)
+  sent = (c.args.first ∷ []) ∷ (c.args.second ∷ []) ∷ []
 
   opened : AreServing WINDOW c.in_ok-resolver.resolver clients ([] ∷ [] ∷ []) ([] ∷ [] ∷ [])
   opened =
@@ -34,134 +40,85 @@ module _ (g : Over) (c : After-new-second_received g) where
       (let many = c.in_ok-resolver.ensures.proxies in omega (arith, many)) c.index_mut.ensures.value)
       refl refl is.port is.sent is.replies
 
-  both_sent : AreServing WINDOW c.in_ok-resolver.resolver
-      (set (set clients 0 c.send_only.new.client) 1 c.send_only-2.new.client)
-      ((c.args.first ∷ []) ∷ (c.args.second ∷ []) ∷ []) ([] ∷ [] ∷ [])
+  both_sent : AreServing WINDOW c.in_ok-resolver.resolver now sent ([] ∷ [] ∷ [])
   both_sent =
       let is = c.send_only-2.ensures in
-      let now = set clients 0 c.send_only.new.client in
+      let before = set clients 0 c.send_only.new.client in
       let many = c.in_ok-resolver.ensures.proxies in
       let same = length-set clients 0 c.send_only.new.client in
-      serving_sent WINDOW c.in_ok-resolver.resolver now ((c.args.first ∷ []) ∷ [] ∷ []) ([] ∷ [] ∷ []) first_sent 1
+      serving_sent WINDOW c.in_ok-resolver.resolver before ((c.args.first ∷ []) ∷ [] ∷ []) ([] ∷ [] ∷ []) first_sent 1
       c.index_mut-2.result.now c.send_only-2.new.client [] (c.args.second ∷ []) []
-      (slice_get_read now (length now) 1 c.index_mut-2.result.now refl (omega (arith, many, same))
+      (slice_get_read before (length before) 1 c.index_mut-2.result.now refl (omega (arith, many, same))
       c.index_mut-2.ensures.value)
       refl refl is.port is.sent is.replies
 
-pub loop-init : goal.loop-init
-loop-init g c =
-    let now = set (set c.in_ok-resolver.clients.items 0 c.send_only.new.client) 1 c.send_only-2.new.client in
-    let sent = (c.args.first ∷ []) ∷ (c.args.second ∷ []) ∷ [] in
-    let none = ap₂ (λ (a b : List Answer). a ∷ b ∷ []) (sym c.new-first_received.ensures.items)
-    (sym c.new-second_received.ensures.items) in
-    subst (λ (taken : List (List Answer)). AreServing WINDOW c.in_ok-resolver.resolver now sent taken)
-    {y = c.new-first_received.result.items ∷ c.new-second_received.result.items ∷ []} none (both_sent g c)
+  -- what `receive_all` is told of what was sent
+  sent_is : map (λ d. d.requests.sent) now ≡ sent
+  sent_is = serving_sent_by WINDOW c.in_ok-resolver.resolver now sent ([] ∷ [] ∷ []) both_sent
 
-pub index_mut-requires-in-loop : goal.index_mut-requires-in-loop
-index_mut-requires-in-loop g c =
-    let many = c.loop.invariant.sent_count in
-    let len = c.loop.clients.ok.0 in
-    omega (arith, many, len)
+pub receive_all-requires : goal.receive_all-requires
+receive_all-requires g c κs within =
+    let j = (goal.at.receive_all-requires g c).After-send_only-2 in
+    let Serving : List Client → List (List Batch) → Type 0 = λ clients sent.
+    AreServing WINDOW c.in_ok-resolver.resolver clients (get_or sent 0 [] ∷ get_or sent 1 [] ∷ []) ([] ∷ [] ∷ []) in
+    let Told : List Client → Type 0 = λ clients. Serving clients (map (λ d. d.requests.sent) clients) in (
+      within,
+      subst Told (sym c.deref_mut.ensures.value)
+          (subst (Serving (now g j)) {y = map (λ d. d.requests.sent) (now g j)} (sym (sent_is g j)) (both_sent g j)),
+    )
 
-pub receive-requires : goal.receive-requires
-receive-requires g c =
-    let clients = c.loop.clients.items in
-    let client = c.index_mut-in-loop.result.now in
-    let many = c.loop.invariant.sent_count in
-    record {
-      so_far =
-          (c.loop.invariant.each 0 client (c.args.first ∷ []) c.loop.first_received.items
-          (slice_get_read clients (length clients) 0 client refl (omega (arith, many)) c.index_mut-in-loop.ensures.value)
-          refl refl).taken;
-    }
+module _ (g : Over) (c : In_ok-first g) where
+  abbrev both : List (List Batch)
+  both = (c.args.first ∷ []) ∷ (c.args.second ∷ []) ∷ []
 
-pub index_mut-requires-in-loop-2 : goal.index_mut-requires-in-loop-2
-index_mut-requires-in-loop-2 g c =
-    let many = c.loop.invariant.sent_count in
-    let len = c.loop.clients.ok.0 in
-    omega (arith, many, len)
+  received : map (λ d. d.requests.sent) c.deref_mut.result.now ≡ both
+      → AreServing WINDOW c.receive_all.new.resolver c.receive_all.new.clients both
+      (c.in_ok-first.first.items ∷ c.in_ok-first.second.items ∷ [])
+  received told =
+      subst
+      (λ (sent : List (List Batch)). AreServing WINDOW c.receive_all.new.resolver c.receive_all.new.clients
+      (get_or sent 0 [] ∷ get_or sent 1 [] ∷ []) (c.in_ok-first.first.items ∷ c.in_ok-first.second.items ∷ []))
+      told c.in_ok-first.ensures.serving
 
-pub receive-requires-in-loop : goal.receive-requires-in-loop
-receive-requires-in-loop g c =
-    let clients = c.loop.clients.items in
-    let now = set clients 0 c.receive.new.client in
-    let client = c.index_mut-in-loop-2.result.now in
-    let many = c.loop.invariant.sent_count in
-    let same = length-set clients 0 c.receive.new.client in
-    record {
-      so_far =
-          (c.loop.invariant.each 1 client (c.args.second ∷ []) c.loop.second_received.items
-          (sym (slice_get-set_other clients 0 1 c.receive.new.client (omega arith))
-          ∙ slice_get_read now (length now) 1 client refl (omega (arith, many, same))
-          c.index_mut-in-loop-2.ensures.value)
-          refl refl).taken;
-    }
-
-module _ (g : Over) (c : In_ok-receive-2 g) where
-  abbrev sent : List (List Batch)
-  sent = (c.args.first ∷ []) ∷ (c.args.second ∷ []) ∷ []
-
-  abbrev before : List Client
-  before = c.loop.clients.items
-
-  abbrev between : List Client
-  between = set before 0 c.receive.new.client
-
-  turned : AreServing WINDOW c.turn.new.self before sent
-      (c.loop.first_received.items ∷ c.loop.second_received.items ∷ [])
-  turned =
-      let is = c.turn.ensures in
-      serving_turned WINDOW c.loop.resolver before sent
-      (c.loop.first_received.items ∷ c.loop.second_received.items ∷ []) c.loop.invariant c.turn.new.self
-      (turn_on c.turn.result c.loop.resolver c.turn.new.self is.step is.stop_met is.stopped) is.goes_on is.lanes
-
-  first_received : AreServing WINDOW c.turn.new.self between sent
-      (c.receive.new.received.items ∷ c.loop.second_received.items ∷ [])
-  first_received =
-      let is = c.in_ok-receive.ensures in
-      let many = turned.sent_count in
-      serving_received WINDOW c.turn.new.self before sent
-      (c.loop.first_received.items ∷ c.loop.second_received.items ∷ []) turned 0 c.index_mut-in-loop.result.now
-      c.receive.new.client (c.args.first ∷ []) c.loop.first_received.items c.receive.new.received.items
-      (slice_get_read before (length before) 0 c.index_mut-in-loop.result.now refl (omega (arith, many))
-      c.index_mut-in-loop.ensures.value)
-      refl refl is.intake is.taken is.requests
-
-  both_received : AreServing WINDOW c.turn.new.self (set between 1 c.receive-in-loop.new.client) sent
-      (c.receive.new.received.items ∷ c.receive-in-loop.new.received.items ∷ [])
-  both_received =
-      let is = c.in_ok-receive-2.ensures in
-      let many = first_received.sent_count in
-      serving_received WINDOW c.turn.new.self between sent
-      (c.receive.new.received.items ∷ c.loop.second_received.items ∷ []) first_received 1
-      c.index_mut-in-loop-2.result.now c.receive-in-loop.new.client (c.args.second ∷ []) c.loop.second_received.items
-      c.receive-in-loop.new.received.items
-      (slice_get_read between (length between) 1 c.index_mut-in-loop-2.result.now refl (omega (arith, many))
-      c.index_mut-in-loop-2.ensures.value)
-      refl refl is.intake is.taken is.requests
-
-pub loop-preserved : goal.loop-preserved
-loop-preserved g c = both_received g c
+-- the clients that come back are those that were lent
+lent_back : (n : ℕ) (lent rest now : List Client) → n ≡ length lent → now ≡ take n (lent ++ rest) → now ≡ lent
+lent_back n lent rest now whole is =
+    is ∙ take-append-le n lent rest (omega (arith, whole)) ∙ take_all n lent (omega (arith, whole))
 
 pub settle-account-requires : goal.settle-account-requires
 settle-account-requires g c =
+    let j = (goal.at.settle-account-requires g c).After-send_only-2 in
+    let told = subst (λ (clients : List Client). map (λ d. d.requests.sent) clients ≡ sent g j)
+    (sym c.deref_mut.ensures.value) (sent_is g j) in
+    let serving = received g (goal.at.settle-account-requires g c).In_ok-first told in
+    let two = serving.taken_count in
+    let many = c.in_ok-resolver.ensures.proxies in
+    let len = c.in_ok-resolver.clients.ok.0 in
+    let back = lent_back _ c.receive_all.new.clients _ _ (omega (arith, two, many, len)) c.deref_mut-2.ensures.value in
     record {
       clients =
-          subst (λ (clients : List Client). AreClients c.loop.resolver.lanes clients) (sym c.deref_mut.ensures.value)
-          c.loop.invariant.same_lanes;
+          subst (λ (clients : List Client). AreClients c.receive_all.new.resolver.lanes clients) (sym back)
+          serving.same_lanes;
     }
 
 pub returns : goal.returns
 returns g c =
-    let r = c.loop.resolver in
+    let j = (goal.at.returns g c).After-send_only-2 in
+    let r = c.receive_all.new.resolver in
     let account = c.settle-account.result in
+    let told = subst (λ (clients : List Client). map (λ d. d.requests.sent) clients ≡ sent g j)
+    (sym c.deref_mut.ensures.value) (sent_is g j) in
+    let serving = received g (goal.at.returns g c).In_ok-first told in
+    let two = serving.taken_count in
+    let many = c.in_ok-resolver.ensures.proxies in
+    let len = c.in_ok-resolver.clients.ok.0 in
+    let back = lent_back _ c.receive_all.new.clients _ _ (omega (arith, two, many, len)) c.deref_mut-2.ensures.value in
     record {
       served =
-          serving_settled WINDOW r c.loop.clients.items c.args.first c.args.second
-          (record { first = c.loop.first_received; second = c.loop.second_received; account = account })
-          c.loop.invariant
+          serving_settled WINDOW r c.receive_all.new.clients c.args.first c.args.second
+          (record { first = c.in_ok-first.first; second = c.in_ok-first.second; account = account }) serving
           (subst
           (λ (clients : List Client). (log : List Step) → StandsOver r log
           → Settled r.core.books.set.window log (map (λ l. l.ended) r.lanes) clients account)
-          c.deref_mut.ensures.value c.settle-account.ensures.settled);
+          back c.settle-account.ensures.settled);
     }

@@ -1,9 +1,6 @@
-use Rattle.std.proofs.Common.{[], ◌∷◌}
-use Rattle.keyspace.specs.declared.TheConstants.{WINDOW}
-use Rattle.resolver.proofs.TwoProxies.{AreServing}
+use Rattle.std.proofs.Common.{[], map, get_or}
 use Rattle.resolver.proofs.serving.serve_two.Given as goal
 
-abbrev pub invariant-loop : goal.invariant-loop
-invariant-loop g l =
-    AreServing WINDOW l.resolver l.clients.items ((l.fn.first ∷ []) ∷ (l.fn.second ∷ []) ∷ [])
-    (l.first_received.items ∷ l.second_received.items ∷ [])
+abbrev pub ghost-receive_all : goal.ghost-receive_all
+ghost-receive_all g a =
+    let sent = map (λ c. c.requests.sent) a.clients.now in (get_or sent 0 [], get_or sent 1 [])

@@ -1,6 +1,7 @@
 use Rattle.std.proofs.Common.{◌+◌, sym, subst₂, arith}
-use Rattle.resolver.proofs.Connected.{AreConnected, connected_more}
-use Rattle.resolver.proofs.opening.open.Goals as goal
+use Rattle.resolver.proofs.Connected.{connected_more}
+use Rattle.resolver.specs.Links.{AreConnected}
+use Rattle.resolver.proofs.opening.connect_all.Goals as goal
 
 pub loop-preserved : goal.loop-preserved
 loop-preserved c =

@@ -1,6 +1,6 @@
 use Rattle.std.proofs.Common.{◌≤◌}
-use Rattle.resolver.proofs.Connected.{AreConnected}
-use Rattle.resolver.proofs.opening.open.Given as goal
+use Rattle.resolver.specs.Links.{AreConnected}
+use Rattle.resolver.proofs.opening.connect_all.Given as goal
 
 abbrev pub invariant-loop : goal.invariant-loop
 invariant-loop l = record {
