@@ -44,8 +44,8 @@ pub fn run<
         limit,
         frames,
     } = options;
-    let (mut resolver, clients) = open(alloc, proxies, capacity, window, limit)?;
     let outcome = Outcome::with_room(alloc, proxies)?;
+    let (mut resolver, clients) = open(alloc, proxies, capacity, window, limit)?;
     let workers = start_workers(rt, alloc, frames, readers, clients, gatekeeper)?;
     turn_to_end(rt, &mut resolver);
     let mut outcome = join_all(rt, workers, outcome);
