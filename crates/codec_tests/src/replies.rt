@@ -2,7 +2,7 @@
 
 use crate::texts::{EMPTY_BATCH, bytes_of, digits_of, refused, reply_again, reply_at};
 use fixtures::{Unmade, show_reply};
-use std::alloc::{AllocError, Global};
+use std::alloc::Global;
 use std::test::Fail;
 use wire::decode_reply;
 
