@@ -9,8 +9,6 @@ ghost use Rattle.keyspace.specs.declared.txn.TheConstants.{MAX_RANGES};
 
 mod distinct;
 mod sorting;
-#[cfg(test)]
-mod tests;
 
 use crate::range::Range;
 use crate::txn::Txn;

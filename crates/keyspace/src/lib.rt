@@ -43,6 +43,3 @@ pub use txns::{Ranks, Txns};
 pub const WINDOW: i64 = 5_000_000;
 
 const _: () = prove!(WINDOW == 5_000_000);
-
-#[cfg(test)]
-mod tests;

@@ -40,6 +40,3 @@ pub use sink::{Sink, StdSink, write_all};
 pub use source::{Failed, Source, StdSource};
 pub use upgrading::upgrade;
 pub use version::WireVersion;
-
-#[cfg(test)]
-mod tests;

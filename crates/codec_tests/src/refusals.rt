@@ -1,6 +1,8 @@
 //! Tests of the texts of refusals.
 
-use super::*;
+use crate::texts::refused;
+use std::test::Fail;
+use wire::WireError;
 
 #[test]
 fn texts_of_refusals(rt: HostRuntime) -> Result<(), Fail> {
@@ -21,8 +23,7 @@ fn texts_of_refusals(rt: HostRuntime) -> Result<(), Fail> {
         (WireError::Spelling, "14 Spelling"),
         (WireError::Write, "15 Write"),
     ] {
-        let shown = format!(in rt.alloc(); "{refusal}")?;
-        assert_eq!(rt; shown.as_str(), text);
+        assert_eq!(rt; refused(rt.alloc(), refusal)?.as_str(), text);
     }
     Ok(())
 }

@@ -1,0 +1,214 @@
+//! Tests of `Frames`.
+
+use crate::readers::{FailsOnce, Pieces};
+use crate::texts::{EMPTY_BATCH, EMPTY_BATCH_2, ONE_WRITE, ONE_WRITE_2, bytes_of, refused};
+use fixtures::{Unmade, show_batch};
+use std::alloc::Global;
+use std::test::Fail;
+use wire::{Frames, Source, StdSource, read_frames};
+
+// The next answer as text: the batch, `none`, or the number and the name of the refusal.
+fn next_shown<R: Source>(alloc: Global, frames: &mut Frames<R>) -> Result<String, Unmade> {
+    match frames.next() {
+        Ok(Some(batch)) => show_batch(alloc, &batch),
+        Ok(None) => Ok(String::from_str(alloc, "none")?),
+        Err(refusal) => refused(alloc, refusal),
+    }
+}
+
+// So many answers of a reader, with a bar between two.
+fn answers<R: Source + Drop>(alloc: Global, reader: R, count: u32) -> Result<String, Unmade> {
+    let mut frames = read_frames(alloc, reader);
+    let mut text = next_shown(alloc, &mut frames)?;
+    for _ in 1..count {
+        text.push_str(" | ")?;
+        let shown = next_shown(alloc, &mut frames)?;
+        text.push_str(shown.as_str())?;
+    }
+    Ok(text)
+}
+
+// The first three answers over these bytes, given by so many a call.
+fn by_step(alloc: Global, bytes: &[u8], step: usize, fails: bool) -> Result<String, Unmade> {
+    let reader = Pieces::new(bytes, step, fails);
+    answers(alloc, StdSource::new(reader), 3)
+}
+
+const TEXTS: [(&str, &str); 10] = [
+    ("", "none | none | none"),
+    (
+        "0000001b 01 ffffffffffffffff 0000000000000000 ffffffffffffffff 0000 \
+         0000002e 01 0000000000000000 0000000000000064 ffffffffffffffff 0001 \
+         0000000000000000 00 0000 0001 0001 61 0001 62",
+        "-1>0 received -1 | 0>100 received -1; W[61,62) @0 | none",
+    ),
+    (
+        "0000001b 01 ffffffffffffffff 0000000000000000 ffffffffffffffff 0000 00",
+        "-1>0 received -1 | 1 Short | 1 Short",
+    ),
+    (
+        "0000001b 01 ffffffffffffffff 0000000000000000 ffffffffffffffff 0000 \
+         00000001 02 \
+         0000002e 01 0000000000000000 0000000000000064 ffffffffffffffff 0001 \
+         0000000000000000 00 0000 0001 0001 61 0001 62",
+        "-1>0 received -1 | 3 Kind | 3 Kind",
+    ),
+    (
+        "0000001b 03 ffffffffffffffff 0000000000000000 ffffffffffffffff 0000 \
+         0000002e 01 0000000000000000 0000000000000064 ffffffffffffffff 0001 \
+         0000000000000000 00 0000 0001 0001 61 0001 62 \
+         0000002c 03 0000000000000000 0000000000000064 ffffffffffffffff 0001 \
+         0000000000000000 00 0000 0001 01 0001 6b",
+        "-1>0 received -1 | 0>100 received -1; W[61,62) @0 | 0>100 received -1; W[6b,6b00) @0",
+    ),
+    ("00400001", "2 Long | 2 Long | 2 Long"),
+    ("00400000", "1 Short | 1 Short | 1 Short"),
+    ("00000000", "10 Cut | 10 Cut | 10 Cut"),
+    (
+        "0000001b 01 ffffffffffffffff 0000000000000000 ffffffffffffffff 0001",
+        "10 Cut | 10 Cut | 10 Cut",
+    ),
+    (
+        "0000001c 01 ffffffffffffffff 0000000000000000 ffffffffffffffff 0000 00",
+        "4 Trailing | 4 Trailing | 4 Trailing",
+    ),
+];
+
+// The answers over the bytes of a text.
+fn of_text(alloc: Global, text: &str, step: usize, fails: bool) -> Result<String, Unmade> {
+    let bytes = bytes_of(alloc, text)?;
+    by_step(alloc, &bytes, step, fails)
+}
+
+#[test]
+fn answers_of_frames(rt: HostRuntime) -> Result<(), Fail> {
+    for (text, want) in TEXTS {
+        for step in [1, 7, 100_000] {
+            let shown = of_text(rt.alloc(), text, step, false)?;
+            assert_eq!(rt; shown.as_str(), want, "of {text} by {step}");
+        }
+    }
+    for step in [1, 100_000] {
+        let shown = of_text(rt.alloc(), EMPTY_BATCH, step, true)?;
+        assert_eq!(rt; shown.as_str(), "-1>0 received -1 | 12 Read | 12 Read");
+    }
+    Ok(())
+}
+
+// The frame of `-1>0`, then a length of 30 and 29 bytes.
+#[test]
+fn short_second_frame(rt: HostRuntime) -> Result<(), Fail> {
+    let text = "0000001b 01 ffffffffffffffff 0000000000000000 ffffffffffffffff 0000 0000001e \
+         0101010101010101010101010101010101010101010101010101010101";
+    for step in [1, 100_000] {
+        let shown = of_text(rt.alloc(), text, step, false)?;
+        assert_eq!(rt; shown.as_str(), "-1>0 received -1 | 1 Short | 1 Short");
+    }
+    Ok(())
+}
+
+// The first run in either wire version: an empty batch of 31 bytes, and one with one write.
+const FIRST_RUNS: [(&str, &str); 2] = [(EMPTY_BATCH, ONE_WRITE), (EMPTY_BATCH_2, ONE_WRITE_2)];
+
+fn first_run(alloc: Global, empty_batch: &str, one_write: &str) -> Result<Vec<u8>, Unmade> {
+    let mut bytes = bytes_of(alloc, empty_batch)?;
+    bytes.extend_from_slice(&bytes_of(alloc, one_write)?)?;
+    Ok(bytes)
+}
+
+// What comes of the first run where its reader fails after so many bytes.
+fn failed_after(count: usize, whole: usize) -> &'static str {
+    if count < 31 {
+        "12 Read | 12 Read | 12 Read"
+    } else if count < whole {
+        "-1>0 received -1 | 12 Read | 12 Read"
+    } else {
+        "-1>0 received -1 | 0>100 received -1; W[61,62) @0 | 12 Read"
+    }
+}
+
+#[test]
+fn reader_fails_everywhere(rt: HostRuntime) -> Result<(), Fail> {
+    for (empty_batch, one_write) in FIRST_RUNS {
+        let bytes = first_run(rt.alloc(), empty_batch, one_write)?;
+        for count in 0..=bytes.len() {
+            let shown = by_step(rt.alloc(), &bytes[..count], 1, true)?;
+            assert_eq!(rt;
+                shown.as_str(),
+                failed_after(count, bytes.len()),
+                "after {count}"
+            );
+        }
+    }
+    Ok(())
+}
+
+// What comes of the first run where it ends after so many bytes.
+fn cut_after(count: usize, whole: usize) -> &'static str {
+    if count == 0 {
+        "none | none | none"
+    } else if count < 31 {
+        "1 Short | 1 Short | 1 Short"
+    } else if count == 31 {
+        "-1>0 received -1 | none | none"
+    } else if count < whole {
+        "-1>0 received -1 | 1 Short | 1 Short"
+    } else {
+        "-1>0 received -1 | 0>100 received -1; W[61,62) @0 | none"
+    }
+}
+
+#[test]
+fn first_run_cut_everywhere(rt: HostRuntime) -> Result<(), Fail> {
+    for (empty_batch, one_write) in FIRST_RUNS {
+        let bytes = first_run(rt.alloc(), empty_batch, one_write)?;
+        for count in 0..=bytes.len() {
+            for step in [1, 100_000] {
+                let shown = by_step(rt.alloc(), &bytes[..count], step, false)?;
+                assert_eq!(rt;
+                    shown.as_str(),
+                    cut_after(count, bytes.len()),
+                    "after {count}"
+                );
+            }
+        }
+    }
+    Ok(())
+}
+
+// The first answer of a reader that is interrupted so often before each byte.
+fn interrupted(alloc: Global, interruptions: u32) -> Result<String, Unmade> {
+    let bytes = bytes_of(alloc, EMPTY_BATCH)?;
+    let mut reader = Pieces::new(&bytes, 1, false);
+    reader.interruptions = interruptions;
+    answers(alloc, StdSource::new(reader), 1)
+}
+
+#[test]
+fn interruptions(rt: HostRuntime) -> Result<(), Fail> {
+    for (count, answer) in [
+        (999, "-1>0 received -1"),
+        (1_000, "-1>0 received -1"),
+        (1_001, "12 Read"),
+    ] {
+        assert_eq!(rt; interrupted(rt.alloc(), count)?.as_str(), answer);
+    }
+    Ok(())
+}
+
+// Two answers of a reader that fails once.
+fn failed_once(alloc: Global) -> Result<String, Unmade> {
+    let bytes = bytes_of(alloc, EMPTY_BATCH)?;
+    let reader = FailsOnce {
+        bytes: &bytes,
+        failed: false,
+    };
+    answers(alloc, StdSource::new(reader), 2)
+}
+
+// Only an interruption is tried again.
+#[test]
+fn one_failure_is_enough(rt: HostRuntime) -> Result<(), Fail> {
+    assert_eq!(rt; failed_once(rt.alloc())?.as_str(), "12 Read | 12 Read");
+    Ok(())
+}

@@ -1,0 +1,28 @@
+//! Tests of the data and of its wire form, by the public calls of `keyspace` and `wire` alone: worked frames and the fault
+//! that each other one is refused for, readers and writers that give out anywhere, keys, ranges, and the ranks of ends.
+#![tactic(auto)]
+
+#[cfg(test)]
+mod batches;
+#[cfg(test)]
+mod frames;
+#[cfg(test)]
+mod keys;
+#[cfg(test)]
+mod long_batches;
+#[cfg(test)]
+mod paper;
+#[cfg(test)]
+mod ranks;
+#[cfg(test)]
+mod readers;
+#[cfg(test)]
+mod refusals;
+#[cfg(test)]
+mod replies;
+#[cfg(test)]
+mod second_version;
+#[cfg(test)]
+mod texts;
+#[cfg(test)]
+mod upgrades;
