@@ -21,6 +21,3 @@ pub use arena::Arena;
 pub use error::ArenaError;
 pub use size::MAX_LENGTH;
 pub use slot::Slot;
-
-#[cfg(test)]
-mod tests;

@@ -9,8 +9,6 @@
 mod error;
 mod gate;
 mod replies;
-#[cfg(test)]
-mod tests;
 
 pub use error::ChainError;
 pub use gate::{Gate, MAX_HELD};

@@ -15,8 +15,6 @@ mod error;
 mod intake;
 mod pipe;
 mod port;
-#[cfg(test)]
-mod tests;
 
 pub use ends::{MAX_CAPACITY, agree, lane};
 pub use error::LaneError;

@@ -11,7 +11,6 @@ pub mod WritingRooted
 pub mod Thinned
 pub mod Looking
 pub mod Sweeps
-pub mod SweptBoundaries
 pub mod SweptMap
 pub mod WrittenMap
 pub mod IndexFound

@@ -24,6 +24,3 @@ pub use asked::Asked;
 pub use error::StepError;
 pub use key_lengths::KeyLengths;
 pub use step_map::{MAX_LIMIT, StepMap, SweepEnd};
-
-#[cfg(test)]
-mod tests;

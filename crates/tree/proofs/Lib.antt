@@ -2,7 +2,6 @@
 pub mod Above
 pub mod Approaches
 pub mod Changing
-pub mod Constant
 pub mod Counting
 pub mod Cuts
 pub mod Entries
@@ -52,5 +51,4 @@ pub mod ToldKeys
 pub mod Trees
 pub mod Ways
 pub mod WrittenLeaf
-pub mod EmptyKeys
 pub mod SameBytes

@@ -8,4 +8,3 @@ pub mod Question
 pub mod Tree
 pub mod Replace
 pub mod Overwrite
-pub mod Tests

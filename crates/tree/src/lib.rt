@@ -27,6 +27,3 @@ pub use probe::Probe;
 pub use question::Question;
 pub use thin::Thinned;
 pub use tree::{Overwritten, Tree, item};
-
-#[cfg(test)]
-mod tests;

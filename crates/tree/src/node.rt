@@ -5,8 +5,6 @@ ghost use Rattle.std.specs.Prelude.{◌≤◌};
 use crate::entry::Entry;
 
 mod hints;
-#[cfg(test)]
-mod tests;
 
 pub use hints::Step;
 

@@ -1,5 +1,0 @@
-use Rattle.std.proofs.Common.{◌≡◌}
-use Rattle.lane.proofs.tests.next.Given as goal
-
-abbrev pub invariant-loop : goal.invariant-loop
-invariant-loop g l = (l.intake.lane ≡ l.fn.intake.lane) × (l.intake.capacity ≡ l.fn.intake.capacity)

@@ -1,5 +1,0 @@
-use Rattle.std.proofs.Common.{◌≡◌}
-use Rattle.lane.proofs.tests.send_at_last.Given as goal
-
-abbrev pub invariant-loop : goal.invariant-loop
-invariant-loop g l = (l.port.lane ≡ l.fn.port.lane) × (l.port.capacity ≡ l.fn.port.capacity)

@@ -1,0 +1,5 @@
+use Rattle.std.proofs.Common.{◌≡◌}
+use Rattle.structure_tests.proofs.lane_threads.next.Given as goal
+
+abbrev pub invariant-loop : goal.invariant-loop
+invariant-loop g l = (l.intake.lane ≡ l.fn.intake.lane) × (l.intake.capacity ≡ l.fn.intake.capacity)

@@ -1,0 +1,172 @@
+//! The worked rows of the arena, and random calls beside a map.
+
+use arena::{Arena, ArenaError, MAX_LENGTH, Slot};
+use fixtures::Random;
+use std::alloc::{AllocError, Allocator, Global};
+use std::collections::BTreeMap;
+use std::process::Abort;
+use std::test::Fail;
+
+/// Makes a key of so many bytes, which tells it from others of its length.
+pub fn bytes_of(alloc: Global, number: u32, length: usize) -> Result<Vec<u8>, AllocError> {
+    let mut bytes = Vec::with_capacity(alloc, length)?;
+    let mut state = number.wrapping_mul(2_654_435_761);
+    for _ in 0..length {
+        state = state.wrapping_mul(1_664_525).wrapping_add(1_013_904_223);
+        bytes.push((state >> 24) as u8)?;
+    }
+    Ok(bytes)
+}
+
+/// Returns whether the slot has this header and this key.
+pub fn shows<A: Allocator + Copy>(
+    arena: &Arena<u32, A>,
+    slot: Slot,
+    header: u32,
+    key: &[u8],
+) -> bool {
+    arena.is_live(slot)
+        && arena.header(slot) == header
+        && *arena.header_ref(slot) == header
+        && arena.key(slot) == key
+}
+
+// Places keys of these lengths, for which memory is taken first.
+fn place_reserved(arena: &mut Arena<u32>, alloc: Global, lengths: &[usize]) -> Result<bool, Fail> {
+    arena.reserve(lengths)?;
+    let mut all_show = true;
+    for length in lengths {
+        let key = bytes_of(alloc, 1, *length)?;
+        let slot = arena.place(7, &key)?;
+        all_show &= shows(arena, slot, 7, &key);
+    }
+    Ok(all_show)
+}
+
+// Returns whether a longer key than the longest is refused.
+fn refuses_longer(arena: &mut Arena<u32>, alloc: Global) -> Result<bool, Fail> {
+    let longer = bytes_of(alloc, 1, 16_385)?;
+    Ok(
+        arena.reserve(&[5, 16_385]) == Err(ArenaError::TooLong)
+            && arena.place(7, &longer).err() == Some(ArenaError::TooLong),
+    )
+}
+
+#[test]
+fn arena_reserve_and_place(rt: HostRuntime) -> Result<(), Fail> {
+    let mut arena = Arena::new(rt.alloc());
+    assert!(rt; place_reserved(&mut arena, rt.alloc(), &[0, 32, 33, MAX_LENGTH])?);
+    assert!(rt; refuses_longer(&mut arena, rt.alloc())?);
+    assert_eq!(rt; arena.live(), 4);
+
+    let mut arena = Arena::new(rt.alloc());
+    assert_eq!(rt; arena.live(), 0);
+    let slot = arena.place(1, b"small")?;
+    assert!(rt; shows(&arena, slot, 1, b"small"));
+    assert_eq!(rt; arena.live(), 1);
+    Ok(())
+}
+
+type Records = BTreeMap<u32, (Slot, Vec<u8>)>;
+
+// An arena, with what its records are.
+#[derive(Drop)]
+struct Both {
+    arena: Arena<u32>,
+    records: Records,
+}
+
+impl Both {
+    fn new(alloc: Global) -> Self {
+        Both {
+            arena: Arena::new(alloc),
+            records: BTreeMap::new(alloc),
+        }
+    }
+
+    fn place(&mut self, alloc: Global, number: u32, length: usize) -> Result<(), Fail> {
+        let key = bytes_of(alloc, number, length)?;
+        let slot = self.arena.place(number, &key)?;
+        self.records.insert(number, (slot, key))?;
+        Ok(())
+    }
+
+    // Takes out the record whose number is the first from this one on, and releases it.
+    fn release_from(&mut self, rt: &impl Abort, from: u32) {
+        let Some((number, _)) = self.records.range(from..).next() else {
+            return;
+        };
+        let number = *number;
+        let Some((slot, key)) = self.records.remove(&number) else {
+            return;
+        };
+        assert!(rt; shows(&self.arena, slot, number, &key));
+        assert!(rt; self.arena.is_live(slot));
+        self.arena.release(slot);
+    }
+
+    fn shows_all(&self) -> bool {
+        let mut all_show = true;
+        for (number, (slot, key)) in &self.records {
+            all_show &= shows(&self.arena, *slot, *number, key);
+        }
+        all_show
+    }
+}
+
+// Draws a length of a key, each size as often as another.
+fn draw_length(random: &mut Random) -> usize {
+    let most = 32_u32 << random.below(10);
+    random.below(most + 1) as usize
+}
+
+#[test]
+fn random_calls_agree_with_a_map(rt: HostRuntime) -> Result<(), Fail> {
+    let mut random = Random::new(20_221_107);
+    let mut both = Both::new(rt.alloc());
+    for number in 0..5_000_u32 {
+        if random.below(5) < 3 {
+            both.place(rt.alloc(), number, draw_length(&mut random))?;
+        } else {
+            both.release_from(&rt, random.below(number + 1));
+        }
+        assert_eq!(rt; both.arena.live(), both.records.len());
+    }
+    assert!(rt; both.records.len() > 500);
+    assert!(rt; both.shows_all());
+    Ok(())
+}
+
+#[test]
+fn headers_are_written_where_they_lie(rt: HostRuntime) -> Result<(), Fail> {
+    let mut arena: Arena<u32> = Arena::new(rt.alloc());
+    let first = arena.place(1, b"first")?;
+    let second = arena.place(2, b"second")?;
+    assert!(rt; arena.is_live(first));
+    arena.set_header(first, 10);
+    assert!(rt; arena.is_live(second));
+    *arena.header_mut(second) = 22;
+    assert!(rt; shows(&arena, first, 10, b"first"));
+    assert!(rt; shows(&arena, second, 22, b"second"));
+    Ok(())
+}
+
+#[test]
+fn refusals_print_their_numbers(rt: HostRuntime) -> Result<(), Fail> {
+    for (refusal, text) in [
+        (ArenaError::Memory, "1 Memory"),
+        (ArenaError::TooLong, "2 TooLong"),
+    ] {
+        assert_eq!(rt; refusal.to_string(rt.alloc())?.as_str(), text);
+    }
+    Ok(())
+}
+
+#[test]
+fn an_arena_prints_its_count(rt: HostRuntime) -> Result<(), Fail> {
+    let mut arena: Arena<u32> = Arena::new(rt.alloc());
+    let _slot = arena.place(1, b"key")?;
+    let text = format!(in rt.alloc(); "{arena:?}")?;
+    assert_eq!(rt; text.as_str(), "Arena { live: 1 }");
+    Ok(())
+}

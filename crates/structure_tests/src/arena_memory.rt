@@ -1,0 +1,178 @@
+//! An arena whose growth is refused.
+
+use crate::arena_calls::{bytes_of, shows};
+use arena::{Arena, ArenaError, Slot};
+use linked_list_allocator::LocalHeap;
+use std::alloc::{AllocError, Allocator, Global};
+use std::process::Abort;
+use std::test::Fail;
+
+// Takes what memory the heap has left.
+fn rest_of<'a>(
+    alloc: Global,
+    heap: &'a LocalHeap,
+) -> Result<Vec<Vec<u8, &'a LocalHeap>>, AllocError> {
+    let mut taken = Vec::new(alloc);
+    let mut size = heap.free();
+    for _ in 0..200 {
+        match Vec::with_capacity(heap, size) {
+            Ok(block) => taken.push(block)?,
+            Err(_) => size /= 2,
+        }
+    }
+    Ok(taken)
+}
+
+// Places 512 keys of one byte each.
+fn fill_chunk<A: Allocator + Copy>(
+    arena: &mut Arena<u32, A>,
+    alloc: Global,
+) -> Result<Vec<Slot>, Fail> {
+    let mut slots = Vec::new(alloc);
+    for number in 0..512_u32 {
+        slots.push(arena.place(number, &[(number % 256) as u8])?)?;
+    }
+    Ok(slots)
+}
+
+// Releases the slot, and places another key.
+fn replace<A: Allocator + Copy>(
+    rt: &impl Abort,
+    arena: &mut Arena<u32, A>,
+    slot: Slot,
+) -> Result<Slot, ArenaError> {
+    assert!(rt; arena.is_live(slot));
+    arena.release(slot);
+    assert_eq!(rt; arena.live(), 511);
+    assert!(rt; !arena.is_live(slot));
+    arena.reserve(&[20])?;
+    arena.place(1000, b"twenty bytes of text")
+}
+
+// Returns whether each call is refused that wants a slot more than there are.
+fn refuses_growth<A: Allocator + Copy>(arena: &mut Arena<u32, A>) -> bool {
+    arena.reserve(&[33]) == Err(ArenaError::Memory)
+        && arena.reserve(&[1, 33]) == Err(ArenaError::Memory)
+        && arena.place(1, &[0; 33]).err() == Some(ArenaError::Memory)
+        && arena.place(1, b"no slot is left").err() == Some(ArenaError::Memory)
+}
+
+// Returns whether the keys of one byte are there, but for the slot that was given again.
+fn shows_chunk<A: Allocator + Copy>(arena: &Arena<u32, A>, slots: &[Slot], again: Slot) -> bool {
+    let mut all_show = shows(arena, again, 1000, b"twenty bytes of text");
+    for (number, slot) in (0..512_u32).zip(slots) {
+        all_show &= *slot == again || shows(arena, *slot, number, &[(number % 256) as u8]);
+    }
+    all_show
+}
+
+#[test]
+fn arena_chunk_and_refusal(rt: HostRuntime) -> Result<(), Fail> {
+    let heap = LocalHeap::new(rt.alloc(), 200_000)?;
+    let mut arena: Arena<u32, &LocalHeap> = Arena::new(&heap);
+    arena.reserve(&[1; 512])?;
+    let _rest = rest_of(rt.alloc(), &heap)?;
+    let slots = fill_chunk(&mut arena, rt.alloc())?;
+    assert_eq!(rt; arena.live(), 512);
+    assert_eq!(rt; slots.len(), 512);
+    let again = replace(&rt, &mut arena, slots[100])?;
+    assert_eq!(rt; again, slots[100]);
+    assert!(rt; refuses_growth(&mut arena));
+    assert_eq!(rt; arena.live(), 512);
+    assert!(rt; shows_chunk(&arena, &slots, again));
+    Ok(())
+}
+
+#[test]
+fn arena_reserves_slots(rt: HostRuntime) -> Result<(), Fail> {
+    let heap = LocalHeap::new(rt.alloc(), 200_000)?;
+    let mut arena: Arena<u32, &LocalHeap> = Arena::new(&heap);
+    arena.reserve_slots(33, 300)?;
+    let _rest = rest_of(rt.alloc(), &heap)?;
+    arena.reserve_slots(33, 300)?;
+    for number in 0..300_u32 {
+        arena.place(number, &[0; 33])?;
+    }
+    assert_eq!(rt; arena.live(), 300);
+    assert_eq!(rt; arena.reserve_slots(33, 300), Err(ArenaError::Memory));
+    Ok(())
+}
+
+// The lengths of the keys that are placed in little memory.
+const LENGTHS: [usize; 12] = [5, 40, 300, 20, 1000, 100, 16_384, 64, 8_000, 0, 3_000, 500];
+
+// Places a key of each length, and returns how many calls were refused. All that weren't are there then.
+fn place_each<A: Allocator + Copy>(
+    rt: &impl Abort,
+    arena: &mut Arena<u32, A>,
+    alloc: Global,
+) -> Result<usize, AllocError> {
+    let mut records = Vec::new(alloc);
+    for (number, length) in (0..12_u32).zip(LENGTHS) {
+        let key = bytes_of(alloc, number, length)?;
+        match arena.place(number, &key) {
+            Ok(slot) => records.push((slot, number, key))?,
+            Err(refusal) => assert_eq!(rt; refusal, ArenaError::Memory),
+        }
+        assert_eq!(rt; arena.live(), records.len());
+    }
+    for (slot, number, key) in &records {
+        assert!(rt; shows(arena, *slot, *number, key));
+    }
+    Ok(12_usize.saturating_sub(records.len()))
+}
+
+// Returns how many keys are refused where there is so much memory.
+fn refused_within(rt: &impl Abort, alloc: Global, memory: usize) -> Result<usize, AllocError> {
+    let heap = LocalHeap::new(alloc, memory)?;
+    let mut arena: Arena<u32, &LocalHeap> = Arena::new(&heap);
+    let reserved = arena.reserve(&LENGTHS);
+    let refused = place_each(rt, &mut arena, alloc)?;
+    assert!(rt; refused == 0 || reserved == Err(ArenaError::Memory));
+    Ok(refused)
+}
+
+// However little memory there is, a refused call leaves the records as they were, and the next call after one that
+// succeeds.
+#[test]
+fn refused_growth_changes_nothing(rt: HostRuntime) -> Result<(), Fail> {
+    let mut refused = 0_usize;
+    for step in 0..40_usize {
+        refused = refused.saturating_add(refused_within(&rt, rt.alloc(), step * 8_000 + 16)?);
+    }
+    assert!(rt; refused > 100);
+    Ok(())
+}
+
+// Places a record, in a second try where the first is refused memory.
+fn place_at_last(rt: &impl Abort, arena: &mut Arena<u32>, header: u32, key: &[u8]) -> Option<Slot> {
+    let live = arena.live();
+    match arena.place(header, key) {
+        Ok(slot) => Some(slot),
+        Err(refusal) => {
+            assert_eq!(rt; refusal, ArenaError::Memory);
+            assert_eq!(rt; arena.live(), live);
+            arena.place(header, key).ok()
+        }
+    }
+}
+
+// Its outcome is the same whichever one growth is refused.
+#[test]
+fn one_growth_refused(rt: HostRuntime) {
+    let mut arena = Arena::new(rt.alloc());
+    let first = place_at_last(&rt, &mut arena, 0, b"first");
+    if arena.reserve(&[3, 40, 16_000]).is_err() {
+        assert!(rt; arena.reserve(&[3, 40, 16_000]).is_ok());
+    }
+    assert!(rt; arena.place(1, b"key").is_ok());
+    assert!(rt; arena.place(2, &[7; 40]).is_ok());
+    for number in 3..600_u32 {
+        assert!(rt; place_at_last(&rt, &mut arena, number, b"").is_some());
+    }
+    assert_eq!(rt; arena.live(), 600);
+    let Some(slot) = first else {
+        panic!(rt; "the first place was refused twice");
+    };
+    assert!(rt; shows(&arena, slot, 0, b"first"));
+}

@@ -1,0 +1,25 @@
+//! Tests of the structures that the resolver stands on, through their public calls: the arena, the step map, the stores of
+//! the version chain, and the lane.
+//!
+//! What no contract says is tested here: the worked rows, printed text, calls by chance beside a plain structure, and memory
+//! that is refused.
+#![tactic(auto)]
+
+#[cfg(test)]
+mod arena_calls;
+#[cfg(test)]
+mod arena_memory;
+#[cfg(test)]
+mod chain_calls;
+#[cfg(test)]
+mod lane_calls;
+#[cfg(test)]
+mod lane_threads;
+#[cfg(test)]
+mod sorted;
+#[cfg(test)]
+mod step_calls;
+#[cfg(test)]
+mod steps_beside;
+#[cfg(test)]
+mod written;

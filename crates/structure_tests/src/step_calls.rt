@@ -1,0 +1,184 @@
+//! The worked rows of the step map, and a growth that is refused.
+
+use crate::written::{Written, shows};
+use fixtures::range;
+use keyspace::Range;
+use std::alloc::{AllocError, Global};
+use std::process::Abort;
+use std::test::Fail;
+use stepmap::{Asked, MAX_LIMIT, StepError, StepMap, SweepEnd};
+
+// Writes the version between two keys.
+fn put(
+    rt: &impl Abort,
+    alloc: Global,
+    written: &mut Written,
+    (begin, end): (&str, &str),
+    version: i64,
+    before: &str,
+) -> Result<(), StepError> {
+    let Ok(range) = range(alloc, begin.as_bytes(), end.as_bytes()) else {
+        return Err(StepError::Memory);
+    };
+    written.write(rt, &range, version, before)
+}
+
+// [a,d) written at 100, then [b,c) at 200.
+fn two_writes(rt: &impl Abort, alloc: Global) -> Result<Written, StepError> {
+    let mut written = Written::new(alloc, MAX_LIMIT)?;
+    let before = "=-1 a=-1 d=-1";
+    put(rt, alloc, &mut written, ("a", "d"), 100, before)?;
+    let before = "=-1 a=100 b=100 c=100 d=-1";
+    put(rt, alloc, &mut written, ("b", "c"), 200, before)?;
+    Ok(written)
+}
+
+// Returns whether there are so many boundaries, and these versions at keys.
+fn has(map: &StepMap, boundaries: usize, rows: &str) -> bool {
+    map.boundaries() == boundaries && shows(map, rows)
+}
+
+#[test]
+fn step_map_overwrite_and_sweep(rt: HostRuntime) -> Result<(), Fail> {
+    let mut written = two_writes(&rt, rt.alloc())?;
+    assert!(rt; has(written.map(), 5, "=-1 a=100 b=200 c=100 d=-1"));
+    written.raise(&rt, 150);
+    assert!(rt; written.sweep(4) == SweepEnd::Round);
+    assert!(rt; has(written.map(), 3, "=-1 a=-1 b=200 c=100 d=100"));
+    written.raise(&rt, 201);
+    assert!(rt; written.sweep(4) == SweepEnd::Round);
+    assert!(rt; has(written.map(), 1, ""));
+    Ok(())
+}
+
+#[test]
+fn paced_sweep_rounds(rt: HostRuntime) -> Result<(), Fail> {
+    let mut written = two_writes(&rt, rt.alloc())?;
+    written.raise(&rt, 150);
+    for (count, end, boundaries) in [
+        (2, SweepEnd::Stopped, 4),
+        (1, SweepEnd::Stopped, 4),
+        (1, SweepEnd::Round, 3),
+        (5, SweepEnd::Round, 3),
+    ] {
+        assert!(rt; written.sweep(count) == end);
+        assert_eq!(rt; written.map().boundaries(), boundaries);
+    }
+    assert!(rt; has(written.map(), 3, "=-1 a=-1 b=200 c=100 d=100"));
+    Ok(())
+}
+
+#[test]
+fn paced_sweep_after_write(rt: HostRuntime) -> Result<(), Fail> {
+    let mut written = two_writes(&rt, rt.alloc())?;
+    written.raise(&rt, 150);
+    assert!(rt; written.sweep(2) == SweepEnd::Stopped);
+    put(
+        &rt,
+        rt.alloc(),
+        &mut written,
+        ("bb", "e"),
+        300,
+        "b=200 c=100",
+    )?;
+    assert!(rt; has(written.map(), 4, "=-1 b=200 bb=300 d=300 e=-1"));
+    assert!(rt; written.sweep(1) == SweepEnd::Round);
+    assert!(rt; has(written.map(), 4, ""));
+    Ok(())
+}
+
+// Returns whether this is the greatest version in the range, and no greater one.
+fn is_greatest(map: &StepMap, range: &Range, greatest: i64) -> bool {
+    map.greatest_in(range) == greatest
+        && !map.exceeds(range, greatest)
+        && map.exceeds(range, greatest.saturating_sub(1)) != range.is_empty()
+}
+
+#[test]
+fn greatest_versions(rt: HostRuntime) -> Result<(), Fail> {
+    let written = two_writes(&rt, rt.alloc())?;
+    for (begin, end, greatest) in [
+        ("a", "b", 100),
+        ("a", "bb", 200),
+        ("bb", "c", 200),
+        ("c", "z", 100),
+        ("", "a", -1),
+        ("b", "b", -1),
+    ] {
+        let range = range(rt.alloc(), begin.as_bytes(), end.as_bytes())?;
+        assert!(rt;
+            is_greatest(written.map(), &range, greatest),
+            "{begin} to {end}"
+        );
+    }
+    Ok(())
+}
+
+// Asks at once for a range with many versions, more than are looked up side by side, and for an empty range between them.
+// Returns whether each answer is that of the greatest version alone.
+fn answers_each(
+    alloc: Global,
+    map: &StepMap,
+    range: &Range,
+    none: &Range,
+    greatest: i64,
+) -> Result<bool, AllocError> {
+    let mut asked = Vec::new(alloc);
+    let mut expected = Vec::new(alloc);
+    for version in 80..120 {
+        asked.push(Asked { range, version })?;
+        expected.push(version < greatest)?;
+        if version == 110 {
+            asked.push(Asked {
+                range: none,
+                version: -2,
+            })?;
+            expected.push(false)?;
+        }
+    }
+    let mut answers = Vec::from_slice(alloc, &[true])?;
+    map.exceeds_each(&asked, &mut answers)?;
+    Ok(answers.as_slice() == expected.as_slice())
+}
+
+#[test]
+fn each_as_alone(rt: HostRuntime) -> Result<(), Fail> {
+    let written = two_writes(&rt, rt.alloc())?;
+    let none = range(rt.alloc(), b"b", b"b")?;
+    let at_a = range(rt.alloc(), b"a", b"b")?;
+    assert!(rt; answers_each(rt.alloc(), written.map(), &at_a, &none, 100)?);
+    Ok(())
+}
+
+#[test]
+fn limit_three_step_map(rt: HostRuntime) -> Result<(), Fail> {
+    let mut written = Written::new(rt.alloc(), 3)?;
+    put(&rt, rt.alloc(), &mut written, ("a", "b"), 100, "")?;
+    let second = range(rt.alloc(), b"c", b"d")?;
+    assert_eq!(rt; written.prepare(&second), Err(StepError::Full));
+    assert!(rt; has(written.map(), 3, "a=100"));
+    written.raise(&rt, 101);
+    written.prepare(&second)?;
+    assert!(rt; has(written.map(), 1, ""));
+    Ok(())
+}
+
+#[test]
+fn refusals_print_their_numbers(rt: HostRuntime) -> Result<(), Fail> {
+    for (refusal, text) in [(StepError::Memory, "1 Memory"), (StepError::Full, "2 Full")] {
+        assert_eq!(rt; refusal.to_string(rt.alloc())?.as_str(), text);
+    }
+    Ok(())
+}
+
+// Its outcome is the same whichever one growth is refused: `new` and the ranges are made at the next try, and `put` looks at
+// the map after a refused `prepare`.
+#[test]
+fn one_growth_refused(rt: HostRuntime) -> Result<(), Fail> {
+    let written = match two_writes(&rt, rt.alloc()) {
+        Ok(written) => written,
+        Err(_refused) => two_writes(&rt, rt.alloc())?,
+    };
+    assert!(rt; has(written.map(), 5, "=-1 a=100 b=200 c=100 d=-1"));
+    Ok(())
+}
