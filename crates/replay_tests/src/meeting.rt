@@ -3,10 +3,16 @@
 //! A program that replays its proxies one after another on one thread is refused here: neither proxy would send on before
 //! the other was answered.
 
-use super::*;
-use crate::gatekeeper::Gatekeeper;
+use crate::runs::{file_of, opened, reader, replayed_from};
+use fixtures::Unmade;
 use lane::MAX_CAPACITY;
+use player::{Gatekeeper, Options};
+use std::alloc::{AllocError, Global};
+use std::process::Abort;
 use std::sync::atomic::{AtomicU64, Ordering};
+use std::sync::{Arc, Wait};
+use std::test::Fail;
+use std::thread::Threads;
 
 // How many questions are refused before all batches pass.
 const MAX_REFUSED: u64 = 1_000_000;
@@ -57,48 +63,54 @@ impl Gatekeeper for Meeting {
     }
 }
 
-fn meet<R: Abort + Threads + Wait + Copy + Send + 'static>(
+// Replays a file for each of the two, and returns what comes of it, and whether they have met.
+fn met<R: Threads + Wait + Copy + Send + 'static>(
     rt: &R,
     alloc: Global,
     options: Options,
+) -> Result<(String, bool), Unmade> {
+    let first = opened(alloc, &["100>200"], b"")?;
+    let second = file_of(alloc, &["0>100"], b"")?;
+    let readers = vec![in alloc; reader(first), reader(second)].map_err(AllocError::from)?;
+    let meeting = Arc::new(alloc, Meeting::new()).map_err(AllocError::from)?;
+    let text = replayed_from(rt, alloc, readers, options, &meeting)?;
+    Ok((text, meeting.has_met()))
+}
+
+// Replays by lanes of this capacity.
+fn meet<R: Abort + AllocGlobal + Threads + Wait + Copy + Send + 'static>(
+    rt: &R,
+    capacity: usize,
 ) -> Result<(), Fail> {
-    let mut first = Row::new(alloc)?;
-    first.batch(100, 200, &[])?;
-    let mut second = Row::empty(alloc);
-    second.batch(0, 100, &[])?;
-    let readers = vec![in alloc; first.reader(), second.reader()]?;
-    let meeting = Arc::new(alloc, Meeting::new())?;
-    let ended = replayed_with(rt, alloc, readers, options, &meeting);
-    ended.is(
-        rt,
-        "0 0 empty\n0 200 empty\n1 100 empty\n",
-        "",
-        Status::Done,
+    let mut options = Options::default();
+    if capacity == 0 || capacity > MAX_CAPACITY {
+        return Err("a capacity out of its range")?;
+    }
+    options.capacity = capacity;
+    let (text, has_met) = met(rt, rt.alloc(), options)?;
+    assert_eq!(rt;
+        text.as_str(),
+        "0 0 empty\n0 200 empty\n1 100 empty\ndone: "
     );
-    assert!(rt; meeting.has_met());
+    assert!(rt; has_met);
     Ok(())
 }
 
+// By lanes of the default capacity.
 #[test]
 fn two_proxies_meet(rt: HostRuntime) -> Result<(), Fail> {
-    meet(&rt, rt.alloc(), Options::default())
+    meet(&rt, 16)
 }
 
 #[test]
 fn two_proxies_meet_narrow_and_wide(rt: HostRuntime) -> Result<(), Fail> {
-    for capacity in [1, MAX_CAPACITY] {
-        let mut options = Options::default();
-        options.capacity = capacity;
-        meet(&rt, rt.alloc(), options)?;
-    }
-    Ok(())
+    meet(&rt, 1)?;
+    meet(&rt, MAX_CAPACITY)
 }
 
 // A program that replays the proxies one after another on one thread is refused: neither proxy's batch is answered
 // before the other's, so the gatekeeper gives up.
 #[test]
 fn one_thread_only(rt: HostRuntime) -> Result<(), Fail> {
-    let mut options = Options::default();
-    options.capacity = 2;
-    meet(&rt, rt.alloc(), options)
+    meet(&rt, 2)
 }
