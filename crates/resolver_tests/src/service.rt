@@ -1,6 +1,7 @@
 //! A resolver over lanes and its clients in one hand.
 ghost use Rattle.resolver.specs.Resolver.{AreClients};
 
+use conflict::MAX_WINDOW;
 use fixtures::Unmade;
 use keyspace::{Answer, Batch, WINDOW};
 use lane::{MAX_CAPACITY, Taken};
@@ -24,10 +25,23 @@ impl Service {
         proxies: usize,
         capacity: usize,
     ) -> Result<Result<Self, OpenError>, Unmade> {
+        Service::open_by(alloc, proxies, capacity, WINDOW, MAX_LIMIT)
+    }
+
+    fn open_by(
+        alloc: Global,
+        proxies: usize,
+        capacity: usize,
+        window: i64,
+        limit: usize,
+    ) -> Result<Result<Self, OpenError>, Unmade> {
         if proxies == 0 || proxies > MAX_PROXIES || capacity == 0 || capacity > MAX_CAPACITY {
             return Err(Unmade::Beyond("service"));
         }
-        Ok(match open(alloc, proxies, capacity, WINDOW, MAX_LIMIT) {
+        if window < 1 || window > MAX_WINDOW || limit == 0 || limit > MAX_LIMIT {
+            return Err(Unmade::Beyond("core"));
+        }
+        Ok(match open(alloc, proxies, capacity, window, limit) {
             Ok((resolver, clients)) => Ok(Service { resolver, clients }),
             Err(error) => Err(error),
         })
