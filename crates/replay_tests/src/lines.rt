@@ -21,27 +21,27 @@ fn printed(alloc: Global, frames: bool, proxy: usize, answer: &str) -> Result<St
     text_of(text)
 }
 
+// Whether the line is that of the answer in it, to the proxy of its first number.
+fn is_printed(alloc: Global, line: &str) -> Result<bool, Unmade> {
+    let Some((proxy, answer)) = line.trim_end().split_once(' ') else {
+        return Err(Unmade::Text("line"));
+    };
+    let text = printed(alloc, false, proxy.parse()?, answer)?;
+    Ok(text.as_str() == line)
+}
+
 #[test]
 fn one_line_an_answer(rt: HostRuntime) -> Result<(), Fail> {
-    for (proxy, answer, text) in [
-        (0, "100 empty", "0 100 empty\n"),
-        (0, "0 empty", "0 0 empty\n"),
-        (
-            1,
-            "100 committed conflict committed",
-            "1 100 committed conflict committed\n",
-        ),
-        (
-            0,
-            "200 committed conflict:0,2",
-            "0 200 committed conflict:0,2\n",
-        ),
-        (0, "5000100 tooold", "0 5000100 tooold\n"),
-        (63, "300 never", "63 300 never\n"),
-        (0, "1000 held", "0 1000 held\n"),
+    for line in [
+        "0 100 empty\n",
+        "0 0 empty\n",
+        "1 100 committed conflict committed\n",
+        "0 200 committed conflict:0,2\n",
+        "0 5000100 tooold\n",
+        "63 300 never\n",
+        "0 1000 held\n",
     ] {
-        let made = printed(rt.alloc(), false, proxy, answer)?;
-        assert_eq!(rt; made.as_str(), text);
+        assert!(rt; is_printed(rt.alloc(), line)?, "{line}");
     }
     Ok(())
 }

@@ -152,38 +152,61 @@ impl Run {
 // What a row has come to: the stop that was met, if any, or else the step that answered otherwise.
 type Outcome<'a> = Result<Option<Stop>, &'a str>;
 
-// Runs a row over a core of two proxies at most.
+impl Run {
+    // Makes the calls of the row, and returns the first that didn't return what it may.
+    fn calls_all<'a>(&mut self, row: &[&'a str]) -> Result<Option<&'a str>, Unmade> {
+        for step in row {
+            let (call, answers) = parts(step);
+            let returned = self.call(call)?;
+            if !self.looks_right(returned, count_of(answers)) {
+                return Ok(Some(*step));
+            }
+        }
+        Ok(None)
+    }
+
+    // Takes the answers of the row, and returns the first step whose answers aren't those that are given.
+    fn takes_all<'a>(&mut self, row: &[&'a str]) -> Result<Option<&'a str>, Unmade> {
+        for (place, step) in row.iter().enumerate() {
+            if !self.gives_all(place, parts(step).1)? {
+                return Ok(Some(*step));
+            }
+        }
+        Ok(None)
+    }
+
+    fn play<'a>(&mut self, row: &[&'a str]) -> Result<Outcome<'a>, Unmade> {
+        if let Some(step) = self.calls_all(row)? {
+            return Ok(Err(step));
+        }
+        if let Some(step) = self.takes_all(row)? {
+            return Ok(Err(step));
+        }
+        if self.core.owed() > 0 {
+            return Ok(Err("an answer is still owed"));
+        }
+        Ok(Ok(self.stop))
+    }
+}
+
+// Runs a row over a core of so many proxies.
 //
 // The answers given are those of the row up to the stop: all of the steps before it, a beginning of those of the step that met
 // it, and no other.
 fn outcome<'a>(alloc: Global, proxies: usize, row: &[&'a str]) -> Result<Outcome<'a>, Unmade> {
-    let Ok(core) = open(alloc, proxies)? else {
-        return Ok(Ok(Some(Stop::Memory)));
-    };
-    let mut run = Run {
-        alloc,
-        core,
-        stop: None,
-        steps: 0,
-        made: 0,
-    };
-    for step in row {
-        let (call, answers) = parts(step);
-        let returned = run.call(call)?;
-        if !run.looks_right(returned, count_of(answers)) {
-            return Ok(Err(*step));
+    match open(alloc, proxies)? {
+        Ok(core) => {
+            let mut run = Run {
+                alloc,
+                core,
+                stop: None,
+                steps: 0,
+                made: 0,
+            };
+            run.play(row)
         }
+        Err(_refused) => Ok(Ok(Some(Stop::Memory))),
     }
-    for (place, step) in row.iter().enumerate() {
-        if !run.gives_all(place, parts(step).1)? {
-            return Ok(Err(*step));
-        }
-    }
-    Ok(if run.core.owed() == 0 {
-        Ok(run.stop)
-    } else {
-        Err("owed")
-    })
 }
 
 // Runs a row that meets no stop. A core that answers `Memory` to every call fails here, too.

@@ -5,7 +5,6 @@ use fixtures::{Unmade, batch_of, show_answer};
 use keyspace::{Answer, WINDOW};
 use resolver::{Core, MAX_PROXIES, OpenError, Stop};
 use std::alloc::Global;
-use std::process::Abort;
 use std::test::Fail;
 use stepmap::MAX_LIMIT;
 
@@ -51,64 +50,86 @@ fn admit(
     Ok(core.admit(0, batch))
 }
 
-// Opens a core of one proxy that was given the first batch, and then held as many as it can.
-fn full_gate(alloc: Global) -> Result<Core, Unmade> {
-    let Ok(mut core) = open(alloc, 1)? else {
-        return Err(Unmade::Memory);
-    };
-    let mut is_admitted = admit(&mut core, alloc, -1, 0)?.is_ok();
+// Gives a core its first batch, and then as many as it can hold. Returns whether all were admitted.
+fn fill(core: &mut Core, alloc: Global) -> Result<bool, Unmade> {
+    let mut is_admitted = admit(core, alloc, -1, 0)?.is_ok();
     for number in 10..1_034_u32 {
         let previous = i64::from(number);
-        is_admitted &= admit(&mut core, alloc, previous, previous + 1)?.is_ok();
+        is_admitted &= admit(core, alloc, previous, previous + 1)?.is_ok();
     }
-    if is_admitted {
-        Ok(core)
-    } else {
-        Err(Unmade::Beyond("gate"))
-    }
+    Ok(is_admitted)
 }
 
-// Takes all that is owed to proxy 0, and writes it.
+// Takes all that is owed to proxy 0, and writes it, and how much is still owed.
 fn all_given(alloc: Global, core: &mut Core) -> Result<String, Unmade> {
     let mut text = String::new(alloc);
     for _ in 0..core.owed() + 1 {
-        if let Some(answer) = give(core, 0)? {
-            text.push_str(show_answer(alloc, &answer)?.as_str())?;
-            text.push(';')?;
-        }
+        push_given(alloc, core, &mut text)?;
     }
+    let owed = core.owed();
+    text.push_str(&format!(in alloc; "{owed} owed")?)?;
     Ok(text)
 }
 
-// Admits a further batch at a full gate, and finishes if it is refused. Returns whether each call answered this and the core
-// says so, and what is owed.
-fn at_full_gate(
+fn push_given(alloc: Global, core: &mut Core, text: &mut String) -> Result<(), Unmade> {
+    if let Some(answer) = give(core, 0)? {
+        text.push_str(show_answer(alloc, &answer)?.as_str())?;
+        text.push_str("; ")?;
+    }
+    Ok(())
+}
+
+// Admits a further batch, and finishes if it is refused. Returns whether each call answered this and the core says so.
+fn answers(
+    core: &mut Core,
     alloc: Global,
     (previous, version): (i64, i64),
     wanted: Result<(), Stop>,
-) -> Result<(bool, String), Unmade> {
-    let mut core = full_gate(alloc)?;
-    let mut is_right = admit(&mut core, alloc, previous, version)? == wanted;
-    if wanted.is_err() {
-        is_right &= core.finish() == wanted;
+) -> Result<bool, Unmade> {
+    if admit(core, alloc, previous, version)? != wanted {
+        return Ok(false);
     }
-    is_right &= core.stop() == wanted.err();
-    let text = all_given(alloc, &mut core)?;
-    Ok((is_right && core.owed() == 0, text))
+    if wanted.is_err() && core.finish() != wanted {
+        return Ok(false);
+    }
+    Ok(core.stop() == wanted.err())
+}
+
+// Fills a core, admits the further batch, and writes what is owed, or that a call answered otherwise.
+fn play(
+    core: &mut Core,
+    alloc: Global,
+    further: (i64, i64),
+    wanted: Result<(), Stop>,
+) -> Result<String, Unmade> {
+    if !fill(core, alloc)? || !answers(core, alloc, further, wanted)? {
+        return Ok(String::from_str(alloc, "answered otherwise")?);
+    }
+    all_given(alloc, core)
+}
+
+// Plays this with a core of one proxy.
+fn at_full_gate(
+    alloc: Global,
+    further: (i64, i64),
+    wanted: Result<(), Stop>,
+) -> Result<String, Unmade> {
+    match open(alloc, 1)? {
+        Ok(mut core) => play(&mut core, alloc, further, wanted),
+        Err(_refused) => Err(Unmade::Memory),
+    }
 }
 
 #[test]
 fn gate_full(rt: HostRuntime) -> Result<(), Fail> {
-    let (is_right, text) = at_full_gate(rt.alloc(), (2_000, 2_001), Err(Stop::GateFull))?;
-    assert!(rt; is_right);
-    assert_eq!(rt; text.as_str(), "0 empty;");
+    let text = at_full_gate(rt.alloc(), (2_000, 2_001), Err(Stop::GateFull))?;
+    assert_eq!(rt; text.as_str(), "0 empty; 0 owed");
     Ok(())
 }
 
 #[test]
 fn repeat_beside_full_gate(rt: HostRuntime) -> Result<(), Fail> {
-    let (is_right, text) = at_full_gate(rt.alloc(), (-1, 0), Ok(()))?;
-    assert!(rt; is_right);
-    assert_eq!(rt; text.as_str(), "0 empty;0 empty;");
+    let text = at_full_gate(rt.alloc(), (-1, 0), Ok(()))?;
+    assert_eq!(rt; text.as_str(), "0 empty; 0 empty; 0 owed");
     Ok(())
 }

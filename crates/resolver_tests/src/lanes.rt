@@ -114,6 +114,17 @@ impl Run {
 // What a row has come to: the stop that was met, if any, or else the step that answered otherwise.
 type Outcome<'a> = Result<Option<Stop>, &'a str>;
 
+impl Run {
+    fn play<'a>(&mut self, rt: &impl Wait, row: &[&'a str]) -> Result<Outcome<'a>, Unmade> {
+        for step in row {
+            if !self.step(rt, step)? {
+                return Ok(Err(*step));
+            }
+        }
+        Ok(Ok(self.stop))
+    }
+}
+
 // Makes the steps of a row over new lanes of this capacity.
 fn outcome<'a>(
     rt: &impl Wait,
@@ -121,21 +132,18 @@ fn outcome<'a>(
     (proxies, capacity): (usize, usize),
     row: &[&'a str],
 ) -> Result<Outcome<'a>, Unmade> {
-    let Ok(service) = Service::open(alloc, proxies, capacity)? else {
-        return Ok(Ok(Some(Stop::Memory)));
-    };
-    let mut run = Run {
-        alloc,
-        service,
-        stop: None,
-        missed: [false, false],
-    };
-    for step in row {
-        if !run.step(rt, step)? {
-            return Ok(Err(*step));
+    match Service::open(alloc, proxies, capacity)? {
+        Ok(service) => {
+            let mut run = Run {
+                alloc,
+                service,
+                stop: None,
+                missed: [false, false],
+            };
+            run.play(rt, row)
         }
+        Err(_refused) => Ok(Ok(Some(Stop::Memory))),
     }
-    Ok(Ok(run.stop))
 }
 
 // Runs a row that meets no stop.

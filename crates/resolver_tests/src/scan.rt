@@ -168,8 +168,16 @@ type Seen = (Option<i64>, bool, usize);
 fn play(alloc: Global, run: Run) -> Result<Seen, Unmade>
     requires positive { 0 < run.step }
 {
-    let mut drawn = Drawn::new(run.kind);
     let mut both = Both::new(alloc, run.window, run.limit)?;
+    let differs = first_difference(alloc, &mut both, run)?;
+    Ok((differs, both.full, both.most))
+}
+
+// The first version where the set and the scan differ.
+fn first_difference(alloc: Global, both: &mut Both, run: Run) -> Result<Option<i64>, Unmade>
+    requires positive { 0 < run.step }
+{
+    let mut drawn = Drawn::new(run.kind);
     let mut version = -1_i64;
     for _ in 0..run.count {
         let previous = version;
@@ -177,10 +185,10 @@ fn play(alloc: Global, run: Run) -> Result<Seen, Unmade>
         let edge = version.saturating_sub(run.window).max(0);
         let batch = drawn.batch(alloc, edge, previous, version)?;
         if !both.agree(edge, &batch)? {
-            return Ok((Some(version), both.full, both.most));
+            return Ok(Some(version));
         }
     }
-    Ok((None, both.full, both.most))
+    Ok(None)
 }
 
 // Runs 200 batches of any ranges, where the set meets its limit or not.

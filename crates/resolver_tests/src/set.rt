@@ -21,14 +21,24 @@ fn outcome(alloc: Global, set: &mut Chained, batch: &Batch) -> Result<String, Un
 }
 
 // Resolves the batches one after another, and writes a line for each.
-fn outcomes(alloc: Global, window: i64, limit: usize, batches: &[&str]) -> Result<String, Unmade> {
-    let mut set = Chained::new(alloc, window, limit)?;
-    let mut lines = String::new(alloc);
+fn push_outcomes(
+    alloc: Global,
+    set: &mut Chained,
+    lines: &mut String,
+    batches: &[&str],
+) -> Result<(), Unmade> {
     for text in batches {
-        let line = outcome(alloc, &mut set, &batch(alloc, text)?)?;
+        let line = outcome(alloc, set, &batch(alloc, text)?)?;
         lines.push_str(line.as_str())?;
         lines.push('\n')?;
     }
+    Ok(())
+}
+
+fn outcomes(alloc: Global, window: i64, limit: usize, batches: &[&str]) -> Result<String, Unmade> {
+    let mut set = Chained::new(alloc, window, limit)?;
+    let mut lines = String::new(alloc);
+    push_outcomes(alloc, &mut set, &mut lines, batches)?;
     Ok(lines)
 }
 
@@ -91,13 +101,18 @@ fn limit_one_stop(rt: HostRuntime) -> Result<(), Fail> {
     )
 }
 
+// Resolves the batch, and returns how many boundaries the set has then.
+fn boundaries_with(alloc: Global, set: &mut Chained, text: &str) -> Result<usize, Unmade> {
+    match set.resolve(&batch(alloc, text)?)? {
+        Ok(_reply) => Ok(set.boundaries()),
+        Err(_stop) => Err(Unmade::Memory),
+    }
+}
+
 // Returns how many boundaries a new set has once it has resolved the batch.
 fn boundaries_after(alloc: Global, text: &str) -> Result<usize, Unmade> {
     let mut set = Chained::new(alloc, WINDOW, LIMIT)?;
-    if set.resolve(&batch(alloc, text)?)?.is_err() {
-        return Err(Unmade::Memory);
-    }
-    Ok(set.boundaries())
+    boundaries_with(alloc, &mut set, text)
 }
 
 // Each run of what a batch writes brings two boundaries, and the empty key is always one.
@@ -198,11 +213,10 @@ fn write_key(alloc: Global, set: &mut Chained, version: i64, length: usize) -> R
 }
 
 // Writes keys further apart than the window, and returns the first after which there are more boundaries than its own.
-fn first_of_too_many(alloc: Global) -> Result<Option<u32>, Unmade> {
-    let mut set = Chained::new(alloc, WINDOW, LIMIT)?;
+fn first_of_too_many(alloc: Global, set: &mut Chained) -> Result<Option<u32>, Unmade> {
     for number in 0..10_000_u32 {
         let length = number as usize % 40;
-        write_key(alloc, &mut set, 6_000_000 * (i64::from(number) + 1), length)?;
+        write_key(alloc, set, 6_000_000 * (i64::from(number) + 1), length)?;
         if set.boundaries() != if length == 0 { 2 } else { 3 } {
             return Ok(Some(number));
         }
@@ -210,9 +224,14 @@ fn first_of_too_many(alloc: Global) -> Result<Option<u32>, Unmade> {
     Ok(None)
 }
 
+fn too_many_of_new_set(alloc: Global) -> Result<Option<u32>, Unmade> {
+    let mut set = Chained::new(alloc, WINDOW, LIMIT)?;
+    first_of_too_many(alloc, &mut set)
+}
+
 #[test]
 fn boundaries_stay_small(rt: HostRuntime) -> Result<(), Fail> {
-    assert_eq!(rt; first_of_too_many(rt.alloc())?, None);
+    assert_eq!(rt; too_many_of_new_set(rt.alloc())?, None);
     Ok(())
 }
 
