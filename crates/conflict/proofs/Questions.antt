@@ -2,6 +2,7 @@
 use Rattle.std.proofs.Common.{◌≡◌, ◌↔◌, ℕ, zero, suc, ◌+◌, ◌*◌, ◌<◌, ◌≤◌, Bool, true, false, true≢false, cond, ◌||◌, List, [], ◌∷◌, ◌++◌, length, map, get_or, take, drop, refl, sym, ap, subst, ◌∙◌, arith, append-nil, append_assoc}
 use Rattle.std.specs.Prelude.{ℤ, ◌≤ℤ◌, IsTrue, flat_map}
 use Rattle.std.specs.List.{AllZip}
+use Rattle.std.proofs.lemmas.Grind.{flat_map-append}
 use Rattle.std.proofs.lemmas.List.{length-map, length-append, length-take, map-append, take_more, drop_more}
 use Rattle.keyspace.specs.declared.range.Range.{Range}
 use Rattle.keyspace.specs.declared.txn.Txn.{Txn}
@@ -39,6 +40,14 @@ module _ (oldest : ℤ) (ts : List Txn) (i : ℕ) (t : Txn) (inside : i < length
       ap (λ us. length (all_first oldest us)) (txns_left ts i t inside is_next)
       ∙ length-append (asked_at t.snapshot (first_asked oldest t)) (all_first oldest (drop (i + 1) ts))
       ∙ ap (λ n. n + length (all_first oldest (drop (i + 1) ts))) long
+
+  pub first_more : (done : List (Range × ℤ)) → done ≡ all_first oldest (take i ts)
+      → done ++ asked_at t.snapshot (first_asked oldest t) ≡ all_first oldest (take (i + 1) ts)
+  first_more done before =
+      let asked = λ (u : Txn). asked_at u.snapshot (first_asked oldest u) in
+      ap (λ ds. ds ++ asked t) before
+      ∙ ap (λ ds. all_first oldest (take i ts) ++ ds) (sym (append-nil (asked t)) ∙ ap (λ u. asked u ++ []) is_next)
+      ∙ sym (ap (flat_map asked) (take_more ts i t inside) ∙ flat_map-append asked (take i ts) (get_or ts i t ∷ []))
 
   pub then_more : (done : List (Range × ℤ)) (hits : List Bool)
       → (done ++ asked_at t.snapshot (then_asked oldest t (take (length (first_asked oldest t)) hits)))
