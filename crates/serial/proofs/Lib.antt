@@ -1,0 +1,5 @@
+pub mod Filters
+pub mod Holding
+pub mod Reading
+pub mod Steps
+pub mod Running
