@@ -1,7 +1,6 @@
 -- What two filters leave of a list.
 use Rattle.std.proofs.Common.{
   ◌≡◌,
-  ℕ,
   suc,
   ◌≤◌,
   Bool,
@@ -14,7 +13,6 @@ use Rattle.std.proofs.Common.{
   List,
   [],
   ◌∷◌,
-  ◌++◌,
   length,
   map,
   filter,

@@ -3,19 +3,16 @@ use Rattle.std.proofs.Common.{
   ◌≡◌,
   ℕ,
   ◌+◌,
-  ◌≤◌,
   Bool,
   false,
   not,
   ◌&&◌,
   ◌||◌,
   List,
-  [],
   ◌++◌,
   length,
   ℤ,
   int_le,
-  refl,
   sym,
   ◌∙◌,
   ap,
@@ -31,16 +28,19 @@ use Rattle.keyspace.specs.Writes.{Write, at_version}
 use Rattle.serial.specs.Serial.{holds, holding, up_to, in_ranges}
 use Rattle.serial.proofs.Filters.{filter_same, filter_fewer, none_lost, filter_none, none_passes, list_any-map}
 
--- one of the writes holds the key and is above the snapshot
-abbrev pub written_above : ℤ → List ℕ → List Write → Bool
-written_above snapshot key ws =
-    list_any (λ w. holds w.range key && not (int_le w.version snapshot)) ws
+-- the write holds the key and is above the snapshot
+abbrev pub is_above : ℤ → List ℕ → Write → Bool
+is_above snapshot key w = holds w.range key && not (int_le w.version snapshot)
 
--- some write of either list is above the snapshot exactly if one of the first is, or one of the second
+-- one of the writes is so
+abbrev pub written_above : ℤ → List ℕ → List Write → Bool
+written_above snapshot key ws = list_any (is_above snapshot key) ws
+
+-- a write of two lists is above the snapshot exactly if one of the first is, or one of the second
 pub written_above-append : (snapshot : ℤ) (key : List ℕ) (ws others : List Write)
-    → written_above snapshot key (ws ++ others) ≡ (written_above snapshot key ws || written_above snapshot key others)
-written_above-append snapshot key ws others =
-    list_any-append (λ w. holds w.range key && not (int_le w.version snapshot)) ws others
+    → written_above snapshot key (ws ++ others)
+    ≡ (written_above snapshot key ws || written_above snapshot key others)
+written_above-append snapshot key ws others = list_any-append (is_above snapshot key) ws others
 
 -- the writes at one version hold the key exactly if their ranges do
 pub any_at_version : (version : ℤ) (key : List ℕ) (ranges : List Range)
@@ -48,7 +48,7 @@ pub any_at_version : (version : ℤ) (key : List ℕ) (ranges : List Range)
 any_at_version version key ranges =
     list_any-map (λ w. holds w.range key) (λ range. record { range = range; version = version }) ranges
 
--- where no write that holds the key is above the snapshot, and none of the ranges holds it, reads of the key are current
+-- where no write that holds the key is above the snapshot, and no range holds it, reads of the key are current
 pub current_from_tests : (snapshot version : ℤ) (key : List ℕ) (ws : List Write) (ranges : List Range)
     → written_above snapshot key ws ≡ false → in_ranges ranges key ≡ false
     → holding key (ws ++ at_version version ranges) ≡ holding key (up_to snapshot ws)
@@ -59,7 +59,7 @@ current_from_tests snapshot version key ws ranges low none =
     ∙ append-nil (holding key ws)
     ∙ filter_same (λ w. holds w.range key) (λ w. int_le w.version snapshot) ws low
 
--- as many writes hold the key in both lists
+-- where reads of the key are current, as many writes hold it before the transaction as at its snapshot
 same_count : (snapshot version : ℤ) (key : List ℕ) (ws : List Write) (ranges : List Range)
     → holding key (ws ++ at_version version ranges) ≡ holding key (up_to snapshot ws)
     → length (holding key ws) + length (holding key (at_version version ranges))

@@ -4,7 +4,6 @@ use Rattle.std.proofs.Common.{
   ℕ,
   suc,
   zero,
-  Bool,
   true,
   false,
   not,
@@ -26,25 +25,23 @@ use Rattle.std.proofs.Common.{
   inl,
   inr,
 }
-use Rattle.std.specs.Prelude.{Option, Some, None, slice_get, IsSomeAnd, IsTrue, Any, Contains}
-use Rattle.std.specs.List.{list_any}
+use Rattle.std.specs.Prelude.{Option, Some, None, slice_get, IsSomeAnd, Any, Contains}
 use Rattle.std.proofs.lemmas.Int.{ints}
 use Rattle.std.proofs.lemmas.List.Folds.{Any-from_list_any}
 use Rattle.std.proofs.lemmas.Option.{slice_get_read}
 use Rattle.keyspace.specs.declared.range.Range.{Range}
 use Rattle.keyspace.specs.declared.txn.Txn.{Txn}
-use Rattle.keyspace.specs.declared.reply.Verdict.{Verdict}
 use Rattle.keyspace.specs.declared.reply.Verdict.TheVariants.{Committed}
 use Rattle.keyspace.specs.declared.reply.Entry.{Entry}
 use Rattle.keyspace.specs.Key.{IsBytes, is_before}
 use Rattle.keyspace.specs.Range.{Holds, Meets}
 use Rattle.keyspace.specs.Processed.{Processed}
 use Rattle.keyspace.specs.Writes.{Write, writes, earlier}
-use Rattle.keyspace.specs.Judged.{IsInConflict, HasVerdict, Judged, edge}
+use Rattle.keyspace.specs.Judged.{IsInConflict, HasVerdict, edge}
 use Rattle.keyspace.specs.Chain.{IsChain}
 use Rattle.keyspace.proofs.Booleans.{and_left, and_right, false_unless}
 use Rattle.serial.specs.Serial.{IsCommitted, holds, in_ranges, Current}
-use Rattle.serial.proofs.Holding.{written_above, current_from_tests}
+use Rattle.serial.proofs.Holding.{is_above, written_above, current_from_tests}
 
 -- a list is what stands before an element, the element, and what stands behind it
 pub split_at : {X : Type 0} (xs : List X) (i : ℕ) (x : X) → slice_get xs i ≡ Some x
@@ -73,6 +70,7 @@ holds_from_test range key h = (
 pub at_index : {X : Type 0} (xs : List X) (x : X) → Contains xs x → (i : ℕ) × (slice_get xs i ≡ Some x)
 at_index xs x c = (c.0, slice_get_read xs _ c.0 x refl c.1 (sym c.2))
 
+-- a version that isn't at or below the snapshot is above it
 above_from_test : (version snapshot : ℤ) → not (int_le version snapshot) ≡ true → snapshot <ℤ version
 above_from_test version snapshot h = grind (arith, ints)
 
@@ -83,25 +81,37 @@ module _ (ws : List Write) (written : List Range) (t : Txn) (range : Range) (key
   pub low_unless_conflict : written_above t.snapshot key ws ≡ false
   low_unless_conflict =
       false_unless (written_above t.snapshot key ws) (λ h.
-      let test = λ (w : Write). holds w.range key && not (int_le w.version t.snapshot) in
-      let a = Any-from_list_any test ws h in
+      let a = Any-from_list_any (is_above t.snapshot key) ws h in
+      let w = a.1 in
+      let holds_key = and_left (holds w.range key) (not (int_le w.version t.snapshot)) a.4 in
+      let is_high = and_right (holds w.range key) (not (int_le w.version t.snapshot)) a.4 in
+      let meets : Meets range w.range = (
+        key,
+        bytes,
+        holds_from_test range key held,
+        holds_from_test w.range key holds_key,
+      ) in
+      let above = above_from_test w.version t.snapshot is_high in
       let place = at_index t.reads range read in
-      let meets : Meets range a.1.range = (key, bytes, holds_from_test range key held,
-      holds_from_test a.1.range key (and_left (holds a.1.range key) (not (int_le a.1.version t.snapshot)) a.4)) in
-      let above = above_from_test a.1.version t.snapshot
-      (and_right (holds a.1.range key) (not (int_le a.1.version t.snapshot)) a.4) in
-      free (place.0, inl (some_at (λ range. Any (λ w. Meets range w.range × (t.snapshot <ℤ w.version)) ws)
-      (slice_get t.reads place.0) range place.1 (a.0, a.1, a.2, a.3, (meets, above)))))
+      free (
+        place.0,
+        inl (some_at (λ range. Any (λ w. Meets range w.range × (t.snapshot <ℤ w.version)) ws)
+            (slice_get t.reads place.0) range place.1 (a.0, w, a.2, a.3, (meets, above))),
+      ))
 
   -- and no range that was written before in the batch holds it
   pub none_unless_conflict : in_ranges written key ≡ false
   none_unless_conflict =
       false_unless (in_ranges written key) (λ h.
       let a = Any-from_list_any (λ other. holds other key) written h in
+      let other = a.1 in
+      let meets : Meets range other = (key, bytes, holds_from_test range key held, holds_from_test other key a.4) in
       let place = at_index t.reads range read in
-      let meets : Meets range a.1 = (key, bytes, holds_from_test range key held, holds_from_test a.1 key a.4) in
-      free (place.0, inr (some_at (λ range. Any (Meets range) written)
-      (slice_get t.reads place.0) range place.1 (a.0, a.1, a.2, a.3, meets))))
+      free (
+        place.0,
+        inr (some_at (λ range. Any (Meets range) written)
+            (slice_get t.reads place.0) range place.1 (a.0, other, a.2, a.3, meets)),
+      ))
 
 -- a committed transaction of a chain isn't in conflict
 no_conflict : (window : ℤ) (ps : List Processed) → IsChain window ps
@@ -110,9 +120,10 @@ no_conflict : (window : ℤ) (ps : List Processed) → IsChain window ps
 no_conflict window ps chain i j p t c conflict =
     let judged = (chain (take i ps) p (drop (suc i) ps) (split_at ps i p c.batch)).judged in
     let entry = the_value (λ (e : Entry). e.verdict ≡ Committed) (slice_get p.reply.entries j) c.verdict in
-    let verdict = subst (HasVerdict (edge window p.batch) (writes (take i ps)) (earlier p.batch p.reply j) t) entry.2
-    (judged.verdicts j t entry.0 c.txn entry.1) in
-    verdict.1 conflict
+    let right = judged.verdicts j t entry.0 c.txn entry.1 in
+    let committed = subst (HasVerdict (edge window p.batch) (writes (take i ps)) (earlier p.batch p.reply j) t)
+    entry.2 right in
+    committed.1 conflict
 
 -- the reads of the committed transactions of a chain are current
 pub chain_current : (window : ℤ) (ps : List Processed) → IsChain window ps → Current ps

@@ -5,7 +5,6 @@ use Rattle.std.proofs.Common.{
   zero,
   suc,
   ◌+◌,
-  Bool,
   true,
   false,
   not,
@@ -28,15 +27,13 @@ use Rattle.std.proofs.Common.{
   append-nil,
   arith,
 }
-use Rattle.std.specs.Prelude.{Option, Some, None, slice_get, IsSomeAnd, Contains}
-use Rattle.std.specs.List.{list_any}
+use Rattle.std.specs.Prelude.{Option, Some, None, slice_get}
 use Rattle.std.proofs.lemmas.List.Folds.{Any-from_list_any}
 use Rattle.keyspace.specs.declared.range.Range.{Range}
 use Rattle.keyspace.specs.declared.txn.Txn.{Txn}
 use Rattle.keyspace.specs.declared.reply.Verdict.{Verdict}
 use Rattle.keyspace.specs.declared.reply.Verdict.TheVariants.{Conflict, TooOld, Committed}
 use Rattle.keyspace.specs.declared.reply.Entry.{Entry}
-use Rattle.keyspace.specs.Key.{IsBytes}
 use Rattle.keyspace.specs.Processed.{Processed}
 use Rattle.keyspace.specs.Writes.{Write, at_version, committed, writes, writes_of, earlier}
 use Rattle.serial.specs.Serial.{
@@ -56,13 +53,11 @@ use Rattle.serial.specs.Serial.{
   commit,
   run_txn,
   run_txns,
-  noted,
   run_batches,
   stores_at,
   IsSerial,
   Serializable,
 }
-use Rattle.serial.proofs.Filters.{list_any-map}
 use Rattle.serial.proofs.Holding.{written_above, written_above-append, low_from_current, none_from_current}
 use Rattle.serial.proofs.Reading.{some_at}
 use Rattle.serial.proofs.Steps.{
@@ -81,10 +76,14 @@ use Rattle.serial.proofs.Steps.{
   at_snapshot-high,
 }
 
+-- both stores have the same at every key
+abbrev AreSame : Stores → Type 0
+AreSame s = Same s.as_run s.serially
+
 -- a committed transaction whose reads find at its snapshot what they find as run leaves both stores the same
 commit_same : (first : Store) (t : Txn) (effect : Store → Store) (s : Stores) → IsEffect t effect
-    → SameIn t.reads (at_snapshot t.snapshot first s.after) s.as_run → Same s.as_run s.serially
-    → Same (commit first t effect s).as_run (commit first t effect s).serially
+    → SameIn t.reads (at_snapshot t.snapshot first s.after) s.as_run → AreSame s
+    → AreSame (commit first t effect s)
 commit_same first t effect s is_effect reads same key bytes =
     let found = at_snapshot t.snapshot first s.after in
     elim (in_ranges t.writes key) as (λ b. in_ranges t.writes key ≡ b
@@ -101,8 +100,7 @@ record IsReady (first : Store) (t : Txn) (effect : Store → Store) (s : Stores)
 
 -- a transaction that is ready if it is committed leaves both stores the same
 run_txn_same : (first : Store) (t : Txn) (verdict : Verdict) (effect : Store → Store) (s : Stores)
-    → (verdict ≡ Committed → IsReady first t effect s) → Same s.as_run s.serially
-    → Same (run_txn first t verdict effect s).as_run (run_txn first t verdict effect s).serially
+    → (verdict ≡ Committed → IsReady first t effect s) → AreSame s → AreSame (run_txn first t verdict effect s)
 run_txn_same first t Committed effect s ready same =
     commit_same first t effect s (ready refl).is_effect (ready refl).reads same
 run_txn_same first t Conflict effect s ready same = same
@@ -111,8 +109,7 @@ run_txn_same first t TooOld effect s ready same = same
 -- the same of a transaction and an entry that may not be there
 maybe_txn_same : (first : Store) (ot : Option Txn) (oe : Option Entry) (effect : Store → Store) (s : Stores)
     → ((t : Txn) (e : Entry) → ot ≡ Some t → oe ≡ Some e → e.verdict ≡ Committed → IsReady first t effect s)
-    → Same s.as_run s.serially
-    → Same (maybe_txn first ot oe effect s).as_run (maybe_txn first ot oe effect s).serially
+    → AreSame s → AreSame (maybe_txn first ot oe effect s)
 maybe_txn_same first None oe effect s ready same = same
 maybe_txn_same first (Some t) None effect s ready same = same
 maybe_txn_same first (Some t) (Some e) effect s ready same =
@@ -120,12 +117,12 @@ maybe_txn_same first (Some t) (Some e) effect s ready same =
 
 -- What is known of the stores after batches that committed these writes.
 record IsTracked (first : Store) (ws : List Write) (s : Stores) : Type 0 where
-  same : Same s.as_run s.serially
+  same : AreSame s
   -- where no write that holds the key is above the snapshot, the key is found there as it is now
   found : (snapshot : ℤ) (key : List ℕ) → written_above snapshot key ws ≡ false
       → at_snapshot snapshot first s.after key ≡ s.as_run key
 
--- where no write of the version that holds the key is above a snapshot that is below the version, none holds the key
+-- where no write that holds the key is above the snapshot, no range written at a version above it holds the key
 none_written : (snapshot version : ℤ) (key : List ℕ) (ranges : List Range) → int_le version snapshot ≡ false
     → written_above snapshot key (at_version version ranges) ≡ false → in_ranges ranges key ≡ false
 none_written snapshot version key [] high h = refl
@@ -138,15 +135,14 @@ none_written snapshot version key (range ∷ ranges) high h =
 
 -- after one more batch, whose transactions leave the stores the same, as much is known
 batch_tracked : (first : Store) (effect : ℕ → Store → Store) (ws : List Write) (p : Processed) (s : Stores)
-    → IsTracked first ws s
-    → Same (run_txns first effect 0 p.batch.txns p.reply.entries s).as_run
-    (run_txns first effect 0 p.batch.txns p.reply.entries s).serially
+    → IsTracked first ws s → AreSame (run_txns first effect 0 p.batch.txns p.reply.entries s)
     → IsTracked first (ws ++ writes_of p.batch p.reply) (maybe_batch first (Some p) effect s)
 batch_tracked first effect ws p s tracked same =
     let ts = p.batch.txns in
     let es = p.reply.entries in
     let ran = run_txns first effect 0 ts es s in
     let version = p.batch.version in
+    let at_key = λ (key : List ℕ) (store : Store). store key in
     record {
       same = same;
       found = λ snapshot key low.
@@ -155,8 +151,8 @@ batch_tracked first effect ws p s tracked same =
           let here = written_above snapshot key (writes_of p.batch p.reply) in
           elim (int_le version snapshot) as (λ b. int_le version snapshot ≡ b
           → at_snapshot snapshot first (ran.after ++ (version, ran.as_run) ∷ []) key ≡ ran.as_run key) [
-            | true ↦ λ e. ap (λ (store : Store). store key) (at_snapshot-low snapshot first ran.after version ran.as_run e)
-            | false ↦ λ e. ap (λ (store : Store). store key) (at_snapshot-high snapshot first ran.after version ran.as_run e)
+            | true ↦ λ e. ap (at_key key) (at_snapshot-low snapshot first ran.after version ran.as_run e)
+            | false ↦ λ e. ap (at_key key) (at_snapshot-high snapshot first ran.after version ran.as_run e)
                 ∙ ap (λ after. at_snapshot snapshot first after key) (run_txns-after first effect 0 ts es s)
                 ∙ tracked.found snapshot key (none_of_first before here parts)
                 ∙ sym (run_txns-keeps first effect 0 ts es s key
@@ -192,26 +188,24 @@ module _ (first : Store) (effects : Effects) (ps : List Processed) (current : Cu
   -- the stores are the same before each transaction of a batch
   same_in_batch : (i : ℕ) (p : Processed) → slice_get ps i ≡ Some p
       → IsTracked first (writes (take i ps)) (after_batches first effects ps i)
-      → (j : ℕ) → Same (stores_at first effects ps i p j).as_run (stores_at first effects ps i p j).serially
+      → (j : ℕ) → AreSame (stores_at first effects ps i p j)
   same_in_batch i p at tracked zero = tracked.same
   same_in_batch i p at tracked (suc j) =
       let s = stores_at first effects ps i p j in
-      let more = run_txns-suc first (effects i) 0 p.batch.txns p.reply.entries j (after_batches first effects ps i) in
+      let ot = slice_get p.batch.txns j in
+      let oe = slice_get p.reply.entries j in
+      let more = run_txns-suc first (effects i) 0 p.batch.txns p.reply.entries j
+      (after_batches first effects ps i) in
       let index : 0 + j ≡ j = omega arith in
-      subst (λ (s : Stores). Same s.as_run s.serially) (sym more)
-      (subst (λ n. Same
-      (maybe_txn first (slice_get p.batch.txns j) (slice_get p.reply.entries j) (effects i n) s).as_run
-      (maybe_txn first (slice_get p.batch.txns j) (slice_get p.reply.entries j) (effects i n) s).serially)
-      (sym index)
-      (maybe_txn_same first (slice_get p.batch.txns j) (slice_get p.reply.entries j) (effects i j) s
-      (λ t e is_txn is_entry verdict.
+      subst AreSame (sym (more ∙ ap (λ n. maybe_txn first ot oe (effects i n) s) index))
+      (maybe_txn_same first ot oe (effects i j) s (λ t e is_txn is_entry verdict.
       let c : IsCommitted ps i j p t = record {
         batch = at;
         txn = is_txn;
-        verdict = some_at (λ (e : Entry). e.verdict ≡ Committed) (slice_get p.reply.entries j) e is_entry verdict;
+        verdict = some_at (λ (e : Entry). e.verdict ≡ Committed) oe e is_entry verdict;
       } in
       record { is_effect = are_effects i j p t c; reads = reads_found i j p t c tracked })
-      (same_in_batch i p at tracked j)))
+      (same_in_batch i p at tracked j))
 
   -- as much is known after one more batch, if there is one
   maybe_batch_tracked : (i : ℕ) (o : Option Processed) → slice_get ps i ≡ o
@@ -224,7 +218,7 @@ module _ (first : Store) (effects : Effects) (ps : List Processed) (current : Cu
       let ts = p.batch.txns in
       let es = p.reply.entries in
       batch_tracked first (effects i) (writes (take i ps)) p s tracked
-      (subst (λ (s : Stores). Same s.as_run s.serially) (sym (run_txns-whole first (effects i) 0 ts es s))
+      (subst AreSame (sym (run_txns-whole first (effects i) 0 ts es s))
       (same_in_batch i p at tracked (length ts)))
 
   -- so it is known after any number of batches
@@ -246,8 +240,7 @@ module _ (first : Store) (effects : Effects) (ps : List Processed) (current : Cu
       let next : suc j ≡ j + 1 = omega arith in
       record {
         reads = λ key bytes read. reads_found i j p t c tracked key bytes read ∙ same j key bytes;
-        stores = subst (λ n. Same (stores_at first effects ps i p n).as_run (stores_at first effects ps i p n).serially)
-            next (same (suc j));
+        stores = subst (λ n. AreSame (stores_at first effects ps i p n)) next (same (suc j));
       }
 
 -- where reads are current, the committed transactions are serializable

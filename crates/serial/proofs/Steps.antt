@@ -5,7 +5,6 @@ use Rattle.std.proofs.Common.{
   zero,
   suc,
   ◌+◌,
-  ◌≤◌,
   Bool,
   true,
   false,
@@ -28,9 +27,7 @@ use Rattle.std.proofs.Common.{
   arith,
 }
 use Rattle.std.specs.Prelude.{Option, Some, None, slice_get}
-use Rattle.std.specs.List.{list_any}
 use Rattle.std.proofs.lemmas.List.Folds.{list_any-append}
-use Rattle.keyspace.specs.declared.range.Range.{Range}
 use Rattle.keyspace.specs.declared.txn.Txn.{Txn}
 use Rattle.keyspace.specs.declared.reply.Verdict.{Verdict}
 use Rattle.keyspace.specs.declared.reply.Verdict.TheVariants.{Conflict, TooOld, Committed}
@@ -44,8 +41,6 @@ use Rattle.serial.specs.Serial.{
   Effects,
   Stores,
   at_snapshot,
-  put,
-  commit,
   run_txn,
   run_txns,
   noted,
@@ -167,9 +162,11 @@ pub run_txns-keeps : (first : Store) (effect : ℕ → Store → Store) (k : ℕ
 run_txns-keeps first effect k [] es s key h = refl
 run_txns-keeps first effect k (t ∷ ts) [] s key h = refl
 run_txns-keeps first effect k (t ∷ ts) (e ∷ es) s key h =
-    let both = sym (list_any-append (λ range. holds range key) (counted e.verdict t.writes) (committed ts es)) ∙ h in
-    let here = none_of_first (in_ranges (counted e.verdict t.writes) key) (in_ranges (committed ts es) key) both in
-    let later = none_of_second (in_ranges (counted e.verdict t.writes) key) (in_ranges (committed ts es) key) both in
+    let own = counted e.verdict t.writes in
+    let others = committed ts es in
+    let both = sym (list_any-append (λ range. holds range key) own others) ∙ h in
+    let here = none_of_first (in_ranges own key) (in_ranges others key) both in
+    let later = none_of_second (in_ranges own key) (in_ranges others key) both in
     run_txns-keeps first effect (k + 1) ts es (run_txn first t e.verdict (effect k) s) key later
     ∙ run_txn-keeps first t e.verdict (effect k) s key here
 
