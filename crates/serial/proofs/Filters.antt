@@ -62,7 +62,8 @@ none_lost p q [] h = refl
 none_lost p q (x ∷ xs) h =
     let fewer = filter_fewer p q xs in
     elim (p x) as (λ b. p x ≡ b
-    → length (cond b (x ∷ filter p xs) (filter p xs)) ≤ length (filter p (cond (q x) (x ∷ filter q xs) (filter q xs)))
+    → length (cond b (x ∷ filter p xs) (filter p xs))
+    ≤ length (filter p (cond (q x) (x ∷ filter q xs) (filter q xs)))
     → ((b && not (q x)) || list_any (λ x. p x && not (q x)) xs) ≡ false) [
       | true ↦ λ e. elim (q x) as (λ c. suc (length (filter p xs))
           ≤ length (filter p (cond c (x ∷ filter q xs) (filter q xs)))

@@ -7,7 +7,6 @@ use Rattle.std.proofs.Common.{
   true,
   false,
   not,
-  ◌&&◌,
   List,
   [],
   ◌∷◌,
