@@ -5,9 +5,14 @@ use Rattle.std.specs.Prelude.{
   ◌≡◌,
   ℕ,
   ◌+◌,
+  ◌<◌,
   ℤ,
+  ◌<ℤ◌,
+  ◌≤ℤ◌,
   int_le,
+  ◌↔◌,
   Bool,
+  true,
   false,
   ◌&&◌,
   not,
@@ -17,21 +22,26 @@ use Rattle.std.specs.Prelude.{
   [],
   ◌∷◌,
   ◌++◌,
+  length,
   take,
   filter,
   Option,
   Some,
+  None,
   slice_get,
   IsSomeAnd,
   Contains,
+  All,
 }
-use Rattle.std.specs.List.{list_any}
+use Rattle.std.specs.List.{AllZip, list_any}
 use Rattle.keyspace.specs.declared.range.Range.{Range}
 use Rattle.keyspace.specs.declared.txn.Txn.{Txn}
 use Rattle.keyspace.specs.declared.reply.Verdict.{Verdict}
 use Rattle.keyspace.specs.declared.reply.Verdict.TheVariants.{Conflict, TooOld, Committed}
 use Rattle.keyspace.specs.declared.reply.Entry.{Entry}
-use Rattle.keyspace.specs.Key.{IsBytes, is_before}
+use Rattle.keyspace.specs.declared.batch.Batch.{Batch}
+use Rattle.keyspace.specs.Key.{IsBytes, is_before, IsBefore}
+use Rattle.keyspace.specs.Chain.{IsChain}
 use Rattle.keyspace.specs.Processed.{Processed}
 use Rattle.keyspace.specs.Writes.{Write, at_version, writes, earlier}
 
@@ -177,3 +187,100 @@ abbrev pub Serializable : List Processed → Type 0
 Serializable ps =
     (first : Store) (effects : Effects) → AreEffects ps effects
     → (i j : ℕ) (p : Processed) (t : Txn) → IsCommitted ps i j p t → IsSerial first effects ps i j p t
+
+-- Real time.
+
+-- every committed transaction has read below the version of its batch
+abbrev pub ReadsBelow : List Processed → Type 0
+ReadsBelow ps = (i j : ℕ) (p : Processed) (t : Txn) → IsCommitted ps i j p t → t.snapshot <ℤ p.batch.version
+
+-- Transaction j of batch i, which is t, comes after transaction l of batch k, which is u.
+pub record Follows (ps : List Processed) (k l : ℕ) (q : Processed) (u : Txn) (i j : ℕ) (p : Processed) (t : Txn)
+    : Type 0 where
+  -- in the commit order
+  pub later : k < i
+  -- At each key of its read ranges, the writes that its snapshot includes are those before u, u's own, and then later ones. So
+  -- what it reads where u wrote is what u wrote or a later write.
+  pub reads :
+      (range : Range) → Contains t.reads range → (key : List ℕ) → IsBytes key → IsTrue (holds range key)
+      → (rest : List Write) × (holding key (up_to t.snapshot (writes (take i ps)))
+      ≡ holding key (before ps k q l) ++ (holding key (at_version q.batch.version u.writes) ++ rest))
+
+-- a committed transaction whose snapshot is at or above the version of another one comes after it
+abbrev pub RealTime : List Processed → Type 0
+RealTime ps =
+    (k l : ℕ) (q : Processed) (u : Txn) → IsCommitted ps k l q u
+    → (i j : ℕ) (p : Processed) (t : Txn) → IsCommitted ps i j p t
+    → q.batch.version ≤ℤ t.snapshot → Follows ps k l q u i j p t
+
+-- Several resolvers: the keys are cut into parts, and each part has a resolver of its own, which judges what the
+-- transactions read and write there. A transaction is committed where every one of them says so.
+
+-- the keys from the first one on, up to another one or without end
+pub record Part : Type 0 where
+  pub from : List ℕ
+  pub to : Option (List ℕ)
+
+abbrev pub ends_above : Option (List ℕ) → List ℕ → Bool
+ends_above None key = true
+ends_above (Some to) key = is_before key to
+
+abbrev pub has_key : Part → List ℕ → Bool
+has_key part key = not (is_before key part.from) && ends_above part.to key
+
+-- the parts that cuts make of the keys from the first one on
+abbrev pub parts_from : List ℕ → List (List ℕ) → List Part
+parts_from from [] = record { from = from; to = None } ∷ []
+parts_from from (cut ∷ cuts) = record { from = from; to = Some cut } ∷ parts_from cut cuts
+
+-- the parts that cuts make of all keys
+abbrev pub parts : List (List ℕ) → List Part
+parts cuts = parts_from [] cuts
+
+-- each cut comes after the one before
+abbrev pub IsRising : List ℕ → List (List ℕ) → Type 0
+IsRising from [] = Unit {0}
+IsRising from (cut ∷ cuts) = IsBefore from cut × IsRising cut cuts
+
+-- each key lies in exactly one of the parts
+pub record IsInOne (parts : List Part) (key : List ℕ) : Type 0 where
+  pub index : ℕ
+  pub there : IsSomeAnd (slice_get parts index) (λ part. IsTrue (has_key part key))
+  pub alone : (m : ℕ) → IsSomeAnd (slice_get parts m) (λ part. IsTrue (has_key part key)) → m ≡ index
+
+abbrev pub OnePartEach : Type 0
+OnePartEach = (cuts : List (List ℕ)) → IsRising [] cuts → (key : List ℕ) → IsBytes key → IsInOne (parts cuts) key
+
+-- what a part has of a range: the keys of the range that lie in the part, none where there is none
+abbrev pub IsClip : Part → Range → Range → Type 0
+IsClip part range clip =
+    (key : List ℕ) → IsBytes key → holds clip key ≡ has_key part key && holds range key
+
+-- the same of a transaction: its ranges in their places, and its snapshot
+pub record IsTxnClip (part : Part) (t clip : Txn) : Type 0 where
+  pub snapshot : clip.snapshot ≡ t.snapshot
+  pub reads : AllZip (IsClip part) t.reads clip.reads
+  pub writes : AllZip (IsClip part) t.writes clip.writes
+
+-- and of a batch: its transactions in their places, and its version
+pub record IsBatchClip (part : Part) (b clip : Batch) : Type 0 where
+  pub version : clip.version ≡ b.version
+  pub txns : AllZip (IsTxnClip part) b.txns clip.txns
+
+-- transaction j of batch i was committed by the resolver that processed these
+abbrev pub SaysCommitted : ℕ → ℕ → List Processed → Type 0
+SaysCommitted i j ps =
+    IsSomeAnd (slice_get ps i) (λ p. IsSomeAnd (slice_get p.reply.entries j) (λ e. e.verdict ≡ Committed))
+
+-- What the resolvers of all parts have processed, one list a part, and what comes of it: the batches as they were sent, each
+-- with the verdicts of all parts together.
+pub record AreByParts (window : ℤ) (cuts : List (List ℕ)) (each : List (List Processed)) (ps : List Processed) : Type 0 where
+  pub rising : IsRising [] cuts
+  pub one_each : length each ≡ length (parts cuts)
+  pub chains : All (IsChain window) each
+  -- each part processes the batches clipped to it
+  pub clips :
+      (m : ℕ) (part : Part) (own : List Processed) → slice_get (parts cuts) m ≡ Some part → slice_get each m ≡ Some own
+      → AllZip (λ p c. IsBatchClip part p.batch c.batch) ps own
+  -- a transaction is committed exactly where every part says so
+  pub verdicts : (i j : ℕ) → SaysCommitted i j ps ↔ All (SaysCommitted i j) each
