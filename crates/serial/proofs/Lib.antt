@@ -5,3 +5,4 @@ pub mod Steps
 pub mod Running
 pub mod Versions
 pub mod Following
+pub mod OnePart
