@@ -3,3 +3,6 @@ pub mod Holding
 pub mod Reading
 pub mod Steps
 pub mod Running
+pub mod Versions
+pub mod Following
+pub mod OnePart
