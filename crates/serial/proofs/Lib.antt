@@ -3,3 +3,5 @@ pub mod Holding
 pub mod Reading
 pub mod Steps
 pub mod Running
+pub mod Clipping
+pub mod ByParts
