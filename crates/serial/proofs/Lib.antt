@@ -6,3 +6,5 @@ pub mod Running
 pub mod Versions
 pub mod Following
 pub mod OnePart
+pub mod Clipping
+pub mod ByParts
