@@ -1,7 +1,8 @@
 //! Tests of `Frames`.
 
 use crate::readers::{FailsOnce, Pieces};
-use crate::texts::{EMPTY_BATCH, EMPTY_BATCH_2, ONE_WRITE, ONE_WRITE_2, bytes_of, refused};
+use crate::rows::{Way, expect, expect_rows};
+use crate::texts::{EMPTY_BATCH, EMPTY_BATCH_2, ONE_WRITE, ONE_WRITE_2, bytes_of, joined, refused};
 use fixtures::{Unmade, show_batch};
 use std::alloc::Global;
 use std::test::Fail;
@@ -34,146 +35,127 @@ fn by_step(alloc: Global, bytes: &[u8], step: usize, fails: bool) -> Result<Stri
     answers(alloc, StdSource::new(reader), 3)
 }
 
-const TEXTS: [(&str, &str); 10] = [
-    ("", "none | none | none"),
-    (
-        "0000001b 01 ffffffffffffffff 0000000000000000 ffffffffffffffff 0000 \
-         0000002e 01 0000000000000000 0000000000000064 ffffffffffffffff 0001 \
-         0000000000000000 00 0000 0001 0001 61 0001 62",
-        "-1>0 received -1 | 0>100 received -1; W[61,62) @0 | none",
-    ),
-    (
-        "0000001b 01 ffffffffffffffff 0000000000000000 ffffffffffffffff 0000 00",
-        "-1>0 received -1 | 1 Short | 1 Short",
-    ),
-    (
-        "0000001b 01 ffffffffffffffff 0000000000000000 ffffffffffffffff 0000 \
-         00000001 02 \
-         0000002e 01 0000000000000000 0000000000000064 ffffffffffffffff 0001 \
-         0000000000000000 00 0000 0001 0001 61 0001 62",
-        "-1>0 received -1 | 3 Kind | 3 Kind",
-    ),
-    (
-        "0000001b 03 ffffffffffffffff 0000000000000000 ffffffffffffffff 0000 \
-         0000002e 01 0000000000000000 0000000000000064 ffffffffffffffff 0001 \
-         0000000000000000 00 0000 0001 0001 61 0001 62 \
-         0000002c 03 0000000000000000 0000000000000064 ffffffffffffffff 0001 \
-         0000000000000000 00 0000 0001 01 0001 6b",
-        "-1>0 received -1 | 0>100 received -1; W[61,62) @0 | 0>100 received -1; W[6b,6b00) @0",
-    ),
-    ("00400001", "2 Long | 2 Long | 2 Long"),
-    ("00400000", "1 Short | 1 Short | 1 Short"),
-    ("00000000", "10 Cut | 10 Cut | 10 Cut"),
-    (
-        "0000001b 01 ffffffffffffffff 0000000000000000 ffffffffffffffff 0001",
-        "10 Cut | 10 Cut | 10 Cut",
-    ),
-    (
-        "0000001c 01 ffffffffffffffff 0000000000000000 ffffffffffffffff 0000 00",
-        "4 Trailing | 4 Trailing | 4 Trailing",
-    ),
-];
-
-// The answers over the bytes of a text.
-fn of_text(alloc: Global, text: &str, step: usize, fails: bool) -> Result<String, Unmade> {
+/// The first three answers over the bytes of a text.
+pub(crate) fn of_text(
+    alloc: Global,
+    text: &str,
+    step: usize,
+    fails: bool,
+) -> Result<String, Unmade> {
     let bytes = bytes_of(alloc, text)?;
     by_step(alloc, &bytes, step, fails)
 }
 
+const ANSWERS: &str = "\
+=> none | none | none
+0000001b 01 ffffffffffffffff 0000000000000000 ffffffffffffffff 0000 \
+     0000002e 01 0000000000000000 0000000000000064 ffffffffffffffff 0001 0000000000000000 00 0000 0001 0001 61 0001 62 \
+     => -1>0 received -1 | 0>100 received -1; W[61,62) @0 | none
+0000001b 01 ffffffffffffffff 0000000000000000 ffffffffffffffff 0000 00 => -1>0 received -1 | 1 Short | 1 Short
+0000001b 01 ffffffffffffffff 0000000000000000 ffffffffffffffff 0000 \
+     00000001 02 \
+     0000002e 01 0000000000000000 0000000000000064 ffffffffffffffff 0001 0000000000000000 00 0000 0001 0001 61 0001 62 \
+     => -1>0 received -1 | 3 Kind | 3 Kind
+0000001b 03 ffffffffffffffff 0000000000000000 ffffffffffffffff 0000 \
+     0000002e 01 0000000000000000 0000000000000064 ffffffffffffffff 0001 0000000000000000 00 0000 0001 0001 61 0001 62 \
+     0000002c 03 0000000000000000 0000000000000064 ffffffffffffffff 0001 0000000000000000 00 0000 0001 01 0001 6b \
+     => -1>0 received -1 | 0>100 received -1; W[61,62) @0 | 0>100 received -1; W[6b,6b00) @0
+00400001 => 2 Long | 2 Long | 2 Long
+00400000 => 1 Short | 1 Short | 1 Short
+00000000 => 10 Cut | 10 Cut | 10 Cut
+0000001b 01 ffffffffffffffff 0000000000000000 ffffffffffffffff 0001 => 10 Cut | 10 Cut | 10 Cut
+0000001c 01 ffffffffffffffff 0000000000000000 ffffffffffffffff 0000 00 => 4 Trailing | 4 Trailing | 4 Trailing";
+
+// What is answered where the reader fails behind the first frame.
+const FAILED: &str = "\
+0000001b 01 ffffffffffffffff 0000000000000000 ffffffffffffffff 0000 => -1>0 received -1 | 12 Read | 12 Read";
+
 #[test]
 fn answers_of_frames(rt: HostRuntime) -> Result<(), Fail> {
-    for (text, want) in TEXTS {
-        for step in [1, 7, 100_000] {
-            let shown = of_text(rt.alloc(), text, step, false)?;
-            assert_eq!(rt; shown.as_str(), want, "of {text} by {step}");
-        }
+    let alloc = rt.alloc();
+    for step in [1, 7, 100_000] {
+        expect_rows(&rt, alloc, Way::Frames(step, false), ANSWERS)?;
     }
     for step in [1, 100_000] {
-        let shown = of_text(rt.alloc(), EMPTY_BATCH, step, true)?;
-        assert_eq!(rt; shown.as_str(), "-1>0 received -1 | 12 Read | 12 Read");
+        expect_rows(&rt, alloc, Way::Frames(step, true), FAILED)?;
     }
     Ok(())
 }
 
 // The frame of `-1>0`, then a length of 30 and 29 bytes.
+const SHORT_SECOND: &str = "\
+0000001b 01 ffffffffffffffff 0000000000000000 ffffffffffffffff 0000 0000001e 0101010101010101010101010101010101010101010101010101010101 \
+     => -1>0 received -1 | 1 Short | 1 Short";
+
 #[test]
 fn short_second_frame(rt: HostRuntime) -> Result<(), Fail> {
-    let text = "0000001b 01 ffffffffffffffff 0000000000000000 ffffffffffffffff 0000 0000001e \
-         0101010101010101010101010101010101010101010101010101010101";
-    for step in [1, 100_000] {
-        let shown = of_text(rt.alloc(), text, step, false)?;
-        assert_eq!(rt; shown.as_str(), "-1>0 received -1 | 1 Short | 1 Short");
-    }
-    Ok(())
+    expect_rows(&rt, rt.alloc(), Way::Frames(1, false), SHORT_SECOND)?;
+    expect_rows(&rt, rt.alloc(), Way::Frames(100_000, false), SHORT_SECOND)
 }
 
-// The first run in either wire version: an empty batch of 31 bytes, and one with one write.
-const FIRST_RUNS: [(&str, &str); 2] = [(EMPTY_BATCH, ONE_WRITE), (EMPTY_BATCH_2, ONE_WRITE_2)];
-
-fn first_run(alloc: Global, empty_batch: &str, one_write: &str) -> Result<Vec<u8>, Unmade> {
-    let mut bytes = bytes_of(alloc, empty_batch)?;
-    bytes.extend_from_slice(&bytes_of(alloc, one_write)?)?;
-    Ok(bytes)
-}
-
-// What comes of the first run where its reader fails after so many bytes.
-fn failed_after(count: usize, whole: usize) -> &'static str {
+// What comes of the first run where its reader fails after so many of all its bytes.
+fn failed_after(count: usize, all: usize) -> &'static str {
     if count < 31 {
         "12 Read | 12 Read | 12 Read"
-    } else if count < whole {
+    } else if count < all {
         "-1>0 received -1 | 12 Read | 12 Read"
     } else {
         "-1>0 received -1 | 0>100 received -1; W[61,62) @0 | 12 Read"
     }
 }
 
-#[test]
-fn reader_fails_everywhere(rt: HostRuntime) -> Result<(), Fail> {
-    for (empty_batch, one_write) in FIRST_RUNS {
-        let bytes = first_run(rt.alloc(), empty_batch, one_write)?;
-        for count in 0..=bytes.len() {
-            let shown = by_step(rt.alloc(), &bytes[..count], 1, true)?;
-            assert_eq!(rt;
-                shown.as_str(),
-                failed_after(count, bytes.len()),
-                "after {count}"
-            );
-        }
-    }
-    Ok(())
-}
-
-// What comes of the first run where it ends after so many bytes.
-fn cut_after(count: usize, whole: usize) -> &'static str {
+// What comes of the first run where it ends after so many of all its bytes.
+fn cut_after(count: usize, all: usize) -> &'static str {
     if count == 0 {
         "none | none | none"
     } else if count < 31 {
         "1 Short | 1 Short | 1 Short"
     } else if count == 31 {
         "-1>0 received -1 | none | none"
-    } else if count < whole {
+    } else if count < all {
         "-1>0 received -1 | 1 Short | 1 Short"
     } else {
         "-1>0 received -1 | 0>100 received -1; W[61,62) @0 | none"
     }
 }
 
-#[test]
-fn first_run_cut_everywhere(rt: HostRuntime) -> Result<(), Fail> {
-    for (empty_batch, one_write) in FIRST_RUNS {
-        let bytes = first_run(rt.alloc(), empty_batch, one_write)?;
-        for count in 0..=bytes.len() {
-            for step in [1, 100_000] {
-                let shown = by_step(rt.alloc(), &bytes[..count], step, false)?;
-                assert_eq!(rt;
-                    shown.as_str(),
-                    cut_after(count, bytes.len()),
-                    "after {count}"
-                );
-            }
+// The first answers that are wrong where the reader gives a beginning of these bytes; or nothing.
+fn first_wrong(alloc: Global, bytes: &[u8], step: usize, fails: bool) -> Result<String, Unmade> {
+    for count in 0..=bytes.len() {
+        let shown = by_step(alloc, &bytes[..count], step, fails)?;
+        let want = if fails {
+            failed_after(count, bytes.len())
+        } else {
+            cut_after(count, bytes.len())
+        };
+        if shown.as_str() != want {
+            return Ok(format!(in alloc; "{shown} after {count}")?);
         }
     }
-    Ok(())
+    Ok(String::new(alloc))
+}
+
+// The same of the first run in both wire versions: an empty batch of 31 bytes, and one with one write.
+fn first_wrong_of_run(alloc: Global, step: usize, fails: bool) -> Result<String, Unmade> {
+    for texts in [[EMPTY_BATCH, ONE_WRITE], [EMPTY_BATCH_2, ONE_WRITE_2]] {
+        let bytes = joined(alloc, &texts)?;
+        let wrong = first_wrong(alloc, &bytes, step, fails)?;
+        if !wrong.is_empty() {
+            return Ok(wrong);
+        }
+    }
+    Ok(String::new(alloc))
+}
+
+#[test]
+fn reader_fails_everywhere(rt: HostRuntime) -> Result<(), Fail> {
+    expect(&rt, first_wrong_of_run(rt.alloc(), 1, true), "")
+}
+
+#[test]
+fn first_run_cut_everywhere(rt: HostRuntime) -> Result<(), Fail> {
+    expect(&rt, first_wrong_of_run(rt.alloc(), 1, false), "")?;
+    expect(&rt, first_wrong_of_run(rt.alloc(), 100_000, false), "")
 }
 
 // The first answer of a reader that is interrupted so often before each byte.
@@ -186,14 +168,10 @@ fn interrupted(alloc: Global, interruptions: u32) -> Result<String, Unmade> {
 
 #[test]
 fn interruptions(rt: HostRuntime) -> Result<(), Fail> {
-    for (count, answer) in [
-        (999, "-1>0 received -1"),
-        (1_000, "-1>0 received -1"),
-        (1_001, "12 Read"),
-    ] {
-        assert_eq!(rt; interrupted(rt.alloc(), count)?.as_str(), answer);
-    }
-    Ok(())
+    let alloc = rt.alloc();
+    expect(&rt, interrupted(alloc, 999), "-1>0 received -1")?;
+    expect(&rt, interrupted(alloc, 1_000), "-1>0 received -1")?;
+    expect(&rt, interrupted(alloc, 1_001), "12 Read")
 }
 
 // Two answers of a reader that fails once.
@@ -209,6 +187,5 @@ fn failed_once(alloc: Global) -> Result<String, Unmade> {
 // Only an interruption is tried again.
 #[test]
 fn one_failure_is_enough(rt: HostRuntime) -> Result<(), Fail> {
-    assert_eq!(rt; failed_once(rt.alloc())?.as_str(), "12 Read | 12 Read");
-    Ok(())
+    expect(&rt, failed_once(rt.alloc()), "12 Read | 12 Read")
 }

@@ -1,37 +1,60 @@
 //! Tests of keys, of ranges, and of how transactions share them.
 
+use crate::rows::expect;
 use fixtures::{Unmade, batch_of, key, range, ranges, show_batch};
-use keyspace::{Ranges, Sequence, Txn, common, digest};
+use keyspace::{Range, Ranges, Sequence, Txn, common, digest};
 use std::alloc::{AllocError, Global};
 use std::sync::Arc;
 use std::test::Fail;
 
+// A copy of a key, in hexadecimal.
+fn copied_key(alloc: Global, bytes: &[u8]) -> Result<String, Unmade> {
+    let copied = key(alloc, bytes)?.copy(alloc)?;
+    Ok(hex::encode(alloc, copied.as_bytes())?)
+}
+
 #[test]
 fn copies_a_key(rt: HostRuntime) -> Result<(), Fail> {
-    let alloc = rt.alloc();
-    let copied = key(alloc, b"a")?.copy(alloc)?;
-    assert_eq!(rt; copied.as_bytes(), b"a".as_slice());
-    Ok(())
+    expect(&rt, copied_key(rt.alloc(), b"a"), "61")
+}
+
+// Two keys, in hexadecimal.
+fn shown_keys(alloc: Global, begin: &[u8], end: &[u8]) -> Result<String, Unmade> {
+    let begin = hex::encode(alloc, begin)?;
+    let end = hex::encode(alloc, end)?;
+    Ok(format!(in alloc; "[{begin},{end})")?)
+}
+
+// The keys of the range [a,b) as it is borrowed.
+fn borrowed(alloc: Global) -> Result<String, Unmade> {
+    let range = range(alloc, b"a", b"b")?;
+    let borrowed = range.as_ref();
+    shown_keys(alloc, borrowed.begin(), borrowed.end())
 }
 
 #[test]
 fn borrows_a_range(rt: HostRuntime) -> Result<(), Fail> {
-    let range = range(rt.alloc(), b"a", b"b")?;
-    let borrowed = range.as_ref();
-    assert_eq!(rt; borrowed.begin(), b"a".as_slice());
-    assert_eq!(rt; borrowed.end(), b"b".as_slice());
-    Ok(())
+    expect(&rt, borrowed(rt.alloc()), "[61,62)")
+}
+
+// Whether the range meets the other, begins with a key that it holds, and ends with one that it doesn't hold.
+fn is_like(range: &Range, other: &Range) -> bool {
+    range.meets(other) && range.holds(range.begin.as_bytes()) && !range.holds(range.end.as_bytes())
+}
+
+// The keys of a copy of the range [a,b), if the copy is like it.
+fn copied_range(alloc: Global) -> Result<String, Unmade> {
+    let range = range(alloc, b"a", b"b")?;
+    let copied = range.copy(alloc)?;
+    if !is_like(&copied, &range) {
+        return Err(Unmade::Beyond("likeness"));
+    }
+    shown_keys(alloc, copied.begin.as_bytes(), copied.end.as_bytes())
 }
 
 #[test]
 fn copies_a_range(rt: HostRuntime) -> Result<(), Fail> {
-    let alloc = rt.alloc();
-    let range = range(alloc, b"a", b"b")?;
-    let copied = range.copy(alloc)?;
-    assert_eq!(rt; copied.begin.as_bytes(), b"a".as_slice());
-    assert_eq!(rt; copied.end.as_bytes(), b"b".as_slice());
-    assert!(rt; copied.meets(&range) && copied.holds(b"a") && !copied.holds(b"b"));
-    Ok(())
+    expect(&rt, copied_range(rt.alloc()), "[61,62)")
 }
 
 // A transaction whose read range and two write ranges lie in one vector.
@@ -53,16 +76,17 @@ fn shown_alone(alloc: Global, txn: Txn) -> Result<String, Unmade> {
     show_batch(alloc, &batch)
 }
 
+// How many ranges the transaction reads and writes.
+fn counts(txn: &Txn) -> (usize, usize, bool) {
+    (txn.reads.len(), txn.writes.len(), txn.reads.is_empty())
+}
+
 #[test]
 fn shares_ranges(rt: HostRuntime) -> Result<(), Fail> {
     let txn = txn_that_shares(rt.alloc())?;
-    assert_eq!(rt;
-        (txn.reads.len(), txn.writes.len(), txn.reads.is_empty()),
-        (1, 2, false)
-    );
+    assert_eq!(rt; counts(&txn), (1, 2, false));
     let shown = "0>100 received -1; m R[61,62) W[63,64) W[65,66) @7";
-    assert_eq!(rt; shown_alone(rt.alloc(), txn)?.as_str(), shown);
-    Ok(())
+    expect(&rt, shown_alone(rt.alloc(), txn), shown)
 }
 
 #[test]

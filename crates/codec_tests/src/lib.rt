@@ -21,6 +21,8 @@ mod refusals;
 #[cfg(test)]
 mod replies;
 #[cfg(test)]
+mod rows;
+#[cfg(test)]
 mod second_version;
 #[cfg(test)]
 mod texts;

@@ -1,11 +1,12 @@
 //! Tests of keys and batches that are as long as may be, and one byte longer.
 
-use crate::texts::{bytes_of, encoded, refused};
+use crate::rows::expect;
+use crate::texts::{bytes_of, encoded, is_again, refused};
 use fixtures::{Unmade, batch_of, range, txn};
 use keyspace::{Batch, Range};
 use std::alloc::{AllocError, Global};
 use std::test::Fail;
-use wire::{WireError, WireVersion, decode_batch, encode_batch};
+use wire::{WireError, WireVersion, decode_batch};
 
 // The digits of this head and of a key of so many bytes.
 fn frame_to_key(alloc: Global, head: &str, length: usize) -> Result<Vec<u8>, Unmade> {
@@ -51,20 +52,14 @@ fn lengths_of(alloc: Global, head: &str, length: usize) -> Result<String, Unmade
 fn longest_key(rt: HostRuntime) -> Result<(), Fail> {
     let head = "0000273d 01 0000000000000000 0000000000000064 ffffffffffffffff 0001 \
          0000000000000000 00 0000 0001 0000 2711";
-    let lengths = lengths_of(rt.alloc(), head, 10_001)?;
-    assert_eq!(rt; lengths.as_str(), "10049 bytes: 0 to 10001");
+    expect(
+        &rt,
+        lengths_of(rt.alloc(), head, 10_001),
+        "10049 bytes: 0 to 10001",
+    )?;
     let head = "0000273e 01 0000000000000000 0000000000000064 ffffffffffffffff 0001 \
          0000000000000000 00 0000 0001 0000 2712";
-    let lengths = lengths_of(rt.alloc(), head, 10_002)?;
-    assert_eq!(rt; lengths.as_str(), "8 KeyLength");
-    Ok(())
-}
-
-// Whether the batch of these bytes is encoded as the same bytes again.
-fn comes_again(alloc: Global, bytes: &[u8]) -> Result<bool, WireError> {
-    let (batch, _) = decode_batch(alloc, bytes)?;
-    let again = encode_batch(alloc, &batch)?;
-    Ok(again.as_slice() == bytes)
+    expect(&rt, lengths_of(rt.alloc(), head, 10_002), "8 KeyLength")
 }
 
 // A frame with the write of a single key: its body has 43 bytes beside that key.
@@ -72,15 +67,16 @@ fn comes_again(alloc: Global, bytes: &[u8]) -> Result<bool, WireError> {
 fn longest_single_key(rt: HostRuntime) -> Result<(), Fail> {
     let head = "0000273b 03 0000000000000000 0000000000000064 ffffffffffffffff 0001 \
          0000000000000000 00 0000 0001 01 2710";
-    let lengths = lengths_of(rt.alloc(), head, 10_000)?;
-    assert_eq!(rt; lengths.as_str(), "10047 bytes: 10000 to 10001");
+    expect(
+        &rt,
+        lengths_of(rt.alloc(), head, 10_000),
+        "10047 bytes: 10000 to 10001",
+    )?;
     let bytes = frame_to_key(rt.alloc(), head, 10_000)?;
-    assert!(rt; comes_again(rt.alloc(), &bytes)?);
+    assert!(rt; is_again(rt.alloc(), WireVersion::Two, &bytes, &bytes)?);
     let head = "0000273c 03 0000000000000000 0000000000000064 ffffffffffffffff 0001 \
          0000000000000000 00 0000 0001 01 2711";
-    let lengths = lengths_of(rt.alloc(), head, 10_001)?;
-    assert_eq!(rt; lengths.as_str(), "8 KeyLength");
-    Ok(())
+    expect(&rt, lengths_of(rt.alloc(), head, 10_001), "8 KeyLength")
 }
 
 // A batch with so many writes, each from one longest key to another. The first begins with a key of the first length.

@@ -1,68 +1,55 @@
 //! Tests of ranks: of transactions by hand, of random ones compared with a plain count, and where memory is refused.
 
-use fixtures::{Random, Unmade, batch_of, ranges, txn};
-use keyspace::{Batch, MAX_TXNS, Range, Txn, Txns};
+use crate::rows::expect;
+use fixtures::{Random, Unmade, batch, batch_of, txn};
+use keyspace::{Batch, Range, Txn, Txns};
 use std::alloc::{AllocError, Global};
-use std::process::Abort;
 use std::test::Fail;
 
-fn together(alloc: Global, txns: Vec<Txn>) -> Result<Txns, Unmade> {
-    if txns.len() > MAX_TXNS {
-        return Err(Unmade::Beyond("number of transactions"));
-    }
-    Ok(Txns::new(alloc, txns)?)
-}
-
 // Five ranges between seven keys, and an empty range.
-fn three_txns(alloc: Global) -> Result<Vec<Txn>, Unmade> {
-    let reads = ranges(alloc, &[(b"b", b"d"), (b"m", b"m")])?;
-    let first = txn(0, false, reads, ranges(alloc, &[(b"a", b"c")])?)?;
-    let writes = ranges(alloc, &[(b"aa", b"y")])?;
-    let second = txn(0, false, Vec::new(alloc), writes)?;
-    let reads = ranges(alloc, &[(b"c", b"d")])?;
-    let third = txn(0, false, reads, ranges(alloc, &[(b"", b"a")])?)?;
-    Ok(vec![in alloc; first, second, third].map_err(AllocError::from)?)
+const THREE_TXNS: &str = "0>1: R[b,d) R[m,m) W[a,c); W[aa,y); R[c,d) W[,a)";
+
+// The keys of the ends in hexadecimal, and the runs.
+fn show_ranks(alloc: Global, txns: &Txns) -> Result<String, Unmade> {
+    let ranks = txns.ranks();
+    let mut text = String::from_str(alloc, "keys")?;
+    for end in ranks.ends {
+        let key = hex::encode(alloc, txns.key(end))?;
+        write!(text, " [{key}]")?;
+    }
+    text.push_str(", runs")?;
+    for (begin, end) in ranks.runs {
+        write!(text, " {begin}-{end}")?;
+    }
+    Ok(text)
 }
 
-fn assert_three(rt: &impl Abort, txns: &Txns) {
-    assert_eq!(rt; txns.len(), 3);
-    let ranks = txns.ranks();
-    let keys = ["", "a", "aa", "b", "c", "d", "y"];
-    assert_eq!(rt; ranks.ends.len(), keys.len());
-    for (end, key) in ranks.ends.iter().zip(keys) {
-        assert_eq!(rt; txns.key(end), key.as_bytes());
-    }
-    let runs = [(3, 5), (0, 0), (1, 4), (2, 6), (4, 5), (0, 1)];
-    assert_eq!(rt; ranks.runs, runs.as_slice());
+// The ranks of the batch of a text.
+fn ranks_of(alloc: Global, text: &str) -> Result<String, Unmade> {
+    let batch = batch(alloc, text)?;
+    show_ranks(alloc, &batch.txns)
 }
+
+const THREE_RANKS: &str = "keys [] [61] [6161] [62] [63] [64] [79], runs 3-5 0-0 1-4 2-6 4-5 0-1";
 
 #[test]
 fn ranks_of_three_txns(rt: HostRuntime) -> Result<(), Fail> {
-    let alloc = rt.alloc();
-    assert_three(&rt, &together(alloc, three_txns(alloc)?)?);
-    Ok(())
+    expect(&rt, ranks_of(rt.alloc(), THREE_TXNS), THREE_RANKS)
 }
 
 #[test]
 fn no_txns_have_no_ranks(rt: HostRuntime) -> Result<(), Fail> {
-    let txns = together(rt.alloc(), Vec::new(rt.alloc()))?;
-    assert_eq!(rt; txns.ranks().ends.len(), 0);
-    assert_eq!(rt; txns.ranks().runs.len(), 0);
-    Ok(())
+    expect(&rt, ranks_of(rt.alloc(), "0>1:"), "keys, runs")
 }
 
-// The transactions are made first, so that a growth refused after them is one of their ranks. The next try succeeds.
+// Whichever growth is refused, of the transactions or of their ranks, the next try succeeds.
 #[test]
 fn one_growth_refused(rt: HostRuntime) -> Result<(), Fail> {
     let alloc = rt.alloc();
-    let txns = three_txns(alloc)?;
-    let same_txns = three_txns(alloc)?;
-    assert!(rt; txns.len() <= MAX_TXNS && same_txns.len() <= MAX_TXNS);
-    let ranked = match Txns::new(alloc, txns) {
-        Ok(ranked) => ranked,
-        Err(_refused) => Txns::new(alloc, same_txns)?,
-    };
-    assert_three(&rt, &ranked);
+    match ranks_of(alloc, THREE_TXNS) {
+        Ok(ranks) => assert_eq!(rt; ranks.as_str(), THREE_RANKS),
+        Err(_refused) => expect(&rt, ranks_of(alloc, THREE_TXNS), THREE_RANKS)?,
+    }
     Ok(())
 }
 

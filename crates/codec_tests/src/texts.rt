@@ -26,14 +26,6 @@ pub(crate) const ONE_WRITE_2: &str =
     "0000002f 03 0000000000000000 0000000000000064 ffffffffffffffff 0001 \
      0000000000000000 00 0000 0001 00 0001 61 0001 62";
 
-/// As [`ONE_WRITE_2`], with the write of the single key k.
-pub(crate) const SINGLE_KEY_2: &str =
-    "0000002c 03 0000000000000000 0000000000000064 ffffffffffffffff 0001 \
-     0000000000000000 00 0000 0001 01 0001 6b";
-
-/// Version 0, no entries. It answers [`EMPTY_BATCH`].
-pub(crate) const EMPTY_REPLY: &str = "0000000b 02 0000000000000000 0000";
-
 /// The digits of a text, without its blanks.
 pub(crate) fn digits_of(alloc: Global, text: &str) -> Result<String, Unmade> {
     let mut digits = String::new(alloc);
@@ -50,6 +42,15 @@ pub(crate) fn bytes_of(alloc: Global, text: &str) -> Result<Vec<u8>, Unmade> {
         Ok(bytes) => Ok(bytes),
         Err(_) => Err(Unmade::Text("digits")),
     }
+}
+
+/// The bytes of these texts, one after the other.
+pub(crate) fn joined(alloc: Global, texts: &[&str]) -> Result<Vec<u8>, Unmade> {
+    let mut bytes = Vec::new(alloc);
+    for text in texts {
+        bytes.extend_from_slice(&bytes_of(alloc, text)?)?;
+    }
+    Ok(bytes)
 }
 
 /// A refusal as text: its number and its name.
@@ -92,40 +93,57 @@ pub(crate) fn encoded(
     }
 }
 
-fn batch_again_or_fault(
+/// Whether the batch of these bytes is encoded in this wire version as those.
+pub(crate) fn is_again(
     alloc: Global,
     version: WireVersion,
     bytes: &[u8],
-) -> Result<Vec<u8>, WireError> {
+    want: &[u8],
+) -> Result<bool, WireError> {
     let (batch, _) = decode_batch(alloc, bytes)?;
-    encoded(alloc, version, &batch)
+    let again = encoded(alloc, version, &batch)?;
+    Ok(again.as_slice() == want)
 }
 
-fn reply_again_or_fault(alloc: Global, bytes: &[u8]) -> Result<Vec<u8>, WireError> {
+fn is_reply_again(alloc: Global, bytes: &[u8]) -> Result<bool, WireError> {
     let (reply, _) = decode_reply(alloc, bytes)?;
-    encode_reply(alloc, &reply)
+    let again = encode_reply(alloc, &reply)?;
+    Ok(again.as_slice() == bytes)
 }
 
-// The digits of what was encoded, or the refusal.
-fn digits_or_fault(alloc: Global, encoded: Result<Vec<u8>, WireError>) -> Result<String, Unmade> {
-    match encoded {
-        Ok(bytes) => Ok(hex::encode(alloc, &bytes)?),
-        Err(refusal) => refused(alloc, refusal),
+/// Whether the batch of a text is encoded in this wire version as the bytes of another text.
+pub(crate) fn is_encoded_as(
+    alloc: Global,
+    version: WireVersion,
+    text: &str,
+    want: &str,
+) -> Result<bool, Unmade> {
+    let bytes = bytes_of(alloc, text)?;
+    let want = bytes_of(alloc, want)?;
+    Ok(is_again(alloc, version, &bytes, &want) == Ok(true))
+}
+
+// What was read, and whether it was encoded as the same bytes again.
+fn both_ways(alloc: Global, shown: String, is_again: bool) -> Result<String, Unmade> {
+    if is_again {
+        return Ok(shown);
     }
+    Ok(format!(in alloc; "{shown}, and other bytes")?)
 }
 
-/// The digits of the batch of a text, decoded and encoded again in this wire version.
-pub(crate) fn batch_again(
+/// As [`batch_at`], of a text that the batch has in this wire version.
+pub(crate) fn batch_both_ways(
     alloc: Global,
     version: WireVersion,
     text: &str,
 ) -> Result<String, Unmade> {
-    let bytes = bytes_of(alloc, text)?;
-    digits_or_fault(alloc, batch_again_or_fault(alloc, version, &bytes))
+    let is_again = is_encoded_as(alloc, version, text, text)?;
+    both_ways(alloc, batch_at(alloc, text)?, is_again)
 }
 
-/// The digits of the reply of a text, decoded and encoded again.
-pub(crate) fn reply_again(alloc: Global, text: &str) -> Result<String, Unmade> {
+/// As [`reply_at`], of a text that the reply has.
+pub(crate) fn reply_both_ways(alloc: Global, text: &str) -> Result<String, Unmade> {
     let bytes = bytes_of(alloc, text)?;
-    digits_or_fault(alloc, reply_again_or_fault(alloc, &bytes))
+    let is_again = is_reply_again(alloc, &bytes) == Ok(true);
+    both_ways(alloc, reply_at(alloc, text)?, is_again)
 }

@@ -2,13 +2,85 @@
 
 use crate::long_batches::longest_batch;
 use crate::paper::{End, Paper};
-use crate::texts::{EMPTY_BATCH, EMPTY_BATCH_2, ONE_WRITE, ONE_WRITE_2, SINGLE_KEY_2, bytes_of};
+use crate::rows::{Way, expect, expect_rows};
+use crate::texts::{EMPTY_BATCH, EMPTY_BATCH_2, ONE_WRITE, ONE_WRITE_2, bytes_of, joined};
 use fixtures::Unmade;
 use std::alloc::Global;
 use std::test::Fail;
 use wire::{StdSink, StdSource, WireError, encode_batch, encode_batch_1, upgrade, write_all};
 
 const ALL: usize = 10_000_000;
+
+// Upgrades these bytes onto the paper.
+fn upgraded_onto(alloc: Global, bytes: &[u8], paper: Paper) -> (Result<u64, WireError>, Paper) {
+    let mut reader = StdSource::new(bytes);
+    let mut writer = StdSink::new(paper);
+    let answer = upgrade(alloc, &mut reader, &mut writer);
+    (answer, writer.into_inner())
+}
+
+/// What upgrading a text answers, and behind that what it has written.
+pub(crate) fn upgraded_text(alloc: Global, text: &str, step: usize) -> Result<String, Unmade> {
+    let bytes = bytes_of(alloc, text)?;
+    let paper = Paper::new(alloc, step, ALL, End::Fails);
+    let (answer, paper) = upgraded_onto(alloc, &bytes, paper);
+    let written = hex::encode(alloc, &paper.bytes)?;
+    Ok(match answer {
+        Ok(count) => format!(in alloc; "{count}: {written}")?,
+        Err(refusal) => format!(in alloc; "{refusal}: {written}")?,
+    })
+}
+
+// The frames of an empty batch and of one with one write; and those of both behind and before others of version 2.
+const UPGRADED: &str = "\
+0000001b 01 ffffffffffffffff 0000000000000000 ffffffffffffffff 0000 \
+     0000002e 01 0000000000000000 0000000000000064 ffffffffffffffff 0001 0000000000000000 00 0000 0001 0001 61 0001 62 \
+     => 2: \
+     0000001b03ffffffffffffffff0000000000000000ffffffffffffffff0000\
+     0000002f0300000000000000000000000000000064ffffffffffffffff00010000000000000000000000000100000161000162
+0000002c 03 0000000000000000 0000000000000064 ffffffffffffffff 0001 0000000000000000 00 0000 0001 01 0001 6b \
+     0000002e 01 0000000000000000 0000000000000064 ffffffffffffffff 0001 0000000000000000 00 0000 0001 0001 61 0001 62 \
+     0000001b 03 ffffffffffffffff 0000000000000000 ffffffffffffffff 0000 \
+     => 3: \
+     0000002c0300000000000000000000000000000064ffffffffffffffff0001000000000000000000000000010100016b\
+     0000002f0300000000000000000000000000000064ffffffffffffffff00010000000000000000000000000100000161000162\
+     0000001b03ffffffffffffffff0000000000000000ffffffffffffffff0000";
+
+#[test]
+fn upgraded(rt: HostRuntime) -> Result<(), Fail> {
+    expect(&rt, upgraded_text(rt.alloc(), "", 1), "0: ")?;
+    for step in [1, 7, ALL] {
+        expect_rows(&rt, rt.alloc(), Way::Upgrade(step), UPGRADED)?;
+    }
+    Ok(())
+}
+
+// An empty batch is upgraded, and then a fault ends it, whatever comes after.
+const FAULTS: &str = "\
+0000001b 01 ffffffffffffffff 0000000000000000 ffffffffffffffff 0000 00 \
+     => 1 Short: 0000001b03ffffffffffffffff0000000000000000ffffffffffffffff0000
+0000001b 01 ffffffffffffffff 0000000000000000 ffffffffffffffff 0000 00400001 \
+     0000002e 01 0000000000000000 0000000000000064 ffffffffffffffff 0001 0000000000000000 00 0000 0001 0001 61 0001 62 \
+     => 2 Long: 0000001b03ffffffffffffffff0000000000000000ffffffffffffffff0000
+0000001b 01 ffffffffffffffff 0000000000000000 ffffffffffffffff 0000 00000001 02 \
+     0000002e 01 0000000000000000 0000000000000064 ffffffffffffffff 0001 0000000000000000 00 0000 0001 0001 61 0001 62 \
+     => 3 Kind: 0000001b03ffffffffffffffff0000000000000000ffffffffffffffff0000
+0000001b 01 ffffffffffffffff 0000000000000000 ffffffffffffffff 0000 00000000 \
+     0000002e 01 0000000000000000 0000000000000064 ffffffffffffffff 0001 0000000000000000 00 0000 0001 0001 61 0001 62 \
+     => 10 Cut: 0000001b03ffffffffffffffff0000000000000000ffffffffffffffff0000
+0000001b 01 ffffffffffffffff 0000000000000000 ffffffffffffffff 0000 \
+     0000002f 03 0000000000000000 0000000000000064 ffffffffffffffff 0001 0000000000000000 00 0000 0001 02 0001 61 0001 62 \
+     0000002e 01 0000000000000000 0000000000000064 ffffffffffffffff 0001 0000000000000000 00 0000 0001 0001 61 0001 62 \
+     => 13 Form: 0000001b03ffffffffffffffff0000000000000000ffffffffffffffff0000
+0000001b 01 ffffffffffffffff 0000000000000000 ffffffffffffffff 0000 \
+     00000030 03 0000000000000000 0000000000000064 ffffffffffffffff 0001 0000000000000000 00 0000 0001 00 0001 6b 0002 6b00 \
+     0000002e 01 0000000000000000 0000000000000064 ffffffffffffffff 0001 0000000000000000 00 0000 0001 0001 61 0001 62 \
+     => 14 Spelling: 0000001b03ffffffffffffffff0000000000000000ffffffffffffffff0000";
+
+#[test]
+fn upgraded_up_to_a_fault(rt: HostRuntime) -> Result<(), Fail> {
+    expect_rows(&rt, rt.alloc(), Way::Upgrade(1), FAULTS)
+}
 
 // Whether upgrading these bytes onto the paper is answered so, and writes these bytes.
 fn upgrades(
@@ -18,83 +90,8 @@ fn upgrades(
     answer: Result<u64, WireError>,
     written: &[u8],
 ) -> bool {
-    let mut reader = StdSource::new(bytes);
-    let mut writer = StdSink::new(paper);
-    let given = upgrade(alloc, &mut reader, &mut writer);
-    given == answer && writer.into_inner().bytes.as_slice() == written
-}
-
-// The bytes of these texts, one after the other.
-fn joined(alloc: Global, texts: &[&str]) -> Result<Vec<u8>, Unmade> {
-    let mut bytes = Vec::new(alloc);
-    for text in texts {
-        bytes.extend_from_slice(&bytes_of(alloc, text)?)?;
-    }
-    Ok(bytes)
-}
-
-// Whether upgrading these texts writes those, however many bytes the writer takes a call.
-fn upgrades_to(
-    alloc: Global,
-    texts: &[&str],
-    count: u64,
-    new_texts: &[&str],
-) -> Result<bool, Unmade> {
-    let bytes = joined(alloc, texts)?;
-    let new_bytes = joined(alloc, new_texts)?;
-    for step in [1, 7, ALL] {
-        let paper = Paper::new(alloc, step, ALL, End::Fails);
-        if !upgrades(alloc, &bytes, paper, Ok(count), &new_bytes) {
-            return Ok(false);
-        }
-    }
-    Ok(true)
-}
-
-#[test]
-fn upgraded(rt: HostRuntime) -> Result<(), Fail> {
-    let alloc = rt.alloc();
-    assert!(rt; upgrades_to(alloc, &[], 0, &[])?);
-    let texts = [EMPTY_BATCH, ONE_WRITE];
-    let new_texts = [EMPTY_BATCH_2, ONE_WRITE_2];
-    assert!(rt; upgrades_to(alloc, &texts, 2, &new_texts)?);
-    let texts = [SINGLE_KEY_2, ONE_WRITE, EMPTY_BATCH_2];
-    let new_texts = [SINGLE_KEY_2, ONE_WRITE_2, EMPTY_BATCH_2];
-    assert!(rt; upgrades_to(alloc, &texts, 3, &new_texts)?);
-    Ok(())
-}
-
-// Whether an empty batch is upgraded, and then the fault of the next text ends it, whatever comes after.
-fn stops_at(alloc: Global, text: &str, after: &str, fault: WireError) -> Result<bool, Unmade> {
-    let bytes = joined(alloc, &[EMPTY_BATCH, text, after])?;
-    let written = bytes_of(alloc, EMPTY_BATCH_2)?;
-    let paper = Paper::new(alloc, 1, ALL, End::Fails);
-    Ok(upgrades(alloc, &bytes, paper, Err(fault), &written))
-}
-
-#[test]
-fn upgraded_up_to_a_fault(rt: HostRuntime) -> Result<(), Fail> {
-    for (text, after, fault) in [
-        ("00", "", WireError::Short),
-        ("00400001", ONE_WRITE, WireError::Long),
-        ("00000001 02", ONE_WRITE, WireError::Kind),
-        ("00000000", ONE_WRITE, WireError::Cut),
-        (
-            "0000002f 03 0000000000000000 0000000000000064 ffffffffffffffff 0001 \
-             0000000000000000 00 0000 0001 02 0001 61 0001 62",
-            ONE_WRITE,
-            WireError::Form,
-        ),
-        (
-            "00000030 03 0000000000000000 0000000000000064 ffffffffffffffff 0001 \
-             0000000000000000 00 0000 0001 00 0001 6b 0002 6b00",
-            ONE_WRITE,
-            WireError::Spelling,
-        ),
-    ] {
-        assert!(rt; stops_at(rt.alloc(), text, after, fault)?, "of {text}");
-    }
-    Ok(())
+    let (given, paper) = upgraded_onto(alloc, bytes, paper);
+    given == answer && paper.bytes.as_slice() == written
 }
 
 // Whether a frame is upgraded, and then the frame of the longest batch isn't, since its new frame would be too long.
@@ -123,23 +120,26 @@ fn fills(alloc: Global, bytes: &[u8], end: End, written: &[u8]) -> bool {
     upgrades(alloc, bytes, paper, Err(WireError::Write), written)
 }
 
+// The least room that isn't filled so, or that of all new bytes.
+fn room_not_filled(alloc: Global, bytes: &[u8], new_bytes: &[u8]) -> usize {
+    for room in 0..new_bytes.len() {
+        let written = &new_bytes[..room];
+        if !fills(alloc, bytes, End::Fails, written)
+            || !fills(alloc, bytes, End::TakesNothing, written)
+        {
+            return room;
+        }
+    }
+    new_bytes.len()
+}
+
 #[test]
 fn writer_fails_everywhere(rt: HostRuntime) -> Result<(), Fail> {
     let alloc = rt.alloc();
     let bytes = joined(alloc, &[EMPTY_BATCH, ONE_WRITE])?;
     let new_bytes = joined(alloc, &[EMPTY_BATCH_2, ONE_WRITE_2])?;
-    assert_eq!(rt; new_bytes.len(), 82);
-    for room in 0..new_bytes.len() {
-        assert!(rt;
-            fills(alloc, &bytes, End::Fails, &new_bytes[..room]),
-            "after {room}"
-        );
-        assert!(rt;
-            fills(alloc, &bytes, End::TakesNothing, &new_bytes[..room]),
-            "after {room}"
-        );
-    }
-    let paper = Paper::new(alloc, 5, new_bytes.len(), End::Fails);
+    assert_eq!(rt; room_not_filled(alloc, &bytes, &new_bytes), 82);
+    let paper = Paper::new(alloc, 5, 82, End::Fails);
     assert!(rt; upgrades(alloc, &bytes, paper, Ok(2), &new_bytes));
     Ok(())
 }
@@ -156,12 +156,8 @@ fn interrupted(alloc: Global, interruptions: u32) -> Result<String, Unmade> {
 
 #[test]
 fn writer_is_interrupted(rt: HostRuntime) -> Result<(), Fail> {
-    for (interruptions, answer) in [
-        (999, "Ok(()) of 6162"),
-        (1_000, "Ok(()) of 6162"),
-        (1_001, "Err(Failed) of "),
-    ] {
-        assert_eq!(rt; interrupted(rt.alloc(), interruptions)?.as_str(), answer);
-    }
-    Ok(())
+    let alloc = rt.alloc();
+    expect(&rt, interrupted(alloc, 999), "Ok(()) of 6162")?;
+    expect(&rt, interrupted(alloc, 1_000), "Ok(()) of 6162")?;
+    expect(&rt, interrupted(alloc, 1_001), "Err(Failed) of ")
 }

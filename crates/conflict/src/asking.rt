@@ -100,6 +100,3 @@ fn read_count(batch: &Batch) -> usize
     }
     count
 }
-
-#[cfg(test)]
-mod tests;

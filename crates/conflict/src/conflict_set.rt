@@ -166,6 +166,3 @@ fn resolve_at(
     steps.sweep(3 * count + 10);
     Ok(Reply::new(batch.version, Sequence::new(entries)))
 }
-
-#[cfg(test)]
-mod tests;

@@ -2,8 +2,6 @@
 ghost use Rattle.std.specs.Prelude.{◌≡◌, ◌↔◌, ◌⊎◌, ℕ, ◌≤◌, [], length, IsTrue, IfNone, IfSome, OnErr, OnOk};
 ghost use Rattle.conflict.specs.Gaps.{IsInRun, IsMarked, IsNextRun, SomeMarked};
 
-#[cfg(test)]
-mod tests;
 mod words;
 
 use self::words::{any_in_run, next_one, next_zero, set_run};

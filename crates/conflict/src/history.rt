@@ -60,6 +60,3 @@ pub fn judge_by_history(
     let places = hit_places(alloc, &hits)?;
     Ok(Entry::new(Verdict::Conflict, places))
 }
-
-#[cfg(test)]
-mod tests;

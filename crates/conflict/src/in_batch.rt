@@ -115,6 +115,3 @@ fn mark(gaps: &mut Gaps, runs: &[(usize, usize)])
         gaps.mark(*from, *to);
     }
 }
-
-#[cfg(test)]
-mod tests;

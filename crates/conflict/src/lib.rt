@@ -14,8 +14,6 @@
 mod asking;
 mod conflict_set;
 mod error;
-#[cfg(test)]
-mod fixtures;
 mod gaps;
 mod history;
 mod in_batch;

@@ -6,9 +6,6 @@ use crate::gaps::Gaps;
 use std::alloc::{AllocError, Global};
 use std::marker::Model;
 
-#[cfg(test)]
-mod tests;
-
 /// The runs of marked gaps, in order, each as long as it can be. Contracts see the list of the runs. The vector is kept
 /// for the next batch.
 #[derive(Debug, Drop)]

@@ -142,7 +142,7 @@ digest_at_most a b a_bytes b_bytes at_most =
       | inr not_less ↦ not_less
     ]
 
-length-first_eight : (a : List ℕ) → length (first_eight a) ≡ 8
+pub length-first_eight : (a : List ℕ) → length (first_eight a) ≡ 8
 length-first_eight a =
     omega (arith, length-take 8 (a ++ replicate 8 0), length-append a (replicate 8 0))
 
@@ -181,7 +181,7 @@ filled_up n a is = elim (cases_lt 8 (length a)) [
 ]
 
 -- the first eight bytes, written anew from the digest
-digest_of-bytes : (a : List ℕ) → IsBytes a → to_be_bytes w64 (digest_of a) ≡ first_eight a
+pub digest_of-bytes : (a : List ℕ) → IsBytes a → to_be_bytes w64 (digest_of a) ≡ first_eight a
 unfolding digest_of
 digest_of-bytes a bytes =
     be_bytes_8 (first_eight a) (digest_of a) (length-first_eight a) (first_eight-bytes a bytes) refl

@@ -5,7 +5,7 @@ use Rattle.std.proofs.Common.{refl, sym, ap, subst, ◌∙◌, inl, inr, arith}
 use Rattle.std.proofs.lemmas.Bool.{false≢true}
 use Rattle.keyspace.specs.declared.answer.Answer.{Answer}
 use Rattle.keyspace.specs.declared.batch.Batch.{Batch}
-use Rattle.keyspace.specs.Run.{answers, part}
+use Rattle.keyspace.specs.Run.{answers}
 use Rattle.resolver.specs.declared.stop.Stop.{Stop}
 use Rattle.player.specs.declared.failures.Ending.{Ending}
 use Rattle.player.specs.declared.failures.Ending.TheVariants.{Complete, Incomplete, Stopped}
@@ -18,17 +18,7 @@ use Rattle.player.specs.Failures.{failure_lines, with_loss, IsClean, NothingFail
 use Rattle.player.specs.Line.{answers_of, AreLines}
 use Rattle.player.specs.Lines.{lines}
 use Rattle.player.specs.Run.{IsRun}
-use Rattle.player.specs.Replayed.{
-  IsFileOf,
-  answers_each,
-  IsReplayed,
-  Written,
-  HasFailed,
-  Took,
-  TookBeginning,
-  ending_of,
-  RanAndFailed,
-}
+use Rattle.player.specs.Replayed.{IsReplayed, Written, HasFailed, Took, TookBeginning, ending_of, RanAndFailed}
 use Rattle.player.specs.Worker.{TakesFrames}
 use Rattle.player.proofs.SameLanes.{found}
 use Rattle.player.proofs.Runs.{all_at}

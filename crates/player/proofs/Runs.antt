@@ -1,5 +1,5 @@
 -- A run, put together of what each worker has done and of what was settled.
-use Rattle.std.specs.Prelude.{◌≡◌, ℕ, ◌+◌, ◌<◌, Bool, true, List, [], length, map, Option, Some, None, slice_get, slice_index_or, vec_items}
+use Rattle.std.specs.Prelude.{◌≡◌, ℕ, Bool, true, List, length, map, Option, Some, None, slice_get, slice_index_or, vec_items}
 use Rattle.std.specs.Option.{option_map}
 use Rattle.std.specs.List.{AllZip, All}
 use Rattle.std.proofs.Common.{sym, ap, subst, ◌∙◌, arith}

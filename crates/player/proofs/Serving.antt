@@ -4,7 +4,7 @@ use Rattle.std.proofs.Common.{refl, sym, ap, ◌∙◌, append_assoc, append-nil
 use Rattle.std.proofs.lemmas.Bool.{false≢true}
 use Rattle.keyspace.specs.declared.batch.Batch.{Batch}
 use Rattle.keyspace.specs.declared.answer.Answer.{Answer}
-use Rattle.keyspace.specs.Run.{Step, answers, part}
+use Rattle.keyspace.specs.Run.{Step, part}
 use Rattle.resolver.specs.declared.client.Client.{Client}
 use Rattle.resolver.specs.Settled.{SettledFor}
 use Rattle.player.specs.declared.worker.Finished.{Finished}

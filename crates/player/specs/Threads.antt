@@ -1,6 +1,6 @@
 -- What each worker is given, and what the workers hand back. This project's own.
-use Rattle.std.specs.Prelude.{◌≡◌, ℕ, ◌+◌, Bool, true, List, [], ◌∷◌, map, Option, None, vec_items}
-use Rattle.std.specs.List.{AllZip, All}
+use Rattle.std.specs.Prelude.{◌≡◌, ℕ, ◌+◌, Bool, true, List, [], ◌∷◌, map, Option, None}
+use Rattle.std.specs.List.{All}
 use Rattle.resolver.specs.declared.client.Client.{Client}
 use Rattle.player.specs.declared.failures.ProxyFailure.{ProxyFailure}
 use Rattle.player.specs.declared.outcome.Outcome.{Outcome}

@@ -194,6 +194,3 @@ fn stop_text(stop: Stop) -> &'static str
         Stop::ArenaFull => "3 ArenaFull",
     }
 }
-
-#[cfg(test)]
-mod tests;

@@ -117,6 +117,3 @@ fn print_conflict<W: Write>(out: &mut W, places: &[u16]) -> io::Result<()>
     }
     Ok(())
 }
-
-#[cfg(test)]
-mod tests;

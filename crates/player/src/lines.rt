@@ -87,6 +87,3 @@ fn print_proxy<W: Sink>(out: &mut W, lines: &[Line]) -> Result<(), Failed>
     }
     Ok(())
 }
-
-#[cfg(test)]
-mod tests;

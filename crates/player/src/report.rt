@@ -92,6 +92,3 @@ fn print_and_flush<W: Sink>(
     print_answers(alloc, out, received)?;
     out.flush().map_err(|_| PrintError::Write)
 }
-
-#[cfg(test)]
-mod tests;

@@ -66,31 +66,3 @@ pub fn print_start_error<W: Sink>(error: &mut W, cause: StartError) -> Result<()
         StartError::Thread => write_all(error, b"replay: start 2 Thread\n"),
     }
 }
-
-#[cfg(test)]
-mod tests {
-    use super::*;
-    use wire::StdSink;
-
-    #[test]
-    fn one_line_a_cause(rt: HostRuntime) {
-        let table = [
-            (StartError::CannotOpen(0), "replay: proxy 0: cannot open\n"),
-            (
-                StartError::CannotOpen(63),
-                "replay: proxy 63: cannot open\n",
-            ),
-            (StartError::Memory, "replay: start 1 Memory\n"),
-            (
-                StartError::from(OpenError::Memory),
-                "replay: start 1 Memory\n",
-            ),
-            (StartError::Thread, "replay: start 2 Thread\n"),
-        ];
-        for (cause, line) in table {
-            let mut error = StdSink::new(Vec::new(rt.alloc()));
-            assert_eq!(rt; fail_to_start(&mut error, cause), Status::Failed);
-            assert_eq!(rt; error.into_inner().as_slice(), line.as_bytes());
-        }
-    }
-}

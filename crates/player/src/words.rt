@@ -85,6 +85,3 @@ fn options_of(matches: &ArgMatches) -> Option<Options>
         matches.get_one("frames")?,
     )
 }
-
-#[cfg(test)]
-mod tests;

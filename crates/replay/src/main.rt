@@ -9,9 +9,7 @@ ghost use Rattle.resolver.specs.declared.sequential.TheConstants.{MAX_PROXIES};
 mod opening;
 
 use opening::open_files;
-use player::{
-    AlwaysOpen, CommandLine, StartError, Status, fail_to_start, read_words, replay_over,
-};
+use player::{AlwaysOpen, CommandLine, StartError, Status, fail_to_start, read_words, replay_over};
 use resolver::MAX_PROXIES;
 use std::fs::{File, Files};
 use std::io::{BufWriter, Write};

@@ -1,32 +1,18 @@
 -- All reply lanes of a resolver were closed.
-use Rattle.std.proofs.Common.{◌≡◌, ℕ, suc, true, List, [], ◌∷◌, ◌++◌, length, Some, None, sym, ap, subst, ◌∙◌, refl, inl, inr, arith}
+use Rattle.std.proofs.Common.{◌≡◌, ℕ, true, List, ◌++◌, length, Some, None, sym, ap, subst, ◌∙◌, refl, inl, inr, arith}
 use Rattle.std.specs.Prelude.{◌↔◌, is_some, slice_get}
 use Rattle.std.proofs.lemmas.Bool.{true≢false}
 use Rattle.std.proofs.lemmas.Option.{slice_get_past, none-some}
-use Rattle.keyspace.specs.declared.answer.Answer.{Answer}
 use Rattle.keyspace.specs.Run.{Step}
 use Rattle.lane.specs.Lane.{HasEnded}
 use Rattle.resolver.specs.Owed.{owed_to, owed_count}
 use Rattle.resolver.specs.Lanes.{Lanes, Each, sent_to, all_ended}
 use Rattle.resolver.specs.Resolver.{ResolverState, StandsOver, IsThrough}
 use Rattle.resolver.specs.Links.{LinkView, Parts, AreParts, EachLink, lanes_of, owed_with, closed_link, resolver_of}
-use Rattle.resolver.proofs.Linked.{field_same, both_at, each_lanes}
+use Rattle.resolver.proofs.Linked.{field_same, both_at, each_lanes, owed_with-same}
 use Rattle.resolver.proofs.Handed.{StandsBy-moved}
 use Rattle.resolver.proofs.HandedOut.{list_all-same}
 use Rattle.resolver.proofs.Logged.{stands_same}
-
--- the same answers are owed where the same wait
-owed_with-same : (old new : List LinkView) (owed : List (List Answer)) → length new ≡ length old
-    → ((p : ℕ) (k n : LinkView) → slice_get old p ≡ Some k → slice_get new p ≡ Some n → n.waiting ≡ k.waiting)
-    → owed_with new owed ≡ owed_with old owed
-owed_with-same [] [] owed same each = refl
-owed_with-same [] (n ∷ new) owed same each = absurd (omega (arith, same))
-owed_with-same (k ∷ old) [] owed same each = absurd (omega (arith, same))
-owed_with-same (k ∷ old) (n ∷ new) [] same each = refl
-owed_with-same (k ∷ old) (n ∷ new) (answers ∷ owed) same each =
-    let first = each 0 k n refl refl in
-    let rest = owed_with-same old new owed (omega (arith, same)) (λ p. each (suc p)) in
-    cc
 
 -- what a close ensures of a resolver
 abbrev pub ClosedOver : ResolverState → ResolverState → Type 0

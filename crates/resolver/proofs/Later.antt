@@ -22,8 +22,8 @@ use Rattle.std.proofs.lemmas.Option.{same_Some, slice_get_within}
 use Rattle.std.proofs.lemmas.List.{length-set}
 use Rattle.lane.specs.Lane.{PortView, IntakeView, SameLane, PortGoesOn, IntakeGoesOn}
 use Rattle.resolver.specs.declared.client.Client.{Client}
-use Rattle.resolver.specs.Lanes.{Lanes, Each, LanesGoOn, AreSameLists}
-use Rattle.resolver.specs.Resolver.{AreClients, SameClients}
+use Rattle.resolver.specs.Lanes.{Lanes, Each, LanesGoOn}
+use Rattle.resolver.specs.Resolver.{AreClients}
 use Rattle.resolver.proofs.Settling.{slice_get-set_same, slice_get-set_other}
 use Rattle.resolver.proofs.Unchanged.{slice_get_inside}
 
@@ -81,14 +81,6 @@ clients_set clients i old new at goes_on = record {
   ];
 }
 
-pub clients_settle : (old new : List Client) → SameClients old new → ClientsGoOn old new
-clients_settle old new same = record {
-  count = same.count;
-  each = λ proxy c d c_at d_at.
-      let both = same.each proxy c d c_at d_at in
-      record { requests = both.requests; replies = both.replies };
-}
-
 pub lanes_same : (lanes : List Lanes) → Each (λ _ l m. LanesGoOn l m) lanes lanes
 lanes_same lanes = record {
   count = refl;
@@ -98,13 +90,6 @@ lanes_same lanes = record {
         replies = port_same l.replies;
         ended = λ ended. ended;
       });
-}
-
-pub lanes_settle : (lanes later : List Lanes) → Each (λ _ l m. LanesGoOn l m × AreSameLists l m) lanes later
-    → Each (λ _ l m. LanesGoOn l m) lanes later
-lanes_settle lanes later go_on = record {
-  count = go_on.count;
-  each = λ proxy l m l_at m_at. (go_on.each proxy l m l_at m_at).0;
 }
 
 -- the clients of these lanes are still theirs, as both go on

@@ -102,6 +102,7 @@ owed_with-count (l ∷ links) (answers ∷ owed) same =
     let waits = sum_by-cons (λ (x : LinkView). length (option_to_list x.waiting)) l links in
     omega (arith, rest, one, plain, waits, length-append (option_to_list l.waiting) answers)
 
+-- the same answers are owed where the same wait
 pub owed_with-same : (old new : List LinkView) (owed : List (List Answer)) → length new ≡ length old
     → ((p : ℕ) (k n : LinkView) → slice_get old p ≡ Some k → slice_get new p ≡ Some n → n.waiting ≡ k.waiting)
     → owed_with new owed ≡ owed_with old owed

@@ -1,31 +1,6 @@
 -- Links that are settled: no list has changed, and no answer that waits.
-use Rattle.std.proofs.Common.{
-  ◌≡◌,
-  ℕ,
-  zero,
-  suc,
-  ◌<◌,
-  ◌≤◌,
-  ◌&&◌,
-  true,
-  List,
-  [],
-  ◌∷◌,
-  ◌++◌,
-  length,
-  Some,
-  refl,
-  sym,
-  ap,
-  ap₂,
-  subst,
-  subst₂,
-  ◌∙◌,
-  inl,
-  inr,
-  arith,
-}
-use Rattle.std.specs.Prelude.{option_to_list, slice_get}
+use Rattle.std.proofs.Common.{◌≡◌, ℕ, zero, suc, ◌<◌, ◌≤◌, ◌&&◌, true, List, [], ◌∷◌, length, Some, refl, sym, ap, ap₂, subst, subst₂, ◌∙◌, inl, inr, arith}
+use Rattle.std.specs.Prelude.{slice_get}
 use Rattle.std.proofs.lemmas.Option.{none-some, same_Some, slice_get_within}
 use Rattle.std.proofs.lemmas.List.{length-map}
 use Rattle.keyspace.specs.declared.answer.Answer.{Answer}
@@ -45,6 +20,7 @@ use Rattle.resolver.specs.Links.{
   owed_with,
   resolver_of,
 }
+use Rattle.resolver.proofs.Linked.{owed_with-same}
 use Rattle.resolver.proofs.Settling.{lanes_at}
 
 -- an element stands at each index of a list
@@ -59,19 +35,6 @@ pub link_at : (links : List LinkView) (proxy : ℕ) (k : Lanes) → slice_get (l
 link_at [] proxy k at = absurd (none-some k at)
 link_at (l ∷ links) zero k at = (l, refl, same_Some l.lanes k at)
 link_at (l ∷ links) (suc proxy) k at = link_at links proxy k at
-
--- with the same answers that wait, the same is owed
-owed_with-same : (old new : List LinkView) → length new ≡ length old
-    → ((proxy : ℕ) (l m : LinkView) → slice_get old proxy ≡ Some l → slice_get new proxy ≡ Some m
-    → m.waiting ≡ l.waiting)
-    → (owed : List (List Answer)) → owed_with new owed ≡ owed_with old owed
-owed_with-same [] [] count same owed = refl
-owed_with-same [] (m ∷ new) count same owed = absurd (omega (arith, count))
-owed_with-same (l ∷ old) [] count same owed = absurd (omega (arith, count))
-owed_with-same (l ∷ old) (m ∷ new) count same [] = refl
-owed_with-same (l ∷ old) (m ∷ new) count same (answers ∷ owed) =
-    ap₂ (λ xs ys. xs ∷ ys) (ap (λ waiting. option_to_list waiting ++ answers) (same zero l m refl refl))
-    (owed_with-same old new (omega (arith, count)) (λ proxy. same (suc proxy)) owed)
 
 all_ended-same : (old new : List LinkView) → length new ≡ length old
     → ((proxy : ℕ) (l m : LinkView) → slice_get old proxy ≡ Some l → slice_get new proxy ≡ Some m
@@ -105,8 +68,8 @@ module _ (old new : List LinkView) (before after : List Client) (each : EachSett
       (c.0, d.0, each.each proxy l m c.0 d.0 l_at m_at c.1 d.1)
 
   pub owed_with-settled : (owed : List (List Answer)) → owed_with new owed ≡ owed_with old owed
-  owed_with-settled =
-      owed_with-same old new each.count (λ proxy l m l_at m_at. (settles_at proxy l m l_at m_at).2.waiting)
+  owed_with-settled owed =
+      owed_with-same old new owed each.count (λ proxy l m l_at m_at. (settles_at proxy l m l_at m_at).2.waiting)
 
   all_ended-settled : all_ended (lanes_of new) ≡ all_ended (lanes_of old)
   all_ended-settled =

@@ -21,8 +21,6 @@ mod owed;
 mod sequential;
 mod serving;
 mod stop;
-#[cfg(test)]
-mod tests;
 mod turn;
 
 pub use client::Client;

@@ -1,6 +1,7 @@
 //! A step map whose versions rise as it is written.
-ghost use Rattle.std.specs.Prelude.{◌≡◌, ◌≤◌};
+ghost use Rattle.std.specs.Prelude.{◌≡◌, ◌≤◌, slice_get, Some, OnOk};
 ghost use Rattle.stepmap.specs.Boundary.{AreUpTo};
+ghost use Rattle.stepmap.specs.StepMap.{lengths};
 
 use keyspace::Range;
 use std::alloc::Global;
@@ -37,11 +38,33 @@ impl Written {
     }
 
     /// Prepares for the range.
-    pub fn prepare(&mut self, range: &Range) -> Result<(), StepError> {
+    pub fn prepare(&mut self, range: &Range) -> Result<(), StepError>
+        ensures ready { OnOk result (slice_get self.new.map.ready 0 ≡ Some (lengths range.now)) }
+        ensures version { self.new.version ≡ self.old.version }
+        ensures edge { self.new.edge ≡ self.old.edge }
+    {
         self.map.prepare(&[KeyLengths::of(range.as_ref())])
     }
 
-    /// Prepares for the range and writes it. Where memory is refused, the map is as before, and the next try succeeds.
+    // Prepares for the range. Where memory is refused, the map is as before, and the next try succeeds.
+    fn prepare_at_last(
+        &mut self,
+        rt: &impl Abort,
+        range: &Range,
+        before: &str,
+    ) -> Result<(), StepError>
+        ensures ready { OnOk result (slice_get self.new.map.ready 0 ≡ Some (lengths range.now)) }
+        ensures version { self.new.version ≡ self.old.version }
+        ensures edge { self.new.edge ≡ self.old.edge }
+    {
+        if self.prepare(range).is_ok() {
+            return Ok(());
+        }
+        assert!(rt; shows(&self.map, before));
+        self.prepare(range)
+    }
+
+    /// Prepares for the range and writes it.
     pub fn write(
         &mut self,
         rt: &impl Abort,
@@ -50,12 +73,9 @@ impl Written {
         before: &str,
     ) -> Result<(), StepError> {
         assert!(rt; !range.is_empty());
-        assert!(rt; version >= self.version && version >= self.edge);
-        let lengths = [KeyLengths::of(range.as_ref())];
-        if self.map.prepare(&lengths).is_err() {
-            assert!(rt; shows(&self.map, before));
-            self.map.prepare(&lengths)?;
-        }
+        assert!(rt; version >= self.version);
+        assert!(rt; version >= self.edge);
+        self.prepare_at_last(rt, range, before)?;
         self.map.write(range.as_ref(), version);
         self.version = version;
         Ok(())

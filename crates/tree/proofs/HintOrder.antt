@@ -1,13 +1,12 @@
 -- What the bytes with which a key and what is looked for begin, and the digests of what stands behind, tell of the two.
-use Rattle.std.proofs.Common.{◌≡◌, ◌≢◌, ℕ, zero, suc, ◌+◌, ◌-◌, ◌<◌, ◌≤◌, Bool, nat_lt, List, [], ◌∷◌, ◌++◌, length, get_or, take, drop, replicate, slice_index, refl, sym, ap, subst, ◌∙◌, inl, inr, arith, length-append, length-take, get_or-take, lt-ltb, le-ltb}
+use Rattle.std.proofs.Common.{◌≡◌, ◌≢◌, ℕ, zero, suc, ◌+◌, ◌-◌, ◌<◌, ◌≤◌, Bool, nat_lt, List, [], ◌∷◌, ◌++◌, length, get_or, take, drop, replicate, slice_index, refl, sym, ap, subst, ◌∙◌, inl, inr, arith, length-take, get_or-take, lt-ltb, le-ltb}
 use Rattle.std.specs.Int.{w64, to_be_bytes, from_be_bytes}
 use Rattle.std.proofs.lemmas.Bool.{cases_lt, cases_order}
-use Rattle.std.proofs.lemmas.List.{take-take, take-append-le, take-append-drop, take_more_same, length-take-le, drop-take, length-drop, get_or_append_left, get_or_past}
-use Rattle.std.proofs.lemmas.List.Elements.{All-take, All-drop, All-append, All-replicate, All-get_or}
-use Rattle.std.proofs.lemmas.Nat.{be_bytes_8}
+use Rattle.std.proofs.lemmas.List.{take-take, take-append-le, take-append-drop, take_more_same, length-take-le, drop-take, length-drop, get_or_append_left}
+use Rattle.std.proofs.lemmas.List.Elements.{All-drop}
 use Rattle.keyspace.specs.Key.{IsBytes, IsBefore}
 use Rattle.keyspace.specs.Digest.{first_eight, digest_of}
-use Rattle.keyspace.proofs.Digests.{digest_less, behind_common, behind_shorter, behind_differing}
+use Rattle.keyspace.proofs.Digests.{digest_less, digest_of-bytes, behind_common, behind_shorter, behind_differing}
 use Rattle.tree.specs.Hints.{digest_behind, PassesInOrder, TellsCommon}
 
 abbrev IsByte : ℕ → Type 0
@@ -122,25 +121,6 @@ module _ (shared skip : ℕ) (first text sought : List ℕ) (less : shared < ski
     ]),
   )
 
-length-first_eight : (a : List ℕ) → length (first_eight a) ≡ 8
-length-first_eight a = omega (arith, length-take 8 (a ++ replicate 8 0), length-append a (replicate 8 0))
-
-first_eight-bytes : (a : List ℕ) → IsBytes a → (i : ℕ) → get_or (first_eight a) i 0 < 256
-first_eight-bytes a bytes i =
-    let all_bytes : IsBytes (first_eight a) =
-    All-take IsByte 8 (a ++ replicate 8 0)
-    (All-append IsByte a (replicate 8 0) bytes (All-replicate IsByte 8 0 (omega arith))) in
-    elim (cases_lt i (length (first_eight a))) [
-      | inl inside ↦ All-get_or IsByte (first_eight a) i 0 inside all_bytes
-      | inr past ↦ omega (arith, get_or_past (first_eight a) i 0 past)
-    ]
-
--- the first eight bytes, written anew from the digest
-bytes_of_digest : (a : List ℕ) → IsBytes a → to_be_bytes w64 (digest_of a) ≡ first_eight a
-unfolding digest_of
-bytes_of_digest a bytes =
-    be_bytes_8 (first_eight a) (digest_of a) (length-first_eight a) (first_eight-bytes a bytes) refl
-
 take-first_eight : (n : ℕ) (a : List ℕ) → n ≤ 8 → n ≤ length a → take n (first_eight a) ≡ take n a
 take-first_eight n a few within =
     take-take n 8 (a ++ replicate 8 0) few ∙ take-append-le n a (replicate 8 0) within
@@ -224,8 +204,8 @@ common_by_digests skip m text sought text_bytes sought_bytes long same apart few
     let sought_long = as_long skip text sought long same in
     let t = drop skip text in
     let s = drop skip sought in
-    let t_is = bytes_of_digest t (All-drop IsByte skip text text_bytes) in
-    let s_is = bytes_of_digest s (All-drop IsByte skip sought sought_bytes) in
+    let t_is = digest_of-bytes t (All-drop IsByte skip text text_bytes) in
+    let s_is = digest_of-bytes s (All-drop IsByte skip sought sought_bytes) in
     let eight : take m (first_eight t) ≡ take m (first_eight s) =
     sym (ap (take m) t_is) ∙ alike ∙ ap (take m) s_is in
     elim (cases_lt m 8) [

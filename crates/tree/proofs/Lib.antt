@@ -38,7 +38,6 @@ pub mod Replacing
 pub mod Rooting
 pub mod Runs
 pub mod Sharing
-pub mod SomeElement
 pub mod Spans
 pub mod Splicing
 pub mod Stepping

@@ -1,5 +1,0 @@
-use Rattle.std.proofs.Common.{◌≡◌, length}
-use Rattle.conflict.proofs.union.tests.runs_of_many_gaps.Given as goal
-
-abbrev pub invariant-loop-from : goal.invariant-loop-from
-invariant-loop-from g l = length l.gaps ≡ 1000

@@ -1,0 +1,40 @@
+//! Tests of what the program `replay` does once its files are open, by the public calls of `player` alone.
+//!
+//! `verdicts`, `reports`, `batches`, `options`, `proxies` and `files` are the worked rows, played over memory by `runs`, each a
+//! test of its row's name; `meeting` holds back two proxies that wait for each other. `workers` looks at a worker alone, and
+//! the others at the command line and at what is printed.
+//!
+//! The contract of `replay_over` also lets a program through that always stops with `Memory`. Each test that wants a line
+//! refuses it, `empty_batch` first; so does `gate_full_through_replay`, which wants another stop.
+#![tactic(auto)]
+
+#[cfg(test)]
+mod answers;
+#[cfg(test)]
+mod batches;
+#[cfg(test)]
+mod failing;
+#[cfg(test)]
+mod failures;
+#[cfg(test)]
+mod files;
+#[cfg(test)]
+mod lines;
+#[cfg(test)]
+mod meeting;
+#[cfg(test)]
+mod options;
+#[cfg(test)]
+mod proxies;
+#[cfg(test)]
+mod report;
+#[cfg(test)]
+mod reports;
+#[cfg(test)]
+mod runs;
+#[cfg(test)]
+mod verdicts;
+#[cfg(test)]
+mod words;
+#[cfg(test)]
+mod workers;

@@ -1,0 +1,129 @@
+//! The lines of answers, one and many.
+
+use crate::answers::{line_of, received_of};
+use crate::failing::Failing;
+use fixtures::Unmade;
+use player::{Line, PrintError, print_answers};
+use std::alloc::Global;
+use std::test::Fail;
+use wire::StdSink;
+
+fn text_of(bytes: Vec<u8>) -> Result<String, Unmade> {
+    match String::from_utf8(bytes) {
+        Ok(text) => Ok(text),
+        Err(_bytes) => Err(Unmade::Text("UTF-8")),
+    }
+}
+
+// The text of the line of an answer.
+fn printed(alloc: Global, frames: bool, proxy: usize, answer: &str) -> Result<String, Unmade> {
+    let Line { text, .. } = line_of(alloc, frames, proxy, answer)?;
+    text_of(text)
+}
+
+// Whether the line is that of the answer in it, to the proxy of its first number.
+fn is_printed(alloc: Global, line: &str) -> Result<bool, Unmade> {
+    let Some((proxy, answer)) = line.trim_end().split_once(' ') else {
+        return Err(Unmade::Text("line"));
+    };
+    let text = printed(alloc, false, proxy.parse()?, answer)?;
+    Ok(text.as_str() == line)
+}
+
+#[test]
+fn one_line_an_answer(rt: HostRuntime) -> Result<(), Fail> {
+    for line in [
+        "0 100 empty\n",
+        "0 0 empty\n",
+        "1 100 committed conflict committed\n",
+        "0 200 committed conflict:0,2\n",
+        "0 5000100 tooold\n",
+        "63 300 never\n",
+        "0 1000 held\n",
+    ] {
+        assert!(rt; is_printed(rt.alloc(), line)?, "{line}");
+    }
+    Ok(())
+}
+
+// The frames of docs/WIRE.md, and words where there is no reply.
+#[test]
+fn replies_as_frames(rt: HostRuntime) -> Result<(), Fail> {
+    for (answer, text) in [
+        ("0 empty", "0 0 0000000b0200000000000000000000\n"),
+        (
+            "100 committed conflict:0",
+            "0 100 0000001302000000000000006400020200000000010000\n",
+        ),
+        (
+            "100 committed",
+            "0 100 0000000e0200000000000000640001020000\n",
+        ),
+        ("300 never", "0 300 never\n"),
+        ("1000 held", "0 1000 held\n"),
+    ] {
+        let made = printed(rt.alloc(), true, 0, answer)?;
+        assert_eq!(rt; made.as_str(), text);
+    }
+    Ok(())
+}
+
+// Prints the lines of the answers to each proxy, and returns the text.
+fn all_printed(alloc: Global, answers: &[&str]) -> Result<String, Unmade> {
+    let mut received = received_of(alloc, answers)?;
+    let mut out = StdSink::new(Vec::new(alloc));
+    match print_answers(alloc, &mut out, &mut received) {
+        Ok(()) => text_of(out.into_inner()),
+        Err(_error) => Err(Unmade::Memory),
+    }
+}
+
+#[test]
+fn by_proxy_then_version_then_order_received(rt: HostRuntime) -> Result<(), Fail> {
+    let first = "300 empty; 100 empty; 200 empty; 100 never";
+    let found = all_printed(rt.alloc(), &[first, "10 held; 9 empty"])?;
+    let text = "0 100 empty\n0 100 never\n0 200 empty\n0 300 empty\n1 9 empty\n1 10 held\n";
+    assert_eq!(rt; found.as_str(), text);
+    Ok(())
+}
+
+// Forty answers out of order, and their lines.
+fn forty(alloc: Global) -> Result<(String, String), Unmade> {
+    let mut answers = String::from_str(alloc, "0 held")?;
+    let mut text = String::from_str(alloc, "0 0 held\n")?;
+    for place in 1..40_u32 {
+        answers.push_str(&format!(in alloc; "; {} held", place * 7 % 40)?)?;
+        text.push_str(&format!(in alloc; "0 {place} held\n")?)?;
+    }
+    Ok((answers, text))
+}
+
+// Beyond 20 answers the sort takes memory.
+#[test]
+fn forty_answers_of_one_proxy(rt: HostRuntime) -> Result<(), Fail> {
+    let (answers, text) = forty(rt.alloc())?;
+    let found = all_printed(rt.alloc(), &[answers.as_str()])?;
+    assert_eq!(rt; found.as_str(), text.as_str());
+    Ok(())
+}
+
+// Prints two lines to a writer that takes so many bytes, and returns whether it fails.
+fn fails_after(alloc: Global, room: usize) -> Result<bool, Unmade> {
+    let mut received = received_of(alloc, &["0 empty; 100 committed"])?;
+    let mut out = StdSink::new(Failing::after(room));
+    match print_answers(alloc, &mut out, &mut received) {
+        Ok(()) => Ok(false),
+        Err(PrintError::Write) => Ok(true),
+        Err(PrintError::Memory(_proxy)) => Err(Unmade::Memory),
+    }
+}
+
+#[test]
+fn writer_fails_everywhere(rt: HostRuntime) -> Result<(), Fail> {
+    let text = "0 0 empty\n0 100 committed\n";
+    for room in 0..=text.len() {
+        let fails = fails_after(rt.alloc(), room)?;
+        assert_eq!(rt; fails, room < text.len(), "after {room} bytes");
+    }
+    Ok(())
+}

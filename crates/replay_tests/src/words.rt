@@ -1,0 +1,208 @@
+//! The words of a command line: those that are read, and how the program ends where they aren't.
+
+use crate::failing::Failing;
+use crate::runs::ended;
+use fixtures::Unmade;
+use player::{Options, Refusal, Status, read_words};
+use std::alloc::{AllocError, Global};
+use std::process::Abort;
+use std::test::Fail;
+use wire::StdSink;
+
+// The words of a command line, with the program's name before them.
+fn words_of(alloc: Global, given: &str) -> Result<Vec<String>, Unmade> {
+    let mut words = Vec::new(alloc);
+    words
+        .push(String::from_str(alloc, "replay")?)
+        .map_err(AllocError::from)?;
+    for word in given.split_whitespace() {
+        words
+            .push(String::from_str(alloc, word)?)
+            .map_err(AllocError::from)?;
+    }
+    Ok(words)
+}
+
+/// Reads the options of a command line.
+pub fn options_of(alloc: Global, given: &str) -> Result<Options, Unmade> {
+    let words = words_of(alloc, given)?;
+    match read_words(alloc, &words) {
+        Ok(line) => Ok(line.options),
+        Err(_refusal) => Err(Unmade::Text("words")),
+    }
+}
+
+// Reads a command line, and writes its files and its options.
+fn read(alloc: Global, given: &str) -> Result<String, Unmade> {
+    let words = words_of(alloc, given)?;
+    let Ok(line) = read_words(alloc, &words) else {
+        return Err(Unmade::Text("words"));
+    };
+    let mut text = String::new(alloc);
+    for file in &line.files {
+        text.push_str(file)?;
+        text.push(' ')?;
+    }
+    push_options(alloc, &mut text, &line.options)?;
+    Ok(text)
+}
+
+fn push_options(alloc: Global, text: &mut String, options: &Options) -> Result<(), Unmade> {
+    let (capacity, window, limit) = (options.capacity, options.window, options.limit);
+    text.push_str(&format!(in alloc; "| {capacity} {window} {limit}")?)?;
+    if options.frames {
+        text.push_str(" frames")?;
+    }
+    Ok(())
+}
+
+// How the program ends in place of replaying.
+fn end_of(alloc: Global, given: &str) -> Result<String, Unmade> {
+    let words = words_of(alloc, given)?;
+    let Err(refusal) = read_words(alloc, &words) else {
+        return Err(Unmade::Text("words"));
+    };
+    let mut out = StdSink::new(Vec::new(alloc));
+    let mut error = StdSink::new(Vec::new(alloc));
+    let status = refusal.end(&mut out, &mut error);
+    ended(status, out.into_inner(), &error.into_inner())
+}
+
+// The words are refused: nothing is on standard output, and an error on standard error.
+fn refuses(rt: &(impl Abort + AllocGlobal), given: &str) -> Result<(), Fail> {
+    let end = end_of(rt.alloc(), given)?;
+    assert!(rt;
+        end.as_str().starts_with("usage: error: "),
+        "{given}: {end}"
+    );
+    Ok(())
+}
+
+#[test]
+fn capacity_zero(rt: HostRuntime) -> Result<(), Fail> {
+    refuses(&rt, "--capacity 0 f")
+}
+
+#[test]
+fn window_out_of_range(rt: HostRuntime) -> Result<(), Fail> {
+    refuses(&rt, "--window 0 f")?;
+    refuses(&rt, "--window 1099511627777 f")
+}
+
+// So many files.
+fn files(alloc: Global, count: u32) -> Result<String, Unmade> {
+    let mut given = String::new(alloc);
+    for _ in 0..count {
+        given.push_str("f ")?;
+    }
+    Ok(given)
+}
+
+#[test]
+fn refused_words(rt: HostRuntime) -> Result<(), Fail> {
+    for given in [
+        "",
+        "--frames",
+        "--capacity 1025 f",
+        "--capacity sixteen f",
+        "--capacity -1 f",
+        "--capacity 1 --capacity 2 f",
+        "--window 1.5 f",
+        "--limit 0 f",
+        "--limit 16777217 f",
+        "f --limit",
+        "--frames=yes f",
+        "-x f",
+    ] {
+        refuses(&rt, given)?;
+    }
+    refuses(&rt, files(rt.alloc(), 65)?.as_str())
+}
+
+#[test]
+fn words_and_options(rt: HostRuntime) -> Result<(), Fail> {
+    for (given, expected) in [
+        ("a", "a | 16 5000000 1000000"),
+        ("b a b", "b a b | 16 5000000 1000000"),
+        ("-- --frames", "--frames | 16 5000000 1000000"),
+        (
+            "--capacity 1 --window=1 a --frames b --limit 1",
+            "a b | 1 1 1 frames",
+        ),
+        (
+            "--capacity=1024 --window 1099511627776 --limit 16777216 a",
+            "a | 1024 1099511627776 16777216",
+        ),
+    ] {
+        assert_eq!(rt; read(rt.alloc(), given)?.as_str(), expected);
+    }
+    Ok(())
+}
+
+#[test]
+fn sixty_four_files(rt: HostRuntime) -> Result<(), Fail> {
+    let given = files(rt.alloc(), 64)?;
+    let expected = format!(in rt.alloc(); "{given}| 16 5000000 1000000")?;
+    assert_eq!(rt;
+        read(rt.alloc(), given.as_str())?.as_str(),
+        expected.as_str()
+    );
+    Ok(())
+}
+
+#[test]
+fn defaults(rt: HostRuntime) {
+    let wanted = Options {
+        capacity: 16,
+        window: 5_000_000,
+        limit: 1_000_000,
+        frames: false,
+    };
+    assert_eq!(rt; Options::default(), wanted);
+}
+
+#[test]
+fn version_and_help(rt: HostRuntime) -> Result<(), Fail> {
+    let version = end_of(rt.alloc(), "--version")?;
+    assert_eq!(rt; version.as_str(), "replay 0.1.0\ndone: ");
+    let help = end_of(rt.alloc(), "--help")?;
+    assert!(rt; help.as_str().ends_with("done: "));
+    for part in [
+        "Usage: replay [OPTIONS] <FILE>...",
+        "--capacity <N>",
+        "[default: 16]",
+        "--window <N>",
+        "[default: 5000000]",
+        "--limit <N>",
+        "[default: 1000000]",
+        "--frames",
+        "Example:\n  replay --capacity 1 --frames examples/two_proxies examples/second_proxy\n",
+    ] {
+        assert!(rt; help.as_str().contains(part), "{part}");
+    }
+    Ok(())
+}
+
+// How the program ends where standard output takes so many bytes.
+fn end_with_room(alloc: Global, refusal: &Refusal, room: usize) -> Result<String, Unmade> {
+    let mut error = StdSink::new(Vec::new(alloc));
+    let status: Status = refusal.end(&mut StdSink::new(Failing::after(room)), &mut error);
+    ended(status, Vec::new(alloc), &error.into_inner())
+}
+
+fn help_with_room(alloc: Global, room: usize) -> Result<String, Unmade> {
+    let words = words_of(alloc, "--help")?;
+    match read_words(alloc, &words) {
+        Ok(_line) => Err(Unmade::Text("words")),
+        Err(refusal) => end_with_room(alloc, &refusal, room),
+    }
+}
+
+// A failed write of help is status 1.
+#[test]
+fn help_fails(rt: HostRuntime) -> Result<(), Fail> {
+    assert_eq!(rt; help_with_room(rt.alloc(), 10)?.as_str(), "failed: ");
+    let memory = end_with_room(rt.alloc(), &Refusal::Memory, 0)?;
+    assert_eq!(rt; memory.as_str(), "failed: replay: start 1 Memory\n");
+    Ok(())
+}

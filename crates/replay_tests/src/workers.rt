@@ -1,0 +1,169 @@
+//! A worker alone, over lanes whose other ends are held here.
+
+use crate::runs::{file_of, push_batch, reader};
+use fixtures::Unmade;
+use keyspace::{Answer, Batch};
+use lane::{Intake, Port, Taken, lane};
+use player::{AlwaysOpen, Finished, work};
+use resolver::Client;
+use std::alloc::Global;
+use std::process::Abort;
+use std::sync::Wait;
+use std::test::Fail;
+use std::thread;
+
+// A client, and the resolver's ends of its lanes.
+#[derive(Drop)]
+struct Connected {
+    client: Client,
+    requests: Intake<Batch>,
+    replies: Port<Answer>,
+}
+
+fn connect(alloc: Global) -> Result<Connected, Unmade> {
+    let (Ok((send_requests, requests)), Ok((replies, take_replies))) = (
+        lane(alloc, 4),
+        lane(alloc, 4),
+    ) else {
+        return Err(Unmade::Memory);
+    };
+    let client = Client {
+        requests: send_requests,
+        replies: take_replies,
+    };
+    Ok(Connected {
+        client,
+        requests,
+        replies,
+    })
+}
+
+// Writes what a worker hands back: the lines of its answers, whether one was lost, the fault of its file and the batch unsent.
+fn handed_back(alloc: Global, finished: &Finished) -> Result<String, Unmade> {
+    let mut text = Vec::new(alloc);
+    for line in &finished.lines {
+        text.extend_from_slice(&line.text)?;
+    }
+    if finished.lost {
+        text.extend_from_slice(b"lost\n")?;
+    }
+    let Ok(mut text) = String::from_utf8(text) else {
+        return Err(Unmade::Text("UTF-8"));
+    };
+    if let Some(fault) = finished.fault {
+        text.push_str(&format!(in alloc; "fault {fault}\n")?)?;
+    }
+    if let Some(batch) = &finished.unsent {
+        let version = batch.version;
+        text.push_str(&format!(in alloc; "unsent {version}\n")?)?;
+    }
+    Ok(text)
+}
+
+// Works on a file where two answers lie in the reply lane, which is closed. Returns what the worker hands back, in words, and
+// whether it has sent nothing and closed its lane.
+fn worked(rt: &impl Wait, alloc: Global, file: Vec<u8>) -> Result<(String, bool), Unmade> {
+    let Connected {
+        client,
+        mut requests,
+        mut replies,
+    } = connect(alloc)?;
+    for answer in [Answer::Never(1), Answer::Held(2)] {
+        if replies.send(rt, answer).is_err() {
+            return Err(Unmade::Beyond("lane"));
+        }
+    }
+    replies.close(rt);
+    let finished = work(rt, alloc, false, 0, client, reader(file), &AlwaysOpen);
+    let has_ended = matches!(requests.take(rt), Taken::End);
+    Ok((handed_back(alloc, &finished)?, has_ended))
+}
+
+// Works on the file, and compares what the worker hands back behind the lines of the two answers. It sends nothing.
+fn hands_back(
+    rt: &(impl Abort + Wait),
+    alloc: Global,
+    file: Vec<u8>,
+    expected: &str,
+) -> Result<(), Fail> {
+    let (text, has_ended) = worked(rt, alloc, file)?;
+    assert_eq!(rt;
+        text.as_str().strip_prefix("0 1 never\n0 2 held\n"),
+        Some(expected)
+    );
+    assert!(rt; has_ended);
+    Ok(())
+}
+
+#[test]
+fn answers_after_fault(rt: HostRuntime) -> Result<(), Fail> {
+    let file = file_of(rt.alloc(), &[], b"\0")?;
+    hands_back(&rt, rt.alloc(), file, "fault 1 Short\n")
+}
+
+#[test]
+fn answers_after_end_of_file(rt: HostRuntime) -> Result<(), Fail> {
+    hands_back(&rt, rt.alloc(), Vec::new(rt.alloc()), "")
+}
+
+#[test]
+fn stops_sending_at_end_of_answers(rt: HostRuntime) -> Result<(), Fail> {
+    let file = file_of(rt.alloc(), &["-1>0"], b"")?;
+    hands_back(&rt, rt.alloc(), file, "unsent 0\n")
+}
+
+// Takes batches up to the end of the lane, and then closes the replies. Returns whether there are so many, of the versions from
+// 0 on.
+fn takes_versions<R: Wait>(
+    rt: &R,
+    mut requests: Intake<Batch>,
+    mut replies: Port<Answer>,
+    count: i64,
+) -> bool {
+    let mut next = 0_i64;
+    let mut is_same = true;
+    for _ in rt.forever() {
+        match requests.take(rt) {
+            Taken::Item(batch) => {
+                is_same &= batch.version == next;
+                next = next.saturating_add(1);
+            }
+            Taken::Empty => thread::yield_now(),
+            Taken::End => break,
+        }
+    }
+    replies.close(rt);
+    is_same && next == count
+}
+
+// The file of twenty batches.
+fn twenty(alloc: Global) -> Result<Vec<u8>, Unmade> {
+    let mut file = Vec::new(alloc);
+    for version in 0..20_u32 {
+        let previous = i64::from(version) - 1;
+        let text = format!(in alloc; "{previous}>{version}")?;
+        push_batch(alloc, &mut file, text.as_str())?;
+    }
+    Ok(file)
+}
+
+#[test]
+fn sends_every_batch_in_order(rt: HostRuntime) -> Result<(), Fail> {
+    let alloc = rt.alloc();
+    let file = twenty(alloc)?;
+    let Connected {
+        client,
+        requests,
+        replies,
+    } = connect(alloc)?;
+    let (is_clean, is_same) = thread::join(
+        &rt,
+        move || {
+            let finished = work(&rt, alloc, false, 0, client, reader(file), &AlwaysOpen);
+            finished.lines.is_empty() && finished.fault.is_none() && finished.unsent.is_none()
+        },
+        || takes_versions(&rt, requests, replies, 20),
+    );
+    assert!(rt; is_same && is_clean);
+    Ok(())
+}

@@ -1,0 +1,18 @@
+use Rattle.std.proofs.Common.{arith}
+use Rattle.std.proofs.lemmas.Option.{slice_get_read}
+use Rattle.resolver.proofs.Later.{port_same, clients_set, lanes_same, AreClients-later}
+use Rattle.resolver_tests.proofs.service.Service.take.Goals as goal
+
+pub invariant_of-self : goal.invariant_of-self
+invariant_of-self g c =
+    let s = c.args.self.now in
+    let clients = s.clients.items in
+    let client = c.index_mut.result.now in
+    record {
+      same_lanes =
+          AreClients-later s.resolver.lanes s.resolver.lanes clients _ s.same_lanes (lanes_same s.resolver.lanes)
+          (clients_set clients c.args.proxy client (record { requests = client.requests; replies = c.take.new.self })
+          (slice_get_read clients s.clients.len c.args.proxy client s.clients.ok.0 (omega arith)
+          c.index_mut.ensures.value)
+          (record { requests = port_same client.requests; replies = c.take.ensures.intake }));
+    }

@@ -1,0 +1,89 @@
+//! A resolver over lanes and its clients in one hand.
+ghost use Rattle.resolver.specs.Resolver.{AreClients};
+
+use conflict::MAX_WINDOW;
+use fixtures::Unmade;
+use keyspace::{Answer, Batch, WINDOW};
+use lane::{MAX_CAPACITY, Taken};
+use resolver::{Account, Client, MAX_PROXIES, OpenError, Resolver, Stop, Turn, open};
+use std::alloc::Global;
+use std::sync::Wait;
+use stepmap::MAX_LIMIT;
+
+/// A resolver and all of its clients, each at its number.
+#[derive(Drop)]
+pub struct Service {
+    resolver: Resolver,
+    clients: Vec<Client>,
+    ghost same_lanes: { AreClients resolver.lanes clients.items },
+}
+
+impl Service {
+    /// Opens a resolver of the default window, and its clients.
+    pub fn open(
+        alloc: Global,
+        proxies: usize,
+        capacity: usize,
+    ) -> Result<Result<Self, OpenError>, Unmade> {
+        Service::open_by(alloc, proxies, capacity, WINDOW, MAX_LIMIT)
+    }
+
+    fn open_by(
+        alloc: Global,
+        proxies: usize,
+        capacity: usize,
+        window: i64,
+        limit: usize,
+    ) -> Result<Result<Self, OpenError>, Unmade> {
+        if proxies == 0 || proxies > MAX_PROXIES || capacity == 0 || capacity > MAX_CAPACITY {
+            return Err(Unmade::Beyond("service"));
+        }
+        if window < 1 || window > MAX_WINDOW || limit == 0 || limit > MAX_LIMIT {
+            return Err(Unmade::Beyond("core"));
+        }
+        Ok(match open(alloc, proxies, capacity, window, limit) {
+            Ok((resolver, clients)) => Ok(Service { resolver, clients }),
+            Err(error) => Err(error),
+        })
+    }
+
+    /// Sends a batch on the request lane of the proxy, and returns whether the lane has accepted it.
+    pub fn send(&mut self, rt: &impl Wait, proxy: usize, batch: Batch) -> Result<bool, Unmade> {
+        if proxy >= self.clients.len() {
+            return Err(Unmade::Beyond("proxy"));
+        }
+        Ok(self.clients[proxy].requests.send(rt, batch).is_ok())
+    }
+
+    /// Closes the request lane of the proxy.
+    pub fn close(&mut self, rt: &impl Wait, proxy: usize) -> Result<(), Unmade> {
+        if proxy >= self.clients.len() {
+            return Err(Unmade::Beyond("proxy"));
+        }
+        self.clients[proxy].requests.close(rt);
+        Ok(())
+    }
+
+    /// Takes what is next on the reply lane of the proxy.
+    pub fn take(&mut self, rt: &impl Wait, proxy: usize) -> Result<Taken<Answer>, Unmade> {
+        if proxy >= self.clients.len() {
+            return Err(Unmade::Beyond("proxy"));
+        }
+        Ok(self.clients[proxy].replies.take(rt))
+    }
+
+    /// Turns the resolver once.
+    pub fn turn(&mut self, rt: &impl Wait) -> Result<Turn, Stop> {
+        self.resolver.turn(rt)
+    }
+
+    /// Settles the resolver with its clients.
+    pub fn settle(&mut self, rt: &impl Wait) -> Account {
+        self.resolver.settle(rt, &mut self.clients)
+    }
+
+    /// Returns the number of answers owed to all proxies.
+    pub fn owed(&self) -> usize {
+        self.resolver.owed()
+    }
+}

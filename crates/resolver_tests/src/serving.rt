@@ -1,0 +1,78 @@
+//! Two proxies served in one thread.
+
+use fixtures::{Unmade, batch, show_answer};
+use keyspace::Answer;
+use resolver::{OpenError, serve_two};
+use std::alloc::Global;
+use std::process::Abort;
+use std::sync::Wait;
+use std::test::Fail;
+
+fn push_answers(alloc: Global, text: &mut String, answers: &[Answer]) -> Result<(), Unmade> {
+    for answer in answers {
+        text.push_str(show_answer(alloc, answer)?.as_str())?;
+        text.push_str("; ")?;
+    }
+    Ok(())
+}
+
+// Serves the two batches for so many turns, and writes what each proxy received and whether all is complete.
+fn served(
+    rt: &impl Wait,
+    alloc: Global,
+    (first, second): (&str, &str),
+    turns: usize,
+) -> Result<String, Unmade> {
+    let first = batch(alloc, first)?;
+    let second = batch(alloc, second)?;
+    let served = match serve_two(alloc, rt, first, second, turns) {
+        Ok(served) => served,
+        Err(OpenError::Memory) => return Err(Unmade::Memory),
+    };
+    let mut text = String::from_str(alloc, "0: ")?;
+    push_answers(alloc, &mut text, &served.first)?;
+    text.push_str("1: ")?;
+    push_answers(alloc, &mut text, &served.second)?;
+    text.push_str(match served.account.stop {
+        Some(_stop) => "stopped",
+        None if served.account.complete => "complete",
+        None => "not complete",
+    })?;
+    Ok(text)
+}
+
+fn serves(
+    rt: &(impl Abort + Wait),
+    alloc: Global,
+    batches: (&str, &str),
+    turns: usize,
+    expected: &str,
+) -> Result<(), Fail> {
+    assert_eq!(rt; served(rt, alloc, batches, turns)?.as_str(), expected);
+    Ok(())
+}
+
+#[test]
+fn two_batches_of_one_chain(rt: HostRuntime) -> Result<(), Fail> {
+    let expected = "0: 0 empty; 1: 100 empty; complete";
+    serves(&rt, rt.alloc(), ("-1>0", "0>100"), 3, expected)?;
+    // The first batch waits for the second.
+    let expected = "0: 100 empty; 1: 0 empty; complete";
+    serves(&rt, rt.alloc(), ("0>100", "-1>0"), 10, expected)
+}
+
+#[test]
+fn too_few_turns(rt: HostRuntime) -> Result<(), Fail> {
+    serves(&rt, rt.alloc(), ("-1>0", "0>100"), 0, "0: 1: not complete")?;
+    // No turn has told the end of both lanes.
+    let expected = "0: 0 empty; 1: 100 empty; not complete";
+    serves(&rt, rt.alloc(), ("-1>0", "0>100"), 2, expected)
+}
+
+#[test]
+fn batch_off_the_chain(rt: HostRuntime) -> Result<(), Fail> {
+    let expected = "0: 0 empty; 1: not complete";
+    serves(&rt, rt.alloc(), ("-1>0", "900>1000"), 2, expected)?;
+    let expected = "0: 0 empty; 1: 1000 held; complete";
+    serves(&rt, rt.alloc(), ("-1>0", "900>1000"), 3, expected)
+}

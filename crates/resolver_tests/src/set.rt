@@ -1,0 +1,295 @@
+//! Batches by hand, resolved by a conflict set, and a set that is refused memory.
+
+use crate::chained::Chained;
+use crate::made::batch_at_last;
+use conflict::SetStop;
+use fixtures::{Unmade, batch, batch_of, show_reply, single_key, txn};
+use keyspace::{Batch, Txn, WINDOW};
+use std::alloc::{AllocError, Global};
+use std::process::Abort;
+use std::test::Fail;
+
+/// More boundaries than any of these sets keeps.
+pub const LIMIT: usize = 1_000_000;
+
+// Resolves the batch, and writes what comes of it: its reply or the stop.
+fn outcome(alloc: Global, set: &mut Chained, batch: &Batch) -> Result<String, Unmade> {
+    match set.resolve(batch)? {
+        Ok(reply) => show_reply(alloc, &reply),
+        Err(stop) => Ok(format!(in alloc; "{stop}")?),
+    }
+}
+
+// Resolves the batches one after another, and writes a line for each.
+fn push_outcomes(
+    alloc: Global,
+    set: &mut Chained,
+    lines: &mut String,
+    batches: &[&str],
+) -> Result<(), Unmade> {
+    for text in batches {
+        let line = outcome(alloc, set, &batch(alloc, text)?)?;
+        lines.push_str(line.as_str())?;
+        lines.push('\n')?;
+    }
+    Ok(())
+}
+
+fn outcomes(alloc: Global, window: i64, limit: usize, batches: &[&str]) -> Result<String, Unmade> {
+    let mut set = Chained::new(alloc, window, limit)?;
+    let mut lines = String::new(alloc);
+    push_outcomes(alloc, &mut set, &mut lines, batches)?;
+    Ok(lines)
+}
+
+// Resolves the batches by a set of this window and limit, and compares the lines.
+fn resolves(
+    rt: &impl Abort,
+    alloc: Global,
+    (window, limit): (i64, usize),
+    batches: &[&str],
+    lines: &str,
+) -> Result<(), Fail> {
+    let found = outcomes(alloc, window, limit, batches)?;
+    assert_eq!(rt; found.as_str(), lines);
+    Ok(())
+}
+
+#[test]
+fn own_and_later_writes_do_not_count(rt: HostRuntime) -> Result<(), Fail> {
+    let batches = ["-1>0: R[a,c) W[b,c); R[c,d) W[a,d); R[c,d)"];
+    let lines = "0 committed committed conflict\n";
+    resolves(&rt, rt.alloc(), (WINDOW, LIMIT), &batches, lines)
+}
+
+// At 105 the batch writes what those read that the history refuses, too. At 106 the history alone refuses them.
+#[test]
+fn refused_by_the_history_writes_nothing(rt: HostRuntime) -> Result<(), Fail> {
+    let batches = [
+        "-1>100: W[a,b)",
+        "100>105: W[a,b); R[a,b) W[x,y) @80; R[a,b) W[x,y) @95; R[x,y) @105",
+        "105>106: R[a,b) W[x,y) @80; R[a,b) W[x,y) @100; R[x,y) @106",
+    ];
+    let lines =
+        "100 committed\n105 committed tooold conflict committed\n106 tooold conflict committed\n";
+    resolves(&rt, rt.alloc(), (10, LIMIT), &batches, lines)
+}
+
+#[test]
+fn batch_place_skips_empty_range(rt: HostRuntime) -> Result<(), Fail> {
+    let batches = ["-1>0: W[a,c) W[e,g); m R[c,e) R[b,b) R[f,h); R[c,e) R[b,b) W[b,b)"];
+    let lines = "0 committed conflict:2 committed\n";
+    resolves(&rt, rt.alloc(), (WINDOW, LIMIT), &batches, lines)
+}
+
+#[test]
+fn limit_three_stop(rt: HostRuntime) -> Result<(), Fail> {
+    let batches = ["-1>0", "0>100: W[a,b)", "100>200: W[c,d)", "100>9000000"];
+    let lines = "0 empty\n100 committed\n2 ArenaFull\n2 ArenaFull\n";
+    resolves(&rt, rt.alloc(), (WINDOW, 3), &batches, lines)
+}
+
+#[test]
+fn limit_one_stop(rt: HostRuntime) -> Result<(), Fail> {
+    let batches = ["-1>0", "0>100: W[a,b)"];
+    resolves(
+        &rt,
+        rt.alloc(),
+        (WINDOW, 1),
+        &batches,
+        "0 empty\n2 ArenaFull\n",
+    )
+}
+
+// Resolves the batch, and returns how many boundaries the set has then.
+fn boundaries_with(alloc: Global, set: &mut Chained, text: &str) -> Result<usize, Unmade> {
+    match set.resolve(&batch(alloc, text)?)? {
+        Ok(_reply) => Ok(set.boundaries()),
+        Err(_stop) => Err(Unmade::Memory),
+    }
+}
+
+// Returns how many boundaries a new set has once it has resolved the batch.
+fn boundaries_after(alloc: Global, text: &str) -> Result<usize, Unmade> {
+    let mut set = Chained::new(alloc, WINDOW, LIMIT)?;
+    boundaries_with(alloc, &mut set, text)
+}
+
+// Each run of what a batch writes brings two boundaries, and the empty key is always one.
+#[test]
+fn writes_of_a_batch_unite(rt: HostRuntime) -> Result<(), Fail> {
+    for (text, count) in [
+        // no range, and empty ones alone
+        ("-1>0: ", 1_usize),
+        ("-1>0: W[a,a) W[,) W[a,a)", 1),
+        // one, from the empty key on
+        ("-1>0: W[,~)", 2),
+        // touching, in either order
+        ("-1>0: W[a,b) W[b,c)", 3),
+        ("-1>0: W[b,c) W[a,b)", 3),
+        // a key lies between them
+        ("-1>0: W[a,b) W[b\0,c)", 5),
+        // overlapping, one inside another, and equal
+        ("-1>0: W[a,c) W[b,d)", 3),
+        ("-1>0: W[a,z) W[b,c) W[d,e)", 3),
+        ("-1>0: W[a,b) W[a,b) W[a,b)", 3),
+        // of two that begin alike the longer counts, whichever comes first
+        ("-1>0: W[a,c) W[a,b) W[a,d)", 3),
+        // out of order, with several that stay apart
+        ("-1>0: W[x,y) W[c,d) W[m,n) W[a,b) W[d,f)", 9),
+        // an empty range joins nothing: between two, at an end, inside
+        ("-1>0: W[b,b) W[a,b) W[c,c) W[d,f) W[e,e) W[f,f)", 5),
+    ] {
+        assert_eq!(rt; boundaries_after(rt.alloc(), text)?, count, "{text}");
+    }
+    Ok(())
+}
+
+// A transaction that reads and writes the key of this byte.
+fn of_one_key(alloc: Global, byte: u8) -> Result<Txn, Unmade> {
+    let mut reads = Vec::new(alloc);
+    reads
+        .push(single_key(alloc, &[byte])?)
+        .map_err(AllocError::from)?;
+    let mut writes = Vec::new(alloc);
+    writes
+        .push(single_key(alloc, &[byte])?)
+        .map_err(AllocError::from)?;
+    txn(0, false, reads, writes)
+}
+
+// A batch of seventy such transactions, and one that reads the two keys between these bytes.
+fn seventy_keys(alloc: Global) -> Result<Batch, Unmade> {
+    let mut txns = Vec::new(alloc);
+    for byte in 0..70_u8 {
+        txns.push(of_one_key(alloc, byte)?)
+            .map_err(AllocError::from)?;
+    }
+    let reads = fixtures::ranges(alloc, &[(&[63], &[65])])?;
+    txns.push(txn(0, true, reads, Vec::new(alloc))?)
+        .map_err(AllocError::from)?;
+    batch_of(alloc, -1, 100, -1, txns)
+}
+
+fn seventy_outcomes(alloc: Global) -> Result<String, Unmade> {
+    let mut set = Chained::new(alloc, WINDOW, LIMIT)?;
+    outcome(alloc, &mut set, &seventy_keys(alloc)?)
+}
+
+// All seventy commit, and the last meets the first of the keys that it reads.
+fn seventy_lines(alloc: Global) -> Result<String, Unmade> {
+    let mut line = String::from_str(alloc, "100")?;
+    for _ in 0..70 {
+        line.push_str(" committed")?;
+    }
+    line.push_str(" conflict:0")?;
+    Ok(line)
+}
+
+#[test]
+fn seventy_single_keys(rt: HostRuntime) -> Result<(), Fail> {
+    let found = seventy_outcomes(rt.alloc())?;
+    let expected = seventy_lines(rt.alloc())?;
+    assert_eq!(rt; found.as_str(), expected.as_str());
+    Ok(())
+}
+
+// The bytes of the longest key.
+const ONES: [u8; 39] = [1; 39];
+
+// Writes one key of so many bytes, 39 at most, at that version. The set doesn't look at the version before.
+fn write_key(alloc: Global, set: &mut Chained, version: i64, length: usize) -> Result<(), Unmade> {
+    let mut writes = Vec::new(alloc);
+    writes
+        .push(single_key(alloc, &ONES[..length.min(ONES.len())])?)
+        .map_err(AllocError::from)?;
+    let mut txns = Vec::new(alloc);
+    txns.push(txn(0, false, Vec::new(alloc), writes)?)
+        .map_err(AllocError::from)?;
+    match set.resolve(&batch_of(alloc, -1, version, -1, txns)?)? {
+        Ok(_reply) => Ok(()),
+        Err(_stop) => Err(Unmade::Memory),
+    }
+}
+
+// Writes keys further apart than the window, and returns the first after which there are more boundaries than its own.
+fn first_of_too_many(alloc: Global, set: &mut Chained) -> Result<Option<u32>, Unmade> {
+    for number in 0..10_000_u32 {
+        let length = number as usize % 40;
+        write_key(alloc, set, 6_000_000 * (i64::from(number) + 1), length)?;
+        if set.boundaries() != if length == 0 { 2 } else { 3 } {
+            return Ok(Some(number));
+        }
+    }
+    Ok(None)
+}
+
+fn too_many_of_new_set(alloc: Global) -> Result<Option<u32>, Unmade> {
+    let mut set = Chained::new(alloc, WINDOW, LIMIT)?;
+    first_of_too_many(alloc, &mut set)
+}
+
+#[test]
+fn boundaries_stay_small(rt: HostRuntime) -> Result<(), Fail> {
+    assert_eq!(rt; too_many_of_new_set(rt.alloc())?, None);
+    Ok(())
+}
+
+// Each batch reads, at snapshot 0, the keys that those before it wrote, and writes the next key.
+const NUMBERED: [&str; 6] = [
+    "-1>0: m R[0,0); W[0,0\0)",
+    "0>1: m R[0,1); W[1,1\0)",
+    "1>2: m R[0,2); W[2,2\0)",
+    "2>3: m R[0,3); W[3,3\0)",
+    "3>4: m R[0,4); W[4,4\0)",
+    "4>5: m R[0,5); W[5,5\0)",
+];
+
+fn numbered(alloc: Global) -> Result<Vec<Batch>, Unmade> {
+    let mut batches = Vec::new(alloc);
+    for text in NUMBERED {
+        batches
+            .push(batch_at_last(alloc, text)?)
+            .map_err(AllocError::from)?;
+    }
+    Ok(batches)
+}
+
+// A set, where one growth may be refused.
+fn set_at_last(alloc: Global) -> Result<Chained, Unmade> {
+    match Chained::new(alloc, WINDOW, LIMIT) {
+        Err(Unmade::Memory) => Chained::new(alloc, WINDOW, LIMIT),
+        made => made,
+    }
+}
+
+// Resolves the batches, and returns whether each is answered until one is refused memory, and then none.
+fn stops_for_good(set: &mut Chained, batches: &[Batch]) -> Result<bool, Unmade> {
+    let mut is_stopped = false;
+    for batch in batches {
+        let is_right = match set.resolve(batch)? {
+            Ok(reply) => !is_stopped && reply.version == batch.version,
+            Err(stop) => {
+                is_stopped = true;
+                stop == SetStop::Memory
+            }
+        };
+        if !is_right {
+            return Ok(false);
+        }
+    }
+    Ok(true)
+}
+
+// The batches are made first, so that a growth refused after them is one of the set.
+fn refused_stops_for_good(alloc: Global) -> Result<bool, Unmade> {
+    let batches = numbered(alloc)?;
+    let mut set = set_at_last(alloc)?;
+    stops_for_good(&mut set, &batches)
+}
+
+#[test]
+fn refused_allocation_stops_the_set(rt: HostRuntime) -> Result<(), Fail> {
+    assert!(rt; refused_stops_for_good(rt.alloc())?);
+    Ok(())
+}
