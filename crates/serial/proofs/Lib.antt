@@ -1,0 +1,10 @@
+pub mod Filters
+pub mod Holding
+pub mod Reading
+pub mod Steps
+pub mod Running
+pub mod Versions
+pub mod Following
+pub mod OnePart
+pub mod Clipping
+pub mod ByParts

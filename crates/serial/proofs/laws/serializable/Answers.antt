@@ -1,0 +1,9 @@
+use Rattle.serial.proofs.Reading.{chain_current}
+use Rattle.serial.proofs.Running.{current_serializable}
+use Rattle.serial.proofs.laws.serializable.Goals as goal
+
+pub returns-clause-serializable : goal.returns-clause-serializable
+returns-clause-serializable c = current_serializable
+
+pub returns-clause-chains : goal.returns-clause-chains
+returns-clause-chains c window ps chain = current_serializable ps (chain_current window ps chain)
