@@ -58,6 +58,14 @@ first_stays edge before (x ∷ xs) some h =
     let one : (int_lt before edge && int_lt x.version edge) ≡ false = rw f refl in
     omega (arith, ap length (stays edge before x xs one).0)
 
+-- where a run stands that begins with the last item that passes, in the leaf that was reached
+pub record IsAt (p : ℕ → Bool) (items before after : List Item) (es : List Entry) (begin end : ℕ) : Type 0 where
+  pub leaf : IsLeaf p items before after es
+  pub front : take (begin + 1) es ≡ filter (λ e. p e.key) es
+  pub rest : drop (begin + 1) es ≡ filter (λ e. not (p e.key)) es
+  pub less : begin < end
+  pub most : end ≤ length es
+
 -- some entry of the leaf passes
 pub some_passes : (p : ℕ → Bool) (items before after : List Item) (es : List Entry) → IsLeaf p items before after es → passing p items ≢ []
     → 1 ≤ length (filter (λ e. p e.key) es)
