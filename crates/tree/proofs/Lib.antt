@@ -27,6 +27,7 @@ pub mod LastRun
 pub mod LeafChange
 pub mod Leaves
 pub mod Looks
+pub mod Halves
 pub mod Mending
 pub mod NearCuts
 pub mod Overlays

@@ -1,17 +1,16 @@
-use Rattle.std.proofs.Common.{length, ◌<◌, ◌≡◌, ℕ, ◌+◌, ◌-◌, ◌++◌, Bool, List, All, option_map, flat_map, true, false, sym, ◌∙◌, rules, arith}
+use Rattle.std.proofs.Common.{ℕ, ◌+◌, ◌-◌, Bool, All, option_map, flat_map, true, sym, ◌∙◌, rules}
 use Rattle.std.specs.Prelude.{slice_range}
 use Rattle.std.proofs.lemmas.Int.{to_z-of_z}
-use Rattle.std.proofs.lemmas.List.Elements.{All-take, All-drop}
 use mir.Syntax.{w64}
 use mir.Val.{SFits}
-use Rattle.tree.specs.declared.entry.Entry.{Entry}
 use Rattle.tree.specs.Item.{Item, Tells}
 use Rattle.tree.specs.Path.{from_cut, to_cut}
 use Rattle.tree.specs.Subtree.{items_in}
 use Rattle.tree.specs.Tree.{least_of}
 use Rattle.tree.proofs.Cuts.{not_both}
 use Rattle.tree.proofs.Spans.{span}
-use Rattle.tree.proofs.Looks.{IsLook, look_of, look_cut, from_asked, to_asked, ask_from, ask_to, ask_any, look_ordered, leaf_look, look_apart, look_one, look_two, look_tell, child_subtree, child_tells, child_from, child_to, first_inside, last_inside}
+use Rattle.tree.proofs.Looks.{IsLook, look_of, look_cut, from_asked, to_asked, ask_from, ask_to, ask_any, look_ordered, leaf_look}
+use Rattle.tree.proofs.Halves.{AreHalves, left_items, right_items, middle, middle_items, left_span, right_span, left_tells, right_tells, middle_tells, left_subtree, left_from, left_to, right_subtree, right_to, apart, in_one, in_two}
 use Rattle.tree.proofs.Above.{IsAbove, not_above_tested, not_above_told, children_above, above_of_children, part_above, leaf_above, none_above, found_above, above_left, above_middle, last_above}
 use Rattle.tree.proofs.search.+exceeds.Given.{Over}
 use Rattle.tree.proofs.search.+exceeds.Goals as goal
@@ -66,103 +65,36 @@ returns-then-height-eq0 g t c =
     let said = rw (to_z-of_z w64 c.args.version c.ranges.version) at c.any_above.ensures.above in
     record { above = leaf_above c.args.version _ _ _ (leaf_look _ _ _ _ _ _ _ _ _ k c.if-height-eq0.true) said }
 
--- the left entry's child, and the right one's
-abbrev left_items : (g : Over) (t : ℕ) → After-index-entries-last g t → List Item
-left_items g t c = items_in c.args.nodes.now (c.args.height - 1) c.index-entries-first.result.child
-
-abbrev right_items : (g : Over) (t : ℕ) → After-index-entries-last g t → List Item
-right_items g t c = items_in c.args.nodes.now (c.args.height - 1) c.index-entries-last.result.child
-
-abbrev middle : (g : Over) (t : ℕ) → After-index-entries-last g t → List Entry
-middle g t c =
-    slice_range c.entries-entries.result.now (c.saturating_sub-first.result + 1) c.saturating_sub-last.result
-
-abbrev middle_items : (g : Over) (t : ℕ) → After-index-entries-last g t → List Item
-middle_items g t c = flat_map (λ e. items_in c.args.nodes.now (c.args.height - 1) e.child) (middle g t c)
-
-abbrev left_span : (g : Over) (t : ℕ) → After-index-entries-last g t → List Item
-left_span g t c =
-    span (λ (x : Item). from_cut (option_map (λ p. g.P.Probe.lets_pass p.now) c.args.from) x.key)
-    (λ (x : Item). true) (left_items g t c)
-
-abbrev right_span : (g : Over) (t : ℕ) → After-index-entries-last g t → List Item
-right_span g t c =
-    span (λ (x : Item). false)
-    (λ (x : Item). to_cut (option_map (λ q. g.Q.Probe.lets_pass q.now) c.args.to) x.key) (right_items g t c)
-
--- the items from the one cut to the other
-abbrev whole : (g : Over) (t : ℕ) → After-index-entries-last g t → List Item
-whole g t c =
-    span (λ (x : Item). from_cut (option_map (λ p. g.P.Probe.lets_pass p.now) c.args.from) x.key)
-    (λ (x : Item). to_cut (option_map (λ q. g.Q.Probe.lets_pass q.now) c.args.to) x.key)
-    (items_in c.args.nodes.now c.args.height c.args.slot)
-
-at_end : (g : Over) (t : ℕ) (c : After-index-entries-last g t)
-    → IsLook c.args.nodes.now (least_of g.row.N) c.args.height c.args.slot
+-- the two children that the search goes on in
+abbrev halves : (g : Over) (t : ℕ) (c : After-index-entries-last g t)
+    → AreHalves c.args.nodes.now (least_of g.row.N) c.args.height c.args.slot
     (from_cut (option_map (λ p. g.P.Probe.lets_pass p.now) c.args.from))
-    (to_cut (option_map (λ q. g.Q.Probe.lets_pass q.now) c.args.to)) c.entries-entries.result.now
-    c.begin_of-begin.result c.end_of-end.result
-at_end g t c =
-    look_of c.args.nodes.now (least_of g.row.N) c.args.height c.args.slot (λ p. g.P.Probe.lets_pass p.now)
-    (λ q. g.Q.Probe.lets_pass q.now) c.args.from c.args.to c.header_ref.result.now c.entries-entries.result.now
-    c.begin_of-begin.result c.end_of-end.result c.requires.subtree c.requires.from c.requires.to c.requires.nested
-    c.header_ref.ensures.header c.entries-entries.ensures.entries c.begin_of-begin.ensures.count
-    c.end_of-end.ensures.count
-
-first_within : (g : Over) (t : ℕ) (c : After-index-entries-last g t)
-    → c.saturating_sub-first.result < length c.entries-entries.result.now
-first_within g t c =
-    let i = first_inside _ _ _ _ _ _ _ _ _ (at_end g t c) c.if-height-eq0.false in
-    omega (arith, i, c.saturating_sub-first.ensures)
-
-last_within : (g : Over) (t : ℕ) (c : After-index-entries-last g t)
-    → c.saturating_sub-last.result < length c.entries-entries.result.now
-last_within g t c =
-    let i = last_inside _ _ _ _ _ _ _ _ _ (at_end g t c) c.if-height-eq0.false in
-    omega (arith, i, c.saturating_sub-last.ensures)
-
-left_tells : (g : Over) (t : ℕ) (c : After-index-entries-last g t)
-    → Tells c.index-entries-first.result (left_items g t c)
-left_tells g t c =
-    child_tells _ _ _ _ _ _ _ _ _ (at_end g t c) c.if-height-eq0.false _ c.index-entries-first.result
-    (first_within g t c) c.index-entries-first.is
-
-right_tells : (g : Over) (t : ℕ) (c : After-index-entries-last g t)
-    → Tells c.index-entries-last.result (right_items g t c)
-right_tells g t c =
-    child_tells _ _ _ _ _ _ _ _ _ (at_end g t c) c.if-height-eq0.false _ c.index-entries-last.result
-    (last_within g t c) c.index-entries-last.is
-
-middle_tells : (g : Over) (t : ℕ) (c : After-index-entries-last g t)
-    → All (λ e. Tells e (items_in c.args.nodes.now (c.args.height - 1) e.child)) (middle g t c)
-middle_tells g t c =
-    let p = λ (e : Entry). Tells e (items_in c.args.nodes.now (c.args.height - 1) e.child) in
-    All-take p _ _
-    (All-drop p (c.saturating_sub-first.result + 1) c.entries-entries.result.now
-    (look_tell _ _ _ _ _ _ _ _ _ (at_end g t c) c.if-height-eq0.false))
-
-one : (g : Over) (t : ℕ) (c : After-index-entries-last g t)
-    → c.saturating_sub-first.result ≡ c.saturating_sub-last.result
-    → whole g t c
-    ≡ span (λ (x : Item). from_cut (option_map (λ p. g.P.Probe.lets_pass p.now) c.args.from) x.key)
-    (λ (x : Item). to_cut (option_map (λ q. g.Q.Probe.lets_pass q.now) c.args.to) x.key) (left_items g t c)
-one g t c same =
-    look_one _ _ _ _ _ _ _ _ _ (at_end g t c) c.if-height-eq0.false _ _ c.saturating_sub-first.ensures
-    c.saturating_sub-last.ensures c.index-entries-first.result c.index-entries-first.is same
-
-two : (g : Over) (t : ℕ) (c : After-index-entries-last g t)
-    → (c.saturating_sub-first.result ≡ c.saturating_sub-last.result → ⊥)
-    → whole g t c ≡ left_span g t c ++ (middle_items g t c ++ right_span g t c)
-two g t c apart =
-    look_two _ _ _ _ _ _ _ _ _ (at_end g t c) c.if-height-eq0.false _ _ c.saturating_sub-first.ensures
-    c.saturating_sub-last.ensures c.index-entries-first.result c.index-entries-last.result
-    c.index-entries-first.is c.index-entries-last.is apart
+    (to_cut (option_map (λ q. g.Q.Probe.lets_pass q.now) c.args.to))
+halves g t c = record {
+  es = c.entries-entries.result.now;
+  begin = c.begin_of-begin.result;
+  end = c.end_of-end.result;
+  look = look_of c.args.nodes.now (least_of g.row.N) c.args.height c.args.slot (λ p. g.P.Probe.lets_pass p.now)
+      (λ q. g.Q.Probe.lets_pass q.now) c.args.from c.args.to c.header_ref.result.now c.entries-entries.result.now
+      c.begin_of-begin.result c.end_of-end.result c.requires.subtree c.requires.from c.requires.to c.requires.nested
+      c.header_ref.ensures.header c.entries-entries.ensures.entries c.begin_of-begin.ensures.count
+      c.end_of-end.ensures.count;
+  some = c.if-height-eq0.false;
+  first = c.saturating_sub-first.result;
+  last = c.saturating_sub-last.result;
+  first_is = c.saturating_sub-first.ensures;
+  last_is = c.saturating_sub-last.ensures;
+  left = c.index-entries-first.result;
+  right = c.index-entries-last.result;
+  left_at = c.index-entries-first.is;
+  right_at = c.index-entries-last.is;
+}
 
 pub returns-then-left-version : goal.returns-then-left-version
 returns-then-left-version g t c =
     let at = (goal.at.returns-then-left-version g t c).After-index-entries-last in
     let said = rw (to_z-of_z w64 c.args.version c.ranges.version) at c.exceeds.ensures.above in
-    record { above = part_above c.args.version _ _ _ (one g t at c.if-first-last.true) said }
+    record { above = part_above c.args.version _ _ _ (in_one (halves g t at) c.if-first-last.true) said }
 
 pub returns-else-left-version : goal.returns-else-left-version
 returns-else-left-version g t c =
@@ -171,32 +103,26 @@ returns-else-left-version g t c =
     let le = not_above_tested c.args.version c.index-entries-first.result.version c.ranges.version fits
     c.if-left-version.false in
     record {
-      above = part_above c.args.version _ _ _ (one g t at c.if-first-last.true)
+      above = part_above c.args.version _ _ _ (in_one (halves g t at) c.if-first-last.true)
           (none_above c.args.version _ _ c.if-left-version.false
-          (not_above_told c.args.version c.index-entries-first.result (left_items g t at) (left_tells g t at) le _));
+          (not_above_told c.args.version c.index-entries-first.result (left_items (halves g t at)) (left_tells (halves g t at)) le _));
     }
 
 pub slice_bounds-any_above-count-2 : goal.slice_bounds-any_above-count-2
 slice_bounds-any_above-count-2 g t c =
     let at = (goal.at.slice_bounds-any_above-count-2 g t c).After-index-entries-last in
-    look_apart _ _ _ _ _ _ _ _ _ (at_end g t at) c.if-height-eq0.false _ _ c.saturating_sub-first.ensures
-    c.saturating_sub-last.ensures c.if-first-last.false
+    (apart (halves g t at) c.if-first-last.false).0
 
 pub slice_bounds-any_above-start-2 : goal.slice_bounds-any_above-start-2
 slice_bounds-any_above-start-2 g t c =
     let at = (goal.at.slice_bounds-any_above-start-2 g t c).After-index-entries-last in
-    let le = look_apart _ _ _ _ _ _ _ _ _ (at_end g t at) c.if-height-eq0.false _ _ c.saturating_sub-first.ensures
-    c.saturating_sub-last.ensures c.if-first-last.false in
-    let last = last_within g t at in
+    let le = apart (halves g t at) c.if-first-last.false in
     search rules
 
 pub exceeds-requires : goal.exceeds-requires
 exceeds-requires g t c κs within =
     let at = (goal.at.exceeds-requires g t c).After-index-entries-last in
-    let k = at_end g t at in
-    let e = c.index-entries-first.result in
-    let some = c.if-height-eq0.false in
-    let w = first_within g t at in (
+    let h = halves g t at in (
       search rules,
       (
         search rules,
@@ -207,13 +133,13 @@ exceeds-requires g t c κs within =
             (
               search rules,
               (
-                child_subtree _ _ _ _ _ _ _ _ _ k some _ e w c.index-entries-first.is,
+                left_subtree h,
                 (
-                  ask_from (λ p. g.P.Probe.lets_pass p.now) (left_items g t at) c.args.from
-                      (child_from _ _ _ _ _ _ _ _ _ k some _ e w c.index-entries-first.is),
+                  ask_from (λ p. g.P.Probe.lets_pass p.now) (left_items (halves g t at)) c.args.from
+                      (left_from h),
                   (
-                    ask_to (λ q. g.Q.Probe.lets_pass q.now) (left_items g t at) c.args.to
-                        (child_to _ _ _ _ _ _ _ _ _ k some _ e w c.index-entries-first.is),
+                    ask_to (λ q. g.Q.Probe.lets_pass q.now) (left_items (halves g t at)) c.args.to
+                        (left_to h),
                     c.requires.nested,
                   ),
                 ),
@@ -227,10 +153,7 @@ exceeds-requires g t c κs within =
 pub exceeds-requires-then-left-version-2 : goal.exceeds-requires-then-left-version-2
 exceeds-requires-then-left-version-2 g t c κs within =
     let at = (goal.at.exceeds-requires-then-left-version-2 g t c).After-index-entries-last in
-    let k = at_end g t at in
-    let e = c.index-entries-first.result in
-    let some = c.if-height-eq0.false in
-    let w = first_within g t at in (
+    let h = halves g t at in (
       search rules,
       (
         search rules,
@@ -241,10 +164,10 @@ exceeds-requires-then-left-version-2 g t c κs within =
             (
               search rules,
               (
-                child_subtree _ _ _ _ _ _ _ _ _ k some _ e w c.index-entries-first.is,
+                left_subtree h,
                 (
-                  ask_from (λ p. g.P.Probe.lets_pass p.now) (left_items g t at) c.args.from
-                      (child_from _ _ _ _ _ _ _ _ _ k some _ e w c.index-entries-first.is),
+                  ask_from (λ p. g.P.Probe.lets_pass p.now) (left_items (halves g t at)) c.args.from
+                      (left_from h),
                   (tt, ask_any c.args.from (λ _. Unit {0}) (λ _. tt)),
                 ),
               ),
@@ -257,10 +180,7 @@ exceeds-requires-then-left-version-2 g t c κs within =
 pub exceeds-requires-then-right-version : goal.exceeds-requires-then-right-version
 exceeds-requires-then-right-version g t c κs within =
     let at = (goal.at.exceeds-requires-then-right-version g t c).After-index-entries-last in
-    let k = at_end g t at in
-    let e = c.index-entries-last.result in
-    let some = c.if-height-eq0.false in
-    let w = last_within g t at in (
+    let h = halves g t at in (
       search rules,
       (
         search rules,
@@ -271,12 +191,12 @@ exceeds-requires-then-right-version g t c κs within =
             (
               search rules,
               (
-                child_subtree _ _ _ _ _ _ _ _ _ k some _ e w c.index-entries-last.is,
+                right_subtree h,
                 (
                   tt,
                   (
-                    ask_to (λ q. g.Q.Probe.lets_pass q.now) (right_items g t at) c.args.to
-                        (child_to _ _ _ _ _ _ _ _ _ k some _ e w c.index-entries-last.is),
+                    ask_to (λ q. g.Q.Probe.lets_pass q.now) (right_items (halves g t at)) c.args.to
+                        (right_to h),
                     tt,
                   ),
                 ),
@@ -291,19 +211,19 @@ pub returns-then-exceeds : goal.returns-then-exceeds
 returns-then-exceeds g t c =
     let at = (goal.at.returns-then-exceeds g t c).After-index-entries-last in
     let v = c.args.version in
-    let parts = two g t at c.if-first-last.false in
+    let parts = in_two (halves g t at) c.if-first-last.false in
     record {
       above = found_above v _ _ c.if-exceeds.true
           (elim c.if-any_above.branch [
             | then-any_above w ↦
                 let said = rw (to_z-of_z w64 c.args.version c.ranges.version) at c.any_above-2.ensures.above in
-                above_middle v _ (left_span g t at) (middle_items g t at) (right_span g t at) parts
-                (children_above v (λ e. items_in c.args.nodes.now (c.args.height - 1) e.child) (middle g t at)
-                (middle_tells g t at) (said.0 w.if-any_above.true))
+                above_middle v _ (left_span (halves g t at)) (middle_items (halves g t at)) (right_span (halves g t at)) parts
+                (children_above v (λ e. items_in c.args.nodes.now (c.args.height - 1) e.child) (middle (halves g t at))
+                (middle_tells (halves g t at)) (said.0 w.if-any_above.true))
             | else-any_above+then-left-version-2 w ↦
                 let said = rw (to_z-of_z w64 c.args.version c.ranges.version) at
                 w.exceeds-then-left-version-2.ensures.above in
-                above_left v _ (left_span g t at) (middle_items g t at) (right_span g t at) parts (said.0 (sym w.value-is ∙ c.if-exceeds.true))
+                above_left v _ (left_span (halves g t at)) (middle_items (halves g t at)) (right_span (halves g t at)) parts (said.0 (sym w.value-is ∙ c.if-exceeds.true))
             | else-any_above+else-left-version-2 w ↦
                 absurd (not_both _ (sym w.value-is ∙ c.if-exceeds.true) w.if-left-version-2.false)
           ]);
@@ -347,8 +267,8 @@ returns-then-right-version g t c =
     let at = (goal.at.returns-then-right-version g t c).After-index-entries-last in
     let v = c.args.version in
     let said = rw (to_z-of_z w64 c.args.version c.ranges.version) at c.exceeds-then-right-version.ensures.above in
-    let none = none_sooner g t (goal.at.returns-then-right-version g t c).Else-exceeds (left_tells g t at) (middle_tells g t at) in
-    record { above = last_above v _ (left_span g t at) (middle_items g t at) (right_span g t at) (two g t at c.if-first-last.false) _ none said }
+    let none = none_sooner g t (goal.at.returns-then-right-version g t c).Else-exceeds (left_tells (halves g t at)) (middle_tells (halves g t at)) in
+    record { above = last_above v _ (left_span (halves g t at)) (middle_items (halves g t at)) (right_span (halves g t at)) (in_two (halves g t at) c.if-first-last.false) _ none said }
 
 pub returns-else-right-version : goal.returns-else-right-version
 returns-else-right-version g t c =
@@ -356,9 +276,9 @@ returns-else-right-version g t c =
     let v = c.args.version in
     let fits : SFits w64 c.index-entries-last.result.version = search rules in
     let le = not_above_tested v c.index-entries-last.result.version c.ranges.version fits c.if-right-version.false in
-    let none = none_sooner g t (goal.at.returns-else-right-version g t c).Else-exceeds (left_tells g t at) (middle_tells g t at) in
+    let none = none_sooner g t (goal.at.returns-else-right-version g t c).Else-exceeds (left_tells (halves g t at)) (middle_tells (halves g t at)) in
     record {
-      above = last_above v _ (left_span g t at) (middle_items g t at) (right_span g t at) (two g t at c.if-first-last.false) _ none
+      above = last_above v _ (left_span (halves g t at)) (middle_items (halves g t at)) (right_span (halves g t at)) (in_two (halves g t at) c.if-first-last.false) _ none
           (none_above v _ _ c.if-right-version.false
-          (not_above_told v c.index-entries-last.result (right_items g t at) (right_tells g t at) le _));
+          (not_above_told v c.index-entries-last.result (right_items (halves g t at)) (right_tells (halves g t at)) le _));
     }

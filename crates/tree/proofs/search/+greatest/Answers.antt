@@ -1,13 +1,10 @@
-use Rattle.std.proofs.Common.{ap, subst, length, ◌<◌, ◌≡◌, ℕ, ◌+◌, ◌-◌, ◌++◌, Bool, List, All, option_map, flat_map, true, false, sym, ◌∙◌, rules, arith}
-use Rattle.std.specs.Prelude.{slice_range}
-use Rattle.std.proofs.lemmas.List.Elements.{All-take, All-drop}
-use Rattle.tree.specs.declared.entry.Entry.{Entry}
-use Rattle.tree.specs.Item.{Item, Tells, greater_of}
+use Rattle.std.proofs.Common.{ap, subst, ◌≡◌, ℕ, ◌-◌, ◌++◌, Bool, option_map, sym, ◌∙◌, rules}
+use Rattle.tree.specs.Item.{Item, greater_of}
 use Rattle.tree.specs.Path.{from_cut, to_cut}
 use Rattle.tree.specs.Subtree.{items_in}
 use Rattle.tree.specs.Tree.{least_of}
-use Rattle.tree.proofs.Spans.{span}
-use Rattle.tree.proofs.Looks.{IsLook, look_of, look_cut, from_asked, to_asked, ask_from, ask_to, ask_any, look_ordered, leaf_look, look_apart, look_one, look_two, look_tell, child_subtree, child_tells, child_from, child_to, first_inside, last_inside}
+use Rattle.tree.proofs.Looks.{IsLook, look_of, look_cut, from_asked, to_asked, ask_from, ask_to, ask_any, look_ordered, leaf_look}
+use Rattle.tree.proofs.Halves.{AreHalves, left_items, right_items, middle, middle_items, left_span, right_span, middle_tells, left_subtree, left_from, left_to, right_subtree, right_to, apart, in_one, in_two}
 use Rattle.tree.proofs.GreatestParts.{IsPeak, IsPeak-append, IsPeak-same, IsPeak-leaf, IsPeak-children}
 use Rattle.tree.proofs.search.+greatest.Given.{Over}
 use Rattle.tree.proofs.search.+greatest.Goals as goal
@@ -64,119 +61,46 @@ returns-then-height-eq0 g t c =
           (IsPeak-leaf _ _ c.greatest_of.ensures.greatest);
     }
 
--- the left entry's child, and the right one's
-abbrev left_items : (g : Over) (t : ℕ) → After-index-entries-last g t → List Item
-left_items g t c = items_in c.args.nodes.now (c.args.height - 1) c.index-entries-first.result.child
-
-abbrev right_items : (g : Over) (t : ℕ) → After-index-entries-last g t → List Item
-right_items g t c = items_in c.args.nodes.now (c.args.height - 1) c.index-entries-last.result.child
-
-abbrev middle : (g : Over) (t : ℕ) → After-index-entries-last g t → List Entry
-middle g t c =
-    slice_range c.entries-entries.result.now (c.saturating_sub-first.result + 1) c.saturating_sub-last.result
-
-abbrev middle_items : (g : Over) (t : ℕ) → After-index-entries-last g t → List Item
-middle_items g t c = flat_map (λ e. items_in c.args.nodes.now (c.args.height - 1) e.child) (middle g t c)
-
-abbrev left_span : (g : Over) (t : ℕ) → After-index-entries-last g t → List Item
-left_span g t c =
-    span (λ (x : Item). from_cut (option_map (λ p. g.P.Probe.lets_pass p.now) c.args.from) x.key)
-    (λ (x : Item). true) (left_items g t c)
-
-abbrev right_span : (g : Over) (t : ℕ) → After-index-entries-last g t → List Item
-right_span g t c =
-    span (λ (x : Item). false)
-    (λ (x : Item). to_cut (option_map (λ q. g.Q.Probe.lets_pass q.now) c.args.to) x.key) (right_items g t c)
-
--- the items from the one cut to the other
-abbrev whole : (g : Over) (t : ℕ) → After-index-entries-last g t → List Item
-whole g t c =
-    span (λ (x : Item). from_cut (option_map (λ p. g.P.Probe.lets_pass p.now) c.args.from) x.key)
-    (λ (x : Item). to_cut (option_map (λ q. g.Q.Probe.lets_pass q.now) c.args.to) x.key)
-    (items_in c.args.nodes.now c.args.height c.args.slot)
-
-at_end : (g : Over) (t : ℕ) (c : After-index-entries-last g t)
-    → IsLook c.args.nodes.now (least_of g.row.N) c.args.height c.args.slot
+-- the two children that the search goes on in
+abbrev halves : (g : Over) (t : ℕ) (c : After-index-entries-last g t)
+    → AreHalves c.args.nodes.now (least_of g.row.N) c.args.height c.args.slot
     (from_cut (option_map (λ p. g.P.Probe.lets_pass p.now) c.args.from))
-    (to_cut (option_map (λ q. g.Q.Probe.lets_pass q.now) c.args.to)) c.entries-entries.result.now
-    c.begin_of-begin.result c.end_of-end.result
-at_end g t c =
-    look_of c.args.nodes.now (least_of g.row.N) c.args.height c.args.slot (λ p. g.P.Probe.lets_pass p.now)
-    (λ q. g.Q.Probe.lets_pass q.now) c.args.from c.args.to c.header_ref.result.now c.entries-entries.result.now
-    c.begin_of-begin.result c.end_of-end.result c.requires.subtree c.requires.from c.requires.to c.requires.nested
-    c.header_ref.ensures.header c.entries-entries.ensures.entries c.begin_of-begin.ensures.count
-    c.end_of-end.ensures.count
-
-first_within : (g : Over) (t : ℕ) (c : After-index-entries-last g t)
-    → c.saturating_sub-first.result < length c.entries-entries.result.now
-first_within g t c =
-    let i = first_inside _ _ _ _ _ _ _ _ _ (at_end g t c) c.if-height-eq0.false in
-    omega (arith, i, c.saturating_sub-first.ensures)
-
-last_within : (g : Over) (t : ℕ) (c : After-index-entries-last g t)
-    → c.saturating_sub-last.result < length c.entries-entries.result.now
-last_within g t c =
-    let i = last_inside _ _ _ _ _ _ _ _ _ (at_end g t c) c.if-height-eq0.false in
-    omega (arith, i, c.saturating_sub-last.ensures)
-
-left_tells : (g : Over) (t : ℕ) (c : After-index-entries-last g t)
-    → Tells c.index-entries-first.result (left_items g t c)
-left_tells g t c =
-    child_tells _ _ _ _ _ _ _ _ _ (at_end g t c) c.if-height-eq0.false _ c.index-entries-first.result
-    (first_within g t c) c.index-entries-first.is
-
-right_tells : (g : Over) (t : ℕ) (c : After-index-entries-last g t)
-    → Tells c.index-entries-last.result (right_items g t c)
-right_tells g t c =
-    child_tells _ _ _ _ _ _ _ _ _ (at_end g t c) c.if-height-eq0.false _ c.index-entries-last.result
-    (last_within g t c) c.index-entries-last.is
-
-middle_tells : (g : Over) (t : ℕ) (c : After-index-entries-last g t)
-    → All (λ e. Tells e (items_in c.args.nodes.now (c.args.height - 1) e.child)) (middle g t c)
-middle_tells g t c =
-    let p = λ (e : Entry). Tells e (items_in c.args.nodes.now (c.args.height - 1) e.child) in
-    All-take p _ _
-    (All-drop p (c.saturating_sub-first.result + 1) c.entries-entries.result.now
-    (look_tell _ _ _ _ _ _ _ _ _ (at_end g t c) c.if-height-eq0.false))
-
-one : (g : Over) (t : ℕ) (c : After-index-entries-last g t)
-    → c.saturating_sub-first.result ≡ c.saturating_sub-last.result
-    → whole g t c
-    ≡ span (λ (x : Item). from_cut (option_map (λ p. g.P.Probe.lets_pass p.now) c.args.from) x.key)
-    (λ (x : Item). to_cut (option_map (λ q. g.Q.Probe.lets_pass q.now) c.args.to) x.key) (left_items g t c)
-one g t c same =
-    look_one _ _ _ _ _ _ _ _ _ (at_end g t c) c.if-height-eq0.false _ _ c.saturating_sub-first.ensures
-    c.saturating_sub-last.ensures c.index-entries-first.result c.index-entries-first.is same
-
-two : (g : Over) (t : ℕ) (c : After-index-entries-last g t)
-    → (c.saturating_sub-first.result ≡ c.saturating_sub-last.result → ⊥)
-    → whole g t c ≡ left_span g t c ++ (middle_items g t c ++ right_span g t c)
-two g t c apart =
-    look_two _ _ _ _ _ _ _ _ _ (at_end g t c) c.if-height-eq0.false _ _ c.saturating_sub-first.ensures
-    c.saturating_sub-last.ensures c.index-entries-first.result c.index-entries-last.result
-    c.index-entries-first.is c.index-entries-last.is apart
+    (to_cut (option_map (λ q. g.Q.Probe.lets_pass q.now) c.args.to))
+halves g t c = record {
+  es = c.entries-entries.result.now;
+  begin = c.begin_of-begin.result;
+  end = c.end_of-end.result;
+  look = look_of c.args.nodes.now (least_of g.row.N) c.args.height c.args.slot (λ p. g.P.Probe.lets_pass p.now)
+      (λ q. g.Q.Probe.lets_pass q.now) c.args.from c.args.to c.header_ref.result.now c.entries-entries.result.now
+      c.begin_of-begin.result c.end_of-end.result c.requires.subtree c.requires.from c.requires.to c.requires.nested
+      c.header_ref.ensures.header c.entries-entries.ensures.entries c.begin_of-begin.ensures.count
+      c.end_of-end.ensures.count;
+  some = c.if-height-eq0.false;
+  first = c.saturating_sub-first.result;
+  last = c.saturating_sub-last.result;
+  first_is = c.saturating_sub-first.ensures;
+  last_is = c.saturating_sub-last.ensures;
+  left = c.index-entries-first.result;
+  right = c.index-entries-last.result;
+  left_at = c.index-entries-first.is;
+  right_at = c.index-entries-last.is;
+}
 
 pub slice_bounds-greatest_of-count-2 : goal.slice_bounds-greatest_of-count-2
 slice_bounds-greatest_of-count-2 g t c =
     let at = (goal.at.slice_bounds-greatest_of-count-2 g t c).After-index-entries-last in
-    look_apart _ _ _ _ _ _ _ _ _ (at_end g t at) c.if-height-eq0.false _ _ c.saturating_sub-first.ensures
-    c.saturating_sub-last.ensures c.if-first-last.false
+    (apart (halves g t at) c.if-first-last.false).0
 
 pub slice_bounds-greatest_of-start-2 : goal.slice_bounds-greatest_of-start-2
 slice_bounds-greatest_of-start-2 g t c =
     let at = (goal.at.slice_bounds-greatest_of-start-2 g t c).After-index-entries-last in
-    let le = look_apart _ _ _ _ _ _ _ _ _ (at_end g t at) c.if-height-eq0.false _ _ c.saturating_sub-first.ensures
-    c.saturating_sub-last.ensures c.if-first-last.false in
-    let last = last_within g t at in
+    let le = apart (halves g t at) c.if-first-last.false in
     search rules
 
 pub greatest-requires : goal.greatest-requires
 greatest-requires g t c κs within =
     let at = (goal.at.greatest-requires g t c).After-index-entries-last in
-    let k = at_end g t at in
-    let e = c.index-entries-first.result in
-    let some = c.if-height-eq0.false in
-    let w = first_within g t at in (
+    let h = halves g t at in (
       search rules,
       (
         search rules,
@@ -187,13 +111,13 @@ greatest-requires g t c κs within =
             (
               search rules,
               (
-                child_subtree _ _ _ _ _ _ _ _ _ k some _ e w c.index-entries-first.is,
+                left_subtree h,
                 (
-                  ask_from (λ p. g.P.Probe.lets_pass p.now) (left_items g t at) c.args.from
-                      (child_from _ _ _ _ _ _ _ _ _ k some _ e w c.index-entries-first.is),
+                  ask_from (λ p. g.P.Probe.lets_pass p.now) (left_items (halves g t at)) c.args.from
+                      (left_from h),
                   (
-                    ask_to (λ q. g.Q.Probe.lets_pass q.now) (left_items g t at) c.args.to
-                        (child_to _ _ _ _ _ _ _ _ _ k some _ e w c.index-entries-first.is),
+                    ask_to (λ q. g.Q.Probe.lets_pass q.now) (left_items (halves g t at)) c.args.to
+                        (left_to h),
                     c.requires.nested,
                   ),
                 ),
@@ -207,10 +131,7 @@ greatest-requires g t c κs within =
 pub greatest-sooner-requires : goal.greatest-sooner-requires
 greatest-sooner-requires g t c κs within =
     let at = (goal.at.greatest-sooner-requires g t c).After-index-entries-last in
-    let k = at_end g t at in
-    let e = c.index-entries-first.result in
-    let some = c.if-height-eq0.false in
-    let w = first_within g t at in (
+    let h = halves g t at in (
       search rules,
       (
         search rules,
@@ -221,10 +142,10 @@ greatest-sooner-requires g t c κs within =
             (
               search rules,
               (
-                child_subtree _ _ _ _ _ _ _ _ _ k some _ e w c.index-entries-first.is,
+                left_subtree h,
                 (
-                  ask_from (λ p. g.P.Probe.lets_pass p.now) (left_items g t at) c.args.from
-                      (child_from _ _ _ _ _ _ _ _ _ k some _ e w c.index-entries-first.is),
+                  ask_from (λ p. g.P.Probe.lets_pass p.now) (left_items (halves g t at)) c.args.from
+                      (left_from h),
                   (tt, ask_any c.args.from (λ _. Unit {0}) (λ _. tt)),
                 ),
               ),
@@ -237,10 +158,7 @@ greatest-sooner-requires g t c κs within =
 pub greatest-later-requires : goal.greatest-later-requires
 greatest-later-requires g t c κs within =
     let at = (goal.at.greatest-later-requires g t c).After-index-entries-last in
-    let k = at_end g t at in
-    let e = c.index-entries-last.result in
-    let some = c.if-height-eq0.false in
-    let w = last_within g t at in (
+    let h = halves g t at in (
       search rules,
       (
         search rules,
@@ -251,12 +169,12 @@ greatest-later-requires g t c κs within =
             (
               search rules,
               (
-                child_subtree _ _ _ _ _ _ _ _ _ k some _ e w c.index-entries-last.is,
+                right_subtree h,
                 (
                   tt,
                   (
-                    ask_to (λ q. g.Q.Probe.lets_pass q.now) (right_items g t at) c.args.to
-                        (child_to _ _ _ _ _ _ _ _ _ k some _ e w c.index-entries-last.is),
+                    ask_to (λ q. g.Q.Probe.lets_pass q.now) (right_items (halves g t at)) c.args.to
+                        (right_to h),
                     tt,
                   ),
                 ),
@@ -271,7 +189,7 @@ pub returns-then-first-last : goal.returns-then-first-last
 returns-then-first-last g t c =
     let at = (goal.at.returns-then-first-last g t c).After-index-entries-last in
     record {
-      greatest = IsPeak-same (λ (x : Item). x.version) _ _ _ (one g t at c.if-first-last.true)
+      greatest = IsPeak-same (λ (x : Item). x.version) _ _ _ (in_one (halves g t at) c.if-first-last.true)
           c.greatest.ensures.greatest;
     }
 
@@ -281,17 +199,17 @@ returns g t c =
     let by = λ (x : Item). x.version in
     let inner =
     IsPeak-children (λ e. items_in c.args.nodes.now (c.args.height - 1) e.child) c.greatest_of-inner.result
-    (middle g t at) (middle_tells g t at) c.greatest_of-inner.ensures.greatest in
+    (middle (halves g t at)) (middle_tells (halves g t at)) c.greatest_of-inner.ensures.greatest in
     let both =
-    IsPeak-append by c.greatest_of-inner.result c.greatest-later.result (middle_items g t at) (right_span g t at)
+    IsPeak-append by c.greatest_of-inner.result c.greatest-later.result (middle_items (halves g t at)) (right_span (halves g t at))
     inner c.greatest-later.ensures.greatest in
     let all =
     IsPeak-append by c.greatest-sooner.result (greater_of c.greatest_of-inner.result c.greatest-later.result)
-    (left_span g t at) (middle_items g t at ++ right_span g t at) c.greatest-sooner.ensures.greatest both in
+    (left_span (halves g t at)) (middle_items (halves g t at) ++ right_span (halves g t at)) c.greatest-sooner.ensures.greatest both in
     let answer : c.greater-2.result ≡ greater_of c.greatest-sooner.result
     (greater_of c.greatest_of-inner.result c.greatest-later.result) =
     c.greater-2.ensures.greater ∙ ap (greater_of c.greatest-sooner.result) c.greater.ensures.greater in
     record {
-      greatest = IsPeak-same by _ _ _ (two g t at c.if-first-last.false)
-          (subst (λ o. IsPeak by o (left_span g t at ++ (middle_items g t at ++ right_span g t at))) (sym answer) all);
+      greatest = IsPeak-same by _ _ _ (in_two (halves g t at) c.if-first-last.false)
+          (subst (λ o. IsPeak by o (left_span (halves g t at) ++ (middle_items (halves g t at) ++ right_span (halves g t at)))) (sym answer) all);
     }

@@ -1,0 +1,113 @@
+-- The items from one cut to another below a node that is no leaf: those of the child that the first cut is in, those of the
+-- children between, and those of the child that the second cut is in.
+use Rattle.std.proofs.Common.{◌≡◌, ℕ, ◌+◌, ◌-◌, ◌<◌, ◌≤◌, Bool, true, false, List, ◌++◌, length, get_or, flat_map, All, arith}
+use Rattle.std.specs.Prelude.{slice_range}
+use Rattle.std.proofs.lemmas.List.Elements.{All-take, All-drop}
+use Rattle.arena.specs.Arena.{Arena}
+use Rattle.tree.specs.declared.entry.Entry.{Entry}
+use Rattle.tree.specs.declared.node.Node.{Node}
+use Rattle.tree.specs.Item.{Item, Tells}
+use Rattle.tree.specs.Path.{IsCut}
+use Rattle.tree.specs.Subtree.{IsSubtree, items_in}
+use Rattle.tree.proofs.Spans.{span}
+use Rattle.tree.proofs.Looks.{IsLook, look_apart, look_one, look_two, look_tell, child_subtree, child_tells, child_from, child_to, first_inside, last_inside}
+
+-- a look at such a node, with the entries of the two children
+pub record AreHalves {N : ℕ} (nodes : Arena (Node N)) (least height slot : ℕ) (f t : ℕ → Bool) : Type 0 where
+  pub es : List Entry
+  pub begin : ℕ
+  pub end : ℕ
+  pub look : IsLook nodes least height slot f t es begin end
+  pub some : height ≡ 0 → ⊥
+  pub first : ℕ
+  pub last : ℕ
+  pub first_is : first ≡ begin - 1
+  pub last_is : last ≡ end - 1
+  pub left : Entry
+  pub right : Entry
+  pub left_at : left ≡ get_or es first left
+  pub right_at : right ≡ get_or es last right
+
+module _ {N : ℕ} {nodes : Arena (Node N)} {least height slot : ℕ} {f t : ℕ → Bool}
+    (h : AreHalves nodes least height slot f t) where
+  abbrev pub left_items : List Item
+  left_items = items_in nodes (height - 1) h.left.child
+
+  abbrev pub right_items : List Item
+  right_items = items_in nodes (height - 1) h.right.child
+
+  abbrev pub middle : List Entry
+  middle = slice_range h.es (h.first + 1) h.last
+
+  abbrev pub middle_items : List Item
+  middle_items = flat_map (λ e. items_in nodes (height - 1) e.child) middle
+
+  abbrev pub left_span : List Item
+  left_span = span (λ (x : Item). f x.key) (λ (x : Item). true) left_items
+
+  abbrev pub right_span : List Item
+  right_span = span (λ (x : Item). false) (λ (x : Item). t x.key) right_items
+
+  first_within : h.first < length h.es
+  first_within =
+      let i = first_inside nodes least height slot f t h.es h.begin h.end h.look h.some in
+      let is = h.first_is in omega (arith, i, is)
+
+  last_within : h.last < length h.es
+  last_within =
+      let i = last_inside nodes least height slot f t h.es h.begin h.end h.look h.some in
+      let is = h.last_is in omega (arith, i, is)
+
+  pub left_tells : Tells h.left left_items
+  left_tells =
+      child_tells nodes least height slot f t h.es h.begin h.end h.look h.some h.first h.left first_within h.left_at
+
+  pub right_tells : Tells h.right right_items
+  right_tells =
+      child_tells nodes least height slot f t h.es h.begin h.end h.look h.some h.last h.right last_within h.right_at
+
+  pub middle_tells : All (λ e. Tells e (items_in nodes (height - 1) e.child)) middle
+  middle_tells =
+      let p = λ (e : Entry). Tells e (items_in nodes (height - 1) e.child) in
+      All-take p _ _
+      (All-drop p (h.first + 1) h.es (look_tell nodes least height slot f t h.es h.begin h.end h.look h.some))
+
+  -- what the search in the left child asks, and that in the right one
+  pub left_subtree : IsSubtree nodes least (height - 1) h.left.child
+  left_subtree =
+      child_subtree nodes least height slot f t h.es h.begin h.end h.look h.some h.first h.left first_within h.left_at
+
+  pub left_from : IsCut (λ x. f x.key) left_items
+  left_from =
+      child_from nodes least height slot f t h.es h.begin h.end h.look h.some h.first h.left first_within h.left_at
+
+  pub left_to : IsCut (λ x. t x.key) left_items
+  left_to =
+      child_to nodes least height slot f t h.es h.begin h.end h.look h.some h.first h.left first_within h.left_at
+
+  pub right_subtree : IsSubtree nodes least (height - 1) h.right.child
+  right_subtree =
+      child_subtree nodes least height slot f t h.es h.begin h.end h.look h.some h.last h.right last_within h.right_at
+
+  pub right_to : IsCut (λ x. t x.key) right_items
+  right_to =
+      child_to nodes least height slot f t h.es h.begin h.end h.look h.some h.last h.right last_within h.right_at
+
+  -- the two children are apart, or the same
+  pub apart : (h.first ≡ h.last → ⊥) → (h.first + 1 ≤ h.last) × (h.last < length h.es)
+  apart two =
+      (look_apart nodes least height slot f t h.es h.begin h.end h.look h.some h.first h.last h.first_is h.last_is two, last_within)
+
+  pub in_one : h.first ≡ h.last
+      → span (λ (x : Item). f x.key) (λ (x : Item). t x.key) (items_in nodes height slot)
+      ≡ span (λ (x : Item). f x.key) (λ (x : Item). t x.key) left_items
+  in_one same =
+      look_one nodes least height slot f t h.es h.begin h.end h.look h.some h.first h.last h.first_is h.last_is h.left
+      h.left_at same
+
+  pub in_two : (h.first ≡ h.last → ⊥)
+      → span (λ (x : Item). f x.key) (λ (x : Item). t x.key) (items_in nodes height slot)
+      ≡ left_span ++ (middle_items ++ right_span)
+  in_two two =
+      look_two nodes least height slot f t h.es h.begin h.end h.look h.some h.first h.last h.first_is h.last_is h.left
+      h.right h.left_at h.right_at two
