@@ -3,6 +3,8 @@
 ghost use Rattle.std.specs.Prelude.{ℕ, ℤ, List};
 ghost use Rattle.keyspace.specs.Processed.{Processed};
 ghost use Rattle.keyspace.specs.Chain.{IsChain};
+ghost use Rattle.keyspace.specs.Rows.{Limits};
+ghost use Rattle.serial.specs.Rows.{WorkedRows};
 ghost use Rattle.serial.specs.Serial.{Current, Serializable, ReadsBelow, RealTime, OnePartEach, AreByParts};
 
 /// What a committed transaction of a chain has read at its snapshot is what it would read at its place in the commit order.
@@ -36,4 +38,10 @@ pub fn serializable_by_parts()
         → AreByParts window cuts each ps → Current ps }
     ensures serializable { (window : ℤ) (cuts : List (List ℕ)) (each : List (List Processed)) (ps : List Processed)
         → AreByParts window cuts each ps → Serializable ps }
+{}
+
+/// The worked examples, computed on the definitions: a chain whose two stores are the same, the same with one verdict flipped,
+/// whose stores differ, and transactions on which one resolver and the resolvers of two parts decide otherwise.
+pub fn worked_rows()
+    ensures rows { (limits : Limits) × WorkedRows limits }
 {}
