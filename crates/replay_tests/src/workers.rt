@@ -60,23 +60,38 @@ fn handed_back(alloc: Global, finished: &Finished) -> Result<String, Unmade> {
     Ok(text)
 }
 
+// Sends two answers on a lane that has room for them, and closes it. Returns whether both were sent.
+fn send_two(rt: &impl Wait, replies: &mut Port<Answer>) -> bool {
+    let are_sent = replies.send(rt, Answer::Never(1)).is_ok()
+        && replies.send(rt, Answer::Held(2)).is_ok();
+    replies.close(rt);
+    are_sent
+}
+
 // Works on a file where two answers lie in the reply lane, which is closed. Returns what the worker hands back, in words, and
 // whether it has sent nothing and closed its lane.
-fn worked(rt: &impl Wait, alloc: Global, file: Vec<u8>) -> Result<(String, bool), Unmade> {
+fn told(
+    rt: &impl Wait,
+    alloc: Global,
+    connected: Connected,
+    file: Vec<u8>,
+) -> (Result<String, Unmade>, bool) {
     let Connected {
         client,
         mut requests,
         mut replies,
-    } = connect(alloc)?;
-    for answer in [Answer::Never(1), Answer::Held(2)] {
-        if replies.send(rt, answer).is_err() {
-            return Err(Unmade::Beyond("lane"));
-        }
-    }
-    replies.close(rt);
+    } = connected;
+    let are_sent = send_two(rt, &mut replies);
     let finished = work(rt, alloc, false, 0, client, reader(file), &AlwaysOpen);
     let has_ended = matches!(requests.take(rt), Taken::End);
-    Ok((handed_back(alloc, &finished)?, has_ended))
+    (handed_back(alloc, &finished), are_sent && has_ended)
+}
+
+// The same over new lanes.
+fn worked(rt: &impl Wait, alloc: Global, file: Vec<u8>) -> Result<(String, bool), Unmade> {
+    let connected = connect(alloc)?;
+    let (text, has_ended) = told(rt, alloc, connected, file);
+    Ok((text?, has_ended))
 }
 
 // Works on the file, and compares what the worker hands back behind the lines of the two answers. It sends nothing.
