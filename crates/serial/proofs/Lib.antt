@@ -8,3 +8,4 @@ pub mod Following
 pub mod OnePart
 pub mod Clipping
 pub mod ByParts
+pub mod Examples

@@ -1,5 +1,6 @@
 use Rattle.std.proofs.Common.{refl}
 use Rattle.keyspace.proofs.Limits.{limits}
+use Rattle.serial.proofs.Examples.{are_effects, values_differ}
 use Rattle.serial.proofs.laws.worked_rows.Goals as goal
 
 pub returns : goal.returns
@@ -7,15 +8,13 @@ returns c = record {
   rows = (
     limits,
     record {
+      effects_keep_to_ranges = are_effects;
       chain_of_all_kinds = refl;
-      as_run = refl;
-      serially = refl;
       flipped_verdict = refl;
-      flipped_as_run = refl;
-      flipped_serially = refl;
-      one_resolver = refl;
-      first_part = refl;
-      second_part = refl;
+      flipped_verdict_differs = values_differ _ _ refl refl;
+      parts_clip = refl;
+      parts_refuse = refl;
+      parts_commit = refl;
     },
   );
 }
