@@ -185,7 +185,8 @@ module _ (limits : Limits) where
       ∷ sent limits 200 300 (v ∷ []) refl
       ∷ sent limits 300 400 (w ∷ []) refl ∷ []
 
-  -- W[x,y), and then T0: R[x,y)@50 W[c,d), T1: R[c,d)@150 W[b,c), T2: R[b,c)@250 W[a,b)
+  -- A blind write W[x,y), and then three that read: the first R[x,y)@50 W[c,d), the second R[c,d)@150 W[b,c), the third
+  -- R[b,c)@250 W[a,b).
   abbrev pub whole : List Step
   whole =
       four (txn limits 0 false [] (xy limits ∷ []) refl)
@@ -249,14 +250,16 @@ module _ (limits : Limits) where
     pub parts_clip : held_in_parts (parts (letter 109 ∷ [])) (xy limits ∷ cd limits ∷ bc limits ∷ ab limits ∷ [])
         ≡ held (nothing limits ∷ cd limits ∷ bc limits ∷ ab limits ∷ [])
         ∷ held (xy limits ∷ nothing limits ∷ nothing limits ∷ nothing limits ∷ []) ∷ []
-    -- T0 has read what was overwritten from m on, so it is refused there, but the resolver below m committed it and remembers
-    -- its write of c. So T1, which has read c before, is refused there, and one resolver of all keys commits it.
+    -- The first has read what was overwritten from m on, so it is refused there, but the resolver below m committed it and
+    -- remembers its write of c. So the second, which has read c before, is refused there, and one resolver of all keys
+    -- commits it.
     pub parts_refuse : resolved 4 ≡ record {
       one = Committed ∷ Conflict ∷ Committed ∷ [];
       below = Committed ∷ Committed ∷ Conflict ∷ [];
       above = Committed ∷ Conflict ∷ Committed ∷ [];
     }
-    -- T2 has read b before T1 wrote it, so one resolver of all keys refuses it, and both parts commit it, for T1 was refused.
+    -- The third has read b before the second wrote it, so one resolver of all keys refuses it, and both parts commit it, for
+    -- the resolver below m refused the second.
     pub parts_commit : resolved 5 ≡ record {
       one = Committed ∷ Conflict ∷ Committed ∷ Conflict ∷ [];
       below = Committed ∷ Committed ∷ Conflict ∷ Committed ∷ [];
