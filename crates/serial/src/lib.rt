@@ -5,8 +5,8 @@
 //! order, and the laws here prove it of every chain, which is what the resolver promises.
 //!
 //! The laws speak of the reads and writes that transactions declare, and of the order of commit versions. They say nothing
-//! of reads outside the declared ranges, of atomic operations, which add to what they don't read, of versionstamps, and of
-//! nothing after `Never`, `Held` or a stop.
+//! of reads outside the declared ranges, of atomic operations, which add to what they don't read, of versionstamps, or of
+//! what comes after `Never`, `Held` or a stop.
 #![tactic(auto)]
 
 pub mod laws;
