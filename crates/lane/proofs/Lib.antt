@@ -1,1 +1,2 @@
-pub mod PipeRule
+mod RingLists
+mod RingRule

@@ -1,5 +1,5 @@
 -- What is seen of the two ends of a lane, and *Lane*, which holds of them at every moment (this project's own).
-use Rattle.std.specs.Prelude.{◌≡◌, ℕ, ◌+◌, ◌≤◌, Bool, true, false, List, [], ◌++◌, length}
+use Rattle.std.specs.Prelude.{◌≡◌, ℕ, ◌+◌, ◌<◌, ◌≤◌, Bool, true, false, List, [], ◌++◌, length}
 use Rattle.atomic_table.specs.Seated.{TableId}
 
 -- the first list is a beginning of the second, which may be all of it
@@ -9,8 +9,7 @@ IsBeginning {T} xs ys = (rest : List T) × (ys ≡ xs ++ rest)
 -- Which lane an end is of. A caller only ever compares two of them: what one is made of belongs to the
 -- representation
 pub record LaneId : Type 0 where
-  pub items : TableId
-  pub close : TableId
+  pub ring : TableId
 
 -- the port of a lane
 pub record PortView (T : Type 0) : Type 0 where
@@ -55,6 +54,13 @@ module _ {T : Type 0} where
     pub taken_seen : length intake.taken ≤ intake.seen_sent
     -- where the close is seen, so is all that was sent
     pub all_seen : intake.seen_close ≡ true → intake.seen_sent ≡ length port.sent
+
+  -- where an end has looked, what it has seen is what is
+  pub record SeesWhatIs (old_port : PortView T) (old_intake : IntakeView T) (port : PortView T) (intake : IntakeView T)
+      : Type 0 where
+    pub taken : old_port.looks < port.looks → port.seen_taken ≡ length intake.taken
+    pub sent : old_intake.looks < intake.looks → intake.seen_sent ≡ length port.sent
+    pub close : old_intake.looks < intake.looks → intake.seen_close ≡ port.closed
 
   -- the ends of a new lane: nothing was sent, taken or seen
   abbrev pub new_port : LaneId → ℕ → PortView T

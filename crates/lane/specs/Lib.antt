@@ -1,5 +1,6 @@
 pub mod Lane
 pub mod Refused
 pub mod Taken
-pub mod Closing
-pub mod Pipe
+pub mod Ring
+pub mod Steps
+pub mod Ends

@@ -1,12 +1,14 @@
 ghost use Rattle.std.specs.Prelude.{◌≡◌, ◌<◌, ◌≤◌, ◌↔◌, IsTrue, IfOk};
-ghost use Rattle.lane.specs.Lane.{Lane, SameLane, PortGoesOn, IntakeGoesOn, new_port, new_intake};
+ghost use Rattle.lane.specs.Lane.{Lane, SameLane, SeesWhatIs, PortGoesOn, IntakeGoesOn, new_port, new_intake};
 
 use crate::error::LaneError;
+use crate::intake;
 use crate::intake::Intake;
-use crate::pipe::pipe;
+use crate::port;
 use crate::port::Port;
+use crate::ring::meeting::{join, part};
+use crate::ring::ring;
 use std::alloc::Global;
-use std::sync::Wait;
 
 /// The largest capacity of a lane.
 pub const MAX_CAPACITY: usize = 1_024;
@@ -20,13 +22,12 @@ pub fn lane<T: Drop>(alloc: Global, capacity: usize) -> Result<(Port<T>, Intake<
     ensures port { IfOk result (λ ends. ends.0 ≡ new_port ends.0.lane capacity) }
     ensures intake { IfOk result (λ ends. ends.1 ≡ new_intake ends.0.lane capacity) }
 {
-    let (sends, takes) = pipe(alloc, capacity)?;
-    let (closes, ends) = pipe(alloc, 1)?;
-    Ok((Port::new(sends, closes), Intake::new(takes, ends)))
+    let (sends, takes) = ring(alloc, capacity)?;
+    Ok((Port::new(sends, capacity), Intake::new(takes, capacity)))
 }
 
-/// Returns whether all that was sent on the lane is taken. Each end may look at the other.
-pub fn agree<T, R: Wait>(rt: &R, port: &mut Port<T>, intake: &mut Intake<T>) -> bool
+/// Returns whether all that was sent on the lane is taken. Each end looks at the other, and sees what is.
+pub fn agree<T>(port: &mut Port<T>, intake: &mut Intake<T>) -> bool
     requires same_lane { SameLane port.old intake.old }
     ensures lane_before { Lane port.old intake.old }
     ensures lane { Lane port.new intake.new }
@@ -35,8 +36,15 @@ pub fn agree<T, R: Wait>(rt: &R, port: &mut Port<T>, intake: &mut Intake<T>) -> 
     ensures closed { port.new.closed ≡ port.old.closed }
     ensures intake { IntakeGoesOn intake.old intake.new }
     ensures taken { intake.new.taken ≡ intake.old.taken }
+    ensures looked { SeesWhatIs port.old intake.old port.new intake.new }
     ensures all_taken { IsTrue result ↔ (intake.old.taken ≡ port.old.sent) }
 {
-    intake.meet(rt, port);
-    intake.taken == port.sent
+    let Some(theirs) = port.token.take() else {
+        unreachable!()
+    };
+    join(&intake.ring, &mut intake.token, theirs);
+    intake::look(&intake.ring, &mut intake.token, &mut intake.counts);
+    port::look(&intake.ring, &mut intake.token, &mut port.counts);
+    port.token = Some(part(&intake.ring, &mut intake.token));
+    intake.counts.taken == port.counts.sent
 }

@@ -1,14 +1,20 @@
-ghost use Rattle.std.specs.Prelude.{◌≡◌, ◌<◌, ◌+◌, [], ◌∷◌, ◌++◌, false, length, drop};
-ghost use Rattle.std.specs.Prelude.{IfSome, IfNone};
-ghost use Rattle.lane.specs.Lane.{Lane, SameLane, PortGoesOn, IntakeGoesOn, HasEnded, new_intake};
-ghost use Rattle.lane.specs.Pipe.{new_reader};
+ghost use Rattle.std.specs.Prelude.{◌≡◌, ◌<◌, ◌≤◌, ◌+◌, ◌^◌, [], ◌∷◌, ◌++◌, true, false, length, drop, slice_get, Some};
+ghost use Rattle.std.specs.Arc.{arc_value};
+ghost use Rattle.lane.specs.Lane.{Lane, SameLane, SeesWhatIs, PortGoesOn, IntakeGoesOn, HasEnded, new_intake};
+ghost use Rattle.lane.specs.Ends.{IsIntake, IsTokenOf};
+ghost use Rattle.lane.specs.Ring.{new_intake_knows};
+ghost use Rattle.lane.specs.Steps.{TailLooked, intake_took, NextOf};
 ghost use Rattle.lane.specs.Taken.{items_of, next_of, IfEmpty, IfEnd};
-ghost use Rattle.lane.specs.declared.intake.Taken.TheVariants.{End};
+ghost use Rattle.lane.specs.declared.intake.Taken.TheVariants.{Item, Empty, End};
 
-use crate::pipe::Reader;
 use crate::port::Port;
+use crate::ring::meeting::{join, part};
+use crate::ring::plays::{Finds, LooksAtTail, Takes};
+use crate::ring::{CLOSING_BIT, HEAD, Part, Ring, TAIL, Token};
+use crossbeam_utils::CachePadded;
+use std::alloc::Global;
 use std::marker::Model;
-use std::sync::Wait;
+use std::sync::Arc;
 
 /// What an intake answers.
 #[derive(Debug, PartialEq, Eq, Drop)]
@@ -21,53 +27,70 @@ pub enum Taken<T> {
     End,
 }
 
+/// What an intake counts: how many items it has taken, how many its last look found sent, and whether that look
+/// found the close.
+#[derive(Drop)]
+pub(crate) struct IntakeCounts {
+    pub(crate) capacity: usize,
+    pub(crate) taken: u64,
+    pub(crate) seen_sent: u64,
+    pub(crate) seen_close: bool,
+}
+
 /// The end of a lane that takes items in the order sent.
 #[derive(Drop)]
 pub struct Intake<T> {
-    pub(crate) items: Reader<T>,
-    pub(crate) close: Reader<u64>,
-    pub(crate) taken: u64,
-    // How many items were sent in all, once the close was found.
-    pub(crate) last: Option<u64>,
+    pub(crate) ring: Arc<Ring<T>, Global>,
+    pub(crate) token: Token<T>,
+    pub(crate) counts: CachePadded<IntakeCounts>,
 }
 
 impl<T> Model for Intake<T> {
-    ghost use Rattle.std.specs.Prelude.{◌≡◌, length};
+    ghost use Rattle.std.specs.Prelude.{◌≡◌};
+    ghost use Rattle.std.specs.Arc.{arc_value};
+    ghost use Rattle.crossbeam_utils.specs.Padded.{padded_value};
     ghost use Rattle.lane.specs.Lane.{IntakeView};
-    ghost use Rattle.lane.specs.Closing.{is_last, closes};
+    ghost use Rattle.lane.specs.Ends.{IsIntake};
 
     ghost Value = { IntakeView T };
 
     ghost view = { λ t. record {
-      lane = record { items = t.items.queue; close = t.close.queue };
-      capacity = t.items.capacity;
-      taken = t.items.popped;
-      seen_sent = length t.items.popped;
-      seen_close = is_last t.last t.taken;
-      looks = t.items.looks;
+      lane = record { ring = (arc_value t.ring).shared.table_id };
+      capacity = (arc_value t.ring).shared.table_id.slots;
+      taken = t.token.me.0.intake.taken;
+      seen_sent = t.token.me.0.intake.seen_sent;
+      seen_close = t.token.me.0.intake.seen_close;
+      looks = t.token.me.0.intake.looks;
     } };
 
-    ghost invariant = { λ t. (t.taken ≡ length t.items.popped) × (t.close.popped ≡ closes t.last) };
+    ghost invariant = { λ t. IsIntake (arc_value t.ring).shared.table_id t.token (padded_value t.counts) };
 }
 
 impl<T> Intake<T> {
-    pub(crate) fn new(items: Reader<T>, close: Reader<u64>) -> Self
-        requires items { items ≡ new_reader items.queue items.capacity }
-        requires close { close ≡ new_reader close.queue 1 }
-        ensures intake { result ≡ new_intake record { items = items.queue; close = close.queue }
-            items.capacity }
+    pub(crate) fn new(part: Part<T>, capacity: usize) -> Self
+        requires part { IsTokenOf (arc_value part.ring).shared.table_id part.token }
+        requires capacity { (arc_value part.ring).shared.table_id.slots ≡ capacity }
+        requires takes { part.token.me.0.takes ≡ true }
+        requires nothing_taken { part.token.me.0.intake ≡ new_intake_knows }
+        ensures intake { result
+            ≡ new_intake record { ring = (arc_value part.ring).shared.table_id } capacity }
     {
+        let Part { ring, token } = part;
         Intake {
-            items,
-            close,
-            taken: 0,
-            last: None,
+            ring,
+            token,
+            counts: CachePadded::new(IntakeCounts {
+                capacity,
+                taken: 0,
+                seen_sent: 0,
+                seen_close: false,
+            }),
         }
     }
 
     /// Takes the next item, in the order sent, or tells that the lane is empty or at its end. After `End` the
     /// answer is always `End`.
-    pub fn take<R: Wait>(&mut self, rt: &R) -> Taken<T>
+    pub fn take(&mut self) -> Taken<T>
         ensures intake { IntakeGoesOn self.old self.new }
         ensures taken { self.new.taken ≡ self.old.taken ++ items_of result }
         ensures empty_looks { IfEmpty result (self.old.looks < self.new.looks) }
@@ -76,28 +99,15 @@ impl<T> Intake<T> {
         ensures end { IfEnd result (HasEnded self.new) }
         ensures ended { HasEnded self.old → result ≡ Taken.End }
     {
-        if self.has_ended() {
-            return Taken::End;
+        if self.counts.taken == self.counts.seen_sent && !self.counts.seen_close {
+            look(&self.ring, &mut self.token, &mut self.counts);
         }
-        if let Some(item) = self.next(rt) {
-            return Taken::Item(item);
-        }
-        if !self.finds_close(rt) {
-            return Taken::Empty;
-        }
-        if self.has_ended() {
-            return Taken::End;
-        }
-        // The items that are left were sent before the close.
-        match self.next(rt) {
-            Some(item) => Taken::Item(item),
-            None => Taken::Empty,
-        }
+        next(&self.ring, &mut self.token, &mut self.counts)
     }
 
     /// Takes the next item, with the port of the same lane at hand: the answer is `Empty` or `End` only where all
-    /// that was sent is taken.
-    pub fn take_beside<R: Wait>(&mut self, rt: &R, port: &mut Port<T>) -> Taken<T>
+    /// that was sent is taken. Where it looks, it sees what is.
+    pub fn take_beside(&mut self, port: &mut Port<T>) -> Taken<T>
         requires same_lane { SameLane port.old self.old }
         ensures lane_before { Lane port.old self.old }
         ensures lane { Lane port.new self.new }
@@ -105,67 +115,65 @@ impl<T> Intake<T> {
         ensures sent { port.new.sent ≡ port.old.sent }
         ensures closed { port.new.closed ≡ port.old.closed }
         ensures intake { IntakeGoesOn self.old self.new }
+        ensures looked { SeesWhatIs port.old self.old port.new self.new }
         ensures taken { self.new.taken ≡ self.old.taken ++ items_of result }
         ensures next { result ≡ next_of (drop (length self.old.taken) port.old.sent) port.old.closed }
         ensures end { IfEnd result (HasEnded self.new) }
     {
-        self.items.meet(rt, &mut port.items);
-        self.close.meet(rt, &mut port.close);
-        if let Some(item) = self.items.pop_beside(rt, &mut port.items) {
-            self.taken += 1;
-            return Taken::Item(item);
-        }
-        if let Some(last) = self.close.pop_beside(rt, &mut port.close) {
-            self.last = Some(last);
-        }
-        if self.has_ended() {
-            Taken::End
-        } else {
-            Taken::Empty
-        }
+        let Some(theirs) = port.token.take() else {
+            unreachable!()
+        };
+        join(&self.ring, &mut self.token, theirs);
+        look(&self.ring, &mut self.token, &mut self.counts);
+        let taken = next(&self.ring, &mut self.token, &mut self.counts);
+        port.token = Some(part(&self.ring, &mut self.token));
+        taken
     }
+}
 
-    /// Shows *Lane* of the two ends. It changes nothing.
-    pub(crate) fn meet<R: Wait>(&mut self, rt: &R, port: &mut Port<T>)
-        requires same_lane { SameLane port.old self.old }
-        ensures lane { Lane port.old self.old }
-        ensures intake { self.new ≡ self.old }
-        ensures port { port.new ≡ port.old }
-    {
-        self.items.meet(rt, &mut port.items);
-        self.close.meet(rt, &mut port.close);
-    }
+// The intake's look: it loads tail. Nothing else changes what the intake has seen sent, or that it has seen the close.
+pub(crate) fn look<T>(ring: &Ring<T>, token: &mut Token<T>, counts: &mut IntakeCounts)
+    requires intake { IsIntake ring.now.shared.table_id token.old counts.old }
+    ensures intake { IsIntake ring.now.shared.table_id token.new counts.new }
+    ensures looked { TailLooked ring.now.shared.table_id.slots token.old.me counts.new.seen_sent
+        counts.new.seen_close token.new.me }
+{
+    let tail = ring.shared.load::<LooksAtTail>(token, TAIL);
+    counts.seen_close = tail >= CLOSING_BIT;
+    counts.seen_sent = if counts.seen_close { tail - CLOSING_BIT } else { tail };
+}
 
-    // Whether the close was found and all is taken.
-    fn has_ended(&self) -> bool
-        ensures close { result ≡ self.now.seen_close }
-        ensures all { length self.now.taken ≡ self.now.seen_sent }
-    {
-        self.last == Some(self.taken)
+// The next item that was seen sent, or else whether the lane is at its end.
+fn next<T>(ring: &Ring<T>, token: &mut Token<T>, counts: &mut IntakeCounts) -> Taken<T>
+    requires intake { IsIntake ring.now.shared.table_id token.old counts.old }
+    ensures intake { IsIntake ring.now.shared.table_id token.new counts.new }
+    ensures next { NextOf token.old.me.0 token.new.me.0 result }
+{
+    if counts.taken < counts.seen_sent {
+        Taken::Item(pop(ring, token, counts))
+    } else if counts.seen_close {
+        Taken::End
+    } else {
+        Taken::Empty
     }
+}
 
-    // The next item that the lane holds.
-    fn next<R: Wait>(&mut self, rt: &R) -> Option<T>
-        requires open { self.old.seen_close ≡ false }
-        ensures intake { IntakeGoesOn self.old self.new }
-        ensures item { IfSome result (λ x. self.new.taken ≡ self.old.taken ++ x ∷ []) }
-        ensures none { IfNone result (self.new ≡ record self.old { looks = self.old.looks + 1 }) }
-        ensures all { length self.new.taken ≡ self.new.seen_sent }
-    {
-        let item = self.items.pop(rt)?;
-        self.taken += 1;
-        Some(item)
-    }
-
-    // Whether the port has closed the lane.
-    fn finds_close<R: Wait>(&mut self, rt: &R) -> bool
-        requires open { self.old.seen_close ≡ false }
-        ensures close { self.new ≡ record self.old { seen_close = self.new.seen_close } }
-        ensures none { result ≡ false → self.new.seen_close ≡ false }
-    {
-        if self.last.is_none() {
-            self.last = self.close.pop(rt);
-        }
-        self.last.is_some()
-    }
+// Takes the item out of the next slot, and tells the port.
+fn pop<T>(ring: &Ring<T>, token: &mut Token<T>, counts: &mut IntakeCounts) -> T
+    requires intake { IsIntake ring.now.shared.table_id token.old counts.old }
+    requires seen { counts.old.taken < counts.old.seen_sent }
+    ensures intake { IsIntake ring.now.shared.table_id token.new counts.new }
+    ensures took { token.new.me.0
+        ≡ record token.old.me.0 { intake = intake_took token.old.me.0.intake result } }
+    ensures sent { token.old.me.0.sends ≡ true
+        → slice_get token.old.me.0.port.sent (length token.old.me.0.intake.taken) ≡ Some result }
+{
+    let slot = (counts.taken % counts.capacity as u64) as usize;
+    ring.shared.load::<Finds>(token, HEAD);
+    let Some(item) = ring.shared.exchange(token, slot, None) else {
+        unreachable!()
+    };
+    counts.taken += 1;
+    ring.shared.store::<Takes>(token, HEAD, counts.taken);
+    item
 }

@@ -13,8 +13,8 @@
 mod ends;
 mod error;
 mod intake;
-mod pipe;
 mod port;
+mod ring;
 
 pub use ends::{MAX_CAPACITY, agree, lane};
 pub use error::LaneError;

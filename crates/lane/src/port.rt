@@ -1,13 +1,19 @@
-ghost use Rattle.std.specs.Prelude.{◌≡◌, ◌+◌, ◌<◌, ◌≤◌, ◌↔◌, true, false, [], ◌∷◌, ◌++◌, length};
-ghost use Rattle.std.specs.Prelude.{Err, IsOk, OnOk, OnErr, IfErr};
+ghost use Rattle.std.specs.Prelude.{◌≡◌, ◌+◌, ◌^◌, ◌<◌, ◌≤◌, ◌↔◌, true, false, [], ◌∷◌, ◌++◌, length};
+ghost use Rattle.std.specs.Prelude.{Err, IsOk, OnOk, OnErr, IfErr, IsTrue};
+ghost use Rattle.std.specs.Arc.{arc_value};
 ghost use Rattle.lane.specs.Lane.{PortGoesOn, new_port};
-ghost use Rattle.lane.specs.Pipe.{new_writer};
+ghost use Rattle.lane.specs.Ends.{IsPort, IsTokenOf};
+ghost use Rattle.lane.specs.Ring.{new_port_knows};
+ghost use Rattle.lane.specs.Steps.{HeadLooked, port_sent};
 ghost use Rattle.lane.specs.Refused.{item_of};
 ghost use Rattle.lane.specs.declared.port.Refused.TheVariants.{Full, Closed, Worn};
 
-use crate::pipe::Writer;
+use crate::ring::plays::{Claims, Closes, LooksAtHead, Sends};
+use crate::ring::{CLOSING_BIT, HEAD, Part, Ring, TAIL, Token};
+use crossbeam_utils::CachePadded;
+use std::alloc::Global;
 use std::marker::Model;
-use std::sync::Wait;
+use std::sync::Arc;
 
 /// The most items that a port sends.
 pub const MAX_SENT: u64 = 1 << 62;
@@ -23,54 +29,71 @@ pub enum Refused<T> {
     Worn(T),
 }
 
-/// The end of a lane that sends items and closes the lane.
+/// What a port counts: how many items it has sent, how many its last look found taken, and whether it has closed
+/// the lane.
 #[derive(Drop)]
-pub struct Port<T> {
-    pub(crate) items: Writer<T>,
-    // It has room for one number, and carries that of the items sent.
-    pub(crate) close: Writer<u64>,
+pub(crate) struct PortCounts {
+    pub(crate) capacity: usize,
     pub(crate) sent: u64,
+    pub(crate) seen_taken: u64,
     pub(crate) closed: bool,
 }
 
+/// The end of a lane that sends items and closes the lane.
+#[derive(Drop)]
+pub struct Port<T> {
+    pub(crate) ring: Arc<Ring<T>, Global>,
+    // It is there but while it is joined to the intake's.
+    pub(crate) token: Option<Token<T>>,
+    pub(crate) counts: CachePadded<PortCounts>,
+}
+
 impl<T> Model for Port<T> {
-    ghost use Rattle.std.specs.Prelude.{◌≡◌, ◌^◌, ◌≤◌, if◌then◌else◌, [], ◌∷◌, length};
+    ghost use Rattle.std.specs.Prelude.{◌≡◌};
+    ghost use Rattle.std.specs.Arc.{arc_value};
+    ghost use Rattle.crossbeam_utils.specs.Padded.{padded_value};
     ghost use Rattle.lane.specs.Lane.{PortView};
+    ghost use Rattle.lane.specs.Ends.{port_of, HasPort};
 
     ghost Value = { PortView T };
 
     ghost view = { λ p. record {
-      lane = record { items = p.items.queue; close = p.close.queue };
-      capacity = p.items.capacity;
-      sent = p.items.pushed;
-      closed = p.closed;
-      seen_taken = p.items.seen_popped;
-      looks = p.items.looks;
+      lane = record { ring = (arc_value p.ring).shared.table_id };
+      capacity = (arc_value p.ring).shared.table_id.slots;
+      sent = (port_of p.token).sent;
+      closed = (port_of p.token).closed;
+      seen_taken = (port_of p.token).seen_taken;
+      looks = (port_of p.token).looks;
     } };
 
-    ghost invariant = { λ p. (p.sent ≡ length p.items.pushed) × (p.sent ≤ 2 ^ 62)
-        × (p.close.capacity ≡ 1) × (p.close.pushed ≡ (if p.closed then (p.sent ∷ []) else [])) };
+    ghost invariant = { λ p. HasPort (arc_value p.ring).shared.table_id p.token (padded_value p.counts) };
 }
 
 impl<T> Port<T> {
-    pub(crate) fn new(items: Writer<T>, close: Writer<u64>) -> Self
-        requires items { items ≡ new_writer items.queue items.capacity }
-        requires close { close ≡ new_writer close.queue 1 }
-        ensures port { result ≡ new_port record { items = items.queue; close = close.queue }
-            items.capacity }
+    pub(crate) fn new(part: Part<T>, capacity: usize) -> Self
+        requires part { IsTokenOf (arc_value part.ring).shared.table_id part.token }
+        requires capacity { (arc_value part.ring).shared.table_id.slots ≡ capacity }
+        requires sends { part.token.me.0.sends ≡ true }
+        requires nothing_sent { part.token.me.0.port ≡ new_port_knows }
+        ensures port { result ≡ new_port record { ring = (arc_value part.ring).shared.table_id } capacity }
     {
+        let Part { ring, token } = part;
         Port {
-            items,
-            close,
-            sent: 0,
-            closed: false,
+            ring,
+            token: Some(token),
+            counts: CachePadded::new(PortCounts {
+                capacity,
+                sent: 0,
+                seen_taken: 0,
+                closed: false,
+            }),
         }
     }
 
     /// Sends the item. A refusal hands it back: `Closed` after [`Port::close`], else `Worn` after [`MAX_SENT`]
     /// items, else `Full` where the port, looking anew in that call, has seen none of the last `capacity` items
     /// taken.
-    pub fn send<R: Wait>(&mut self, rt: &R, item: T) -> Result<(), Refused<T>>
+    pub fn send(&mut self, item: T) -> Result<(), Refused<T>>
         ensures port { PortGoesOn self.old self.new }
         ensures sent { OnOk result (self.new.sent ≡ self.old.sent ++ item ∷ []) }
         ensures unchanged { OnErr result (self.new.sent ≡ self.old.sent) }
@@ -89,27 +112,81 @@ impl<T> Port<T> {
         ensures room { self.old.closed ≡ false → length self.old.sent < MAX_SENT
             → length self.old.sent < self.old.seen_taken + self.old.capacity → IsOk result }
     {
-        if self.closed {
+        if self.counts.closed {
             return Err(Refused::Closed(item));
         }
-        if self.sent == MAX_SENT {
+        if self.counts.sent == MAX_SENT {
             return Err(Refused::Worn(item));
         }
-        match self.items.push(rt, item) {
-            Ok(()) => {
-                self.sent += 1;
-                Ok(())
+        let Some(token) = &mut self.token else {
+            unreachable!()
+        };
+        if is_full(&self.counts) {
+            look(&self.ring, token, &mut self.counts);
+            if is_full(&self.counts) {
+                return Err(Refused::Full(item));
             }
-            Err(item) => Err(Refused::Full(item)),
         }
+        push(&self.ring, token, &mut self.counts, item);
+        Ok(())
     }
 
     /// Closes the lane: nothing is sent afterwards. A second close changes nothing.
-    pub fn close<R: Wait>(&mut self, rt: &R)
+    pub fn close(&mut self)
         ensures closed { self.new ≡ record self.old { closed = true } }
     {
-        if !self.closed {
-            self.closed = self.close.push(rt, self.sent).is_ok();
+        if self.counts.closed {
+            return;
         }
+        let Some(token) = &mut self.token else {
+            unreachable!()
+        };
+        close(&self.ring, token, &mut self.counts);
     }
+}
+
+// Whether none of the last `capacity` items was seen taken.
+fn is_full(counts: &PortCounts) -> bool
+    requires taken_sent { counts.now.seen_taken ≤ counts.now.sent }
+    requires few { counts.now.sent ≤ MAX_SENT }
+    ensures full { IsTrue result ↔ (counts.now.seen_taken + counts.now.capacity ≤ counts.now.sent) }
+{
+    counts.sent - counts.seen_taken >= counts.capacity as u64
+}
+
+// The port's look: it loads head. Nothing else changes what the port has seen taken.
+pub(crate) fn look<T>(ring: &Ring<T>, token: &mut Token<T>, counts: &mut PortCounts)
+    requires port { IsPort ring.now.shared.table_id token.old counts.old }
+    ensures port { IsPort ring.now.shared.table_id token.new counts.new }
+    ensures looked { HeadLooked ring.now.shared.table_id.slots token.old.me counts.new.seen_taken token.new.me }
+{
+    counts.seen_taken = ring.shared.load::<LooksAtHead>(token, HEAD);
+}
+
+// Puts the item into the next slot, and tells the intake.
+fn push<T>(ring: &Ring<T>, token: &mut Token<T>, counts: &mut PortCounts, item: T)
+    requires port { IsPort ring.now.shared.table_id token.old counts.old }
+    requires open { counts.old.closed ≡ false }
+    requires few { counts.old.sent < MAX_SENT }
+    requires room { counts.old.sent < counts.old.seen_taken + counts.old.capacity }
+    ensures port { IsPort ring.now.shared.table_id token.new counts.new }
+    ensures sent { token.new.me.0 ≡ record token.old.me.0 { port = port_sent token.old.me.0.port item } }
+{
+    let slot = (counts.sent % counts.capacity as u64) as usize;
+    ring.shared.load::<Claims>(token, TAIL);
+    let vacant = ring.shared.exchange(token, slot, Some(item));
+    let None = vacant else { unreachable!() };
+    counts.sent += 1;
+    ring.shared.store::<Sends>(token, TAIL, counts.sent);
+}
+
+// Sets the closing bit.
+fn close<T>(ring: &Ring<T>, token: &mut Token<T>, counts: &mut PortCounts)
+    requires port { IsPort ring.now.shared.table_id token.old counts.old }
+    requires open { counts.old.closed ≡ false }
+    ensures port { IsPort ring.now.shared.table_id token.new counts.new }
+    ensures closed { token.new.me.0 ≡ record token.old.me.0 { port = record token.old.me.0.port { closed = true } } }
+{
+    counts.closed = true;
+    ring.shared.store::<Closes>(token, TAIL, counts.sent + CLOSING_BIT);
 }

@@ -1,0 +1,92 @@
+-- What each step on a ring tells its end, and makes of what its token knows.
+use Rattle.std.specs.Prelude.{◌≡◌, ℕ, ◌+◌, ◌%◌, ◌^◌, ◌<◌, ◌≤◌, Bool, true, false, List, [], ◌∷◌, ◌++◌, length, slice_get, Option, Some, None}
+use Rattle.atomic_table.specs.Table.{Me, rest}
+use Rattle.lane.specs.Ring.{Agree, tail_word}
+use Rattle.lane.specs.declared.ring.PortKnows.{PortKnows}
+use Rattle.lane.specs.declared.ring.IntakeKnows.{IntakeKnows}
+use Rattle.lane.specs.declared.ring.Known.{Known}
+use Rattle.lane.specs.declared.intake.Taken.{Taken}
+use Rattle.lane.specs.declared.intake.Taken.TheVariants.{Item, Empty, End}
+
+module _ {T : Type 0} where
+  -- the port has loaded head, which was `found`
+  abbrev pub port_looked : PortKnows T → ℕ → PortKnows T
+  port_looked p found = record p { seen_taken = found; looks = p.looks + 1 }
+
+  pub record HeadLooked (slots : ℕ) (old : Me (Option T) (Known T)) (found : ℕ) (new : Me (Option T) (Known T))
+      : Type 0 where
+    pub looked : new ≡ (record old.0 { port = port_looked old.0.port found }, old.1)
+    pub rises : old.0.port.seen_taken ≤ found
+    pub taken_sent : found ≤ length old.0.port.sent
+    pub bounded : length old.0.port.sent ≤ found + slots
+    -- a token that takes too finds what it has taken
+    pub all : old.0.takes ≡ true → found ≡ length old.0.intake.taken
+
+  -- the port takes the slot of the next item, which is empty
+  pub record Claimed (slots : ℕ) (old : Me (Option T) (Known T)) (new : Me (Option T) (Known T)) : Type 0 where
+    pub claimed : new ≡ (
+      record old.0 { port = record old.0.port { holds = true } },
+      (length old.0.port.sent % slots, None) ∷ old.1,
+    )
+
+  -- the port gives that slot back with the item, and has sent it
+  abbrev pub port_sent : PortKnows T → T → PortKnows T
+  port_sent p x = record p { sent = p.sent ++ x ∷ []; holds = false }
+
+  pub record Sent (slots : ℕ) (old : Me (Option T) (Known T)) (new : Me (Option T) (Known T)) : Type 0 where
+    pub item : T
+    pub held : old.1 ≡ (length old.0.port.sent % slots, Some item) ∷ rest old.1
+    pub sent : new ≡ (record old.0 { port = port_sent old.0.port item }, rest old.1)
+
+  pub record Closed (old : Me (Option T) (Known T)) (new : Me (Option T) (Known T)) : Type 0 where
+    pub closed : new ≡ (record old.0 { port = record old.0.port { closed = true } }, old.1)
+
+  -- the intake has loaded tail, which told so many items sent, and the close or not
+  abbrev pub intake_looked : IntakeKnows T → ℕ → Bool → IntakeKnows T
+  intake_looked t sent closed = record t { seen_sent = sent; seen_close = closed; looks = t.looks + 1 }
+
+  pub record TailLooked (slots : ℕ) (old : Me (Option T) (Known T)) (sent : ℕ) (closed : Bool)
+      (new : Me (Option T) (Known T)) : Type 0 where
+    pub few : sent ≤ 2 ^ 62
+    pub looked : new ≡ (record old.0 { intake = intake_looked old.0.intake sent closed }, old.1)
+    pub rises : old.0.intake.seen_sent ≤ sent
+    pub stays : old.0.intake.seen_close ≡ true → closed ≡ true
+    pub taken_sent : length old.0.intake.taken ≤ sent
+    -- a token that sends too finds what it has sent, and learns that the two agree
+    pub all_sent : old.0.sends ≡ true → sent ≡ length old.0.port.sent
+    pub close : old.0.sends ≡ true → closed ≡ old.0.port.closed
+    pub agree : old.0.sends ≡ true → Agree old.0.port old.0.intake slots
+
+  pub record TailFound (slots : ℕ) (old : Me (Option T) (Known T)) (found : ℕ) (new : Me (Option T) (Known T))
+      : Type 0 where
+    pub sent : ℕ
+    pub closed : Bool
+    pub word : found ≡ tail_word sent closed
+    pub looked : TailLooked slots old sent closed new
+
+  -- the intake takes the slot of the next item, with the item
+  pub record Found (slots : ℕ) (old : Me (Option T) (Known T)) (new : Me (Option T) (Known T)) : Type 0 where
+    pub item : T
+    pub found : new ≡ (
+      record old.0 { intake = record old.0.intake { next = Some item } },
+      (length old.0.intake.taken % slots, Some item) ∷ old.1,
+    )
+    -- a token that sends too finds what it has sent
+    pub sent : old.0.sends ≡ true → slice_get old.0.port.sent (length old.0.intake.taken) ≡ Some item
+
+  -- the intake gives that slot back empty, and has taken the item
+  abbrev pub intake_took : IntakeKnows T → T → IntakeKnows T
+  intake_took t x = record t { taken = t.taken ++ x ∷ []; next = None }
+
+  pub record Took (slots : ℕ) (old : Me (Option T) (Known T)) (new : Me (Option T) (Known T)) : Type 0 where
+    pub item : T
+    pub next : old.0.intake.next ≡ Some item
+    pub held : old.1 ≡ (length old.0.intake.taken % slots, None) ∷ rest old.1
+    pub took : new ≡ (record old.0 { intake = intake_took old.0.intake item }, rest old.1)
+
+  -- the next item that was seen sent, or else whether the lane is at its end
+  abbrev pub NextOf : Known T → Known T → Taken T → Type 0
+  NextOf v w (Item x) = (w ≡ record v { intake = intake_took v.intake x }) × (length v.intake.taken < v.intake.seen_sent)
+      × (v.sends ≡ true → slice_get v.port.sent (length v.intake.taken) ≡ Some x)
+  NextOf v w Empty = (w ≡ v) × (length v.intake.taken ≡ v.intake.seen_sent) × (v.intake.seen_close ≡ false)
+  NextOf v w End = (w ≡ v) × (length v.intake.taken ≡ v.intake.seen_sent) × (v.intake.seen_close ≡ true)
