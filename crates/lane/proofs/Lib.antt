@@ -1,2 +1,3 @@
+mod Beside
 mod RingLists
 mod RingRule

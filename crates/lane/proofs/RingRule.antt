@@ -1,17 +1,17 @@
 -- Each step on a ring keeps the ring's rule.
-use Rattle.std.proofs.Common.{◌≡◌, ◌≢◌, ℕ, ◌+◌, ◌%◌, ◌^◌, ◌<◌, ◌≤◌, ◌⊎◌, Bool, true, false, true≢false}
+use Rattle.std.proofs.Common.{◌≡◌, ◌≢◌, ℕ, ◌+◌, ◌%◌, ◌^◌, ◌<◌, ◌≤◌, true, false, true≢false}
 use Rattle.std.proofs.Common.{zero, suc, List, [], ◌∷◌, ◌++◌, length, set, map, replicate, inl, inr, sym, refl, ap, ◌∙◌, subst, ⊎_elim}
 use Rattle.std.proofs.Common.{append_assoc, length-append, length-set, get_or-set_same, get_or-set_other, lit≤, arith}
 use mathlib.Core.Option.{some, none, some-injective, some-ne-none}
 use mathlib.Core.Option as maybe
 use lib.ListN.{get_elem?}
 use lib.Seq.{set-get_or}
-use Rattle.std.specs.Prelude.{Option, None, Some, slice_get, slice_index, slice_set, if◌then◌else◌}
+use Rattle.std.specs.Prelude.{Option, None, Some, slice_get, slice_index, slice_set}
 use Rattle.std.proofs.lemmas.Bool.{cases_eq}
 use Rattle.std.proofs.Math.Nat.{mod-lt, add-mod_right}
-use Rattle.std.proofs.lemmas.Option.{none-some, same_Some, slice_get_past, slice_get_within}
+use Rattle.std.proofs.lemmas.Option.{none-some, slice_get_past, slice_get_within}
 use Rattle.atomic_table.specs.Table.{State, Me, Allows, Splits, Joins, keeps, takes, gives, opening, put_back, rest}
-use Rattle.atomic_table.proofs.Lists.{at_set, at_snoc, at_last, set_else, set_here}
+use Rattle.atomic_table.proofs.Lists.{at_set, at_snoc, set_else, set_here}
 use Rattle.lane.specs.declared.ring.PortKnows.{PortKnows}
 use Rattle.lane.specs.declared.ring.IntakeKnows.{IntakeKnows}
 use Rattle.lane.specs.declared.ring.Known.{Known}

@@ -1,5 +1,5 @@
 -- What each step on a ring tells its end, and makes of what its token knows.
-use Rattle.std.specs.Prelude.{◌≡◌, ℕ, ◌+◌, ◌%◌, ◌^◌, ◌<◌, ◌≤◌, Bool, true, false, List, [], ◌∷◌, ◌++◌, length, slice_get, Option, Some, None}
+use Rattle.std.specs.Prelude.{◌≡◌, ℕ, ◌+◌, ◌%◌, ◌^◌, ◌<◌, ◌≤◌, Bool, true, false, [], ◌∷◌, ◌++◌, length, slice_get, Option, Some, None}
 use Rattle.atomic_table.specs.Table.{Me, rest}
 use Rattle.lane.specs.Ring.{Agree, tail_word}
 use Rattle.lane.specs.declared.ring.PortKnows.{PortKnows}

@@ -1,4 +1,4 @@
-use Rattle.std.proofs.Common.{arith, rules}
+use Rattle.std.proofs.Common.{arith}
 use Rattle.lane.proofs.RingRule.{looks_at_tail}
 use Rattle.lane.proofs.intake.look.Goals as goal
 

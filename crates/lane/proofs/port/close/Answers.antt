@@ -1,4 +1,4 @@
-use Rattle.std.proofs.Common.{arith, rules}
+use Rattle.std.proofs.Common.{arith}
 use Rattle.lane.proofs.RingRule.{closes}
 use Rattle.lane.proofs.port.close.Goals as goal
 

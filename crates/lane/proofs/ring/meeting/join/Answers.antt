@@ -1,4 +1,4 @@
-use Rattle.std.proofs.Common.{arith, rules}
+use Rattle.std.proofs.Common.{arith}
 use Rattle.lane.proofs.RingRule.{joins}
 use Rattle.lane.proofs.ring.meeting.join.Goals as goal
 
