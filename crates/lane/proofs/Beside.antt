@@ -88,13 +88,12 @@ module _ {T : Type 0} where
         let is : new ≡ looked = same ∙ seen_is in
         let taken_all : length old.0.intake.taken ≡ sent = subst
         (λ (v : Known T). length v.intake.taken ≡ v.intake.seen_sent) seen_is all in
-        let found : closed ≡ end = subst (λ (v : Known T). v.intake.seen_close ≡ end) seen_is close in
-        (
+        let found : closed ≡ end = subst (λ (v : Known T). v.intake.seen_close ≡ end) seen_is close in (
           subst (λ (v : Known T). Agree old.0.port v.intake slots) (sym is) agree_looked,
           ap (λ (v : Known T). v.port) is,
           λ i. next_of
               (sym (from_end old.0.port.sent (length old.0.intake.taken)
-                (omega (arith, taken_all, look.all_sent may))) i)
+              (omega (arith, taken_all, look.all_sent may))) i)
               ((sym found ∙ look.close may) i),
         )
 
@@ -119,8 +118,7 @@ module _ {T : Type 0} where
           taken_seen = omega (arith, more, within);
           all_seen = a.all_seen;
           next = λ y e. absurd (none-some y e);
-        } in
-        (
+        } in (
           subst (λ (v : Known T). Agree old.0.port v.intake slots) (sym is) agree,
           ap (λ (v : Known T). v.port) is,
           ap (λ xs. next_of xs old.0.port.closed)

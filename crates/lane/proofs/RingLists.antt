@@ -1,13 +1,17 @@
 -- Items by their number, and slots by the number of their item.
 use Rattle.std.proofs.Common.{◌≡◌, ◌≢◌, ℕ, zero, suc, ◌+◌, ◌%◌, ◌<◌, ◌≤◌, List, [], ◌∷◌, ◌++◌, length}
 use Rattle.std.proofs.Common.{sym, refl, ap, ◌∙◌, ⊎_elim, arith, append_assoc}
-use Rattle.std.specs.Prelude.{Some, slice_get}
+use Rattle.std.specs.Prelude.{Option, Some, slice_get}
 use Rattle.std.proofs.lemmas.Bool.{cases_lt}
 use Rattle.std.proofs.lemmas.Option.{none-some, same_Some}
 use Rattle.atomic_table.proofs.Lists.{one_turn}
 use Rattle.lane.specs.Lane.{IsBeginning}
 
 module _ {T : Type 0} where
+  abbrev in_hand : Option T → List (ℕ × Option T) → Option T
+  in_hand else_it [] = else_it
+  in_hand else_it (x ∷ xs) = x.1
+
   pub item_there : (xs : List T) (k : ℕ) → k < length xs → (x : T) × (slice_get xs k ≡ Some x)
   item_there [] k h = absurd (omega arith)
   item_there (x ∷ xs) zero h = (x, refl)
@@ -22,6 +26,10 @@ module _ {T : Type 0} where
   item_before [] x (suc k) n = refl
   item_before (y ∷ ys) x zero n = refl
   item_before (y ∷ ys) x (suc k) n = item_before ys x k (λ e. n (ap suc e))
+
+  -- what stands first of two lists that are one
+  pub same_in_hand : (j k : ℕ) (x y : Option T) (xs ys : List (ℕ × Option T)) → (j, x) ∷ xs ≡ (k, y) ∷ ys → x ≡ y
+  same_in_hand j k x y xs ys e = ap (in_hand x) e
 
   -- the item that follows a beginning
   item_after : (xs ys : List T) → slice_get (xs ++ ys) (length xs) ≡ slice_get ys 0

@@ -42,7 +42,7 @@ module _ {T : Type 0} where
       → ((j : ℕ) (u : Known T) → j ≢ token → get_elem? views j ≡ some u → F j u) → Each F (set views token w)
   each_set F views token w mine others j u at = ⊎_elim
       (λ (here : (j ≡ token) × (w ≡ u)).
-        subst (λ (y : ℕ × Known T). F y.0 y.1) (λ i. (sym here.0 i, here.1 i)) mine)
+      subst (λ (y : ℕ × Known T). F y.0 y.1) (λ i. (sym here.0 i, here.1 i)) mine)
       (λ (there : (j ≢ token) × (get_elem? views j ≡ some u)). others j u there.0 there.1)
       (at_set views token j w u at)
 
@@ -159,8 +159,7 @@ module _ {T : Type 0} where
         next = a.next;
       } in
       let stand : Stand s.words s.homes p h.intake =
-      record { count = st.count; head = st.head; tail = st.tail; agree = agree; slots = st.slots } in
-      (
+      record { count = st.count; head = st.head; tail = st.tail; agree = agree; slots = st.slots } in (
         record me.0 { port = p },
         keeps,
         tt,
@@ -169,8 +168,13 @@ module _ {T : Type 0} where
         record {
           looked = ap (λ (q : PortKnows T). (record me.0 { port = port_looked q n }, me.1)) (sym known.1);
           rises = omega (arith, head, a.seen_taken, ap (λ (q : PortKnows T). q.seen_taken) known.1);
-          taken_sent = omega (arith, head, a.taken_seen, a.seen_sent,
-            ap (λ (q : PortKnows T). length q.sent) known.1);
+          taken_sent = omega (
+            arith,
+            head,
+            a.taken_seen,
+            a.seen_sent,
+            ap (λ (q : PortKnows T). length q.sent) known.1,
+          );
           bounded = omega (arith, head, count, a.bounded, ap (λ (q : PortKnows T). length q.sent) known.1);
           all = λ yes. head ∙ ap (λ (t : IntakeKnows T). length t.taken) (sym ((h.each id me.0 at).takes yes).1);
         },
@@ -198,8 +202,14 @@ module _ {T : Type 0} where
       let n = length s.homes in
       let p = record h.port { holds = true } in
       let started : taken ≤ sent = omega (arith, a.taken_seen, a.seen_sent) in
-      let near : sent < taken + n = omega (arith, room, count, a.seen_taken,
-        ap (λ (q : PortKnows T). length q.sent) known.1, ap (λ (q : PortKnows T). q.seen_taken) known.1) in
+      let near : sent < taken + n = omega (
+        arith,
+        room,
+        count,
+        a.seen_taken,
+        ap (λ (q : PortKnows T). length q.sent) known.1,
+        ap (λ (q : PortKnows T). q.seen_taken) known.1,
+      ) in
       let free : h.port.holds ≡ false = ap (λ (q : PortKnows T). q.holds) (sym known.1) ∙ holds in
       let here : get_elem? s.homes (sent % n) ≡ some (some (slice_get h.port.sent sent)) =
       st.slots sent started near (λ e. none_held h.port h.intake n a (omega (arith, e))) (λ _. free) in
@@ -226,21 +236,19 @@ module _ {T : Type 0} where
         slots = subst (λ m. (k : ℕ) → taken ≤ k → k < taken + m → (k ≡ taken → h.intake.next ≡ None)
             → (k ≡ sent → true ≡ false) → get_elem? homes (k % m) ≡ some (some (slice_get h.port.sent k))) (sym wide)
             (λ k low high not_next not_mine.
-              set_else s.homes (sent % n) (k % n) none
-                  (λ same. true≢false (not_mine (one_slot taken k sent n low high started near same)))
-                  ∙ st.slots k low high not_next (λ e. absurd (true≢false (not_mine e))));
-      } in
-      (
+            set_else s.homes (sent % n) (k % n) none
+            (λ same. true≢false (not_mine (one_slot taken k sent n low high started near same)))
+            ∙ st.slots k low high not_next (λ e. absurd (true≢false (not_mine e))));
+      } in (
         record me.0 { port = p },
         takes (sent % n) None,
         empty,
         subst (λ ws. IsRing record { words = ws; homes = homes; views = set s.views id (record me.0 { port = p }) })
             (loaded s.words 16) (port_moves s h id me.0 p s.words homes at sends stand),
         record {
-          claimed = λ i. (
-            record me.0 { port = record (sym known.1 i) { holds = true } },
-            (length ((sym known.1 i).sent) % count i, None) ∷ me.1,
-          );
+          knows = ap (λ (q : PortKnows T). record me.0 { port = record q { holds = true } }) (sym known.1);
+          holds = record { held = λ i. (sent % count i, None) ∷ me.1 };
+          others = refl;
         },
       )
 
@@ -269,8 +277,11 @@ module _ {T : Type 0} where
       let homes = slice_set s.homes (sent % n) (some (Some x)) in
       let wide : length homes ≡ n = length-set s.homes (sent % n) (some (Some x)) in
       let agree : Agree p t n = record {
-        in_order = (a.in_order.0 ++ x ∷ [], ap (λ l. l ++ x ∷ []) a.in_order.1
-            ∙ append_assoc h.intake.taken a.in_order.0 (x ∷ []));
+        in_order = (
+          a.in_order.0 ++ x ∷ [],
+          ap (λ l. l ++ x ∷ []) a.in_order.1
+              ∙ append_assoc h.intake.taken a.in_order.0 (x ∷ []),
+        );
         bounded = omega (arith, more, near);
         few = omega (arith, more, few, same_sent);
         seen_taken = a.seen_taken;
@@ -280,23 +291,23 @@ module _ {T : Type 0} where
         all_seen = λ yes. absurd (unseen yes);
         next = λ y e. let is = a.next y e in
             item_before h.port.sent x taken
-                (λ all. let within = slice_get_within h.port.sent taken y is in omega (arith, all, within)) ∙ is;
+            (λ all. let within = slice_get_within h.port.sent taken y is in omega (arith, all, within)) ∙ is;
       } in
       let words = slice_set s.words 16 new in
       let tail : new ≡ tail_word (length p.sent) h.port.closed =
       omega (arith, word, more, same_sent) ∙ ap (tail_word (length p.sent)) (sym open_still) in
       let slots_of : (k : ℕ) → taken ≤ k → k < taken + n → (k ≡ taken → t.next ≡ None)
-          → (k ≡ length p.sent → false ≡ false) → get_elem? homes (k % n) ≡ some (some (slice_get p.sent k)) =
+      → (k ≡ length p.sent → false ≡ false) → get_elem? homes (k % n) ≡ some (some (slice_get p.sent k)) =
       λ k low high not_next not_mine. ⊎_elim
-          (λ (mine : k ≡ sent). subst (λ j. get_elem? homes (j % n) ≡ some (some (slice_get p.sent j))) (sym mine)
-            (set_here s.homes (sent % n) (some (Some x)) (mod-lt sent (omega arith))
-                ∙ ap (λ (o : Option T). some (some o)) (sym (item_last h.port.sent x))))
-          (λ (other : k ≢ sent).
-            set_else s.homes (sent % n) (k % n) (some (Some x))
-                (λ same. other (one_slot taken k sent n low high started near same))
-                ∙ st.slots k low high not_next (λ e. absurd (other e))
-                ∙ ap (λ (o : Option T). some (some o)) (sym (item_before h.port.sent x k other)))
-          (cases_eq k sent) in
+      (λ (mine : k ≡ sent). subst (λ j. get_elem? homes (j % n) ≡ some (some (slice_get p.sent j))) (sym mine)
+      (set_here s.homes (sent % n) (some (Some x)) (mod-lt sent (omega arith))
+      ∙ ap (λ (o : Option T). some (some o)) (sym (item_last h.port.sent x))))
+      (λ (other : k ≢ sent).
+      set_else s.homes (sent % n) (k % n) (some (Some x))
+      (λ same. other (one_slot taken k sent n low high started near same))
+      ∙ st.slots k low high not_next (λ e. absurd (other e))
+      ∙ ap (λ (o : Option T). some (some o)) (sym (item_before h.port.sent x k other)))
+      (cases_eq k sent) in
       let stand : Stand words homes p t = record {
         count = length-set s.words 16 new ∙ st.count;
         head = get_or-set_other s.words 16 0 new 0 (λ e. omega (arith, e)) ∙ st.head;
@@ -309,16 +320,14 @@ module _ {T : Type 0} where
       let place : length me.0.port.sent % slots ≡ sent % n =
       λ i. length ((known.1 i).sent) % (sym count) i in
       let back : put_back s.homes me.1 ≡ homes =
-      ap (put_back s.homes) held ∙ ap (λ j. slice_set s.homes j (some (Some x))) place in
-      (
+      ap (put_back s.homes) held ∙ ap (λ j. slice_set s.homes j (some (Some x))) place in (
         record me.0 { port = p },
         gives,
         tt,
         subst (λ hs. IsRing record { words = words; homes = hs; views = set s.views id (record me.0 { port = p }) })
             (sym back) (port_moves s h id me.0 p words homes at may stand),
         record {
-          item = x;
-          held = held;
+          holds = record { item = x; held = held };
           sent = ap (λ (q : PortKnows T). (record me.0 { port = port_sent q x }, rest me.1)) (sym known.1);
         },
       )
@@ -350,8 +359,7 @@ module _ {T : Type 0} where
             ∙ ap (λ (q : PortKnows T). length q.sent + 2 ^ 63) known.1;
         agree = agree;
         slots = st.slots;
-      } in
-      (
+      } in (
         record me.0 { port = p },
         keeps,
         tt,
@@ -383,8 +391,7 @@ module _ {T : Type 0} where
         next = a.next;
       } in
       let stand : Stand s.words s.homes h.port t =
-      record { count = st.count; head = st.head; tail = st.tail; agree = agree; slots = st.slots } in
-      (
+      record { count = st.count; head = st.head; tail = st.tail; agree = agree; slots = st.slots } in (
         record me.0 { intake = t },
         keeps,
         tt,
@@ -405,7 +412,7 @@ module _ {T : Type 0} where
             close = λ yes. ap (λ (q : PortKnows T). q.closed) (sym (mine.sends yes).1);
             agree = λ yes. subst (λ (q : PortKnows T). Agree q me.0.intake slots) (sym (mine.sends yes).1)
                 (subst (λ (q : IntakeKnows T). Agree h.port q slots) (sym known.1)
-                  (subst (λ m. Agree h.port h.intake m) count a));
+                (subst (λ m. Agree h.port h.intake m) count a));
           };
         },
       )
@@ -430,7 +437,7 @@ module _ {T : Type 0} where
       let wide_enough : taken < taken + n = omega (arith, some_sent, a.bounded) in
       let full : get_elem? s.homes (taken % n) ≡ some (some (Some it.0)) =
       st.slots taken (omega arith) wide_enough (λ _. was) (λ e. absurd (omega (arith, e, some_sent)))
-          ∙ ap (λ (o : Option T). some (some o)) it.1 in
+      ∙ ap (λ (o : Option T). some (some o)) it.1 in
       let homes = slice_set s.homes (taken % n) none in
       let wide : length homes ≡ n = length-set s.homes (taken % n) none in
       let agree : Agree p t n = record {
@@ -453,22 +460,19 @@ module _ {T : Type 0} where
             → (k ≡ length p.sent → p.holds ≡ false) → get_elem? homes (k % m) ≡ some (some (slice_get p.sent k)))
             (sym wide)
             (λ k low high not_mine not_held.
-              set_else s.homes (taken % n) (k % n) none
-                  (λ same. none-some it.0 (sym (not_mine (one_slot taken k taken n low high (omega arith) wide_enough same))))
-                  ∙ st.slots k low high (λ _. was) not_held);
-      } in
-      (
+            set_else s.homes (taken % n) (k % n) none
+            (λ same. none-some it.0 (sym (not_mine (one_slot taken k taken n low high (omega arith) wide_enough same))))
+            ∙ st.slots k low high (λ _. was) not_held);
+      } in (
         record me.0 { intake = t },
         takes (taken % n) (Some it.0),
         full,
         subst (λ ws. IsRing record { words = ws; homes = homes; views = set s.views id (record me.0 { intake = t }) })
             (loaded s.words 0) (intake_moves s h id me.0 t s.words homes at may stand),
         record {
-          item = it.0;
-          found = λ i. (
-            record me.0 { intake = record (sym known.1 i) { next = Some it.0 } },
-            (length ((sym known.1 i).taken) % count i, Some it.0) ∷ me.1,
-          );
+          holds = record { item = it.0; next = refl; held = λ i. (taken % count i, Some it.0) ∷ me.1 };
+          knows = ap (λ (q : IntakeKnows T). record me.0 { intake = record q { next = Some it.0 } }) (sym known.1);
+          others = refl;
           sent = λ yes. (λ i. slice_get ((mine.sends yes).1 i).sent (length ((known.1 i).taken))) ∙ it.1;
         },
       )
@@ -505,22 +509,22 @@ module _ {T : Type 0} where
       } in
       let words = slice_set s.words 0 new in
       let slots_of : (k : ℕ) → length t.taken ≤ k → k < length t.taken + n → (k ≡ length t.taken → t.next ≡ None)
-          → (k ≡ length p.sent → p.holds ≡ false) → get_elem? homes (k % n) ≡ some (some (slice_get p.sent k)) =
+      → (k ≡ length p.sent → p.holds ≡ false) → get_elem? homes (k % n) ≡ some (some (slice_get p.sent k)) =
       λ k low high _ not_held. ⊎_elim
-          (λ (round : k ≡ taken + n).
-            subst (λ j. get_elem? homes j ≡ some (some (slice_get p.sent k)))
-                (sym (ap (λ j. j % n) round ∙ add-mod_right taken n))
-                (set_here s.homes (taken % n) (some None) (mod-lt taken (omega (arith, within, a.bounded)))
-                    ∙ ap (λ (o : Option T). some (some o))
-                      (sym (slice_get_past p.sent k (omega (arith, round, a.bounded))))))
-          (λ (other : k ≢ taken + n).
-            let near : k < taken + n = omega (arith, high, more, other) in
-            let not_first : k ≢ taken = λ e. omega (arith, e, low, more) in
-            set_else s.homes (taken % n) (k % n) (some None)
-                (λ same. not_first
-                  (one_slot taken k taken n (omega (arith, low, more)) near (omega arith) (omega (arith, near, low, more)) same))
-                ∙ st.slots k (omega (arith, low, more)) near (λ e. absurd (not_first e)) not_held)
-          (cases_eq k (taken + n)) in
+      (λ (round : k ≡ taken + n).
+      subst (λ j. get_elem? homes j ≡ some (some (slice_get p.sent k)))
+      (sym (ap (λ j. j % n) round ∙ add-mod_right taken n))
+      (set_here s.homes (taken % n) (some None) (mod-lt taken (omega (arith, within, a.bounded)))
+      ∙ ap (λ (o : Option T). some (some o))
+      (sym (slice_get_past p.sent k (omega (arith, round, a.bounded))))))
+      (λ (other : k ≢ taken + n).
+      let near : k < taken + n = omega (arith, high, more, other) in
+      let not_first : k ≢ taken = λ e. omega (arith, e, low, more) in
+      set_else s.homes (taken % n) (k % n) (some None)
+      (λ same. not_first
+      (one_slot taken k taken n (omega (arith, low, more)) near (omega arith) (omega (arith, near, low, more)) same))
+      ∙ st.slots k (omega (arith, low, more)) near (λ e. absurd (not_first e)) not_held)
+      (cases_eq k (taken + n)) in
       let stand : Stand words homes p t = record {
         count = length-set s.words 0 new ∙ st.count;
         head = get_or-set_same s.words 0 new 0 (omega (arith, st.count)) ∙ omega (arith, word, more, same_taken);
@@ -533,17 +537,14 @@ module _ {T : Type 0} where
       let place : length me.0.intake.taken % slots ≡ taken % n =
       λ i. length ((known.1 i).taken) % (sym count) i in
       let back : put_back s.homes me.1 ≡ homes =
-      ap (put_back s.homes) held ∙ ap (λ j. slice_set s.homes j (some None)) place in
-      (
+      ap (put_back s.homes) held ∙ ap (λ j. slice_set s.homes j (some None)) place in (
         record me.0 { intake = t },
         gives,
         tt,
         subst (λ hs. IsRing record { words = words; homes = hs; views = set s.views id (record me.0 { intake = t }) })
             (sym back) (intake_moves s h id me.0 t words homes at may stand),
         record {
-          item = x;
-          next = next;
-          held = held;
+          holds = record { item = x; next = next; held = held };
           took = ap (λ (q : IntakeKnows T). (record me.0 { intake = intake_took q x }, rest me.1)) (sym known.1);
         },
       )
@@ -570,8 +571,7 @@ module _ {T : Type 0} where
       length-append vs (right ∷ []) ∙ ap (λ n. n + 1) width in
       let Old : ℕ → Known T → Type 0 =
       λ j u. (u.sends ≢ true) × (u.takes ≡ true → (j ≡ 0) × (u.intake ≡ h.intake) × (u.others ≡ length s.views)) in
-      let old : Each Old vs = each_set Old s.views id left
-      (
+      let old : Each Old vs = each_set Old s.views id left (
         λ yes. true≢false (sym yes),
         λ _. (takes.0, takes.1, takes.2),
       )

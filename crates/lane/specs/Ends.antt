@@ -1,5 +1,5 @@
 -- A token beside what its end counts.
-use Rattle.std.specs.Prelude.{◌≡◌, ◌+◌, ◌^◌, ◌<◌, ◌≤◌, true, false, [], length, Option, Some, None, IsSome, IfSome}
+use Rattle.std.specs.Prelude.{◌≡◌, ℕ, ◌+◌, ◌^◌, ◌<◌, ◌≤◌, true, false, [], length, Option, Some, None, IsSome, IfSome}
 use Rattle.atomic_table.specs.Seated.{TableId}
 use Rattle.atomic_table.specs.declared.shared.Seat.{Seat}
 use Rattle.lane.specs.Ring.{new_port_knows}
@@ -16,30 +16,40 @@ module _ {T : Type 0} where
     pub some_slot : 0 < ring.slots
     pub no_slot : token.me.1 ≡ []
 
-  -- a token that sends, and what it knows is what the port counts
-  pub record IsPort (ring : TableId) (token : Seat (Option T) (Known T)) (counts : PortCounts) : Type 0 where
-    pub token_of : IsTokenOf ring token
-    pub sends : token.me.0.sends ≡ true
-    pub holds : token.me.0.port.holds ≡ false
-    pub capacity : counts.capacity ≡ ring.slots
-    pub sent : counts.sent ≡ length token.me.0.port.sent
+  -- what a token that sends knows is what the port counts
+  pub record AreSent (slots : ℕ) (v : Known T) (counts : PortCounts) : Type 0 where
+    pub sends : v.sends ≡ true
+    pub capacity : counts.capacity ≡ slots
+    pub some_slot : 0 < slots
+    pub sent : counts.sent ≡ length v.port.sent
     pub few : counts.sent ≤ 2 ^ 62
-    pub closed : counts.closed ≡ token.me.0.port.closed
-    pub seen_taken : counts.seen_taken ≡ token.me.0.port.seen_taken
+    pub closed : counts.closed ≡ v.port.closed
+    pub seen_taken : counts.seen_taken ≡ v.port.seen_taken
     pub taken_sent : counts.seen_taken ≤ counts.sent
     pub bounded : counts.sent ≤ counts.seen_taken + counts.capacity
 
-  -- a token that takes, and what it knows is what the intake counts
-  pub record IsIntake (ring : TableId) (token : Seat (Option T) (Known T)) (counts : IntakeCounts) : Type 0 where
-    pub token_of : IsTokenOf ring token
-    pub takes : token.me.0.takes ≡ true
-    pub next : token.me.0.intake.next ≡ None
-    pub capacity : counts.capacity ≡ ring.slots
-    pub taken : counts.taken ≡ length token.me.0.intake.taken
-    pub seen_sent : counts.seen_sent ≡ token.me.0.intake.seen_sent
-    pub seen_close : counts.seen_close ≡ token.me.0.intake.seen_close
+  -- what a token that takes knows is what the intake counts
+  pub record AreTaken (slots : ℕ) (v : Known T) (counts : IntakeCounts) : Type 0 where
+    pub takes : v.takes ≡ true
+    pub capacity : counts.capacity ≡ slots
+    pub some_slot : 0 < slots
+    pub taken : counts.taken ≡ length v.intake.taken
+    pub seen_sent : counts.seen_sent ≡ v.intake.seen_sent
+    pub seen_close : counts.seen_close ≡ v.intake.seen_close
     pub taken_sent : counts.taken ≤ counts.seen_sent
     pub few : counts.seen_sent ≤ 2 ^ 62
+
+  -- the port's token between two calls
+  pub record IsPort (ring : TableId) (token : Seat (Option T) (Known T)) (counts : PortCounts) : Type 0 where
+    pub token_of : IsTokenOf ring token
+    pub holds : token.me.0.port.holds ≡ false
+    pub counted : AreSent ring.slots token.me.0 counts
+
+  -- the intake's
+  pub record IsIntake (ring : TableId) (token : Seat (Option T) (Known T)) (counts : IntakeCounts) : Type 0 where
+    pub token_of : IsTokenOf ring token
+    pub next : token.me.0.intake.next ≡ None
+    pub counted : AreTaken ring.slots token.me.0 counts
 
   -- the port's token is there
   abbrev pub HasPort : TableId → Option (Seat (Option T) (Known T)) → PortCounts → Type 0

@@ -22,21 +22,34 @@ module _ {T : Type 0} where
     -- a token that takes too finds what it has taken
     pub all : old.0.takes ≡ true → found ≡ length old.0.intake.taken
 
-  -- the port takes the slot of the next item, which is empty
+  -- the port has the slot of the next item in hand, which is empty
+  pub record HoldsVacant (slots : ℕ) (me : Me (Option T) (Known T)) : Type 0 where
+    pub held : me.1 ≡ (length me.0.port.sent % slots, None) ∷ rest me.1
+
+  -- the port takes that slot
   pub record Claimed (slots : ℕ) (old : Me (Option T) (Known T)) (new : Me (Option T) (Known T)) : Type 0 where
-    pub claimed : new ≡ (
-      record old.0 { port = record old.0.port { holds = true } },
-      (length old.0.port.sent % slots, None) ∷ old.1,
-    )
+    pub knows : new.0 ≡ record old.0 { port = record old.0.port { holds = true } }
+    pub holds : HoldsVacant slots new
+    pub others : rest new.1 ≡ old.1
+
+  -- the port has the slot of the next item in hand, and the item in it
+  pub record HoldsItem (slots : ℕ) (me : Me (Option T) (Known T)) : Type 0 where
+    pub item : T
+    pub held : me.1 ≡ (length me.0.port.sent % slots, Some item) ∷ rest me.1
+
+  pub record Filled (slots : ℕ) (old : Me (Option T) (Known T)) (item : T) (new : Me (Option T) (Known T)) : Type 0 where
+    pub knows : new.0 ≡ old.0
+    pub holds : HoldsItem slots new
+    pub with_item : holds.item ≡ item
+    pub others : rest new.1 ≡ rest old.1
 
   -- the port gives that slot back with the item, and has sent it
   abbrev pub port_sent : PortKnows T → T → PortKnows T
   port_sent p x = record p { sent = p.sent ++ x ∷ []; holds = false }
 
   pub record Sent (slots : ℕ) (old : Me (Option T) (Known T)) (new : Me (Option T) (Known T)) : Type 0 where
-    pub item : T
-    pub held : old.1 ≡ (length old.0.port.sent % slots, Some item) ∷ rest old.1
-    pub sent : new ≡ (record old.0 { port = port_sent old.0.port item }, rest old.1)
+    pub holds : HoldsItem slots old
+    pub sent : new ≡ (record old.0 { port = port_sent old.0.port holds.item }, rest old.1)
 
   pub record Closed (old : Me (Option T) (Known T)) (new : Me (Option T) (Known T)) : Type 0 where
     pub closed : new ≡ (record old.0 { port = record old.0.port { closed = true } }, old.1)
@@ -64,25 +77,39 @@ module _ {T : Type 0} where
     pub word : found ≡ tail_word sent closed
     pub looked : TailLooked slots old sent closed new
 
-  -- the intake takes the slot of the next item, with the item
-  pub record Found (slots : ℕ) (old : Me (Option T) (Known T)) (new : Me (Option T) (Known T)) : Type 0 where
+  -- the intake has the slot of the next item in hand, and the item in it
+  pub record HoldsNext (slots : ℕ) (me : Me (Option T) (Known T)) : Type 0 where
     pub item : T
-    pub found : new ≡ (
-      record old.0 { intake = record old.0.intake { next = Some item } },
-      (length old.0.intake.taken % slots, Some item) ∷ old.1,
-    )
-    -- a token that sends too finds what it has sent
-    pub sent : old.0.sends ≡ true → slice_get old.0.port.sent (length old.0.intake.taken) ≡ Some item
+    pub next : me.0.intake.next ≡ Some item
+    pub held : me.1 ≡ (length me.0.intake.taken % slots, Some item) ∷ rest me.1
 
-  -- the intake gives that slot back empty, and has taken the item
+  -- the intake takes that slot
+  pub record Found (slots : ℕ) (old : Me (Option T) (Known T)) (new : Me (Option T) (Known T)) : Type 0 where
+    pub holds : HoldsNext slots new
+    pub knows : new.0 ≡ record old.0 { intake = record old.0.intake { next = Some holds.item } }
+    pub others : rest new.1 ≡ old.1
+    -- a token that sends too finds what it has sent
+    pub sent : old.0.sends ≡ true → slice_get old.0.port.sent (length old.0.intake.taken) ≡ Some holds.item
+
+  -- the intake has the slot of the next item in hand, and has emptied it
+  pub record HoldsEmpty (slots : ℕ) (me : Me (Option T) (Known T)) : Type 0 where
+    pub item : T
+    pub next : me.0.intake.next ≡ Some item
+    pub held : me.1 ≡ (length me.0.intake.taken % slots, None) ∷ rest me.1
+
+  pub record Emptied (slots : ℕ) (old : Me (Option T) (Known T)) (item : T) (new : Me (Option T) (Known T)) : Type 0 where
+    pub knows : new.0 ≡ old.0
+    pub holds : HoldsEmpty slots new
+    pub with_item : holds.item ≡ item
+    pub others : rest new.1 ≡ rest old.1
+
+  -- the intake gives that slot back, and has taken the item
   abbrev pub intake_took : IntakeKnows T → T → IntakeKnows T
   intake_took t x = record t { taken = t.taken ++ x ∷ []; next = None }
 
   pub record Took (slots : ℕ) (old : Me (Option T) (Known T)) (new : Me (Option T) (Known T)) : Type 0 where
-    pub item : T
-    pub next : old.0.intake.next ≡ Some item
-    pub held : old.1 ≡ (length old.0.intake.taken % slots, None) ∷ rest old.1
-    pub took : new ≡ (record old.0 { intake = intake_took old.0.intake item }, rest old.1)
+    pub holds : HoldsEmpty slots old
+    pub took : new ≡ (record old.0 { intake = intake_took old.0.intake holds.item }, rest old.1)
 
   -- the next item that was seen sent, or else whether the lane is at its end
   abbrev pub NextOf : Known T → Known T → Taken T → Type 0

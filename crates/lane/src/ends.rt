@@ -2,12 +2,11 @@ ghost use Rattle.std.specs.Prelude.{◌≡◌, ◌<◌, ◌≤◌, ◌↔◌, Is
 ghost use Rattle.lane.specs.Lane.{Lane, SameLane, SeesWhatIs, PortGoesOn, IntakeGoesOn, new_port, new_intake};
 
 use crate::error::LaneError;
-use crate::intake;
 use crate::intake::Intake;
-use crate::port;
 use crate::port::Port;
 use crate::ring::meeting::{join, part};
 use crate::ring::ring;
+use crate::{intake, port};
 use std::alloc::Global;
 
 /// The largest capacity of a lane.

@@ -1,9 +1,9 @@
 ghost use Rattle.std.specs.Prelude.{◌≡◌, ◌<◌, ◌≤◌, ◌+◌, ◌^◌, [], ◌∷◌, ◌++◌, true, false, length, drop, slice_get, Some};
 ghost use Rattle.std.specs.Arc.{arc_value};
 ghost use Rattle.lane.specs.Lane.{Lane, SameLane, SeesWhatIs, PortGoesOn, IntakeGoesOn, HasEnded, new_intake};
-ghost use Rattle.lane.specs.Ends.{IsIntake, IsTokenOf};
+ghost use Rattle.lane.specs.Ends.{IsIntake, AreTaken, IsTokenOf};
 ghost use Rattle.lane.specs.Ring.{new_intake_knows};
-ghost use Rattle.lane.specs.Steps.{TailLooked, intake_took, NextOf};
+ghost use Rattle.lane.specs.Steps.{TailLooked, HoldsNext, Found, HoldsEmpty, Emptied, Took, intake_took, NextOf};
 ghost use Rattle.lane.specs.Taken.{items_of, next_of, IfEmpty, IfEnd};
 ghost use Rattle.lane.specs.declared.intake.Taken.TheVariants.{Item, Empty, End};
 
@@ -140,7 +140,11 @@ pub(crate) fn look<T>(ring: &Ring<T>, token: &mut Token<T>, counts: &mut IntakeC
 {
     let tail = ring.shared.load::<LooksAtTail>(token, TAIL);
     counts.seen_close = tail >= CLOSING_BIT;
-    counts.seen_sent = if counts.seen_close { tail - CLOSING_BIT } else { tail };
+    counts.seen_sent = if counts.seen_close {
+        tail - CLOSING_BIT
+    } else {
+        tail
+    };
 }
 
 // The next item that was seen sent, or else whether the lane is at its end.
@@ -158,7 +162,7 @@ fn next<T>(ring: &Ring<T>, token: &mut Token<T>, counts: &mut IntakeCounts) -> T
     }
 }
 
-// Takes the item out of the next slot, and tells the port.
+// Takes the item out of the next slot, and then tells the port.
 fn pop<T>(ring: &Ring<T>, token: &mut Token<T>, counts: &mut IntakeCounts) -> T
     requires intake { IsIntake ring.now.shared.table_id token.old counts.old }
     requires seen { counts.old.taken < counts.old.seen_sent }
@@ -168,12 +172,47 @@ fn pop<T>(ring: &Ring<T>, token: &mut Token<T>, counts: &mut IntakeCounts) -> T
     ensures sent { token.old.me.0.sends ≡ true
         → slice_get token.old.me.0.port.sent (length token.old.me.0.intake.taken) ≡ Some result }
 {
-    let slot = (counts.taken % counts.capacity as u64) as usize;
+    find(ring, token, counts);
+    let item = empty(ring, token, counts);
+    free(ring, token, counts);
+    item
+}
+
+// Makes the slot of the next item the intake's. The load tells nothing.
+fn find<T>(ring: &Ring<T>, token: &mut Token<T>, counts: &IntakeCounts)
+    requires intake { IsIntake ring.now.shared.table_id token.old counts.now }
+    requires seen { counts.now.taken < counts.now.seen_sent }
+    ensures ring { token.new.table_id ≡ token.old.table_id }
+    ensures found { Found ring.now.shared.table_id.slots token.old.me token.new.me }
+{
     ring.shared.load::<Finds>(token, HEAD);
+}
+
+// Takes the item out of that slot.
+fn empty<T>(ring: &Ring<T>, token: &mut Token<T>, counts: &IntakeCounts) -> T
+    requires ring { token.old.table_id ≡ ring.now.shared.table_id }
+    requires counts { AreTaken ring.now.shared.table_id.slots token.old.me.0 counts.now }
+    requires slot { HoldsNext ring.now.shared.table_id.slots token.old.me }
+    ensures ring { token.new.table_id ≡ token.old.table_id }
+    ensures emptied { Emptied ring.now.shared.table_id.slots token.old.me result token.new.me }
+{
+    let slot = (counts.taken % counts.capacity as u64) as usize;
     let Some(item) = ring.shared.exchange(token, slot, None) else {
         unreachable!()
     };
+    item
+}
+
+// Stores head, one larger, and with it gives back the slot, which is empty.
+fn free<T>(ring: &Ring<T>, token: &mut Token<T>, counts: &mut IntakeCounts)
+    requires ring { (token.old.table_id ≡ ring.now.shared.table_id) × (ring.now.shared.table_id.words ≡ 17) }
+    requires counts { AreTaken ring.now.shared.table_id.slots token.old.me.0 counts.old }
+    requires seen { counts.old.taken < counts.old.seen_sent }
+    requires slot { HoldsEmpty ring.now.shared.table_id.slots token.old.me }
+    ensures ring { token.new.table_id ≡ token.old.table_id }
+    ensures counts { AreTaken ring.now.shared.table_id.slots token.new.me.0 counts.new }
+    ensures took { Took ring.now.shared.table_id.slots token.old.me token.new.me }
+{
     counts.taken += 1;
     ring.shared.store::<Takes>(token, HEAD, counts.taken);
-    item
 }

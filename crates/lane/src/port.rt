@@ -2,9 +2,9 @@ ghost use Rattle.std.specs.Prelude.{◌≡◌, ◌+◌, ◌^◌, ◌<◌, ◌≤
 ghost use Rattle.std.specs.Prelude.{Err, IsOk, OnOk, OnErr, IfErr, IsTrue};
 ghost use Rattle.std.specs.Arc.{arc_value};
 ghost use Rattle.lane.specs.Lane.{PortGoesOn, new_port};
-ghost use Rattle.lane.specs.Ends.{IsPort, IsTokenOf};
+ghost use Rattle.lane.specs.Ends.{IsPort, AreSent, IsTokenOf};
 ghost use Rattle.lane.specs.Ring.{new_port_knows};
-ghost use Rattle.lane.specs.Steps.{HeadLooked, port_sent};
+ghost use Rattle.lane.specs.Steps.{HeadLooked, HoldsVacant, Claimed, HoldsItem, Filled, Sent, port_sent};
 ghost use Rattle.lane.specs.Refused.{item_of};
 ghost use Rattle.lane.specs.declared.port.Refused.TheVariants.{Full, Closed, Worn};
 
@@ -163,7 +163,7 @@ pub(crate) fn look<T>(ring: &Ring<T>, token: &mut Token<T>, counts: &mut PortCou
     counts.seen_taken = ring.shared.load::<LooksAtHead>(token, HEAD);
 }
 
-// Puts the item into the next slot, and tells the intake.
+// Puts the item into the next slot, and then tells the intake.
 fn push<T>(ring: &Ring<T>, token: &mut Token<T>, counts: &mut PortCounts, item: T)
     requires port { IsPort ring.now.shared.table_id token.old counts.old }
     requires open { counts.old.closed ≡ false }
@@ -172,10 +172,46 @@ fn push<T>(ring: &Ring<T>, token: &mut Token<T>, counts: &mut PortCounts, item: 
     ensures port { IsPort ring.now.shared.table_id token.new counts.new }
     ensures sent { token.new.me.0 ≡ record token.old.me.0 { port = port_sent token.old.me.0.port item } }
 {
-    let slot = (counts.sent % counts.capacity as u64) as usize;
+    claim(ring, token, counts);
+    fill(ring, token, counts, item);
+    publish(ring, token, counts);
+}
+
+// Makes the slot of the next item the port's. The load tells nothing.
+fn claim<T>(ring: &Ring<T>, token: &mut Token<T>, counts: &PortCounts)
+    requires port { IsPort ring.now.shared.table_id token.old counts.now }
+    requires room { counts.now.sent < counts.now.seen_taken + counts.now.capacity }
+    ensures ring { token.new.table_id ≡ token.old.table_id }
+    ensures claimed { Claimed ring.now.shared.table_id.slots token.old.me token.new.me }
+{
     ring.shared.load::<Claims>(token, TAIL);
+}
+
+// Puts the item into that slot.
+fn fill<T>(ring: &Ring<T>, token: &mut Token<T>, counts: &PortCounts, item: T)
+    requires ring { token.old.table_id ≡ ring.now.shared.table_id }
+    requires counts { AreSent ring.now.shared.table_id.slots token.old.me.0 counts.now }
+    requires slot { HoldsVacant ring.now.shared.table_id.slots token.old.me }
+    ensures ring { token.new.table_id ≡ token.old.table_id }
+    ensures filled { Filled ring.now.shared.table_id.slots token.old.me item token.new.me }
+{
+    let slot = (counts.sent % counts.capacity as u64) as usize;
     let vacant = ring.shared.exchange(token, slot, Some(item));
     let None = vacant else { unreachable!() };
+}
+
+// Stores tail, one larger, and with it gives back the slot, which has the item.
+fn publish<T>(ring: &Ring<T>, token: &mut Token<T>, counts: &mut PortCounts)
+    requires ring { (token.old.table_id ≡ ring.now.shared.table_id) × (ring.now.shared.table_id.words ≡ 17) }
+    requires counts { AreSent ring.now.shared.table_id.slots token.old.me.0 counts.old }
+    requires item { HoldsItem ring.now.shared.table_id.slots token.old.me }
+    requires open { counts.old.closed ≡ false }
+    requires few { counts.old.sent < MAX_SENT }
+    requires room { counts.old.sent < counts.old.seen_taken + counts.old.capacity }
+    ensures ring { token.new.table_id ≡ token.old.table_id }
+    ensures counts { AreSent ring.now.shared.table_id.slots token.new.me.0 counts.new }
+    ensures sent { Sent ring.now.shared.table_id.slots token.old.me token.new.me }
+{
     counts.sent += 1;
     ring.shared.store::<Sends>(token, TAIL, counts.sent);
 }
@@ -188,5 +224,6 @@ fn close<T>(ring: &Ring<T>, token: &mut Token<T>, counts: &mut PortCounts)
     ensures closed { token.new.me.0 ≡ record token.old.me.0 { port = record token.old.me.0.port { closed = true } } }
 {
     counts.closed = true;
-    ring.shared.store::<Closes>(token, TAIL, counts.sent + CLOSING_BIT);
+    ring.shared
+        .store::<Closes>(token, TAIL, counts.sent + CLOSING_BIT);
 }

@@ -4,6 +4,8 @@ use Rattle.lane.proofs.port.close.Goals as goal
 
 pub store-requires : goal.store-requires
 store-requires g c =
-    let port = c.requires.port in
-    (port.token_of.ring_of, omega (arith, port.token_of.words),
-      closes _ _ _ _ port.sends (omega (arith, port.sent)))
+    let port = c.requires.port in (
+      port.token_of.ring_of,
+      omega (arith, port.token_of.words),
+      closes _ _ _ _ port.counted.sends (omega (arith, port.counted.sent)),
+    )

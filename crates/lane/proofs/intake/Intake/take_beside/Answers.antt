@@ -16,9 +16,9 @@ returns-clause-lane g c =
     let intake = ap (λ (v : Known T). v.intake) c.part.ensures.intake in
     let slots = c.deref-2.result.now.shared.table_id.slots in
     as_lane _ _ _ _ slots _ _ (subst (λ p. Agree p c.part.new.intake.me.0.intake slots) (sym port)
-        (subst (λ t. Agree c.join.new.intake.me.0.port t slots) (sym intake) now.0))
-        ((λ i. (c.deref-2.ensures i).shared.table_id.slots) ∙ ap (λ (v : IntakeView T). v.capacity) c.self.view_is ∙ sym c.requires.same_lane.capacity
-            ∙ sym (ap (λ (v : PortView T). v.capacity) c.port.view_is))
+    (subst (λ t. Agree c.join.new.intake.me.0.port t slots) (sym intake) now.0))
+    ((λ i. (c.deref-2.ensures i).shared.table_id.slots) ∙ ap (λ (v : IntakeView T). v.capacity) c.self.view_is ∙ sym c.requires.same_lane.capacity
+    ∙ sym (ap (λ (v : PortView T). v.capacity) c.port.view_is))
 
 pub returns-clause-next : goal.returns-clause-next
 returns-clause-next g c =
@@ -26,7 +26,7 @@ returns-clause-next g c =
     let sends = ap (λ (v : Known T). v.sends) c.join.ensures.both in
     let now = beside _ _ _ _ sends _ c.look.ensures.looked _ _ c.next-taken.ensures.next in
     let taken = ap (λ (v : Known T). v.intake.taken) c.join.ensures.both
-        ∙ ap (λ (v : IntakeView T). v.taken) c.self.view_is in
+    ∙ ap (λ (v : IntakeView T). v.taken) c.self.view_is in
     let token = sym c.in-Some.is ∙ c.take.ensures.value in
     let port = ap (λ (v : Known T). v.port) c.join.ensures.both ∙ ap port_of token in
     let sent = ap (λ p. p.sent) port ∙ ap (λ (v : PortView T). v.sent) c.port.view_is in
