@@ -11,7 +11,6 @@ pub mod SameLanes
 pub mod Getters
 pub mod Serving
 pub mod Working
-pub mod Turns
 pub mod Runs
 pub mod Keeping
 pub mod Replaying

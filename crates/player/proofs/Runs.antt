@@ -8,7 +8,7 @@ use Rattle.std.proofs.lemmas.Option.{same_Some, slice_get-map, slice_get_within,
 use Rattle.keyspace.specs.Run.{Step}
 use Rattle.resolver.specs.declared.client.Client.{Client}
 use Rattle.resolver.specs.declared.turn.Account.{Account}
-use Rattle.resolver.specs.Resolver.{IsNewClient}
+use Rattle.resolver.specs.Resolver.{TakesOnlyFrom, IsNewClient}
 use Rattle.resolver.specs.Settled.{Settled}
 use Rattle.player.specs.declared.failures.ProxyFailure.{ProxyFailure}
 use Rattle.player.specs.declared.line.Line.{Line}
@@ -17,7 +17,7 @@ use Rattle.player.specs.declared.outcome.Outcome.{Outcome}
 use Rattle.player.specs.declared.worker.Finished.{Finished}
 use Rattle.player.specs.Worker.{HasWorked}
 use Rattle.player.specs.Threads.{given_each, HasWorkedOn, IsOutcomeOf, failure_of}
-use Rattle.player.specs.Run.{TakesOnlyFrom, IsServed, IsRun, is_complete}
+use Rattle.player.specs.Run.{IsServed, IsRun, is_complete}
 use Rattle.player.proofs.SameLanes.{found}
 use Rattle.player.proofs.Serving.{both, served}
 use Rattle.player.proofs.Working.{finished_count, worked_at}
@@ -55,12 +55,13 @@ module _ {S : Type 0} (remaining : S → Option (List ℕ)) (options : Options) 
       (settled.each proxy f.client (mapped_at (λ (f : Finished). f.client) finished proxy f there))
       (λ all. all_at (λ (f : Finished). f.unsent ≡ None) finished proxy f (of_finished.all_sent all) there)
 
-  pub is_run : TakesOnlyFrom (length readers) log
-      → IsRun options (map remaining readers) (map vec_items outcome.lines.items) outcome.failures.items
+  pub is_run : IsRun options (map remaining readers) (map vec_items outcome.lines.items) outcome.failures.items
       (is_complete outcome account) account.stop
-  is_run only = record {
+  is_run = record {
     log = log;
-    proxies = subst (λ (n : ℕ). TakesOnlyFrom n log) (sym (length-map readers remaining)) only;
+    proxies =
+        subst (λ (n : ℕ). TakesOnlyFrom n log) (length-map finished (λ (f : Finished). f.client) ∙ count)
+        settled.proxies;
     received_count =
         length-map outcome.lines.items vec_items ∙ ap length of_finished.lines
         ∙ length-map finished (λ (f : Finished). f.lines) ∙ count;

@@ -7,7 +7,7 @@ use Rattle.keyspace.specs.declared.answer.Answer.{Answer}
 use Rattle.keyspace.specs.Chain.{IsChain}
 use Rattle.keyspace.specs.Run.{Step, run, answers, part}
 use Rattle.resolver.specs.declared.stop.Stop.{Stop}
-use Rattle.resolver.specs.Resolver.{FinishesLast}
+use Rattle.resolver.specs.Resolver.{TakesOnlyFrom, FinishesLast}
 use Rattle.player.specs.declared.failures.Ending.{Ending}
 use Rattle.player.specs.declared.failures.Ending.TheVariants.{Complete, Incomplete, Stopped}
 use Rattle.player.specs.declared.failures.ProxyFailure.{ProxyFailure}
@@ -17,7 +17,7 @@ use Rattle.player.specs.declared.start.StartError.{StartError}
 use Rattle.player.specs.Failures.{failure_lines, with_loss, NothingFailed}
 use Rattle.player.specs.Line.{answers_of}
 use Rattle.player.specs.Lines.{lines}
-use Rattle.player.specs.Run.{TakesOnlyFrom, IsRun}
+use Rattle.player.specs.Run.{IsRun}
 use Rattle.player.specs.Start.{start_line}
 use Rattle.player.specs.Worker.{TakesFrames}
 

@@ -1,35 +1,23 @@
 -- A run, beside the reference resolver: what was read of each file, and what its proxy was answered. This project's
 -- own.
-use Rattle.std.specs.Prelude.{◌≡◌, ◌≢◌, ℕ, ◌<◌, ℤ, Bool, true, false, ◌&&◌, List, [], ◌∷◌, length, Option, None, Some, IfSome, slice_get}
+use Rattle.std.specs.Prelude.{◌≡◌, ◌≢◌, ℕ, ℤ, Bool, true, false, ◌&&◌, List, length, Option, None, Some, IfSome, slice_get}
 use Rattle.std.specs.List.{All}
 use Rattle.std.specs.Io.KnownBytes.{IsAtEnd}
 use Rattle.keyspace.specs.declared.batch.Batch.{Batch}
 use Rattle.keyspace.specs.Chain.{IsChain}
-use Rattle.keyspace.specs.Run.{Step, Take, Finish, run, answers, part}
+use Rattle.keyspace.specs.Run.{Step, run, answers, part}
 use Rattle.wire.specs.declared.error.WireError.TheVariants as wire
 use Rattle.wire.specs.NextFrame.{IsFaultOf}
 use Rattle.resolver.specs.declared.stop.Stop.{Stop}
 use Rattle.resolver.specs.declared.turn.Account.{Account}
 use Rattle.resolver.specs.Books.{IsBeginning}
-use Rattle.resolver.specs.Resolver.{ResolverState, StandsOver, FinishesLast}
+use Rattle.resolver.specs.Resolver.{TakesOnlyFrom, FinishesLast}
 use Rattle.player.specs.declared.failures.ProxyFailure.{ProxyFailure}
 use Rattle.player.specs.declared.line.Line.{Line}
 use Rattle.player.specs.declared.options.Options.{Options}
 use Rattle.player.specs.declared.outcome.Outcome.{Outcome}
 use Rattle.player.specs.Line.{answers_of, IsLineOf}
 use Rattle.player.specs.Worker.{TakesFrames}
-
--- batches are taken from so many proxies alone
-abbrev pub TakesOnlyFrom : ℕ → List Step → Type 0
-TakesOnlyFrom proxies [] = Unit {0}
-TakesOnlyFrom proxies (Take proxy batch ∷ log) = (proxy < proxies) × TakesOnlyFrom proxies log
-TakesOnlyFrom proxies (Finish ∷ log) = TakesOnlyFrom proxies log
-
--- there is a log for which the resolver stands, of its own proxies alone
-pub record StandsForSome (r : ResolverState) : Type 0 where
-  pub log : List Step
-  pub stands : StandsOver r log
-  pub proxies : TakesOnlyFrom (length r.lanes) log
 
 -- every answer was taken, and every batch that was read was sent
 abbrev pub is_complete : Outcome → Account → Bool

@@ -3,7 +3,8 @@
 ghost use Rattle.std.specs.Prelude.{◌≡◌, ◌≤◌, map, vec_items, vec_len, IfOk};
 ghost use Rattle.resolver.specs.declared.sequential.TheConstants.{MAX_PROXIES};
 ghost use Rattle.resolver.specs.Lanes.{Each, LanesGoOn};
-ghost use Rattle.player.specs.Run.{StandsForSome, IsRun, is_complete};
+ghost use Rattle.resolver.specs.Resolver.{IsResolving};
+ghost use Rattle.player.specs.Run.{IsRun, is_complete};
 
 use crate::gatekeeper::Gatekeeper;
 use crate::options::Options;
@@ -55,7 +56,7 @@ pub fn run<
 
 // Turns the resolver until it is done; after a stop, until a turn leaves nothing owed.
 fn turn_to_end<R: Wait>(rt: &R, resolver: &mut Resolver)
-    ensures log { StandsForSome resolver.old → StandsForSome resolver.new }
+    ensures resolving { IsResolving resolver.old → IsResolving resolver.new }
     ensures window { resolver.new.core.books.set.window ≡ resolver.old.core.books.set.window }
     ensures lanes { Each (λ _ l m. LanesGoOn l m) resolver.old.lanes resolver.new.lanes }
 {

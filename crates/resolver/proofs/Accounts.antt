@@ -3,7 +3,7 @@ use Rattle.std.proofs.Common.{◌≡◌, ℕ, suc, eqb, ◌<◌, Bool, true, Lis
 use Rattle.std.specs.Prelude.{is_some, option_map, slice_get, slice_index_or}
 use Rattle.std.proofs.lemmas.Bool.{false≢true, eqb-true, eq-eqb}
 use Rattle.std.proofs.lemmas.Option.{slice_get-map, slice_get_within, get_or_from_slice_get}
-use Rattle.std.proofs.lemmas.List.{nil_from_length}
+use Rattle.std.proofs.lemmas.List.{nil_from_length, length-map}
 use Rattle.std.proofs.lemmas.List.Folds.{sum_by-zero}
 use Rattle.std.proofs.lemmas.List.Sums.{AllPass-from_list_all}
 use Rattle.keyspace.specs.declared.answer.Answer.{Answer}
@@ -17,11 +17,12 @@ use Rattle.resolver.specs.Owed.{owed_to, owed_count}
 use Rattle.resolver.specs.Books.{Books, Given, IsBeginning, made_to}
 use Rattle.resolver.specs.Stands.{StandsBy}
 use Rattle.resolver.specs.Lanes.{Lanes, all_ended, sent_to}
-use Rattle.resolver.specs.Resolver.{StandsOver, FinishesBy, FinishesLast}
+use Rattle.resolver.specs.Resolver.{StandsOver, TakesOnlyFrom, FinishesBy, FinishesLast}
 use Rattle.resolver.specs.Links.{LinkView, Parts, AreParts, lanes_of, owed_with, resolver_of}
 use Rattle.resolver.specs.Settled.{Settled, SettledFor, IsComplete}
 use Rattle.resolver.proofs.Growing.{begins_itself, begins_then}
 use Rattle.resolver.proofs.Standing.{AreOf-standing}
+use Rattle.resolver.proofs.OnlyFrom.{stands_only}
 use Rattle.resolver.proofs.Settling.{lanes_at}
 use Rattle.resolver.proofs.Unchanged.{LanesHold, slice_get_inside}
 
@@ -152,9 +153,7 @@ module _ (p : Parts) (are : AreParts p) (clients : List Client) (count : length 
       sent_is = field proxy l l_at (λ k. k.replies.sent) []
 
       part_is : part log proxy ≡ l.lanes.requests.taken
-      part_is =
-          let within = slice_get_within lanes proxy l.lanes at in
-          stands.parts proxy within ∙ field proxy l l_at (λ k. k.requests.taken) []
+      part_is = stands.parts proxy ∙ field proxy l l_at (λ k. k.requests.taken) []
 
       made_is : made_to proxy (sent_to lanes) books ≡ l.lanes.replies.sent ++ owed_to proxy books.owed
       made_is = ap (λ sent. sent ++ owed_to proxy books.owed) sent_is
@@ -235,8 +234,12 @@ module _ (p : Parts) (are : AreParts p) (clients : List Client) (count : length 
           let l = link_of proxy c at in
           let both = holds proxy l.0 c l.1 at in
           settled_for proxy c l.0 at l.1 both.0 both.1 once none account.complete is;
+      proxies = subst (λ many. TakesOnlyFrom many log) as_many (stands_only (resolver_of p) log stands);
       chain = chains books.set.window log;
       finish = λ yes. finishes (is yes);
       none_held = λ yes. holds_none none (is yes);
       no_stop = λ yes. stop ∙ (is yes).no_stop;
     }
+      where
+        as_many : length lanes ≡ length clients
+        as_many = length-map p.links (λ k. k.lanes) ∙ sym count

@@ -103,7 +103,7 @@ module _ (parts : Parts) (are : AreParts parts) (through : IsThrough (resolver_o
       (λ p l m at_old at_new. ap (λ (x : Lanes). x.requests.taken) (each_lane.each p l m at_old at_new)) in
       let none_sent = field_same (λ (l : Lanes). l.replies.sent) old.lanes new.lanes each_lane.count
       (λ p l m at_old at_new. ap (λ (x : Lanes). x.replies.sent) (each_lane.each p l m at_old at_new)) in
-      stands_same old new log each_lane.count refl ended_same none_taken stands
+      stands_same old new log refl ended_same none_taken stands
       (StandsBy-moved (sent_to old.lanes) (sent_to new.lanes) old.core.books new.core.books.owed
       (ap length owed_same)
       (λ p _. ap (λ xs. xs ++ owed_to p new.core.books.owed) (none_sent p)

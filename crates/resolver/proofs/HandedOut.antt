@@ -229,7 +229,7 @@ module _ (parts : Parts) (are : AreParts parts) (core : CoreState) (only : OwesO
       (λ p l m at_old at_new. ap (λ (x : Lanes). x.requests.taken) (each_lane.each p l m at_old at_new).0) in
       let closed_same = λ (p : ℕ) (l m : Lanes) (at_old : slice_get old.lanes p ≡ Some l)
       (at_new : slice_get new.lanes p ≡ Some m). (each_lane.each p l m at_old at_new).2 in
-      stands_same old new log each_lane.count refl ended_same none_taken stands
+      stands_same old new log refl ended_same none_taken stands
       (StandsBy-moved (sent_to old.lanes) (sent_to new.lanes) old.core.books after same_count
       (λ p _. made_alike p) old.core.stop log stands.core)
       (λ running p m at closed.

@@ -11,6 +11,8 @@ pub mod Standing
 pub mod Linked
 pub mod Handed
 pub mod Logged
+pub mod OnlyFrom
+pub mod Resolving
 pub mod HandedOut
 pub mod Closing
 pub mod Turning

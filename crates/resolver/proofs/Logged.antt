@@ -1,5 +1,5 @@
 -- A resolver over lanes stands for a log of one step more.
-use Rattle.std.proofs.Common.{◌≡◌, ℕ, ◌==◌, cond, Bool, true, false, List, [], ◌∷◌, ◌++◌, length, Some, None, sym, ap, subst, ◌∙◌, refl, inl, inr, arith}
+use Rattle.std.proofs.Common.{◌≡◌, ℕ, ◌==◌, cond, Bool, true, false, List, [], ◌∷◌, ◌++◌, length, Some, None, sym, ap, subst, ◌∙◌, refl, inl, inr}
 use Rattle.std.specs.Prelude.{slice_get}
 use Rattle.std.proofs.lemmas.Bool.{true≢false}
 use Rattle.std.proofs.lemmas.Option.{same_Some, none-some, slice_get_past}
@@ -75,9 +75,9 @@ module _ (old new : ResolverState) (log : List Step) (count : length new.lanes �
       → StandsOver new (log ++ Take proxy batch ∷ [])
   stands_taken proxy batch takes before after core = record {
     core = core;
-    parts = λ other inside.
+    parts = λ other.
         part-taken log proxy batch other
-        ∙ ap (λ bs. cond (proxy == other) (bs ++ batch ∷ []) bs) (s.parts other (omega (arith, inside, count)))
+        ∙ ap (λ bs. cond (proxy == other) (bs ++ batch ∷ []) bs) (s.parts other)
         ∙ sym (takes other);
     finish = λ still.
         subst (λ e. FinishesBy e (log ++ Take proxy batch ∷ [])) (sym after)
@@ -91,8 +91,7 @@ module _ (old new : ResolverState) (log : List Step) (count : length new.lanes �
       → StandsOver new (log ++ Finish ∷ [])
   stands_finished takes before after core = record {
     core = core;
-    parts = λ other inside.
-        part-finished log other ∙ s.parts other (omega (arith, inside, count)) ∙ sym (takes other);
+    parts = λ other. part-finished log other ∙ s.parts other ∙ sym (takes other);
     finish = λ still.
         subst (λ e. FinishesBy e (log ++ Finish ∷ [])) (sym after)
         (log, refl, finishes (all_ended old.lanes) log before (s.finish running));
@@ -100,15 +99,14 @@ module _ (old new : ResolverState) (log : List Step) (count : length new.lanes �
   }
 
 -- nothing was taken, and answers at most have moved
-module _ (old new : ResolverState) (log : List Step) (count : length new.lanes ≡ length old.lanes)
-    (stop : new.core.stop ≡ old.core.stop) (ended : all_ended new.lanes ≡ all_ended old.lanes)
+module _ (old new : ResolverState) (log : List Step) (stop : new.core.stop ≡ old.core.stop) (ended : all_ended new.lanes ≡ all_ended old.lanes)
     (takes : TakesNone old.lanes new.lanes) (s : StandsOver old log) where
   pub stands_same : Stands new.core log (sent_to new.lanes)
       → (new.core.stop ≡ None → (p : ℕ) (m : Lanes) → slice_get new.lanes p ≡ Some m → m.replies.closed ≡ true
       → all_ended new.lanes ≡ true) → StandsOver new log
   stands_same core closed = record {
     core = core;
-    parts = λ other inside. s.parts other (omega (arith, inside, count)) ∙ sym (takes other);
+    parts = λ other. s.parts other ∙ sym (takes other);
     finish = λ still. subst (λ e. FinishesBy e log) (sym ended) (s.finish (sym stop ∙ still));
     closed = closed;
   }

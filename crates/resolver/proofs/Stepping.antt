@@ -621,7 +621,7 @@ module _ (old new : Parts) (f : FindsNone (λ p. p < length old.links) old.links
       ended = ended_same;
       taken = takes_none;
       adds = λ log s.
-          stands_same (resolver_of old) (resolver_of new) log replies_looked.count (ap (λ (k : CoreState). k.stop) core)
+          stands_same (resolver_of old) (resolver_of new) log (ap (λ (k : CoreState). k.stop) core)
           ended_same takes_none s
           (stands_looked log (subst (λ (k : CoreState). Stands k log (handed_to old.links)) (sym core)
           (stands_without old.core old.links are.count log s.core)))

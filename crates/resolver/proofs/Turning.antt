@@ -184,6 +184,16 @@ stopped_on {old} {mid} h k (Some stop) result some kept =
     TakesNoStep-on h k
     (subst (λ r. TakesNoStep old r) (sym kept.1) (record { ended = refl; taken = λ p. refl; adds = λ log s. s }))
 
+-- a stop that was met in the turn
+pub stop_met_on : {old mid given new : ResolverState} → HandedOver mid given → ClosedOver given new
+    → (old.core.stop ≡ None → ((proxy : ℕ) × TakesFrom proxy old mid) ⊎ Finishes old mid)
+    → old.core.stop ≡ None → ((proxy : ℕ) × TakesFrom proxy old new) ⊎ Finishes old new
+stop_met_on h k met running =
+    elim (met running) [
+      | inl took ↦ inl (took.0, TakesFrom-on h k took.0 took.1)
+      | inr finishes ↦ inr (Finishes-on h k finishes)
+    ]
+
 -- what a turn answers, by what the step has taken and whether the reply lanes are closed
 abbrev pub told : Option ℕ → Bool → Turn
 told (Some proxy) closed = turn.Took proxy

@@ -1,67 +1,24 @@
 -- Clients served in one thread: what each has sent and taken, beside a log for which the resolver stands.
-use Rattle.std.proofs.Common.{◌≡◌, ℕ, zero, suc, ◌<◌, ◌⊎◌, Bool, true, List, [], ◌∷◌, ◌++◌, length, map, Option, Some, None, Result, Ok, Err, set, refl, sym, ap, ap₂, subst, ◌∙◌, inl, inr, arith}
-use Rattle.std.specs.Prelude.{ℤ, All, IsSome, IfOk, IfErr, slice_get, slice_index_or}
+use Rattle.std.proofs.Common.{◌≡◌, ℕ, zero, suc, ◌<◌, Bool, true, List, [], ◌∷◌, length, map, Some, set, refl, sym, ap, ap₂, subst, ◌∙◌, inl, inr, arith}
+use Rattle.std.specs.Prelude.{ℤ, All, slice_get, slice_index_or}
 use Rattle.std.proofs.lemmas.Bool.{cases_eq}
 use Rattle.std.proofs.lemmas.Option.{none-some, same_Some, slice_get_within, get_or_from_slice_get}
 use Rattle.std.proofs.lemmas.List.{length-set}
 use Rattle.std.proofs.lemmas.List.Elements.{All-get_or}
 use Rattle.keyspace.specs.declared.answer.Answer.{Answer}
 use Rattle.keyspace.specs.declared.batch.Batch.{Batch}
-use Rattle.keyspace.specs.Run.{Step, Take, Finish, answers, part}
+use Rattle.keyspace.specs.Run.{Step, answers, part}
 use Rattle.lane.specs.Lane.{PortGoesOn, IntakeGoesOn}
 use Rattle.resolver.specs.declared.client.Client.{Client}
-use Rattle.resolver.specs.declared.stop.Stop.{Stop}
 use Rattle.resolver.specs.declared.serving.Served.{Served}
-use Rattle.resolver.specs.declared.turn.Turn.{Turn}
-use Rattle.resolver.specs.declared.turn.Turn.TheVariants as turn
 use Rattle.resolver.specs.Books.{GoOn, IsBeginning}
 use Rattle.resolver.specs.Lanes.{Each, LanesGoOn}
-use Rattle.resolver.specs.Resolver.{ResolverState, StandsOver, TakesFrom, Finishes, TakesNoStep, StepsBy, AreClients, IsNewClient}
+use Rattle.resolver.specs.Resolver.{ResolverState, IsResolving, TakesOnlyFrom, AreClients, IsNewClient}
 use Rattle.resolver.specs.Settled.{Settled, SettledFor}
 use Rattle.resolver.specs.Served.{ServedFor, AreServed, HasDone, AreServing}
 use Rattle.resolver.proofs.Settling.{slice_get-set_same, slice_get-set_other}
 use Rattle.resolver.proofs.Unchanged.{slice_get_inside}
 use Rattle.resolver.proofs.Later.{ClientGoesOn, port_same, intake_same, clients_same, clients_set, lanes_same, AreClients-later}
-
--- where the one stands for a log, the other stands for one too
-abbrev pub StandsOn : ResolverState → ResolverState → Type 0
-StandsOn old new = (log : List Step) → StandsOver old log → (later : List Step) × StandsOver new later
-
-takes_on : (proxy : ℕ) (old new : ResolverState) → TakesFrom proxy old new → StandsOn old new
-takes_on proxy old new takes log stands = (log ++ Take proxy takes.batch ∷ [], takes.adds log stands)
-
-finishes_on : (old new : ResolverState) → Finishes old new → StandsOn old new
-finishes_on old new finishes log stands = (log ++ Finish ∷ [], finishes.adds log stands)
-
-same_on : (old new : ResolverState) → TakesNoStep old new → StandsOn old new
-same_on old new none log stands = (log, none.adds log stands)
-
-not_taken_on : (old new : ResolverState) → Finishes old new ⊎ TakesNoStep old new → StandsOn old new
-not_taken_on old new either =
-    elim either [ inl finishes ↦ finishes_on old new finishes | inr none ↦ same_on old new none ]
-
-step_on : (did : Turn) (old new : ResolverState) → StepsBy did old new → StandsOn old new
-step_on (turn.Took proxy) old new takes = takes_on proxy old new takes
-step_on turn.Idle old new either = not_taken_on old new either
-step_on turn.Done old new either = not_taken_on old new either
-
-none_or_some : {A : Type 0} (o : Option A) → (o ≡ None) ⊎ IsSome o
-none_or_some None = inl refl
-none_or_some (Some x) = inr refl
-
--- whatever a turn answers
-pub turn_on : (result : Result Turn Stop) (old new : ResolverState)
-    → IfOk result (λ did. StepsBy did old new)
-    → IfErr result (λ _. old.core.stop ≡ None → ((proxy : ℕ) × TakesFrom proxy old new) ⊎ Finishes old new)
-    → (IsSome old.core.stop → TakesNoStep old new) → StandsOn old new
-turn_on (Ok did) old new step met stopped = step_on did old new step
-turn_on (Err stop) old new step met stopped = elim (none_or_some old.core.stop) [
-  | inl none ↦ elim (met none) [
-    | inl takes ↦ takes_on takes.0 old new takes.1
-    | inr finishes ↦ finishes_on old new finishes
-  ]
-  | inr some ↦ same_on old new (stopped some)
-]
 
 -- what stands at an index of a list, after a write there
 written_at : {A : Type 0} (xs : List A) (i j : ℕ) (x y : A) → j ≡ i → i < length xs → slice_get (set xs i x) j ≡ Some y
@@ -78,11 +35,10 @@ both_same x (suc (suc i)) y at = absurd (none-some y at)
 module _ (window : ℤ) (r : ResolverState) (clients : List Client) (sent : List (List Batch))
     (taken : List (List Answer)) (are : AreServing window r clients sent taken) where
   -- and after a turn of the resolver
-  pub serving_turned : (s : ResolverState) → StandsOn r s → GoOn r.core.books s.core.books
+  pub serving_turned : (s : ResolverState) → IsResolving s → GoOn r.core.books s.core.books
       → Each (λ _ l m. LanesGoOn l m) r.lanes s.lanes → AreServing window s clients sent taken
-  serving_turned s on goes_on lanes = record {
-    log = (on are.log are.stands).0;
-    stands = (on are.log are.stands).1;
+  serving_turned s resolving goes_on lanes = record {
+    resolving = resolving;
     window_is = goes_on.window ∙ are.window_is;
     same_lanes = AreClients-later r.lanes s.lanes clients clients are.same_lanes lanes (clients_same clients);
     sent_count = are.sent_count;
@@ -116,8 +72,7 @@ module _ (window : ℤ) (r : ResolverState) (clients : List Client) (sent : List
 
     pub serving_moved : AreServing window r (set clients proxy new) (set sent proxy batches) (set taken proxy answers)
     serving_moved = record {
-      log = are.log;
-      stands = are.stands;
+      resolving = are.resolving;
       window_is = are.window_is;
       same_lanes =
           AreClients-later r.lanes r.lanes clients (set clients proxy new) are.same_lanes (lanes_same r.lanes)
@@ -190,12 +145,11 @@ new_at capacity clients proxy c new at =
     (All-get_or (IsNewClient capacity) clients proxy c (slice_get_within clients proxy c at) new)
 
 -- at the opening nothing was sent or taken
-pub serving_opened : (window : ℤ) (r : ResolverState) (clients : List Client) (capacity : ℕ) → StandsOver r []
+pub serving_opened : (window : ℤ) (r : ResolverState) (clients : List Client) (capacity : ℕ) → IsResolving r
     → r.core.books.set.window ≡ window → AreClients r.lanes clients → length clients ≡ 2
     → All (IsNewClient capacity) clients → AreServing window r clients ([] ∷ [] ∷ []) ([] ∷ [] ∷ [])
-serving_opened window r clients capacity stands window_is same count new = record {
-  log = [];
-  stands = stands;
+serving_opened window r clients capacity resolving window_is same count new = record {
+  resolving = resolving;
   window_is = window_is;
   same_lanes = same;
   sent_count = sym count;
@@ -223,18 +177,18 @@ served_for window log ended complete proxy c batches told settled done = record 
 -- so the account that settles the clients tells of both proxies
 pub serving_settled : (window : ℤ) (r : ResolverState) (clients : List Client) (first second : Batch) (served : Served)
     → (are : AreServing window r clients ((first ∷ []) ∷ (second ∷ []) ∷ []) (served.first.items ∷ served.second.items ∷ []))
-    → ((log : List Step) → StandsOver r log
-    → Settled r.core.books.set.window log (map (λ l. l.ended) r.lanes) clients served.account)
+    → ((log : List Step) × Settled r.core.books.set.window log (map (λ l. l.ended) r.lanes) clients served.account)
     → (log : List Step) × AreServed window log first second served
 serving_settled window r clients first second served are settled = (
-  are.log,
+  log,
   record {
-    proxy_0 = served_for window are.log (ended 0) complete 0 client_0.0 (first ∷ []) served.first.items
+    proxy_0 = served_for window log (ended 0) complete 0 client_0.0 (first ∷ []) served.first.items
         (all.each 0 client_0.0 client_0.1)
         (are.each 0 client_0.0 (first ∷ []) served.first.items client_0.1 refl refl);
-    proxy_1 = served_for window are.log (ended 1) complete 1 client_1.0 (second ∷ []) served.second.items
+    proxy_1 = served_for window log (ended 1) complete 1 client_1.0 (second ∷ []) served.second.items
         (all.each 1 client_1.0 client_1.1)
         (are.each 1 client_1.0 (second ∷ []) served.second.items client_1.1 refl refl);
+    proxies = subst (λ many. TakesOnlyFrom many log) (sym are.sent_count) all.proxies;
     chain = all.chain;
     finish = all.finish;
     none_held = all.none_held;
@@ -242,16 +196,17 @@ serving_settled window r clients first second served are settled = (
   },
 )
   where
+    log : List Step
+    log = settled.0
+
     complete : Bool
     complete = served.account.complete
 
     ended : ℕ → Bool
     ended proxy = slice_index_or (map (λ l. l.ended) r.lanes) proxy true
 
-    all : Settled window are.log (map (λ l. l.ended) r.lanes) clients served.account
-    all =
-        subst (λ w. Settled w are.log (map (λ l. l.ended) r.lanes) clients served.account) are.window_is
-        (settled are.log are.stands)
+    all : Settled window log (map (λ l. l.ended) r.lanes) clients served.account
+    all = subst (λ w. Settled w log (map (λ l. l.ended) r.lanes) clients served.account) are.window_is settled.1
 
     client_0 : (c : Client) × (slice_get clients 0 ≡ Some c)
     client_0 = slice_get_inside clients 0 (let many = are.sent_count in omega (arith, many))

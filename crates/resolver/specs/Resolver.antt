@@ -34,16 +34,27 @@ abbrev pub FinishesBy : Bool → List Step → Type 0
 FinishesBy true log = FinishesLast log
 FinishesBy false log = HasNoFinish log
 
+-- each batch is taken from one of so many proxies
+abbrev pub TakesOnlyFrom : ℕ → List Step → Type 0
+TakesOnlyFrom proxies [] = Unit {0}
+TakesOnlyFrom proxies (Take proxy batch ∷ log) = (proxy < proxies) × TakesOnlyFrom proxies log
+TakesOnlyFrom proxies (Finish ∷ log) = TakesOnlyFrom proxies log
+
 -- The resolver stands for the log. Its core does, where each proxy was given what was sent to it; the log takes from each
--- proxy what was taken from its request lane; and without a stop it finishes, last and once, exactly if all request lanes
--- have ended, and only then are reply lanes closed.
+-- proxy what was taken from its request lane, and nothing from a proxy that has none; and without a stop it finishes, last
+-- and once, exactly if all request lanes have ended, and only then are reply lanes closed.
 pub record StandsOver (r : ResolverState) (log : List Step) : Type 0 where
   pub core : Stands r.core log (sent_to r.lanes)
-  pub parts : (proxy : ℕ) → proxy < length r.lanes → part log proxy ≡ taken_from r.lanes proxy
+  pub parts : (proxy : ℕ) → part log proxy ≡ taken_from r.lanes proxy
   pub finish : r.core.stop ≡ None → FinishesBy (all_ended r.lanes) log
   pub closed :
       r.core.stop ≡ None → (proxy : ℕ) (l : Lanes) → slice_get r.lanes proxy ≡ Some l → l.replies.closed ≡ true →
       all_ended r.lanes ≡ true
+
+-- there is a log for which the resolver stands
+pub record IsResolving (r : ResolverState) : Type 0 where
+  pub log : List Step
+  pub stands : StandsOver r log
 
 -- for every log for which the one stands, the other stands for it with these steps more
 abbrev pub Adds : List Step → ResolverState → ResolverState → Type 0

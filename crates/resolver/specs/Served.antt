@@ -7,18 +7,17 @@ use Rattle.keyspace.specs.Run.{Step, run, answers, part}
 use Rattle.resolver.specs.declared.client.Client.{Client}
 use Rattle.resolver.specs.declared.serving.Served.{Served}
 use Rattle.resolver.specs.Books.{IsBeginning}
-use Rattle.resolver.specs.Resolver.{ResolverState, StandsOver, AreClients, FinishesLast}
+use Rattle.resolver.specs.Resolver.{ResolverState, IsResolving, AreClients, TakesOnlyFrom, FinishesLast}
 
 -- a client that has sent these batches and taken these answers
 pub record HasDone (batches : List Batch) (answers : List Answer) (c : Client) : Type 0 where
   pub sent : c.requests.sent ≡ batches
   pub taken : c.replies.taken ≡ answers
 
--- The resolver stands for a log, and the clients are those of its lanes. Each has sent and taken what stands at its number.
+-- The resolver stands for some log, and the clients are those of its lanes. Each has sent and taken what stands at its number.
 pub record AreServing (window : ℤ) (r : ResolverState) (clients : List Client) (sent : List (List Batch))
     (taken : List (List Answer)) : Type 0 where
-  pub log : List Step
-  pub stands : StandsOver r log
+  pub resolving : IsResolving r
   pub window_is : r.core.books.set.window ≡ window
   pub same_lanes : AreClients r.lanes clients
   pub sent_count : length sent ≡ length clients
@@ -42,6 +41,8 @@ pub record ServedFor (window : ℤ) (log : List Step) (complete : Bool) (proxy :
 pub record AreServed (window : ℤ) (log : List Step) (first second : Batch) (served : Served) : Type 0 where
   pub proxy_0 : ServedFor window log served.account.complete 0 (first ∷ []) served.first.items
   pub proxy_1 : ServedFor window log served.account.complete 1 (second ∷ []) served.second.items
+  -- the log takes batches of these two alone
+  pub proxies : TakesOnlyFrom 2 log
   -- what was processed follows the chain of versions, and each reply is that of a scan of all writes committed earlier
   pub chain : IsChain window (run window log).processed
   -- where all is complete, the log finishes, no batch is left held, and no stop was met

@@ -6,7 +6,7 @@ use Rattle.resolver.specs.declared.client.Client.{Client}
 use Rattle.resolver.specs.declared.turn.Account.{Account}
 use Rattle.resolver.specs.Books.{IsBeginning}
 use Rattle.resolver.specs.Lanes.{Lanes, sent_to}
-use Rattle.resolver.specs.Resolver.{ResolverState, FinishesLast}
+use Rattle.resolver.specs.Resolver.{ResolverState, TakesOnlyFrom, FinishesLast}
 
 -- Of one proxy, by whether its request lane has ended and whether all is complete.
 pub record SettledFor (window : ℤ) (log : List Step) (has_ended complete : Bool) (proxy : ℕ) (client : Client) : Type 0 where
@@ -26,6 +26,8 @@ pub record Settled (window : ℤ) (log : List Step) (ended : List Bool) (clients
   pub each :
       (proxy : ℕ) (client : Client) → slice_get clients proxy ≡ Some client →
       SettledFor window log (slice_index_or ended proxy true) account.complete proxy client
+  -- the log takes batches of these clients alone
+  pub proxies : TakesOnlyFrom (length clients) log
   -- what was processed follows the chain of versions, and each reply is that of a scan of all writes committed earlier
   pub chain : IsChain window (run window log).processed
   -- where all is complete, the log finishes, and no batch is left held

@@ -9,10 +9,13 @@
 //!
 //! [`serve_two`] shows them used: it serves two proxies in one thread, and its contract says in the reference resolver's words
 //! what they received. The definition is `AreServed`, in `specs/Served.antt`.
+//!
+//! The law of [`laws`] says that in none of these is there a batch of a proxy without a client.
 #![tactic(auto)]
 
 mod books;
 mod client;
+pub mod laws;
 mod link;
 mod links;
 mod opening;

@@ -7,7 +7,7 @@ ghost use Rattle.lane.specs.Lane.{SameLane};
 ghost use Rattle.lane.specs.declared.ends.TheConstants.{MAX_CAPACITY};
 ghost use Rattle.resolver.specs.declared.sequential.TheConstants.{MAX_PROXIES};
 ghost use Rattle.resolver.specs.Lanes.{Lanes};
-ghost use Rattle.resolver.specs.Resolver.{StandsOver, AreClients, IsNewClient};
+ghost use Rattle.resolver.specs.Resolver.{StandsOver, IsResolving, AreClients, IsNewClient};
 ghost use Rattle.resolver.specs.Links.{IsNewLink, AreConnected};
 
 use crate::client::Client;
@@ -36,6 +36,7 @@ pub fn open(
     requires least_limit { 1 ≤ limit }
     requires most_limit { limit ≤ MAX_LIMIT }
     ensures stands { IfOk result (λ opened. StandsOver opened.0 []) }
+    ensures resolving { IfOk result (λ opened. IsResolving opened.0) }
     ensures no_stop { IfOk result (λ opened. opened.0.core.stop ≡ None) }
     ensures next { IfOk result (λ opened. opened.0.next ≡ 0) }
     ensures window { IfOk result (λ opened. opened.0.core.books.set.window ≡ window) }

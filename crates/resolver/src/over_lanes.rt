@@ -12,7 +12,7 @@ ghost use Rattle.resolver.specs.Stands.{Stands};
 ghost use Rattle.resolver.specs.Links.{IsNewLink, lanes_of};
 ghost use Rattle.resolver.specs.declared.sequential.TheConstants.{MAX_PROXIES};
 ghost use Rattle.resolver.specs.Lanes.{Lanes, all_ended, Each, LanesGoOn, IsLookedThrough, ComesBefore, IsFull, TakesNone, AreSameLists, sent_to};
-ghost use Rattle.resolver.specs.Resolver.{ResolverState, StandsOver, TakesFrom, Finishes, TakesNoStep, StepsBy, IfNotTaken, IsThrough, SameBut, AreClients, SameClients};
+ghost use Rattle.resolver.specs.Resolver.{ResolverState, StandsOver, IsResolving, TakesFrom, Finishes, TakesNoStep, StepsBy, IfNotTaken, IsThrough, SameBut, AreClients, SameClients};
 ghost use Rattle.resolver.specs.Settled.{Settled, IsComplete};
 
 use crate::client::Client;
@@ -104,6 +104,7 @@ impl Resolver {
         ensures stop { IfErr result (λ stop. self.new.core.stop ≡ Some stop) }
         ensures stop_stays { IfSome self.old.core.stop (λ stop. result ≡ Err stop) }
         ensures no_stop { OnOk result (self.new.core.stop ≡ None) }
+        ensures resolving { IsResolving self.old → IsResolving self.new }
 
         // What it has looked through.
         ensures looked_through { IfOk result (λ turn. IfNotTaken turn
@@ -148,6 +149,10 @@ impl Resolver {
         requires clients { AreClients self.old.lanes clients.old }
         ensures settled { (log : List Step) → StandsOver self.old log
             → Settled self.old.core.books.set.window log (map (λ l. l.ended) self.old.lanes) clients.old result }
+        ensures settled_for_some { IsResolving self.old → (log : List Step)
+            × Settled self.old.core.books.set.window log (map (λ l. l.ended) self.old.lanes) clients.old result }
+        ensures stands { (log : List Step) → StandsOver self.old log → StandsOver self.new log }
+        ensures resolving { IsResolving self.old → IsResolving self.new }
         ensures complete { (result.complete ≡ true) ↔ IsComplete self.old clients.old }
         ensures stop { result.stop ≡ self.old.core.stop }
         ensures core { self.new.core ≡ self.old.core }

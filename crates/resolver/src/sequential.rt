@@ -19,6 +19,8 @@ use std::marker::Model;
 /// The greatest number of proxies: this project's own.
 pub const MAX_PROXIES: usize = 64;
 
+const _: () = prove!(MAX_PROXIES == 64);
+
 /// The resolver over values: `Resolver` of FoundationDB 7.1, without its network. It takes batches one after another, and
 /// owes each proxy the answers of the reference resolver.
 #[derive(Debug, Drop)]

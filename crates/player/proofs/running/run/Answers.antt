@@ -1,4 +1,4 @@
-use Rattle.std.proofs.Common.{◌≡◌, List, [], ap, sym, subst, ◌∙◌, arith, rules, ℕ, ℤ, length, w64, to_z, of_z}
+use Rattle.std.proofs.Common.{◌≡◌, List, ap, sym, subst, ◌∙◌, arith, rules, ℤ, length, w64, to_z, of_z}
 use Rattle.std.proofs.lemmas.Int.{ints, to_z-of_z}
 use Rattle.std.specs.Prelude.{map}
 use Rattle.std.specs.List.{AllZip}
@@ -9,7 +9,6 @@ use Rattle.resolver.specs.Resolver.{AreClients}
 use Rattle.resolver.specs.Settled.{Settled}
 use Rattle.player.specs.declared.worker.Finished.{Finished}
 use Rattle.player.specs.Threads.{given_to, HasWorkedOn}
-use Rattle.player.specs.Run.{TakesOnlyFrom, StandsForSome}
 use Rattle.player.proofs.SameLanes.{clients_go_on}
 use Rattle.player.proofs.Working.{clients_back, given_count}
 use Rattle.player.proofs.Runs.{is_run}
@@ -54,24 +53,17 @@ returns g c =
     let worked = c.join_all-outcome.ensures.worked in
     let same : length readers ≡ length clients = omega (arith, c.in_ok-resolver.ensures.proxies, c.len-proxies.ensures) in
     let handed = subst (λ given. AllZip (HasWorkedOn g.S.Source.remaining) given worked.0) c.in_ok-workers.ensures.given worked.1 in
-    let before : StandsForSome c.in_ok-resolver.resolver = record {
-      log = [];
-      stands = c.in_ok-resolver.ensures.stands;
-      proxies = tt;
-    } in
-    let after = c.turn_to_end.ensures.log before in
-    let proxies : length c.turn_to_end.new.resolver.lanes ≡ length readers =
-    c.turn_to_end.ensures.lanes.count ∙ sym c.in_ok-resolver.ensures.clients.count ∙ sym same in
-    let only = subst (λ (n : ℕ). TakesOnlyFrom n after.log) proxies after.proxies in
+    let told = c.settle-account.ensures.settled_for_some
+    (c.turn_to_end.ensures.resolving c.in_ok-resolver.ensures.resolving) in
     let account = c.settle-account.result in
     let ended = map (λ (l : Lanes). l.ended) c.turn_to_end.new.resolver.lanes in
     let kept : to_z w64 (of_z w64 c.args.options.window) ≡ c.args.options.window =
     first_of (search rules, grind (arith, ints, to_z-of_z)) in
-    let windowed = subst (λ (window : ℤ). Settled window after.log ended c.as_mut_slice.result.now account)
-    (c.turn_to_end.ensures.window ∙ c.in_ok-resolver.ensures.window ∙ kept) (c.settle-account.ensures.settled after.log after.stands) in
-    let settled = subst (λ (back : List Client). Settled c.args.options.window after.log ended back account)
+    let windowed = subst (λ (window : ℤ). Settled window told.0 ended c.as_mut_slice.result.now account)
+    (c.turn_to_end.ensures.window ∙ c.in_ok-resolver.ensures.window ∙ kept) told.1 in
+    let settled = subst (λ (back : List Client). Settled c.args.options.window told.0 ended back account)
     (c.as_mut_slice.ensures.value ∙ worked.2.clients) windowed in
     record {
-      run = is_run g.S.Source.remaining c.args.options readers clients worked.0 c.join_all-outcome.result after.log ended
-          account same c.in_ok-resolver.ensures.new_clients handed worked.2 settled only;
+      run = is_run g.S.Source.remaining c.args.options readers clients worked.0 c.join_all-outcome.result told.0 ended
+          account same c.in_ok-resolver.ensures.new_clients handed worked.2 settled;
     }

@@ -7,7 +7,7 @@ use Rattle.keyspace.specs.declared.TheConstants.{WINDOW}
 use Rattle.resolver.specs.declared.client.Client.{Client}
 use Rattle.resolver.specs.Served.{AreServing}
 use Rattle.resolver.proofs.Settling.{slice_get-set_other}
-use Rattle.resolver.proofs.TwoProxies.{turn_on, serving_turned, serving_received}
+use Rattle.resolver.proofs.TwoProxies.{serving_turned, serving_received}
 use Rattle.resolver.proofs.serving.receive_all.Given.{Over}
 use Rattle.resolver.proofs.serving.receive_all.Goals as goal
 use Rattle.resolver.proofs.serving.receive_all.Goals.{In_ok-receive-2}
@@ -50,8 +50,7 @@ module _ (g : Over) (c : In_ok-receive-2 g) where
   turned =
       let is = c.turn.ensures in
       serving_turned WINDOW c.loop.resolver before sent (c.loop.first.items ∷ c.loop.second.items ∷ [])
-      c.loop.invariant c.turn.new.self
-      (turn_on c.turn.result c.loop.resolver c.turn.new.self is.step is.stop_met is.stopped) is.goes_on is.lanes
+      c.loop.invariant c.turn.new.self (is.resolving c.loop.invariant.resolving) is.goes_on is.lanes
 
   first_received : AreServing WINDOW c.turn.new.self between sent
       (c.receive.new.received.items ∷ c.loop.second.items ∷ [])

@@ -5,7 +5,7 @@ use Rattle.keyspace.specs.declared.batch.Batch.{Batch}
 use Rattle.keyspace.specs.declared.TheConstants.{WINDOW}
 use Rattle.resolver.specs.declared.client.Client.{Client}
 use Rattle.keyspace.specs.Run.{Step}
-use Rattle.resolver.specs.Resolver.{AreClients, StandsOver}
+use Rattle.resolver.specs.Resolver.{AreClients}
 use Rattle.resolver.specs.Served.{AreServing}
 use Rattle.resolver.specs.Settled.{Settled}
 use Rattle.resolver.proofs.TwoProxies.{serving_sent, serving_sent_by, serving_opened, serving_settled}
@@ -26,7 +26,7 @@ module _ (g : Over) (c : After-send_only-2 g) where
   opened : AreServing WINDOW c.in_ok-resolver.resolver clients ([] ∷ [] ∷ []) ([] ∷ [] ∷ [])
   opened =
       let is = c.in_ok-resolver.ensures in
-      serving_opened WINDOW c.in_ok-resolver.resolver clients 1 is.stands is.window is.clients is.proxies
+      serving_opened WINDOW c.in_ok-resolver.resolver clients 1 is.resolving is.window is.clients is.proxies
       is.new_clients
 
   first_sent : AreServing WINDOW c.in_ok-resolver.resolver (set clients 0 c.send_only.new.client)
@@ -117,7 +117,7 @@ returns g c =
           serving_settled WINDOW r c.receive_all.new.clients c.args.first c.args.second
           (record { first = c.in_ok-first.first; second = c.in_ok-first.second; account = account }) serving
           (subst
-          (λ (clients : List Client). (log : List Step) → StandsOver r log
-          → Settled r.core.books.set.window log (map (λ l. l.ended) r.lanes) clients account)
-          back c.settle-account.ensures.settled);
+          (λ (clients : List Client). (log : List Step)
+          × Settled r.core.books.set.window log (map (λ l. l.ended) r.lanes) clients account)
+          back (c.settle-account.ensures.settled_for_some serving.resolving));
     }

@@ -25,7 +25,7 @@ returns-clause-stands c =
     let links = c.args.links.items in
     record {
       core = Stands-new c.args.core links c.requires.no_stop new c.requires.core;
-      parts = λ proxy inside. sym (taken_from-new links proxy new);
+      parts = λ proxy. sym (taken_from-new links proxy new);
       finish = λ _. subst (λ ended. FinishesBy ended []) (sym (all_ended-new links c.requires.some new)) tt;
       closed = λ _ proxy l at closed. absurd (false≢true (sym (new_link_at links new proxy l at).0 ∙ closed));
     }

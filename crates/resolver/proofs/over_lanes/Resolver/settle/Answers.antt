@@ -6,6 +6,7 @@ use Rattle.resolver.specs.Resolver.{ResolverState, StandsOver, AreClients}
 use Rattle.resolver.specs.Lanes.{Each, LanesGoOn, AreSameLists}
 use Rattle.resolver.specs.Links.{LinkView, Parts, AreParts, EachSettled, lanes_of, owed_with, resolver_of}
 use Rattle.resolver.specs.Settled.{Settled, IsComplete}
+use Rattle.resolver.proofs.Resolving.{stands_settled}
 use Rattle.resolver.proofs.Settling.{written_back}
 use Rattle.resolver.proofs.Unchanged.{owed_with-settled, lanes_hold, lanes_settled, clients_settled, with_links, AreParts-settled}
 use Rattle.resolver.proofs.Accounts.{EachTaken, settled, complete_from, complete_then}
@@ -77,6 +78,10 @@ returns-clause-settled g c =
     c.runs_are_chains.ensures.chain c.each_batch_is_answered.ensures.once
     c.each_batch_is_answered.ensures.none_held _ (complete_is g c).0 (c.new.ensures.stop ∙ c.stop.ensures.stop))
 
+pub returns-clause-settled_for_some : goal.returns-clause-settled_for_some
+returns-clause-settled_for_some g c = λ before.
+    (before.log, returns-clause-settled g c before.log before.stands)
+
 pub returns-clause-complete : goal.returns-clause-complete
 returns-clause-complete g c =
     subst (λ (r : ResolverState). (c.new.result.complete ≡ true) ↔ IsComplete r c.args.clients.now) c.self.view_is
@@ -102,3 +107,13 @@ pub returns-clause-clients : goal.returns-clause-clients
 returns-clause-clients g c =
     clients_settled (parts g c).links (new g c) c.args.clients.now c.settle-all_taken.new.clients (each g c)
     (clients_are g c).count
+
+pub returns-clause-stands : goal.returns-clause-stands
+returns-clause-stands g c =
+    stands_settled c.args.self.now _ (returns-clause-core g c) (returns-clause-lanes g c)
+
+pub returns-clause-resolving : goal.returns-clause-resolving
+returns-clause-resolving g c = λ before. record {
+  log = before.log;
+  stands = returns-clause-stands g c before.log before.stands;
+}

@@ -5,7 +5,8 @@ use Rattle.std.proofs.Common.{◌≡◌, Result, refl, sym, ap, ◌∙◌, Ok, E
 use Rattle.keyspace.specs.Run.{run}
 use Rattle.resolver.specs.Lanes.{Each, IsLookedThrough, ComesBefore}
 use Rattle.resolver.specs.Resolver.{StepsBy, IsThrough, IfNotTaken}
-use Rattle.resolver.proofs.Turning.{TakesFrom-on, Finishes-on, TakesNoStep-on, looked_on, full_on, lanes_on, told, StepsBy-told, IfNotTaken-told, took-told, all_looked_on, stopped_on, done_means, done_where, closed_by, answers_over, stops_on}
+use Rattle.resolver.proofs.Turning.{TakesFrom-on, Finishes-on, TakesNoStep-on, looked_on, full_on, lanes_on, told, StepsBy-told, IfNotTaken-told, took-told, all_looked_on, stopped_on, stop_met_on, done_means, done_where, closed_by, answers_over, stops_on}
+use Rattle.resolver.proofs.Resolving.{resolving_turned, resolving_stopped}
 use Rattle.resolver.proofs.Stops.{same_stop, OnErr-always}
 use Rattle.resolver.specs.declared.stop.Stop.TheVariants as stop
 use Rattle.resolver.proofs.over_lanes.Resolver.turn.Goals as goal
@@ -55,6 +56,10 @@ returns-clause-step g c =
       | inr none ↦ inr (TakesNoStep-on h k none)
     ]))
 
+pub returns-clause-resolving : goal.returns-clause-resolving
+returns-clause-resolving g c = λ before.
+    resolving_turned c.args.self.now c.close.new.self before c.match-branch-2.result (returns-clause-step g c)
+
 pub returns-clause-passed : goal.returns-clause-passed
 returns-clause-passed g c = λ proxy is.
     let taken = took-told c.in_ok-proxy.field-0 c.self.inside.closed proxy (sym (result_is g c) ∙ same_Ok is) in
@@ -90,13 +95,14 @@ returns-in_err-proxy-clause-stopped g c = λ some.
 
 pub returns-in_err-proxy-clause-stop_met : goal.returns-in_err-proxy-clause-stop_met
 returns-in_err-proxy-clause-stop_met g c =
-    let h = c.hand_out.ensures in
-    let k = c.close.ensures in
-    OnErr-always c.from_residual.result (λ running.
-    elim (c.in_err-proxy.ensures.stop_met running) [
-      | inl took ↦ inl (took.0, TakesFrom-on h k took.0 took.1)
-      | inr finishes ↦ inr (Finishes-on h k finishes)
-    ])
+    OnErr-always c.from_residual.result
+    (stop_met_on c.hand_out.ensures c.close.ensures c.in_err-proxy.ensures.stop_met)
+
+pub returns-in_err-proxy-clause-resolving : goal.returns-in_err-proxy-clause-resolving
+returns-in_err-proxy-clause-resolving g c = λ before.
+    resolving_stopped c.args.self.now c.close.new.self before c.args.self.now.core.stop
+    (stop_met_on c.hand_out.ensures c.close.ensures c.in_err-proxy.ensures.stop_met)
+    (returns-in_err-proxy-clause-stopped g c)
 
 pub returns-in_err-proxy-clause-arena_full : goal.returns-in_err-proxy-clause-arena_full
 returns-in_err-proxy-clause-arena_full g c = λ running is log s.

@@ -1,0 +1,87 @@
+-- A resolver that stands for some log, after a turn, and after it was settled.
+use Rattle.std.proofs.Common.{◌≡◌, ℕ, List, [], ◌∷◌, ◌++◌, Option, Some, None, refl, sym, ap, subst, ◌∙◌, inl, inr}
+use Rattle.std.specs.Prelude.{◌⊎◌, IsSome}
+use Rattle.keyspace.specs.Run.{Step, Take, Finish}
+use Rattle.resolver.specs.declared.stop.Stop.{Stop}
+use Rattle.resolver.specs.declared.turn.Turn.{Turn}
+use Rattle.resolver.specs.declared.turn.Turn.TheVariants as turn
+use Rattle.resolver.specs.Owed.{owed_to}
+use Rattle.resolver.specs.Stands.{CoreState, Stands}
+use Rattle.resolver.specs.Lanes.{Lanes, Each, LanesGoOn, AreSameLists, TakesNone, all_ended, sent_to}
+use Rattle.resolver.specs.Resolver.{ResolverState, StandsOver, IsResolving, TakesFrom, Finishes, TakesNoStep, StepsBy}
+use Rattle.resolver.proofs.Linked.{field_same}
+use Rattle.resolver.proofs.Handed.{StandsBy-moved}
+use Rattle.resolver.proofs.HandedOut.{list_all-same}
+use Rattle.resolver.proofs.Logged.{was_closed, stands_same}
+
+module _ (old new : ResolverState) (before : IsResolving old) where
+  taken : (proxy : ℕ) → TakesFrom proxy old new → IsResolving new
+  taken proxy takes = record {
+    log = before.log ++ Take proxy takes.batch ∷ [];
+    stands = takes.adds before.log before.stands;
+  }
+
+  finished : Finishes old new → IsResolving new
+  finished finishes = record {
+    log = before.log ++ Finish ∷ [];
+    stands = finishes.adds before.log before.stands;
+  }
+
+  unchanged : TakesNoStep old new → IsResolving new
+  unchanged none = record { log = before.log; stands = none.adds before.log before.stands }
+
+  not_taken : (Finishes old new ⊎ TakesNoStep old new) → IsResolving new
+  not_taken (inl finishes) = finished finishes
+  not_taken (inr none) = unchanged none
+
+  -- by what the turn answers
+  pub resolving_turned : (did : Turn) → StepsBy did old new → IsResolving new
+  resolving_turned (turn.Took proxy) takes = taken proxy takes
+  resolving_turned turn.Idle either = not_taken either
+  resolving_turned turn.Done either = not_taken either
+
+  last_step : (((proxy : ℕ) × TakesFrom proxy old new) ⊎ Finishes old new) → IsResolving new
+  last_step (inl takes) = taken takes.0 takes.1
+  last_step (inr finishes) = finished finishes
+
+  -- and where it met a stop, or one was met before
+  pub resolving_stopped : (stop : Option Stop)
+      → (stop ≡ None → ((proxy : ℕ) × TakesFrom proxy old new) ⊎ Finishes old new)
+      → (IsSome stop → TakesNoStep old new) → IsResolving new
+  resolving_stopped None met stopped = last_step (met refl)
+  resolving_stopped (Some s) met stopped = unchanged (stopped refl)
+
+-- the same core, and lanes with the same lists
+module _ (old new : ResolverState) (core : new.core ≡ old.core)
+    (lanes : Each (λ _ l m. LanesGoOn l m × AreSameLists l m) old.lanes new.lanes) where
+  none_taken : TakesNone old.lanes new.lanes
+  none_taken =
+      field_same (λ (l : Lanes). l.requests.taken) old.lanes new.lanes lanes.count
+      (λ p l m was is. (lanes.each p l m was is).1.taken)
+
+  none_sent : (p : ℕ) → sent_to new.lanes p ≡ sent_to old.lanes p
+  none_sent =
+      field_same (λ (l : Lanes). l.replies.sent) old.lanes new.lanes lanes.count
+      (λ p l m was is. (lanes.each p l m was is).1.sent)
+
+  ended_same : all_ended new.lanes ≡ all_ended old.lanes
+  ended_same =
+      list_all-same (λ l. l.ended) old.lanes new.lanes lanes.count
+      (λ p l m was is. (lanes.each p l m was is).1.ended)
+
+  stop_same : new.core.stop ≡ old.core.stop
+  stop_same = ap (λ (c : CoreState). c.stop) core
+
+  core_stands : (log : List Step) → StandsOver old log → Stands new.core log (sent_to new.lanes)
+  core_stands log stands =
+      subst (λ (c : CoreState). Stands c log (sent_to new.lanes)) (sym core)
+      (StandsBy-moved (sent_to old.lanes) (sent_to new.lanes) old.core.books old.core.books.owed refl
+      (λ p _. ap (λ sent. sent ++ owed_to p old.core.books.owed) (none_sent p)) old.core.stop log stands.core)
+
+  pub stands_settled : (log : List Step) → StandsOver old log → StandsOver new log
+  stands_settled log stands =
+      stands_same old new log stop_same ended_same none_taken stands (core_stands log stands)
+      (λ running p m at closed.
+      ended_same
+      ∙ was_closed old new log lanes.count (λ q l n was is. (lanes.each q l n was is).1.closed)
+      (sym stop_same ∙ running) stands p m at closed)

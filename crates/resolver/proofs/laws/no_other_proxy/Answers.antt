@@ -1,0 +1,16 @@
+use Rattle.std.proofs.Common.{length}
+use Rattle.resolver.proofs.OnlyFrom.{none_of_others, takes_only, stands_only}
+use Rattle.resolver.proofs.laws.no_other_proxy.Goals as goal
+
+pub returns-clause-takes_only : goal.returns-clause-takes_only
+returns-clause-takes_only c = λ proxies log. (none_of_others proxies log, takes_only proxies log)
+
+pub returns-clause-stands : goal.returns-clause-stands
+returns-clause-stands c = λ r log stands. none_of_others (length r.lanes) log (stands_only r log stands)
+
+pub returns-clause-settled : goal.returns-clause-settled
+returns-clause-settled c = λ window log ended clients account settled.
+    none_of_others (length clients) log settled.proxies
+
+pub returns-clause-served : goal.returns-clause-served
+returns-clause-served c = λ window log first second served are. none_of_others 2 log are.proxies
