@@ -55,7 +55,7 @@ impl Inbox {
         ensures end { result ≡ true → HasEnded self.new.replies }
     {
         for _ in rt.forever() {
-            match self.replies.take(rt) {
+            match self.replies.take() {
                 Taken::Item(answer) => {
                     self.keep(&answer);
                     gatekeeper.answered(self.proxy, self.place);

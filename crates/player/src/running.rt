@@ -50,7 +50,7 @@ pub fn run<
     let workers = start_workers(rt, alloc, frames, readers, clients, gatekeeper)?;
     turn_to_end(rt, &mut resolver);
     let mut outcome = join_all(rt, workers, outcome);
-    let account = resolver.settle(rt, outcome.clients.as_mut_slice());
+    let account = resolver.settle(outcome.clients.as_mut_slice());
     Ok((outcome, account))
 }
 
@@ -61,7 +61,7 @@ fn turn_to_end<R: Wait>(rt: &R, resolver: &mut Resolver)
     ensures lanes { Each (λ _ l m. LanesGoOn l m) resolver.old.lanes resolver.new.lanes }
 {
     for _ in rt.forever() {
-        match resolver.turn(rt) {
+        match resolver.turn() {
             Ok(Turn::Took(_)) => {}
             Ok(Turn::Idle) => thread::yield_now(),
             Ok(Turn::Done) => return,

@@ -71,7 +71,7 @@ pub fn work<S: Source + Drop, G: Gatekeeper, R: Wait>(
 {
     let mut worker = Worker::new(alloc, frames, proxy, client);
     let end = worker.send_frames(rt, gatekeeper, &mut read_frames(alloc, reader));
-    worker.requests.close(rt);
+    worker.requests.close();
     worker.inbox.take_to_end(rt, gatekeeper);
     worker.finish(end)
 }
@@ -139,7 +139,7 @@ impl Worker {
             if self.inbox.take_all(rt, gatekeeper) {
                 return Err(waiting);
             }
-            waiting = match self.try_send(rt, gatekeeper, waiting) {
+            waiting = match self.try_send(gatekeeper, waiting) {
                 Ok(()) => return Ok(()),
                 Err(Refused::Full(refused)) => refused,
                 Err(Refused::Closed(refused) | Refused::Worn(refused)) => return Err(refused),
@@ -150,9 +150,8 @@ impl Worker {
     }
 
     // Tries once. A batch that the gatekeeper holds back is refused as by a full lane.
-    fn try_send<G: Gatekeeper, R: Wait>(
+    fn try_send<G: Gatekeeper>(
         &mut self,
-        rt: &R,
         gatekeeper: &G,
         batch: Batch,
     ) -> Result<(), Refused<Batch>>
@@ -165,7 +164,7 @@ impl Worker {
         if !gatekeeper.may_send(self.proxy, self.place) {
             return Err(Refused::Full(batch));
         }
-        self.requests.send(rt, batch)?;
+        self.requests.send(batch)?;
         self.place += 1;
         Ok(())
     }

@@ -11,7 +11,6 @@ use crate::sequential::Core;
 use keyspace::{Answer, Batch};
 use lane::{Intake, Port, Refused, Taken, agree};
 use std::marker::Model;
-use std::sync::Wait;
 
 /// The resolver's ends of the two lanes of a proxy, and a place for the answer that a full reply lane hands back.
 #[derive(Drop)]
@@ -51,13 +50,13 @@ impl Link {
     }
 
     /// Takes the next batch of the proxy, or returns `None` if there is none to be seen.
-    pub fn take<R: Wait>(&mut self, rt: &R) -> Option<Batch>
+    pub fn take(&mut self) -> Option<Batch>
         ensures takes { TakesFromLink result self.old self.new }
     {
         if self.ended {
             return None;
         }
-        match self.requests.take(rt) {
+        match self.requests.take() {
             Taken::Item(batch) => Some(batch),
             Taken::Empty => None,
             Taken::End => {
@@ -82,7 +81,7 @@ impl Link {
     }
 
     /// Sends the proxy the answers owed to it, oldest first, while the reply lane accepts them. One that it hands back waits here.
-    pub fn hand_out<R: Wait>(&mut self, rt: &R, core: &mut Core, proxy: usize)
+    pub fn hand_out(&mut self, core: &mut Core, proxy: usize)
         requires known { proxy < length core.old.books.owed }
         ensures hands_out { HandsOut self.old self.new
             (owed_to proxy core.old.books.owed) (owed_to proxy core.new.books.owed) }
@@ -91,28 +90,28 @@ impl Link {
             → owed_to other core.new.books.owed ≡ owed_to other core.old.books.owed }
     {
         while let Some(answer) = self.next_answer(core, proxy) {
-            if !self.send(rt, answer) {
+            if !self.send(answer) {
                 return;
             }
         }
     }
 
     /// Looks at both lanes with the client's ends at hand, and returns whether the client has taken every answer sent.
-    pub fn settle<R: Wait>(&mut self, rt: &R, client: &mut Client) -> bool
+    pub fn settle(&mut self, client: &mut Client) -> bool
         requires requests { SameLane client.old.requests self.old.lanes.requests }
         requires replies { SameLane self.old.lanes.replies client.old.replies }
         ensures settles { SettlesLink self.old client.old self.new client.new }
         ensures all_taken { IsTrue result ↔ (client.old.replies.taken ≡ self.old.lanes.replies.sent) }
     {
-        agree(rt, &mut client.requests, &mut self.requests);
-        agree(rt, &mut self.replies, &mut client.replies)
+        agree(&mut client.requests, &mut self.requests);
+        agree(&mut self.replies, &mut client.replies)
     }
 
     /// Closes the reply lane.
-    pub fn close<R: Wait>(&mut self, rt: &R)
+    pub fn close(&mut self)
         ensures closed { self.new ≡ record self.old { lanes = record self.old.lanes { replies = record self.old.lanes.replies { closed = true } } } }
     {
-        self.replies.close(rt);
+        self.replies.close();
     }
 
     // Removes and returns the answer that is next in the proxy's line.
@@ -133,7 +132,7 @@ impl Link {
     }
 
     // Sends an answer, and returns whether the reply lane has accepted it. If not, the answer waits.
-    fn send<R: Wait>(&mut self, rt: &R, answer: Answer) -> bool
+    fn send(&mut self, answer: Answer) -> bool
         requires nothing_waits { self.old.waiting ≡ None }
         ensures sent { IsTrue result → (self.new.lanes.replies.sent ≡ self.old.lanes.replies.sent ++ answer ∷ [])
             × (self.new.waiting ≡ None) }
@@ -144,7 +143,7 @@ impl Link {
         ensures closed { self.new.lanes.replies.closed ≡ self.old.lanes.replies.closed }
         ensures requests { self.new.lanes ≡ record self.old.lanes { replies = self.new.lanes.replies } }
     {
-        match self.replies.send(rt, answer) {
+        match self.replies.send(answer) {
             Ok(()) => true,
             Err(Refused::Full(answer) | Refused::Closed(answer) | Refused::Worn(answer)) => {
                 self.waiting = Some(answer);

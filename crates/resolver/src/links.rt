@@ -12,34 +12,28 @@ use crate::client::Client;
 use crate::link::Link;
 use crate::sequential::Core;
 use keyspace::Batch;
-use std::sync::Wait;
 
 /// Takes a batch of the first proxy that has one, from this proxy on and then of those before it. Each link is looked at once at most.
-pub fn take_from<R: Wait>(rt: &R, links: &mut [Link], first: usize) -> Option<(usize, Batch)>
+pub fn take_from(links: &mut [Link], first: usize) -> Option<(usize, Batch)>
     requires first { first ≤ length links.old }
     ensures found { IfSome result (λ found. FindsOne (λ proxy. ComesBefore first proxy found.0) found.0 found.1 links.old links.new) }
     ensures none { IfNone result (FindsNone (λ proxy. proxy < length links.old) links.old links.new) }
 {
-    match take_between(rt, links, first, links.len()) {
+    match take_between(links, first, links.len()) {
         Some(found) => Some(found),
-        None => take_between(rt, links, 0, first),
+        None => take_between(links, 0, first),
     }
 }
 
 // Takes a batch of the first of these proxies that has one.
-fn take_between<R: Wait>(
-    rt: &R,
-    links: &mut [Link],
-    first: usize,
-    end: usize,
-) -> Option<(usize, Batch)>
+fn take_between(links: &mut [Link], first: usize, end: usize) -> Option<(usize, Batch)>
     requires inside { end ≤ length links.old }
     ensures found { IfSome result (λ found. (first ≤ found.0) × (found.0 < end)
         × FindsOne (λ proxy. (first ≤ proxy) × (proxy < found.0)) found.0 found.1 links.old links.new) }
     ensures none { IfNone result (FindsNone (λ proxy. (first ≤ proxy) × (proxy < end)) links.old links.new) }
 {
     for proxy in first..end {
-        if let Some(batch) = links[proxy].take(rt) {
+        if let Some(batch) = links[proxy].take() {
             return Some((proxy, batch));
         }
     }
@@ -62,27 +56,27 @@ pub fn waiting(links: &[Link]) -> usize
 }
 
 /// Sends each proxy the answers owed to it, while its reply lane accepts them.
-pub fn hand_out<R: Wait>(rt: &R, links: &mut [Link], core: &mut Core)
+pub fn hand_out(links: &mut [Link], core: &mut Core)
     requires each { length links.old ≡ length core.old.books.owed }
     ensures each { EachLink (λ proxy l m. HandsOut l m (owed_to proxy core.old.books.owed) (owed_to proxy core.new.books.owed)) links.old links.new }
     ensures core { OwesOnly core.old core.new }
 {
     for proxy in 0..links.len() {
-        links[proxy].hand_out(rt, core, proxy);
+        links[proxy].hand_out(core, proxy);
     }
 }
 
 /// Closes all reply lanes.
-pub fn close<R: Wait>(rt: &R, links: &mut [Link])
+pub fn close(links: &mut [Link])
     ensures closed { EachLink (λ _ l m. m ≡ closed_link l) links.old links.new }
 {
     for link in links {
-        link.close(rt);
+        link.close();
     }
 }
 
 /// Settles each link with its client, and returns whether every answer sent has been taken.
-pub fn settle<R: Wait>(rt: &R, links: &mut [Link], clients: &mut [Client]) -> bool
+pub fn settle(links: &mut [Link], clients: &mut [Client]) -> bool
     requires clients { AreClients (lanes_of links.old) clients.old }
     ensures each { EachSettled links.old clients.old links.new clients.new }
     ensures all_taken { IsTrue result ↔ ((proxy : ℕ) (l : LinkView) (c : Client) → slice_get links.old proxy ≡ Some l
@@ -90,7 +84,7 @@ pub fn settle<R: Wait>(rt: &R, links: &mut [Link], clients: &mut [Client]) -> bo
 {
     let mut all_taken = true;
     for proxy in 0..links.len() {
-        all_taken &= links[proxy].settle(rt, &mut clients[proxy]);
+        all_taken &= links[proxy].settle(&mut clients[proxy]);
     }
     all_taken
 }

@@ -23,7 +23,6 @@ use crate::stop::Stop;
 use crate::turn::{Account, Turn};
 use keyspace::laws;
 use std::marker::Model;
-use std::sync::Wait;
 
 /// The resolver over lanes: takes the batches of its clients, and sends them the answers of the reference resolver.
 #[derive(Drop)]
@@ -95,7 +94,7 @@ impl Resolver {
     /// owed and no answer is still to come, it closes the reply lanes.
     ///
     /// An error is final: this and every later turn take no more, hand out what the reply lanes accept, and return the same one.
-    pub fn turn<R: Wait>(&mut self, rt: &R) -> Result<Turn, Stop>
+    pub fn turn(&mut self) -> Result<Turn, Stop>
         // What the resolver stands for afterwards.
         ensures step { IfOk result (λ turn. StepsBy turn self.old self.new) }
         ensures stop_met { IfErr result (λ _. self.old.core.stop ≡ None
@@ -133,9 +132,9 @@ impl Resolver {
         ensures lanes { Each (λ _ l m. LanesGoOn l m) self.old.lanes self.new.lanes }
         ensures goes_on { GoOn self.old.core.books self.new.core.books }
     {
-        let stepped = self.step(rt);
-        self.hand_out(rt);
-        self.close(rt);
+        let stepped = self.step();
+        self.hand_out();
+        self.close();
         Ok(match stepped? {
             Some(proxy) => Turn::Took(proxy),
             None if self.closed => Turn::Done,
@@ -145,7 +144,7 @@ impl Resolver {
 
     /// Finds what was reached, with all clients of this resolver back in one hand, each at its number. It takes no memory, and no
     /// batch or answer moves.
-    pub fn settle<R: Wait>(&mut self, rt: &R, clients: &mut [Client]) -> Account
+    pub fn settle(&mut self, clients: &mut [Client]) -> Account
         requires clients { AreClients self.old.lanes clients.old }
         ensures settled { (log : List Step) → StandsOver self.old log
             → Settled self.old.core.books.set.window log (map (λ l. l.ended) self.old.lanes) clients.old result }
@@ -162,7 +161,7 @@ impl Resolver {
     {
         laws::runs_are_chains();
         laws::each_batch_is_answered();
-        let all_taken = links::settle(rt, &mut self.links, clients);
+        let all_taken = links::settle(&mut self.links, clients);
         Account::new(self.core.stop(), self.closed, all_taken)
     }
 
@@ -174,7 +173,7 @@ impl Resolver {
     }
 
     // Takes a batch of the next proxy that has one and admits it, and returns the proxy; or finishes the core, once all have ended.
-    fn step<R: Wait>(&mut self, rt: &R) -> Result<Option<usize>, Stop>
+    fn step(&mut self) -> Result<Option<usize>, Stop>
         ensures took { (proxy : ℕ) → result ≡ Ok (Some proxy) → TakesFrom proxy self.old self.new }
         ensures still_open { (proxy : ℕ) → result ≡ Ok (Some proxy) → all_ended self.new.lanes ≡ false }
         ensures none { result ≡ Ok None → Finishes self.old self.new ⊎ TakesNoStep self.old self.new }
@@ -203,7 +202,7 @@ impl Resolver {
         if let Some(stop) = self.core.stop() {
             return Err(stop);
         }
-        match links::take_from(rt, &mut self.links, self.next) {
+        match links::take_from(&mut self.links, self.next) {
             Some((proxy, batch)) => {
                 self.next = proxy + 1;
                 self.core.admit(proxy, batch)?;
@@ -222,7 +221,7 @@ impl Resolver {
     }
 
     // Sends each proxy the answers owed to it, while its reply lane accepts them.
-    fn hand_out<R: Wait>(&mut self, rt: &R)
+    fn hand_out(&mut self)
         ensures stands { (log : List Step) → StandsOver self.old log → StandsOver self.new log }
         ensures made { (proxy : ℕ) → made_to proxy (sent_to self.new.lanes) self.new.core.books
             ≡ made_to proxy (sent_to self.old.lanes) self.old.core.books }
@@ -230,11 +229,11 @@ impl Resolver {
         ensures lanes { Each (λ _ l m. (m ≡ record l { replies = m.replies }) × PortGoesOn l.replies m.replies) self.old.lanes self.new.lanes }
         ensures same { SameBut self.old self.new }
     {
-        links::hand_out(rt, &mut self.links, &mut self.core);
+        links::hand_out(&mut self.links, &mut self.core);
     }
 
     // Closes the reply lanes where no answer is still to come.
-    fn close<R: Wait>(&mut self, rt: &R)
+    fn close(&mut self)
         ensures stands { (log : List Step) → StandsOver self.old log → StandsOver self.new log }
         ensures closed { (proxy : ℕ) (l : Lanes) → slice_get self.new.lanes proxy ≡ Some l
             → (l.replies.closed ≡ true) ↔ IsThrough self.new }
@@ -243,7 +242,7 @@ impl Resolver {
         ensures next { self.new.next ≡ self.old.next }
     {
         if !self.closed && self.is_through() {
-            links::close(rt, &mut self.links);
+            links::close(&mut self.links);
             self.closed = true;
         }
     }

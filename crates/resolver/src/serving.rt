@@ -16,7 +16,6 @@ use crate::turn::Account;
 use keyspace::{Answer, Batch, WINDOW};
 use lane::Taken;
 use std::alloc::{AllocError, Global};
-use std::sync::Wait;
 use stepmap::MAX_LIMIT;
 
 /// What comes of serving two proxies.
@@ -35,9 +34,8 @@ pub struct Served {
 /// Proxy 0 sends the first batch and proxy 1 the second, and each closes its lane. Then the resolver takes so many turns. After
 /// each of them each proxy takes an answer, if one has come. A turn that answers a stop doesn't end this, since later turns still
 /// hand out. The only refusal is that of memory.
-pub fn serve_two<R: Wait>(
+pub fn serve_two(
     alloc: Global,
-    rt: &R,
     first: Batch,
     second: Batch,
     turns: usize,
@@ -45,10 +43,10 @@ pub fn serve_two<R: Wait>(
     ensures served { IfOk result (λ served. (log : List Step) × AreServed WINDOW log first second served) }
 {
     let (mut resolver, mut clients) = open(alloc, 2, 1, WINDOW, MAX_LIMIT)?;
-    send_only(rt, &mut clients[0], first);
-    send_only(rt, &mut clients[1], second);
-    let (first, second) = receive_all(alloc, rt, &mut resolver, &mut clients, turns)?;
-    let account = resolver.settle(rt, &mut clients);
+    send_only(&mut clients[0], first);
+    send_only(&mut clients[1], second);
+    let (first, second) = receive_all(alloc, &mut resolver, &mut clients, turns)?;
+    let account = resolver.settle(&mut clients);
     Ok(Served {
         first,
         second,
@@ -57,9 +55,8 @@ pub fn serve_two<R: Wait>(
 }
 
 // Takes so many turns, and an answer of each of two proxies after each of them, if one has come. Returns those of each proxy.
-fn receive_all<R: Wait>(
+fn receive_all(
     alloc: Global,
-    rt: &R,
     resolver: &mut Resolver,
     clients: &mut [Client],
     turns: usize,
@@ -72,37 +69,33 @@ fn receive_all<R: Wait>(
     let mut first = Vec::new(alloc);
     let mut second = Vec::new(alloc);
     for _ in 0..turns {
-        let _ = resolver.turn(rt);
-        receive(rt, &mut clients[0], &mut first)?;
-        receive(rt, &mut clients[1], &mut second)?;
+        let _ = resolver.turn();
+        receive(&mut clients[0], &mut first)?;
+        receive(&mut clients[1], &mut second)?;
     }
     Ok((first, second))
 }
 
 // Sends the only batch of a new client, and closes its lane. An open lane that was never used has room for it.
-fn send_only<R: Wait>(rt: &R, client: &mut Client, batch: Batch)
+fn send_only(client: &mut Client, batch: Batch)
     requires new { IsNewClient 1 client.old }
     ensures sent { client.new.requests.sent ≡ batch ∷ [] }
     ensures closed { client.new.requests.closed ≡ true }
     ensures port { PortGoesOn client.old.requests client.new.requests }
     ensures replies { client.new.replies ≡ client.old.replies }
 {
-    client.requests.send(rt, batch).unwrap();
-    client.requests.close(rt);
+    client.requests.send(batch).unwrap();
+    client.requests.close();
 }
 
 // Takes an answer, if one has come, and adds it to those that the client has received.
-fn receive<R: Wait>(
-    rt: &R,
-    client: &mut Client,
-    received: &mut Vec<Answer>,
-) -> Result<(), AllocError>
+fn receive(client: &mut Client, received: &mut Vec<Answer>) -> Result<(), AllocError>
     requires so_far { client.old.replies.taken ≡ received.old.items }
     ensures taken { OnOk result (client.new.replies.taken ≡ received.new.items) }
     ensures intake { IntakeGoesOn client.old.replies client.new.replies }
     ensures requests { client.new.requests ≡ client.old.requests }
 {
-    if let Taken::Item(answer) = client.replies.take(rt) {
+    if let Taken::Item(answer) = client.replies.take() {
         received.push(answer)?;
     }
     Ok(())

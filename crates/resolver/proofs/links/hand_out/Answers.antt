@@ -6,7 +6,7 @@ use Rattle.resolver.proofs.Handing.{HandedBelow, EachLink-handed, OwesOnly-then}
 use Rattle.resolver.proofs.links.hand_out.Goals as goal
 
 pub loop-proxy-preserved : goal.loop-proxy-preserved
-loop-proxy-preserved g c =
+loop-proxy-preserved c =
     let i = c.loop-proxy.proxy in
     let so_far = c.loop-proxy.invariant in
     let done = c.hand_out.ensures in
@@ -19,7 +19,7 @@ loop-proxy-preserved g c =
     )
 
 pub returns-clause-each : goal.returns-clause-each
-returns-clause-each g c =
+returns-clause-each c =
     let before = c.args.core.now.books.owed in
     let after = c.loop-proxy.core.books.owed in
     EachLink-also (HandedBelow c.loop-proxy.proxy before after)

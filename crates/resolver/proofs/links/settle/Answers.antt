@@ -6,10 +6,9 @@ use Rattle.resolver.specs.declared.client.Client.{Client}
 use Rattle.resolver.specs.Links.{LinkView}
 use Rattle.resolver.proofs.Settling.{same_lanes, settled_more, taken_more, settled_all}
 use Rattle.resolver.proofs.links.settle.Goals as goal
-use Rattle.resolver.proofs.links.settle.Given.{Over}
 use Rattle.resolver.proofs.links.settle.Goals.{After-index-clients-proxy}
 
-module _ (g : Over) (c : After-index-clients-proxy g) where
+module _ (c : After-index-clients-proxy) where
   abbrev link : LinkView
   link = slice_index_or c.loop-proxy.links c.loop-proxy.proxy c.index-links-proxy.result
 
@@ -31,34 +30,34 @@ module _ (g : Over) (c : After-index-clients-proxy g) where
       link client c.loop-proxy.invariant.settled link_at client_at c.requires.clients
 
 pub settle-all_taken-requires-clause-requests : goal.settle-all_taken-requires-clause-requests
-settle-all_taken-requires-clause-requests g c = (ends g c).0
+settle-all_taken-requires-clause-requests c = (ends c).0
 
 pub settle-all_taken-requires-clause-replies : goal.settle-all_taken-requires-clause-replies
-settle-all_taken-requires-clause-replies g c = (ends g c).1
+settle-all_taken-requires-clause-replies c = (ends c).1
 
 pub loop-proxy-preserved : goal.loop-proxy-preserved
-loop-proxy-preserved g c =
-    let d = (goal.at.loop-proxy-preserved g c).After-index-clients-proxy in
+loop-proxy-preserved c =
+    let d = (goal.at.loop-proxy-preserved c).After-index-clients-proxy in
     record {
       settled =
           settled_more c.loop-proxy.proxy c.args.links.now c.args.clients.now c.loop-proxy.links
-          c.loop-proxy.clients (link g d) (client g d) c.loop-proxy.invariant.settled (link_at g d)
-          (client_at g d) c.settle-all_taken.new.self c.settle-all_taken.new.client
+          c.loop-proxy.clients (link d) (client d) c.loop-proxy.invariant.settled (link_at d)
+          (client_at d) c.settle-all_taken.new.self c.settle-all_taken.new.client
           c.settle-all_taken.ensures.settles;
       taken =
           taken_more c.loop-proxy.proxy c.args.links.now c.args.clients.now c.loop-proxy.links
-          c.loop-proxy.clients (link g d) (client g d) c.loop-proxy.invariant.settled (link_at g d)
-          (client_at g d) c.loop-proxy.all_taken c.settle-all_taken.result c.loop-proxy.invariant.taken
+          c.loop-proxy.clients (link d) (client d) c.loop-proxy.invariant.settled (link_at d)
+          (client_at d) c.loop-proxy.all_taken c.settle-all_taken.result c.loop-proxy.invariant.taken
           c.settle-all_taken.ensures.all_taken;
     }
 
 pub returns-clause-each : goal.returns-clause-each
-returns-clause-each g c =
+returns-clause-each c =
     settled_all c.loop-proxy.proxy c.args.links.now c.args.clients.now c.loop-proxy.links c.loop-proxy.clients
     (omega arith) c.loop-proxy.invariant.settled
 
 pub returns-clause-all_taken : goal.returns-clause-all_taken
-returns-clause-all_taken g c = (
+returns-clause-all_taken c = (
   λ all proxy l d l_at.
       let inside = slice_get_within _ proxy l l_at in
       c.loop-proxy.invariant.taken.0 all proxy l d (omega (arith, inside)) l_at,

@@ -4,7 +4,7 @@ use Rattle.resolver.proofs.Settling.{AreSettled, AllTaken}
 use Rattle.resolver.proofs.links.settle.Given as goal
 
 abbrev pub invariant-loop-proxy : goal.invariant-loop-proxy
-invariant-loop-proxy g l = record {
+invariant-loop-proxy l = record {
   settled : AreSettled l.proxy l.fn.links l.fn.clients l.links l.clients;
   taken : (l.all_taken ≡ true) ↔ AllTaken l.proxy l.fn.links l.fn.clients;
 }

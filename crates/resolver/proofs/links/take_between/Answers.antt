@@ -3,7 +3,7 @@ use Rattle.resolver.proofs.Finding.{FindsNone-as, FindsNone-more, FindsOne-here}
 use Rattle.resolver.proofs.links.take_between.Goals as goal
 
 pub returns-in-Some-clause-found : goal.returns-in-Some-clause-found
-returns-in-Some-clause-found g c =
+returns-in-Some-clause-found c =
     let i = c.loop-proxy.proxy in
     let inside : i < length c.loop-proxy.links = omega (arith, c.loop-proxy.invariant.0.looked.count) in (
       omega arith,
@@ -13,7 +13,7 @@ returns-in-Some-clause-found g c =
     )
 
 pub loop-proxy-preserved : goal.loop-proxy-preserved
-loop-proxy-preserved g c =
+loop-proxy-preserved c =
     let i = c.loop-proxy.proxy in
     let inside : i < length c.loop-proxy.links = omega (arith, c.loop-proxy.invariant.0.looked.count) in (
       FindsNone-more c.args.first i c.take.new.self c.index-links-proxy.result (omega arith) inside
@@ -22,5 +22,5 @@ loop-proxy-preserved g c =
     )
 
 pub returns-clause-none : goal.returns-clause-none
-returns-clause-none g c =
+returns-clause-none c =
     FindsNone-as _ _ (λ q inside. (λ b. (b.0, omega arith), λ b. (b.0, omega arith))) c.loop-proxy.invariant.0

@@ -11,7 +11,7 @@ IfNone_then None p then = then p
 IfNone_then (Some x) p then = p
 
 pub returns-in-Some-clause-found : goal.returns-in-Some-clause-found
-returns-in-Some-clause-found g c =
+returns-in-Some-clause-found c =
     let first = c.args.first in
     let proxy = c.in-Some.found.0 in
     let found = c.in-Some.ensures.found in
@@ -20,7 +20,7 @@ returns-in-Some-clause-found g c =
     c.in-Some.found.1 found.2
 
 pub returns-in-None-clause-found : goal.returns-in-None-clause-found
-returns-in-None-clause-found g c =
+returns-in-None-clause-found c =
     let first = c.args.first in
     let links = c.args.links.now in
     IfSome_then c.take_between-in-None.result c.take_between-in-None.ensures.found
@@ -44,7 +44,7 @@ returns-in-None-clause-found g c =
     c.in-None.ensures.none found.2))
 
 pub returns-in-None-clause-none : goal.returns-in-None-clause-none
-returns-in-None-clause-none g c =
+returns-in-None-clause-none c =
     let first = c.args.first in
     let links = c.args.links.now in
     IfNone_then c.take_between-in-None.result c.take_between-in-None.ensures.none

@@ -9,11 +9,10 @@ use Rattle.resolver.specs.Resolver.{AreClients}
 use Rattle.resolver.specs.Served.{AreServing}
 use Rattle.resolver.specs.Settled.{Settled}
 use Rattle.resolver.proofs.TwoProxies.{serving_sent, serving_sent_by, serving_opened, serving_settled}
-use Rattle.resolver.proofs.serving.serve_two.Given.{Over}
 use Rattle.resolver.proofs.serving.serve_two.Goals as goal
 use Rattle.resolver.proofs.serving.serve_two.Goals.{After-send_only-2, In_ok-first}
 
-module _ (g : Over) (c : After-send_only-2 g) where
+module _ (c : After-send_only-2) where
   abbrev clients : List Client
   clients = c.in_ok-resolver.clients.items
 
@@ -56,17 +55,15 @@ module _ (g : Over) (c : After-send_only-2 g) where
   sent_is = serving_sent_by WINDOW c.in_ok-resolver.resolver now sent ([] ∷ [] ∷ []) both_sent
 
 pub receive_all-requires : goal.receive_all-requires
-receive_all-requires g c κs within =
-    let j = (goal.at.receive_all-requires g c).After-send_only-2 in
+receive_all-requires c =
+    let j = (goal.at.receive_all-requires c).After-send_only-2 in
     let Serving : List Client → List (List Batch) → Type 0 = λ clients sent.
     AreServing WINDOW c.in_ok-resolver.resolver clients (get_or sent 0 [] ∷ get_or sent 1 [] ∷ []) ([] ∷ [] ∷ []) in
-    let Told : List Client → Type 0 = λ clients. Serving clients (map (λ d. d.requests.sent) clients) in (
-      within,
-      subst Told (sym c.deref_mut.ensures.value)
-          (subst (Serving (now g j)) {y = map (λ d. d.requests.sent) (now g j)} (sym (sent_is g j)) (both_sent g j)),
-    )
+    let Told : List Client → Type 0 = λ clients. Serving clients (map (λ d. d.requests.sent) clients) in
+    subst Told (sym c.deref_mut.ensures.value)
+    (subst (Serving (now j)) {y = map (λ d. d.requests.sent) (now j)} (sym (sent_is j)) (both_sent j))
 
-module _ (g : Over) (c : In_ok-first g) where
+module _ (c : In_ok-first) where
   abbrev both : List (List Batch)
   both = (c.args.first ∷ []) ∷ (c.args.second ∷ []) ∷ []
 
@@ -85,11 +82,11 @@ lent_back n lent rest now whole is =
     is ∙ take-append-le n lent rest (omega (arith, whole)) ∙ take_all n lent (omega (arith, whole))
 
 pub settle-account-requires : goal.settle-account-requires
-settle-account-requires g c =
-    let j = (goal.at.settle-account-requires g c).After-send_only-2 in
-    let told = subst (λ (clients : List Client). map (λ d. d.requests.sent) clients ≡ sent g j)
-    (sym c.deref_mut.ensures.value) (sent_is g j) in
-    let serving = received g (goal.at.settle-account-requires g c).In_ok-first told in
+settle-account-requires c =
+    let j = (goal.at.settle-account-requires c).After-send_only-2 in
+    let told = subst (λ (clients : List Client). map (λ d. d.requests.sent) clients ≡ sent j)
+    (sym c.deref_mut.ensures.value) (sent_is j) in
+    let serving = received (goal.at.settle-account-requires c).In_ok-first told in
     let two = serving.taken_count in
     let many = c.in_ok-resolver.ensures.proxies in
     let len = c.in_ok-resolver.clients.ok.0 in
@@ -101,13 +98,13 @@ settle-account-requires g c =
     }
 
 pub returns : goal.returns
-returns g c =
-    let j = (goal.at.returns g c).After-send_only-2 in
+returns c =
+    let j = (goal.at.returns c).After-send_only-2 in
     let r = c.receive_all.new.resolver in
     let account = c.settle-account.result in
-    let told = subst (λ (clients : List Client). map (λ d. d.requests.sent) clients ≡ sent g j)
-    (sym c.deref_mut.ensures.value) (sent_is g j) in
-    let serving = received g (goal.at.returns g c).In_ok-first told in
+    let told = subst (λ (clients : List Client). map (λ d. d.requests.sent) clients ≡ sent j)
+    (sym c.deref_mut.ensures.value) (sent_is j) in
+    let serving = received (goal.at.returns c).In_ok-first told in
     let two = serving.taken_count in
     let many = c.in_ok-resolver.ensures.proxies in
     let len = c.in_ok-resolver.clients.ok.0 in

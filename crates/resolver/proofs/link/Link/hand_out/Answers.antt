@@ -3,7 +3,7 @@ use Rattle.resolver.proofs.Handing.{HandsOut-all}
 use Rattle.resolver.proofs.link.Link.hand_out.Goals as goal
 
 pub returns-clause-hands_out : goal.returns-clause-hands_out
-returns-clause-hands_out g c =
+returns-clause-hands_out c =
     HandsOut-all c.args.self.now c.loop-answer.self c.next_answer.new.self
     (owed_to c.args.proxy c.args.core.now.books.owed) (owed_to c.args.proxy c.loop-answer.core.books.owed)
     (owed_to c.args.proxy c.next_answer.new.core.books.owed) c.loop-answer.invariant.0

@@ -6,7 +6,7 @@ use Rattle.resolver.proofs.Handing.{HandsOn}
 use Rattle.resolver.proofs.link.Link.hand_out.Given as goal
 
 abbrev pub invariant-loop-answer : goal.invariant-loop-answer
-invariant-loop-answer g l =
+invariant-loop-answer l =
     HandsOn l.initial.self l.self (owed_to l.proxy l.initial.core.books.owed)
     (owed_to l.proxy l.core.books.owed)
     × OwesOnly l.initial.core l.core
@@ -14,5 +14,5 @@ invariant-loop-answer g l =
     → owed_to other l.core.books.owed ≡ owed_to other l.initial.core.books.owed)
 
 abbrev pub decreases-loop-answer : goal.decreases-loop-answer
-decreases-loop-answer g l =
+decreases-loop-answer l =
     length (option_to_list l.self.waiting) + length (owed_to l.proxy l.core.books.owed)

@@ -4,7 +4,7 @@ use Rattle.resolver.proofs.Closing.{closed_all}
 use Rattle.resolver.proofs.over_lanes.Resolver.close.Goals as goal
 
 pub invariant_of-self : goal.invariant_of-self
-invariant_of-self g c =
+invariant_of-self c =
     let done = c.close.ensures.closed in
     let seen = c.deref_mut.ensures.value in
     let before = c.self.inside.links in
@@ -14,7 +14,7 @@ invariant_of-self g c =
     (closed_all c.self.invariant c.self.view_is through seen done (with_items_is before now long)).0
 
 pub returns-then-is_through : goal.returns-then-is_through
-returns-then-is_through g c =
+returns-then-is_through c =
     let done = c.close.ensures.closed in
     let seen = c.deref_mut.ensures.value in
     let before = c.self.inside.links in

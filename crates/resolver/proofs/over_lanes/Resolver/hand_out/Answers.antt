@@ -4,7 +4,7 @@ use Rattle.resolver.proofs.HandedOut.{handed}
 use Rattle.resolver.proofs.over_lanes.Resolver.hand_out.Goals as goal
 
 pub invariant_of-self : goal.invariant_of-self
-invariant_of-self g c =
+invariant_of-self c =
     let done = c.hand_out.ensures in
     let seen = c.deref_mut.ensures.value in
     let before = c.self.inside.links in
@@ -13,7 +13,7 @@ invariant_of-self g c =
     (handed c.self.invariant c.self.view_is done.core seen done.each (with_items_is before now long)).0
 
 pub returns : goal.returns
-returns g c =
+returns c =
     let done = c.hand_out.ensures in
     let seen = c.deref_mut.ensures.value in
     let before = c.self.inside.links in

@@ -10,11 +10,10 @@ use Rattle.resolver.proofs.Resolving.{stands_settled}
 use Rattle.resolver.proofs.Settling.{written_back}
 use Rattle.resolver.proofs.Unchanged.{owed_with-settled, lanes_hold, lanes_settled, clients_settled, with_links, AreParts-settled}
 use Rattle.resolver.proofs.Accounts.{EachTaken, settled, complete_from, complete_then}
-use Rattle.resolver.proofs.over_lanes.Resolver.settle.Given.{Over}
 use Rattle.resolver.proofs.over_lanes.Resolver.settle.Goals as goal
 use Rattle.resolver.proofs.over_lanes.Resolver.settle.Goals.{After-new}
 
-module _ (g : Over) (c : After-new g) where
+module _ (c : After-new) where
   abbrev parts : Parts
   parts = record {
     core = c.self.inside.core;
@@ -59,61 +58,61 @@ module _ (g : Over) (c : After-new g) where
   )
 
 pub invariant_of-self : goal.invariant_of-self
-invariant_of-self g c =
-    let d = (goal.at.invariant_of-self g c).After-new in
-    subst (λ links. AreParts (with_links (parts g d) links)) (sym (links_are g d))
-    (AreParts-settled (parts g d) (new g d) c.args.clients.now c.settle-all_taken.new.clients (each g d)
-    (clients_are g d).count c.self.invariant)
+invariant_of-self c =
+    let d = (goal.at.invariant_of-self c).After-new in
+    subst (λ links. AreParts (with_links (parts d) links)) (sym (links_are d))
+    (AreParts-settled (parts d) (new d) c.args.clients.now c.settle-all_taken.new.clients (each d)
+    (clients_are d).count c.self.invariant)
 
 pub returns-clause-settled : goal.returns-clause-settled
-returns-clause-settled g c =
+returns-clause-settled c =
     let clients = c.args.clients.now in
     subst
     (λ (r : ResolverState). (log : List Step) → StandsOver r log → Settled r.core.books.set.window log
     (map (λ l. l.ended) r.lanes) clients c.new.result)
     c.self.view_is
-    (λ log stands. settled (parts g c) c.self.invariant clients (many g c) log stands
-    (lanes_hold (parts g c).links (new g c) clients c.settle-all_taken.new.clients (each g c)
-    (clients_are g c).count)
+    (λ log stands. settled (parts c) c.self.invariant clients (many c) log stands
+    (lanes_hold (parts c).links (new c) clients c.settle-all_taken.new.clients (each c)
+    (clients_are c).count)
     c.runs_are_chains.ensures.chain c.each_batch_is_answered.ensures.once
-    c.each_batch_is_answered.ensures.none_held _ (complete_is g c).0 (c.new.ensures.stop ∙ c.stop.ensures.stop))
+    c.each_batch_is_answered.ensures.none_held _ (complete_is c).0 (c.new.ensures.stop ∙ c.stop.ensures.stop))
 
 pub returns-clause-settled_for_some : goal.returns-clause-settled_for_some
-returns-clause-settled_for_some g c = λ before.
-    (before.log, returns-clause-settled g c before.log before.stands)
+returns-clause-settled_for_some c = λ before.
+    (before.log, returns-clause-settled c before.log before.stands)
 
 pub returns-clause-complete : goal.returns-clause-complete
-returns-clause-complete g c =
+returns-clause-complete c =
     subst (λ (r : ResolverState). (c.new.result.complete ≡ true) ↔ IsComplete r c.args.clients.now) c.self.view_is
-    (complete_is g c)
+    (complete_is c)
 
 pub returns-clause-core : goal.returns-clause-core
-returns-clause-core g c =
+returns-clause-core c =
     let core = c.self.inside.core in
     ap (λ owed. record core { books = record core.books { owed = owed } })
-    (ap (λ links. owed_with links core.books.owed) (links_are g c)
-    ∙ owed_with-settled (parts g c).links (new g c) c.args.clients.now c.settle-all_taken.new.clients (each g c)
-    (clients_are g c).count core.books.owed)
+    (ap (λ links. owed_with links core.books.owed) (links_are c)
+    ∙ owed_with-settled (parts c).links (new c) c.args.clients.now c.settle-all_taken.new.clients (each c)
+    (clients_are c).count core.books.owed)
     ∙ ap (λ (r : ResolverState). r.core) c.self.view_is
 
 pub returns-clause-lanes : goal.returns-clause-lanes
-returns-clause-lanes g c =
+returns-clause-lanes c =
     subst₂ (Each (λ _ l m. LanesGoOn l m × AreSameLists l m)) (ap (λ (r : ResolverState). r.lanes) c.self.view_is)
-    (ap lanes_of (sym (links_are g c)))
-    (lanes_settled (parts g c).links (new g c) c.args.clients.now c.settle-all_taken.new.clients (each g c)
-    (clients_are g c).count)
+    (ap lanes_of (sym (links_are c)))
+    (lanes_settled (parts c).links (new c) c.args.clients.now c.settle-all_taken.new.clients (each c)
+    (clients_are c).count)
 
 pub returns-clause-clients : goal.returns-clause-clients
-returns-clause-clients g c =
-    clients_settled (parts g c).links (new g c) c.args.clients.now c.settle-all_taken.new.clients (each g c)
-    (clients_are g c).count
+returns-clause-clients c =
+    clients_settled (parts c).links (new c) c.args.clients.now c.settle-all_taken.new.clients (each c)
+    (clients_are c).count
 
 pub returns-clause-stands : goal.returns-clause-stands
-returns-clause-stands g c =
-    stands_settled c.args.self.now _ (returns-clause-core g c) (returns-clause-lanes g c)
+returns-clause-stands c =
+    stands_settled c.args.self.now _ (returns-clause-core c) (returns-clause-lanes c)
 
 pub returns-clause-resolving : goal.returns-clause-resolving
-returns-clause-resolving g c = λ before. record {
+returns-clause-resolving c = λ before. record {
   log = before.log;
-  stands = returns-clause-stands g c before.log before.stands;
+  stands = returns-clause-stands c before.log before.stands;
 }

@@ -41,7 +41,7 @@ use Rattle.resolver.proofs.Stepping.{
 use Rattle.resolver.proofs.over_lanes.Resolver.step.Goals as goal
 
 -- a batch was found, and a stop was met as it was admitted
-module _ (g : _) (c : goal.After-from_residual g) where
+module _ (c : goal.After-from_residual) where
   abbrev stopped_old : Parts
   stopped_old = record {
     core = c.self.inside.core;
@@ -78,7 +78,7 @@ module _ (g : _) (c : goal.After-from_residual g) where
       (c.admit.ensures.stands stopped_running))
 
 -- a batch was found, and it was admitted
-module _ (g : _) (c : goal.In_ok-admit-in-Some-take_from g) where
+module _ (c : goal.In_ok-admit-in-Some-take_from) where
   abbrev admitted_old : Parts
   admitted_old = record {
     core = c.self.inside.core;
@@ -115,107 +115,107 @@ module _ (g : _) (c : goal.In_ok-admit-in-Some-take_from g) where
       (c.admit.ensures.stands admitted_running))
 
 pub invariant_of-self : goal.invariant_of-self
-invariant_of-self g c =
-    parts_taken (stopped_old g c) (stopped_new g c) c.self.inside.next c.in-Some-take_from.proxy c.in-Some-take_from.batch
-    (stopped_found g c) c.self.invariant (stopped_running g c) c.admit.ensures.goes_on refl refl refl
+invariant_of-self c =
+    parts_taken (stopped_old c) (stopped_new c) c.self.inside.next c.in-Some-take_from.proxy c.in-Some-take_from.batch
+    (stopped_found c) c.self.invariant (stopped_running c) c.admit.ensures.goes_on refl refl refl
 
 pub invariant_of-self-in-Some-take_from : goal.invariant_of-self-in-Some-take_from
-invariant_of-self-in-Some-take_from g c =
-    parts_taken (admitted_old g c) (admitted_new g c) c.self.inside.next c.in-Some-take_from.proxy c.in-Some-take_from.batch
-    (admitted_found g c) c.self.invariant (admitted_running g c) c.admit.ensures.goes_on refl refl refl
+invariant_of-self-in-Some-take_from c =
+    parts_taken (admitted_old c) (admitted_new c) c.self.inside.next c.in-Some-take_from.proxy c.in-Some-take_from.batch
+    (admitted_found c) c.self.invariant (admitted_running c) c.admit.ensures.goes_on refl refl refl
 
 pub returns-in_err-admit-in-Some-take_from-clause-stop_met : goal.returns-in_err-admit-in-Some-take_from-clause-stop_met
-returns-in_err-admit-in-Some-take_from-clause-stop_met g c =
-    IfErr-always c.from_residual.result (λ _. inl (c.in-Some-take_from.proxy, stopped_takes g c))
+returns-in_err-admit-in-Some-take_from-clause-stop_met c =
+    IfErr-always c.from_residual.result (λ _. inl (c.in-Some-take_from.proxy, stopped_takes c))
 
 pub returns-in_err-admit-in-Some-take_from-clause-gate_full : goal.returns-in_err-admit-in-Some-take_from-clause-gate_full
-returns-in_err-admit-in-Some-take_from-clause-gate_full g c =
+returns-in_err-admit-in-Some-take_from-clause-gate_full c =
     λ running is.
     let stop = c.in_err-admit-in-Some-take_from.field-0.0 in
     let met = same_stop c.from_residual.result stop GateFull c.from_residual.ensures.1 is in
-    let full = (c.admit.ensures.gate_full (stopped_running g c)).0 (c.in_err-admit-in-Some-take_from.was ∙ ap Err met) in
-    let took = takes_when (stopped_old g c) (stopped_new g c) c.self.inside.next c.in-Some-take_from.proxy c.in-Some-take_from.batch
-    (stopped_found g c) c.self.invariant (stopped_running g c) c.admit.ensures.goes_on refl refl refl (λ b. (c.self.inside.core.books.version <ℤ b.previous) × (length c.self.inside.core.books.held ≡ MAX_HELD)) full
-    (c.admit.ensures.stands (stopped_running g c)) in
-    subst (λ (r : ResolverState). (p : ℕ) × (t : TakesFrom p r (resolver_of (stopped_new g c)))
+    let full = (c.admit.ensures.gate_full (stopped_running c)).0 (c.in_err-admit-in-Some-take_from.was ∙ ap Err met) in
+    let took = takes_when (stopped_old c) (stopped_new c) c.self.inside.next c.in-Some-take_from.proxy c.in-Some-take_from.batch
+    (stopped_found c) c.self.invariant (stopped_running c) c.admit.ensures.goes_on refl refl refl (λ b. (c.self.inside.core.books.version <ℤ b.previous) × (length c.self.inside.core.books.held ≡ MAX_HELD)) full
+    (c.admit.ensures.stands (stopped_running c)) in
+    subst (λ (r : ResolverState). (p : ℕ) × (t : TakesFrom p r (resolver_of (stopped_new c)))
     × (r.core.books.version <ℤ t.batch.previous) × (length r.core.books.held ≡ MAX_HELD)) c.self.view_is
     (took.0, took.1, took.2.0, took.2.1)
 
 pub returns-in_err-admit-in-Some-take_from-clause-arena_full : goal.returns-in_err-admit-in-Some-take_from-clause-arena_full
-returns-in_err-admit-in-Some-take_from-clause-arena_full g c =
+returns-in_err-admit-in-Some-take_from-clause-arena_full c =
     λ running is log s.
     let stop = c.in_err-admit-in-Some-take_from.field-0.0 in
     let met = same_stop c.from_residual.result stop ArenaFull c.from_residual.ensures.1 is in
     let limit = c.self.inside.core.books.set.map.limit in
     let window = c.self.inside.core.books.set.window in
-    let given = sent_to (lanes_of (stopped_new g c).links) in
-    let books = (resolver_of (stopped_new g c)).core.books in
-    subst (λ (r : ResolverState). (p : ℕ) × (t : TakesFrom p r (resolver_of (stopped_new g c)))
+    let given = sent_to (lanes_of (stopped_new c).links) in
+    let books = (resolver_of (stopped_new c)).core.books in
+    subst (λ (r : ResolverState). (p : ℕ) × (t : TakesFrom p r (resolver_of (stopped_new c)))
     × StopsAtLimit r.core.books.set.map.limit r.core.books.set.window p t.batch (run r.core.books.set.window log) given books)
     c.self.view_is
-    (takes_over (stopped_old g c) (stopped_new g c) c.self.inside.next c.in-Some-take_from.proxy c.in-Some-take_from.batch
-    (stopped_found g c) c.self.invariant (stopped_running g c) c.admit.ensures.goes_on refl refl refl (λ p b. StopsAtLimit limit window p b (run window log) given books)
-    (stops_at_limit (stopped_old g c) (stopped_new g c) c.self.inside.next c.in-Some-take_from.proxy c.in-Some-take_from.batch
-    (stopped_found g c) c.self.invariant (stopped_running g c) c.admit.ensures.goes_on refl refl refl log
+    (takes_over (stopped_old c) (stopped_new c) c.self.inside.next c.in-Some-take_from.proxy c.in-Some-take_from.batch
+    (stopped_found c) c.self.invariant (stopped_running c) c.admit.ensures.goes_on refl refl refl (λ p b. StopsAtLimit limit window p b (run window log) given books)
+    (stops_at_limit (stopped_old c) (stopped_new c) c.self.inside.next c.in-Some-take_from.proxy c.in-Some-take_from.batch
+    (stopped_found c) c.self.invariant (stopped_running c) c.admit.ensures.goes_on refl refl refl log
     (subst (λ r. StandsOver r log) (sym c.self.view_is) s)
-    (c.admit.ensures.arena_full (stopped_running g c) (c.in_err-admit-in-Some-take_from.was ∙ ap Err met)))
-    (c.admit.ensures.stands (stopped_running g c)))
+    (c.admit.ensures.arena_full (stopped_running c) (c.in_err-admit-in-Some-take_from.was ∙ ap Err met)))
+    (c.admit.ensures.stands (stopped_running c)))
 
 pub returns-in_err-admit-in-Some-take_from-clause-replies : goal.returns-in_err-admit-in-Some-take_from-clause-replies
-returns-in_err-admit-in-Some-take_from-clause-replies g c =
-    subst (λ (r : ResolverState). Each (λ p l m. m.replies ≡ l.replies) r.lanes (lanes_of (stopped_new g c).links)) c.self.view_is
-    (replies_taken (stopped_old g c) (stopped_new g c) c.self.inside.next c.in-Some-take_from.proxy c.in-Some-take_from.batch
-    (stopped_found g c) c.self.invariant (stopped_running g c) c.admit.ensures.goes_on refl refl refl)
+returns-in_err-admit-in-Some-take_from-clause-replies c =
+    subst (λ (r : ResolverState). Each (λ p l m. m.replies ≡ l.replies) r.lanes (lanes_of (stopped_new c).links)) c.self.view_is
+    (replies_taken (stopped_old c) (stopped_new c) c.self.inside.next c.in-Some-take_from.proxy c.in-Some-take_from.batch
+    (stopped_found c) c.self.invariant (stopped_running c) c.admit.ensures.goes_on refl refl refl)
 
 pub returns-in_err-admit-in-Some-take_from-clause-lanes : goal.returns-in_err-admit-in-Some-take_from-clause-lanes
-returns-in_err-admit-in-Some-take_from-clause-lanes g c =
-    subst (λ (r : ResolverState). Each (λ p l m. LanesGoOn l m) r.lanes (lanes_of (stopped_new g c).links)) c.self.view_is
-    (lanes_taken (stopped_old g c) (stopped_new g c) c.self.inside.next c.in-Some-take_from.proxy c.in-Some-take_from.batch
-    (stopped_found g c) c.self.invariant (stopped_running g c) c.admit.ensures.goes_on refl refl refl)
+returns-in_err-admit-in-Some-take_from-clause-lanes c =
+    subst (λ (r : ResolverState). Each (λ p l m. LanesGoOn l m) r.lanes (lanes_of (stopped_new c).links)) c.self.view_is
+    (lanes_taken (stopped_old c) (stopped_new c) c.self.inside.next c.in-Some-take_from.proxy c.in-Some-take_from.batch
+    (stopped_found c) c.self.invariant (stopped_running c) c.admit.ensures.goes_on refl refl refl)
 
 pub returns-in_err-admit-in-Some-take_from-clause-goes_on : goal.returns-in_err-admit-in-Some-take_from-clause-goes_on
-returns-in_err-admit-in-Some-take_from-clause-goes_on g c =
-    subst (λ (r : ResolverState). GoOn r.core.books (resolver_of (stopped_new g c)).core.books) c.self.view_is
-    (goes_on_taken (stopped_old g c) (stopped_new g c) c.self.inside.next c.in-Some-take_from.proxy c.in-Some-take_from.batch
-    (stopped_found g c) c.self.invariant (stopped_running g c) c.admit.ensures.goes_on refl refl refl)
+returns-in_err-admit-in-Some-take_from-clause-goes_on c =
+    subst (λ (r : ResolverState). GoOn r.core.books (resolver_of (stopped_new c)).core.books) c.self.view_is
+    (goes_on_taken (stopped_old c) (stopped_new c) c.self.inside.next c.in-Some-take_from.proxy c.in-Some-take_from.batch
+    (stopped_found c) c.self.invariant (stopped_running c) c.admit.ensures.goes_on refl refl refl)
 
 pub returns-in_ok-admit-in-Some-take_from-clause-replies : goal.returns-in_ok-admit-in-Some-take_from-clause-replies
-returns-in_ok-admit-in-Some-take_from-clause-replies g c =
-    subst (λ (r : ResolverState). Each (λ p l m. m.replies ≡ l.replies) r.lanes (lanes_of (admitted_new g c).links)) c.self.view_is
-    (replies_taken (admitted_old g c) (admitted_new g c) c.self.inside.next c.in-Some-take_from.proxy c.in-Some-take_from.batch
-    (admitted_found g c) c.self.invariant (admitted_running g c) c.admit.ensures.goes_on refl refl refl)
+returns-in_ok-admit-in-Some-take_from-clause-replies c =
+    subst (λ (r : ResolverState). Each (λ p l m. m.replies ≡ l.replies) r.lanes (lanes_of (admitted_new c).links)) c.self.view_is
+    (replies_taken (admitted_old c) (admitted_new c) c.self.inside.next c.in-Some-take_from.proxy c.in-Some-take_from.batch
+    (admitted_found c) c.self.invariant (admitted_running c) c.admit.ensures.goes_on refl refl refl)
 
 pub returns-in_ok-admit-in-Some-take_from-clause-lanes : goal.returns-in_ok-admit-in-Some-take_from-clause-lanes
-returns-in_ok-admit-in-Some-take_from-clause-lanes g c =
-    subst (λ (r : ResolverState). Each (λ p l m. LanesGoOn l m) r.lanes (lanes_of (admitted_new g c).links)) c.self.view_is
-    (lanes_taken (admitted_old g c) (admitted_new g c) c.self.inside.next c.in-Some-take_from.proxy c.in-Some-take_from.batch
-    (admitted_found g c) c.self.invariant (admitted_running g c) c.admit.ensures.goes_on refl refl refl)
+returns-in_ok-admit-in-Some-take_from-clause-lanes c =
+    subst (λ (r : ResolverState). Each (λ p l m. LanesGoOn l m) r.lanes (lanes_of (admitted_new c).links)) c.self.view_is
+    (lanes_taken (admitted_old c) (admitted_new c) c.self.inside.next c.in-Some-take_from.proxy c.in-Some-take_from.batch
+    (admitted_found c) c.self.invariant (admitted_running c) c.admit.ensures.goes_on refl refl refl)
 
 pub returns-in_ok-admit-in-Some-take_from-clause-goes_on : goal.returns-in_ok-admit-in-Some-take_from-clause-goes_on
-returns-in_ok-admit-in-Some-take_from-clause-goes_on g c =
-    subst (λ (r : ResolverState). GoOn r.core.books (resolver_of (admitted_new g c)).core.books) c.self.view_is
-    (goes_on_taken (admitted_old g c) (admitted_new g c) c.self.inside.next c.in-Some-take_from.proxy c.in-Some-take_from.batch
-    (admitted_found g c) c.self.invariant (admitted_running g c) c.admit.ensures.goes_on refl refl refl)
+returns-in_ok-admit-in-Some-take_from-clause-goes_on c =
+    subst (λ (r : ResolverState). GoOn r.core.books (resolver_of (admitted_new c)).core.books) c.self.view_is
+    (goes_on_taken (admitted_old c) (admitted_new c) c.self.inside.next c.in-Some-take_from.proxy c.in-Some-take_from.batch
+    (admitted_found c) c.self.invariant (admitted_running c) c.admit.ensures.goes_on refl refl refl)
 
 pub returns-in_ok-admit-in-Some-take_from-clause-took : goal.returns-in_ok-admit-in-Some-take_from-clause-took
-returns-in_ok-admit-in-Some-take_from-clause-took g c =
+returns-in_ok-admit-in-Some-take_from-clause-took c =
     λ proxy is.
     let same : c.in-Some-take_from.proxy ≡ proxy = ok_some c.in-Some-take_from.proxy proxy is in
-    subst (λ p. TakesFrom p c.args.self.now (resolver_of (admitted_new g c))) same (admitted_takes g c)
+    subst (λ p. TakesFrom p c.args.self.now (resolver_of (admitted_new c))) same (admitted_takes c)
 
 pub returns-in_ok-admit-in-Some-take_from-clause-passed : goal.returns-in_ok-admit-in-Some-take_from-clause-passed
-returns-in_ok-admit-in-Some-take_from-clause-passed g c =
+returns-in_ok-admit-in-Some-take_from-clause-passed c =
     λ proxy is.
     let same : c.in-Some-take_from.proxy ≡ proxy = ok_some c.in-Some-take_from.proxy proxy is in
     subst (λ p. Each (λ q l m. ComesBefore c.args.self.now.next q p → IsLookedThrough l m) c.args.self.now.lanes
-    (lanes_of (admitted_new g c).links)) same
+    (lanes_of (admitted_new c).links)) same
     (subst (λ (r : ResolverState). Each (λ q l m. ComesBefore r.next q c.in-Some-take_from.proxy → IsLookedThrough l m) r.lanes
-    (lanes_of (admitted_new g c).links)) c.self.view_is
-    (passed_taken (admitted_old g c) (admitted_new g c) c.self.inside.next c.in-Some-take_from.proxy c.in-Some-take_from.batch
-    (admitted_found g c) c.self.invariant (admitted_running g c) c.admit.ensures.goes_on refl refl refl))
+    (lanes_of (admitted_new c).links)) c.self.view_is
+    (passed_taken (admitted_old c) (admitted_new c) c.self.inside.next c.in-Some-take_from.proxy c.in-Some-take_from.batch
+    (admitted_found c) c.self.invariant (admitted_running c) c.admit.ensures.goes_on refl refl refl))
 
 -- no batch was found, and nothing was finished
-module _ (g : _) (c : goal.Then-ended-self g) where
+module _ (c : goal.Then-ended-self) where
   abbrev same_old : Parts
   same_old = record {
     core = c.self.inside.core;
@@ -251,7 +251,7 @@ module _ (g : _) (c : goal.Then-ended-self g) where
   same_all = sym same_ended ∙ same_bools c.have_ended-ended.result c.self.inside.finished c.if-ended-self.true
 
 -- no batch was found, and a stop was met as the core was finished
-module _ (g : _) (c : goal.After-from_residual-in_err-finish-in-None g) where
+module _ (c : goal.After-from_residual-in_err-finish-in-None) where
   abbrev refused_old : Parts
   refused_old = record {
     core = c.self.inside.core;
@@ -304,7 +304,7 @@ module _ (g : _) (c : goal.After-from_residual-in_err-finish-in-None g) where
       (open_before refused_old refused_new refused_found c.self.invariant refused_running refused_goes_on refl refl refused_before refused_after)
 
 -- no batch was found, and the core was finished
-module _ (g : _) (c : goal.In_ok-finish-in-None g) where
+module _ (c : goal.In_ok-finish-in-None) where
   abbrev finished_old : Parts
   finished_old = record {
     core = c.self.inside.core;
@@ -357,89 +357,89 @@ module _ (g : _) (c : goal.In_ok-finish-in-None g) where
       (open_before finished_old finished_new finished_found c.self.invariant finished_running finished_goes_on refl refl finished_before finished_after)
 
 pub invariant_of-self-then-ended-self : goal.invariant_of-self-then-ended-self
-invariant_of-self-then-ended-self g c =
-    parts_looked (same_old g c) (same_new g c) (same_found g c) c.self.invariant (same_running g c) (same_goes_on g c) refl refl (λ _. sym (same_all g c))
-    (through_still (same_old g c) (same_new g c) (same_found g c) c.self.invariant (same_running g c) (same_goes_on g c) refl refl refl refl (same_all g c))
+invariant_of-self-then-ended-self c =
+    parts_looked (same_old c) (same_new c) (same_found c) c.self.invariant (same_running c) (same_goes_on c) refl refl (λ _. sym (same_all c))
+    (through_still (same_old c) (same_new c) (same_found c) c.self.invariant (same_running c) (same_goes_on c) refl refl refl refl (same_all c))
 
 pub invariant_of-self-in_err-finish-in-None : goal.invariant_of-self-in_err-finish-in-None
-invariant_of-self-in_err-finish-in-None g c =
-    refused_parts g c
+invariant_of-self-in_err-finish-in-None c =
+    refused_parts c
 
 pub invariant_of-self-in-None : goal.invariant_of-self-in-None
-invariant_of-self-in-None g c =
-    finished_parts g c
+invariant_of-self-in-None c =
+    finished_parts c
 
 pub returns-then-ended-self-clause-none : goal.returns-then-ended-self-clause-none
-returns-then-ended-self-clause-none g c =
-    λ _. inr (subst (λ r. TakesNoStep r (resolver_of (same_new g c))) c.self.view_is
-    (takes_no_step (same_old g c) (same_new g c) (same_found g c) c.self.invariant (same_running g c) (same_goes_on g c) refl refl refl refl (same_all g c)))
+returns-then-ended-self-clause-none c =
+    λ _. inr (subst (λ r. TakesNoStep r (resolver_of (same_new c))) c.self.view_is
+    (takes_no_step (same_old c) (same_new c) (same_found c) c.self.invariant (same_running c) (same_goes_on c) refl refl refl refl (same_all c)))
 
 pub returns-in_err-finish-in-None-clause-stop_met : goal.returns-in_err-finish-in-None-clause-stop_met
-returns-in_err-finish-in-None-clause-stop_met g c =
-    IfErr-always c.from_residual-in_err-finish-in-None.result (λ _. inr (refused_finishes g c))
+returns-in_err-finish-in-None-clause-stop_met c =
+    IfErr-always c.from_residual-in_err-finish-in-None.result (λ _. inr (refused_finishes c))
 
 pub returns-in_ok-finish-in-None-clause-none : goal.returns-in_ok-finish-in-None-clause-none
-returns-in_ok-finish-in-None-clause-none g c =
-    λ _. inl (finished_finishes g c)
+returns-in_ok-finish-in-None-clause-none c =
+    λ _. inl (finished_finishes c)
 
 pub returns-then-ended-self-clause-looked_through : goal.returns-then-ended-self-clause-looked_through
-returns-then-ended-self-clause-looked_through g c =
-    λ _. subst (λ (r : ResolverState). Each (λ p l m. IsLookedThrough l m) r.lanes (lanes_of (same_new g c).links)) c.self.view_is
-    (all_looked (same_old g c) (same_new g c) (same_found g c) c.self.invariant (same_running g c) (same_goes_on g c) refl refl)
+returns-then-ended-self-clause-looked_through c =
+    λ _. subst (λ (r : ResolverState). Each (λ p l m. IsLookedThrough l m) r.lanes (lanes_of (same_new c).links)) c.self.view_is
+    (all_looked (same_old c) (same_new c) (same_found c) c.self.invariant (same_running c) (same_goes_on c) refl refl)
 
 pub returns-then-ended-self-clause-replies : goal.returns-then-ended-self-clause-replies
-returns-then-ended-self-clause-replies g c =
-    subst (λ (r : ResolverState). Each (λ p l m. m.replies ≡ l.replies) r.lanes (lanes_of (same_new g c).links)) c.self.view_is
-    (replies_looked (same_old g c) (same_new g c) (same_found g c) c.self.invariant (same_running g c) (same_goes_on g c) refl refl)
+returns-then-ended-self-clause-replies c =
+    subst (λ (r : ResolverState). Each (λ p l m. m.replies ≡ l.replies) r.lanes (lanes_of (same_new c).links)) c.self.view_is
+    (replies_looked (same_old c) (same_new c) (same_found c) c.self.invariant (same_running c) (same_goes_on c) refl refl)
 
 pub returns-then-ended-self-clause-lanes : goal.returns-then-ended-self-clause-lanes
-returns-then-ended-self-clause-lanes g c =
-    subst (λ (r : ResolverState). Each (λ p l m. LanesGoOn l m) r.lanes (lanes_of (same_new g c).links)) c.self.view_is
-    (lanes_looked (same_old g c) (same_new g c) (same_found g c) c.self.invariant (same_running g c) (same_goes_on g c) refl refl)
+returns-then-ended-self-clause-lanes c =
+    subst (λ (r : ResolverState). Each (λ p l m. LanesGoOn l m) r.lanes (lanes_of (same_new c).links)) c.self.view_is
+    (lanes_looked (same_old c) (same_new c) (same_found c) c.self.invariant (same_running c) (same_goes_on c) refl refl)
 
 pub returns-then-ended-self-clause-goes_on : goal.returns-then-ended-self-clause-goes_on
-returns-then-ended-self-clause-goes_on g c =
-    subst (λ (r : ResolverState). GoOn r.core.books (resolver_of (same_new g c)).core.books) c.self.view_is
-    (goes_on_looked (same_old g c) (same_new g c) (same_found g c) c.self.invariant (same_running g c) (same_goes_on g c) refl refl)
+returns-then-ended-self-clause-goes_on c =
+    subst (λ (r : ResolverState). GoOn r.core.books (resolver_of (same_new c)).core.books) c.self.view_is
+    (goes_on_looked (same_old c) (same_new c) (same_found c) c.self.invariant (same_running c) (same_goes_on c) refl refl)
 
 pub returns-in_err-finish-in-None-clause-replies : goal.returns-in_err-finish-in-None-clause-replies
-returns-in_err-finish-in-None-clause-replies g c =
-    subst (λ (r : ResolverState). Each (λ p l m. m.replies ≡ l.replies) r.lanes (lanes_of (refused_new g c).links)) c.self.view_is
-    (replies_looked (refused_old g c) (refused_new g c) (refused_found g c) c.self.invariant (refused_running g c) (refused_goes_on g c) refl refl)
+returns-in_err-finish-in-None-clause-replies c =
+    subst (λ (r : ResolverState). Each (λ p l m. m.replies ≡ l.replies) r.lanes (lanes_of (refused_new c).links)) c.self.view_is
+    (replies_looked (refused_old c) (refused_new c) (refused_found c) c.self.invariant (refused_running c) (refused_goes_on c) refl refl)
 
 pub returns-in_err-finish-in-None-clause-lanes : goal.returns-in_err-finish-in-None-clause-lanes
-returns-in_err-finish-in-None-clause-lanes g c =
-    subst (λ (r : ResolverState). Each (λ p l m. LanesGoOn l m) r.lanes (lanes_of (refused_new g c).links)) c.self.view_is
-    (lanes_looked (refused_old g c) (refused_new g c) (refused_found g c) c.self.invariant (refused_running g c) (refused_goes_on g c) refl refl)
+returns-in_err-finish-in-None-clause-lanes c =
+    subst (λ (r : ResolverState). Each (λ p l m. LanesGoOn l m) r.lanes (lanes_of (refused_new c).links)) c.self.view_is
+    (lanes_looked (refused_old c) (refused_new c) (refused_found c) c.self.invariant (refused_running c) (refused_goes_on c) refl refl)
 
 pub returns-in_err-finish-in-None-clause-goes_on : goal.returns-in_err-finish-in-None-clause-goes_on
-returns-in_err-finish-in-None-clause-goes_on g c =
-    subst (λ (r : ResolverState). GoOn r.core.books (resolver_of (refused_new g c)).core.books) c.self.view_is
-    (goes_on_looked (refused_old g c) (refused_new g c) (refused_found g c) c.self.invariant (refused_running g c) (refused_goes_on g c) refl refl)
+returns-in_err-finish-in-None-clause-goes_on c =
+    subst (λ (r : ResolverState). GoOn r.core.books (resolver_of (refused_new c)).core.books) c.self.view_is
+    (goes_on_looked (refused_old c) (refused_new c) (refused_found c) c.self.invariant (refused_running c) (refused_goes_on c) refl refl)
 
 pub returns-in_ok-finish-in-None-clause-looked_through : goal.returns-in_ok-finish-in-None-clause-looked_through
-returns-in_ok-finish-in-None-clause-looked_through g c =
-    λ _. subst (λ (r : ResolverState). Each (λ p l m. IsLookedThrough l m) r.lanes (lanes_of (finished_new g c).links)) c.self.view_is
-    (all_looked (finished_old g c) (finished_new g c) (finished_found g c) c.self.invariant (finished_running g c) (finished_goes_on g c) refl refl)
+returns-in_ok-finish-in-None-clause-looked_through c =
+    λ _. subst (λ (r : ResolverState). Each (λ p l m. IsLookedThrough l m) r.lanes (lanes_of (finished_new c).links)) c.self.view_is
+    (all_looked (finished_old c) (finished_new c) (finished_found c) c.self.invariant (finished_running c) (finished_goes_on c) refl refl)
 
 pub returns-in_ok-finish-in-None-clause-replies : goal.returns-in_ok-finish-in-None-clause-replies
-returns-in_ok-finish-in-None-clause-replies g c =
-    subst (λ (r : ResolverState). Each (λ p l m. m.replies ≡ l.replies) r.lanes (lanes_of (finished_new g c).links)) c.self.view_is
-    (replies_looked (finished_old g c) (finished_new g c) (finished_found g c) c.self.invariant (finished_running g c) (finished_goes_on g c) refl refl)
+returns-in_ok-finish-in-None-clause-replies c =
+    subst (λ (r : ResolverState). Each (λ p l m. m.replies ≡ l.replies) r.lanes (lanes_of (finished_new c).links)) c.self.view_is
+    (replies_looked (finished_old c) (finished_new c) (finished_found c) c.self.invariant (finished_running c) (finished_goes_on c) refl refl)
 
 pub returns-in_ok-finish-in-None-clause-lanes : goal.returns-in_ok-finish-in-None-clause-lanes
-returns-in_ok-finish-in-None-clause-lanes g c =
-    subst (λ (r : ResolverState). Each (λ p l m. LanesGoOn l m) r.lanes (lanes_of (finished_new g c).links)) c.self.view_is
-    (lanes_looked (finished_old g c) (finished_new g c) (finished_found g c) c.self.invariant (finished_running g c) (finished_goes_on g c) refl refl)
+returns-in_ok-finish-in-None-clause-lanes c =
+    subst (λ (r : ResolverState). Each (λ p l m. LanesGoOn l m) r.lanes (lanes_of (finished_new c).links)) c.self.view_is
+    (lanes_looked (finished_old c) (finished_new c) (finished_found c) c.self.invariant (finished_running c) (finished_goes_on c) refl refl)
 
 pub returns-in_ok-finish-in-None-clause-goes_on : goal.returns-in_ok-finish-in-None-clause-goes_on
-returns-in_ok-finish-in-None-clause-goes_on g c =
-    subst (λ (r : ResolverState). GoOn r.core.books (resolver_of (finished_new g c)).core.books) c.self.view_is
-    (goes_on_looked (finished_old g c) (finished_new g c) (finished_found g c) c.self.invariant (finished_running g c) (finished_goes_on g c) refl refl)
+returns-in_ok-finish-in-None-clause-goes_on c =
+    subst (λ (r : ResolverState). GoOn r.core.books (resolver_of (finished_new c)).core.books) c.self.view_is
+    (goes_on_looked (finished_old c) (finished_new c) (finished_found c) c.self.invariant (finished_running c) (finished_goes_on c) refl refl)
 
 pub returns-in_ok-admit-in-Some-take_from-clause-still_open :
     goal.returns-in_ok-admit-in-Some-take_from-clause-still_open
-returns-in_ok-admit-in-Some-take_from-clause-still_open g c = λ proxy is.
-    some_after (admitted_old g c) (admitted_new g c) c.self.inside.next c.in-Some-take_from.proxy
-    c.in-Some-take_from.batch (admitted_found g c) c.self.invariant (admitted_running g c) c.admit.ensures.goes_on refl
+returns-in_ok-admit-in-Some-take_from-clause-still_open c = λ proxy is.
+    some_after (admitted_old c) (admitted_new c) c.self.inside.next c.in-Some-take_from.proxy
+    c.in-Some-take_from.batch (admitted_found c) c.self.invariant (admitted_running c) c.admit.ensures.goes_on refl
     refl refl
