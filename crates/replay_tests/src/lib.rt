@@ -2,7 +2,8 @@
 //!
 //! `verdicts`, `reports`, `batches`, `options`, `proxies` and `files` are the worked rows, played over memory by `runs`, each a
 //! test of its row's name; `meeting` holds back two proxies that wait for each other. `workers` looks at a worker alone, and
-//! the others at the command line and at what is printed.
+//! the others at the command line and at what is printed. The tests of `memory` pass whichever one growth is refused;
+//! `.ci/refused-memory` refuses each in turn.
 //!
 //! The contract of `replay_over` also lets a program through that always stops with `Memory`. Each test that wants a line
 //! refuses it, `empty_batch` first; so does `gate_full_through_replay`, which wants another stop.
@@ -22,6 +23,8 @@ mod files;
 mod lines;
 #[cfg(test)]
 mod meeting;
+#[cfg(test)]
+mod memory;
 #[cfg(test)]
 mod options;
 #[cfg(test)]
