@@ -14,6 +14,8 @@ mod answers;
 #[cfg(test)]
 mod batches;
 #[cfg(test)]
+mod counting;
+#[cfg(test)]
 mod failing;
 #[cfg(test)]
 mod failures;
@@ -33,6 +35,8 @@ mod proxies;
 mod report;
 #[cfg(test)]
 mod reports;
+#[cfg(test)]
+mod rows;
 #[cfg(test)]
 mod runs;
 #[cfg(test)]

@@ -1,8 +1,13 @@
 //! Runs that are refused memory: whichever one growth is refused, a run prints what it promises.
 
+use crate::counting::Counting;
+use crate::rows::{
+    FIRST_RUN_IN_FRAMES, HELD_OVERTAKEN, HELD_REPEAT_ANSWERED_TWICE, REPORT_HISTORY_HITS, Row,
+    SECOND_FILE_CONTINUES_CHAIN, SNAPSHOT_AT_WRITE,
+};
 use crate::runs::{Reader, file_of, reader};
 use fixtures::Unmade;
-use player::{AlwaysOpen, Options, Status, replay_over};
+use player::{Options, Status, replay_over};
 use resolver::MAX_PROXIES;
 use std::alloc::{AllocError, Global};
 use std::process::Abort;
@@ -12,167 +17,91 @@ use std::test::Fail;
 use std::thread::Threads;
 use wire::StdSink;
 
-// The files of a row and what they give.
-struct Row<'a> {
-    // the batches of each file
-    files: &'a [&'a [&'a str]],
-    // whether replies are printed as frames
-    frames: bool,
-    // the lines with ample memory
-    lines: &'a str,
-    // the lines where a file, at its place, ends behind the first 0, 1, .. of its frames
-    cut: &'a [&'a [&'a str]],
+// How the lines of a proxy begin.
+fn beginning_of(proxy: usize) -> &'static str {
+    if proxy == 0 { "0 " } else { "1 " }
 }
 
-const SNAPSHOT_AT_WRITE: Row<'static> = Row {
-    files: &[&["-1>0", "0>100: W[a,b)", "100>200: R[a,b) @100"]],
-    frames: false,
-    lines: "0 0 empty\n0 100 committed\n0 200 committed\n",
-    cut: &[&[
-        "",
-        "0 0 empty\n",
-        "0 0 empty\n0 100 committed\n",
-        "0 0 empty\n0 100 committed\n0 200 committed\n",
-    ]],
-};
-
-const REPORT_HISTORY_HITS: Row<'static> = Row {
-    files: &[&[
-        "-1>0",
-        "0>100: W[a,b) W[e,f)",
-        "100>200: W[c,d) @100; m R[a,b) R[c,d) R[e,f) @50",
-    ]],
-    frames: false,
-    lines: "0 0 empty\n0 100 committed\n0 200 committed conflict:0,2\n",
-    cut: &[&[
-        "",
-        "0 0 empty\n",
-        "0 0 empty\n0 100 committed\n",
-        "0 0 empty\n0 100 committed\n0 200 committed conflict:0,2\n",
-    ]],
-};
-
-const HELD_REPEAT_ANSWERED_TWICE: Row<'static> = Row {
-    files: &[&["-1>0", "100>200", "100>200", "0>100"]],
-    frames: false,
-    lines: "0 0 empty\n0 100 empty\n0 200 empty\n0 200 empty\n",
-    cut: &[&[
-        "",
-        "0 0 empty\n",
-        "0 0 empty\n0 200 held\n",
-        "0 0 empty\n0 200 held\n0 200 held\n",
-        "0 0 empty\n0 100 empty\n0 200 empty\n0 200 empty\n",
-    ]],
-};
-
-const HELD_OVERTAKEN: Row<'static> = Row {
-    files: &[&["-1>0", "150>300", "100>200", "0>100"]],
-    frames: false,
-    lines: "0 0 empty\n0 100 empty\n0 200 empty\n0 300 never\n",
-    cut: &[&[
-        "",
-        "0 0 empty\n",
-        "0 0 empty\n0 300 held\n",
-        "0 0 empty\n0 200 held\n0 300 held\n",
-        "0 0 empty\n0 100 empty\n0 200 empty\n0 300 never\n",
-    ]],
-};
-
-const SECOND_FILE_CONTINUES_CHAIN: Row<'static> = Row {
-    files: &[&["-1>0", "0>100: W[a,b)"], &["100>200: R[a,b) @100"]],
-    frames: false,
-    lines: "0 0 empty\n0 100 committed\n1 200 committed\n",
-    cut: &[
-        &[
-            "1 200 held\n",
-            "0 0 empty\n1 200 held\n",
-            "0 0 empty\n0 100 committed\n1 200 committed\n",
-        ],
-        &[
-            "0 0 empty\n0 100 committed\n",
-            "0 0 empty\n0 100 committed\n1 200 committed\n",
-        ],
-    ],
-};
-
-// The frames of docs/WIRE.md.
-const FIRST_RUN_IN_FRAMES: Row<'static> = Row {
-    files: &[&["-1>0", "0>100: W[a,b)"]],
-    frames: true,
-    lines: "0 0 0000000b0200000000000000000000\n0 100 0000000e0200000000000000640001020000\n",
-    cut: &[&[
-        "",
-        "0 0 0000000b0200000000000000000000\n",
-        "0 0 0000000b0200000000000000000000\n0 100 0000000e0200000000000000640001020000\n",
-    ]],
-};
-
-// Whether the lines that begin so in a text are the first of those that begin so in another.
-fn begins(text: &str, whole: &str, proxy: &str) -> bool {
-    let mut expected = whole.lines().filter(|line| line.starts_with(proxy));
-    for line in text.lines() {
-        if line.starts_with(proxy) && expected.next() != Some(line) {
-            return false;
-        }
-    }
-    true
+// How a run has ended.
+#[derive(Drop)]
+struct Ended<'a> {
+    status: Status,
+    out: &'a str,
+    error: &'a str,
+    counts: &'a Counting,
 }
 
-// Whether all lines of a text that don't begin so stand in another.
-fn has_others(text: &str, whole: &str, proxy: &str) -> bool {
-    for line in whole.lines() {
-        if !line.starts_with(proxy) && !text.lines().any(|other| other == line) {
-            return false;
-        }
+impl Ended<'_> {
+    // How many lines were printed of the proxy.
+    fn count(&self, proxy: usize) -> u64 {
+        let beginning = beginning_of(proxy);
+        let lines = self.out.lines();
+        lines.filter(|line| line.starts_with(beginning)).count() as u64
     }
-    true
 }
 
 impl Row<'_> {
     // Whether a run may end so.
-    fn promises(&self, status: Status, out: &str, error: &str) -> bool {
-        if error.is_empty() {
-            return status == Status::Done && out == self.lines;
+    fn promises(&self, ended: &Ended) -> bool {
+        if ended.error.is_empty() {
+            return ended.status == Status::Done && ended.out == self.lines;
         }
-        let Some(refusal) = error
-            .strip_prefix("replay: ")
-            .and_then(|line| line.strip_suffix('\n'))
-        else {
-            return false;
-        };
-        status == Status::Failed && self.allows(refusal, out)
+        let line = ended.error.strip_prefix("replay: ");
+        match line.and_then(|line| line.strip_suffix('\n')) {
+            Some(refusal) => ended.status == Status::Failed && self.allows(refusal, ended),
+            None => false,
+        }
     }
 
     // Whether these lines may be printed where a line names this refusal.
-    fn allows(&self, refusal: &str, out: &str) -> bool {
+    fn allows(&self, refusal: &str, ended: &Ended) -> bool {
         match refusal {
-            "start 1 Memory" | "start 2 Thread" => out.is_empty(),
-            "stop 1 Memory" => self.begin_each(out),
-            "proxy 0: memory" => self.lack_some(out, "0 "),
-            "proxy 1: memory" => self.lack_some(out, "1 "),
-            "proxy 0: wire 11 Memory" => self.are_cut(out, 0),
-            "proxy 1: wire 11 Memory" => self.are_cut(out, 1),
+            "start 1 Memory" | "start 2 Thread" => ended.out.is_empty(),
+            "stop 1 Memory" => self.has_all_taken(ended, 0) && self.has_all_taken(ended, 1),
+            "proxy 0: memory" => self.has_loss(ended, 0, 1),
+            "proxy 1: memory" => self.has_loss(ended, 1, 0),
+            "proxy 0: wire 11 Memory" => self.is_cut(ended, 0),
+            "proxy 1: wire 11 Memory" => self.is_cut(ended, 1),
             _ => false,
         }
     }
 
-    // Whether these are a beginning of the lines of each proxy.
-    fn begin_each(&self, out: &str) -> bool {
-        begins(out, self.lines, "0 ") && begins(out, self.lines, "1 ")
-    }
-
-    // Whether these are a beginning of the lines of the proxy, and all of the other. Where it is the sort that is refused, there
-    // are none.
-    fn lack_some(&self, out: &str, proxy: &str) -> bool {
-        out.is_empty() || (self.begin_each(out) && has_others(out, self.lines, proxy))
-    }
-
-    // Whether these are the lines where the file of the proxy is cut behind one of its frames.
-    fn are_cut(&self, out: &str, proxy: usize) -> bool {
-        match self.cut.get(proxy) {
-            Some(cut) => cut.contains(&out),
-            None => false,
+    // Whether the lines of the proxy are the first of those that it has with ample memory.
+    fn begins(&self, ended: &Ended, proxy: usize) -> bool {
+        let beginning = beginning_of(proxy);
+        let mut expected = self
+            .lines
+            .lines()
+            .filter(|line| line.starts_with(beginning));
+        for line in ended.out.lines() {
+            if line.starts_with(beginning) && expected.next() != Some(line) {
+                return false;
+            }
         }
+        true
+    }
+
+    // Whether there is a line of each answer that the proxy has taken.
+    fn has_all_taken(&self, ended: &Ended, proxy: usize) -> bool {
+        self.begins(ended, proxy) && ended.count(proxy) == ended.counts.taken(proxy)
+    }
+
+    // Whether a line of the first proxy is missing, and none of the other. Where it is the sort that is refused, all are missing.
+    fn has_loss(&self, ended: &Ended, proxy: usize, other: usize) -> bool {
+        if ended.out.is_empty() {
+            return true;
+        }
+        self.begins(ended, proxy)
+            && ended.count(proxy) < ended.counts.taken(proxy)
+            && self.has_all_taken(ended, other)
+    }
+
+    // Whether the lines are those that there are where the file of the proxy ends behind the frames that were read.
+    fn is_cut(&self, ended: &Ended, proxy: usize) -> bool {
+        let Some(cut) = self.cut.get(proxy) else {
+            return false;
+        };
+        cut.get(ended.counts.read(proxy) as usize) == Some(&ended.out)
     }
 }
 
@@ -180,7 +109,7 @@ impl Row<'_> {
 #[derive(Drop)]
 struct Run {
     readers: Vec<Reader>,
-    gatekeeper: Arc<AlwaysOpen, Global>,
+    gatekeeper: Arc<Counting, Global>,
     out: StdSink<Vec<u8>>,
     error: StdSink<Vec<u8>>,
 }
@@ -198,7 +127,7 @@ impl Run {
         }
         Ok(Run {
             readers,
-            gatekeeper: Arc::new(alloc, AlwaysOpen).map_err(AllocError::from)?,
+            gatekeeper: Arc::new(alloc, Counting::new()).map_err(AllocError::from)?,
             out: StdSink::new(Vec::with_capacity(alloc, ROOM)?),
             error: StdSink::new(Vec::with_capacity(alloc, ROOM)?),
         })
@@ -243,7 +172,13 @@ fn ends_as_promised<R: Threads + Wait + Copy + Send + 'static>(
     let (Ok(out), Ok(error)) = (str::from_utf8(&out), str::from_utf8(&error)) else {
         return Err(Unmade::Text("UTF-8"));
     };
-    Ok(row.promises(status, out, error))
+    let counts: &Counting = &gatekeeper;
+    Ok(row.promises(&Ended {
+        status,
+        out,
+        error,
+        counts,
+    }))
 }
 
 #[test]
