@@ -54,14 +54,25 @@ pub const REPORT_HISTORY_HITS: Row<'static> = &[
     "finish",
 ];
 
+/// Over a lane of one its last answers are owed by the core: one lies in the lane, and one waits before it.
+pub const CHAIN_OF_FIVE: Row<'static> = &[
+    "0 -1>0 -> 0 0 empty",
+    "0 0>100 -> 0 100 empty",
+    "0 100>200: W[a,b) -> 0 200 committed",
+    "0 200>300: R[a,b) @100 -> 0 300 conflict",
+    "0 300>400: R[a,b) @200 -> 0 400 committed",
+    "finish",
+];
+
 /// All of these, which are of one or two proxies and meet no stop.
-pub const ROWS: [Row<'static>; 6] = [
+pub const ROWS: [Row<'static>; 7] = [
     SNAPSHOT_AT_WRITE,
     REPORT_HISTORY_HITS,
     REPEAT_BY_ANOTHER_PROXY,
     HELD_REPEAT_ANSWERED_TWICE,
     HELD_OVERTAKEN,
     LEAST_PREVIOUS_LEAVES_FIRST,
+    CHAIN_OF_FIVE,
 ];
 
 /// Parts a step into its call and its answers.

@@ -18,15 +18,17 @@ struct Run {
     service: Service,
     // The stop that was met.
     stop: Option<Stop>,
+    // The steps before it.
+    steps: usize,
     // Whether an answer was missing.
     has_missed: bool,
 }
 
 impl Run {
-    // Turns once, and returns whether it may answer so: this, or a stop, and then always that one.
-    fn turn(&mut self, rt: &impl Wait, expected: Turn) -> bool {
+    // Turns once, and returns whether it may answer so: one of these, or a stop, and then always that one.
+    fn turn(&mut self, rt: &impl Wait, expected: &[Turn]) -> bool {
         match (self.stop, self.service.turn(rt)) {
-            (None, Ok(turn)) => turn == expected,
+            (None, Ok(turn)) => expected.contains(&turn),
             (None, Err(stop)) => {
                 self.stop = Some(stop);
                 true
@@ -41,42 +43,51 @@ impl Run {
         let (proxy, text) = numbered(text)?;
         let batch = batch_at_last(self.alloc, text)?;
         let is_sent = self.service.send(rt, proxy, batch)?;
-        Ok((is_sent || self.stop.is_some()) && self.turn(rt, Turn::Took(proxy)))
+        Ok((is_sent || self.stop.is_some()) && self.turn(rt, &[Turn::Took(proxy)]))
     }
 
     fn finish(&mut self, rt: &impl Wait) -> Result<bool, Unmade> {
         for proxy in 0..2 {
             self.service.close(rt, proxy)?;
         }
-        Ok(self.turn(rt, Turn::Done))
+        Ok(self.turn(rt, &[Turn::Idle, Turn::Done]))
     }
 
-    // Takes an answer, and returns whether it is this one. Only after a stop may it be missing, and then none comes any more.
-    fn take(&mut self, rt: &impl Wait, told: &str) -> Result<bool, Unmade> {
-        let (proxy, expected) = numbered(told.trim_start())?;
-        match self.service.take(rt, proxy)? {
-            Taken::Item(answer) => {
-                let text = text_at_last(self.alloc, &answer)?;
-                Ok(!self.has_missed && text.as_str() == expected)
-            }
-            Taken::Empty | Taken::End => {
-                self.has_missed = true;
-                Ok(self.stop.is_some())
-            }
-        }
-    }
-
-    // Makes a step and takes its answers, with a turn behind each of them, since a lane has room for one.
-    fn step(&mut self, rt: &impl Wait, step: &str) -> Result<bool, Unmade> {
-        let (call, answers) = parts(step);
-        let mut is_right = if call == "finish" {
+    // Makes the call of a step, whose answers beyond the first of each proxy stay owed.
+    fn call(&mut self, rt: &impl Wait, call: &str) -> Result<bool, Unmade> {
+        let is_right = if call == "finish" {
             self.finish(rt)?
         } else {
             self.send(rt, call)?
         };
+        if self.stop.is_none() {
+            self.steps = self.steps.saturating_add(1);
+        }
+        Ok(is_right)
+    }
+
+    // Takes an answer of the step at this place, and turns once more, since a lane has room for one. Returns whether it is this
+    // answer. It may be missing where its step is the one that met the stop, or a later one, and then none comes any more.
+    fn take(&mut self, rt: &impl Wait, place: usize, told: &str) -> Result<bool, Unmade> {
+        let (proxy, expected) = numbered(told.trim_start())?;
+        match self.service.take(rt, proxy)? {
+            Taken::Item(answer) => {
+                let text = text_at_last(self.alloc, &answer)?;
+                let is_next = !self.has_missed && text.as_str() == expected;
+                Ok(is_next && self.turn(rt, &[Turn::Idle, Turn::Done]))
+            }
+            Taken::Empty | Taken::End => {
+                self.has_missed = true;
+                Ok(place >= self.steps)
+            }
+        }
+    }
+
+    fn take_each(&mut self, rt: &impl Wait, place: usize, answers: &str) -> Result<bool, Unmade> {
+        let mut is_right = true;
         for told in answers.split(';') {
             if !told.is_empty() {
-                is_right &= self.take(rt, told)? && self.turn(rt, Turn::Idle);
+                is_right &= self.take(rt, place, told)?;
             }
         }
         Ok(is_right)
@@ -96,10 +107,15 @@ impl Run {
         Ok(self.service.settle(rt) == account)
     }
 
-    // Makes the steps of the row, and returns the first that answered otherwise.
+    // Makes the calls of the row and then takes the answers. Returns the first step that answered otherwise.
     fn play<'a>(&mut self, rt: &impl Wait, row: &[&'a str]) -> Result<Option<&'a str>, Unmade> {
         for step in row {
-            if !self.step(rt, step)? {
+            if !self.call(rt, parts(step).0)? {
+                return Ok(Some(*step));
+            }
+        }
+        for (place, step) in row.iter().enumerate() {
+            if !self.take_each(rt, place, parts(step).1)? {
                 return Ok(Some(*step));
             }
         }
@@ -127,6 +143,7 @@ fn outcome<'a>(
         alloc,
         service,
         stop: None,
+        steps: 0,
         has_missed: false,
     };
     Ok(match run.play(rt, row)? {
