@@ -1,4 +1,4 @@
-.PHONY: demo replay test plant bench
+.PHONY: demo replay test refused-memory plant bench
 
 # Runs the program on the recorded files of examples/, unproved. A file NAME.args names the further files of a run.
 demo:
@@ -13,6 +13,10 @@ replay:
 # The whole gate: every proof from nothing, the must-fail edits, the tests and the program.
 test:
 	rt ci
+
+# Behind `make test`, refuses each allocation in turn to the tests named for it and to the program, as that has built them.
+refused-memory:
+	.ci/refused-memory
 
 # Tries wrong bodies on a copy of each crate, and lists those that its contracts let through.
 plant:

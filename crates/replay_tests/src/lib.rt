@@ -2,7 +2,8 @@
 //!
 //! `verdicts`, `reports`, `batches`, `options`, `proxies` and `files` are the worked rows, played over memory by `runs`, each a
 //! test of its row's name; `meeting` holds back two proxies that wait for each other. `workers` looks at a worker alone, and
-//! the others at the command line and at what is printed.
+//! the others at the command line and at what is printed. The tests of `memory` pass whichever one growth is refused;
+//! `.ci/refused-memory` refuses each in turn.
 //!
 //! The contract of `replay_over` also lets a program through that always stops with `Memory`. Each test that wants a line
 //! refuses it, `empty_batch` first; so does `gate_full_through_replay`, which wants another stop.
@@ -12,6 +13,8 @@
 mod answers;
 #[cfg(test)]
 mod batches;
+#[cfg(test)]
+mod counting;
 #[cfg(test)]
 mod failing;
 #[cfg(test)]
@@ -23,6 +26,8 @@ mod lines;
 #[cfg(test)]
 mod meeting;
 #[cfg(test)]
+mod memory;
+#[cfg(test)]
 mod options;
 #[cfg(test)]
 mod proxies;
@@ -30,6 +35,8 @@ mod proxies;
 mod report;
 #[cfg(test)]
 mod reports;
+#[cfg(test)]
+mod rows;
 #[cfg(test)]
 mod runs;
 #[cfg(test)]

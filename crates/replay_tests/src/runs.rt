@@ -9,7 +9,7 @@ use std::process::Abort;
 use std::sync::{Arc, Wait};
 use std::test::Fail;
 use std::thread::Threads;
-use wire::{Source, StdSink, StdSource, encode_batch_1};
+use wire::{Source, StdSink, StdSource, WireError, encode_batch_1};
 
 /// A reader of a file in memory.
 pub type Reader = StdSource<Cursor<Vec<u8>>>;
@@ -24,6 +24,7 @@ pub fn push_batch(alloc: Global, file: &mut Vec<u8>, text: &str) -> Result<(), U
     let batch = batch(alloc, text)?;
     match encode_batch_1(alloc, &batch) {
         Ok(frame) => Ok(file.extend_from_slice(&frame)?),
+        Err(WireError::Memory) => Err(Unmade::Memory),
         Err(_long) => Err(Unmade::Beyond("frame")),
     }
 }

@@ -1,63 +1,16 @@
 //! The worked rows over a core, whatever memory is refused.
-//!
-//! A step of a row is a proxy and its batch, or `finish`, and behind an arrow the answers that the step makes, each with the
-//! proxy that is given it: `0 0>100 -> 0 100 empty; 1 55 never`.
 
 use crate::gate::{give, open};
 use crate::made::{batch_at_last, text_at_last};
+use crate::rows::{
+    HELD_OVERTAKEN, HELD_REPEAT_ANSWERED_TWICE, LEAST_PREVIOUS_LEAVES_FIRST,
+    REPEAT_BY_ANOTHER_PROXY, ROWS, Row, count_of, numbered, parts,
+};
 use fixtures::Unmade;
 use resolver::{Core, Stop};
 use std::alloc::Global;
 use std::process::Abort;
 use std::test::Fail;
-
-type Row<'a> = &'a [&'a str];
-
-const REPEAT_BY_ANOTHER_PROXY: Row<'static> = &[
-    "0 -1>0 -> 0 0 empty",
-    "1 0>100 -> 1 100 empty",
-    "0 0>100 -> 0 100 never",
-    "finish",
-];
-
-const HELD_REPEAT_ANSWERED_TWICE: Row<'static> = &[
-    "0 -1>0 -> 0 0 empty",
-    "0 100>200",
-    "0 100>200",
-    "0 0>100 -> 0 100 empty; 0 200 empty; 0 200 empty",
-    "finish",
-];
-
-const HELD_OVERTAKEN: Row<'static> = &[
-    "0 -1>0 -> 0 0 empty",
-    "0 150>300",
-    "0 100>200",
-    "0 0>100 -> 0 100 empty; 0 200 empty; 0 300 never",
-    "finish",
-];
-
-const LEAST_PREVIOUS_LEAVES_FIRST: Row<'static> = &[
-    "0 -1>0 -> 0 0 empty",
-    "0 150>160",
-    "1 100>200",
-    "1 50>55",
-    "0 0>100 -> 0 100 empty; 1 55 never; 1 200 empty; 0 160 never",
-    "finish",
-];
-
-const SNAPSHOT_AT_WRITE: Row<'static> = &[
-    "0 -1>0 -> 0 0 empty",
-    "0 0>100: W[a,b) -> 0 100 committed",
-    "0 100>200: R[a,b) @100 -> 0 200 committed",
-    "finish",
-];
-
-const REPORT_HISTORY_HITS: Row<'static> = &[
-    "0 -1>0 -> 0 0 empty",
-    "0 0>100: W[a,b) W[e,f) -> 0 100 committed",
-    "0 100>200: W[c,d) @100; m R[a,b) R[c,d) R[e,f) @50 -> 0 200 committed conflict:0,2",
-    "finish",
-];
 
 // A core that is given the steps of a row.
 #[derive(Drop)]
@@ -70,29 +23,6 @@ struct Run {
     steps: usize,
     // The answers that were made.
     made: usize,
-}
-
-// Parts a step into its call and its answers.
-fn parts(step: &str) -> (&str, &str) {
-    step.split_once(" -> ").unwrap_or((step, ""))
-}
-
-// Parts a text into the number of a proxy and the rest.
-fn numbered(text: &str) -> Result<(usize, &str), Unmade> {
-    match text.split_once(' ') {
-        Some((proxy, rest)) => Ok((proxy.parse()?, rest)),
-        None => Err(Unmade::Text("number of a proxy")),
-    }
-}
-
-fn count_of(answers: &str) -> usize {
-    let mut count = 0_usize;
-    for answer in answers.split(';') {
-        if !answer.is_empty() {
-            count = count.saturating_add(1);
-        }
-    }
-    count
 }
 
 impl Run {
@@ -235,18 +165,11 @@ fn least_previous_leaves_first(rt: HostRuntime) -> Result<(), Fail> {
     goes_through(&rt, rt.alloc(), 2, LEAST_PREVIOUS_LEAVES_FIRST)
 }
 
-// A refused allocation stops the core, with what it answered before still owed.
+// A refused growth stops the core, with what it answered before still owed.
 #[test]
-fn refused_allocation_stops_the_core(rt: HostRuntime) -> Result<(), Fail> {
-    for (proxies, row) in [
-        (1, SNAPSHOT_AT_WRITE),
-        (1, REPORT_HISTORY_HITS),
-        (2, REPEAT_BY_ANOTHER_PROXY),
-        (1, HELD_REPEAT_ANSWERED_TWICE),
-        (1, HELD_OVERTAKEN),
-        (2, LEAST_PREVIOUS_LEAVES_FIRST),
-    ] {
-        let outcome = outcome(rt.alloc(), proxies, row)?;
+fn core_stops_at_one_growth_refused(rt: HostRuntime) -> Result<(), Fail> {
+    for row in ROWS {
+        let outcome = outcome(rt.alloc(), 2, row)?;
         assert!(rt; matches!(outcome, Ok(None | Some(Stop::Memory))));
     }
     Ok(())

@@ -248,9 +248,9 @@ fn answers_over_two_lanes_of_one(rt: HostRuntime) -> Result<(), Fail> {
     goes_through(&rt, rt.alloc(), (2, 1), TWO_LANES_OF_ONE)
 }
 
-// A refused allocation stops the resolver, with what it answered before still handed out.
+// A refused growth stops the resolver, with what it answered before still handed out.
 #[test]
-fn refused_allocation_stops_the_resolver(rt: HostRuntime) -> Result<(), Fail> {
+fn resolver_stops_at_one_growth_refused(rt: HostRuntime) -> Result<(), Fail> {
     let outcome = outcome(&rt, rt.alloc(), (2, 1), TWO_LANES_OF_ONE)?;
     assert!(rt; matches!(outcome, Ok(None | Some(Stop::Memory))));
     Ok(())

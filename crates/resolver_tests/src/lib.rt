@@ -1,8 +1,11 @@
 //! Tests of the conflict set and of the resolver, by their public calls alone.
 //!
 //! `set` and `scan` resolve batches by a conflict set: by hand, and at random beside a plain scan of all committed writes.
-//! `cores` plays the worked rows over a core, `lanes` those over lanes, whatever memory is refused, and `serving` those of two
-//! proxies served in one thread.
+//! `cores` plays the worked rows of `rows` over a core, `rows_over_lanes` the same over lanes of one, and `lanes` those that are of
+//! lanes alone; `serving` has those of two proxies served in one thread.
+//!
+//! The tests named for it, as `core_stops_at_one_growth_refused`, pass whichever one growth is refused; `.ci/refused-memory` refuses
+//! each in turn.
 #![tactic(auto)]
 
 #[cfg(test)]
@@ -17,6 +20,10 @@ mod gate;
 mod lanes;
 #[cfg(test)]
 mod made;
+#[cfg(test)]
+mod rows;
+#[cfg(test)]
+mod rows_over_lanes;
 #[cfg(test)]
 mod scan;
 #[cfg(test)]

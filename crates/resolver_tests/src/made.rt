@@ -1,7 +1,7 @@
 //! Batches and texts, made by a second try where the first is refused memory.
 
-use fixtures::{Unmade, batch, show_answer};
-use keyspace::{Answer, Batch};
+use fixtures::{Unmade, batch, show_answer, show_reply};
+use keyspace::{Answer, Batch, Reply};
 use std::alloc::Global;
 
 /// Reads a batch from its text.
@@ -16,6 +16,14 @@ pub fn batch_at_last(alloc: Global, text: &str) -> Result<Batch, Unmade> {
 pub fn text_at_last(alloc: Global, answer: &Answer) -> Result<String, Unmade> {
     match show_answer(alloc, answer) {
         Err(Unmade::Memory) => show_answer(alloc, answer),
+        made => made,
+    }
+}
+
+/// Writes a reply.
+pub fn reply_at_last(alloc: Global, reply: &Reply) -> Result<String, Unmade> {
+    match show_reply(alloc, reply) {
+        Err(Unmade::Memory) => show_reply(alloc, reply),
         made => made,
     }
 }

@@ -1,7 +1,7 @@
 //! Batches by hand, resolved by a conflict set, and a set that is refused memory.
 
 use crate::chained::Chained;
-use crate::made::batch_at_last;
+use crate::made::{batch_at_last, reply_at_last};
 use conflict::SetStop;
 use fixtures::{Unmade, batch, batch_of, show_reply, single_key, txn};
 use keyspace::{Batch, Txn, WINDOW};
@@ -235,27 +235,35 @@ fn boundaries_stay_small(rt: HostRuntime) -> Result<(), Fail> {
     Ok(())
 }
 
+// Batches, each with the reply to it.
+type Replied<'a> = &'a [(&'a str, &'a str)];
+
 // Each batch reads, at snapshot 0, the keys that those before it wrote, and writes the next key.
-const NUMBERED: [&str; 6] = [
-    "-1>0: m R[0,0); W[0,0\0)",
-    "0>1: m R[0,1); W[1,1\0)",
-    "1>2: m R[0,2); W[2,2\0)",
-    "2>3: m R[0,3); W[3,3\0)",
-    "3>4: m R[0,4); W[4,4\0)",
-    "4>5: m R[0,5); W[5,5\0)",
+const NUMBERED: Replied<'static> = &[
+    ("-1>0: m R[0,0); W[0,0\0)", "0 committed committed"),
+    ("0>1: m R[0,1); W[1,1\0)", "1 committed committed"),
+    ("1>2: m R[0,2); W[2,2\0)", "2 conflict:0 committed"),
+    ("2>3: m R[0,3); W[3,3\0)", "3 conflict:0 committed"),
+    ("3>4: m R[0,4); W[4,4\0)", "4 conflict:0 committed"),
+    ("4>5: m R[0,5); W[5,5\0)", "5 conflict:0 committed"),
 ];
 
-fn numbered(alloc: Global) -> Result<Vec<Batch>, Unmade> {
-    let mut batches = Vec::new(alloc);
-    for text in NUMBERED {
-        batches
-            .push(batch_at_last(alloc, text)?)
-            .map_err(AllocError::from)?;
-    }
-    Ok(batches)
-}
+const SNAPSHOT_AT_WRITE: Replied<'static> = &[
+    ("-1>0", "0 empty"),
+    ("0>100: W[a,b)", "100 committed"),
+    ("100>200: R[a,b) @100", "200 committed"),
+];
 
-// A set, where one growth may be refused.
+const REPORT_HISTORY_HITS: Replied<'static> = &[
+    ("-1>0", "0 empty"),
+    ("0>100: W[a,b) W[e,f)", "100 committed"),
+    (
+        "100>200: W[c,d) @100; m R[a,b) R[c,d) R[e,f) @50",
+        "200 committed conflict:0,2",
+    ),
+];
+
+// A set, in a second try where the first is refused memory.
 fn set_at_last(alloc: Global) -> Result<Chained, Unmade> {
     match Chained::new(alloc, WINDOW, LIMIT) {
         Err(Unmade::Memory) => Chained::new(alloc, WINDOW, LIMIT),
@@ -263,12 +271,13 @@ fn set_at_last(alloc: Global) -> Result<Chained, Unmade> {
     }
 }
 
-// Resolves the batches, and returns whether each is answered until one is refused memory, and then none.
-fn stops_for_good(set: &mut Chained, batches: &[Batch]) -> Result<bool, Unmade> {
+// Resolves the batches, and returns whether each is replied to so until one is refused memory, and then none.
+fn stops_for_good(alloc: Global, set: &mut Chained, replied: Replied) -> Result<bool, Unmade> {
     let mut is_stopped = false;
-    for batch in batches {
-        let is_right = match set.resolve(batch)? {
-            Ok(reply) => !is_stopped && reply.version == batch.version,
+    for (text, line) in replied {
+        let batch = batch_at_last(alloc, text)?;
+        let is_right = match set.resolve(&batch)? {
+            Ok(reply) => !is_stopped && reply_at_last(alloc, &reply)?.as_str() == *line,
             Err(stop) => {
                 is_stopped = true;
                 stop == SetStop::Memory
@@ -281,15 +290,15 @@ fn stops_for_good(set: &mut Chained, batches: &[Batch]) -> Result<bool, Unmade> 
     Ok(true)
 }
 
-// The batches are made first, so that a growth refused after them is one of the set.
-fn refused_stops_for_good(alloc: Global) -> Result<bool, Unmade> {
-    let batches = numbered(alloc)?;
+fn new_set_stops_for_good(alloc: Global, replied: Replied) -> Result<bool, Unmade> {
     let mut set = set_at_last(alloc)?;
-    stops_for_good(&mut set, &batches)
+    stops_for_good(alloc, &mut set, replied)
 }
 
 #[test]
-fn refused_allocation_stops_the_set(rt: HostRuntime) -> Result<(), Fail> {
-    assert!(rt; refused_stops_for_good(rt.alloc())?);
+fn set_stops_at_one_growth_refused(rt: HostRuntime) -> Result<(), Fail> {
+    for replied in [NUMBERED, SNAPSHOT_AT_WRITE, REPORT_HISTORY_HITS] {
+        assert!(rt; new_set_stops_for_good(rt.alloc(), replied)?);
+    }
     Ok(())
 }

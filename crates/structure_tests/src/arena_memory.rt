@@ -23,12 +23,11 @@ fn rest_of<'a>(
     Ok(taken)
 }
 
-// Places 512 keys of one byte each.
+// Places 512 keys of one byte each, and adds their slots to these.
 fn fill_chunk<A: Allocator + Copy>(
     arena: &mut Arena<u32, A>,
-    alloc: Global,
+    mut slots: Vec<Slot>,
 ) -> Result<Vec<Slot>, Fail> {
-    let mut slots = Vec::new(alloc);
     for number in 0..512_u32 {
         slots.push(arena.place(number, &[(number % 256) as u8])?)?;
     }
@@ -72,7 +71,7 @@ fn arena_chunk_and_refusal(rt: HostRuntime) -> Result<(), Fail> {
     let mut arena: Arena<u32, &LocalHeap> = Arena::new(&heap);
     arena.reserve(&[1; 512])?;
     let _rest = rest_of(rt.alloc(), &heap)?;
-    let slots = fill_chunk(&mut arena, rt.alloc())?;
+    let slots = fill_chunk(&mut arena, Vec::new(rt.alloc()))?;
     assert_eq!(rt; arena.live(), 512);
     assert_eq!(rt; slots.len(), 512);
     let again = replace(&rt, &mut arena, slots[100])?;
@@ -157,14 +156,22 @@ fn place_at_last(rt: &impl Abort, arena: &mut Arena<u32>, header: u32, key: &[u8
     }
 }
 
+// Reserves slots, in a second try where the first is refused memory.
+fn reserve_at_last(rt: &impl Abort, arena: &mut Arena<u32>, lengths: &[usize]) {
+    let live = arena.live();
+    if let Err(refusal) = arena.reserve(lengths) {
+        assert_eq!(rt; refusal, ArenaError::Memory);
+        assert_eq!(rt; arena.live(), live);
+        assert!(rt; arena.reserve(lengths).is_ok());
+    }
+}
+
 // Its outcome is the same whichever one growth is refused.
 #[test]
 fn one_growth_refused(rt: HostRuntime) {
     let mut arena = Arena::new(rt.alloc());
     let first = place_at_last(&rt, &mut arena, 0, b"first");
-    if arena.reserve(&[3, 40, 16_000]).is_err() {
-        assert!(rt; arena.reserve(&[3, 40, 16_000]).is_ok());
-    }
+    reserve_at_last(&rt, &mut arena, &[3, 40, 16_000]);
     assert!(rt; arena.place(1, b"key").is_ok());
     assert!(rt; arena.place(2, &[7; 40]).is_ok());
     for number in 3..600_u32 {
@@ -175,4 +182,32 @@ fn one_growth_refused(rt: HostRuntime) {
         panic!(rt; "the first place was refused twice");
     };
     assert!(rt; shows(&arena, slot, 0, b"first"));
+}
+
+// Makes room for as many slots, in a second try where the first is refused memory.
+fn room_at_last(alloc: Global, count: usize) -> Result<Vec<Slot>, AllocError> {
+    match Vec::with_capacity(alloc, count) {
+        Ok(room) => Ok(room),
+        Err(_refused) => Vec::with_capacity(alloc, count),
+    }
+}
+
+// The calls of `arena_chunk_and_refusal`: no key of a reserved length is refused, and the slot that was released is given again.
+#[test]
+fn chunk_with_one_growth_refused(rt: HostRuntime) -> Result<(), Fail> {
+    let room = room_at_last(rt.alloc(), 512)?;
+    let mut arena: Arena<u32> = Arena::new(rt.alloc());
+    reserve_at_last(&rt, &mut arena, &[1; 512]);
+    let slots = fill_chunk(&mut arena, room)?;
+    assert_eq!(rt; arena.live(), 512);
+    assert_eq!(rt; slots.len(), 512);
+    assert!(rt; arena.is_live(slots[100]));
+    arena.release(slots[100]);
+    reserve_at_last(&rt, &mut arena, &[33, 33, 16_000]);
+    let again = arena.place(1000, b"twenty bytes of text")?;
+    assert_eq!(rt; again, slots[100]);
+    reserve_at_last(&rt, &mut arena, &[20, 100]);
+    assert_eq!(rt; arena.live(), 512);
+    assert!(rt; shows_chunk(&arena, &slots, again));
+    Ok(())
 }

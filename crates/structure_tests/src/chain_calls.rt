@@ -171,12 +171,12 @@ fn refusals_print_their_numbers(rt: HostRuntime) -> Result<(), Fail> {
 // Holds the batch, in a second try where the first is refused memory.
 fn hold_at_last(rt: &impl Abort, gate: &mut Gate, batch: Batch) {
     let held = gate.held();
-    let version = batch.version;
+    let given = (batch.previous, batch.version, batch.received);
     let Err((refusal, back)) = gate.hold(0, batch) else {
         return;
     };
     assert_eq!(rt; refusal, ChainError::Memory);
-    assert_eq!(rt; back.version, version);
+    assert_eq!(rt; (back.previous, back.version, back.received), given);
     assert_eq!(rt; gate.held(), held);
     assert!(rt; gate.hold(0, back).is_ok());
 }

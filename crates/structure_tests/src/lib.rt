@@ -2,7 +2,8 @@
 //! the version chain, and the lane.
 //!
 //! What no contract says is tested here: the worked rows, printed text, calls by chance beside a plain structure, and memory
-//! that is refused.
+//! that is refused. The tests named for it, as `one_growth_refused`, pass whichever one growth is refused; `.ci/refused-memory`
+//! refuses each in turn.
 #![tactic(auto)]
 
 #[cfg(test)]

@@ -1,0 +1,218 @@
+//! Runs that are refused memory: whichever one growth is refused, a run prints what it promises.
+
+use crate::counting::Counting;
+use crate::rows::{
+    FIRST_RUN_IN_FRAMES, HELD_OVERTAKEN, HELD_REPEAT_ANSWERED_TWICE, REPORT_HISTORY_HITS, Row,
+    SECOND_FILE_CONTINUES_CHAIN, SNAPSHOT_AT_WRITE,
+};
+use crate::runs::{Reader, file_of, reader};
+use fixtures::Unmade;
+use player::{Options, Status, replay_over};
+use resolver::MAX_PROXIES;
+use std::alloc::{AllocError, Global};
+use std::process::Abort;
+use std::str;
+use std::sync::{Arc, Wait};
+use std::test::Fail;
+use std::thread::Threads;
+use wire::StdSink;
+
+// How the lines of a proxy begin.
+fn beginning_of(proxy: usize) -> &'static str {
+    if proxy == 0 { "0 " } else { "1 " }
+}
+
+// How a run has ended.
+#[derive(Drop)]
+struct Ended<'a> {
+    status: Status,
+    out: &'a str,
+    error: &'a str,
+    counts: &'a Counting,
+}
+
+impl Ended<'_> {
+    // How many lines were printed of the proxy.
+    fn count(&self, proxy: usize) -> u64 {
+        let beginning = beginning_of(proxy);
+        let lines = self.out.lines();
+        lines.filter(|line| line.starts_with(beginning)).count() as u64
+    }
+}
+
+impl Row<'_> {
+    // Whether a run may end so.
+    fn promises(&self, ended: &Ended) -> bool {
+        if ended.error.is_empty() {
+            return ended.status == Status::Done && ended.out == self.lines;
+        }
+        let line = ended.error.strip_prefix("replay: ");
+        match line.and_then(|line| line.strip_suffix('\n')) {
+            Some(refusal) => ended.status == Status::Failed && self.allows(refusal, ended),
+            None => false,
+        }
+    }
+
+    // Whether these lines may be printed where a line names this refusal.
+    fn allows(&self, refusal: &str, ended: &Ended) -> bool {
+        match refusal {
+            "start 1 Memory" | "start 2 Thread" => ended.out.is_empty(),
+            "stop 1 Memory" => self.has_all_taken(ended, 0) && self.has_all_taken(ended, 1),
+            "proxy 0: memory" => self.has_loss(ended, 0, 1),
+            "proxy 1: memory" => self.has_loss(ended, 1, 0),
+            "proxy 0: wire 11 Memory" => self.is_cut(ended, 0),
+            "proxy 1: wire 11 Memory" => self.is_cut(ended, 1),
+            _ => false,
+        }
+    }
+
+    // Whether the lines of the proxy are the first of those that it has with ample memory.
+    fn begins(&self, ended: &Ended, proxy: usize) -> bool {
+        let beginning = beginning_of(proxy);
+        let mut expected = self
+            .lines
+            .lines()
+            .filter(|line| line.starts_with(beginning));
+        for line in ended.out.lines() {
+            if line.starts_with(beginning) && expected.next() != Some(line) {
+                return false;
+            }
+        }
+        true
+    }
+
+    // Whether there is a line of each answer that the proxy has taken.
+    fn has_all_taken(&self, ended: &Ended, proxy: usize) -> bool {
+        self.begins(ended, proxy) && ended.count(proxy) == ended.counts.taken(proxy)
+    }
+
+    // Whether a line of the first proxy is missing, and none of the other. Where it is the sort that is refused, all are missing.
+    fn has_loss(&self, ended: &Ended, proxy: usize, other: usize) -> bool {
+        if ended.out.is_empty() {
+            return true;
+        }
+        self.begins(ended, proxy)
+            && ended.count(proxy) < ended.counts.taken(proxy)
+            && self.has_all_taken(ended, other)
+    }
+
+    // Whether the lines are those that there are where the file of the proxy ends behind the frames that were read.
+    fn is_cut(&self, ended: &Ended, proxy: usize) -> bool {
+        let Some(cut) = self.cut.get(proxy) else {
+            return false;
+        };
+        cut.get(ended.counts.read(proxy) as usize) == Some(&ended.out)
+    }
+}
+
+// What a run is made of.
+#[derive(Drop)]
+struct Run {
+    readers: Vec<Reader>,
+    gatekeeper: Arc<Counting, Global>,
+    out: StdSink<Vec<u8>>,
+    error: StdSink<Vec<u8>>,
+}
+
+// More bytes than a run prints.
+const ROOM: usize = 1_000;
+
+impl Run {
+    // The outputs have room, so that no write is refused.
+    fn new(alloc: Global, files: &[&[&str]]) -> Result<Self, Unmade> {
+        let mut readers = Vec::new(alloc);
+        for batches in files {
+            let file = file_of(alloc, batches, b"")?;
+            readers.push(reader(file)).map_err(AllocError::from)?;
+        }
+        Ok(Run {
+            readers,
+            gatekeeper: Arc::new(alloc, Counting::new()).map_err(AllocError::from)?,
+            out: StdSink::new(Vec::with_capacity(alloc, ROOM)?),
+            error: StdSink::new(Vec::with_capacity(alloc, ROOM)?),
+        })
+    }
+
+    // In a second try where the first is refused memory.
+    fn new_at_last(alloc: Global, files: &[&[&str]]) -> Result<Self, Unmade> {
+        match Run::new(alloc, files) {
+            Err(Unmade::Memory) => Run::new(alloc, files),
+            made => made,
+        }
+    }
+}
+
+// Replays the files of a row, and returns whether the run may end as it has.
+fn ends_as_promised<R: Threads + Wait + Copy + Send + 'static>(
+    rt: &R,
+    alloc: Global,
+    row: &Row,
+) -> Result<bool, Unmade> {
+    let Run {
+        readers,
+        gatekeeper,
+        mut out,
+        mut error,
+    } = Run::new_at_last(alloc, row.files)?;
+    if readers.is_empty() || readers.len() > MAX_PROXIES {
+        return Err(Unmade::Beyond("number of files"));
+    }
+    let mut options = Options::default();
+    options.frames = row.frames;
+    let status = replay_over(
+        rt,
+        alloc,
+        readers,
+        options,
+        &gatekeeper,
+        &mut out,
+        &mut error,
+    );
+    let (out, error) = (out.into_inner(), error.into_inner());
+    let (Ok(out), Ok(error)) = (str::from_utf8(&out), str::from_utf8(&error)) else {
+        return Err(Unmade::Text("UTF-8"));
+    };
+    let counts: &Counting = &gatekeeper;
+    Ok(row.promises(&Ended {
+        status,
+        out,
+        error,
+        counts,
+    }))
+}
+
+#[test]
+fn snapshot_at_write_with_one_growth_refused(rt: HostRuntime) -> Result<(), Fail> {
+    assert!(rt; ends_as_promised(&rt, rt.alloc(), &SNAPSHOT_AT_WRITE)?);
+    Ok(())
+}
+
+#[test]
+fn report_history_hits_with_one_growth_refused(rt: HostRuntime) -> Result<(), Fail> {
+    assert!(rt; ends_as_promised(&rt, rt.alloc(), &REPORT_HISTORY_HITS)?);
+    Ok(())
+}
+
+#[test]
+fn held_repeat_answered_twice_with_one_growth_refused(rt: HostRuntime) -> Result<(), Fail> {
+    assert!(rt; ends_as_promised(&rt, rt.alloc(), &HELD_REPEAT_ANSWERED_TWICE)?);
+    Ok(())
+}
+
+#[test]
+fn held_overtaken_with_one_growth_refused(rt: HostRuntime) -> Result<(), Fail> {
+    assert!(rt; ends_as_promised(&rt, rt.alloc(), &HELD_OVERTAKEN)?);
+    Ok(())
+}
+
+#[test]
+fn second_file_with_one_growth_refused(rt: HostRuntime) -> Result<(), Fail> {
+    assert!(rt; ends_as_promised(&rt, rt.alloc(), &SECOND_FILE_CONTINUES_CHAIN)?);
+    Ok(())
+}
+
+#[test]
+fn frames_with_one_growth_refused(rt: HostRuntime) -> Result<(), Fail> {
+    assert!(rt; ends_as_promised(&rt, rt.alloc(), &FIRST_RUN_IN_FRAMES)?);
+    Ok(())
+}
