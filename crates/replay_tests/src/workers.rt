@@ -61,10 +61,9 @@ fn handed_back(alloc: Global, finished: &Finished) -> Result<String, Unmade> {
 }
 
 // Sends two answers on a lane that has room for them, and closes it. Returns whether both were sent.
-fn send_two(rt: &impl Wait, replies: &mut Port<Answer>) -> bool {
-    let are_sent = replies.send(rt, Answer::Never(1)).is_ok()
-        && replies.send(rt, Answer::Held(2)).is_ok();
-    replies.close(rt);
+fn send_two(replies: &mut Port<Answer>) -> bool {
+    let are_sent = replies.send(Answer::Never(1)).is_ok() && replies.send(Answer::Held(2)).is_ok();
+    replies.close();
     are_sent
 }
 
@@ -81,9 +80,9 @@ fn told(
         mut requests,
         mut replies,
     } = connected;
-    let are_sent = send_two(rt, &mut replies);
+    let are_sent = send_two(&mut replies);
     let finished = work(rt, alloc, false, 0, client, reader(file), &AlwaysOpen);
-    let has_ended = matches!(requests.take(rt), Taken::End);
+    let has_ended = matches!(requests.take(), Taken::End);
     (handed_back(alloc, &finished), are_sent && has_ended)
 }
 
@@ -138,7 +137,7 @@ fn takes_versions<R: Wait>(
     let mut next = 0_i64;
     let mut is_same = true;
     for _ in rt.forever() {
-        match requests.take(rt) {
+        match requests.take() {
             Taken::Item(batch) => {
                 is_same &= batch.version == next;
                 next = next.saturating_add(1);
@@ -147,7 +146,7 @@ fn takes_versions<R: Wait>(
             Taken::End => break,
         }
     }
-    replies.close(rt);
+    replies.close();
     is_same && next == count
 }
 

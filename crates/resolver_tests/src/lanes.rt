@@ -10,7 +10,6 @@ use lane::Taken;
 use resolver::{Account, Stop, Turn};
 use std::alloc::Global;
 use std::process::Abort;
-use std::sync::Wait;
 use std::test::Fail;
 
 // A service that is given the steps of a row.
@@ -39,18 +38,18 @@ fn turn_of(text: &str) -> Result<Turn, Unmade> {
 
 impl Run {
     // Sends a batch, which its lane accepts, or not after a stop.
-    fn send(&mut self, rt: &impl Wait, text: &str) -> Result<bool, Unmade> {
+    fn send(&mut self, text: &str) -> Result<bool, Unmade> {
         let Some((proxy, text)) = text.split_once(' ') else {
             return Err(Unmade::Text("number of a proxy"));
         };
         let batch = batch_at_last(self.alloc, text)?;
-        let is_sent = self.service.send(rt, proxy.parse()?, batch)?;
+        let is_sent = self.service.send(proxy.parse()?, batch)?;
         Ok(is_sent || self.stop.is_some())
     }
 
     // Turns once. Once a stop was met it is the same.
-    fn turn(&mut self, rt: &impl Wait, expected: Turn) -> bool {
-        match (self.stop, self.service.turn(rt)) {
+    fn turn(&mut self, expected: Turn) -> bool {
+        match (self.stop, self.service.turn()) {
             (None, Ok(turn)) => turn == expected,
             (None, Err(stop)) => {
                 self.stop = Some(stop);
@@ -62,8 +61,8 @@ impl Run {
     }
 
     // Takes what is next on the reply lane of the proxy. Only after a stop may it be missing, and then nothing more comes.
-    fn take(&mut self, rt: &impl Wait, proxy: usize, expected: &str) -> Result<bool, Unmade> {
-        let taken = self.service.take(rt, proxy)?;
+    fn take(&mut self, proxy: usize, expected: &str) -> Result<bool, Unmade> {
+        let taken = self.service.take(proxy)?;
         let Some(missed) = self.missed.get_mut(proxy) else {
             return Err(Unmade::Beyond("proxy"));
         };
@@ -81,30 +80,30 @@ impl Run {
     }
 
     // Settles. After a stop nothing is complete.
-    fn settle(&mut self, rt: &impl Wait, expected: &str) -> bool {
+    fn settle(&mut self, expected: &str) -> bool {
         let account = Account {
             complete: self.stop.is_none() && expected == "complete",
             stop: self.stop,
         };
-        self.service.settle(rt) == account
+        self.service.settle() == account
     }
 
     // Makes a step, and returns whether it may answer so.
-    fn step(&mut self, rt: &impl Wait, step: &str) -> Result<bool, Unmade> {
+    fn step(&mut self, step: &str) -> Result<bool, Unmade> {
         let (call, expected) = step.split_once(" = ").unwrap_or((step, ""));
         if let Some(text) = call.strip_prefix("send ") {
-            self.send(rt, text)
+            self.send(text)
         } else if let Some(proxy) = call.strip_prefix("close ") {
-            self.service.close(rt, proxy.parse()?)?;
+            self.service.close(proxy.parse()?)?;
             Ok(true)
         } else if let Some(proxy) = call.strip_prefix("take ") {
-            self.take(rt, proxy.parse()?, expected)
+            self.take(proxy.parse()?, expected)
         } else if call == "turn" {
-            Ok(self.turn(rt, turn_of(expected)?))
+            Ok(self.turn(turn_of(expected)?))
         } else if call == "owed" {
             Ok(self.service.owed() == expected.parse()?)
         } else if call == "settle" {
-            Ok(self.settle(rt, expected))
+            Ok(self.settle(expected))
         } else {
             Err(Unmade::Text("step"))
         }
@@ -115,9 +114,9 @@ impl Run {
 type Outcome<'a> = Result<Option<Stop>, &'a str>;
 
 impl Run {
-    fn play<'a>(&mut self, rt: &impl Wait, row: &[&'a str]) -> Result<Outcome<'a>, Unmade> {
+    fn play<'a>(&mut self, row: &[&'a str]) -> Result<Outcome<'a>, Unmade> {
         for step in row {
-            if !self.step(rt, step)? {
+            if !self.step(step)? {
                 return Ok(Err(*step));
             }
         }
@@ -127,7 +126,6 @@ impl Run {
 
 // Makes the steps of a row over new lanes of this capacity.
 fn outcome<'a>(
-    rt: &impl Wait,
     alloc: Global,
     (proxies, capacity): (usize, usize),
     row: &[&'a str],
@@ -140,7 +138,7 @@ fn outcome<'a>(
                 stop: None,
                 missed: [false, false],
             };
-            run.play(rt, row)
+            run.play(row)
         }
         Err(_refused) => Ok(Ok(Some(Stop::Memory))),
     }
@@ -148,12 +146,12 @@ fn outcome<'a>(
 
 // Runs a row that meets no stop.
 fn goes_through(
-    rt: &(impl Abort + Wait),
+    rt: &impl Abort,
     alloc: Global,
     lanes: (usize, usize),
     row: &[&str],
 ) -> Result<(), Fail> {
-    assert_eq!(rt; outcome(rt, alloc, lanes, row)?, Ok(None));
+    assert_eq!(rt; outcome(alloc, lanes, row)?, Ok(None));
     Ok(())
 }
 
@@ -251,7 +249,7 @@ fn answers_over_two_lanes_of_one(rt: HostRuntime) -> Result<(), Fail> {
 // A refused growth stops the resolver, with what it answered before still handed out.
 #[test]
 fn resolver_stops_at_one_growth_refused(rt: HostRuntime) -> Result<(), Fail> {
-    let outcome = outcome(&rt, rt.alloc(), (2, 1), TWO_LANES_OF_ONE)?;
+    let outcome = outcome(rt.alloc(), (2, 1), TWO_LANES_OF_ONE)?;
     assert!(rt; matches!(outcome, Ok(None | Some(Stop::Memory))));
     Ok(())
 }

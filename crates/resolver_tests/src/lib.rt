@@ -9,6 +9,8 @@
 #![tactic(auto)]
 
 #[cfg(test)]
+mod calls_without_waiting;
+#[cfg(test)]
 mod chained;
 #[cfg(test)]
 mod cores;

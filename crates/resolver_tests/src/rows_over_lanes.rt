@@ -8,7 +8,6 @@ use lane::Taken;
 use resolver::{Account, Stop, Turn};
 use std::alloc::Global;
 use std::process::Abort;
-use std::sync::Wait;
 use std::test::Fail;
 
 // The resolver of two proxies that is given the steps of a row.
@@ -26,8 +25,8 @@ struct Run {
 
 impl Run {
     // Turns once, and returns whether it may answer so: one of these, or a stop, and then always that one.
-    fn turn(&mut self, rt: &impl Wait, expected: &[Turn]) -> bool {
-        match (self.stop, self.service.turn(rt)) {
+    fn turn(&mut self, expected: &[Turn]) -> bool {
+        match (self.stop, self.service.turn()) {
             (None, Ok(turn)) => expected.contains(&turn),
             (None, Err(stop)) => {
                 self.stop = Some(stop);
@@ -39,26 +38,26 @@ impl Run {
     }
 
     // Sends a batch, which its lane accepts, or not after a stop, and has it taken.
-    fn send(&mut self, rt: &impl Wait, text: &str) -> Result<bool, Unmade> {
+    fn send(&mut self, text: &str) -> Result<bool, Unmade> {
         let (proxy, text) = numbered(text)?;
         let batch = batch_at_last(self.alloc, text)?;
-        let is_sent = self.service.send(rt, proxy, batch)?;
-        Ok((is_sent || self.stop.is_some()) && self.turn(rt, &[Turn::Took(proxy)]))
+        let is_sent = self.service.send(proxy, batch)?;
+        Ok((is_sent || self.stop.is_some()) && self.turn(&[Turn::Took(proxy)]))
     }
 
-    fn finish(&mut self, rt: &impl Wait) -> Result<bool, Unmade> {
+    fn finish(&mut self) -> Result<bool, Unmade> {
         for proxy in 0..2 {
-            self.service.close(rt, proxy)?;
+            self.service.close(proxy)?;
         }
-        Ok(self.turn(rt, &[Turn::Idle, Turn::Done]))
+        Ok(self.turn(&[Turn::Idle, Turn::Done]))
     }
 
     // Makes the call of a step, whose answers beyond the first of each proxy stay owed.
-    fn call(&mut self, rt: &impl Wait, call: &str) -> Result<bool, Unmade> {
+    fn call(&mut self, call: &str) -> Result<bool, Unmade> {
         let is_right = if call == "finish" {
-            self.finish(rt)?
+            self.finish()?
         } else {
-            self.send(rt, call)?
+            self.send(call)?
         };
         if self.stop.is_none() {
             self.steps = self.steps.saturating_add(1);
@@ -68,13 +67,13 @@ impl Run {
 
     // Takes an answer of the step at this place, and turns once more, since a lane has room for one. Returns whether it is this
     // answer. It may be missing where its step is the one that met the stop, or a later one, and then none comes any more.
-    fn take(&mut self, rt: &impl Wait, place: usize, told: &str) -> Result<bool, Unmade> {
+    fn take(&mut self, place: usize, told: &str) -> Result<bool, Unmade> {
         let (proxy, expected) = numbered(told.trim_start())?;
-        match self.service.take(rt, proxy)? {
+        match self.service.take(proxy)? {
             Taken::Item(answer) => {
                 let text = text_at_last(self.alloc, &answer)?;
                 let is_next = !self.has_missed && text.as_str() == expected;
-                Ok(is_next && self.turn(rt, &[Turn::Idle, Turn::Done]))
+                Ok(is_next && self.turn(&[Turn::Idle, Turn::Done]))
             }
             Taken::Empty | Taken::End => {
                 self.has_missed = true;
@@ -83,20 +82,20 @@ impl Run {
         }
     }
 
-    fn take_each(&mut self, rt: &impl Wait, place: usize, answers: &str) -> Result<bool, Unmade> {
+    fn take_each(&mut self, place: usize, answers: &str) -> Result<bool, Unmade> {
         let mut is_right = true;
         for told in answers.split(';') {
             if !told.is_empty() {
-                is_right &= self.take(rt, place, told)?;
+                is_right &= self.take(place, told)?;
             }
         }
         Ok(is_right)
     }
 
     // Returns whether both reply lanes have ended, and whether all is settled, unless a stop was met.
-    fn has_ended(&mut self, rt: &impl Wait) -> Result<bool, Unmade> {
+    fn has_ended(&mut self) -> Result<bool, Unmade> {
         for proxy in 0..2 {
-            if !matches!(self.service.take(rt, proxy)?, Taken::End) {
+            if !matches!(self.service.take(proxy)?, Taken::End) {
                 return Ok(false);
             }
         }
@@ -104,22 +103,22 @@ impl Run {
             complete: self.stop.is_none(),
             stop: self.stop,
         };
-        Ok(self.service.settle(rt) == account)
+        Ok(self.service.settle() == account)
     }
 
     // Makes the calls of the row and then takes the answers. Returns the first step that answered otherwise.
-    fn play<'a>(&mut self, rt: &impl Wait, row: &[&'a str]) -> Result<Option<&'a str>, Unmade> {
+    fn play<'a>(&mut self, row: &[&'a str]) -> Result<Option<&'a str>, Unmade> {
         for step in row {
-            if !self.call(rt, parts(step).0)? {
+            if !self.call(parts(step).0)? {
                 return Ok(Some(*step));
             }
         }
         for (place, step) in row.iter().enumerate() {
-            if !self.take_each(rt, place, parts(step).1)? {
+            if !self.take_each(place, parts(step).1)? {
                 return Ok(Some(*step));
             }
         }
-        if self.has_ended(rt)? {
+        if self.has_ended()? {
             Ok(None)
         } else {
             Ok(Some("it has not ended"))
@@ -131,11 +130,7 @@ impl Run {
 //
 // The answers taken are those of the row up to the stop: all of the steps before it, a beginning of those of the step that met
 // it, and no other.
-fn outcome<'a>(
-    rt: &impl Wait,
-    alloc: Global,
-    row: &[&'a str],
-) -> Result<Result<Option<Stop>, &'a str>, Unmade> {
+fn outcome<'a>(alloc: Global, row: &[&'a str]) -> Result<Result<Option<Stop>, &'a str>, Unmade> {
     let Ok(service) = Service::open(alloc, 2, 1)? else {
         return Ok(Ok(Some(Stop::Memory)));
     };
@@ -146,7 +141,7 @@ fn outcome<'a>(
         steps: 0,
         has_missed: false,
     };
-    Ok(match run.play(rt, row)? {
+    Ok(match run.play(row)? {
         Some(step) => Err(step),
         None => Ok(run.stop),
     })
@@ -155,7 +150,7 @@ fn outcome<'a>(
 #[test]
 fn rows_over_lanes_of_one(rt: HostRuntime) -> Result<(), Fail> {
     for row in ROWS {
-        assert_eq!(rt; outcome(&rt, rt.alloc(), row)?, Ok(None));
+        assert_eq!(rt; outcome(rt.alloc(), row)?, Ok(None));
     }
     Ok(())
 }
@@ -164,7 +159,7 @@ fn rows_over_lanes_of_one(rt: HostRuntime) -> Result<(), Fail> {
 #[test]
 fn rows_stop_at_one_growth_refused(rt: HostRuntime) -> Result<(), Fail> {
     for row in ROWS {
-        let outcome = outcome(&rt, rt.alloc(), row)?;
+        let outcome = outcome(rt.alloc(), row)?;
         assert!(rt; matches!(outcome, Ok(None | Some(Stop::Memory))));
     }
     Ok(())

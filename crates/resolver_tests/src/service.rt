@@ -7,7 +7,6 @@ use keyspace::{Answer, Batch, WINDOW};
 use lane::{MAX_CAPACITY, Taken};
 use resolver::{Account, Client, MAX_PROXIES, OpenError, Resolver, Stop, Turn, open};
 use std::alloc::Global;
-use std::sync::Wait;
 use stepmap::MAX_LIMIT;
 
 /// A resolver and all of its clients, each at its number.
@@ -48,38 +47,38 @@ impl Service {
     }
 
     /// Sends a batch on the request lane of the proxy, and returns whether the lane has accepted it.
-    pub fn send(&mut self, rt: &impl Wait, proxy: usize, batch: Batch) -> Result<bool, Unmade> {
+    pub fn send(&mut self, proxy: usize, batch: Batch) -> Result<bool, Unmade> {
         if proxy >= self.clients.len() {
             return Err(Unmade::Beyond("proxy"));
         }
-        Ok(self.clients[proxy].requests.send(rt, batch).is_ok())
+        Ok(self.clients[proxy].requests.send(batch).is_ok())
     }
 
     /// Closes the request lane of the proxy.
-    pub fn close(&mut self, rt: &impl Wait, proxy: usize) -> Result<(), Unmade> {
+    pub fn close(&mut self, proxy: usize) -> Result<(), Unmade> {
         if proxy >= self.clients.len() {
             return Err(Unmade::Beyond("proxy"));
         }
-        self.clients[proxy].requests.close(rt);
+        self.clients[proxy].requests.close();
         Ok(())
     }
 
     /// Takes what is next on the reply lane of the proxy.
-    pub fn take(&mut self, rt: &impl Wait, proxy: usize) -> Result<Taken<Answer>, Unmade> {
+    pub fn take(&mut self, proxy: usize) -> Result<Taken<Answer>, Unmade> {
         if proxy >= self.clients.len() {
             return Err(Unmade::Beyond("proxy"));
         }
-        Ok(self.clients[proxy].replies.take(rt))
+        Ok(self.clients[proxy].replies.take())
     }
 
     /// Turns the resolver once.
-    pub fn turn(&mut self, rt: &impl Wait) -> Result<Turn, Stop> {
-        self.resolver.turn(rt)
+    pub fn turn(&mut self) -> Result<Turn, Stop> {
+        self.resolver.turn()
     }
 
     /// Settles the resolver with its clients.
-    pub fn settle(&mut self, rt: &impl Wait) -> Account {
-        self.resolver.settle(rt, &mut self.clients)
+    pub fn settle(&mut self) -> Account {
+        self.resolver.settle(&mut self.clients)
     }
 
     /// Returns the number of answers owed to all proxies.

@@ -5,7 +5,6 @@ use keyspace::Answer;
 use resolver::{OpenError, serve_two};
 use std::alloc::Global;
 use std::process::Abort;
-use std::sync::Wait;
 use std::test::Fail;
 
 fn push_answers(alloc: Global, text: &mut String, answers: &[Answer]) -> Result<(), Unmade> {
@@ -17,15 +16,10 @@ fn push_answers(alloc: Global, text: &mut String, answers: &[Answer]) -> Result<
 }
 
 // Serves the two batches for so many turns, and writes what each proxy received and whether all is complete.
-fn served(
-    rt: &impl Wait,
-    alloc: Global,
-    (first, second): (&str, &str),
-    turns: usize,
-) -> Result<String, Unmade> {
+fn served(alloc: Global, (first, second): (&str, &str), turns: usize) -> Result<String, Unmade> {
     let first = batch(alloc, first)?;
     let second = batch(alloc, second)?;
-    let served = match serve_two(alloc, rt, first, second, turns) {
+    let served = match serve_two(alloc, first, second, turns) {
         Ok(served) => served,
         Err(OpenError::Memory) => return Err(Unmade::Memory),
     };
@@ -42,13 +36,13 @@ fn served(
 }
 
 fn serves(
-    rt: &(impl Abort + Wait),
+    rt: &impl Abort,
     alloc: Global,
     batches: (&str, &str),
     turns: usize,
     expected: &str,
 ) -> Result<(), Fail> {
-    assert_eq!(rt; served(rt, alloc, batches, turns)?.as_str(), expected);
+    assert_eq!(rt; served(alloc, batches, turns)?.as_str(), expected);
     Ok(())
 }
 

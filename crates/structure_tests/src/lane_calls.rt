@@ -4,7 +4,6 @@ ghost use Rattle.lane.specs.Lane.{SameLane};
 
 use lane::{Intake, LaneError, MAX_CAPACITY, Port, Refused, Taken, agree, lane};
 use std::alloc::Global;
-use std::sync::Wait;
 use std::test::Fail;
 
 // The two ends of a lane.
@@ -25,16 +24,16 @@ impl Ends {
     }
 
     // Makes the call and tells its answer.
-    fn call<R: Wait>(&mut self, rt: &R, alloc: Global, call: &str) -> Result<String, Fail> {
+    fn call(&mut self, alloc: Global, call: &str) -> Result<String, Fail> {
         match call {
-            "take" => taken(alloc, self.intake.take(rt)),
-            "beside" => taken(alloc, self.intake.take_beside(rt, &mut self.port)),
-            "agree" => Ok(format!(in alloc; "{}", agree(rt, &mut self.port, &mut self.intake))?),
+            "take" => taken(alloc, self.intake.take()),
+            "beside" => taken(alloc, self.intake.take_beside(&mut self.port)),
+            "agree" => Ok(format!(in alloc; "{}", agree(&mut self.port, &mut self.intake))?),
             "close" => {
-                self.port.close(rt);
+                self.port.close();
                 Ok(format!(in alloc; "closed")?)
             }
-            item => sent(alloc, self.port.send(rt, item.parse()?)),
+            item => sent(alloc, self.port.send(item.parse()?)),
         }
     }
 }
@@ -58,14 +57,14 @@ fn sent(alloc: Global, sent: Result<(), Refused<u32>>) -> Result<String, Fail> {
 
 // Makes these calls of a lane of this capacity, each a word: a number is sent, and `beside` takes beside the port. Tells the
 // answers.
-fn answers<R: Wait>(rt: &R, alloc: Global, capacity: usize, calls: &str) -> Result<String, Fail>
+fn answers(alloc: Global, capacity: usize, calls: &str) -> Result<String, Fail>
     requires some { 0 < capacity }
     requires limit { capacity ≤ MAX_CAPACITY }
 {
     let mut ends = Ends::new(alloc, capacity)?;
     let mut answers = String::new(alloc);
     for call in calls.split_whitespace() {
-        answers.push_str(ends.call(rt, alloc, call)?.as_str())?;
+        answers.push_str(ends.call(alloc, call)?.as_str())?;
         answers.push(' ')?;
     }
     Ok(answers)
@@ -74,7 +73,7 @@ fn answers<R: Wait>(rt: &R, alloc: Global, capacity: usize, calls: &str) -> Resu
 #[test]
 fn lane_of_one_beside(rt: HostRuntime) -> Result<(), Fail> {
     let calls = "7 8 beside 8 close 9 beside beside beside";
-    let answers = answers(&rt, rt.alloc(), 1, calls)?;
+    let answers = answers(rt.alloc(), 1, calls)?;
     let expected = "sent full:8 item:7 sent closed closed:9 item:8 end end ";
     assert_eq!(rt; answers.as_str(), expected);
     Ok(())
@@ -83,7 +82,7 @@ fn lane_of_one_beside(rt: HostRuntime) -> Result<(), Fail> {
 #[test]
 fn lane_of_one(rt: HostRuntime) -> Result<(), Fail> {
     let calls = "7 8 take 8 close 9 take take take";
-    let answers = answers(&rt, rt.alloc(), 1, calls)?;
+    let answers = answers(rt.alloc(), 1, calls)?;
     let expected = "sent full:8 item:7 sent closed closed:9 item:8 end end ";
     assert_eq!(rt; answers.as_str(), expected);
     Ok(())
@@ -92,18 +91,16 @@ fn lane_of_one(rt: HostRuntime) -> Result<(), Fail> {
 #[test]
 fn ends_agree_once_all_is_taken(rt: HostRuntime) -> Result<(), Fail> {
     let calls = "agree take beside 7 agree close close agree take agree beside take";
-    let answers = answers(&rt, rt.alloc(), 2, calls)?;
+    let answers = answers(rt.alloc(), 2, calls)?;
     let expected = "true empty empty sent false closed closed false item:7 true end end ";
     assert_eq!(rt; answers.as_str(), expected);
     Ok(())
 }
 
 // Returns whether an item goes through the lane, or memory was refused.
-fn carries_or_refused<R: Wait>(rt: &R, made: Result<(Port<u32>, Intake<u32>), LaneError>) -> bool {
+fn carries_or_refused(made: Result<(Port<u32>, Intake<u32>), LaneError>) -> bool {
     match made {
-        Ok((mut port, mut intake)) => {
-            port.send(rt, 7) == Ok(()) && intake.take(rt) == Taken::Item(7)
-        }
+        Ok((mut port, mut intake)) => { port.send(7) == Ok(()) && intake.take() == Taken::Item(7) }
         Err(refusal) => refusal == LaneError::Memory,
     }
 }
@@ -114,8 +111,8 @@ fn one_growth_refused(rt: HostRuntime) {
     let first = lane::<u32>(rt.alloc(), 4);
     let again = lane::<u32>(rt.alloc(), 4);
     assert!(rt; first.is_ok() || again.is_ok());
-    assert!(rt; carries_or_refused(&rt, first));
-    assert!(rt; carries_or_refused(&rt, again));
+    assert!(rt; carries_or_refused(first));
+    assert!(rt; carries_or_refused(again));
 }
 
 #[test]

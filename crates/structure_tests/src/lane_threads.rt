@@ -13,7 +13,7 @@ fn send_at_last<R: Wait>(rt: &R, port: &mut Port<u32>, item: u32)
     ensures same_lane { (port.new.lane ≡ port.old.lane) × (port.new.capacity ≡ port.old.capacity) }
 {
     for _ in rt.forever() {
-        match port.send(rt, item) {
+        match port.send(item) {
             Err(Refused::Full(_)) => thread::yield_now(),
             _ => return,
         }
@@ -25,7 +25,7 @@ fn next<R: Wait>(rt: &R, intake: &mut Intake<u32>) -> Option<u32>
     ensures same_lane { (intake.new.lane ≡ intake.old.lane) × (intake.new.capacity ≡ intake.old.capacity) }
 {
     for _ in rt.forever() {
-        match intake.take(rt) {
+        match intake.take() {
             Taken::Item(item) => return Some(item),
             Taken::Empty => thread::yield_now(),
             Taken::End => return None,
@@ -41,7 +41,7 @@ fn send_all<R: Wait>(rt: &R, mut port: Port<u32>) -> Port<u32>
     for number in 0..100_000 {
         send_at_last(rt, &mut port, number);
     }
-    port.close(rt);
+    port.close();
     port
 }
 
@@ -77,7 +77,7 @@ fn carries<R: Threads + Wait + Sync>(
             ensures same_lane { (result.0.lane ≡ intake.lane) × (result.0.capacity ≡ intake.capacity) }
         { take_all(rt, intake) },
     );
-    Ok(in_order && agree(rt, &mut port, &mut intake))
+    Ok(in_order && agree(&mut port, &mut intake))
 }
 
 #[test]

@@ -1,0 +1,43 @@
+//! No call over lanes waits for another thread: functions that are given nothing to wait with make each of them.
+
+use crate::service::Service;
+use fixtures::Unmade;
+use lane::{Taken, agree, lane};
+use resolver::{Account, Turn};
+use std::alloc::Global;
+use std::process::Abort;
+use std::test::Fail;
+
+// Makes each call of a lane of one.
+fn over_a_lane(alloc: Global) -> Result<bool, Unmade> {
+    let Ok((mut port, mut intake)) = lane(alloc, 1) else {
+        return Err(Unmade::Memory);
+    };
+    let is_sent = port.send(7).is_ok();
+    let is_taken = intake.take_beside(&mut port) == Taken::Item(7);
+    let is_all_taken = agree(&mut port, &mut intake);
+    port.close();
+    Ok(is_sent && is_taken && is_all_taken && intake.take() == Taken::End)
+}
+
+// Makes each call of a resolver of one proxy that sends nothing.
+fn over_a_resolver(alloc: Global) -> Result<bool, Unmade> {
+    let Ok(mut service) = Service::open(alloc, 1, 1)? else {
+        return Err(Unmade::Memory);
+    };
+    let is_idle = service.turn() == Ok(Turn::Idle);
+    service.close(0)?;
+    let is_done = service.turn() == Ok(Turn::Done);
+    let account = Account {
+        complete: true,
+        stop: None,
+    };
+    Ok(is_idle && is_done && service.settle() == account)
+}
+
+#[test]
+fn calls_without_waiting(rt: HostRuntime) -> Result<(), Fail> {
+    assert!(rt; over_a_lane(rt.alloc())?);
+    assert!(rt; over_a_resolver(rt.alloc())?);
+    Ok(())
+}
