@@ -22,6 +22,8 @@ use stepmap::StepMap;
 /// The greatest window, in versions: this project's own.
 pub const MAX_WINDOW: i64 = 1_099_511_627_776;
 
+const _: () = prove!(MAX_WINDOW == 1_099_511_627_776);
+
 /// The committed writes of the batches resolved so far, as far back as the window: `ConflictSet` of FoundationDB 7.1.
 #[derive(Debug, Drop)]
 pub struct ConflictSet {
