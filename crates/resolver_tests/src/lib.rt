@@ -2,7 +2,7 @@
 //!
 //! `set` and `scan` resolve batches by a conflict set: by hand, and at random beside a plain scan of all committed writes.
 //! `cores` plays the worked rows over a core, `lanes` those over lanes, whatever memory is refused, and `serving` those of two
-//! proxies served in one thread.
+//! proxies served in one thread. `refusals` prints each stop and each refusal.
 #![tactic(auto)]
 
 #[cfg(test)]
@@ -17,6 +17,8 @@ mod gate;
 mod lanes;
 #[cfg(test)]
 mod made;
+#[cfg(test)]
+mod refusals;
 #[cfg(test)]
 mod scan;
 #[cfg(test)]

@@ -5,7 +5,7 @@ use Rattle.stepmap.specs.Covers.{MapCovers}
 use Rattle.stepmap.specs.Rooted.{Ends, Rooted}
 use Rattle.stepmap.specs.StepMap.{Steps}
 use Rattle.stepmap.specs.Sweeping.{rest}
-use Rattle.conflict.specs.ConflictSet.{IsSwept}
+use Rattle.conflict.specs.ConflictSet.{IsSwept, raised, HasRoomToWrite}
 use Rattle.conflict.proofs.Swept.{on_err, since_raised, swept_on}
 use Rattle.conflict.proofs.conflict_set.resolve_at.Goals as goal
 
@@ -57,7 +57,20 @@ returns-clause-swept c = λ ws rooted.
     ⊎ ((mid.round ≡ old.round) × (rest mid ≤ rest old + 2 * c.in_ok-count.count)) =
     since_raised old c.raise.new.self mid c.args.edge all c.in_ok-count.count raised
     (ap (λ (m : Steps). m.round) c.raise.ensures.map) (ap rest c.raise.ensures.map) wrote in
-    subst (λ es. IsSwept c.args.edge old now (ws ++ at_version version (committed txns es))) (sym same)
-    (swept_on c.args.edge old mid now all c.in_ok-count.count mid_edge before
+    let united = c.in_ok-count.ensures.united (committed txns entries) c.in_ok-entries.ensures.told in
+    subst (λ es. IsSwept c.args.edge old now (ws ++ at_version version (committed txns es)) (committed txns es))
+    (sym same)
+    (swept_on c.args.edge old mid now all (committed txns entries) c.in_ok-count.count united mid_edge before
     (c.sweep.ensures.ends_stay all c.args.edge) c.sweep.result
     (λ round. c.sweep.ensures.ends round all rooted_mid) c.sweep.ensures.front c.sweep.ensures.fewer)
+
+pub returns-clause-room : goal.returns-clause-room
+returns-clause-room c =
+    let txns = c.args.batch.now.txns in
+    let entries = c.in_ok-entries.entries.items in
+    let same = c.new-2.ensures.entries ∙ c.new.ensures.items in
+    let up : c.raise.new.self ≡ raised c.args.edge c.args.steps.now =
+    c.raise.ensures.map ∙ ap (λ e. raised e c.args.steps.now) (to_z-of_z w64 c.args.edge c.ranges.edge) in
+    subst (λ es. HasRoomToWrite (raised c.args.edge c.args.steps.now) (committed txns es)) (sym same)
+    (subst (λ m. HasRoomToWrite m (committed txns entries)) up
+    (c.in_ok-count.ensures.room (committed txns entries) c.in_ok-entries.ensures.told))
