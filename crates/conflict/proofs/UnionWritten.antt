@@ -148,9 +148,9 @@ pub memory_of : (e : StepError) → Memory ≡ stop_of e → e ≡ step.Memory
 memory_of step.Full same = cc
 memory_of step.Memory same = refl
 
-pub not_full : {T : Type 0} {e : StepError} → e ≡ step.Memory
-    → _≡_ {A = Result T StepError} (Err e) (Err step.Full) → ⊥
-not_full {T} {e} memory full = cc
+pub not_full : {T : Type 0} (r : Result T StepError) {e : StepError} → e ≡ step.Memory → r ≡ Err e
+    → r ≡ Err step.Full → ⊥
+not_full r memory is full = cc
 
 pub of_err : {T E : Type 0} (P : E → Type 0) {r : Result T E} {e : E} → r ≡ Err e → IsErrAnd r P → P e
 of_err {T} {E} P {r} {e} is said = subst (λ (x : Result T E). IsErrAnd x P) is said

@@ -1,4 +1,4 @@
-use Rattle.std.proofs.Common.{Err, ◌≡◌, ◌≤ℤ◌, ◌+◌, ◌*◌, ap, sym, subst, ◌∙◌, inl, inr, length, arith}
+use Rattle.std.proofs.Common.{Err, ◌≡◌, ◌≤ℤ◌, ◌+◌, ◌*◌, ap, refl, sym, subst, ◌∙◌, inl, inr, length, arith}
 use Rattle.std.proofs.lemmas.Bool.{cases_lt}
 use Rattle.stepmap.specs.StepMap.{Steps, AreSteps}
 use Rattle.stepmap.specs.Limit.{HasRoomFor, made_room}
@@ -81,7 +81,7 @@ returns-in_err-prepare-clause-memory c = λ memory ranges told.
     let wanted = length c.deref.result.now in
     inr (room_for c.union.ensures.runs marked old ranges told
     (subst (λ n. HasRoomFor n (made_room n old)) count (room_unless wanted (made_room wanted old)
-    (λ none. not_full is_memory (c.in_err-prepare.ensures.full.1 none)))))
+    (λ none. not_full (Err c.in_err-prepare.field-0.0) is_memory refl (c.in_err-prepare.ensures.full.1 none)))))
 
 pub write_prepared-requires-clause-spanned : goal.write_prepared-requires-clause-spanned
 write_prepared-requires-clause-spanned c =
