@@ -1,6 +1,6 @@
 -- What the words of a command line ask to be written.
 use Rattle.std.specs.Prelude.{ℕ, List}
-use Rattle.workload.specs.declared.words.Plan.{Plan}
+use Rattle.workload.specs.declared.plan.Plan.{Plan}
 use Rattle.workload.specs.Chain.{AreFrames}
 use Rattle.workload.specs.Words.{AskFor}
 

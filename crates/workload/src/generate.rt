@@ -11,7 +11,7 @@ use crate::fault::Fault;
 use crate::keys::draw_ranges;
 use crate::random::Random;
 use crate::shape::Shape;
-use crate::words::Plan;
+use crate::plan::Plan;
 use keyspace::{Batch, MAX_RANGES, MAX_TXNS, Sequence, Txn, Txns};
 use std::alloc::Global;
 use wire::{Sink, encode_batch_1, write_all};

@@ -14,6 +14,7 @@ mod chain;
 mod fault;
 mod generate;
 mod keys;
+mod plan;
 mod random;
 mod shape;
 mod words;
