@@ -123,7 +123,12 @@ impl Write for HoldsBack {
 fn run_with(alloc: Global, text: &str, room: usize) -> Result<(u8, usize), Fail> {
     let words = words(alloc, text)?;
     let mut out = StdSink::new(HoldsBack::new(room));
-    let code = run(alloc, &words, &mut out, &mut StdSink::new(HoldsBack::new(1_000)));
+    let code = run(
+        alloc,
+        &words,
+        &mut out,
+        &mut StdSink::new(HoldsBack::new(1_000)),
+    );
     Ok((code, out.into_inner().passed))
 }
 
@@ -137,7 +142,11 @@ fn all_is_passed_on(rt: HostRuntime) -> Result<(), Fail> {
         ("workload circles 1 1", 1_000, 2, 0),
         ("workload", 10, 1, 0),
     ] {
-        assert_eq!(rt; run_with(rt.alloc(), text, room)?, (code, passed), "of {text}");
+        assert_eq!(rt;
+            run_with(rt.alloc(), text, room)?,
+            (code, passed),
+            "of {text}"
+        );
     }
     let (code, passed) = run_with(rt.alloc(), "workload", 1_000)?;
     assert_eq!(rt; code, 0);

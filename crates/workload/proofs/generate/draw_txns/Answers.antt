@@ -1,4 +1,4 @@
-use Rattle.std.proofs.Common.{◌≡◌, All, subst, sym, arith}
+use Rattle.std.proofs.Common.{All, subst, sym, arith}
 use Rattle.std.proofs.lemmas.List.Elements.{All-push}
 use Rattle.workload.specs.Txns.{IsTxnOf}
 use Rattle.workload.proofs.generate.draw_txns.Goals as goal

@@ -19,8 +19,7 @@ loop-number-preserved g c =
       received = c.in_ok-batch.ensures.received;
     } in
     let grown = subst (λ (bytes : List ℕ). Appends between after bytes)
-    c.deref.ensures.value c.in_ok-write_all.ensures.whole in
-    (
+    c.deref.ensures.value c.in_ok-write_all.ensures.whole in (
       one_more c.args.plan.shape c.args.plan.transactions c.loop-number.number batch c.in_ok-frame.frame.items
           before between after c.loop-number.invariant.0 is_batch c.in_ok-frame.ensures.spelled grown,
       c.in_ok-write_all.ensures.ok ∙ c.loop-number.invariant.1,
