@@ -58,7 +58,7 @@ impl<H: Copy, A: Allocator + Copy> Arena<H, A> {
     }
 
     /// Takes the memory that records with keys of these lengths need, and none for a size of which enough slots are
-    /// spare.
+    /// spare. No chunk is taken beyond the one that makes the slots of a size enough.
     pub fn reserve(&mut self, lengths: &[usize]) -> Result<(), ArenaError>
         ensures room { OnOk result ((size : ℕ) → size < 10
             → wanted_of lengths.now size ≤ spare_of self.new size) }
@@ -66,6 +66,8 @@ impl<H: Copy, A: Allocator + Copy> Arena<H, A> {
         ensures spare_stays { (size : ℕ) → spare_of self.old size ≤ spare_of self.new size }
         ensures no_more { (size : ℕ) → wanted_of lengths.now size ≤ spare_of self.old size
             → spare_of self.new size ≡ spare_of self.old size }
+        ensures most { (size : ℕ) → size < 10 → spare_of self.old size < wanted_of lengths.now size
+            → spare_of self.new size < wanted_of lengths.now size + slots_of size }
 
         // It is refused `TooLong` before any memory is taken, and `Memory` only where some is wanted.
         ensures too_long { (result ≡ Err ArenaError.TooLong) ↔ Any (λ n. 16384 < n) lengths.now }
@@ -80,7 +82,8 @@ impl<H: Copy, A: Allocator + Copy> Arena<H, A> {
         Ok(())
     }
 
-    /// Takes the memory that so many records with keys of this length need, and none where enough slots are spare.
+    /// Takes the memory that so many records with keys of this length need, and none where enough slots are spare. No chunk
+    /// is taken beyond the one that makes them enough.
     pub fn reserve_slots(&mut self, length: usize, count: usize) -> Result<(), ArenaError>
         requires fits { length ≤ 16384 }
         ensures room { OnOk result (count ≤ spare_of self.new (size_of length)) }
@@ -89,6 +92,8 @@ impl<H: Copy, A: Allocator + Copy> Arena<H, A> {
         ensures other_sizes { (size : ℕ) → size ≢ size_of length → spare_of self.new size ≡ spare_of self.old size }
         ensures no_more { count ≤ spare_of self.old (size_of length)
             → spare_of self.new (size_of length) ≡ spare_of self.old (size_of length) }
+        ensures most { spare_of self.old (size_of length) < count
+            → spare_of self.new (size_of length) < count + slots_of (size_of length) }
 
         // It is refused `Memory` alone, and only where some is wanted.
         ensures enough { count ≤ spare_of self.old (size_of length) → IsOk result }
@@ -215,6 +220,7 @@ impl<H: Copy, A: Allocator + Copy> Arena<H, A> {
         ensures other_sizes { (s : ℕ) → s ≢ size → spare_of self.new s ≡ spare_of self.old s }
         ensures enough { wanted ≤ spare_of self.old size → IsOk result }
         ensures no_more { wanted ≤ spare_of self.old size → spare_of self.new size ≡ spare_of self.old size }
+        ensures most { spare_of self.old size < wanted → spare_of self.new size < wanted + slots_of size }
         ensures memory { IsOkUnless result ArenaError.Memory }
     {
         while self.spares.count(size) < wanted {

@@ -6,6 +6,8 @@ use crate::error::ArenaError;
 /// The greatest length of a key in an arena, in bytes.
 pub const MAX_LENGTH: usize = 16_384;
 
+const _: () = prove!(MAX_LENGTH == 16_384);
+
 /// The key bytes of a chunk.
 pub(crate) const CHUNK_BYTES: usize = 16_384;
 

@@ -11,6 +11,8 @@ use std::marker::Model;
 /// The greatest number of batches that a gate holds, this project's own limit.
 pub const MAX_HELD: usize = 1_024;
 
+const _: () = prove!(MAX_HELD == 1_024);
+
 /// The batches that wait for their previous version, at most [`MAX_HELD`], each with the proxy that sent it, in order of
 /// arrival. In `Resolver.actor.cpp` of FoundationDB 7.1 such a batch waits for the resolver's version to rise.
 #[derive(Debug, Drop)]

@@ -11,11 +11,12 @@ pub(crate) enum End {
     TakesNothing,
 }
 
-/// A writer that takes at most `step` bytes a call and `room` bytes in all. It is interrupted so many times
-/// before each call that takes some.
+/// A writer that takes at most `step` bytes a call and `room` bytes in all, and counts its flushes. It is interrupted so many
+/// times before each call that takes some, and before each flush.
 #[derive(Drop)]
 pub(crate) struct Paper {
     pub(crate) bytes: Vec<u8>,
+    pub(crate) flushes: u32,
     step: usize,
     room: usize,
     end: End,
@@ -27,6 +28,7 @@ impl Paper {
     pub(crate) fn new(alloc: Global, step: usize, room: usize, end: End) -> Self {
         Paper {
             bytes: Vec::new(alloc),
+            flushes: 0,
             step,
             room,
             end,
@@ -34,15 +36,20 @@ impl Paper {
             interrupted: 0,
         }
     }
-}
 
-impl Write for Paper {
-    fn write(&mut self, buffer: &[u8]) -> io::Result<usize> {
+    fn interrupt(&mut self) -> io::Result<()> {
         if self.interrupted < self.interruptions {
             self.interrupted += 1;
             return Err(io::Error::from(ErrorKind::Interrupted));
         }
         self.interrupted = 0;
+        Ok(())
+    }
+}
+
+impl Write for Paper {
+    fn write(&mut self, buffer: &[u8]) -> io::Result<usize> {
+        self.interrupt()?;
         let count = self.step.min(buffer.len()).min(self.room);
         if count == 0 {
             return match self.end {
@@ -58,6 +65,8 @@ impl Write for Paper {
     }
 
     fn flush(&mut self) -> io::Result<()> {
+        self.interrupt()?;
+        self.flushes = self.flushes.saturating_add(1);
         Ok(())
     }
 }

@@ -7,7 +7,7 @@ use crate::texts::{EMPTY_BATCH, EMPTY_BATCH_2, ONE_WRITE, ONE_WRITE_2, bytes_of,
 use fixtures::Unmade;
 use std::alloc::Global;
 use std::test::Fail;
-use wire::{StdSink, StdSource, WireError, encode_batch, encode_batch_1, upgrade, write_all};
+use wire::{Sink, StdSink, StdSource, WireError, encode_batch, encode_batch_1, upgrade, write_all};
 
 const ALL: usize = 10_000_000;
 
@@ -160,4 +160,22 @@ fn writer_is_interrupted(rt: HostRuntime) -> Result<(), Fail> {
     expect(&rt, interrupted(alloc, 999), "Ok(()) of 6162")?;
     expect(&rt, interrupted(alloc, 1_000), "Ok(()) of 6162")?;
     expect(&rt, interrupted(alloc, 1_001), "Err(Failed) of ")
+}
+
+// Flushes a writer that is interrupted so often first: how that ends, and how often it was flushed.
+fn flushed(alloc: Global, interruptions: u32) -> Result<String, Unmade> {
+    let mut paper = Paper::new(alloc, ALL, ALL, End::Fails);
+    paper.interruptions = interruptions;
+    let mut writer = StdSink::new(paper);
+    let answer = writer.flush();
+    let flushes = writer.into_inner().flushes;
+    Ok(format!(in alloc; "{answer:?}, flushed {flushes}")?)
+}
+
+#[test]
+fn flush_is_passed_on(rt: HostRuntime) -> Result<(), Fail> {
+    let alloc = rt.alloc();
+    expect(&rt, flushed(alloc, 0), "Ok(()), flushed 1")?;
+    expect(&rt, flushed(alloc, 1_000), "Ok(()), flushed 1")?;
+    expect(&rt, flushed(alloc, 1_001), "Err(Failed), flushed 0")
 }

@@ -1,10 +1,12 @@
 -- After a batch was written and the sweep went on, there are few boundaries, or fewer than before.
-use Rattle.std.proofs.Common.{◌≡◌, ℕ, ◌+◌, ◌*◌, ◌≤◌, List, refl, sym, subst, ◌∙◌, arith, ◌⊎◌, inl, inr}
+use Rattle.std.proofs.Common.{◌≡◌, ℕ, ◌+◌, ◌*◌, ◌≤◌, List, length, refl, sym, subst, ◌∙◌, arith, ◌⊎◌, inl, inr}
 use Rattle.std.specs.Prelude.{ℤ, Option, Some, None, IsSomeAnd, Result, Ok, Err, OnErr}
+use Rattle.keyspace.specs.declared.range.Range.{Range}
 use Rattle.keyspace.specs.Writes.{Write}
 use Rattle.stepmap.specs.StepMap.{Round, Steps}
 use Rattle.stepmap.specs.Sweeping.{rest, round_edge}
 use Rattle.stepmap.specs.Rooted.{Ends}
+use Rattle.stepmap.specs.Uniting.{Unites}
 use Rattle.stepmap.specs.declared.step_map.SweepEnd.{SweepEnd}
 use Rattle.stepmap.specs.declared.step_map.SweepEnd.TheVariants as end
 use Rattle.conflict.specs.ConflictSet.{IsSwept}
@@ -13,9 +15,10 @@ pub on_err : {T E X : Type 0} (r : Result T E) → X → OnErr r X
 on_err (Ok value) x = tt
 on_err (Err error) x = x
 
-module _ (edge : ℤ) (before mid now : Steps) (ws : List Write) (n : ℕ) where
+module _ (edge : ℤ) (before mid now : Steps) (ws : List Write) (ranges : List Range) (n : ℕ)
+    (united : (united : List Range) × Unites united ranges × (length united ≡ n)) where
   round_ended : (o : Option Round) → before.round ≡ o → Ends now.boundaries ws (round_edge edge o)
-      → now.round ≡ None → IsSwept edge before now ws
+      → now.round ≡ None → IsSwept edge before now ws ranges
   round_ended None is ends none = inl ends
   round_ended (Some round) is ends none =
       inr (inl (none, subst (λ o. IsSomeAnd o (λ r. Ends now.boundaries ws r.edge)) (sym is) ends))
@@ -27,7 +30,7 @@ module _ (edge : ℤ) (before mid now : Steps) (ws : List Write) (n : ℕ) where
       → (r ≡ end.Round → Ends now.boundaries ws (round_edge mid.edge mid.round))
       → (r ≡ end.Round → now.round ≡ None)
       → (r ≡ end.Stopped → rest now + (3 * n + 10) ≡ rest mid)
-      → IsSwept edge before now ws
+      → IsSwept edge before now ws ranges
   swept_on same (inl ends) stay r round front fewer = inl (stay ends)
   swept_on same (inr goes_on) stay end.Round round front fewer =
       round_ended before.round refl
@@ -35,7 +38,7 @@ module _ (edge : ℤ) (before mid now : Steps) (ws : List Write) (n : ℕ) where
       (subst (λ e. Ends now.boundaries ws (round_edge e mid.round)) same (round refl)))
       (front refl)
   swept_on same (inr goes_on) stay end.Stopped round front fewer =
-      inr (inr (omega (arith, fewer refl, goes_on.1)))
+      inr (inr (united.0, united.1, omega (arith, fewer refl, goes_on.1, united.2)))
 
 -- raising the edge leaves the round as it is
 pub since_raised : (old raised mid : Steps) (edge : ℤ) (ws : List Write) (n : ℕ) → raised.edge ≡ edge

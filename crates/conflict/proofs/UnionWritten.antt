@@ -1,5 +1,6 @@
 -- The ranges that the runs span are written, so what they unite is.
-use Rattle.std.proofs.Common.{◌≡◌, ℕ, suc, ◌+◌, ◌*◌, ◌<◌, ◌≤◌, Bool, List, [], ◌∷◌, ◌++◌, length, get_or, refl, sym, ap, subst, ◌∙◌, arith}
+use Rattle.std.proofs.Common.{◌≡◌, ℕ, suc, ◌+◌, ◌*◌, ◌<◌, ◌≤◌, Bool, List, [], ◌∷◌, ◌++◌, length, get_or, refl, sym, ap, subst, ◌∙◌, arith, inl, inr}
+use Rattle.std.proofs.lemmas.Bool.{cases_lt}
 use Rattle.std.specs.Prelude.{Option, Some, slice_get, ℤ, ◌≤ℤ◌}
 use Rattle.std.proofs.lemmas.Option.{slice_get-get_or, slice_get_within}
 use Rattle.std.specs.Prelude.{Result, Err, IsErrAnd}
@@ -15,8 +16,9 @@ use Rattle.conflict.specs.Union.{AreMarkedRuns, AreSpanned, UnionOfRuns}
 use Rattle.conflict.specs.Judging.{TellWritten}
 use Rattle.stepmap.specs.declared.error.StepError.{StepError}
 use Rattle.stepmap.specs.declared.error.StepError.TheVariants as step
-use Rattle.conflict.specs.declared.error.SetStop.TheVariants.{ArenaFull}
-use Rattle.conflict.specs.ConflictSet.{stop_of, IsOverLimit}
+use Rattle.conflict.specs.declared.error.SetStop.TheVariants.{Memory, ArenaFull}
+use Rattle.stepmap.specs.Limit.{HasRoomFor, made_room}
+use Rattle.conflict.specs.ConflictSet.{stop_of, IsOverLimit, IsOverLimitUnited, HasRoomToWrite, HasNoRoomToWrite}
 use Rattle.conflict.proofs.Spanned.{begins_same, ends_same}
 
 -- lists with the same begins and ends are apart or not alike
@@ -105,10 +107,50 @@ module _ {keys : List (List ℕ)} {marks : List Bool} {runs : List (ℕ × ℕ)}
       let counted = along edge version ws ranges late in
       omega (arith, few, counted, over)
 
+  -- so many ranges as runs unite the ranges
+  pub united : (ranges : List Range) → TellWritten keys marks ranges
+      → (united : List Range) × Unites united ranges × (length united ≡ length runs)
+  united ranges told =
+      let one = union ranges told in (one.0, one.2, one.1.count)
+
+  pub over_united : (limit : ℕ) (edge : ℤ) (ws : List Write) (ranges : List Range) → TellWritten keys marks ranges
+      → limit < 1 + 2 * (live_count edge ws + length runs) → IsOverLimitUnited limit edge ws ranges
+  over_united limit edge ws ranges told over =
+      let one = union ranges told in (one.0, one.2, omega (arith, over, one.1.count))
+
+  -- room for so many ranges as runs is room for what unites the ranges
+  pub room_for : (m : Steps) (ranges : List Range) → TellWritten keys marks ranges
+      → HasRoomFor (length runs) (made_room (length runs) m) → HasRoomToWrite m ranges
+  room_for m ranges told room =
+      let one = union ranges told in
+      (one.0, one.2, subst (λ n. HasRoomFor n (made_room n m)) (sym one.1.count) room)
+
+  pub no_room_for : (m : Steps) (ranges : List Range) → TellWritten keys marks ranges
+      → ¬ HasRoomFor (length runs) (made_room (length runs) m) → HasNoRoomToWrite m ranges
+  no_room_for m ranges told none =
+      let one = union ranges told in
+      (one.0, one.2, subst (λ n. ¬ HasRoomFor n (made_room n m)) (sym one.1.count) none)
+
+-- there is room where it isn't that there is none
+pub room_unless : (n : ℕ) (m : Steps) → (¬ HasRoomFor n m → ⊥) → HasRoomFor n m
+room_unless n m some = elim (cases_lt m.limit (length m.boundaries + 2 * n)) [
+  | inl beyond ↦ absurd (some (λ room. omega (arith, room, beyond)))
+  | inr room ↦ room
+]
+
 -- a set stops for its limit where its step map is full
 pub full_of : (e : StepError) → ArenaFull ≡ stop_of e → e ≡ step.Full
 full_of step.Full same = refl
 full_of step.Memory same = cc
+
+-- and for memory where its step map is refused memory
+pub memory_of : (e : StepError) → Memory ≡ stop_of e → e ≡ step.Memory
+memory_of step.Full same = cc
+memory_of step.Memory same = refl
+
+pub not_full : {T : Type 0} (r : Result T StepError) {e : StepError} → e ≡ step.Memory → r ≡ Err e
+    → r ≡ Err step.Full → ⊥
+not_full r memory is full = cc
 
 pub of_err : {T E : Type 0} (P : E → Type 0) {r : Result T E} {e : E} → r ≡ Err e → IsErrAnd r P → P e
 of_err {T} {E} P {r} {e} is said = subst (λ (x : Result T E). IsErrAnd x P) is said

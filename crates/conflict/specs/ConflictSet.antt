@@ -1,6 +1,25 @@
 -- What a conflict set is seen as, and how few boundaries it keeps. This project's own.
-use Rattle.std.specs.Prelude.{◌≡◌, ℕ, ◌+◌, ◌*◌, ◌<◌, ◌≤◌, ℤ, pos, negsuc, ◌-ℤ◌, ◌≤ℤ◌, ◌⊎◌, List, Option, None, IsSomeAnd}
+use Rattle.std.specs.Prelude.{
+  ◌≡◌,
+  ℕ,
+  ◌+◌,
+  ◌*◌,
+  ◌<◌,
+  ◌≤◌,
+  ℤ,
+  pos,
+  negsuc,
+  ◌-ℤ◌,
+  ◌≤ℤ◌,
+  ◌⊎◌,
+  List,
+  length,
+  Option,
+  None,
+  IsSomeAnd,
+}
 use Rattle.std.specs.Int.{int_max}
+use Rattle.keyspace.specs.declared.range.Range.{Range}
 use Rattle.keyspace.specs.Writes.{Write}
 use Rattle.keyspace.specs.Judged.{edge}
 use Rattle.stepmap.specs.Boundary.{AreUpTo}
@@ -9,6 +28,8 @@ use Rattle.stepmap.specs.Sweeping.{rest}
 use Rattle.stepmap.specs.Covers.{MapCovers}
 use Rattle.stepmap.specs.Rooted.{Ends, Rooted}
 use Rattle.stepmap.specs.Counting.{live_count}
+use Rattle.stepmap.specs.Limit.{HasRoomFor, made_room}
+use Rattle.stepmap.specs.Uniting.{Unites}
 use Rattle.stepmap.specs.declared.error.StepError.{StepError}
 use Rattle.stepmap.specs.declared.error.StepError.TheVariants as step
 use Rattle.conflict.specs.declared.conflict_set.TheConstants.{MAX_WINDOW}
@@ -52,13 +73,32 @@ pub record Remembers (s : SetState) (ws : List Write) : Type 0 where
 
 -- There are few boundaries, or fewer than before. Every boundary but the empty key is the begin or the end of a range
 -- written at or above the edge; or at or above the edge of the round that was under way before, and that round has
--- ended; or the round under way has come nearer its end, by ten at least.
-abbrev pub IsSwept : ℤ → Steps → Steps → List Write → Type 0
-IsSwept edge before now ws =
+-- ended; or the round under way has come nearer its end, by ten and by one for each range that unites what was committed.
+abbrev pub IsSwept : ℤ → Steps → Steps → List Write → List Range → Type 0
+IsSwept edge before now ws ranges =
     Ends now.boundaries ws edge
     ⊎ ((now.round ≡ None) × IsSomeAnd before.round (λ round. Ends now.boundaries ws round.edge))
-    ⊎ (rest now + 10 ≤ rest before)
+    ⊎ ((united : List Range) × Unites united ranges × (rest now + (length united + 10) ≤ rest before))
 
 -- two boundaries for each live write, and one, would exceed the limit
 abbrev pub IsOverLimit : ℕ → ℤ → List Write → Type 0
 IsOverLimit limit edge ws = limit < 1 + 2 * live_count edge ws
+
+-- likewise two for each live write and for each of the ranges that unite these, and one
+abbrev pub IsOverLimitUnited : ℕ → ℤ → List Write → List Range → Type 0
+IsOverLimitUnited limit edge ws ranges =
+    (united : List Range) × Unites united ranges × (limit < 1 + 2 * (live_count edge ws + length united))
+
+-- the step map with its edge raised to this one
+abbrev pub raised : ℤ → Steps → Steps
+raised edge m = record m { edge = edge }
+
+-- ranges that unite these can be written within the limit, at the latest after a whole round of the sweep
+abbrev pub HasRoomToWrite : Steps → List Range → Type 0
+HasRoomToWrite m ranges =
+    (united : List Range) × Unites united ranges × HasRoomFor (length united) (made_room (length united) m)
+
+-- they can't be, not even after a whole round
+abbrev pub HasNoRoomToWrite : Steps → List Range → Type 0
+HasNoRoomToWrite m ranges =
+    (united : List Range) × Unites united ranges × (¬ HasRoomFor (length united) (made_room (length united) m))

@@ -1,5 +1,5 @@
 ghost use Rattle.std.specs.Prelude.{◌≡◌, ◌≤◌, ◌≤ℤ◌, ◌<ℤ◌, pos, ◌++◌, List, [], length, None, Some, Err};
-ghost use Rattle.std.specs.Prelude.{IfOk, IfErr, OnOk, OnErr, IfSome};
+ghost use Rattle.std.specs.Prelude.{IfOk, IfErr, OnOk, OnErr, IfSome, ◌⊎◌};
 ghost use Rattle.keyspace.specs.declared.reply.Entry.{Entry};
 ghost use Rattle.keyspace.specs.Writes.{Write, at_version, committed, writes_of};
 ghost use Rattle.keyspace.specs.Judge.{judge_txns};
@@ -8,7 +8,8 @@ ghost use Rattle.stepmap.specs.Boundary.{AreUpTo};
 ghost use Rattle.stepmap.specs.declared.step_map.TheConstants.{MAX_LIMIT};
 ghost use Rattle.stepmap.specs.Covers.{MapCovers};
 ghost use Rattle.stepmap.specs.Rooted.{Rooted};
-ghost use Rattle.conflict.specs.ConflictSet.{new_set, Remembers, IsSwept, IsOverLimit};
+ghost use Rattle.conflict.specs.ConflictSet.{new_set, Remembers, IsSwept, IsOverLimit, IsOverLimitUnited};
+ghost use Rattle.conflict.specs.ConflictSet.{raised, HasRoomToWrite, HasNoRoomToWrite};
 
 use crate::error::SetStop;
 use crate::judging::judge_batch;
@@ -21,6 +22,8 @@ use stepmap::StepMap;
 
 /// The greatest window, in versions: this project's own.
 pub const MAX_WINDOW: i64 = 1_099_511_627_776;
+
+const _: () = prove!(MAX_WINDOW == 1_099_511_627_776);
 
 /// The committed writes of the batches resolved so far, as far back as the window: `ConflictSet` of FoundationDB 7.1.
 #[derive(Debug, Drop)]
@@ -81,7 +84,8 @@ impl ConflictSet {
         ensures rooted { IfOk result (λ reply. (ws : List Write) → Rooted self.old.map ws
             → Rooted self.new.map (ws ++ writes_of batch.now reply)) }
         ensures swept { IfOk result (λ reply. (ws : List Write) → Rooted self.old.map ws
-            → IsSwept (edge self.old.window batch.now) self.old.map self.new.map (ws ++ writes_of batch.now reply)) }
+            → IsSwept (edge self.old.window batch.now) self.old.map self.new.map (ws ++ writes_of batch.now reply)
+            (committed batch.now.txns reply.entries)) }
         ensures resolved { OnOk result (self.new.resolved ≡ batch.now.version) }
         ensures unresolved { OnErr result (self.new.resolved ≡ self.old.resolved) }
         ensures window { self.new.window ≡ self.old.window }
@@ -93,6 +97,24 @@ impl ConflictSet {
         ensures full { self.old.stop ≡ None → result ≡ Err SetStop.ArenaFull → (ws : List Write) (reply : Reply)
             → Remembers self.old ws → Judged self.old.window ws batch.now reply
             → IsOverLimit self.old.map.limit (edge self.old.window batch.now) (ws ++ writes_of batch.now reply) }
+        ensures full_united { self.old.stop ≡ None → result ≡ Err SetStop.ArenaFull → (ws : List Write) (reply : Reply)
+            → Remembers self.old ws → Judged self.old.window ws batch.now reply
+            → IsOverLimitUnited self.old.map.limit (edge self.old.window batch.now) ws
+            (committed batch.now.txns reply.entries) }
+
+        // What the batch commits fits within the limit where it is resolved, and doesn't where the set is full. A stop for
+        // memory comes before a whole round is swept, or it fits then.
+        ensures room { IfOk result (λ reply. HasRoomToWrite (raised (edge self.old.window batch.now) self.old.map)
+            (committed batch.now.txns reply.entries)) }
+        ensures no_room { self.old.stop ≡ None → result ≡ Err SetStop.ArenaFull → (ws : List Write) (reply : Reply)
+            → Remembers self.old ws → Judged self.old.window ws batch.now reply
+            → HasNoRoomToWrite (raised (edge self.old.window batch.now) self.old.map)
+            (committed batch.now.txns reply.entries) }
+        ensures memory { self.old.stop ≡ None → result ≡ Err SetStop.Memory → (ws : List Write) (reply : Reply)
+            → Remembers self.old ws → Judged self.old.window ws batch.now reply
+            → (self.new.map.boundaries ≡ self.old.map.boundaries)
+            ⊎ HasRoomToWrite (raised (edge self.old.window batch.now) self.old.map)
+            (committed batch.now.txns reply.entries) }
     {
         if let Some(stop) = self.stop {
             return Err(stop);
@@ -149,7 +171,7 @@ fn resolve_at(
     ensures rooted { IfOk result (λ reply. (ws : List Write) → Rooted steps.old ws
         → Rooted steps.new (ws ++ writes_of batch.now reply)) }
     ensures swept { IfOk result (λ reply. (ws : List Write) → Rooted steps.old ws
-        → IsSwept edge steps.old steps.new (ws ++ writes_of batch.now reply)) }
+        → IsSwept edge steps.old steps.new (ws ++ writes_of batch.now reply) (committed batch.now.txns reply.entries)) }
     ensures edge { OnOk result (steps.new.edge ≡ edge) }
     ensures newest { OnOk result (AreUpTo batch.now.version steps.new.boundaries) }
     ensures limit { steps.new.limit ≡ steps.old.limit }
@@ -158,6 +180,17 @@ fn resolve_at(
     ensures full { result ≡ Err SetStop.ArenaFull → (ws : List Write) (entries : List Entry)
         → MapCovers steps.old ws → Rooted steps.old ws → entries ≡ judge_txns edge ws [] batch.now.txns
         → IsOverLimit steps.old.limit edge (ws ++ at_version batch.now.version (committed batch.now.txns entries)) }
+    ensures full_united { result ≡ Err SetStop.ArenaFull → (ws : List Write) (entries : List Entry)
+        → MapCovers steps.old ws → Rooted steps.old ws → entries ≡ judge_txns edge ws [] batch.now.txns
+        → IsOverLimitUnited steps.old.limit edge ws (committed batch.now.txns entries) }
+    ensures room { IfOk result (λ reply. HasRoomToWrite (raised edge steps.old) (committed batch.now.txns reply.entries)) }
+    ensures no_room { result ≡ Err SetStop.ArenaFull → (ws : List Write) (entries : List Entry)
+        → MapCovers steps.old ws → entries ≡ judge_txns edge ws [] batch.now.txns
+        → HasNoRoomToWrite (raised edge steps.old) (committed batch.now.txns entries) }
+    ensures memory { result ≡ Err SetStop.Memory → (ws : List Write) (entries : List Entry)
+        → MapCovers steps.old ws → entries ≡ judge_txns edge ws [] batch.now.txns
+        → (steps.new.boundaries ≡ steps.old.boundaries)
+        ⊎ HasRoomToWrite (raised edge steps.old) (committed batch.now.txns entries) }
 {
     let ranks = batch.txns.ranks();
     let entries = judge_batch(alloc, steps, &mut scratch.gaps, edge, batch, ranks)?;

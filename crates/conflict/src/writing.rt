@@ -12,12 +12,13 @@ ghost use Rattle.stepmap.specs.Sweeping.{rest};
 ghost use Rattle.stepmap.specs.Covers.{MapCovers};
 ghost use Rattle.stepmap.specs.Rooted.{Rooted};
 ghost use Rattle.stepmap.specs.Rooted as rooted_by;
+ghost use Rattle.stepmap.specs.Uniting.{Unites};
 ghost use Rattle.stepmap.specs.Laws.{IsWriting};
 ghost use Rattle.keyspace.specs.Ranks.{AreRising};
 ghost use Rattle.keyspace.specs.Ends.{keys_of};
 ghost use Rattle.conflict.specs.Union.{Spans, AreSpanned};
 ghost use Rattle.conflict.specs.Judging.{TellWritten};
-ghost use Rattle.conflict.specs.ConflictSet.{IsOverLimit};
+ghost use Rattle.conflict.specs.ConflictSet.{IsOverLimit, IsOverLimitUnited, HasRoomToWrite, HasNoRoomToWrite};
 
 use crate::error::SetStop;
 use crate::scratch::Scratch;
@@ -43,6 +44,9 @@ pub fn write_batch(
     ensures edge { steps.new.edge ≡ steps.old.edge }
     ensures limit { steps.new.limit ≡ steps.old.limit }
     ensures few { IfOk result (λ count. 2 * count ≤ MAX_LIMIT) }
+    ensures united { IfOk result (λ count. (ranges : List Range)
+        → TellWritten (keys_of batch.now.txns ends.now) scratch.old.gaps ranges
+        → (united : List Range) × Unites united ranges × (length united ≡ count)) }
     ensures covers { OnOk result ((ranges : List Range)
         → TellWritten (keys_of batch.now.txns ends.now) scratch.old.gaps ranges
         → (ws : List Write) → MapCovers steps.old ws
@@ -62,6 +66,17 @@ pub fn write_batch(
         → TellWritten (keys_of batch.now.txns ends.now) scratch.old.gaps ranges
         → (ws : List Write) → Rooted steps.old ws
         → IsOverLimit steps.old.limit steps.old.edge (ws ++ at_version batch.now.version ranges) }
+    ensures full_united { result ≡ Err SetStop.ArenaFull → (ranges : List Range)
+        → TellWritten (keys_of batch.now.txns ends.now) scratch.old.gaps ranges
+        → (ws : List Write) → Rooted steps.old ws
+        → IsOverLimitUnited steps.old.limit steps.old.edge ws ranges }
+    ensures room { OnOk result ((ranges : List Range)
+        → TellWritten (keys_of batch.now.txns ends.now) scratch.old.gaps ranges → HasRoomToWrite steps.old ranges) }
+    ensures no_room { result ≡ Err SetStop.ArenaFull → (ranges : List Range)
+        → TellWritten (keys_of batch.now.txns ends.now) scratch.old.gaps ranges → HasNoRoomToWrite steps.old ranges }
+    ensures memory { result ≡ Err SetStop.Memory → (ranges : List Range)
+        → TellWritten (keys_of batch.now.txns ends.now) scratch.old.gaps ranges
+        → (steps.new.boundaries ≡ steps.old.boundaries) ⊎ HasRoomToWrite steps.old ranges }
 {
     crate::laws::union();
     stepmap::laws::writing();

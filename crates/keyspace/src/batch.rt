@@ -6,6 +6,8 @@ use crate::txns::Txns;
 /// The greatest number of transactions in a batch, this project's own limit.
 pub const MAX_TXNS: usize = 4_096;
 
+const _: () = prove!(MAX_TXNS == 4_096);
+
 /// A batch of transactions from one commit proxy: `ResolveTransactionBatchRequest` of FoundationDB 7.1.
 #[derive(Debug, Drop)]
 pub struct Batch {

@@ -17,6 +17,8 @@ use std::marker::Model;
 /// after a longest one has one more. That a range may end with such a key is this project's own limit.
 pub const MAX_KEY_LENGTH: usize = 10_001;
 
+const _: () = prove!(MAX_KEY_LENGTH == 10_001);
+
 /// A byte string of at most [`MAX_KEY_LENGTH`] bytes. Keys are compared byte by byte; a proper prefix comes first. Short keys
 /// take no memory beside their own.
 #[derive(Debug, Drop)]

@@ -8,6 +8,8 @@ use crate::sequence::Sequence;
 /// The greatest number of read ranges of a transaction, and of write ranges: this project's own limit.
 pub const MAX_RANGES: usize = 1_024;
 
+const _: () = prove!(MAX_RANGES == 1_024);
+
 /// A transaction to be judged: `CommitTransactionRef` of FoundationDB 7.1, without its mutations.
 #[derive(Debug, Drop)]
 pub struct Txn {

@@ -26,6 +26,8 @@ use std::marker::Model;
 /// The greatest limit on the boundaries of a step map: this project's own.
 pub const MAX_LIMIT: usize = 16_777_216;
 
+const _: () = prove!(MAX_LIMIT == 16_777_216);
+
 // How many entries a node of the tree has at most.
 const FAN_OUT: usize = 56;
 

@@ -165,8 +165,33 @@ fn refusals_print_their_numbers(rt: HostRuntime) -> Result<(), Fail> {
 #[test]
 fn an_arena_prints_its_count(rt: HostRuntime) -> Result<(), Fail> {
     let mut arena: Arena<u32> = Arena::new(rt.alloc());
-    let _slot = arena.place(1, b"key")?;
-    let text = format!(in rt.alloc(); "{arena:?}")?;
-    assert_eq!(rt; text.as_str(), "Arena { live: 1 }");
+    arena.place(1, b"key")?;
+    let one = format!(in rt.alloc(); "{arena:?}")?;
+    assert_eq!(rt; one.as_str(), "Arena { live: 1 }");
+    // Of the same chunk.
+    arena.place(2, b"another")?;
+    let two = format!(in rt.alloc(); "{arena:?}")?;
+    assert_eq!(rt; two.as_str(), "Arena { live: 2 }");
+    Ok(())
+}
+
+// Places so many of the longest keys, each of which has a chunk of its own.
+fn place_longest(both: &mut Both, alloc: Global, count: u32) -> Result<(), Fail> {
+    for number in 0..count {
+        both.place(alloc, number, MAX_LENGTH)?;
+    }
+    Ok(())
+}
+
+// More chunks than a chunk has slots at most.
+#[test]
+fn many_chunks(rt: HostRuntime) -> Result<(), Fail> {
+    let mut both = Both::new(rt.alloc());
+    place_longest(&mut both, rt.alloc(), 514)?;
+    assert_eq!(rt; both.arena.live(), 514);
+    both.release_from(&rt, 513);
+    both.place(rt.alloc(), 600, MAX_LENGTH)?;
+    assert_eq!(rt; both.arena.live(), 514);
+    assert!(rt; both.shows_all());
     Ok(())
 }

@@ -13,6 +13,8 @@ use std::alloc::Global;
 /// The longest body of a frame, in bytes.
 pub const MAX_BODY_LENGTH: usize = 4_194_304;
 
+const _: () = prove!(MAX_BODY_LENGTH == 4_194_304);
+
 /// Reads a number of one byte.
 pub fn u8_at(bytes: &[u8]) -> Result<(u8, &[u8]), WireError>
     ensures reads { Gives (λ x. (x.0, x.1.now)) result (number_at 1 bytes.now) }

@@ -84,6 +84,7 @@ impl<R: Source> Frames<R> {
         ensures rests { IsSome (refusal_of self.old) → frames_reader self.new ≡ frames_reader self.old }
         ensures err { IfErr result (λ e. refusal_of self.new ≡ Some e) }
         ensures ok { OnOk result (refusal_of self.new ≡ None) }
+        ensures never_write { refusal_of self.old ≡ None → IfErr result (λ e. e ≢ WireError.Write) }
         ensures steady { OnOk result
             (R.failures (frames_reader self.new) ≡ R.failures (frames_reader self.old)) }
     {

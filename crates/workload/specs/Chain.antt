@@ -1,29 +1,11 @@
 -- What a file holds: the batches of one chain, by their numbers from 0.
-use Rattle.std.specs.Prelude.{◌≡◌, ℕ, ◌<◌, ◌≤◌, ◌-◌, ℤ, pos, negsuc, zero, suc, ◌*◌, List, [], ◌++◌, length}
+use Rattle.std.specs.Prelude.{◌≡◌, ℕ, ◌<◌, ◌≤◌, ◌-◌, ℤ, negsuc, zero, suc, List, [], ◌++◌, length, All}
 use Rattle.keyspace.specs.declared.batch.Batch.{Batch}
 use Rattle.wire.specs.Spelling.{SpellsBatch}
 use Rattle.wire.specs.declared.version.WireVersion.TheVariants.{One}
+use Rattle.workload.specs.Versions.{version_of}
+use Rattle.workload.specs.Txns.{IsTxnOf}
 use Rattle.workload.specs.declared.shape.Shape.{Shape}
-use Rattle.workload.specs.declared.shape.Shape.TheVariants.{SkipListTest, Points}
-
--- by how much each version is above the one before
-abbrev pub rise_of : Shape → ℕ
-rise_of SkipListTest = 100000
-rise_of Points = 20000
-
--- how many reads a transaction has
-abbrev pub reads_of : Shape → ℕ
-reads_of SkipListTest = 1
-reads_of Points = 5
-
--- how many writes a transaction has
-abbrev pub writes_of : Shape → ℕ
-writes_of SkipListTest = 1
-writes_of Points = 2
-
--- the version of the batch of a number
-abbrev pub version_of : Shape → ℕ → ℤ
-version_of shape number = pos (number * rise_of shape)
 
 -- the version that the batch of a number follows: that of the batch before, or -1
 abbrev pub previous_of : Shape → ℕ → ℤ
@@ -35,6 +17,7 @@ pub record IsBatchOf (shape : Shape) (count number : ℕ) (batch : Batch) : Type
   pub version : batch.version ≡ version_of shape number
   pub previous : batch.previous ≡ previous_of shape number
   pub counted : length batch.txns ≡ count
+  pub txns : All (IsTxnOf shape number) batch.txns
   -- the proxy has received the answer of eight batches before, or none
   pub received_none : number < 8 → batch.received ≡ negsuc 0
   pub received : 8 ≤ number → batch.received ≡ version_of shape (number - 8)

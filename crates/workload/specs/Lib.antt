@@ -1,1 +1,6 @@
+pub mod Versions
+pub mod Txns
 pub mod Chain
+pub mod Words
+pub mod Fault
+pub mod Run

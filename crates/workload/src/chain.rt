@@ -1,7 +1,7 @@
 //! The versions of the batches, by their numbers from 0.
 
 ghost use Rattle.std.specs.Prelude.{◌≡◌, ◌≤◌, ◌<◌, ◌-◌, ◌≤ℤ◌, ◌<ℤ◌, pos, negsuc};
-ghost use Rattle.workload.specs.Chain.{version_of};
+ghost use Rattle.workload.specs.Versions.{version_of};
 
 use crate::shape::Shape;
 

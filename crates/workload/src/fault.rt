@@ -1,5 +1,9 @@
 //! Why a file could not be written whole.
 
+ghost use Rattle.std.specs.Prelude.{◌≡◌};
+ghost use Rattle.workload.specs.Fault.{line_of};
+ghost use Rattle.workload.specs.declared.fault.Fault.TheVariants.{Write};
+
 use std::alloc::{AllocError, AllocFailed};
 use wire::{Failed, WireError};
 
@@ -16,7 +20,9 @@ pub enum Fault {
 
 impl Fault {
     /// Returns the line of standard error.
-    pub fn line(self) -> &'static str {
+    pub fn line(self) -> &'static str
+        ensures line { result.now ≡ line_of self }
+    {
         match self {
             Fault::Memory => "workload: memory is refused\n",
             Fault::Limit => "workload: a batch is outside its limits\n",
@@ -47,6 +53,8 @@ impl From<WireError> for Fault {
 }
 
 impl From<Failed> for Fault {
+    ghost from_gives = { λ _ fault. fault ≡ Write };
+
     fn from(_failed: Failed) -> Fault {
         Fault::Write
     }

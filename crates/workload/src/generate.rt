@@ -1,15 +1,17 @@
 //! Batches of transactions, and their frames.
 
-ghost use Rattle.std.specs.Prelude.{◌≡◌, ◌<◌, ◌≤◌, ◌-◌, ℕ, negsuc, List, IfOk, OnOk, length, vec_len};
+ghost use Rattle.std.specs.Prelude.{◌≡◌, ◌<◌, ◌≤◌, ◌-◌, ℕ, negsuc, List, Err, All, IfOk, OnOk, length, vec_len};
 ghost use Rattle.std.specs.Io.KnownBytes.{Appends};
-ghost use Rattle.workload.specs.Chain.{version_of, previous_of, reads_of, writes_of, AreFrames};
+ghost use Rattle.workload.specs.Versions.{version_of};
+ghost use Rattle.workload.specs.Txns.{IsTxnOf, IsSnapshotOf};
+ghost use Rattle.workload.specs.Chain.{previous_of, AreFrames};
 
 use crate::chain::{version, version_before};
 use crate::fault::Fault;
 use crate::keys::draw_ranges;
+use crate::plan::Plan;
 use crate::random::Random;
 use crate::shape::Shape;
-use crate::words::Plan;
 use keyspace::{Batch, MAX_RANGES, MAX_TXNS, Sequence, Txn, Txns};
 use std::alloc::Global;
 use wire::{Sink, encode_batch_1, write_all};
@@ -20,13 +22,19 @@ const SEED: u64 = 20_210_620;
 /// How many batches before a batch the answer lies that the proxy received last.
 const BATCHES_IN_FLIGHT: u32 = 8;
 
-// Draws a transaction of the batch of this number.
-fn draw_txn(alloc: Global, random: &mut Random, shape: Shape, number: u32) -> Result<Txn, Fault>
-    ensures reads { IfOk result (λ txn. length txn.reads ≡ reads_of shape) }
-    ensures writes { IfOk result (λ txn. length txn.writes ≡ writes_of shape) }
+// Draws the snapshot of a transaction of the batch of this number.
+fn draw_snapshot(random: &mut Random, shape: Shape, number: u32) -> i64
+    ensures snapshot { IsSnapshotOf shape number result }
 {
     let back = shape.look_back(random);
-    let snapshot = version_before(shape, number, back).max(0);
+    version(shape, number.saturating_sub(back))
+}
+
+// Draws a transaction of the batch of this number.
+fn draw_txn(alloc: Global, random: &mut Random, shape: Shape, number: u32) -> Result<Txn, Fault>
+    ensures txn { IfOk result (IsTxnOf shape number) }
+{
+    let snapshot = draw_snapshot(random, shape, number);
     let reads = draw_ranges(alloc, random, shape, shape.reads())?;
     let writes = draw_ranges(alloc, random, shape, shape.writes())?;
     if snapshot < 0 || reads.len() > MAX_RANGES || writes.len() > MAX_RANGES {
@@ -45,6 +53,7 @@ fn draw_txns(
     count: usize,
 ) -> Result<Vec<Txn>, Fault>
     ensures count { IfOk result (λ txns. vec_len txns ≡ count) }
+    ensures each { IfOk result (λ txns. All (IsTxnOf shape number) txns.items) }
 {
     let mut txns = Vec::with_capacity(alloc, count)?;
     for _ in 0..count {
@@ -67,6 +76,7 @@ pub fn draw_batch(
     ensures received_none { IfOk result (λ batch. number < 8 → batch.received ≡ negsuc 0) }
     ensures received { IfOk result (λ batch. 8 ≤ number → batch.received ≡ version_of shape (number - 8)) }
     ensures count { IfOk result (λ batch. length batch.txns ≡ count) }
+    ensures txns { IfOk result (λ batch. All (IsTxnOf shape number) batch.txns) }
 {
     let txns = draw_txns(alloc, random, shape, number, count)?;
     if txns.len() > MAX_TXNS {
@@ -79,10 +89,13 @@ pub fn draw_batch(
     Ok(Batch::new(previous, version, received, txns))
 }
 
-/// Writes the frames of the batches that the plan asks for, and nothing else.
+/// Writes the frames of the batches that the plan asks for, and nothing else, and flushes the sink. Returns `Write` where the
+/// sink fails.
 pub fn write_batches<W: Sink>(alloc: Global, plan: Plan, out: &mut W) -> Result<(), Fault>
     ensures written { OnOk result ((bytes : List ℕ)
         × AreFrames plan.shape plan.transactions plan.batches bytes × Appends (W.given out.old) (W.given out.new) bytes) }
+    ensures ok { OnOk result (W.failures out.new ≡ W.failures out.old) }
+    ensures failed { W.failures out.old < W.failures out.new → result ≡ Err Fault.Write }
 {
     let mut random = Random::new(SEED);
     for number in 0..plan.batches {

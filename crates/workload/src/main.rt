@@ -4,22 +4,30 @@
 //! and writes their frames. `chain` settles their versions, and `keys` their keys.
 #![tactic(auto)]
 
+ghost use Rattle.std.specs.Prelude.{◌≡◌, ◌⊎◌, ◌<◌, ◌≤◌, ℕ, List, true, false, length, map, string_bytes, Ok, Err, IfOk, OnOk};
+ghost use Rattle.std.specs.Io.KnownBytes.{Appends};
+ghost use Rattle.workload.specs.Fault.{line_of, expected_line};
+ghost use Rattle.workload.specs.Run.{AreAskedFor, AskForNothing};
+ghost use Rattle.workload.specs.declared.fault.Fault.{Fault as FaultValue};
+
 mod chain;
 mod fault;
 mod generate;
 mod keys;
+mod plan;
 mod random;
 mod shape;
 mod words;
 
 use fault::Fault;
 use generate::write_batches;
+use std::alloc::Global;
 use std::io::{BufWriter, Write};
 use std::process::ExitCode;
 use std::rt::Env;
 use std::{env, io};
 use wire::{Failed, Sink, StdSink, write_all};
-use words::{EXPECTED, Plan, USAGE, read_words};
+use words::{EXPECTED, USAGE, read_words};
 
 // Returns the words of the command line, or none where one of them isn't text.
 fn command_line(rt: &(impl Env + AllocGlobal)) -> Result<Option<Vec<String>>, Fault> {
@@ -34,46 +42,87 @@ fn command_line(rt: &(impl Env + AllocGlobal)) -> Result<Option<Vec<String>>, Fa
 }
 
 // Prints how the program is used.
-fn show_usage<W: Sink>(out: &mut W) -> Result<(), Failed> {
+fn show_usage<W: Sink>(out: &mut W) -> Result<(), Failed>
+    ensures ok { OnOk result (W.failures out.new ≡ W.failures out.old) }
+{
     write_all(out, USAGE.as_bytes())?;
     out.flush()
 }
 
-// Does what the words ask for, and returns the exit code.
-fn run<R: Env + AllocGlobal, O: Write + Drop, E: Sink>(rt: &R, out: O, error: &mut E) -> u8 {
-    match write_file(rt, out) {
-        Ok(true) => 0,
-        Ok(false) => {
-            let _ = write_all(error, EXPECTED.as_bytes());
-            2
-        }
-        Err(fault) => {
-            let _ = write_all(error, fault.line().as_bytes());
-            1
-        }
-    }
-}
-
-// Writes the file, or how the program is used where no words are given. Returns `false` where the words are refused.
-fn write_file<R: Env + AllocGlobal, O: Write + Drop>(rt: &R, out: O) -> Result<bool, Fault> {
-    let Some(words) = command_line(rt)? else {
-        return Ok(false);
-    };
-    let out = BufWriter::new(rt.alloc(), out).map_err(|_| Fault::Memory)?;
-    let mut out = StdSink::new(out);
+// Writes what the words ask for, or how the program is used where there are none but its name. Returns `false`, and writes
+// nothing, where the words aren't as expected.
+fn write_asked<W: Sink>(alloc: Global, words: &[String], out: &mut W) -> Result<bool, Fault>
+    ensures written { IfOk result (λ done. done ≡ true → 2 ≤ length words.entry.now → (bytes : List ℕ)
+        × AreAskedFor (map string_bytes words.entry.now) bytes × Appends (W.given out.old) (W.given out.new) bytes) }
+    ensures refused { 2 ≤ length words.entry.now → AskForNothing (map string_bytes words.entry.now)
+        → result ≡ Ok false }
+    ensures ok { OnOk result (W.failures out.new ≡ W.failures out.old) }
+    ensures failed { W.failures out.old < W.failures out.new → result ≡ Err Fault.Write }
+{
     if words.len() < 2 {
-        show_usage(&mut out)?;
+        show_usage(out)?;
         return Ok(true);
     }
-    let Some(plan) = read_words(&words) else {
+    let Some(plan) = read_words(words) else {
         return Ok(false);
     };
-    write_batches(rt.alloc(), plan, &mut out)?;
+    write_batches(alloc, plan, out)?;
     Ok(true)
 }
 
+// Tells that the words aren't as expected, and returns the exit code.
+fn refuse<E: Sink>(error: &mut E) -> u8
+    ensures code { result ≡ 2 }
+    ensures told { (E.failures error.old < E.failures error.new)
+        ⊎ Appends (E.given error.old) (E.given error.new) expected_line }
+{
+    let _ = write_all(error, EXPECTED.as_bytes());
+    2
+}
+
+// Tells the fault, and returns the exit code.
+fn fail<E: Sink>(error: &mut E, fault: Fault) -> u8
+    ensures code { result ≡ 1 }
+    ensures told { (E.failures error.old < E.failures error.new)
+        ⊎ Appends (E.given error.old) (E.given error.new) (line_of fault) }
+{
+    let _ = write_all(error, fault.line().as_bytes());
+    1
+}
+
+// Does what the words ask for, of which the first is the program's name, and returns the exit code.
+fn run<O: Sink, E: Sink>(alloc: Global, words: &[String], out: &mut O, error: &mut E) -> u8
+    ensures written { result ≡ 0 → 2 ≤ length words.entry.now → (bytes : List ℕ)
+        × AreAskedFor (map string_bytes words.entry.now) bytes × Appends (O.given out.old) (O.given out.new) bytes }
+    ensures refused { 2 ≤ length words.entry.now → AskForNothing (map string_bytes words.entry.now) → result ≡ 2 }
+    ensures expected { result ≡ 2 → (E.failures error.old < E.failures error.new)
+        ⊎ Appends (E.given error.old) (E.given error.new) expected_line }
+    ensures failed { O.failures out.old < O.failures out.new → result ≡ 1 }
+    ensures told { result ≡ 1 → (E.failures error.old < E.failures error.new)
+        ⊎ ((fault : FaultValue) × Appends (E.given error.old) (E.given error.new) (line_of fault)) }
+{
+    match write_asked(alloc, words, out) {
+        Ok(true) => 0,
+        Ok(false) => refuse(error),
+        Err(fault) => fail(error, fault),
+    }
+}
+
+// Reads the words of the command line and does what they ask for, and returns the exit code.
+fn start<R: Env + AllocGlobal, O: Write + Drop, E: Sink>(rt: &R, out: O, error: &mut E) -> u8 {
+    let words = match command_line(rt) {
+        Ok(Some(words)) => words,
+        Ok(None) => return refuse(error),
+        Err(fault) => return fail(error, fault),
+    };
+    match BufWriter::new(rt.alloc(), out) {
+        Ok(out) => run(rt.alloc(), &words, &mut StdSink::new(out), error),
+        Err(_refused) => fail(error, Fault::Memory),
+    }
+}
+
 fn main(rt: HostRuntime) -> ExitCode {
-    let code = run(&rt, rt.stdout(), &mut StdSink::new(rt.stderr()));
+    let code = start(&rt, rt.stdout(), &mut StdSink::new(rt.stderr()));
     ExitCode::from(code)
 }
 

@@ -1,8 +1,9 @@
 //! The shapes of transactions, and what their batches have in common.
 
-ghost use Rattle.std.specs.Prelude.{◌≡◌, ◌≤◌, ◌<◌};
-ghost use Rattle.workload.specs.Chain.{reads_of, writes_of};
-ghost use Rattle.workload.specs.declared.shape.TheConstants.{RANGE_KEYS};
+ghost use Rattle.std.specs.Prelude.{◌≡◌, ◌≢◌, ◌≤◌, ◌<◌, IfSome, IfNone};
+ghost use Rattle.workload.specs.Versions.{reads_of, writes_of, keys_of};
+ghost use Rattle.workload.specs.Txns.{LooksBack};
+ghost use Rattle.workload.specs.Words.{name_of};
 
 use crate::random::Random;
 
@@ -23,7 +24,10 @@ pub enum Shape {
 
 impl Shape {
     /// Returns the shape of this name, if there is one.
-    pub fn of_name(name: &str) -> Option<Self> {
+    pub fn of_name(name: &str) -> Option<Self>
+        ensures shape { IfSome result (λ shape. name.now ≡ name_of shape) }
+        ensures none { IfNone result ((shape : Shape) → name.now ≢ name_of shape) }
+    {
         match name {
             "skiplisttest" => Some(Shape::SkipListTest),
             "points" => Some(Shape::Points),
@@ -53,6 +57,7 @@ impl Shape {
 
     /// Returns how many batches back the next transaction reads.
     pub fn look_back(self, random: &mut Random) -> u32
+        ensures back { LooksBack self result }
         ensures some { 1 ≤ result }
     {
         match self {
@@ -63,7 +68,7 @@ impl Shape {
 
     /// Draws the number of the next key.
     pub fn draw(self, random: &mut Random) -> u64
-        ensures few { result < RANGE_KEYS }
+        ensures few { result < keys_of self }
     {
         match self {
             Shape::SkipListTest => random.below(RANGE_KEYS),

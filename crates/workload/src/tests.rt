@@ -1,10 +1,14 @@
-//! What no clause says: that a file decodes again, and which words are taken.
+//! What no clause says: that a file decodes again, that what is drawn varies, which words are taken, and that what is written
+//! is passed on.
 
 use super::*;
 use crate::generate::draw_batch;
+use crate::keys::draw_range;
 use crate::random::Random;
 use crate::shape::Shape;
 use std::alloc::Global;
+use std::collections::BTreeSet;
+use std::io::ErrorKind;
 use std::test::Fail;
 use wire::{decode_batch, encode_batch_1};
 
@@ -57,5 +61,95 @@ fn words_within_limits(rt: HostRuntime) -> Result<(), Fail> {
         let words = words(alloc, text)?;
         assert_eq!(rt; read_words(&words).is_some(), taken, "of {text}");
     }
+    Ok(())
+}
+
+// Draws so many ranges, and returns how many begins they have.
+fn count_begins(alloc: Global, shape: Shape, count: u32) -> Result<usize, Fail> {
+    let mut random = Random::new(1);
+    let mut begins = BTreeSet::new(alloc);
+    for _ in 0..count {
+        let range = draw_range(alloc, &mut random, shape)?;
+        begins.insert(Vec::from_slice(alloc, range.begin.as_bytes())?)?;
+    }
+    Ok(begins.len())
+}
+
+#[test]
+fn ranges_vary(rt: HostRuntime) -> Result<(), Fail> {
+    for shape in [Shape::SkipListTest, Shape::Points] {
+        assert!(rt; count_begins(rt.alloc(), shape, 100)? > 90);
+    }
+    Ok(())
+}
+
+// A writer that holds back the bytes that it is given until it is flushed, and has no more room after so many.
+#[derive(Drop)]
+struct HoldsBack {
+    held: usize,
+    passed: usize,
+    room: usize,
+}
+
+impl HoldsBack {
+    fn new(room: usize) -> Self {
+        HoldsBack {
+            held: 0,
+            passed: 0,
+            room,
+        }
+    }
+}
+
+impl Write for HoldsBack {
+    fn write(&mut self, bytes: &[u8]) -> io::Result<usize> {
+        let count = bytes.len().min(self.room);
+        if count == 0 {
+            return Err(io::Error::from(ErrorKind::StorageFull));
+        }
+        self.room -= count;
+        self.held = self.held.saturating_add(count);
+        Ok(count)
+    }
+
+    fn flush(&mut self) -> io::Result<()> {
+        self.passed = self.passed.saturating_add(self.held);
+        self.held = 0;
+        Ok(())
+    }
+}
+
+// Runs by these words, and returns the exit code, and how many bytes were passed on as output.
+fn run_with(alloc: Global, text: &str, room: usize) -> Result<(u8, usize), Fail> {
+    let words = words(alloc, text)?;
+    let mut out = StdSink::new(HoldsBack::new(room));
+    let code = run(
+        alloc,
+        &words,
+        &mut out,
+        &mut StdSink::new(HoldsBack::new(1_000)),
+    );
+    Ok((code, out.into_inner().passed))
+}
+
+// The frame has 31 bytes, 13 more for its transaction, and 36 for each of its two ranges.
+#[test]
+fn all_is_passed_on(rt: HostRuntime) -> Result<(), Fail> {
+    for (text, room, code, passed) in [
+        ("workload skiplisttest 1 1", 1_000, 0, 116),
+        ("workload skiplisttest 1 1", 116, 0, 116),
+        ("workload skiplisttest 1 1", 115, 1, 0),
+        ("workload circles 1 1", 1_000, 2, 0),
+        ("workload", 10, 1, 0),
+    ] {
+        assert_eq!(rt;
+            run_with(rt.alloc(), text, room)?,
+            (code, passed),
+            "of {text}"
+        );
+    }
+    let (code, passed) = run_with(rt.alloc(), "workload", 1_000)?;
+    assert_eq!(rt; code, 0);
+    assert_eq!(rt; passed, USAGE.len());
     Ok(())
 }

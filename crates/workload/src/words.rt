@@ -1,15 +1,11 @@
 //! The words of the command line.
 
-ghost use Rattle.std.specs.Prelude.{◌≤◌};
-ghost use Rattle.workload.specs.declared.words.TheConstants.{MAX_BATCHES, MAX_TRANSACTIONS};
+ghost use Rattle.std.specs.Prelude.{◌≤◌, ℕ, IfSome, IfNone, map, string_bytes};
+ghost use Rattle.workload.specs.declared.plan.Plan.{Plan as PlanValue};
+ghost use Rattle.workload.specs.Words.{AskFor, IsNumberTo};
 
+use crate::plan::{MAX_BATCHES, MAX_TRANSACTIONS, Plan};
 use crate::shape::Shape;
-
-/// The most batches of a file.
-pub const MAX_BATCHES: u32 = 65_536;
-
-/// The most transactions of a batch.
-pub const MAX_TRANSACTIONS: usize = 2_500;
 
 /// What is printed where no words are given.
 pub const USAGE: &str = "usage: workload SHAPE BATCHES TRANSACTIONS
@@ -23,37 +19,32 @@ Writes the frames of one chain of batches to standard output. The same words giv
 pub const EXPECTED: &str =
     "workload: SHAPE (skiplisttest or points), BATCHES (1 to 65536) and TRANSACTIONS (1 to 2500) are expected\n";
 
-/// What a file is to hold, each number within its limits.
-#[derive(Clone, Copy, Debug, PartialEq, Eq)]
-pub struct Plan {
-    pub shape: Shape,
-    /// How many batches there are.
-    pub batches: u32,
-    /// How many transactions each batch has.
-    pub transactions: usize,
-    ghost least_batches: { 1 ≤ batches },
-    ghost most_batches: { batches ≤ MAX_BATCHES },
-    ghost least_transactions: { 1 ≤ transactions },
-    ghost most_transactions: { transactions ≤ MAX_TRANSACTIONS },
-}
-
 /// Reads the words, of which the first is the program's name. Returns `None` where they aren't as expected.
-pub fn read_words(words: &[String]) -> Option<Plan> {
+pub fn read_words(words: &[String]) -> Option<Plan>
+    ensures plan { IfSome result (λ plan. AskFor plan (map string_bytes words.entry.now)) }
+    ensures none { IfNone result ((plan : PlanValue) → ¬ AskFor plan (map string_bytes words.entry.now)) }
+{
     let [_, name, batches, transactions] = words else {
         return None;
     };
     let shape = Shape::of_name(name)?;
-    let batches = batches.parse::<u32>().ok()?;
-    let transactions = transactions.parse::<usize>().ok()?;
-    if batches < 1 || batches > MAX_BATCHES {
-        return None;
-    }
-    if transactions < 1 || transactions > MAX_TRANSACTIONS {
-        return None;
-    }
+    let batches = read_number(batches, u64::from(MAX_BATCHES))?;
+    let transactions = read_number(transactions, MAX_TRANSACTIONS as u64)?;
     Some(Plan {
         shape,
-        batches,
-        transactions,
+        batches: batches as u32,
+        transactions: transactions as usize,
     })
+}
+
+// Reads a number from 1 up to the greatest.
+fn read_number(text: &str, most: u64) -> Option<u64>
+    ensures number { IfSome result (IsNumberTo most text.now) }
+    ensures none { IfNone result ((number : ℕ) → ¬ IsNumberTo most text.now number) }
+{
+    let number = text.parse::<u64>().ok()?;
+    if number < 1 || number > most {
+        return None;
+    }
+    Some(number)
 }

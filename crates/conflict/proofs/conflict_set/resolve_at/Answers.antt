@@ -1,18 +1,60 @@
-use Rattle.std.proofs.Common.{w64, ◌≡◌, ◌≤◌, ◌+◌, ◌*◌, ◌⊎◌, List, ◌++◌, ap, sym, subst, ◌∙◌}
+use Rattle.std.proofs.Common.{Err, w64, ◌≡◌, ◌≤◌, ◌+◌, ◌*◌, ◌⊎◌, List, [], ◌++◌, ap, sym, subst, ◌∙◌}
 use Rattle.std.proofs.lemmas.Int.{to_z-of_z}
+use Rattle.keyspace.specs.Judge.{judge_txns}
 use Rattle.keyspace.specs.Writes.{Write, at_version, committed, writes_of}
 use Rattle.stepmap.specs.Covers.{MapCovers}
 use Rattle.stepmap.specs.Rooted.{Ends, Rooted}
 use Rattle.stepmap.specs.StepMap.{Steps}
 use Rattle.stepmap.specs.Sweeping.{rest}
-use Rattle.conflict.specs.ConflictSet.{IsSwept}
+use Rattle.conflict.specs.ConflictSet.{IsSwept, IsOverLimitUnited, raised, HasRoomToWrite, HasNoRoomToWrite}
 use Rattle.conflict.proofs.Swept.{on_err, since_raised, swept_on}
+use Rattle.conflict.proofs.UnionWritten.{of_err}
 use Rattle.conflict.proofs.conflict_set.resolve_at.Goals as goal
 
 pub returns-in_err-count-clause-still_covers : goal.returns-in_err-count-clause-still_covers
 returns-in_err-count-clause-still_covers c =
     on_err c.from_residual-in_err-count.result
     (λ (ws : List Write) covers. c.in_err-count.ensures.still_covers ws (c.raise.ensures.covers ws covers))
+
+pub returns-in_err-count-clause-full_united : goal.returns-in_err-count-clause-full_united
+returns-in_err-count-clause-full_united c = λ full ws entries covers rooted judged.
+    let txns = c.args.batch.now.txns in
+    let is = ap Err (sym (of_err _ full c.from_residual-in_err-count.ensures.1)) in
+    let edge_is = to_z-of_z w64 c.args.edge c.ranges.edge in
+    let same = c.in_ok-entries.ensures.judged ws covers ∙ ap (λ e. judge_txns e ws [] txns) edge_is ∙ sym judged in
+    let items = committed txns c.in_ok-entries.entries.items in
+    let up : c.raise.new.self ≡ raised c.args.edge c.args.steps.now =
+    c.raise.ensures.map ∙ ap (λ e. raised e c.args.steps.now) edge_is in
+    subst (λ es. IsOverLimitUnited c.args.steps.now.limit c.args.edge ws (committed txns es)) same
+    (subst (λ (m : Steps). IsOverLimitUnited m.limit m.edge ws items) up
+    (c.in_err-count.ensures.full_united is items c.in_ok-entries.ensures.told ws (c.raise.ensures.rooted ws rooted)))
+
+pub returns-in_err-count-clause-no_room : goal.returns-in_err-count-clause-no_room
+returns-in_err-count-clause-no_room c = λ full ws entries covers judged.
+    let txns = c.args.batch.now.txns in
+    let is = ap Err (sym (of_err _ full c.from_residual-in_err-count.ensures.1)) in
+    let edge_is = to_z-of_z w64 c.args.edge c.ranges.edge in
+    let same = c.in_ok-entries.ensures.judged ws covers ∙ ap (λ e. judge_txns e ws [] txns) edge_is ∙ sym judged in
+    let items = committed txns c.in_ok-entries.entries.items in
+    let up : c.raise.new.self ≡ raised c.args.edge c.args.steps.now =
+    c.raise.ensures.map ∙ ap (λ e. raised e c.args.steps.now) edge_is in
+    subst (λ es. HasNoRoomToWrite (raised c.args.edge c.args.steps.now) (committed txns es)) same
+    (subst (λ m. HasNoRoomToWrite m items) up (c.in_err-count.ensures.no_room is items c.in_ok-entries.ensures.told))
+
+pub returns-in_err-count-clause-memory : goal.returns-in_err-count-clause-memory
+returns-in_err-count-clause-memory c = λ memory ws entries covers judged.
+    let txns = c.args.batch.now.txns in
+    let is = ap Err (sym (of_err _ memory c.from_residual-in_err-count.ensures.1)) in
+    let edge_is = to_z-of_z w64 c.args.edge c.ranges.edge in
+    let same = c.in_ok-entries.ensures.judged ws covers ∙ ap (λ e. judge_txns e ws [] txns) edge_is ∙ sym judged in
+    let items = committed txns c.in_ok-entries.entries.items in
+    let up : c.raise.new.self ≡ raised c.args.edge c.args.steps.now =
+    c.raise.ensures.map ∙ ap (λ e. raised e c.args.steps.now) edge_is in
+    let now = c.write_batch.new.steps in
+    subst (λ es. (now.boundaries ≡ c.args.steps.now.boundaries)
+    ⊎ HasRoomToWrite (raised c.args.edge c.args.steps.now) (committed txns es)) same
+    (subst (λ (m : Steps). (now.boundaries ≡ m.boundaries) ⊎ HasRoomToWrite m items) up
+    (c.in_err-count.ensures.memory is items c.in_ok-entries.ensures.told))
 
 pub returns-clause-covers : goal.returns-clause-covers
 returns-clause-covers c = λ ws covers.
@@ -57,7 +99,20 @@ returns-clause-swept c = λ ws rooted.
     ⊎ ((mid.round ≡ old.round) × (rest mid ≤ rest old + 2 * c.in_ok-count.count)) =
     since_raised old c.raise.new.self mid c.args.edge all c.in_ok-count.count raised
     (ap (λ (m : Steps). m.round) c.raise.ensures.map) (ap rest c.raise.ensures.map) wrote in
-    subst (λ es. IsSwept c.args.edge old now (ws ++ at_version version (committed txns es))) (sym same)
-    (swept_on c.args.edge old mid now all c.in_ok-count.count mid_edge before
+    let united = c.in_ok-count.ensures.united (committed txns entries) c.in_ok-entries.ensures.told in
+    subst (λ es. IsSwept c.args.edge old now (ws ++ at_version version (committed txns es)) (committed txns es))
+    (sym same)
+    (swept_on c.args.edge old mid now all (committed txns entries) c.in_ok-count.count united mid_edge before
     (c.sweep.ensures.ends_stay all c.args.edge) c.sweep.result
     (λ round. c.sweep.ensures.ends round all rooted_mid) c.sweep.ensures.front c.sweep.ensures.fewer)
+
+pub returns-clause-room : goal.returns-clause-room
+returns-clause-room c =
+    let txns = c.args.batch.now.txns in
+    let entries = c.in_ok-entries.entries.items in
+    let same = c.new-2.ensures.entries ∙ c.new.ensures.items in
+    let up : c.raise.new.self ≡ raised c.args.edge c.args.steps.now =
+    c.raise.ensures.map ∙ ap (λ e. raised e c.args.steps.now) (to_z-of_z w64 c.args.edge c.ranges.edge) in
+    subst (λ es. HasRoomToWrite (raised c.args.edge c.args.steps.now) (committed txns es)) (sym same)
+    (subst (λ m. HasRoomToWrite m (committed txns entries)) up
+    (c.in_ok-count.ensures.room (committed txns entries) c.in_ok-entries.ensures.told))

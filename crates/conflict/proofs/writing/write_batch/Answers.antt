@@ -1,9 +1,25 @@
-use Rattle.std.proofs.Common.{Err, ◌≡◌, ◌≤ℤ◌, ◌+◌, ◌*◌, ap, sym, subst, ◌∙◌, inl, inr, length, arith}
+use Rattle.std.proofs.Common.{Err, ◌≡◌, ◌≤ℤ◌, ◌+◌, ◌*◌, ap, refl, sym, subst, ◌∙◌, inl, inr, length, arith}
 use Rattle.std.proofs.lemmas.Bool.{cases_lt}
-use Rattle.stepmap.specs.StepMap.{Steps}
+use Rattle.stepmap.specs.StepMap.{Steps, AreSteps}
+use Rattle.stepmap.specs.Limit.{HasRoomFor, made_room}
 use Rattle.stepmap.specs.Sweeping.{rest}
 use Rattle.conflict.specs.Union.{AreMarkedRuns}
-use Rattle.conflict.proofs.UnionWritten.{union, spanned, apart, all_written, over_limit, full_of, of_err}
+use Rattle.conflict.proofs.UnionWritten.{
+  union,
+  spanned,
+  apart,
+  all_written,
+  over_limit,
+  united,
+  over_united,
+  room_for,
+  no_room_for,
+  room_unless,
+  full_of,
+  memory_of,
+  not_full,
+  of_err,
+}
 use Rattle.conflict.proofs.writing.write_batch.Goals as goal
 
 pub gather_lengths-requires-clause-spanned : goal.gather_lengths-requires-clause-spanned
@@ -27,6 +43,45 @@ returns-in_err-prepare-clause-full c = λ full ranges told ws rooted.
       ap length c.deref.ensures.value,
       c.in_ok-gather_lengths.ensures.count,
     ))
+
+pub returns-in_err-prepare-clause-full_united : goal.returns-in_err-prepare-clause-full_united
+returns-in_err-prepare-clause-full_united c = λ full ranges told ws rooted.
+    let old = c.args.steps.now in
+    let marked = subst (AreMarkedRuns c.args.scratch.now.gaps) (sym c.runs-runs.ensures.runs)
+    c.in_ok-gather.ensures.runs in
+    let is_full = ap Err (full_of c.in_err-prepare.field-0.0
+    (of_err _ full c.from_residual-in_err-prepare.ensures.1)) in
+    over_united c.union.ensures.runs marked old.limit old.edge ws ranges told
+    (omega (
+      arith,
+      c.in_err-prepare.ensures.bound is_full ws rooted,
+      ap length c.deref.ensures.value,
+      c.in_ok-gather_lengths.ensures.count,
+    ))
+
+pub returns-in_err-prepare-clause-no_room : goal.returns-in_err-prepare-clause-no_room
+returns-in_err-prepare-clause-no_room c = λ full ranges told.
+    let old = c.args.steps.now in
+    let marked = subst (AreMarkedRuns c.args.scratch.now.gaps) (sym c.runs-runs.ensures.runs)
+    c.in_ok-gather.ensures.runs in
+    let is_full = ap Err (full_of c.in_err-prepare.field-0.0
+    (of_err _ full c.from_residual-in_err-prepare.ensures.1)) in
+    let count = ap length c.deref.ensures.value ∙ c.in_ok-gather_lengths.ensures.count in
+    no_room_for c.union.ensures.runs marked old ranges told
+    (subst (λ n. ¬ HasRoomFor n (made_room n old)) count (c.in_err-prepare.ensures.full.0 is_full))
+
+pub returns-in_err-prepare-clause-memory : goal.returns-in_err-prepare-clause-memory
+returns-in_err-prepare-clause-memory c = λ memory ranges told.
+    let old = c.args.steps.now in
+    let marked = subst (AreMarkedRuns c.args.scratch.now.gaps) (sym c.runs-runs.ensures.runs)
+    c.in_ok-gather.ensures.runs in
+    let is_memory = memory_of c.in_err-prepare.field-0.0
+    (of_err _ memory c.from_residual-in_err-prepare.ensures.1) in
+    let count = ap length c.deref.ensures.value ∙ c.in_ok-gather_lengths.ensures.count in
+    let wanted = length c.deref.result.now in
+    inr (room_for c.union.ensures.runs marked old ranges told
+    (subst (λ n. HasRoomFor n (made_room n old)) count (room_unless wanted (made_room wanted old)
+    (λ none. not_full (Err c.in_err-prepare.field-0.0) is_memory refl (c.in_err-prepare.ensures.full.1 none)))))
 
 pub write_prepared-requires-clause-spanned : goal.write_prepared-requires-clause-spanned
 write_prepared-requires-clause-spanned c =
@@ -66,6 +121,22 @@ returns-clause-few c =
     let long : length c.prepare.new.self.ready ≡ length c.runs-runs.result.now =
     ap length (ap (λ (m : Steps). m.ready) told.ok ∙ c.deref.ensures.value) ∙ c.in_ok-gather_lengths.ensures.count in
     omega (arith, told.steps.within, told.steps.limit, long)
+
+pub returns-clause-united : goal.returns-clause-united
+returns-clause-united c = λ ranges told.
+    let marked = subst (AreMarkedRuns c.args.scratch.now.gaps) (sym c.runs-runs.ensures.runs)
+    c.in_ok-gather.ensures.runs in
+    united c.union.ensures.runs marked ranges told
+
+pub returns-clause-room : goal.returns-clause-room
+returns-clause-room c = λ ranges told.
+    let old = c.args.steps.now in
+    let marked = subst (AreMarkedRuns c.args.scratch.now.gaps) (sym c.runs-runs.ensures.runs)
+    c.in_ok-gather.ensures.runs in
+    let prepare = c.in_ok-prepare.ensures in
+    let count = ap length c.deref.ensures.value ∙ c.in_ok-gather_lengths.ensures.count in
+    room_for c.union.ensures.runs marked old ranges told
+    (subst (λ n. HasRoomFor n (made_room n old)) count (subst AreSteps prepare.ok prepare.steps).within)
 
 pub returns-clause-covers : goal.returns-clause-covers
 returns-clause-covers c = λ ranges told ws covers.

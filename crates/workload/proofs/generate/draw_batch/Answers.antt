@@ -1,6 +1,7 @@
 use Rattle.std.proofs.Common.{rules, ◌≡◌, ◌<◌, ◌≤◌, ◌-◌, ◌∙◌, ℕ, zero, suc, ℤ, negsuc, ap, arith}
 use Rattle.workload.specs.declared.shape.Shape.{Shape}
-use Rattle.workload.specs.Chain.{version_of, previous_of}
+use Rattle.workload.specs.Versions.{version_of}
+use Rattle.workload.specs.Chain.{previous_of}
 use Rattle.workload.proofs.generate.draw_batch.Goals as goal
 
 -- the version of the batch before, or -1 where there is none

@@ -1,4 +1,4 @@
-use Rattle.std.proofs.Common.{List, ℕ, subst}
+use Rattle.std.proofs.Common.{List, ℕ, subst, ◌∙◌}
 use Rattle.std.specs.Io.KnownBytes.{Appends}
 use Rattle.workload.specs.Chain.{IsBatchOf}
 use Rattle.workload.proofs.Frames.{one_more}
@@ -14,10 +14,13 @@ loop-number-preserved g c =
       version = c.in_ok-batch.ensures.version;
       previous = c.in_ok-batch.ensures.previous;
       counted = c.in_ok-batch.ensures.count;
+      txns = c.in_ok-batch.ensures.txns;
       received_none = c.in_ok-batch.ensures.received_none;
       received = c.in_ok-batch.ensures.received;
     } in
     let grown = subst (λ (bytes : List ℕ). Appends between after bytes)
-    c.deref.ensures.value c.in_ok-write_all.ensures.whole in
-    one_more c.args.plan.shape c.args.plan.transactions c.loop-number.number batch c.in_ok-frame.frame.items
-    before between after c.loop-number.invariant is_batch c.in_ok-frame.ensures.spelled grown
+    c.deref.ensures.value c.in_ok-write_all.ensures.whole in (
+      one_more c.args.plan.shape c.args.plan.transactions c.loop-number.number batch c.in_ok-frame.frame.items
+          before between after c.loop-number.invariant.0 is_batch c.in_ok-frame.ensures.spelled grown,
+      c.in_ok-write_all.ensures.ok ∙ c.loop-number.invariant.1,
+    )

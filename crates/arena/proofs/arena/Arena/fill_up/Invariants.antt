@@ -1,5 +1,5 @@
-use Rattle.std.proofs.Common.{◌≡◌, ◌≢◌, ℕ, ◌-◌, ◌≤◌}
-use Rattle.arena.specs.Arena.{spare_of}
+use Rattle.std.proofs.Common.{◌≡◌, ◌≢◌, ℕ, ◌+◌, ◌-◌, ◌≤◌, ◌<◌}
+use Rattle.arena.specs.Arena.{slots_of, spare_of}
 use Rattle.arena.proofs.arena.Arena.fill_up.Given as goal
 
 abbrev pub invariant-loop-self : goal.invariant-loop-self
@@ -10,6 +10,8 @@ invariant-loop-self g l =
       others : (s : ℕ) → s ≢ l.size → spare_of l.self s ≡ spare_of l.initial.self s;
       no_more : l.wanted ≤ spare_of l.initial.self l.size
           → spare_of l.self l.size ≡ spare_of l.initial.self l.size;
+      most : spare_of l.initial.self l.size < l.wanted
+          → spare_of l.self l.size < l.wanted + slots_of l.size;
     }
 
 abbrev pub decreases-loop-self : goal.decreases-loop-self

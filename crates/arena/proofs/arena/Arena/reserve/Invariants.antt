@@ -1,5 +1,5 @@
-use Rattle.std.proofs.Common.{◌≡◌, ℕ, ◌<◌, ◌≤◌}
-use Rattle.arena.specs.Arena.{spare_of, wanted_of}
+use Rattle.std.proofs.Common.{◌≡◌, ℕ, ◌+◌, ◌<◌, ◌≤◌}
+use Rattle.arena.specs.Arena.{slots_of, spare_of, wanted_of}
 use Rattle.arena.proofs.arena.Arena.reserve.Given as goal
 
 abbrev pub invariant-loop-size : goal.invariant-loop-size
@@ -10,4 +10,7 @@ invariant-loop-size g l =
       stays : (s : ℕ) → spare_of l.initial.self s ≤ spare_of l.self s;
       no_more : (s : ℕ) → wanted_of l.lengths s ≤ spare_of l.initial.self s
           → spare_of l.self s ≡ spare_of l.initial.self s;
+      most : (s : ℕ) → s < 10 → spare_of l.initial.self s < wanted_of l.lengths s
+          → spare_of l.self s < wanted_of l.lengths s + slots_of s;
+      later : (s : ℕ) → l.size ≤ s → spare_of l.self s ≡ spare_of l.initial.self s;
     }

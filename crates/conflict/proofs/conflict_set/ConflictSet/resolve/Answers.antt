@@ -1,14 +1,24 @@
 use Rattle.std.proofs.Common.{rules, w64, SFits, ◌≡◌, [], ◌++◌, ap, sym, subst, ◌∙◌}
-use Rattle.std.specs.Prelude.{◌≤ℤ◌, ◌<ℤ◌}
+use Rattle.std.specs.Prelude.{◌≤ℤ◌, ◌<ℤ◌, ◌⊎◌}
 use Rattle.std.proofs.lemmas.Int.{to_z-of_z}
 use Rattle.keyspace.specs.declared.reply.Reply.{Reply}
 use Rattle.keyspace.specs.Judged.{edge, Judged}
 use Rattle.keyspace.specs.Judge.{judge, judge_txns}
-use Rattle.keyspace.specs.Writes.{writes_of}
+use Rattle.keyspace.specs.Writes.{writes_of, committed}
 use Rattle.keyspace.proofs.Judging.{reply_same}
 use Rattle.stepmap.specs.Covers.{MapCovers}
 use Rattle.stepmap.specs.Rooted.{Rooted}
-use Rattle.conflict.specs.ConflictSet.{SetState, IsSet, IsSwept, IsOverLimit}
+use Rattle.stepmap.specs.StepMap.{Steps}
+use Rattle.conflict.specs.ConflictSet.{
+  SetState,
+  IsSet,
+  IsSwept,
+  IsOverLimit,
+  IsOverLimitUnited,
+  raised,
+  HasRoomToWrite,
+  HasNoRoomToWrite,
+}
 use Rattle.conflict.proofs.Edges.{edge_rises, edge_below, edge_handed, at_most, from_least}
 use Rattle.conflict.proofs.conflict_set.ConflictSet.resolve.Goals as goal
 
@@ -109,8 +119,9 @@ returns-in-Ok-clause-swept c = λ ws rooted.
     let is = edge_handed c.self.inside.window given b window_fits fits c.edge_of-edge.ensures.edge
     ∙ ap (λ w. edge w b) window in
     let all = ws ++ writes_of b c.in-Ok.reply in
-    subst (λ m. IsSwept (edge c.args.self.now.window b) m c.resolve_at.new.steps all) map
-    (subst (λ e. IsSwept e c.self.inside.map c.resolve_at.new.steps all) is
+    let ranges = committed b.txns c.in-Ok.reply.entries in
+    subst (λ m. IsSwept (edge c.args.self.now.window b) m c.resolve_at.new.steps all ranges) map
+    (subst (λ e. IsSwept e c.self.inside.map c.resolve_at.new.steps all ranges) is
     (c.in-Ok.ensures.swept ws (subst (λ m. Rooted m ws) (sym map) rooted)))
 
 pub returns-in-Err-clause-kept : goal.returns-in-Err-clause-kept
@@ -137,4 +148,75 @@ returns-in-Err-clause-full c = λ going full ws reply remembers judged.
     (subst (λ e. IsOverLimit c.self.inside.map.limit e (ws ++ writes_of b reply)) is
     (c.in-Err.ensures.full full ws reply.entries (subst (λ m. MapCovers m ws) (sym map) remembers.covers)
     (subst (λ m. Rooted m ws) (sym map) remembers.rooted)
+    (only ∙ ap (λ e. judge_txns e ws [] b.txns) (sym is))))
+
+pub returns-in-Ok-clause-room : goal.returns-in-Ok-clause-room
+returns-in-Ok-clause-room c =
+    let b = c.args.batch.now in
+    let given = c.edge_of-edge.result in
+    let fits : SFits w64 given = search rules in
+    let window_fits : SFits w64 c.self.inside.window = search rules in
+    let window : c.self.inside.window ≡ c.args.self.now.window = ap (λ (s : SetState). s.window) c.self.view_is in
+    let map : c.self.inside.map ≡ c.args.self.now.map = ap (λ (s : SetState). s.map) c.self.view_is in
+    let is = edge_handed c.self.inside.window given b window_fits fits c.edge_of-edge.ensures.edge
+    ∙ ap (λ w. edge w b) window in
+    let ranges = committed b.txns c.in-Ok.reply.entries in
+    subst (λ m. HasRoomToWrite (raised (edge c.args.self.now.window b) m) ranges) map
+    (subst (λ e. HasRoomToWrite (raised e c.self.inside.map) ranges) is c.in-Ok.ensures.room)
+
+pub returns-in-Err-clause-full_united : goal.returns-in-Err-clause-full_united
+returns-in-Err-clause-full_united c = λ going full ws reply remembers judged.
+    let b = c.args.batch.now in
+    let given = c.edge_of-edge.result in
+    let fits : SFits w64 given = search rules in
+    let window_fits : SFits w64 c.self.inside.window = search rules in
+    let window : c.self.inside.window ≡ c.args.self.now.window = ap (λ (s : SetState). s.window) c.self.view_is in
+    let map : c.self.inside.map ≡ c.args.self.now.map = ap (λ (s : SetState). s.map) c.self.view_is in
+    let is = edge_handed c.self.inside.window given b window_fits fits c.edge_of-edge.ensures.edge
+    ∙ ap (λ w. edge w b) window in
+    let only : reply.entries ≡ judge_txns (edge c.args.self.now.window b) ws [] b.txns =
+    ap (λ (r : Reply). r.entries) (c.one_reply.ensures.only c.args.self.now.window ws b reply judged) in
+    let ranges = committed b.txns reply.entries in
+    subst (λ m. IsOverLimitUnited m.limit (edge c.args.self.now.window b) ws ranges) map
+    (subst (λ e. IsOverLimitUnited c.self.inside.map.limit e ws ranges) is
+    (c.in-Err.ensures.full_united full ws reply.entries (subst (λ m. MapCovers m ws) (sym map) remembers.covers)
+    (subst (λ m. Rooted m ws) (sym map) remembers.rooted)
+    (only ∙ ap (λ e. judge_txns e ws [] b.txns) (sym is))))
+
+pub returns-in-Err-clause-no_room : goal.returns-in-Err-clause-no_room
+returns-in-Err-clause-no_room c = λ going full ws reply remembers judged.
+    let b = c.args.batch.now in
+    let given = c.edge_of-edge.result in
+    let fits : SFits w64 given = search rules in
+    let window_fits : SFits w64 c.self.inside.window = search rules in
+    let window : c.self.inside.window ≡ c.args.self.now.window = ap (λ (s : SetState). s.window) c.self.view_is in
+    let map : c.self.inside.map ≡ c.args.self.now.map = ap (λ (s : SetState). s.map) c.self.view_is in
+    let is = edge_handed c.self.inside.window given b window_fits fits c.edge_of-edge.ensures.edge
+    ∙ ap (λ w. edge w b) window in
+    let only : reply.entries ≡ judge_txns (edge c.args.self.now.window b) ws [] b.txns =
+    ap (λ (r : Reply). r.entries) (c.one_reply.ensures.only c.args.self.now.window ws b reply judged) in
+    let ranges = committed b.txns reply.entries in
+    subst (λ m. HasNoRoomToWrite (raised (edge c.args.self.now.window b) m) ranges) map
+    (subst (λ e. HasNoRoomToWrite (raised e c.self.inside.map) ranges) is
+    (c.in-Err.ensures.no_room full ws reply.entries (subst (λ m. MapCovers m ws) (sym map) remembers.covers)
+    (only ∙ ap (λ e. judge_txns e ws [] b.txns) (sym is))))
+
+pub returns-in-Err-clause-memory : goal.returns-in-Err-clause-memory
+returns-in-Err-clause-memory c = λ going memory ws reply remembers judged.
+    let b = c.args.batch.now in
+    let given = c.edge_of-edge.result in
+    let fits : SFits w64 given = search rules in
+    let window_fits : SFits w64 c.self.inside.window = search rules in
+    let window : c.self.inside.window ≡ c.args.self.now.window = ap (λ (s : SetState). s.window) c.self.view_is in
+    let map : c.self.inside.map ≡ c.args.self.now.map = ap (λ (s : SetState). s.map) c.self.view_is in
+    let is = edge_handed c.self.inside.window given b window_fits fits c.edge_of-edge.ensures.edge
+    ∙ ap (λ w. edge w b) window in
+    let only : reply.entries ≡ judge_txns (edge c.args.self.now.window b) ws [] b.txns =
+    ap (λ (r : Reply). r.entries) (c.one_reply.ensures.only c.args.self.now.window ws b reply judged) in
+    let ranges = committed b.txns reply.entries in
+    subst (λ (m : Steps). (c.resolve_at.new.steps.boundaries ≡ m.boundaries)
+    ⊎ HasRoomToWrite (raised (edge c.args.self.now.window b) m) ranges) map
+    (subst (λ e. (c.resolve_at.new.steps.boundaries ≡ c.self.inside.map.boundaries)
+    ⊎ HasRoomToWrite (raised e c.self.inside.map) ranges) is
+    (c.in-Err.ensures.memory memory ws reply.entries (subst (λ m. MapCovers m ws) (sym map) remembers.covers)
     (only ∙ ap (λ e. judge_txns e ws [] b.txns) (sym is))))
