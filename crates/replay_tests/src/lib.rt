@@ -2,7 +2,8 @@
 //!
 //! `verdicts`, `reports`, `batches`, `options`, `proxies` and `files` are the worked rows, played over memory by `runs`, each a
 //! test of its row's name; `meeting` holds back two proxies that wait for each other. `workers` looks at a worker alone, and
-//! the others at the command line and at what is printed.
+//! the others at the command line and at what is printed. `shell` and `shell_failures` run the program whole, over the words of an
+//! environment and the files of a `shelf`.
 //!
 //! The contract of `replay_over` also lets a program through that always stops with `Memory`. Each test that wants a line
 //! refuses it, `empty_batch` first; so does `gate_full_through_replay`, which wants another stop.
@@ -32,6 +33,12 @@ mod report;
 mod reports;
 #[cfg(test)]
 mod runs;
+#[cfg(test)]
+mod shelf;
+#[cfg(test)]
+mod shell;
+#[cfg(test)]
+mod shell_failures;
 #[cfg(test)]
 mod verdicts;
 #[cfg(test)]

@@ -1,0 +1,70 @@
+//! What the program is run on: files in memory, by their names, and the words of an environment.
+
+ghost use Rattle.std.specs.Prelude.{None, ⊤};
+
+use crate::files::first_run;
+use crate::runs::{ended, file_of, opened};
+use fixtures::Unmade;
+use player::{FileError, Files, run_in};
+use std::alloc::{AllocError, Global};
+use std::io;
+use std::io::{Cursor, Read, Write};
+use std::rt::{Env, FillError};
+use std::sync::Wait;
+use std::thread::Threads;
+use wire::{Sink, StdSink, StdSource};
+
+/// A reader that tells a contract no bytes.
+#[derive(Drop)]
+pub struct Recorded(Cursor<Vec<u8>>);
+
+impl Read for Recorded {
+    fn read(&mut self, buf: &mut [u8]) -> io::Result<usize> {
+        self.0.read(buf)
+    }
+}
+
+/// Files in memory, by their names.
+#[derive(Drop)]
+pub struct Shelf {
+    alloc: Global,
+    files: Vec<(&'static str, Vec<u8>)>,
+}
+
+impl Shelf {
+    /// Makes the files that the rows name.
+    pub fn new(alloc: Global) -> Result<Self, Unmade> {
+        let conflict = ["0>100: W[a,b)", "100>101: R[a,b) @99; R[a,b) @100"];
+        let writes = ["0>100: W[a,b)", "100>200: W[c,d) @100"];
+        let mut files = Vec::new(alloc);
+        for (name, bytes) in [
+            ("first", first_run(alloc)?),
+            ("second", file_of(alloc, &["100>200: R[a,b) @99"], b"")?),
+            ("third", file_of(alloc, &["200>300"], b"")?),
+            ("conflict", opened(alloc, &conflict, b"")?),
+            ("writes", opened(alloc, &writes, b"")?),
+            ("cut", opened(alloc, &[], b"\0")?),
+        ] {
+            files.push((name, bytes)).map_err(AllocError::from)?;
+        }
+        Ok(Shelf { alloc, files })
+    }
+}
+
+impl Files for Shelf {
+    type Reader = StdSource<Recorded>;
+
+    ghost contents = { λ _ _. None };
+
+    ghost has_opened = { λ _ _. ⊤ };
+
+    ghost cannot_open = { λ _ _. ⊤ };
+
+    fn open(&self, name: &str) -> Result<StdSource<Recorded>, FileError> {
+        let Some((_, bytes)) = self.files.iter().find(|(known, _)| *known == name) else {
+            return Err(FileError::CannotOpen);
+        };
+        let bytes = bytes.clone().map_err(|_| FileError::Memory)?;
+        Ok(StdSource::new(Recorded(Cursor::new(bytes))))
+    }
+}
