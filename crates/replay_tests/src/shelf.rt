@@ -5,11 +5,12 @@ ghost use Rattle.std.specs.Prelude.{None, ⊤};
 use crate::files::first_run;
 use crate::runs::{ended, file_of, opened};
 use fixtures::Unmade;
-use player::{FileError, Files, run_in};
+use player::{FileError, Files, Status, run_in};
 use std::alloc::{AllocError, Global};
+use std::env::FillError;
 use std::io;
-use std::io::{Cursor, Read, Write};
-use std::rt::{Env, FillError};
+use std::io::{Cursor, Read};
+use std::rt::Env;
 use std::sync::Wait;
 use std::thread::Threads;
 use wire::{Sink, StdSink, StdSource};
@@ -67,4 +68,49 @@ impl Files for Shelf {
         let bytes = bytes.clone().map_err(|_| FileError::Memory)?;
         Ok(StdSource::new(Recorded(Cursor::new(bytes))))
     }
+}
+
+// The words of a command line, the program's name before them.
+#[derive(Drop)]
+struct Words<'a>(&'a [&'a str]);
+
+impl Env for Words<'_> {
+    fn arg(&self, i: usize, buf: &mut [u8]) -> Result<usize, FillError> {
+        let word = self.0.get(i).ok_or(FillError::NotPresent)?;
+        let room = buf.get_mut(..word.len()).ok_or(FillError::TooLong)?;
+        room.copy_from_slice(word.as_bytes());
+        Ok(word.len())
+    }
+
+    fn var(&self, _name: &str, _buf: &mut [u8]) -> Result<usize, FillError> {
+        Err(FillError::NotPresent)
+    }
+
+    fn var_at(&self, _i: usize, _buf: &mut [u8]) -> Result<usize, FillError> {
+        Err(FillError::NotPresent)
+    }
+}
+
+/// Runs the program on these words, whose first is its name, and puts what comes of it into words.
+pub fn shell<R: Threads + Wait + Copy + Send + 'static>(
+    rt: &R,
+    alloc: Global,
+    words: &[&str],
+) -> Result<String, Unmade> {
+    let mut out = StdSink::new(Vec::new(alloc));
+    let mut error = StdSink::new(Vec::new(alloc));
+    let status = shell_into(rt, alloc, words, &mut out, &mut error)?;
+    ended(status, out.into_inner(), &error.into_inner())
+}
+
+/// Runs the program on these words and streams.
+pub fn shell_into<R: Threads + Wait + Copy + Send + 'static, O: Sink, E: Sink>(
+    rt: &R,
+    alloc: Global,
+    words: &[&str],
+    out: &mut O,
+    error: &mut E,
+) -> Result<Status, Unmade> {
+    let files = Shelf::new(alloc)?;
+    Ok(run_in(rt, alloc, &Words(words), &files, out, error))
 }
