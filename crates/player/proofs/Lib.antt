@@ -9,6 +9,8 @@ pub mod LineTexts
 pub mod Reading
 pub mod SameLanes
 pub mod Getters
+pub mod Numbers
+pub mod Refusals
 pub mod Serving
 pub mod Working
 pub mod Turns

@@ -96,22 +96,23 @@ IsTaken words = faults_of words ≡ []
 abbrev pub AsksForText : List (List ℕ) → Type 0
 AsksForText words = (kind : ErrorKind) × IsAmong kind (faults_of words) × IsRequest kind
 
--- the number that is found for an option is within these bounds
-abbrev pub HasUnsigned : List ℕ → ℕ → ℕ → List Row → Type 0
-HasUnsigned name least most rows =
-    (text : List ℕ) × (one_of name rows ≡ Some text) × IsUnsignedIn least most text
+-- what is found for an option is of these texts
+abbrev pub Has : (List ℕ → Type 0) → List ℕ → List Row → Type 0
+Has is_text name rows = (text : List ℕ) × (one_of name rows ≡ Some text) × is_text text
 
 -- each number that is found is within its range, and the switch is on or off
 pub record HasNumbers (rows : List Row) : Type 0 where
-  pub capacity : HasUnsigned (codes "capacity") 1 MAX_CAPACITY rows
-  pub window : (text : List ℕ) × (one_of (codes "window") rows ≡ Some text) × IsSignedIn (pos 1) MAX_WINDOW text
-  pub limit : HasUnsigned (codes "limit") 1 MAX_LIMIT rows
-  pub frames : (on : Bool) × (one_of (codes "frames") rows ≡ Some (bool_text on))
+  pub capacity : Has (IsUnsignedIn 1 MAX_CAPACITY) (codes "capacity") rows
+  pub window : Has (IsSignedIn (pos 1) MAX_WINDOW) (codes "window") rows
+  pub limit : Has (IsUnsignedIn 1 MAX_LIMIT) (codes "limit") rows
+  pub frames : Has (λ text. (on : Bool) × (text ≡ bool_text on)) (codes "frames") rows
 
 -- from 1 to `MAX_PROXIES` files are found
-abbrev pub HasFiles : List Row → Type 0
-HasFiles rows = (names : List (List ℕ)) × (all_of (codes "FILE") rows ≡ Some names)
-    × (1 ≤ length names) × (length names ≤ MAX_PROXIES)
+pub record HasFiles (rows : List Row) : Type 0 where
+  pub names : List (List ℕ)
+  pub found : all_of (codes "FILE") rows ≡ Some names
+  pub least : 1 ≤ length names
+  pub most : length names ≤ MAX_PROXIES
 
 -- The words are mistaken: `clap` finds a mistake, or else a number is out of its range, or the files are none or too
 -- many.

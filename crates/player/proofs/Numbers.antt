@@ -1,0 +1,45 @@
+-- What the typed getters read of texts that are within their ranges.
+use Rattle.std.specs.Prelude.{◌≡◌, ◌≢◌, ◌^◌, ℕ, ℤ, ◌<◌, ◌≤◌, ◌≤ℤ◌, pos, Bool, true, false, List, Option, None, Some, Result, Ok, Err}
+use Rattle.std.specs.Int.{w64}
+use Rattle.std.specs.Str.Parse.{ParsesBool, ParsesSigned, ParsesUnsigned, false_text, true_text}
+use Rattle.std.proofs.Common.{refl, sym, ap, ◌∙◌, subst, arith, ints}
+use Rattle.clap.specs.Values.{IsSignedIn, IsUnsignedIn, bool_text}
+use Rattle.clap.specs.Words.{ReadsOne, Row, one_of, one_text, rows_of}
+use Rattle.clap.specs.declared.parser.matches.Found.{Found}
+use Rattle.clap.proofs.WalkLemmas.{one_text-rows}
+use Rattle.player.specs.Words.{Has}
+
+module _ {T E : Type 0} (found : Found) (id : List ℕ) (gives : List ℕ → Result T E → Type 0) (read : Option T)
+    (value : (text : List ℕ) → one_text found id ≡ Some text → ReadsOne gives text read) where
+  -- such a text is read as such a value
+  pub has_read : (is_text : List ℕ → Type 0) (is_value : T → Type 0)
+      → ((text : List ℕ) (v : T) → is_text text → gives text (Ok v) → is_value v)
+      → ((text : List ℕ) (e : E) → is_text text → ¬ (gives text (Err e)))
+      → Has is_text id (rows_of found) → (v : T) × (read ≡ Some v) × is_value v
+  has_read is_text is_value ok err has =
+      go read (value has.0 (one_text-rows found id ∙ has.1))
+    where
+      go : (o : Option T) → ReadsOne gives has.0 o → (v : T) × (o ≡ Some v) × is_value v
+      go (Some v) reads = (v, refl, ok has.0 v has.2 reads)
+      go None reads = absurd (err has.0 reads.0 has.2 reads.1)
+
+abbrev pub IsIn : ℕ → ℕ → ℕ → Type 0
+IsIn least most n = (least ≤ n) × (n ≤ most)
+
+pub unsigned_ok : {E : Type 0} (least most : ℕ) (text : List ℕ) (n : ℕ) → IsUnsignedIn least most text
+    → ParsesUnsigned {E} 64 10 text (Ok n) → IsIn least most n
+unsigned_ok least most text n inside parses =
+    (omega (arith, parses.1, inside.2), omega (arith, parses.1, inside.3))
+
+pub unsigned_err : {E : Type 0} (least most : ℕ) (text : List ℕ) (e : E) → IsUnsignedIn least most text
+    → ¬ (ParsesUnsigned 64 10 text (Err e))
+unsigned_err least most text e inside parses = parses (inside.0, inside.1)
+
+pub signed_err : {E : Type 0} (least most : ℤ) (text : List ℕ) (e : E) → IsSignedIn least most text
+    → ¬ (ParsesSigned w64 10 text (Err e))
+signed_err least most text e inside parses = parses (inside.0, inside.1)
+
+pub bool_err : {E : Type 0} (text : List ℕ) (e : E) → ((on : Bool) × (text ≡ bool_text on))
+    → ¬ (ParsesBool text (Err e))
+bool_err text e (true, is) parses = parses.0 is
+bool_err text e (false, is) parses = parses.1 is
