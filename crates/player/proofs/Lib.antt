@@ -17,3 +17,4 @@ pub mod Turns
 pub mod Runs
 pub mod Keeping
 pub mod Replaying
+pub mod Programs

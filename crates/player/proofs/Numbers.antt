@@ -1,5 +1,5 @@
 -- What the typed getters read of texts that are within their ranges.
-use Rattle.std.specs.Prelude.{◌≡◌, ◌≢◌, ◌^◌, ℕ, ℤ, ◌<◌, ◌≤◌, ◌≤ℤ◌, pos, Bool, true, false, List, Option, None, Some, Result, Ok, Err}
+use Rattle.std.specs.Prelude.{◌≡◌, ◌≢◌, ◌^◌, ℕ, ℤ, ◌<◌, ◌≤◌, ◌≤ℤ◌, pos, Bool, true, false, List, Option, None, Some, IsSome, Result, Ok, Err}
 use Rattle.std.specs.Int.{w64}
 use Rattle.std.specs.Str.Parse.{ParsesBool, ParsesSigned, ParsesUnsigned, false_text, true_text}
 use Rattle.std.proofs.Common.{refl, sym, ap, ◌∙◌, subst, arith, ints}
@@ -23,6 +23,13 @@ module _ {T E : Type 0} (found : Found) (id : List ℕ) (gives : List ℕ → Re
       go (Some v) reads = (v, refl, ok has.0 v has.2 reads)
       go None reads = absurd (err has.0 reads.0 has.2 reads.1)
 
+pub Some-injective : {X : Type 0} {x y : X} → Some x ≡ Some y → x ≡ y
+Some-injective is = cc
+
+pub is_not_none : {X : Type 0} (o : Option X) → IsSome o → o ≡ None → ⊥
+is_not_none None some is = cc
+is_not_none (Some x) some is = cc
+
 abbrev pub IsIn : ℕ → ℕ → ℕ → Type 0
 IsIn least most n = (least ≤ n) × (n ≤ most)
 
@@ -34,6 +41,14 @@ unsigned_ok least most text n inside parses =
 pub unsigned_err : {E : Type 0} (least most : ℕ) (text : List ℕ) (e : E) → IsUnsignedIn least most text
     → ¬ (ParsesUnsigned 64 10 text (Err e))
 unsigned_err least most text e inside parses = parses (inside.0, inside.1)
+
+abbrev pub IsSignedWithin : ℤ → ℤ → ℤ → Type 0
+IsSignedWithin least most n = (least ≤ℤ n) × (n ≤ℤ most)
+
+pub signed_ok : {E : Type 0} (least most : ℤ) (text : List ℕ) (n : ℤ) → IsSignedIn least most text
+    → ParsesSigned {E} w64 10 text (Ok n) → IsSignedWithin least most n
+signed_ok least most text n inside parses =
+    (subst (λ (z : ℤ). least ≤ℤ z) (sym parses.1) inside.2, subst (λ (z : ℤ). z ≤ℤ most) (sym parses.1) inside.3)
 
 pub signed_err : {E : Type 0} (least most : ℤ) (text : List ℕ) (e : E) → IsSignedIn least most text
     → ¬ (ParsesSigned w64 10 text (Err e))
