@@ -2,7 +2,7 @@
 use Rattle.std.specs.Prelude.{◌≡◌, ◌≢◌, ◌^◌, ℕ, ℤ, ◌<◌, ◌≤◌, ◌≤ℤ◌, pos, Bool, true, false, List, Option, None, Some, IsSome, Result, Ok, Err}
 use Rattle.std.specs.Int.{w64}
 use Rattle.std.specs.Str.Parse.{ParsesBool, ParsesSigned, ParsesUnsigned, false_text, true_text}
-use Rattle.std.proofs.Common.{refl, sym, ap, ◌∙◌, subst, arith, ints}
+use Rattle.std.proofs.Common.{refl, sym, ap, ◌∙◌, subst, arith}
 use Rattle.clap.specs.Values.{IsSignedIn, IsUnsignedIn, bool_text}
 use Rattle.clap.specs.Words.{ReadsOne, Row, one_of, one_text, rows_of}
 use Rattle.clap.specs.declared.parser.matches.Found.{Found}
@@ -33,9 +33,9 @@ is_not_none (Some x) some is = cc
 abbrev pub IsIn : ℕ → ℕ → ℕ → Type 0
 IsIn least most n = (least ≤ n) × (n ≤ most)
 
-pub unsigned_ok : {E : Type 0} (least most : ℕ) (text : List ℕ) (n : ℕ) → IsUnsignedIn least most text
-    → ParsesUnsigned {E} 64 10 text (Ok n) → IsIn least most n
-unsigned_ok least most text n inside parses =
+pub unsigned_ok : (E : Type 0) (least most : ℕ) (text : List ℕ) (n : ℕ) → IsUnsignedIn least most text
+    → ParsesUnsigned {E = E} 64 10 text (Ok n) → IsIn least most n
+unsigned_ok E least most text n inside parses =
     (omega (arith, parses.1, inside.2), omega (arith, parses.1, inside.3))
 
 pub unsigned_err : {E : Type 0} (least most : ℕ) (text : List ℕ) (e : E) → IsUnsignedIn least most text
@@ -45,9 +45,9 @@ unsigned_err least most text e inside parses = parses (inside.0, inside.1)
 abbrev pub IsSignedWithin : ℤ → ℤ → ℤ → Type 0
 IsSignedWithin least most n = (least ≤ℤ n) × (n ≤ℤ most)
 
-pub signed_ok : {E : Type 0} (least most : ℤ) (text : List ℕ) (n : ℤ) → IsSignedIn least most text
-    → ParsesSigned {E} w64 10 text (Ok n) → IsSignedWithin least most n
-signed_ok least most text n inside parses =
+pub signed_ok : (E : Type 0) (least most : ℤ) (text : List ℕ) (n : ℤ) → IsSignedIn least most text
+    → ParsesSigned {E = E} w64 10 text (Ok n) → IsSignedWithin least most n
+signed_ok E least most text n inside parses =
     (subst (λ (z : ℤ). least ≤ℤ z) (sym parses.1) inside.2, subst (λ (z : ℤ). z ≤ℤ most) (sym parses.1) inside.3)
 
 pub signed_err : {E : Type 0} (least most : ℤ) (text : List ℕ) (e : E) → IsSignedIn least most text
@@ -58,3 +58,25 @@ pub bool_err : {E : Type 0} (text : List ℕ) (e : E) → ((on : Bool) × (text 
     → ¬ (ParsesBool text (Err e))
 bool_err text e (true, is) parses = parses.0 is
 bool_err text e (false, is) parses = parses.1 is
+
+-- what is read of a number that is within its range, where the reading says `also` and `rest` too
+pub unsigned_read : {E : Type 0} (found : Found) (id : List ℕ) (also rest : List ℕ → Result ℕ E → Type 0) (least most : ℕ)
+    (read : Option ℕ)
+    → ((text : List ℕ) → one_text found id ≡ Some text
+    → ReadsOne (λ t r. ParsesUnsigned {E = E} 64 10 t r × also t r × rest t r) text read)
+    → Has (IsUnsignedIn least most) id (rows_of found) → (n : ℕ) × (read ≡ Some n) × IsIn least most n
+unsigned_read {E} found id also rest least most read value has =
+    has_read found id (λ t r. ParsesUnsigned {E = E} 64 10 t r × also t r × rest t r) read value (IsUnsignedIn least most) (IsIn least most)
+    (λ text n inside parses. unsigned_ok E least most text n inside parses.0)
+    (λ text e inside parses. unsigned_err {E = E} least most text e inside parses.0) has
+
+pub signed_read : {E : Type 0} (found : Found) (id : List ℕ) (also rest : List ℕ → Result ℤ E → Type 0) (least most : ℤ)
+    (read : Option ℤ)
+    → ((text : List ℕ) → one_text found id ≡ Some text
+    → ReadsOne (λ t r. ParsesSigned {E = E} w64 10 t r × also t r × rest t r) text read)
+    → Has (IsSignedIn least most) id (rows_of found) → (n : ℤ) × (read ≡ Some n) × IsSignedWithin least most n
+signed_read {E} found id also rest least most read value has =
+    has_read found id (λ t r. ParsesSigned {E = E} w64 10 t r × also t r × rest t r) read value (IsSignedIn least most)
+    (IsSignedWithin least most)
+    (λ text n inside parses. signed_ok E least most text n inside parses.0)
+    (λ text e inside parses. signed_err {E = E} least most text e inside parses.0) has

@@ -1,6 +1,5 @@
 use Rattle.std.proofs.Common.{rules, ◌≡◌, ◌∙◌, List, ℕ, ap, sym, subst, codes, ℤ, SFits, w64, to_z, of_z}
-use Rattle.std.specs.Prelude.{None, Some, Bool, Result, option_map, pos}
-use Rattle.std.specs.declared.str.parse.ParseIntError.{ParseIntError}
+use Rattle.std.specs.Prelude.{None, Some, Bool, option_map, pos}
 use Rattle.std.specs.Str.Parse.{
   ExplainsSignedError,
   ExplainsUnsignedError,
@@ -16,7 +15,7 @@ use Rattle.std.specs.Str.Parse.{
 use Rattle.std.specs.declared.str.ParseBoolError.{ParseBoolError}
 use Rattle.std.proofs.lemmas.Int.{to_z-of_z}
 use Rattle.clap.specs.Words.{found_of, one_of, rows_of}
-use Rattle.clap.specs.Values.{IsSignedIn, IsUnsignedIn, bool_text}
+use Rattle.clap.specs.Values.{bool_text}
 use Rattle.player.proofs.Getters.{HoldsOptions-of_parts, one_read, text_read, text_of_bool}
 use Rattle.lane.specs.declared.ends.TheConstants.{MAX_CAPACITY}
 use Rattle.conflict.specs.declared.conflict_set.TheConstants.{MAX_WINDOW}
@@ -28,10 +27,8 @@ use Rattle.player.proofs.Numbers.{
   bool_err,
   has_read,
   is_not_none,
-  signed_err,
-  signed_ok,
-  unsigned_err,
-  unsigned_ok,
+  signed_read,
+  unsigned_read,
 }
 use Rattle.player.proofs.words.options_of.Goals as goal
 
@@ -66,43 +63,33 @@ returns-clause-options c =
     HoldsOptions-of_parts (rows_of found) c.new.result _ _ _ _ kept.capacity kept.window kept.limit kept.frames
     capacity (window ∙ ap (λ (n : ℤ). Some n) (sym (to_z-of_z w64 looks_back fits))) limit frames
 
-abbrev Unsigned : List ℕ → Result ℕ ParseIntError → Type 0
-Unsigned text r = ParsesUnsigned 64 10 text r × ExplainsUnsignedError 10 text r × HasUnsignedDigitsIfOk text r
-
-abbrev Signed : List ℕ → Result ℤ ParseIntError → Type 0
-Signed text r = ParsesSigned w64 10 text r × ExplainsSignedError 10 text r × HasSignedDigitsIfOk text r
-
 pub returns-in_err-get_one-clause-none : goal.returns-in_err-get_one-clause-none
 returns-in_err-get_one-clause-none c = λ is has.
-    let read = has_read (found_of c.args.matches.now) (codes "capacity") Unsigned None c.in_err-get_one.ensures.value
-    (IsUnsignedIn 1 MAX_CAPACITY) (IsIn 1 MAX_CAPACITY) (λ text n inside parses. unsigned_ok 1 MAX_CAPACITY text n inside parses.0)
-    (λ text e inside parses. unsigned_err 1 MAX_CAPACITY text e inside parses.0) has.capacity in
-    let bad : None ≡ Some read.0 = read.1 in
+    let read = unsigned_read (found_of c.args.matches.now) (codes "capacity") (ExplainsUnsignedError 10) HasUnsignedDigitsIfOk 1 MAX_CAPACITY c.get_one.result
+    c.get_one.ensures.value has.capacity in
+    let bad : None ≡ Some read.0 = sym c.in_err-get_one.was ∙ read.1 in
     cc
 
 pub returns-in_err-get_one-2-clause-none : goal.returns-in_err-get_one-2-clause-none
 returns-in_err-get_one-2-clause-none c = λ is has.
-    let read = has_read (found_of c.args.matches.now) (codes "window") Signed None c.in_err-get_one-2.ensures.value
-    (IsSignedIn (pos 1) MAX_WINDOW) (IsSignedWithin (pos 1) MAX_WINDOW)
-    (λ text n inside parses. signed_ok (pos 1) MAX_WINDOW text n inside parses.0)
-    (λ text e inside parses. signed_err (pos 1) MAX_WINDOW text e inside parses.0) has.window in
-    let bad : None ≡ Some read.0 = read.1 in
+    let read = signed_read (found_of c.args.matches.now) (codes "window") (ExplainsSignedError 10) HasSignedDigitsIfOk (pos 1) MAX_WINDOW c.get_one-2.result
+    c.get_one-2.ensures.value has.window in
+    let bad : None ≡ Some read.0 = sym c.in_err-get_one-2.was ∙ read.1 in
     cc
 
 pub returns-in_err-get_one-3-clause-none : goal.returns-in_err-get_one-3-clause-none
 returns-in_err-get_one-3-clause-none c = λ is has.
-    let read = has_read (found_of c.args.matches.now) (codes "limit") Unsigned None c.in_err-get_one-3.ensures.value
-    (IsUnsignedIn 1 MAX_LIMIT) (IsIn 1 MAX_LIMIT) (λ text n inside parses. unsigned_ok 1 MAX_LIMIT text n inside parses.0)
-    (λ text e inside parses. unsigned_err 1 MAX_LIMIT text e inside parses.0) has.limit in
-    let bad : None ≡ Some read.0 = read.1 in
+    let read = unsigned_read (found_of c.args.matches.now) (codes "limit") (ExplainsUnsignedError 10) HasUnsignedDigitsIfOk 1 MAX_LIMIT c.get_one-3.result
+    c.get_one-3.ensures.value has.limit in
+    let bad : None ≡ Some read.0 = sym c.in_err-get_one-3.was ∙ read.1 in
     cc
 
 pub returns-in_err-get_one-4-clause-none : goal.returns-in_err-get_one-4-clause-none
 returns-in_err-get_one-4-clause-none c = λ is has.
-    let read = has_read {E = ParseBoolError} (found_of c.args.matches.now) (codes "frames") ParsesBool None
-    c.in_err-get_one-4.ensures.value (λ text. (on : Bool) × (text ≡ bool_text on)) (λ on. Unit {0}) (λ text on inside parses. tt)
+    let read = has_read {E = ParseBoolError} (found_of c.args.matches.now) (codes "frames") ParsesBool c.get_one-4.result
+    c.get_one-4.ensures.value (λ text. (on : Bool) × (text ≡ bool_text on)) (λ on. Unit {0}) (λ text on inside parses. tt)
     (λ text e inside parses. bool_err text e inside parses) has.frames in
-    let bad : None ≡ Some read.0 = read.1 in
+    let bad : None ≡ Some read.0 = sym c.in_err-get_one-4.was ∙ read.1 in
     cc
 
 pub returns-clause-none : goal.returns-clause-none
@@ -110,16 +97,12 @@ returns-clause-none c = λ is has.
     let found = found_of c.args.matches.now in
     let looks_back = c.in_ok-get_one-2.field-0 in
     let fits : SFits w64 looks_back = search rules in
-    let capacity = has_read found (codes "capacity") Unsigned (Some c.in_ok-get_one.field-0) c.in_ok-get_one.ensures.value
-    (IsUnsignedIn 1 MAX_CAPACITY) (IsIn 1 MAX_CAPACITY) (λ text n inside parses. unsigned_ok 1 MAX_CAPACITY text n inside parses.0)
-    (λ text e inside parses. unsigned_err 1 MAX_CAPACITY text e inside parses.0) has.capacity in
-    let window = has_read found (codes "window") Signed (Some looks_back) c.in_ok-get_one-2.ensures.value
-    (IsSignedIn (pos 1) MAX_WINDOW) (IsSignedWithin (pos 1) MAX_WINDOW)
-    (λ text n inside parses. signed_ok (pos 1) MAX_WINDOW text n inside parses.0)
-    (λ text e inside parses. signed_err (pos 1) MAX_WINDOW text e inside parses.0) has.window in
-    let limit = has_read found (codes "limit") Unsigned (Some c.in_ok-get_one-3.field-0) c.in_ok-get_one-3.ensures.value
-    (IsUnsignedIn 1 MAX_LIMIT) (IsIn 1 MAX_LIMIT) (λ text n inside parses. unsigned_ok 1 MAX_LIMIT text n inside parses.0)
-    (λ text e inside parses. unsigned_err 1 MAX_LIMIT text e inside parses.0) has.limit in
+    let capacity = unsigned_read found (codes "capacity") (ExplainsUnsignedError 10) HasUnsignedDigitsIfOk 1 MAX_CAPACITY (Some c.in_ok-get_one.field-0)
+    c.in_ok-get_one.ensures.value has.capacity in
+    let window = signed_read found (codes "window") (ExplainsSignedError 10) HasSignedDigitsIfOk (pos 1) MAX_WINDOW (Some looks_back)
+    c.in_ok-get_one-2.ensures.value has.window in
+    let limit = unsigned_read found (codes "limit") (ExplainsUnsignedError 10) HasUnsignedDigitsIfOk 1 MAX_LIMIT (Some c.in_ok-get_one-3.field-0)
+    c.in_ok-get_one-3.ensures.value has.limit in
     let within : IsIn 1 MAX_CAPACITY c.in_ok-get_one.field-0 =
     subst (IsIn 1 MAX_CAPACITY) (sym (Some-injective capacity.1)) capacity.2 in
     let back : IsSignedWithin (pos 1) MAX_WINDOW looks_back =
