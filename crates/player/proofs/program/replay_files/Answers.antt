@@ -12,5 +12,5 @@ returns-in-Err-clause-failed g c = λ is.
     let error = written (g.E.Sink.given c.args.error.now) (g.E.Sink.given c.fail_to_open.new.error)
     (g.E.Sink.failures c.args.error.now) (g.E.Sink.failures c.fail_to_open.new.error) in
     fails_on_files (g.F.Files.has_opened files) (g.F.Files.cannot_open files) (g.F.Files.contents files) out error
-    c.args.line.now.options names c.in-Err.cause (λ proxy of. c.open_files.ensures.refused proxy (ap Err of))
+    c.args.line.now.options names c.in-Err.cause (λ proxy of. c.open_files.ensures.refused proxy (c.in-Err.is ∙ ap Err of))
     refl c.fail_to_open.ensures.line

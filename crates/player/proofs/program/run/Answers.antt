@@ -1,4 +1,4 @@
-use Rattle.std.proofs.Common.{◌≡◌, List, ℕ, map, subst, sym, arith}
+use Rattle.std.proofs.Common.{◌≡◌, ◌∙◌, List, ℕ, Err, ap, map, arith}
 use Rattle.std.specs.Prelude.{string_bytes}
 use Rattle.std.proofs.lemmas.List.{length-map}
 use Rattle.player.specs.Replayed.{written}
@@ -15,7 +15,7 @@ returns-in-Err g c =
     (g.E.Sink.failures c.args.error.now) (g.E.Sink.failures c.end.new.error) in
     let end = c.end.ensures in
     let ends = ends_by (g.F.Files.has_opened files) (g.F.Files.cannot_open files) (g.F.Files.contents files) out error
-    words c.end.result c.in-Err.refusal (λ text is. c.read_words.ensures.shown text (c.in-Err.was ∙ ap Err is)) (λ text is. c.read_words.ensures.refused text (c.in-Err.was ∙ ap Err is))
+    words c.end.result c.in-Err.refusal (λ text is. c.read_words.ensures.shown text (c.in-Err.is ∙ ap Err is)) (λ text is. c.read_words.ensures.refused text (c.in-Err.is ∙ ap Err is))
     end.shown end.not_shown end.quiet end.refused end.told end.memory end.memory_told in
     record {
       done = ends.done;
