@@ -1,4 +1,5 @@
-use Rattle.std.proofs.Common.{◌≡◌, ◌∙◌, List, ℕ, ap, map, refl, Err}
+use Rattle.std.proofs.Common.{◌≡◌, ◌∙◌, List, ℕ, Bor, ap, map, refl, subst, Err}
+use Rattle.player.specs.Opening.{IsFirstRefused}
 use Rattle.player.specs.Replayed.{written}
 use Rattle.player.proofs.Programs.{fails_on_files}
 use Rattle.player.proofs.program.replay_files.Goals as goal
@@ -12,5 +13,8 @@ returns-in-Err-clause-failed g c = λ is.
     let error = written (g.E.Sink.given c.args.error.now) (g.E.Sink.given c.fail_to_open.new.error)
     (g.E.Sink.failures c.args.error.now) (g.E.Sink.failures c.fail_to_open.new.error) in
     fails_on_files (g.F.Files.has_opened files) (g.F.Files.cannot_open files) (g.F.Files.contents files) out error
-    c.args.line.now.options names c.in-Err.cause (λ proxy of. c.open_files.ensures.refused proxy (c.in-Err.is ∙ ap Err of))
+    c.args.line.now.options names c.in-Err.cause (λ proxy of.
+    subst (λ (named : List (Bor (List ℕ))). IsFirstRefused (g.F.Files.has_opened files) (g.F.Files.cannot_open files)
+    (map (λ name. name.now) named) proxy)
+    c.deref.ensures.value (c.open_files.ensures.refused proxy (c.in-Err.is ∙ ap Err of)))
     refl c.fail_to_open.ensures.line
