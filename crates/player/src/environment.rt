@@ -18,13 +18,7 @@ use std::{env, io};
 use wire::Sink;
 
 /// Runs the program on the words of its environment, as [`run`] does. Where they can't be read the cause is told to `error`.
-pub fn run_in<
-    R: Threads + Wait + Copy + Send + 'static,
-    V: Env,
-    F: Files,
-    O: Sink,
-    E: Sink,
->(
+pub fn run_in<R: Threads + Wait + Copy + Send + 'static, V: Env, F: Files, O: Sink, E: Sink>(
     rt: &R,
     alloc: Global,
     environment: &V,

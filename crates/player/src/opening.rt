@@ -43,8 +43,7 @@ pub fn open_files<F: Files>(
     ensures refused { (proxy : ℕ) → result ≡ Err (OpeningError.CannotOpen proxy)
         → IsFirstRefused (F.has_opened files.now) (F.cannot_open files.now) (map (λ name. name.now) names.now) proxy }
 {
-    let mut readers =
-        Vec::with_capacity(alloc, names.len()).map_err(|_| OpeningError::Memory)?;
+    let mut readers = Vec::with_capacity(alloc, names.len()).map_err(|_| OpeningError::Memory)?;
     for (proxy, name) in names.iter().enumerate() {
         let reader = match files.open(name) {
             Ok(reader) => reader,

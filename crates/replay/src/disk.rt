@@ -40,7 +40,10 @@ mod tests {
     #[test]
     fn opens_what_is_there(rt: HostRuntime) {
         let disk = Disk { rt: &rt };
-        assert_eq!(rt; disk.open("no/such/file").err(), Some(FileError::CannotOpen));
+        assert_eq!(rt;
+            disk.open("no/such/file").err(),
+            Some(FileError::CannotOpen)
+        );
         assert!(rt; disk.open("/dev/null").is_ok());
         // A folder opens, and fails when it is read.
         assert!(rt; disk.open(".").is_ok());

@@ -26,25 +26,14 @@ fn start<
     R: Files<File = File> + Env + AllocGlobal + Threads + Wait + Copy + Send + 'static,
     O: Write + Drop,
     E: Sink,
->(
-    rt: &R,
-    out: O,
-    error: &mut E,
-) -> Status
+>(rt: &R, out: O, error: &mut E) -> Status
     ensures quiet { result ≡ Status.Done → Keeps (E.given error.old) (E.given error.new) }
 {
     let Ok(out) = BufWriter::new(rt.alloc(), out) else {
         return fail_to_start(error, StartError::Memory);
     };
     let files = Disk { rt };
-    run_in(
-        rt,
-        rt.alloc(),
-        rt,
-        &files,
-        &mut StdSink::new(out),
-        error,
-    )
+    run_in(rt, rt.alloc(), rt, &files, &mut StdSink::new(out), error)
 }
 
 #[cfg(test)]

@@ -37,7 +37,10 @@ fn files_in_the_order_of_the_words(rt: HostRuntime) -> Result<(), Fail> {
                 "0 300 empty\n1 0 empty\n1 100 committed\n2 200 conflict\ndone: ",
             ),
             // without the first file its batch is missed, and so are those that wait for it
-            (&["replay", "second", "third"], "0 200 held\n1 300 held\ndone: "),
+            (
+                &["replay", "second", "third"],
+                "0 200 held\n1 300 held\ndone: ",
+            ),
         ],
     )
 }
@@ -81,7 +84,10 @@ fn files_that_cannot_be_opened(rt: HostRuntime) -> Result<(), Fail> {
     gives(
         &rt,
         &[
-            (&["replay", "none"], "failed: replay: proxy 0: cannot open\n"),
+            (
+                &["replay", "none"],
+                "failed: replay: proxy 0: cannot open\n",
+            ),
             (
                 &["replay", "first", "none"],
                 "failed: replay: proxy 1: cannot open\n",
@@ -136,7 +142,11 @@ fn name_of_the_program(rt: HostRuntime) -> Result<(), Fail> {
 fn help_and_version_shown(rt: HostRuntime) -> Result<(), Fail> {
     gives(&rt, &[(&["replay", "--version"], "replay 0.1.0\ndone: ")])?;
     let help = shell(&rt, rt.alloc(), &["replay", "first", "--help"])?;
-    assert!(rt; help.as_str().contains("Usage: replay [OPTIONS] <FILE>...\n"), "{help}");
+    assert!(rt;
+        help.as_str()
+            .contains("Usage: replay [OPTIONS] <FILE>...\n"),
+        "{help}"
+    );
     assert!(rt; help.as_str().ends_with("\ndone: "), "{help}");
     Ok(())
 }
