@@ -9,8 +9,12 @@ pub mod LineTexts
 pub mod Reading
 pub mod SameLanes
 pub mod Getters
+pub mod Numbers
+pub mod Refusals
 pub mod Serving
 pub mod Working
 pub mod Runs
 pub mod Keeping
 pub mod Replaying
+pub mod Programs
+pub mod Openings

@@ -2,9 +2,11 @@ pub mod Lines
 pub mod Line
 pub mod Failures
 pub mod Start
+pub mod Opening
 pub mod Inbox
 pub mod Worker
 pub mod Threads
 pub mod Words
 pub mod Run
 pub mod Replayed
+pub mod Program

@@ -1,15 +1,20 @@
 -- What the words of a command line ask for: the command as `clap` sees it, and what its matches hold.
-use Rattle.std.specs.Prelude.{◌≡◌, ℕ, pos, true, List, [], ◌∷◌, codes, Some, option_map}
+use Rattle.std.specs.Prelude.{◌≡◌, ◌≢◌, ◌⊎◌, ℕ, ◌<◌, ◌≤◌, pos, Bool, true, List, [], ◌∷◌, codes, length, Option, None, Some, IfSome, option_map, ⊤}
 use Rattle.std.specs.Str.Parse.{digits_value, signed_digits_value, without_leading_plus}
-use Rattle.clap.specs.Values.{bool_text}
-use Rattle.clap.specs.Words.{App, Row, Rule, matches_of, new_app, new_rule, one_of, with_rule}
+use Rattle.clap.specs.Values.{IsSignedIn, IsUnsignedIn, bool_text}
+use Rattle.clap.specs.Words.{App, IsAmong, Kinds, Row, Rule, all_of, fault_of, matches_of, new_app, new_rule, one_of, with_rule}
 use Rattle.clap.specs.declared.builder.action.ArgAction.TheVariants.{Append, SetTrue}
 use Rattle.clap.specs.declared.builder.value_parser.ValueParser.{ValueParser}
 use Rattle.clap.specs.declared.builder.value_parser.ValueParser.TheVariants.{Signed, Unsigned}
+use Rattle.clap.specs.declared.error.kind.ErrorKind.{ErrorKind}
+use Rattle.clap.specs.declared.error.kind.ErrorKind.TheVariants.{DisplayHelp, DisplayVersion, OutOfMemory}
 use Rattle.lane.specs.declared.ends.TheConstants.{MAX_CAPACITY}
 use Rattle.conflict.specs.declared.conflict_set.TheConstants.{MAX_WINDOW}
 use Rattle.stepmap.specs.declared.step_map.TheConstants.{MAX_LIMIT}
+use Rattle.resolver.specs.declared.sequential.TheConstants.{MAX_PROXIES}
 use Rattle.player.specs.declared.options.Options.{Options}
+use Rattle.player.specs.declared.refusal.Refusal.{Refusal}
+use Rattle.player.specs.declared.refusal.Refusal.TheVariants.{Memory, Refused, Shown}
 
 -- an option `--name N` with this default
 abbrev pub number_rule : List ℕ → List ℕ → ValueParser → Rule
@@ -58,3 +63,59 @@ pub record HoldsOptions (rows : List Row) (options : Options) : Type 0 where
 -- the matches of a command line, defaults included
 unfoldable pub rows_of_words : List (List ℕ) → List Row
 rows_of_words = matches_of replay_app
+
+-- the kind of an error by which the user is shown a text that was asked for: help or the version
+abbrev pub IsRequest : ErrorKind → Type 0
+IsRequest kind = (kind ≡ DisplayHelp) ⊎ (kind ≡ DisplayVersion)
+
+-- the kind of an error by which the words are mistaken
+abbrev pub IsMistake : ErrorKind → Type 0
+IsMistake kind = (kind ≢ DisplayHelp) × (kind ≢ DisplayVersion) × (kind ≢ OutOfMemory)
+
+-- the refusal is that of an error of this kind; no other refusal is
+abbrev pub IsRefusalOf : ErrorKind → Refusal → Type 0
+IsRefusalOf kind (Shown text) = IsRequest kind
+IsRefusalOf kind (Refused text) = IsMistake kind
+IsRefusalOf kind Memory = kind ≡ OutOfMemory
+
+-- the refusal is that of words of which `clap` finds these faults; memory may be refused at any words
+abbrev pub IsRefusalBy : Kinds → Refusal → Type 0
+IsRefusalBy kinds (Shown text) = (kind : ErrorKind) × IsAmong kind kinds × IsRequest kind
+IsRefusalBy kinds (Refused text) = (kind : ErrorKind) × IsAmong kind kinds × IsMistake kind
+IsRefusalBy kinds Memory = ⊤
+
+-- what `clap` finds at fault in the words
+unfoldable pub faults_of : List (List ℕ) → Kinds
+faults_of = fault_of replay_app
+
+-- `clap` takes the words
+abbrev pub IsTaken : List (List ℕ) → Type 0
+IsTaken words = faults_of words ≡ []
+
+-- the words ask for help or the version
+abbrev pub AsksForText : List (List ℕ) → Type 0
+AsksForText words = (kind : ErrorKind) × IsAmong kind (faults_of words) × IsRequest kind
+
+-- what is found for an option is of these texts
+abbrev pub Has : (List ℕ → Type 0) → List ℕ → List Row → Type 0
+Has is_text name rows = (text : List ℕ) × (one_of name rows ≡ Some text) × is_text text
+
+-- each number that is found is within its range, and the switch is on or off
+pub record HasNumbers (rows : List Row) : Type 0 where
+  pub capacity : Has (IsUnsignedIn 1 MAX_CAPACITY) (codes "capacity") rows
+  pub window : Has (IsSignedIn (pos 1) MAX_WINDOW) (codes "window") rows
+  pub limit : Has (IsUnsignedIn 1 MAX_LIMIT) (codes "limit") rows
+  pub frames : Has (λ text. (on : Bool) × (text ≡ bool_text on)) (codes "frames") rows
+
+-- from 1 to `MAX_PROXIES` files are found
+pub record HasFiles (rows : List Row) : Type 0 where
+  pub names : List (List ℕ)
+  pub found : all_of (codes "FILE") rows ≡ Some names
+  pub least : 1 ≤ length names
+  pub most : length names ≤ MAX_PROXIES
+
+-- The words are mistaken: `clap` finds a mistake, or else a number is out of its range, or the files are none or too
+-- many.
+abbrev pub IsMistaken : List (List ℕ) → Type 0
+IsMistaken words = ((kind : ErrorKind) × IsAmong kind (faults_of words) × IsMistake kind)
+    ⊎ ((¬ HasNumbers (rows_of_words words)) ⊎ (¬ HasFiles (rows_of_words words)))

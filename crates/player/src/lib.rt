@@ -1,23 +1,27 @@
 //! Replays recorded files of batch frames: their batches are resolved and the answers printed.
 //!
-//! [`read_words`] reads the command line. [`replay_over`] does all that follows the opening of the files: `running` runs a
-//! worker for each file, in `threads` of their own, and turns the resolver between them; `report` prints the answers and what
-//! failed. The program `replay` is these two, over files and the standard streams. The definition of what is printed is
-//! `IsReplayed`, in `specs/Replayed.antt`.
+//! [`run`] is the program `replay` over any words, files and streams, and [`run_in`] takes the words from an environment.
+//! [`read_words`] reads the command line, [`open_files`] opens the files, and [`replay_over`] does all that follows: `running` runs a worker for each file, in `threads` of their own, and
+//! turns the resolver between them; `report` prints the answers and what failed. The definition of what is printed is
+//! `IsReplayed`, in `specs/Replayed.antt`, and that of how the program ends is in `specs/Program.antt`.
 //!
 //! Of the parts, [`work`] is what each worker does, and [`print_report`] and [`print_answers`] are what is printed.
 #![tactic(auto)]
 
 mod begin_line;
 mod command;
+mod environment;
 mod failures;
+mod files;
 mod gatekeeper;
 mod inbox;
 mod line;
 mod lines;
+mod opening;
 mod options;
 mod outcome;
 mod pause;
+mod program;
 mod refusal;
 mod replay;
 mod report;
@@ -28,11 +32,15 @@ mod threads;
 mod words;
 mod worker;
 
+pub use environment::run_in;
 pub use failures::{Ending, ProxyFailure};
+pub use files::{FileError, Files};
 pub use gatekeeper::{AlwaysOpen, Gatekeeper};
 pub use line::Line;
 pub use lines::{PrintError, print_answers};
+pub use opening::{OpeningError, fail_to_open, open_files};
 pub use options::Options;
+pub use program::{replay_files, run};
 pub use refusal::Refusal;
 pub use replay::replay_over;
 pub use report::{Report, print_report};

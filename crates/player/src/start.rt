@@ -4,7 +4,6 @@ ghost use Rattle.std.specs.Prelude.{◌≡◌, ◌<◌, ◌≤◌, ◌↔◌, �
 ghost use Rattle.std.specs.Io.KnownBytes.{Appends};
 ghost use Rattle.player.specs.Start.{start_line};
 
-use crate::begin_line::begin_line;
 use crate::status::Status;
 use resolver::OpenError;
 use std::alloc::AllocError;
@@ -13,8 +12,6 @@ use wire::{Failed, Sink, write_all};
 /// Why a run could not start.
 #[derive(Clone, Copy, Debug, PartialEq, Eq)]
 pub enum StartError {
-    /// The file of this proxy could not be opened.
-    CannotOpen(usize),
     /// Memory was refused before the first thread was started.
     Memory,
     /// A thread could not be started.
@@ -58,10 +55,6 @@ pub fn print_start_error<W: Sink>(error: &mut W, cause: StartError) -> Result<()
     ensures least_failures { W.failures error.old ≤ W.failures error.new }
 {
     match cause {
-        StartError::CannotOpen(proxy) => {
-            begin_line(error, proxy)?;
-            write_all(error, b": cannot open\n")
-        }
         StartError::Memory => write_all(error, b"replay: start 1 Memory\n"),
         StartError::Thread => write_all(error, b"replay: start 2 Thread\n"),
     }

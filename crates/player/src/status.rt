@@ -1,6 +1,9 @@
 //! How the program ends.
 
 ghost use Rattle.std.specs.Prelude.{◌≡◌, ◌↔◌, ◌≢◌, IsTrue};
+ghost use Rattle.std.specs.Process.{exit_status};
+
+use std::process::{ExitCode, Termination};
 
 /// How the program ends.
 #[derive(Clone, Copy, Debug, PartialEq, Eq)]
@@ -37,5 +40,15 @@ impl Status {
         } else {
             Status::Failed
         }
+    }
+}
+
+impl Termination for Status {
+    fn report<R: Eprint>(self, _rt: &R) -> ExitCode
+        ensures done { self ≡ Status.Done → exit_status result ≡ 0 }
+        ensures failed { self ≡ Status.Failed → exit_status result ≡ 1 }
+        ensures usage { self ≡ Status.Usage → exit_status result ≡ 2 }
+    {
+        ExitCode::from(self.code())
     }
 }

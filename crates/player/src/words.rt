@@ -1,8 +1,9 @@
 //! The words of the command line.
 
-ghost use Rattle.std.specs.Prelude.{◌≡◌, ◌≤◌, IfOk, IfSome, Some, codes, length, map, string_bytes, vec_len};
+ghost use Rattle.std.specs.Prelude.{◌≡◌, ◌≤◌, IfErr, IfOk, IfSome, OnOk, Some, codes, length, map, string_bytes, vec_len};
 ghost use Rattle.clap.specs.Words.{all_of, found_of, rows_of};
-ghost use Rattle.player.specs.Words.{rows_of_words, HoldsOptions};
+ghost use Rattle.player.specs.Words.{AsksForText, HasFiles, HasNumbers, HoldsOptions, IsMistaken, IsRefusalBy, IsRefusalOf, IsTaken, faults_of, rows_of_words};
+ghost use Rattle.clap.specs.declared.error.kind.ErrorKind.{ErrorKind};
 
 use crate::command::command;
 use crate::options::Options;
@@ -30,6 +31,9 @@ pub fn read_words<'a>(alloc: Global, words: &'a [String]) -> Result<CommandLine<
         ≡ Some (map (λ name. name.now) line.files.items)) }
     ensures least { IfOk result (λ line. 1 ≤ vec_len line.files) }
     ensures most { IfOk result (λ line. vec_len line.files ≤ MAX_PROXIES) }
+    ensures taken { OnOk result (IsTaken (map string_bytes words.entry.now)) }
+    ensures shown { (text : _) → result ≡ Err (Refusal.Shown text) → AsksForText (map string_bytes words.entry.now) }
+    ensures refused { (text : _) → result ≡ Err (Refusal.Refused text) → IsMistaken (map string_bytes words.entry.now) }
 {
     let matches = parse(alloc, words)?;
     let Some(options) = options_of(&matches) else {
@@ -45,18 +49,22 @@ pub fn read_words<'a>(alloc: Global, words: &'a [String]) -> Result<CommandLine<
 }
 
 // Refuses words that `clap` has taken.
-fn refuse(alloc: Global, kind: ErrorKind, message: &str) -> Result<Refusal, AllocError> {
+fn refuse(alloc: Global, kind: ErrorKind, message: &str) -> Result<Refusal, AllocError>
+    ensures refusal { IfOk result (IsRefusalOf kind) }
+{
     let error = command(alloc)?.error(kind, message)?;
-    Ok(Refusal::of_clap(alloc, &error))
+    Refusal::of_clap(alloc, &error)
 }
 
 fn parse<'a>(alloc: Global, words: &'a [String]) -> Result<ArgMatches<'a>, Refusal>
     ensures rows { IfOk result (λ matches.
         rows_of (found_of matches) ≡ rows_of_words (map string_bytes words.entry.now)) }
+    ensures taken { OnOk result (IsTaken (map string_bytes words.entry.now)) }
+    ensures refusal { IfErr result (IsRefusalBy (faults_of (map string_bytes words.entry.now))) }
 {
     match command(alloc)?.try_get_matches_from(words) {
         Ok(matches) => Ok(matches),
-        Err(error) => Err(Refusal::of_clap(alloc, &error)),
+        Err(error) => Err(Refusal::of_clap(alloc, &error)?),
     }
 }
 
@@ -66,6 +74,7 @@ fn files_of<'m, 'a>(matches: &'m ArgMatches<'a>) -> Option<&'m [&'a str]>
         ≡ Some (map (λ name. name.now) files.now)) }
     ensures least { IfSome result (λ files. 1 ≤ length files.now) }
     ensures most { IfSome result (λ files. length files.now ≤ MAX_PROXIES) }
+    ensures none { result ≡ None → ¬ HasFiles (rows_of (found_of matches.entry.now)) }
 {
     let files = matches.get_strs("FILE")?;
     if files.is_empty() || files.len() > MAX_PROXIES {
@@ -77,6 +86,7 @@ fn files_of<'m, 'a>(matches: &'m ArgMatches<'a>) -> Option<&'m [&'a str]>
 // Returns the options, unless a number is out of its range. `clap` refuses such numbers itself.
 fn options_of(matches: &ArgMatches) -> Option<Options>
     ensures options { IfSome result (HoldsOptions (rows_of (found_of matches.now))) }
+    ensures none { result ≡ None → ¬ HasNumbers (rows_of (found_of matches.now)) }
 {
     Options::new(
         matches.get_one("capacity")?,

@@ -142,14 +142,6 @@ fn end_of(alloc: Global, cause: StartError) -> Result<String, Unmade> {
 #[test]
 fn one_line_a_cause(rt: HostRuntime) -> Result<(), Fail> {
     for (cause, expected) in [
-        (
-            StartError::CannotOpen(0),
-            "failed: replay: proxy 0: cannot open\n",
-        ),
-        (
-            StartError::CannotOpen(63),
-            "failed: replay: proxy 63: cannot open\n",
-        ),
         (StartError::Memory, "failed: replay: start 1 Memory\n"),
         (
             StartError::from(OpenError::Memory),

@@ -2,8 +2,9 @@
 //!
 //! `verdicts`, `reports`, `batches`, `options`, `proxies` and `files` are the worked rows, played over memory by `runs`, each a
 //! test of its row's name; `meeting` holds back two proxies that wait for each other. `workers` looks at a worker alone, and
-//! the others at the command line and at what is printed. The tests of `memory` pass whichever one growth is refused;
-//! `.ci/refused-memory` refuses each in turn.
+//! the others at the command line and at what is printed. `shell` and `shell_failures` run the program whole, over the words of an
+//! environment and the files of a `shelf`. The tests of `memory` pass whichever one growth is refused; `.ci/refused-memory` refuses
+//! each in turn.
 //!
 //! The contract of `replay_over` also lets a program through that always stops with `Memory`. Each test that wants a line
 //! refuses it, `empty_batch` first; so does `gate_full_through_replay`, which wants another stop.
@@ -39,6 +40,12 @@ mod reports;
 mod rows;
 #[cfg(test)]
 mod runs;
+#[cfg(test)]
+mod shelf;
+#[cfg(test)]
+mod shell;
+#[cfg(test)]
+mod shell_failures;
 #[cfg(test)]
 mod verdicts;
 #[cfg(test)]

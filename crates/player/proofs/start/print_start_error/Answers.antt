@@ -6,15 +6,6 @@ use Rattle.player.specs.declared.start.StartError.{StartError}
 use Rattle.player.specs.Start.{start_line}
 use Rattle.player.proofs.start.print_start_error.Goals as goal
 
-pub returns-in_ok-begin_line-in-CannotOpen-clause-text : goal.returns-in_ok-begin_line-in-CannotOpen-clause-text
-returns-in_ok-begin_line-in-CannotOpen-clause-text g c =
-    let given = g.W.Sink.given in
-    on_ok_weaker c.write_all.result
-    (λ end. subst (λ (cause : StartError). Appends (given c.args.error.now) (given c.write_all.new.writer) (start_line cause))
-    (sym c.in-CannotOpen.is)
-    (appends_then _ _ _ _ _ c.in_ok-begin_line-in-CannotOpen.ensures.text end))
-    c.write_all.ensures.whole
-
 pub returns-in-Thread-clause-text : goal.returns-in-Thread-clause-text
 returns-in-Thread-clause-text g c =
     let given = g.W.Sink.given in

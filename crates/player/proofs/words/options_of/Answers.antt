@@ -1,5 +1,5 @@
-use Rattle.std.proofs.Common.{rules, ◌≡◌, ◌∙◌, ap, sym, codes, ℤ, SFits, w64}
-use Rattle.std.specs.Prelude.{Some, option_map}
+use Rattle.std.proofs.Common.{rules, ◌≡◌, ◌∙◌, List, ℕ, ap, sym, subst, codes, ℤ, SFits, w64, to_z, of_z}
+use Rattle.std.specs.Prelude.{None, Some, Bool, option_map, pos}
 use Rattle.std.specs.Str.Parse.{
   ExplainsSignedError,
   ExplainsUnsignedError,
@@ -17,10 +17,23 @@ use Rattle.std.proofs.lemmas.Int.{to_z-of_z}
 use Rattle.clap.specs.Words.{found_of, one_of, rows_of}
 use Rattle.clap.specs.Values.{bool_text}
 use Rattle.player.proofs.Getters.{HoldsOptions-of_parts, one_read, text_read, text_of_bool}
+use Rattle.lane.specs.declared.ends.TheConstants.{MAX_CAPACITY}
+use Rattle.conflict.specs.declared.conflict_set.TheConstants.{MAX_WINDOW}
+use Rattle.stepmap.specs.declared.step_map.TheConstants.{MAX_LIMIT}
+use Rattle.player.proofs.Numbers.{
+  IsIn,
+  IsSignedWithin,
+  Some-injective,
+  bool_err,
+  has_read,
+  is_not_none,
+  signed_read,
+  unsigned_read,
+}
 use Rattle.player.proofs.words.options_of.Goals as goal
 
-pub returns : goal.returns
-returns c =
+pub returns-clause-options : goal.returns-clause-options
+returns-clause-options c =
     let found = found_of c.args.matches.now in
     let kept = c.new.ensures in
     let looks_back = c.in_ok-get_one-2.field-0 in
@@ -47,7 +60,55 @@ returns c =
     text_read {E = ParseBoolError} found (codes "frames") ParsesBool bool_text c.in_ok-get_one-4.field-0
     c.in_ok-get_one-4.ensures.none c.in_ok-get_one-4.ensures.value
     (λ text parses. text_of_bool _ text parses) in
-    record {
-      options = HoldsOptions-of_parts (rows_of found) c.new.result _ _ _ _ kept.capacity kept.window kept.limit kept.frames
-          capacity (window ∙ ap (λ (n : ℤ). Some n) (sym (to_z-of_z w64 looks_back fits))) limit frames;
-    }
+    HoldsOptions-of_parts (rows_of found) c.new.result _ _ _ _ kept.capacity kept.window kept.limit kept.frames
+    capacity (window ∙ ap (λ (n : ℤ). Some n) (sym (to_z-of_z w64 looks_back fits))) limit frames
+
+pub returns-in_err-get_one-clause-none : goal.returns-in_err-get_one-clause-none
+returns-in_err-get_one-clause-none c = λ is has.
+    let read = unsigned_read (found_of c.args.matches.now) (codes "capacity") (ExplainsUnsignedError 10) HasUnsignedDigitsIfOk 1 MAX_CAPACITY c.get_one.result
+    c.get_one.ensures.value has.capacity in
+    let bad : None ≡ Some read.0 = sym c.in_err-get_one.was ∙ read.1 in
+    cc
+
+pub returns-in_err-get_one-2-clause-none : goal.returns-in_err-get_one-2-clause-none
+returns-in_err-get_one-2-clause-none c = λ is has.
+    let read = signed_read (found_of c.args.matches.now) (codes "window") (ExplainsSignedError 10) HasSignedDigitsIfOk (pos 1) MAX_WINDOW c.get_one-2.result
+    c.get_one-2.ensures.value has.window in
+    let bad : None ≡ Some read.0 = sym c.in_err-get_one-2.was ∙ read.1 in
+    cc
+
+pub returns-in_err-get_one-3-clause-none : goal.returns-in_err-get_one-3-clause-none
+returns-in_err-get_one-3-clause-none c = λ is has.
+    let read = unsigned_read (found_of c.args.matches.now) (codes "limit") (ExplainsUnsignedError 10) HasUnsignedDigitsIfOk 1 MAX_LIMIT c.get_one-3.result
+    c.get_one-3.ensures.value has.limit in
+    let bad : None ≡ Some read.0 = sym c.in_err-get_one-3.was ∙ read.1 in
+    cc
+
+pub returns-in_err-get_one-4-clause-none : goal.returns-in_err-get_one-4-clause-none
+returns-in_err-get_one-4-clause-none c = λ is has.
+    let read = has_read {E = ParseBoolError} (found_of c.args.matches.now) (codes "frames") ParsesBool c.get_one-4.result
+    c.get_one-4.ensures.value (λ text. (on : Bool) × (text ≡ bool_text on)) (λ on. Unit {0}) (λ text on inside parses. tt)
+    (λ text e inside parses. bool_err text e inside parses) has.frames in
+    let bad : None ≡ Some read.0 = sym c.in_err-get_one-4.was ∙ read.1 in
+    cc
+
+pub returns-clause-none : goal.returns-clause-none
+returns-clause-none c = λ is has.
+    let found = found_of c.args.matches.now in
+    let looks_back = c.in_ok-get_one-2.field-0 in
+    let fits : SFits w64 looks_back = search rules in
+    let capacity = unsigned_read found (codes "capacity") (ExplainsUnsignedError 10) HasUnsignedDigitsIfOk 1 MAX_CAPACITY (Some c.in_ok-get_one.field-0)
+    c.in_ok-get_one.ensures.value has.capacity in
+    let window = signed_read found (codes "window") (ExplainsSignedError 10) HasSignedDigitsIfOk (pos 1) MAX_WINDOW (Some looks_back)
+    c.in_ok-get_one-2.ensures.value has.window in
+    let limit = unsigned_read found (codes "limit") (ExplainsUnsignedError 10) HasUnsignedDigitsIfOk 1 MAX_LIMIT (Some c.in_ok-get_one-3.field-0)
+    c.in_ok-get_one-3.ensures.value has.limit in
+    let within : IsIn 1 MAX_CAPACITY c.in_ok-get_one.field-0 =
+    subst (IsIn 1 MAX_CAPACITY) (sym (Some-injective capacity.1)) capacity.2 in
+    let back : IsSignedWithin (pos 1) MAX_WINDOW looks_back =
+    subst (IsSignedWithin (pos 1) MAX_WINDOW) (sym (Some-injective window.1)) window.2 in
+    let known : IsSignedWithin (pos 1) MAX_WINDOW (to_z w64 (of_z w64 looks_back)) =
+    subst (IsSignedWithin (pos 1) MAX_WINDOW) (sym (to_z-of_z w64 looks_back fits)) back in
+    let few : IsIn 1 MAX_LIMIT c.in_ok-get_one-3.field-0 =
+    subst (IsIn 1 MAX_LIMIT) (sym (Some-injective limit.1)) limit.2 in
+    is_not_none c.new.result (c.new.ensures.some.1 (within.0, within.1, known.0, known.1, few.0, few.1)) is

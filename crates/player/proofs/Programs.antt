@@ -1,0 +1,116 @@
+-- How the program ends, from what each of its parts says.
+use Rattle.std.specs.Prelude.{◌≡◌, ◌≢◌, ◌⊎◌, ℕ, List, Option, None, Some, map, string_bytes}
+use Rattle.std.specs.Io.KnownBytes.{Keeps}
+use Rattle.std.proofs.Common.{refl, sym, ap, ◌∙◌, subst, inl, inr}
+use Rattle.player.specs.declared.opening.OpeningError.{OpeningError}
+use Rattle.player.specs.declared.opening.OpeningError.TheVariants as opening
+use Rattle.player.specs.declared.options.Options.{Options}
+use Rattle.player.specs.declared.refusal.Refusal.{Refusal}
+use Rattle.player.specs.declared.refusal.Refusal.TheVariants as refusal
+use Rattle.player.specs.declared.start.StartError.TheVariants as start
+use Rattle.player.specs.declared.status.Status.{Status}
+use Rattle.player.specs.declared.status.Status.TheVariants.{Done, Failed, Usage}
+use Rattle.player.specs.Opening.{IsFirstRefused, contents_each, opening_line}
+use Rattle.player.specs.Program.{AsksToReplay, FailsOnFiles, IsDone, IsFailed, Told}
+use Rattle.player.specs.Replayed.{FailsToReplay, HasFailed, IsReplayed, Took, Written}
+use Rattle.player.specs.Start.{start_line}
+use Rattle.player.specs.Words.{AsksForText, IsMistaken}
+
+keeps_itself : (a : Option (List ℕ)) → Keeps a a
+keeps_itself None = tt
+keeps_itself (Some xs) = refl
+
+pub keeps_same : (a b : Option (List ℕ)) → b ≡ a → Keeps a b
+keeps_same a b same = subst (Keeps a) (sym same) (keeps_itself a)
+
+module _ (has_opened cannot_open : List ℕ → Type 0) (contents : List ℕ → Option (List ℕ)) (out error : Written) where
+  pub fails_on_files : (options : Options) (names : List (List ℕ)) (cause : OpeningError)
+      → ((proxy : ℕ) → cause ≡ opening.CannotOpen proxy → IsFirstRefused has_opened cannot_open names proxy)
+      → out.after ≡ out.before → Told error (opening_line cause)
+      → FailsOnFiles has_opened cannot_open contents options names out error
+  fails_on_files options names (opening.CannotOpen proxy) first nothing told =
+      inl (record { proxy = proxy; first = first proxy refl; nothing_printed = nothing; told = told })
+  fails_on_files options names opening.Memory first nothing told =
+      inr (inl (record { cause = start.Memory; nothing_printed = nothing; told = told }))
+
+  module _ (words : List (List ℕ)) (status : Status) where
+    pub record Ends : Type 0 where
+      pub done : status ≡ Done → IsDone contents words out
+      pub quiet : status ≡ Done → Keeps error.before error.after
+      pub failed : status ≡ Failed → IsFailed has_opened cannot_open contents words out error
+      pub mistaken : status ≡ Usage → IsMistaken words
+      pub nothing : status ≡ Usage → out.after ≡ out.before
+      pub usage : status ≡ Usage → (text : List ℕ) × Told error text
+
+    pub ends_shown : (text : List ℕ) → AsksForText words → (status ≡ Done → Took out text)
+        → (status ≢ Done → (status ≡ Failed) × HasFailed out) → error.after ≡ error.before → Ends
+    ends_shown text asks shown not_shown quiet = record {
+      done = λ is. inl (asks, (text, shown is));
+      quiet = λ is. keeps_same error.before error.after quiet;
+      failed = λ is.
+          let other : status ≢ Done = λ done. let bad : Failed ≡ Done = sym is ∙ done in cc in
+          inr (inl (asks, (not_shown other).1));
+      mistaken = λ is. absurd (never is);
+      nothing = λ is. absurd (never is);
+      usage = λ is. absurd (never is);
+    }
+      where
+        never : ¬ (status ≡ Usage)
+        never is =
+            let other : status ≢ Done = λ done. let bad : Usage ≡ Done = sym is ∙ done in cc in
+            let bad : Usage ≡ Failed = sym is ∙ (not_shown other).0 in
+            cc
+
+    pub ends_refused : (text : List ℕ) → IsMistaken words → status ≡ Usage → out.after ≡ out.before
+        → Told error text → Ends
+    ends_refused text mistaken usage nothing told = record {
+      done = λ is. let bad : Usage ≡ Done = sym usage ∙ is in cc;
+      quiet = λ is. let bad : Usage ≡ Done = sym usage ∙ is in cc;
+      failed = λ is. let bad : Usage ≡ Failed = sym usage ∙ is in cc;
+      mistaken = λ is. mistaken;
+      nothing = λ is. nothing;
+      usage = λ is. (text, told);
+    }
+
+    pub ends_without_memory : status ≡ Failed → out.after ≡ out.before → Told error (start_line start.Memory) → Ends
+    ends_without_memory failed nothing told = record {
+      done = λ is. let bad : Failed ≡ Done = sym failed ∙ is in cc;
+      quiet = λ is. let bad : Failed ≡ Done = sym failed ∙ is in cc;
+      failed = λ is. inl (nothing, told);
+      mistaken = λ is. let bad : Failed ≡ Usage = sym failed ∙ is in cc;
+      nothing = λ is. nothing;
+      usage = λ is. let bad : Failed ≡ Usage = sym failed ∙ is in cc;
+    }
+
+    pub ends_replayed : (options : Options) (names : List (List ℕ)) → AsksToReplay words options names
+        → (status ≡ Done → IsReplayed options (contents_each contents names) out.before out.after)
+        → (status ≡ Done → Keeps error.before error.after)
+        → (status ≡ Failed → FailsOnFiles has_opened cannot_open contents options names out error)
+        → status ≢ Usage → Ends
+    ends_replayed options names asked done quiet failed ends = record {
+      done = λ is. inr (record { options = options; names = names; asked = asked; replayed = done is });
+      quiet = quiet;
+      failed = λ is.
+          inr (inr (record { options = options; names = names; asked = asked; failed = failed is }));
+      mistaken = λ is. absurd (ends is);
+      nothing = λ is. absurd (ends is);
+      usage = λ is. absurd (ends is);
+    }
+
+    -- from what was refused, by the clauses of its end
+    pub ends_by : (r : Refusal)
+        → ((text : _) → r ≡ refusal.Shown text → AsksForText words)
+        → ((text : _) → r ≡ refusal.Refused text → IsMistaken words)
+        → ((text : _) → r ≡ refusal.Shown text → status ≡ Done → Took out (string_bytes text))
+        → ((text : _) → r ≡ refusal.Shown text → status ≢ Done → (status ≡ Failed) × HasFailed out)
+        → ((text : _) → r ≡ refusal.Shown text → error.after ≡ error.before)
+        → ((text : _) → r ≡ refusal.Refused text → (status ≡ Usage) × (out.after ≡ out.before))
+        → ((text : _) → r ≡ refusal.Refused text → Told error (string_bytes text))
+        → (r ≡ refusal.Memory → (status ≡ Failed) × (out.after ≡ out.before))
+        → (r ≡ refusal.Memory → Told error (start_line start.Memory)) → Ends
+    ends_by (refusal.Shown text) asks mistaken shown not_shown quiet refused told memory memory_told =
+        ends_shown (string_bytes text) (asks text refl) (shown text refl) (not_shown text refl) (quiet text refl)
+    ends_by (refusal.Refused text) asks mistaken shown not_shown quiet refused told memory memory_told =
+        ends_refused (string_bytes text) (mistaken text refl) (refused text refl).0 (refused text refl).1 (told text refl)
+    ends_by refusal.Memory asks mistaken shown not_shown quiet refused told memory memory_told =
+        ends_without_memory (memory refl).0 (memory refl).1 (memory_told refl)

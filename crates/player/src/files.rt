@@ -1,0 +1,34 @@
+//! Where the program's files are opened.
+
+ghost use Rattle.std.specs.Prelude.{◌≡◌, ℕ, List, Option, IfOk, OnOk};
+
+use wire::Source;
+
+/// Why a file was not opened.
+#[derive(Clone, Copy, Debug, PartialEq, Eq)]
+pub enum FileError {
+    /// It can't be opened.
+    CannotOpen,
+    /// Memory was refused.
+    Memory,
+}
+
+/// Opens files by their names.
+pub trait Files {
+    type Reader: Source + Send + Drop + 'static;
+
+    // The bytes of the file of this name, where they are told.
+    ghost contents: { Self → List ℕ → Option (List ℕ) };
+
+    // The file of this name was opened.
+    ghost has_opened: { Self → List ℕ → Type 0 };
+
+    // The file of this name can't be opened.
+    ghost cannot_open: { Self → List ℕ → Type 0 };
+
+    /// Opens the file of this name, to be read from its beginning.
+    fn open(&self, name: &str) -> Result<Self::Reader, FileError>
+        ensures contents { IfOk result (λ reader. Self.Reader.remaining reader ≡ contents self.now name.now) }
+        ensures opened { OnOk result (has_opened self.now name.now) }
+        ensures refused { result ≡ Err FileError.CannotOpen → cannot_open self.now name.now };
+}

@@ -1,0 +1,80 @@
+//! The program, over any words, files and streams.
+
+ghost use Rattle.std.specs.Prelude.{◌≡◌, ◌≢◌, ◌≤◌, ℕ, List, map, string_bytes, vec_len};
+ghost use Rattle.std.specs.Io.KnownBytes.{Keeps};
+ghost use Rattle.resolver.specs.declared.sequential.TheConstants.{MAX_PROXIES};
+ghost use Rattle.player.specs.Opening.{contents_each};
+ghost use Rattle.player.specs.Program.{FailsOnFiles, IsDone, IsFailed, Told};
+ghost use Rattle.player.specs.Replayed.{IsReplayed, Took, written};
+ghost use Rattle.player.specs.Words.{IsMistaken};
+
+use crate::files::Files;
+use crate::gatekeeper::AlwaysOpen;
+use crate::opening::{fail_to_open, open_files};
+use crate::replay::replay_over;
+use crate::start::{StartError, fail_to_start};
+use crate::status::Status;
+use crate::words::{CommandLine, read_words};
+use std::alloc::Global;
+use std::sync::{Arc, Wait};
+use std::thread::Threads;
+use wire::Sink;
+
+/// Runs the program on the words of its command line, of which the first is the program's name. Help is printed to `out`, and
+/// why words are refused to `error`; else the files are replayed, as [`replay_files`] does.
+pub fn run<R: Threads + Wait + Copy + Send + 'static, F: Files, O: Sink, E: Sink>(
+    rt: &R,
+    alloc: Global,
+    files: &F,
+    words: &[String],
+    out: &mut O,
+    error: &mut E,
+) -> Status
+    ensures done { result ≡ Status.Done → IsDone (F.contents files.now) (map string_bytes words.now)
+        (written (O.given out.old) (O.given out.new) (O.failures out.old) (O.failures out.new)) }
+    ensures quiet { result ≡ Status.Done → Keeps (E.given error.old) (E.given error.new) }
+    ensures failed { result ≡ Status.Failed
+        → IsFailed (F.has_opened files.now) (F.cannot_open files.now) (F.contents files.now) (map string_bytes words.now)
+        (written (O.given out.old) (O.given out.new) (O.failures out.old) (O.failures out.new))
+        (written (E.given error.old) (E.given error.new) (E.failures error.old) (E.failures error.new)) }
+    ensures mistaken { result ≡ Status.Usage → IsMistaken (map string_bytes words.now) }
+    ensures nothing { result ≡ Status.Usage → O.given out.new ≡ O.given out.old }
+    ensures usage { result ≡ Status.Usage → (text : List ℕ)
+        × Told (written (E.given error.old) (E.given error.new) (E.failures error.old) (E.failures error.new)) text }
+{
+    match read_words(alloc, words) {
+        Ok(line) => replay_files(rt, alloc, files, &line, out, error),
+        Err(refusal) => refusal.end(out, error),
+    }
+}
+
+/// Opens the files of a command line and replays them, as [`replay_over`] does. Where one can't be opened nothing is printed to
+/// `out`, and the first such file is told to `error`.
+pub fn replay_files<R: Threads + Wait + Copy + Send + 'static, F: Files, O: Sink, E: Sink>(
+    rt: &R,
+    alloc: Global,
+    files: &F,
+    line: &CommandLine,
+    out: &mut O,
+    error: &mut E,
+) -> Status
+    requires least_files { 1 ≤ vec_len line.now.files }
+    requires most_files { vec_len line.now.files ≤ MAX_PROXIES }
+    ensures done { result ≡ Status.Done → IsReplayed line.now.options
+        (contents_each (F.contents files.now) (map (λ name. name.now) line.now.files.items)) (O.given out.old) (O.given out.new) }
+    ensures quiet { result ≡ Status.Done → Keeps (E.given error.old) (E.given error.new) }
+    ensures failed { result ≡ Status.Failed → FailsOnFiles (F.has_opened files.now) (F.cannot_open files.now)
+        (F.contents files.now) line.now.options (map (λ name. name.now) line.now.files.items)
+        (written (O.given out.old) (O.given out.new) (O.failures out.old) (O.failures out.new))
+        (written (E.given error.old) (E.given error.new) (E.failures error.old) (E.failures error.new)) }
+    ensures ends { result ≢ Status.Usage }
+{
+    let readers = match open_files(alloc, files, &line.files) {
+        Ok(readers) => readers,
+        Err(cause) => return fail_to_open(error, cause),
+    };
+    let Ok(gatekeeper) = Arc::new(alloc, AlwaysOpen) else {
+        return fail_to_start(error, StartError::Memory);
+    };
+    replay_over(rt, alloc, readers, line.options, &gatekeeper, out, error)
+}

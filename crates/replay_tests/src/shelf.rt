@@ -1,0 +1,116 @@
+//! What the program is run on: files in memory, by their names, and the words of an environment.
+
+ghost use Rattle.std.specs.Prelude.{None, ⊤};
+
+use crate::files::first_run;
+use crate::runs::{ended, file_of, opened};
+use fixtures::Unmade;
+use player::{FileError, Files, Status, run_in};
+use std::alloc::{AllocError, Global};
+use std::env::FillError;
+use std::io;
+use std::io::{Cursor, Read};
+use std::rt::Env;
+use std::sync::Wait;
+use std::thread::Threads;
+use wire::{Sink, StdSink, StdSource};
+
+/// A reader that tells a contract no bytes.
+#[derive(Drop)]
+pub struct Recorded(Cursor<Vec<u8>>);
+
+impl Read for Recorded {
+    fn read(&mut self, buf: &mut [u8]) -> io::Result<usize> {
+        self.0.read(buf)
+    }
+}
+
+/// Files in memory, by their names.
+#[derive(Drop)]
+pub struct Shelf {
+    alloc: Global,
+    files: Vec<(&'static str, Vec<u8>)>,
+}
+
+impl Shelf {
+    /// Makes the files that the rows name.
+    pub fn new(alloc: Global) -> Result<Self, Unmade> {
+        let conflict = ["0>100: W[a,b)", "100>101: R[a,b) @99; R[a,b) @100"];
+        let writes = ["0>100: W[a,b)", "100>200: W[c,d) @100"];
+        let mut files = Vec::new(alloc);
+        for (name, bytes) in [
+            ("first", first_run(alloc)?),
+            ("second", file_of(alloc, &["100>200: R[a,b) @99"], b"")?),
+            ("third", file_of(alloc, &["200>300"], b"")?),
+            ("conflict", opened(alloc, &conflict, b"")?),
+            ("writes", opened(alloc, &writes, b"")?),
+            ("cut", opened(alloc, &[], b"\0")?),
+        ] {
+            files.push((name, bytes)).map_err(AllocError::from)?;
+        }
+        Ok(Shelf { alloc, files })
+    }
+}
+
+impl Files for Shelf {
+    type Reader = StdSource<Recorded>;
+
+    ghost contents = { λ _ _. None };
+
+    ghost has_opened = { λ _ _. ⊤ };
+
+    ghost cannot_open = { λ _ _. ⊤ };
+
+    fn open(&self, name: &str) -> Result<StdSource<Recorded>, FileError> {
+        let Some((_, bytes)) = self.files.iter().find(|(known, _)| *known == name) else {
+            return Err(FileError::CannotOpen);
+        };
+        let bytes = bytes.clone().map_err(|_| FileError::Memory)?;
+        Ok(StdSource::new(Recorded(Cursor::new(bytes))))
+    }
+}
+
+// The words of a command line, the program's name before them.
+#[derive(Drop)]
+struct Words<'a>(&'a [&'a str]);
+
+impl Env for Words<'_> {
+    fn arg(&self, i: usize, buf: &mut [u8]) -> Result<usize, FillError> {
+        let word = self.0.get(i).ok_or(FillError::NotPresent)?;
+        let room = buf.get_mut(..word.len()).ok_or(FillError::TooLong)?;
+        room.copy_from_slice(word.as_bytes());
+        Ok(word.len())
+    }
+
+    fn var(&self, _name: &str, _buf: &mut [u8]) -> Result<usize, FillError> {
+        Err(FillError::NotPresent)
+    }
+
+    fn var_at(&self, _i: usize, _buf: &mut [u8]) -> Result<usize, FillError> {
+        Err(FillError::NotPresent)
+    }
+}
+
+/// Runs the program on these words, whose first is its name, and puts what comes of it into words.
+pub fn shell<R: Threads + Wait + Copy + Send + 'static>(
+    rt: &R,
+    alloc: Global,
+    words: &[&str],
+) -> Result<String, Unmade> {
+    let mut out = StdSink::new(Vec::new(alloc));
+    let mut error = StdSink::new(Vec::new(alloc));
+    let status = shell_into(rt, alloc, words, &mut out, &mut error)?;
+    ended(status, out.into_inner(), &error.into_inner())
+}
+
+/// Runs the program on these words and streams.
+pub fn shell_into<R: Threads + Wait + Copy + Send + 'static, O: Sink, E: Sink>(
+    rt: &R,
+    alloc: Global,
+    words: &[&str],
+    out: &mut O,
+    error: &mut E,
+) -> Result<Status, Unmade> {
+    let files = Shelf::new(alloc)?;
+    Ok(run_in(rt, alloc, &Words(words), &files, out, error))
+}

@@ -1,0 +1,152 @@
+//! The program whole: the words of its command line, and what comes of them.
+
+use crate::shelf::shell;
+use std::process::Abort;
+use std::sync::Wait;
+use std::test::Fail;
+use std::thread::Threads;
+
+// Runs the program on these words, its name before them, and compares what comes of it.
+fn gives<R: Abort + AllocGlobal + Threads + Wait + Copy + Send + 'static>(
+    rt: &R,
+    rows: &[(&[&str], &str)],
+) -> Result<(), Fail> {
+    for (words, expected) in rows {
+        let found = shell(rt, rt.alloc(), words)?;
+        assert_eq!(rt; found.as_str(), *expected);
+    }
+    Ok(())
+}
+
+#[test]
+fn files_in_the_order_of_the_words(rt: HostRuntime) -> Result<(), Fail> {
+    gives(
+        &rt,
+        &[
+            (&["replay", "first"], "0 0 empty\n0 100 committed\ndone: "),
+            (
+                &["replay", "first", "second"],
+                "0 0 empty\n0 100 committed\n1 200 conflict\ndone: ",
+            ),
+            (
+                &["replay", "second", "first"],
+                "0 200 conflict\n1 0 empty\n1 100 committed\ndone: ",
+            ),
+            (
+                &["replay", "third", "first", "second"],
+                "0 300 empty\n1 0 empty\n1 100 committed\n2 200 conflict\ndone: ",
+            ),
+            // without the first file its batch is missed, and so are those that wait for it
+            (
+                &["replay", "second", "third"],
+                "0 200 held\n1 300 held\ndone: ",
+            ),
+        ],
+    )
+}
+
+#[test]
+fn options_away_from_their_defaults(rt: HostRuntime) -> Result<(), Fail> {
+    gives(
+        &rt,
+        &[
+            (
+                &["replay", "conflict"],
+                "0 0 empty\n0 100 committed\n0 101 conflict committed\ndone: ",
+            ),
+            (
+                &["replay", "--window", "1", "conflict"],
+                "0 0 empty\n0 100 committed\n0 101 tooold committed\ndone: ",
+            ),
+            (
+                &["replay", "writes"],
+                "0 0 empty\n0 100 committed\n0 200 committed\ndone: ",
+            ),
+            (
+                &["replay", "writes", "--limit", "3"],
+                "0 0 empty\n0 100 committed\nfailed: replay: stop 3 ArenaFull\n",
+            ),
+            (
+                &["replay", "--frames", "first"],
+                "0 0 0000000b0200000000000000000000\n0 100 0000000e0200000000000000640001020000\ndone: ",
+            ),
+            (
+                &["replay", "--capacity", "1", "first", "second"],
+                "0 0 empty\n0 100 committed\n1 200 conflict\ndone: ",
+            ),
+        ],
+    )
+}
+
+// The first file that can't be opened is told, and nothing is printed.
+#[test]
+fn files_that_cannot_be_opened(rt: HostRuntime) -> Result<(), Fail> {
+    gives(
+        &rt,
+        &[
+            (
+                &["replay", "none"],
+                "failed: replay: proxy 0: cannot open\n",
+            ),
+            (
+                &["replay", "first", "none"],
+                "failed: replay: proxy 1: cannot open\n",
+            ),
+            (
+                &["replay", "none", "first"],
+                "failed: replay: proxy 0: cannot open\n",
+            ),
+            (
+                &["replay", "first", "second", "none", "third", "nothing"],
+                "failed: replay: proxy 2: cannot open\n",
+            ),
+            (
+                &["replay", "cut"],
+                "0 0 empty\nfailed: replay: proxy 0: wire 1 Short\n",
+            ),
+        ],
+    )
+}
+
+// Refused words are told on standard error alone, with status 2.
+#[test]
+fn words_that_are_refused(rt: HostRuntime) -> Result<(), Fail> {
+    let rows: [&[&str]; 5] = [
+        &["replay"],
+        &["replay", "--frames"],
+        &["replay", "--capacity", "0", "first"],
+        &["replay", "--limit", "many", "first"],
+        &["replay", "--none", "first"],
+    ];
+    for words in rows {
+        let found = shell(&rt, rt.alloc(), words)?;
+        assert!(rt; found.as_str().starts_with("usage: error: "), "{found}");
+    }
+    Ok(())
+}
+
+// The words are those behind the program's name, whatever that is.
+#[test]
+fn name_of_the_program(rt: HostRuntime) -> Result<(), Fail> {
+    gives(
+        &rt,
+        &[
+            (&["--help", "first"], "0 0 empty\n0 100 committed\ndone: "),
+            (&["first", "second"], "0 200 held\ndone: "),
+        ],
+    )
+}
+
+// Help and the version go to standard output alone, with status 0.
+#[test]
+fn help_and_version_shown(rt: HostRuntime) -> Result<(), Fail> {
+    gives(&rt, &[(&["replay", "--version"], "replay 0.1.0\ndone: ")])?;
+    let help = shell(&rt, rt.alloc(), &["replay", "first", "--help"])?;
+    assert!(rt;
+        help.as_str()
+            .contains("Usage: replay [OPTIONS] <FILE>...\n"),
+        "{help}"
+    );
+    assert!(rt; help.as_str().ends_with("\ndone: "), "{help}");
+    Ok(())
+}
