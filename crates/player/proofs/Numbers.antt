@@ -1,10 +1,10 @@
 -- What the typed getters read of texts that are within their ranges.
-use Rattle.std.specs.Prelude.{◌≡◌, ◌≢◌, ◌^◌, ℕ, ℤ, ◌<◌, ◌≤◌, ◌≤ℤ◌, pos, Bool, true, false, List, Option, None, Some, IsSome, Result, Ok, Err}
+use Rattle.std.specs.Prelude.{◌≡◌, ℕ, ℤ, ◌≤◌, ◌≤ℤ◌, Bool, true, false, List, Option, None, Some, IsSome, Result, Ok, Err}
 use Rattle.std.specs.Int.{w64}
-use Rattle.std.specs.Str.Parse.{ParsesBool, ParsesSigned, ParsesUnsigned, false_text, true_text}
-use Rattle.std.proofs.Common.{refl, sym, ap, ◌∙◌, subst, arith}
+use Rattle.std.specs.Str.Parse.{ParsesBool, ParsesSigned, ParsesUnsigned}
+use Rattle.std.proofs.Common.{refl, sym, ◌∙◌, subst, arith}
 use Rattle.clap.specs.Values.{IsSignedIn, IsUnsignedIn, bool_text}
-use Rattle.clap.specs.Words.{ReadsOne, Row, one_of, one_text, rows_of}
+use Rattle.clap.specs.Words.{ReadsOne, one_text, rows_of}
 use Rattle.clap.specs.declared.parser.matches.Found.{Found}
 use Rattle.clap.proofs.WalkLemmas.{one_text-rows}
 use Rattle.player.specs.Words.{Has}

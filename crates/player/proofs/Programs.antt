@@ -1,7 +1,7 @@
 -- How the program ends, from what each of its parts says.
-use Rattle.std.specs.Prelude.{◌≡◌, ◌≢◌, ◌⊎◌, ℕ, List, Option, None, Some, map, string_bytes}
+use Rattle.std.specs.Prelude.{◌≡◌, ◌≢◌, ℕ, List, Option, None, Some, string_bytes}
 use Rattle.std.specs.Io.KnownBytes.{Keeps}
-use Rattle.std.proofs.Common.{refl, sym, ap, ◌∙◌, subst, inl, inr}
+use Rattle.std.proofs.Common.{refl, sym, ◌∙◌, subst, inl, inr}
 use Rattle.player.specs.declared.opening.OpeningError.{OpeningError}
 use Rattle.player.specs.declared.opening.OpeningError.TheVariants as opening
 use Rattle.player.specs.declared.options.Options.{Options}
@@ -12,7 +12,7 @@ use Rattle.player.specs.declared.status.Status.{Status}
 use Rattle.player.specs.declared.status.Status.TheVariants.{Done, Failed, Usage}
 use Rattle.player.specs.Opening.{IsFirstRefused, contents_each, opening_line}
 use Rattle.player.specs.Program.{AsksToReplay, FailsOnFiles, IsDone, IsFailed, Told}
-use Rattle.player.specs.Replayed.{FailsToReplay, HasFailed, IsReplayed, Took, Written}
+use Rattle.player.specs.Replayed.{HasFailed, IsReplayed, Took, Written}
 use Rattle.player.specs.Start.{start_line}
 use Rattle.player.specs.Words.{AsksForText, IsMistaken}
 

@@ -1,5 +1,5 @@
 -- Which refusal is made of which words.
-use Rattle.std.specs.Prelude.{◌≡◌, ◌≢◌, ◌⊎◌, ℕ, ◌<◌, true, List, None, Some, codes, length, map}
+use Rattle.std.specs.Prelude.{◌≡◌, ◌⊎◌, ℕ, ◌<◌, true, List, None, Some, codes, length, map}
 use Rattle.std.specs.Borrow.{Bor}
 use Rattle.std.proofs.Common.{refl, sym, ap, ◌∙◌, inl, inr, arith}
 use Rattle.std.proofs.lemmas.List.{length-map}
@@ -9,7 +9,7 @@ use Rattle.clap.specs.declared.error.kind.ErrorKind.TheVariants.{DisplayHelp, Di
 use Rattle.resolver.specs.declared.sequential.TheConstants.{MAX_PROXIES}
 use Rattle.player.specs.declared.refusal.Refusal.{Refusal}
 use Rattle.player.specs.declared.refusal.Refusal.TheVariants.{Memory, Refused, Shown}
-use Rattle.player.specs.Words.{HasFiles, IsMistake, IsRefusalBy, IsRefusalOf, IsRequest, replay_app}
+use Rattle.player.specs.Words.{HasFiles, IsRefusalBy, IsRefusalOf, IsRequest, replay_app}
 use Rattle.player.proofs.Numbers.{Some-injective}
 
 pub replay_app-free : is_simple_and_free replay_app ≡ true

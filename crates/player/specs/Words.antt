@@ -1,5 +1,5 @@
 -- What the words of a command line ask for: the command as `clap` sees it, and what its matches hold.
-use Rattle.std.specs.Prelude.{◌≡◌, ◌≢◌, ◌⊎◌, ℕ, ◌<◌, ◌≤◌, pos, Bool, true, List, [], ◌∷◌, codes, length, Option, None, Some, IfSome, option_map, ⊤}
+use Rattle.std.specs.Prelude.{◌≡◌, ◌≢◌, ◌⊎◌, ℕ, ◌≤◌, pos, Bool, true, List, [], ◌∷◌, codes, length, Some, option_map, ⊤}
 use Rattle.std.specs.Str.Parse.{digits_value, signed_digits_value, without_leading_plus}
 use Rattle.clap.specs.Values.{IsSignedIn, IsUnsignedIn, bool_text}
 use Rattle.clap.specs.Words.{App, IsAmong, Kinds, Row, Rule, all_of, fault_of, matches_of, new_app, new_rule, one_of, with_rule}

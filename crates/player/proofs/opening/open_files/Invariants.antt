@@ -1,4 +1,4 @@
-use Rattle.std.proofs.Common.{◌≡◌, List, ℕ, map, take, Bor}
+use Rattle.std.proofs.Common.{◌≡◌, List, ℕ, map, take}
 use Rattle.std.specs.List.{All}
 use Rattle.player.specs.Opening.{contents_each}
 use Rattle.player.proofs.opening.open_files.Given as goal

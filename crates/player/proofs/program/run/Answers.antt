@@ -1,4 +1,4 @@
-use Rattle.std.proofs.Common.{◌≡◌, ◌∙◌, List, ℕ, Err, ap, map, arith}
+use Rattle.std.proofs.Common.{◌∙◌, List, ℕ, Err, ap, map, arith}
 use Rattle.std.specs.Prelude.{string_bytes}
 use Rattle.std.proofs.lemmas.List.{length-map}
 use Rattle.player.specs.Replayed.{written}

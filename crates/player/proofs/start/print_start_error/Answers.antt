@@ -1,7 +1,6 @@
 use Rattle.std.proofs.Common.{sym, subst}
 use Rattle.std.proofs.lemmas.Result.{on_ok_weaker}
 use Rattle.std.specs.Io.KnownBytes.{Appends}
-use Rattle.wire.proofs.Given.{appends_then}
 use Rattle.player.specs.declared.start.StartError.{StartError}
 use Rattle.player.specs.Start.{start_line}
 use Rattle.player.proofs.start.print_start_error.Goals as goal

@@ -1,4 +1,4 @@
-use Rattle.std.proofs.Common.{◌≡◌, ◌∙◌, List, ℕ, ap, sym, subst, codes, map, option_map, inl, inr, arith, rules}
+use Rattle.std.proofs.Common.{◌∙◌, ap, sym, codes, map, option_map, inl, inr, rules}
 use Rattle.clap.specs.Words.{found_of}
 use Rattle.clap.proofs.WalkLemmas.{raw_values-rows}
 use Rattle.player.proofs.Refusals.{no_files, not_as_many}

@@ -1,4 +1,4 @@
-use Rattle.std.proofs.Common.{rules, ◌≡◌, ◌∙◌, List, ℕ, ap, sym, subst, codes, ℤ, SFits, w64, to_z, of_z}
+use Rattle.std.proofs.Common.{rules, ◌≡◌, ◌∙◌, ap, sym, subst, codes, ℤ, SFits, w64, to_z, of_z}
 use Rattle.std.specs.Prelude.{None, Some, Bool, option_map, pos}
 use Rattle.std.specs.Str.Parse.{
   ExplainsSignedError,

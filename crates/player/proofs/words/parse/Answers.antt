@@ -1,4 +1,4 @@
-use Rattle.std.proofs.Common.{◌≡◌, ◌∙◌, List, ℕ, ap, map, string_bytes, subst, sym}
+use Rattle.std.proofs.Common.{◌∙◌, List, ℕ, ap, map, string_bytes, subst, sym}
 use Rattle.clap.specs.Words.{App, HasKind, fault_of, is_simple, is_simple_and_free, matches_of}
 use Rattle.player.specs.Words.{faults_of, replay_app, rows_of_words}
 use Rattle.player.proofs.Getters.{replay_app-simple}
