@@ -12,6 +12,8 @@ use std::alloc::Global;
 /// The largest capacity of a lane.
 pub const MAX_CAPACITY: usize = 1_024;
 
+const _: () = prove!(MAX_CAPACITY == 1_024);
+
 /// Makes a lane that holds at most `capacity` items, and returns its two ends. Each may go to a thread of its
 /// own.
 pub fn lane<T: Drop>(alloc: Global, capacity: usize) -> Result<(Port<T>, Intake<T>), LaneError>

@@ -18,6 +18,8 @@ use std::sync::Arc;
 /// The most items that a port sends.
 pub const MAX_SENT: u64 = 1 << 62;
 
+const _: () = prove!(MAX_SENT == 4_611_686_018_427_387_904);
+
 /// Why an item was not sent, with the item.
 #[derive(Debug, PartialEq, Eq, Drop)]
 pub enum Refused<T> {
