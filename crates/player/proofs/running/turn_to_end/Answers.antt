@@ -1,4 +1,3 @@
-use Rattle.std.proofs.Common.{◌∙◌}
 use Rattle.player.proofs.SameLanes.{lanes_go_on}
 use Rattle.player.proofs.Stopping.{accounted_turn, books_go_on}
 use Rattle.player.proofs.running.turn_to_end.Goals as goal

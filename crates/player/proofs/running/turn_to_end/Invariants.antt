@@ -1,4 +1,3 @@
-use Rattle.std.proofs.Common.{◌≡◌}
 use Rattle.resolver.specs.Books.{GoOn}
 use Rattle.resolver.specs.Lanes.{Each, LanesGoOn}
 use Rattle.resolver.specs.Resolver.{IsResolving}
