@@ -92,7 +92,7 @@ module _ (options : Options) (files : List (Option (List ℕ))) (received : List
               at_end = all.1;
             };
         chain = run.chain;
-        finish = run.finish whole;
+        finish = run.finish (run.no_stop whole);
         text =
             subst (λ (a : List (List Answer)). Took out (lines options.frames a))
             (same_answers (answers options.window run.log) received 0 (length files) run.received_count
@@ -100,7 +100,7 @@ module _ (options : Options) (files : List (Option (List ℕ))) (received : List
             let bytes = found received files place ls (sym run.received_count) at in
             let failure = found received failures place ls (run.failures_count ∙ sym run.received_count) at in
             let clean = all_at IsClean failures place failure.0 nothing.proxies failure.1 in
-            (run.each place bytes.0 ls failure.0 bytes.1 at failure.1).all_received whole clean.1
+            (run.each place bytes.0 ls failure.0 bytes.1 at failure.1).all_received (run.no_stop whole) clean.1
             ∙ ap (answers options.window run.log) (omega arith)))
             took;
       }

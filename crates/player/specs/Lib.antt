@@ -7,6 +7,7 @@ pub mod Inbox
 pub mod Worker
 pub mod Threads
 pub mod Words
+pub mod Stops
 pub mod Run
 pub mod Replayed
 pub mod Program

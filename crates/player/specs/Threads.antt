@@ -1,6 +1,7 @@
 -- What each worker is given, and what the workers hand back. This project's own.
-use Rattle.std.specs.Prelude.{◌≡◌, ℕ, ◌+◌, Bool, true, List, [], ◌∷◌, map, Option, None}
+use Rattle.std.specs.Prelude.{◌≡◌, ℕ, ◌+◌, Bool, true, false, List, [], ◌∷◌, map, Option, None, Some, slice_get}
 use Rattle.std.specs.List.{All}
+use Rattle.keyspace.specs.declared.batch.Batch.{Batch}
 use Rattle.resolver.specs.declared.client.Client.{Client}
 use Rattle.player.specs.declared.failures.ProxyFailure.{ProxyFailure}
 use Rattle.player.specs.declared.outcome.Outcome.{Outcome}
@@ -53,9 +54,18 @@ module _ {S : Type 0} where
 abbrev pub failure_of : Finished → ProxyFailure
 failure_of finished = record { fault = finished.fault; lost = finished.lost }
 
+-- one of them hands a batch back that could not be sent
+pub record HandsBack (finished : List Finished) : Type 0 where
+  pub place : ℕ
+  pub worker : Finished
+  pub at : slice_get finished place ≡ Some worker
+  pub batch : Batch
+  pub unsent : worker.unsent ≡ Some batch
+
 -- the outcome is of what was handed back, each at its place
 pub record IsOutcomeOf (finished : List Finished) (outcome : Outcome) : Type 0 where
   pub clients : outcome.clients.items ≡ map (λ f. f.client) finished
   pub lines : outcome.lines.items ≡ map (λ f. f.lines) finished
   pub failures : outcome.failures.items ≡ map failure_of finished
   pub all_sent : outcome.all_sent ≡ true → All (λ f. f.unsent ≡ None) finished
+  pub unsent : outcome.all_sent ≡ false → HandsBack finished

@@ -1,8 +1,10 @@
 -- What a worker does. This project's own.
-use Rattle.std.specs.Prelude.{◌≡◌, ◌≢◌, ℕ, Bool, List, [], ◌∷◌, ◌++◌, Option, None, Some, IfSome, option_to_list}
+use Rattle.std.specs.Prelude.{◌≡◌, ◌≢◌, ℕ, ◌≤◌, ◌⊎◌, Bool, true, List, [], ◌∷◌, ◌++◌, length, Option, None, Some, IfSome, option_to_list}
 use Rattle.std.specs.Io.KnownBytes.{IsAtEnd}
 use Rattle.keyspace.specs.declared.batch.Batch.{Batch}
-use Rattle.lane.specs.Lane.{PortGoesOn, IntakeGoesOn}
+use Rattle.keyspace.specs.declared.answer.Answer.{Answer}
+use Rattle.lane.specs.declared.port.TheConstants.{MAX_SENT}
+use Rattle.lane.specs.Lane.{PortView, IntakeView, PortGoesOn, IntakeGoesOn, HasEnded}
 use Rattle.wire.specs.declared.error.WireError.{WireError}
 use Rattle.wire.specs.declared.error.WireError.TheVariants as wire
 use Rattle.wire.specs.NextFrame.{TakesFrame, IsFaultOf}
@@ -46,8 +48,13 @@ pub record SendsFrames (bytes : Option (List ℕ)) (before now : List Batch) (fa
   -- a fault other than these two is that of the bytes left
   pub first_fault : IfSome fault (λ e. e ≢ wire.Memory → e ≢ wire.Read → IfSome left (IsFaultOf e))
 
+-- No more can be sent: the answers have ended, or the lane takes no more.
+abbrev pub CannotSend : PortView Batch → IntakeView Answer → Type 0
+CannotSend requests replies =
+    HasEnded replies ⊎ ((requests.closed ≡ true) ⊎ (MAX_SENT ≤ length requests.sent))
+
 -- What a worker has done that was given this proxy's client, and a reader with these bytes left: what it sent is what it
--- read, and what it took is what its lines tell.
+-- read, what it took is what its lines tell, and it has closed its lane and taken answers to their end.
 pub record HasWorked (frames : Bool) (proxy : ℕ) (bytes : Option (List ℕ)) (given : Client) (finished : Finished) :
     Type 0 where
   pub client : ClientGoesOn given finished.client
@@ -55,3 +62,5 @@ pub record HasWorked (frames : Bool) (proxy : ℕ) (bytes : Option (List ℕ)) (
       SendsFrames bytes given.requests.sent finished.client.requests.sent finished.fault finished.unsent
   pub keeps :
       KeepsLines frames proxy given.replies.taken finished.client.replies.taken finished.lines.items finished.lost
+  pub closed : finished.client.requests.closed ≡ true
+  pub ended : HasEnded finished.client.replies

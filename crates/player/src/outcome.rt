@@ -30,6 +30,7 @@ impl Outcome {
         ensures clients { IfOk result (λ outcome. outcome.clients.items ≡ []) }
         ensures lines { IfOk result (λ outcome. outcome.lines.items ≡ []) }
         ensures failures { IfOk result (λ outcome. outcome.failures.items ≡ []) }
+        ensures all_sent { IfOk result (λ outcome. outcome.all_sent ≡ true) }
     {
         Ok(Outcome {
             clients: Vec::with_capacity(alloc, workers)?,

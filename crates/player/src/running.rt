@@ -1,10 +1,13 @@
 //! A run: the workers read, send and take, while this thread turns the resolver.
 
-ghost use Rattle.std.specs.Prelude.{◌≡◌, ◌≤◌, map, vec_items, vec_len, IfOk};
+ghost use Rattle.std.specs.Prelude.{◌≡◌, ℕ, ◌≤◌, true, map, vec_items, vec_len, Some, slice_get, IfOk};
+ghost use Rattle.std.specs.List.{All};
 ghost use Rattle.resolver.specs.declared.sequential.TheConstants.{MAX_PROXIES};
-ghost use Rattle.resolver.specs.Lanes.{Each, LanesGoOn};
-ghost use Rattle.resolver.specs.Resolver.{IsResolving};
-ghost use Rattle.player.specs.Run.{IsRun, is_complete};
+ghost use Rattle.resolver.specs.Books.{GoOn};
+ghost use Rattle.resolver.specs.Lanes.{Lanes, Each, LanesGoOn};
+ghost use Rattle.resolver.specs.Resolver.{IsResolving, IsThrough};
+ghost use Rattle.player.specs.Run.{HasCapacity, IsRun, is_complete};
+ghost use Rattle.player.specs.Stops.{IsAccountedFor};
 
 use crate::gatekeeper::Gatekeeper;
 use crate::options::Options;
@@ -37,6 +40,7 @@ pub fn run<
     requires most_readers { vec_len readers ≤ MAX_PROXIES }
     ensures run { IfOk result (λ ended. IsRun options (map S.remaining readers.items) (map vec_items ended.0.lines.items)
         ended.0.failures.items (is_complete ended.0 ended.1) ended.1.stop) }
+    ensures capacity { IfOk result (λ ended. All (HasCapacity options.capacity) ended.0.clients.items) }
 {
     let proxies = readers.len();
     let Options {
@@ -56,8 +60,11 @@ pub fn run<
 
 // Turns the resolver until it is done; after a stop, until a turn leaves nothing owed.
 fn turn_to_end<R: Wait>(rt: &R, resolver: &mut Resolver)
+    ensures through { IsThrough resolver.new }
+    ensures closed { (proxy : ℕ) (l : Lanes) → slice_get resolver.new.lanes proxy ≡ Some l → l.replies.closed ≡ true }
+    ensures accounted { IsAccountedFor resolver.old → IsAccountedFor resolver.new }
     ensures resolving { IsResolving resolver.old → IsResolving resolver.new }
-    ensures window { resolver.new.core.books.set.window ≡ resolver.old.core.books.set.window }
+    ensures goes_on { GoOn resolver.old.core.books resolver.new.core.books }
     ensures lanes { Each (λ _ l m. LanesGoOn l m) resolver.old.lanes resolver.new.lanes }
 {
     for _ in rt.forever() {

@@ -1,6 +1,6 @@
 //! The threads: a worker for each file.
 
-ghost use Rattle.std.specs.Prelude.{◌≡◌, ◌≤◌, List, map, vec_len, vec_capacity, [], IfOk};
+ghost use Rattle.std.specs.Prelude.{◌≡◌, ◌≤◌, List, map, vec_len, vec_capacity, [], IfErr, IfOk};
 ghost use Rattle.std.specs.List.{AllZip};
 ghost use Rattle.player.specs.declared.worker.Finished.{Finished as HandedBack};
 ghost use Rattle.player.specs.Worker.{HasWorked};
@@ -125,6 +125,7 @@ fn start<
     R: Threads + Wait + Copy + Send + 'static,
 >(rt: &R, alloc: Global, task: Task<S, G>) -> Result<Started<S>, StartError>
     ensures given { IfOk result (λ worker. given_to worker ≡ given_by task) }
+    ensures thread { IfErr result (λ cause. cause ≡ StartError.Thread) }
 {
     let there = *rt;
     let promise = Work {

@@ -1,11 +1,12 @@
 //! A worker reads the file of one proxy, sends its batches and takes its answers, in a thread of its own.
 
-ghost use Rattle.std.specs.Prelude.{◌≡◌, ◌≤◌, [], ◌∷◌, ◌++◌, true, false, length, None, OnOk, OnErr, IfErr};
+ghost use Rattle.std.specs.Prelude.{◌≡◌, ◌<◌, ◌≤◌, ◌↔◌, [], ◌∷◌, ◌++◌, true, false, length, None, Some, IsSome, Err, OnOk, OnErr, IfErr};
+ghost use Rattle.lane.specs.declared.port.TheConstants.{MAX_SENT};
 ghost use Rattle.lane.specs.Lane.{PortGoesOn, HasEnded};
 ghost use Rattle.lane.specs.Refused.{item_of};
 ghost use Rattle.wire.specs.Frames.{frames_reader, refusal_of};
 ghost use Rattle.player.specs.Inbox.{Keeps, InboxGoesOn};
-ghost use Rattle.player.specs.Worker.{HasWorked, SendsFrames, fault_of, unsent_of};
+ghost use Rattle.player.specs.Worker.{HasWorked, SendsFrames, CannotSend, fault_of, unsent_of};
 
 use crate::gatekeeper::Gatekeeper;
 use crate::inbox::Inbox;
@@ -66,8 +67,6 @@ pub fn work<S: Source + Drop, G: Gatekeeper, R: Wait>(
     gatekeeper: &G,
 ) -> Finished
     ensures worked { HasWorked frames proxy (S.remaining reader) client result }
-    ensures closed { result.client.requests.closed ≡ true }
-    ensures ended { HasEnded result.client.replies }
 {
     let mut worker = Worker::new(alloc, frames, proxy, client);
     let end = worker.send_frames(rt, gatekeeper, &mut read_frames(alloc, reader));
@@ -105,6 +104,9 @@ impl Worker {
         ensures inbox { InboxGoesOn self.old.inbox self.new.inbox }
         ensures sent { SendsFrames (S.remaining (frames_reader frames.old)) self.old.requests.sent
             self.new.requests.sent (fault_of result) (unsent_of result) }
+        ensures read { fault_of result ≡ Some WireError.Read
+            ↔ (S.failures (frames_reader frames.old) < S.failures (frames_reader frames.new)) }
+        ensures unsent { IsSome (unsent_of result) → CannotSend self.new.requests self.new.inbox.replies }
     {
         for _ in rt.forever() {
             match frames.next() {
@@ -133,6 +135,7 @@ impl Worker {
         ensures sent { OnOk result (self.new.requests.sent ≡ self.old.requests.sent ++ batch ∷ []) }
         ensures unchanged { OnErr result (self.new.requests.sent ≡ self.old.requests.sent) }
         ensures handed_back { IfErr result (λ unsent. unsent ≡ batch) }
+        ensures gives_up { OnErr result (CannotSend self.new.requests self.new.inbox.replies) }
     {
         let mut waiting = batch;
         for _ in rt.forever() {
@@ -160,6 +163,8 @@ impl Worker {
         ensures sent { OnOk result (self.new.requests.sent ≡ self.old.requests.sent ++ batch ∷ []) }
         ensures unchanged { OnErr result (self.new.requests.sent ≡ self.old.requests.sent) }
         ensures handed_back { IfErr result (λ refused. item_of refused ≡ batch) }
+        ensures closed { result ≡ Err (Refused.Closed batch) → self.new.requests.closed ≡ true }
+        ensures worn { result ≡ Err (Refused.Worn batch) → MAX_SENT ≤ length self.new.requests.sent }
     {
         if !gatekeeper.may_send(self.proxy, self.place) {
             return Err(Refused::Full(batch));

@@ -125,6 +125,16 @@ module _ (p : Parts) (are : AreParts p) (clients : List Client) (count : length 
     λ proxy l c l_at c_at. complete.taken proxy c c_at ∙ field proxy l l_at (λ k. k.replies.sent) [],
   )
 
+  -- a client that has taken answers to their end has taken all that were sent
+  pub takes_all : LanesHold p.links clients → (proxy : ℕ) (c : Client) → slice_get clients proxy ≡ Some c
+      → HasEnded c.replies → c.replies.taken ≡ sent_to lanes proxy
+  takes_all holds proxy c at ended =
+      let l = link_of proxy c at in
+      let replies = (holds proxy l.0 c l.1 at).1 in
+      begins_whole c.replies.taken l.0.lanes.replies.sent replies.in_order
+      (ended.all ∙ replies.all_seen ended.close)
+      ∙ sym (field proxy l.0 l.1 (λ k. k.replies.sent) [])
+
   module _ (log : List Step) (stands : StandsOver (resolver_of p) log) where
     -- the log finishes
     pub finishes : IsComplete (resolver_of p) clients → FinishesLast log

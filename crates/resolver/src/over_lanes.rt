@@ -5,7 +5,8 @@ ghost use Rattle.keyspace.specs.Run.{Step, Take, Finish, run};
 ghost use Rattle.stepmap.specs.declared.step_map.TheConstants.{MAX_LIMIT};
 ghost use Rattle.conflict.specs.declared.conflict_set.TheConstants.{MAX_WINDOW};
 ghost use Rattle.chain.specs.declared.gate.TheConstants.{MAX_HELD};
-ghost use Rattle.lane.specs.Lane.{PortGoesOn};
+ghost use Rattle.lane.specs.Lane.{PortGoesOn, HasEnded};
+ghost use Rattle.resolver.specs.declared.client.Client.{Client as ClientEnds};
 ghost use Rattle.resolver.specs.Owed.{owed_to, owed_count};
 ghost use Rattle.resolver.specs.Books.{GoOn, StopsAtLimit, made_to};
 ghost use Rattle.resolver.specs.Stands.{Stands};
@@ -153,6 +154,9 @@ impl Resolver {
         ensures stands { (log : List Step) → StandsOver self.old log → StandsOver self.new log }
         ensures resolving { IsResolving self.old → IsResolving self.new }
         ensures complete { (result.complete ≡ true) ↔ IsComplete self.old clients.old }
+        // A client that has taken answers to their end has taken all that were sent.
+        ensures ended { (proxy : ℕ) (client : ClientEnds) → slice_get clients.old proxy ≡ Some client
+            → HasEnded client.replies → client.replies.taken ≡ sent_to self.old.lanes proxy }
         ensures stop { result.stop ≡ self.old.core.stop }
         ensures core { self.new.core ≡ self.old.core }
         ensures next { self.new.next ≡ self.old.next }

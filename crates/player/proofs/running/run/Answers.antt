@@ -1,16 +1,21 @@
-use Rattle.std.proofs.Common.{◌≡◌, List, ap, sym, subst, ◌∙◌, arith, rules, ℤ, length, w64, to_z, of_z}
+use Rattle.std.proofs.Common.{◌≡◌, ℕ, List, ap, sym, subst, ◌∙◌, arith, rules, ℤ, length, w64, to_z, of_z}
 use Rattle.std.proofs.lemmas.Int.{ints, to_z-of_z}
-use Rattle.std.specs.Prelude.{map}
-use Rattle.std.specs.List.{AllZip}
+use Rattle.std.specs.Prelude.{map, true, Option, None, IfSome, slice_get}
+use Rattle.std.specs.List.{All, AllZip}
 use Rattle.std.proofs.lemmas.List.{length-map}
 use Rattle.resolver.specs.declared.client.Client.{Client}
+use Rattle.resolver.specs.declared.stop.Stop.{Stop}
 use Rattle.resolver.specs.Lanes.{Lanes}
-use Rattle.resolver.specs.Resolver.{AreClients}
+use Rattle.resolver.specs.Resolver.{AreClients, SameClients}
 use Rattle.resolver.specs.Settled.{Settled}
+use Rattle.resolver.proofs.Settling.{written_back}
 use Rattle.player.specs.declared.worker.Finished.{Finished}
-use Rattle.player.specs.Threads.{given_to, HasWorkedOn}
+use Rattle.player.specs.Threads.{given_each, given_to, HasWorkedOn}
+use Rattle.player.specs.Run.{HasCapacity}
+use Rattle.player.specs.Stops.{IsStopOf}
 use Rattle.player.proofs.SameLanes.{clients_go_on}
-use Rattle.player.proofs.Working.{clients_back, given_count}
+use Rattle.player.proofs.Stopping.{accounted_new}
+use Rattle.player.proofs.Working.{capacities, capacities_stay, clients_back, clients_ended, given_count}
 use Rattle.player.proofs.Runs.{is_run}
 use Rattle.player.proofs.running.run.Goals as goal
 
@@ -53,17 +58,46 @@ returns g c =
     let worked = c.join_all-outcome.ensures.worked in
     let same : length readers ≡ length clients = omega (arith, c.in_ok-resolver.ensures.proxies, c.len-proxies.ensures) in
     let handed = subst (λ given. AllZip (HasWorkedOn g.S.Source.remaining) given worked.0) c.in_ok-workers.ensures.given worked.1 in
-    let told = c.settle-account.ensures.settled_for_some
-    (c.turn_to_end.ensures.resolving c.in_ok-resolver.ensures.resolving) in
+    let resolver = c.turn_to_end.new.resolver in
+    let told = c.turn_to_end.ensures.accounted
+    (accounted_new c.in_ok-resolver.resolver c.in_ok-resolver.ensures.stands c.in_ok-resolver.ensures.no_stop) in
     let account = c.settle-account.result in
-    let ended = map (λ (l : Lanes). l.ended) c.turn_to_end.new.resolver.lanes in
+    let ended = map (λ (l : Lanes). l.ended) resolver.lanes in
+    let back = map (λ (f : Finished). f.client) worked.0 in
     let kept : to_z w64 (of_z w64 c.args.options.window) ≡ c.args.options.window =
     first_of (search rules, grind (arith, ints, to_z-of_z)) in
-    let windowed = subst (λ (window : ℤ). Settled window told.0 ended c.as_mut_slice.result.now account)
-    (c.turn_to_end.ensures.window ∙ c.in_ok-resolver.ensures.window ∙ kept) told.1 in
-    let settled = subst (λ (back : List Client). Settled c.args.options.window told.0 ended back account)
-    (c.as_mut_slice.ensures.value ∙ worked.2.clients) windowed in
+    let window_is = c.turn_to_end.ensures.goes_on.window ∙ c.in_ok-resolver.ensures.window ∙ kept in
+    let limit_is = c.turn_to_end.ensures.goes_on.limit ∙ c.in_ok-resolver.ensures.limit in
+    let handed_back = c.as_mut_slice.ensures.value ∙ worked.2.clients in
+    let windowed = subst (λ (window : ℤ). Settled window told.log ended c.as_mut_slice.result.now account) window_is
+    (c.settle-account.ensures.settled told.log told.stands) in
+    let settled = subst (λ (back : List Client). Settled c.args.options.window told.log ended back account)
+    handed_back windowed in
+    let outcome = c.join_all-outcome.result in
+    let now = c.settle-account.new.clients in
+    let same_clients = subst (λ (l : List Client). SameClients l now) c.as_mut_slice.ensures.value
+    c.settle-account.ensures.clients in
+    let all_ended = clients_ended g.S.Source.remaining
+    (given_each c.args.options.frames 0 clients readers) worked.0 handed in
+    let whole : account.stop ≡ None → account.complete ≡ true = λ none.
+    c.settle-account.ensures.complete.1 (record {
+      no_stop = sym c.settle-account.ensures.stop ∙ none;
+      closed = c.turn_to_end.ensures.closed;
+      taken = λ proxy client at.
+          c.settle-account.ensures.ended proxy client at
+          (all_ended proxy client (ap (λ (l : List Client). slice_get l proxy) (sym handed_back) ∙ at));
+    }) in
+    let met = subst (λ (limit : ℕ). IfSome account.stop (IsStopOf limit c.args.options.window told.log)) limit_is
+    (subst (λ (window : ℤ). IfSome account.stop (IsStopOf resolver.core.books.set.map.limit window told.log)) window_is
+    (subst (λ (stop : Option Stop). IfSome stop (IsStopOf resolver.core.books.set.map.limit resolver.core.books.set.window told.log))
+    (sym c.settle-account.ensures.stop) told.met)) in
     record {
-      run = is_run g.S.Source.remaining c.args.options readers clients worked.0 c.join_all-outcome.result told.0 ended
-          account same c.in_ok-resolver.ensures.new_clients handed worked.2 settled;
+      run = is_run g.S.Source.remaining c.args.options readers clients worked.0 c.join_all-outcome.result told.log ended
+          account same c.in_ok-resolver.ensures.new_clients handed worked.2 settled whole met;
+      capacity = subst (All (HasCapacity c.args.options.capacity))
+          (sym (written_back outcome.clients.len now outcome.clients.items same_clients.count outcome.clients.ok.0))
+          (capacities_stay c.args.options.capacity outcome.clients.items now same_clients
+          (subst (All (HasCapacity c.args.options.capacity)) (sym worked.2.clients)
+          (capacities c.args.options.capacity clients back c.in_ok-resolver.ensures.new_clients
+          (clients_back g.S.Source.remaining c.args.options.frames 0 clients readers worked.0 same handed))));
     }

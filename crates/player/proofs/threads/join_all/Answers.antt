@@ -28,7 +28,7 @@ loop-worker-preserved g c =
             ∙ ap (λ workers. before.0 ++ map given_to workers) (sym c.in-Some.ensures.steps.0) ∙ before.2,
         AllZip-also (HasWorkedOn g.S.Source.remaining) before.0 before.1 given c.join.result before.3 c.join.ensures,
         outcome_also before.1 c.loop-worker.outcome c.push.new.self c.join.result before.4 c.push.ensures.clients
-            c.push.ensures.lines c.push.ensures.failures c.push.ensures.all_sent,
+            c.push.ensures.lines c.push.ensures.failures c.push.ensures.all_sent c.push.ensures.sends_all,
       );
       room = grind (arith, common_steps);
     }

@@ -31,6 +31,7 @@ loop-preserved g c =
       requests = search rules;
       inbox = search rules;
       fresh = search rules;
+      steady = c.in-Ok-Some.ensures.steady ∙ before.steady;
       sent = (
         batches,
         c.in_default.ensures.sent ∙ ap (λ (l : List Batch). l ++ c.in-Ok-Some.batch ∷ []) before.sent.1

@@ -12,6 +12,7 @@ invariant-loop g l = record {
   requests : PortGoesOn l.fn.self.requests l.self.requests;
   inbox : InboxGoesOn l.fn.self.inbox l.self.inbox;
   fresh : refusal_of l.frames ≡ None;
+  steady : g.S.Source.failures (frames_reader l.frames) ≡ g.S.Source.failures (frames_reader l.fn.frames);
   sent : (batches : List Batch) × (l.self.requests.sent ≡ l.fn.self.requests.sent ++ batches)
       × TakesFrames (g.S.Source.remaining (frames_reader l.fn.frames)) (g.S.Source.remaining (frames_reader l.frames)) batches;
 }

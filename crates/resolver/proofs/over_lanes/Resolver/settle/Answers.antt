@@ -1,15 +1,17 @@
-use Rattle.std.proofs.Common.{◌≡◌, ◌++◌, List, map, true, length, take, drop, ap, sym, subst, subst₂, ◌∙◌}
-use Rattle.std.specs.Prelude.{◌↔◌}
+use Rattle.std.proofs.Common.{◌≡◌, ◌++◌, ℕ, List, map, true, length, take, drop, Some, ap, sym, subst, subst₂, ◌∙◌}
+use Rattle.std.specs.Prelude.{◌↔◌, slice_get}
 use Rattle.std.proofs.lemmas.List.{length-map}
 use Rattle.keyspace.specs.Run.{Step}
+use Rattle.lane.specs.Lane.{HasEnded}
+use Rattle.resolver.specs.declared.client.Client.{Client}
 use Rattle.resolver.specs.Resolver.{ResolverState, StandsOver, AreClients}
-use Rattle.resolver.specs.Lanes.{Each, LanesGoOn, AreSameLists}
+use Rattle.resolver.specs.Lanes.{Each, LanesGoOn, AreSameLists, sent_to}
 use Rattle.resolver.specs.Links.{LinkView, Parts, AreParts, EachSettled, lanes_of, owed_with, resolver_of}
 use Rattle.resolver.specs.Settled.{Settled, IsComplete}
 use Rattle.resolver.proofs.Resolving.{stands_settled}
 use Rattle.resolver.proofs.Settling.{written_back}
 use Rattle.resolver.proofs.Unchanged.{owed_with-settled, lanes_hold, lanes_settled, clients_settled, with_links, AreParts-settled}
-use Rattle.resolver.proofs.Accounts.{EachTaken, settled, complete_from, complete_then}
+use Rattle.resolver.proofs.Accounts.{EachTaken, settled, takes_all, complete_from, complete_then}
 use Rattle.resolver.proofs.over_lanes.Resolver.settle.Goals as goal
 use Rattle.resolver.proofs.over_lanes.Resolver.settle.Goals.{After-new}
 
@@ -85,6 +87,17 @@ pub returns-clause-complete : goal.returns-clause-complete
 returns-clause-complete c =
     subst (λ (r : ResolverState). (c.new.result.complete ≡ true) ↔ IsComplete r c.args.clients.now) c.self.view_is
     (complete_is c)
+
+pub returns-clause-ended : goal.returns-clause-ended
+returns-clause-ended c =
+    let clients = c.args.clients.now in
+    subst
+    (λ (r : ResolverState). (proxy : ℕ) (client : Client) → slice_get clients proxy ≡ Some client
+    → HasEnded client.replies → client.replies.taken ≡ sent_to r.lanes proxy)
+    c.self.view_is
+    (takes_all (parts c) c.self.invariant clients (many c)
+    (lanes_hold (parts c).links (new c) clients c.settle-all_taken.new.clients (each c)
+    (clients_are c).count))
 
 pub returns-clause-core : goal.returns-clause-core
 returns-clause-core c =
