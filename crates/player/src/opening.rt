@@ -23,6 +23,7 @@ pub enum OpeningError {
 impl OpeningError {
     fn new(proxy: usize, error: FileError) -> Self
         ensures place { (at : ℕ) → result ≡ OpeningError.CannotOpen at → (at ≡ proxy) × (error ≡ FileError.CannotOpen) }
+        ensures memory { result ≡ OpeningError.Memory → error ≡ FileError.Memory }
     {
         match error {
             FileError::CannotOpen => OpeningError::CannotOpen(proxy),
