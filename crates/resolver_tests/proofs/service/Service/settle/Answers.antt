@@ -22,7 +22,7 @@ lanes_settle lanes later go_on = record {
 }
 
 pub invariant_of-self : goal.invariant_of-self
-invariant_of-self g c =
+invariant_of-self c =
     let s = c.args.self.now in
     let old = s.clients.items in
     let new = c.settle.new.clients in

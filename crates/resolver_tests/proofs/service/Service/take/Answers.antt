@@ -4,7 +4,7 @@ use Rattle.resolver.proofs.Later.{port_same, clients_set, lanes_same, AreClients
 use Rattle.resolver_tests.proofs.service.Service.take.Goals as goal
 
 pub invariant_of-self : goal.invariant_of-self
-invariant_of-self g c =
+invariant_of-self c =
     let s = c.args.self.now in
     let clients = s.clients.items in
     let client = c.index_mut.result.now in

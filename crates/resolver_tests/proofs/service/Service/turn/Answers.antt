@@ -2,7 +2,7 @@ use Rattle.resolver.proofs.Later.{clients_same, AreClients-later}
 use Rattle.resolver_tests.proofs.service.Service.turn.Goals as goal
 
 pub invariant_of-self : goal.invariant_of-self
-invariant_of-self g c =
+invariant_of-self c =
     let s = c.args.self.now in
     record {
       same_lanes =
