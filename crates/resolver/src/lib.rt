@@ -23,6 +23,7 @@ mod over_lanes;
 mod owed;
 mod sequential;
 mod serving;
+mod sharing;
 mod stop;
 mod turn;
 
@@ -31,5 +32,6 @@ pub use opening::open;
 pub use over_lanes::Resolver;
 pub use sequential::{Core, MAX_PROXIES};
 pub use serving::{Served, serve_two};
+pub use sharing::share;
 pub use stop::{OpenError, Stop};
 pub use turn::{Account, Turn};
