@@ -1,4 +1,4 @@
-//! Laws about the definitions of the headline. Each is the contract of a function with an empty body.
+//! Laws about the definitions of the headline and of shares. Each is the contract of a function with an empty body.
 
 ghost use Rattle.std.specs.Prelude.{◌≡◌, ◌≤◌, ◌↔◌, ℕ, ℤ, Bool, List, [], Some, length, slice_get};
 ghost use Rattle.keyspace.specs.declared.batch.Batch.{Batch};
@@ -26,7 +26,7 @@ pub fn no_other_proxy()
         → AreServed window log first second served → (proxy : ℕ) → 2 ≤ proxy → part log proxy ≡ [] }
 {}
 
-/// A client that keeps its share is never the one of which a full gate says that it has more unanswered.
+/// A client that keeps its share is never one that a full gate shows to have more unanswered.
 pub fn within_share()
     ensures within { (share proxy : ℕ) (r : ResolverState) (c : Client) (l : Lanes) → slice_get r.lanes proxy ≡ Some l
         → Lane c.requests l.requests → Lane l.replies c.replies → KeepsShare share c → ¬ HasMoreUnanswered share proxy r }

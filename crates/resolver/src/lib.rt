@@ -10,7 +10,11 @@
 //! [`serve_two`] shows them used: it serves two proxies in one thread, and its contract says in the reference resolver's words
 //! what they received. The definition is `AreServed`, in `specs/Served.antt`.
 //!
-//! The law of [`laws`] says that in none of these is there a batch of a proxy without a client.
+//! [`share`] is the share of each proxy in what the resolver holds. While no client has more batches sent without an answer, no turn
+//! answers `GateFull`. The definitions are in `specs/Share.antt`.
+//!
+//! The laws of [`laws`] say that in none of these is there a batch of a proxy without a client, and that a client which keeps its share
+//! isn't one that has more unanswered.
 #![tactic(auto)]
 
 mod books;
