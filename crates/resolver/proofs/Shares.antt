@@ -46,7 +46,7 @@ use Rattle.keyspace.proofs.Waiting.{run_quiet, next_due_leaves}
 use Rattle.lane.specs.Lane.{Lane}
 use Rattle.resolver.specs.declared.client.Client.{Client}
 use Rattle.resolver.specs.Owed.{owed_to}
-use Rattle.resolver.specs.Books.{Books, GoOn, made_to}
+use Rattle.resolver.specs.Books.{made_to}
 use Rattle.resolver.specs.Lanes.{Lanes, taken_from, sent_to}
 use Rattle.resolver.specs.Resolver.{ResolverState, StandsOver, IsResolving, TakesFrom}
 use Rattle.resolver.specs.Share.{share_of, HasMoreUnanswered, KeepsShare}
@@ -70,7 +70,7 @@ held_own q h hs own =
     held_first q h hs ∙ ap (λ is. cond is 1 0 + length (held_of q hs)) (eq-eqb h.0 q own)
 
 -- how many of those held are of the proxies below this number
-held_below : ℕ → List Held → ℕ
+abbrev held_below : ℕ → List Held → ℕ
 held_below zero hs = 0
 held_below (suc n) hs = held_below n hs + length (held_of n hs)
 
@@ -125,7 +125,7 @@ held_ahead : (window : ℤ) (log : List Step) (proxy : ℕ) (b : Batch)
 held_ahead window log proxy b ahead =
     let s = run window log in
     let version = version_of s.processed in
-    let is_ahead : int_lt version b.previous ≡ true = omega (arith, ints, ahead) in
+    let is_ahead : int_lt version b.previous ≡ true = grind (arith, ints, ahead) in
     let admitted : admit window proxy b s ≡ hold proxy b s = rw is_ahead refl in
     let wait = All-append (λ h. version <ℤ h.1.previous) s.held ((proxy, b) ∷ []) (run_quiet window log)
     (All-cons (λ h. version <ℤ h.1.previous) (proxy, b) [] ahead (All-nil (λ h. version <ℤ h.1.previous))) in
@@ -163,21 +163,22 @@ module _ (r : ResolverState) (log : List Step) (stands : StandsOver r log)
       let one = some_has_more n (share_of n) held (omega (arith, full, within, all)) in
       (one.0, one.1, omega (arith, unanswered one.0 one.1, one.2))
 
--- a turn that finds the gate full leaves one batch more held than the gate holds, by the log
-pub beyond_share : (old new : ResolverState) → GoOn old.core.books new.core.books
+-- where a batch is taken that is ahead of the version, and the gate is full, one more is held by the log than the gate holds
+pub beyond_share : (old new : ResolverState) → new.core.books.set.window ≡ old.core.books.set.window
     → length new.core.books.owed ≡ length new.lanes → old.core.stop ≡ None → IsResolving old
     → (proxy : ℕ) (took : TakesFrom proxy old new) → old.core.books.version <ℤ took.batch.previous
     → length old.core.books.held ≡ MAX_HELD
     → (q : ℕ) × (q < length new.lanes) × HasMoreUnanswered (share_of (length new.lanes)) q new
-beyond_share old new goes count running before proxy took ahead full =
+beyond_share old new same count running before proxy took ahead full =
     let window = old.core.books.set.window in
     let log = before.log ++ Take proxy took.batch ∷ [] in
     let are = AreOf-standing old.core.stop before.log (sent_to old.lanes) old.core.books running before.stands.core in
-    let held = held_ahead window before.log proxy took.batch (subst (λ version. version <ℤ took.batch.previous) are.version ahead) in
-    let now = ap (λ (w : ℤ). length (run w log).held) goes.window ∙ ap length held
-    ∙ length-append (run window before.log).held ((proxy, took.batch) ∷ []) in
+    let is_ahead = subst (λ (version : ℤ). version <ℤ took.batch.previous) are.version ahead in
+    let held = ap length (held_ahead window before.log proxy took.batch is_ahead) in
+    let more = length-append (run window before.log).held ((proxy, took.batch) ∷ []) in
+    let now = ap (λ (w : ℤ). length (run w log).held) same in
     let many = ap length (sym are.held) ∙ full in
-    beyond new log (took.adds before.log before.stands) count (omega (arith, now, many))
+    beyond new log (took.adds before.log before.stands) count (omega (arith, held, more, now, many))
 
 -- a client that keeps its share has no more unanswered
 pub within_share : (share proxy : ℕ) (r : ResolverState) (c : Client) (l : Lanes) → slice_get r.lanes proxy ≡ Some l

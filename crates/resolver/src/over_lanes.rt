@@ -260,6 +260,7 @@ impl Resolver {
             → (l.replies.closed ≡ true) ↔ IsThrough self.new }
         ensures core { self.new.core ≡ self.old.core }
         ensures lanes { Each (λ _ l m. m ≡ record l { replies = record l.replies { closed = m.replies.closed } }) self.old.lanes self.new.lanes }
+        ensures count { length self.new.core.books.owed ≡ length self.new.lanes }
         ensures next { self.new.next ≡ self.old.next }
     {
         if !self.closed && self.is_through() {
