@@ -1,9 +1,9 @@
 ghost use Rattle.std.specs.Prelude.{◌≡◌, ◌≤◌, ◌≤ℤ◌, pos, length};
 ghost use Rattle.keyspace.specs.declared.txn.TheConstants.{MAX_RANGES};
 
-use crate::range::Range;
 use crate::ranges::Ranges;
 use crate::sequence::Sequence;
+use keys::Range;
 
 /// The greatest number of read ranges of a transaction, and of write ranges: this project's own limit.
 pub const MAX_RANGES: usize = 1_024;
