@@ -1,5 +1,6 @@
-//! Tests of the data and of its wire form, by the public calls of `keys`, `keyspace` and `wire` alone: worked frames and the fault
-//! that each other one is refused for, readers and writers that give out anywhere, keys, ranges, and the ranks of ends.
+//! Tests of the data and of its wire form, by the public calls of `keys`, `keyspace` and `wire` alone: worked frames and
+//! the fault that each other one is refused for, readers and writers that give out anywhere, keys, ranges, and the ranks
+//! of ends.
 #![tactic(auto)]
 
 #[cfg(test)]
