@@ -1,4 +1,4 @@
-ghost use Rattle.std.specs.Prelude.{◌≡◌, ◌≤◌, ◌==◌, IfOk, length, take, vec_len};
+ghost use Rattle.std.specs.Prelude.{◌≡◌, ◌≤◌, ◌<◌, ◌==◌, ◌↔◌, IfOk, IsErrOf, IsOkUnless, length, take, vec_len};
 ghost use Rattle.std.proofs.Common.{rules};
 ghost use Rattle.std.specs.Cmp.{partial_order_from_own_ties};
 ghost use Rattle.std.specs.Cmp.Rules.{comparing};
@@ -9,6 +9,7 @@ ghost use lib.Pointwise.{pointwise};
 ghost use Rattle.keys.specs.Key.{IsKey};
 
 use crate::bytes::Bytes;
+use crate::error::KeyError;
 use std::alloc::{AllocError, Global};
 use std::cmp::Ordering;
 use std::marker::Model;
@@ -46,6 +47,18 @@ impl Key {
         Key {
             bytes: Bytes::new(bytes),
         }
+    }
+
+    /// Creates a key of these bytes, or returns [`KeyError::KeyLength`] if they are more than [`MAX_KEY_LENGTH`].
+    pub fn checked(bytes: Vec<u8>) -> Result<Self, KeyError>
+        ensures bytes { IfOk result (λ key. key ≡ bytes.items) }
+        ensures key_length { IsErrOf result KeyError.KeyLength ↔ (MAX_KEY_LENGTH < vec_len bytes) }
+        ensures err { IsOkUnless result KeyError.KeyLength }
+    {
+        if bytes.len() > MAX_KEY_LENGTH {
+            return Err(KeyError::KeyLength);
+        }
+        Ok(Key::new(bytes))
     }
 
     /// Creates a key of a copy of these bytes, or returns an error if memory is refused.

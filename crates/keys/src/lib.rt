@@ -11,12 +11,14 @@
 #![tactic(auto)]
 
 mod bytes;
+mod error;
 mod key;
 pub mod laws;
 mod prefix;
 mod range;
 mod range_ref;
 
+pub use error::KeyError;
 pub use key::{Key, MAX_KEY_LENGTH};
 pub use prefix::{common, digest};
 pub use range::Range;

@@ -1,6 +1,7 @@
-ghost use Rattle.std.specs.Prelude.{◌≡◌, ◌↔◌, IfOk, IsTrue};
-ghost use Rattle.keys.specs.Key.{IsKey, IsAtMost};
+ghost use Rattle.std.specs.Prelude.{◌≡◌, ◌↔◌, IfOk, IsErrOf, IsOkUnless, IsTrue};
+ghost use Rattle.keys.specs.Key.{IsKey, IsAtMost, IsBefore};
 
+use crate::error::KeyError;
 use crate::key::Key;
 use crate::range_ref::RangeRef;
 use std::alloc::{AllocError, Global};
@@ -27,6 +28,19 @@ impl Range {
         let _ = begin.as_bytes();
         let _ = end.as_bytes();
         Range { begin, end }
+    }
+
+    /// Creates the half-open range `[begin, end)`, or returns [`KeyError::Inverted`] if `begin` is after `end`.
+    pub fn checked(begin: Key, end: Key) -> Result<Self, KeyError>
+        ensures begin { IfOk result (λ range. range.begin ≡ begin) }
+        ensures end { IfOk result (λ range. range.end ≡ end) }
+        ensures inverted { IsErrOf result KeyError.Inverted ↔ IsBefore end begin }
+        ensures err { IsOkUnless result KeyError.Inverted }
+    {
+        if end < begin {
+            return Err(KeyError::Inverted);
+        }
+        Ok(Range::new(begin, end))
     }
 
     /// Borrows the range, without copying its keys.
