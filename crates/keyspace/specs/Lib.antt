@@ -16,3 +16,4 @@ pub mod Ends
 pub mod Gathering
 pub mod Sorting
 pub mod Ranks
+pub mod Versions

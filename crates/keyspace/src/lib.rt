@@ -11,6 +11,7 @@
 mod answer;
 mod batch;
 mod ends;
+mod error;
 pub mod laws;
 mod ranges;
 mod reply;
@@ -21,7 +22,8 @@ mod txns;
 pub use answer::Answer;
 pub use batch::{Batch, MAX_TXNS};
 pub use ends::{End, Kind, Side};
-pub use keys::{Key, MAX_KEY_LENGTH, Range, RangeRef, common, digest};
+pub use error::LimitError;
+pub use keys::{Key, KeyError, MAX_KEY_LENGTH, Range, RangeRef, common, digest};
 pub use ranges::Ranges;
 pub use reply::{Entry, Places, Reply, Verdict};
 pub use sequence::Sequence;
