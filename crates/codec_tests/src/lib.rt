@@ -1,5 +1,6 @@
-//! Tests of the data and of its wire form, by the public calls of `keyspace` and `wire` alone: worked frames and the fault
-//! that each other one is refused for, readers and writers that give out anywhere, keys, ranges, and the ranks of ends.
+//! Tests of the data and of its wire form, by the public calls of `keys`, `keyspace` and `wire` alone: worked frames and
+//! the fault that each other one is refused for, readers and writers that give out anywhere, keys, ranges, their limits, and
+//! the ranks of ends.
 #![tactic(auto)]
 
 #[cfg(test)]
@@ -7,7 +8,9 @@ mod batches;
 #[cfg(test)]
 mod frames;
 #[cfg(test)]
-mod keys;
+mod keys_and_ranges;
+#[cfg(test)]
+mod limits;
 #[cfg(test)]
 mod long_batches;
 #[cfg(test)]

@@ -40,11 +40,11 @@ use Rattle.std.proofs.Math.Seq.{get_or-append_seam}
 use Rattle.std.proofs.lemmas.List.{length-append, get_or_append_left}
 use Rattle.std.proofs.lemmas.List.Elements.{All-push}
 use Rattle.std.proofs.lemmas.List.Folds.{list_any-append}
-use Rattle.keyspace.specs.declared.range.Range.{Range}
+use Rattle.keys.specs.declared.range.Range.{Range}
 use Rattle.keyspace.specs.declared.txn.Txn.{Txn}
 use Rattle.keyspace.specs.Writes.{Write}
 use Rattle.keyspace.specs.Judge.{is_hit, places_from}
-use Rattle.keyspace.proofs.Booleans.{false_unless}
+use Rattle.keys.proofs.Booleans.{false_unless}
 use Rattle.keyspace.proofs.Scans.{range_hit_from_test, test_from_range_hit}
 use Rattle.stepmap.specs.StepMap.{Steps}
 use Rattle.stepmap.specs.Covers.{MapCovers, IsAbove}

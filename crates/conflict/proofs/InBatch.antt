@@ -26,7 +26,7 @@ use Rattle.std.specs.Prelude.{ℤ, ◌≤ℤ◌, int_lt, nat_lt}
 use Rattle.std.proofs.lemmas.Int.{ints}
 use Rattle.keyspace.proofs.Judging.{entry_same}
 use Rattle.std.specs.List.{list_any}
-use Rattle.keyspace.specs.declared.range.Range.{Range}
+use Rattle.keys.specs.declared.range.Range.{Range}
 use Rattle.keyspace.specs.declared.txn.Txn.{Txn}
 use Rattle.keyspace.specs.declared.reply.Entry.{Entry}
 use Rattle.keyspace.specs.declared.reply.Verdict.TheVariants.{Conflict, TooOld, Committed}

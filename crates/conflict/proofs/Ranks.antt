@@ -3,13 +3,13 @@ use Rattle.std.proofs.Common.{◌≡◌, ℕ, zero, suc, ◌<◌, ◌≤◌, Boo
 use Rattle.std.specs.Prelude.{IsTrue, All, Any, Contains}
 use Rattle.std.proofs.lemmas.Bool.{cases_lt}
 use Rattle.std.proofs.lemmas.List.Sums.{sum_by-le-sum_by, count_by-le-length}
-use Rattle.keyspace.specs.Key.{is_before, IsBefore, IsAtMost}
-use Rattle.keyspace.specs.Range.{Meets, ranges_meet}
+use Rattle.keys.specs.Key.{is_before, IsBefore, IsAtMost}
+use Rattle.keys.specs.Range.{Meets, ranges_meet}
 use Rattle.keyspace.specs.Judge.{meets_earlier}
-use Rattle.keyspace.specs.declared.range.Range.{Range}
-use Rattle.keyspace.proofs.KeyOrder.{before_or_at_most, before_at_most, before_at_most_same, not_before_itself}
+use Rattle.keys.specs.declared.range.Range.{Range}
+use Rattle.keys.proofs.KeyOrder.{before_or_at_most, before_at_most, before_at_most_same, not_before_itself}
 use Rattle.keyspace.proofs.Ranking.{one_if, rank_cons, before_unless_empty}
-use Rattle.keyspace.proofs.Meeting.{meets_by_ends, meets_from_test, test_from_meets}
+use Rattle.keys.proofs.Meeting.{meets_by_ends, meets_from_test, test_from_meets}
 use Rattle.keyspace.proofs.Scans.{any_from_test, test_from_any}
 use Rattle.keyspace.specs.Ranks.{rank, run}
 use Rattle.conflict.specs.Ranks.{HasGap, HaveCommonGap, HaveBegin, RunsTellMeeting, RunsTellOverlap, RunsAreWithin}

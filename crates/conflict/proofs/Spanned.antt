@@ -3,8 +3,8 @@ use Rattle.std.proofs.Common.{◌≡◌, ℕ, zero, suc, ◌+◌, ◌<◌, List,
 use Rattle.std.specs.Prelude.{Option, Some, slice_get, ℤ}
 use Rattle.std.proofs.lemmas.List.{map-append}
 use Rattle.std.proofs.lemmas.Option.{slice_get-get_or}
-use Rattle.keyspace.specs.Range.{IsEmpty}
-use Rattle.keyspace.specs.declared.range.Range.{Range}
+use Rattle.keys.specs.Range.{IsEmpty}
+use Rattle.keys.specs.declared.range.Range.{Range}
 use Rattle.stepmap.specs.StepMap.{Steps, lengths}
 use Rattle.stepmap.specs.Boundary.{below, from_on, value_at}
 use Rattle.stepmap.specs.Writing.{closed_at, after_write}

@@ -1,7 +1,7 @@
 -- After a batch was written and the sweep went on, there are few boundaries, or fewer than before.
 use Rattle.std.proofs.Common.{◌≡◌, ℕ, ◌+◌, ◌*◌, ◌≤◌, List, length, refl, sym, subst, ◌∙◌, arith, ◌⊎◌, inl, inr}
 use Rattle.std.specs.Prelude.{ℤ, Option, Some, None, IsSomeAnd, Result, Ok, Err, OnErr}
-use Rattle.keyspace.specs.declared.range.Range.{Range}
+use Rattle.keys.specs.declared.range.Range.{Range}
 use Rattle.keyspace.specs.Writes.{Write}
 use Rattle.stepmap.specs.StepMap.{Round, Steps}
 use Rattle.stepmap.specs.Sweeping.{rest, round_edge}

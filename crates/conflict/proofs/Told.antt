@@ -28,8 +28,8 @@ use Rattle.std.proofs.Common.{
 use Rattle.std.proofs.lemmas.List.{length-map, map-append, get_or-map}
 use Rattle.std.proofs.lemmas.List.Elements.{All-map}
 use Rattle.std.proofs.Math.Seq.{take-append_seam, drop-append_seam}
-use Rattle.keyspace.specs.declared.range.Range.{Range}
-use Rattle.keyspace.specs.Range.{is_filled}
+use Rattle.keys.specs.declared.range.Range.{Range}
+use Rattle.keys.specs.Range.{is_filled}
 use Rattle.keyspace.specs.Ranks.{run, run_or_none, runs_of}
 use Rattle.conflict.specs.Ranks.{HasGap}
 use Rattle.keyspace.specs.Ends.{HaveEnds}

@@ -33,11 +33,11 @@ use Rattle.std.proofs.lemmas.Map.Made.{
   is_member-Decides,
   length-le_from_is_member,
 }
-use Rattle.keyspace.specs.Range.{IsEmpty}
-use Rattle.keyspace.specs.declared.range.Range.{Range}
-use Rattle.keyspace.specs.Range.{is_filled}
+use Rattle.keys.specs.Range.{IsEmpty}
+use Rattle.keys.specs.declared.range.Range.{Range}
+use Rattle.keys.specs.Range.{is_filled}
 use Rattle.stepmap.specs.Counting.{filled_count}
-use Rattle.keyspace.proofs.SomeElement.{Any-cases, Any-first, Any-later, Any-map, Any-weaker}
+use Rattle.keys.proofs.SomeElement.{Any-cases, Any-first, Any-later, Any-map, Any-weaker}
 use Rattle.conflict.specs.Gaps.{IsMarked}
 use Rattle.conflict.specs.Ranks.{HasGap}
 use Rattle.keyspace.specs.Ranks.{rank, run}

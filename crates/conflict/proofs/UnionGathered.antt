@@ -4,7 +4,7 @@ use Rattle.std.specs.Prelude.{All, AllPairs, Any}
 use Rattle.std.proofs.lemmas.Bool.{cases_eq, cases_lt}
 use Rattle.std.proofs.lemmas.List.Elements.{All-push, All-weaker}
 use Rattle.std.proofs.lemmas.List.Quantifiers.{all_pairs_push, Any-push}
-use Rattle.keyspace.proofs.SomeElement.{Any-longer, Any-push_cases}
+use Rattle.keys.proofs.SomeElement.{Any-longer, Any-push_cases}
 use Rattle.conflict.specs.Gaps.{IsMarked, IsNextRun}
 use Rattle.conflict.specs.Ranks.{HasGap}
 

@@ -32,11 +32,11 @@ use Rattle.std.proofs.lemmas.Bool.{cases_lt}
 use Rattle.std.proofs.lemmas.List.{get_or-drop, get_or-take, length-drop, length-take}
 use Rattle.std.proofs.lemmas.List.Elements.{All-cons, All-head, All-nil, All-tail, All-weaker}
 use Rattle.std.proofs.lemmas.Option.{get_or_from_slice_get, same_Some, slice_get-get_or, slice_get_within}
-use Rattle.keyspace.specs.Key.{is_before, IsBefore, IsAtMost}
-use Rattle.keyspace.specs.Range.{Holds, IsEmpty}
-use Rattle.keyspace.specs.declared.range.Range.{Range}
-use Rattle.keyspace.proofs.Booleans.{false_unless}
-use Rattle.keyspace.proofs.KeyOrder.{
+use Rattle.keys.specs.Key.{is_before, IsBefore, IsAtMost}
+use Rattle.keys.specs.Range.{Holds, IsEmpty}
+use Rattle.keys.specs.declared.range.Range.{Range}
+use Rattle.keys.proofs.Booleans.{false_unless}
+use Rattle.keys.proofs.KeyOrder.{
   before_at_most_same,
   before_or_at_most,
   before_trans,

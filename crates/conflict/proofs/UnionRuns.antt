@@ -22,10 +22,10 @@ use Rattle.std.specs.Prelude.{All, Any, Contains}
 use Rattle.std.proofs.lemmas.Bool.{cases_eq, cases_lt}
 use Rattle.std.proofs.lemmas.List.{get_or_default}
 use Rattle.std.proofs.lemmas.List.Elements.{All-contains}
-use Rattle.keyspace.specs.Key.{IsBefore}
-use Rattle.keyspace.specs.Range.{IsEmpty}
-use Rattle.keyspace.specs.declared.range.Range.{Range}
-use Rattle.keyspace.proofs.KeyOrder.{before_at_most_same}
+use Rattle.keys.specs.Key.{IsBefore}
+use Rattle.keys.specs.Range.{IsEmpty}
+use Rattle.keys.specs.declared.range.Range.{Range}
+use Rattle.keys.proofs.KeyOrder.{before_at_most_same}
 use Rattle.keyspace.specs.Ends.{IsEndIn}
 use Rattle.conflict.specs.Gaps.{IsMarked}
 use Rattle.keyspace.specs.Ends.{HaveEnds}

@@ -31,12 +31,12 @@ use Rattle.std.proofs.lemmas.List.Elements.{
   All-weaker,
 }
 use Rattle.std.proofs.lemmas.Option.{same_Some}
-use Rattle.keyspace.specs.Range.{Holds}
-use Rattle.keyspace.specs.declared.range.Range.{Range}
+use Rattle.keys.specs.Range.{Holds}
+use Rattle.keys.specs.declared.range.Range.{Range}
 use Rattle.keyspace.specs.Ends.{IsEndIn}
 use Rattle.stepmap.specs.Uniting.{Unites}
 use Rattle.stepmap.specs.Writing.{AreApart}
-use Rattle.keyspace.proofs.SomeElement.{Any-map, Any-unmap}
+use Rattle.keys.proofs.SomeElement.{Any-map, Any-unmap}
 use Rattle.conflict.specs.Gaps.{IsMarked}
 use Rattle.keyspace.specs.Ends.{HaveEnds}
 use Rattle.keyspace.specs.Ranks.{AreRising, run}

@@ -4,9 +4,9 @@ use Rattle.std.proofs.lemmas.Bool.{cases_lt}
 use Rattle.std.specs.Prelude.{Option, Some, slice_get, ℤ, ◌≤ℤ◌}
 use Rattle.std.proofs.lemmas.Option.{slice_get-get_or, slice_get_within}
 use Rattle.std.specs.Prelude.{Result, Err, IsErrAnd}
-use Rattle.keyspace.specs.Key.{IsBefore}
+use Rattle.keys.specs.Key.{IsBefore}
 use Rattle.keyspace.specs.Writes.{Write, at_version}
-use Rattle.keyspace.specs.declared.range.Range.{Range}
+use Rattle.keys.specs.declared.range.Range.{Range}
 use Rattle.stepmap.specs.StepMap.{Steps}
 use Rattle.stepmap.specs.Writing.{AreApart}
 use Rattle.stepmap.specs.Uniting.{Unites}

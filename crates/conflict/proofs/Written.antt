@@ -28,9 +28,9 @@ use Rattle.std.proofs.lemmas.Bool.Decides.{same_from_decides}
 use Rattle.std.proofs.lemmas.List.{take_more}
 use Rattle.std.proofs.lemmas.List.Elements.{All-weaker}
 use Rattle.std.proofs.lemmas.List.Quantifiers.{Any-push}
-use Rattle.keyspace.specs.declared.range.Range.{Range}
+use Rattle.keys.specs.declared.range.Range.{Range}
 use Rattle.keyspace.specs.Judge.{meets_earlier}
-use Rattle.keyspace.proofs.SomeElement.{Any-longer, Any-push_cases}
+use Rattle.keys.proofs.SomeElement.{Any-longer, Any-push_cases}
 use Rattle.keyspace.specs.Ranks.{run, run_or_none}
 use Rattle.conflict.specs.Ranks.{HasGap, HaveBegin, RunsTellOverlap}
 use Rattle.keyspace.specs.Ends.{HaveEnds}

@@ -1,7 +1,7 @@
 -- What is asked of the history for a batch, and what the answers say. This project's own.
 use Rattle.std.specs.Prelude.{◌≡◌, ◌↔◌, ℕ, ◌+◌, ℤ, Bool, false, not, ◌&&◌, ◌||◌, if◌then◌else◌, IsTrue, List, [], ◌∷◌, ◌++◌, length, map, flat_map, take, drop}
 use Rattle.std.specs.List.{AllZip, list_any}
-use Rattle.keyspace.specs.declared.range.Range.{Range}
+use Rattle.keys.specs.declared.range.Range.{Range}
 use Rattle.keyspace.specs.declared.txn.Txn.{Txn}
 use Rattle.keyspace.specs.Writes.{Write}
 use Rattle.keyspace.specs.Judge.{is_hit, is_too_old}

@@ -19,7 +19,7 @@ use Rattle.std.specs.Prelude.{
   IsSomeAnd,
 }
 use Rattle.std.specs.Int.{int_max}
-use Rattle.keyspace.specs.declared.range.Range.{Range}
+use Rattle.keys.specs.declared.range.Range.{Range}
 use Rattle.keyspace.specs.Writes.{Write}
 use Rattle.keyspace.specs.Judged.{edge}
 use Rattle.stepmap.specs.Boundary.{AreUpTo}

@@ -1,6 +1,6 @@
 -- What is kept of a batch from its judging to its writing. This project's own.
 use Rattle.std.specs.Prelude.{ℕ, Bool, List, All}
-use Rattle.keyspace.specs.declared.range.Range.{Range}
+use Rattle.keys.specs.declared.range.Range.{Range}
 use Rattle.keyspace.specs.Ranks.{AreRising}
 use Rattle.keyspace.specs.Ends.{HaveEnds}
 use Rattle.conflict.specs.Written.{AreWrittenGaps}

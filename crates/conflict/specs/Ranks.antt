@@ -1,9 +1,9 @@
 -- The gaps that runs have. This project's own.
 use Rattle.std.specs.Prelude.{ℕ, ◌<◌, ◌≤◌, ◌↔◌, List, length, All, Any, Contains, IsTrue}
-use Rattle.keyspace.specs.Range.{IsEmpty, Meets}
+use Rattle.keys.specs.Range.{IsEmpty, Meets}
 use Rattle.keyspace.specs.Ranks.{run}
 use Rattle.keyspace.specs.Judge.{meets_earlier}
-use Rattle.keyspace.specs.declared.range.Range.{Range}
+use Rattle.keys.specs.declared.range.Range.{Range}
 
 -- the run holds the gap
 abbrev pub HasGap : ℕ × ℕ → ℕ → Type 0

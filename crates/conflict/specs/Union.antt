@@ -13,7 +13,7 @@ use Rattle.std.specs.Prelude.{
   Some,
   slice_get,
 }
-use Rattle.keyspace.specs.declared.range.Range.{Range}
+use Rattle.keys.specs.declared.range.Range.{Range}
 use Rattle.stepmap.specs.Uniting.{Unites}
 use Rattle.conflict.specs.Gaps.{IsMarked}
 use Rattle.keyspace.specs.Ends.{HaveEnds}

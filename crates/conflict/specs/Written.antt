@@ -1,6 +1,6 @@
 -- The gaps that written ranges cover. This project's own.
 use Rattle.std.specs.Prelude.{◌≡◌, ℕ, ◌≤◌, ◌↔◌, Bool, List, All, Any}
-use Rattle.keyspace.specs.declared.range.Range.{Range}
+use Rattle.keys.specs.declared.range.Range.{Range}
 use Rattle.keyspace.specs.Ranks.{run, runs_of}
 use Rattle.conflict.specs.Ranks.{HasGap}
 use Rattle.keyspace.specs.Ends.{HaveEnds}

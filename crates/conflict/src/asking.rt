@@ -5,7 +5,8 @@ ghost use Rattle.std.specs.Prelude.{◌≡◌, ◌++◌, length, map, flat_map, 
 ghost use Rattle.conflict.specs.Asking.{question, asked_at, is_settled, first_asked, then_asked, all_first, all_then};
 
 use crate::history::is_old;
-use keyspace::{Batch, Range, Txn};
+use keys::Range;
+use keyspace::{Batch, Txn};
 use std::alloc::{AllocError, Global};
 use stepmap::Asked;
 

@@ -2,7 +2,7 @@
 
 ghost use Rattle.std.specs.Prelude.{◌≡◌, ◌<◌, ◌≤◌, ◌∷◌, ◌++◌, ℕ, List, [], length, position, if◌then◌else◌};
 ghost use Rattle.std.specs.Prelude.{All, IfOk, IfSome, OnOk, take, drop};
-ghost use Rattle.keyspace.specs.declared.range.Range.{Range};
+ghost use Rattle.keys.specs.declared.range.Range.{Range};
 ghost use Rattle.keyspace.specs.declared.reply.Verdict.TheVariants.{Committed};
 ghost use Rattle.keyspace.specs.Writes.{committed, counted};
 ghost use Rattle.keyspace.specs.Judge.{meets_earlier};

@@ -2,7 +2,7 @@
 
 ghost use Rattle.std.specs.Prelude.{◌≡◌, ◌+◌, ◌*◌, ◌<◌, ◌≤◌, ◌≤ℤ◌, ◌⊎◌, List, ◌++◌, length, map};
 ghost use Rattle.std.specs.Prelude.{ℕ, OnOk, OnErr, IfOk, MatchOption, Err, Some, slice_get};
-ghost use Rattle.keyspace.specs.declared.range.Range.{Range};
+ghost use Rattle.keys.specs.declared.range.Range.{Range};
 ghost use Rattle.keyspace.specs.Writes.{Write, at_version};
 ghost use Rattle.stepmap.specs.declared.step_map.TheConstants.{MAX_LIMIT};
 ghost use Rattle.stepmap.specs.StepMap as map_of;
@@ -22,7 +22,8 @@ ghost use Rattle.conflict.specs.ConflictSet.{IsOverLimit, IsOverLimitUnited, Has
 
 use crate::error::SetStop;
 use crate::scratch::Scratch;
-use keyspace::{Batch, End, RangeRef};
+use keys::RangeRef;
+use keyspace::{Batch, End};
 use std::alloc::AllocError;
 use stepmap::{KeyLengths, StepMap, laws};
 

@@ -33,7 +33,7 @@ use Rattle.std.specs.Prelude.{ℤ, ◌≤ℤ◌, pos, Some, None, Option, slice_
 use Rattle.std.specs.List.Sorted.{IsStrictlyIncreasing}
 use mathlib.Core.HLevel.{is_prop→PathP}
 use Rattle.std.proofs.Props.{props}
-use Rattle.keyspace.specs.declared.range.Range.{Range}
+use Rattle.keys.specs.declared.range.Range.{Range}
 use Rattle.keyspace.specs.declared.txn.Txn.{Txn}
 use Rattle.keyspace.specs.declared.batch.Batch.{Batch}
 use Rattle.keyspace.specs.declared.reply.Verdict.{Verdict}
@@ -68,7 +68,7 @@ use Rattle.keyspace.specs.Judge.{
   length-judge_txns,
   judge,
 }
-use Rattle.keyspace.proofs.Booleans.{not_both_ways}
+use Rattle.keys.proofs.Booleans.{not_both_ways}
 use Rattle.keyspace.proofs.Rising.{
   In,
   Rises,

@@ -1,16 +1,10 @@
-pub mod Booleans
 pub mod Limits
-pub mod KeyOrder
-pub mod Meeting
 pub mod Rising
 pub mod Scans
 pub mod Judging
 pub mod Chaining
 pub mod Waiting
 pub mod Answered
-pub mod Digests
-pub mod Words
-pub mod SomeElement
 pub mod Ranking
 pub mod RanksDistinct
 pub mod RanksPlaced

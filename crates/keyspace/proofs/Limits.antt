@@ -19,9 +19,9 @@ use Rattle.std.proofs.Common.{
 use Rattle.std.specs.Prelude.{ℤ, pos, negsuc, ◌≤ℤ◌, ◌<ℤ◌, int_lt, int_le}
 use Rattle.std.specs.List.{list_all}
 use Rattle.std.proofs.lemmas.Int.{ints}
-use Rattle.keyspace.specs.Key.{IsBytes, IsKey, is_before}
+use Rattle.keys.specs.Key.{IsBytes, IsKey, is_before}
 use Rattle.keyspace.specs.Rows.{is_key, Limits}
-use Rattle.keyspace.proofs.Booleans.{and_left, and_right}
+use Rattle.keys.proofs.Booleans.{and_left, and_right}
 
 bytes_from_test : (key : List ℕ) → list_all (λ byte. nat_lt byte 256) key ≡ true → IsBytes key
 bytes_from_test [] h k d l = absurd (omega arith)

@@ -1,9 +1,9 @@
 -- The rank of a key among one key more.
 use Rattle.std.proofs.Common.{◌≡◌, ℕ, ◌+◌, Bool, cond, List, ◌∷◌, inl, inr}
 use Rattle.std.proofs.lemmas.List.Sums.{sum_by-cons}
-use Rattle.keyspace.specs.Key.{is_before, IsBefore}
-use Rattle.keyspace.specs.declared.range.Range.{Range}
-use Rattle.keyspace.proofs.KeyOrder.{before_or_same}
+use Rattle.keys.specs.Key.{is_before, IsBefore}
+use Rattle.keys.specs.declared.range.Range.{Range}
+use Rattle.keys.proofs.KeyOrder.{before_or_same}
 use Rattle.keyspace.specs.Ranks.{rank}
 
 -- what a key adds to the rank of another

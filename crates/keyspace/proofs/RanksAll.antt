@@ -32,8 +32,8 @@ use Rattle.std.proofs.Common.{
 use Rattle.std.proofs.lemmas.Grind.{flat_map-append}
 use Rattle.std.proofs.lemmas.List.{length-map, take_all, take_more}
 use Rattle.keyspace.specs.declared.txn.Txn.{Txn}
-use Rattle.keyspace.specs.declared.range.Range.{Range}
-use Rattle.keyspace.specs.Range.{is_filled}
+use Rattle.keys.specs.declared.range.Range.{Range}
+use Rattle.keys.specs.Range.{is_filled}
 use Rattle.keyspace.specs.declared.ends.Kind.{Kind}
 use Rattle.keyspace.specs.declared.ends.Kind.TheVariants.{Read, Write}
 use Rattle.keyspace.specs.declared.ends.sorting.Digested.{Digested}

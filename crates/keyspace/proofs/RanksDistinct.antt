@@ -54,9 +54,9 @@ use Rattle.std.proofs.lemmas.List.Elements.{
 use Rattle.std.proofs.lemmas.List.Quantifiers.{all_pairs_push}
 use Rattle.std.proofs.lemmas.List.Sorted.{ranks_by, sorted_far}
 use Rattle.std.proofs.lemmas.List.Sums.{sum_by_push}
-use Rattle.keyspace.specs.Key.{is_before, IsBefore, IsAtMost}
+use Rattle.keys.specs.Key.{is_before, IsBefore, IsAtMost}
 use Rattle.keyspace.specs.declared.txn.Txn.{Txn}
-use Rattle.keyspace.proofs.KeyOrder.{before_at_most, before_or_same, not_before_if, not_before_itself}
+use Rattle.keys.proofs.KeyOrder.{before_at_most, before_or_same, not_before_if, not_before_itself}
 use Rattle.keyspace.specs.declared.ends.Kind.TheVariants as kind
 use Rattle.keyspace.specs.declared.ends.Side.TheVariants as side
 use Rattle.keyspace.specs.declared.ends.sorting.Digested.{Digested}

@@ -36,11 +36,11 @@ use Rattle.std.proofs.lemmas.List.Sorted.{length_permutation}
 use Rattle.std.proofs.lemmas.List.Elements.{All-contains, Contains-get_or}
 use Rattle.std.proofs.lemmas.Option.{slice_get-get_or, slice_get_within, get_or_from_slice_get, same_Some}
 use Rattle.std.proofs.lemmas.Simd.{map-map}
-use Rattle.keyspace.specs.Range.{IsEmpty}
-use Rattle.keyspace.specs.declared.range.Range.{Range}
+use Rattle.keys.specs.Range.{IsEmpty}
+use Rattle.keys.specs.declared.range.Range.{Range}
 use Rattle.keyspace.specs.declared.txn.Txn.{Txn}
-use Rattle.keyspace.proofs.KeyOrder.{not_before_itself}
-use Rattle.keyspace.specs.Range.{is_filled}
+use Rattle.keys.proofs.KeyOrder.{not_before_itself}
+use Rattle.keys.specs.Range.{is_filled}
 use Rattle.keyspace.specs.Ends.{IsEndIn}
 use Rattle.keyspace.specs.declared.ends.Side.{Side}
 use Rattle.keyspace.specs.declared.ends.Side.TheVariants as side

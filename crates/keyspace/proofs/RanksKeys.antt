@@ -2,8 +2,8 @@
 use Rattle.std.proofs.Common.{◌<◌, List, [], get_or, arith}
 use Rattle.std.specs.Prelude.{All, Option, Some, None, slice_get}
 use Rattle.std.proofs.lemmas.List.Elements.{All-map, All-nil}
-use Rattle.keyspace.specs.Key.{IsKey}
-use Rattle.keyspace.specs.declared.range.Range.{Range}
+use Rattle.keys.specs.Key.{IsKey}
+use Rattle.keys.specs.declared.range.Range.{Range}
 use Rattle.keyspace.specs.declared.txn.Txn.{Txn}
 use Rattle.keyspace.specs.declared.ends.Side.{Side}
 use Rattle.keyspace.specs.declared.ends.Side.TheVariants as side

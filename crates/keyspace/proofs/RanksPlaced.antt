@@ -31,10 +31,10 @@ use Rattle.std.specs.List.Sorted.{IsPermutation}
 use Rattle.std.proofs.lemmas.List.{map-append}
 use Rattle.std.proofs.lemmas.List.Elements.{All-nil, All-cons, All-append}
 use Rattle.std.proofs.lemmas.List.Sorted.{All-permutation, Contains-permutation}
-use Rattle.keyspace.specs.declared.range.Range.{Range}
+use Rattle.keys.specs.declared.range.Range.{Range}
 use Rattle.keyspace.specs.declared.txn.Txn.{Txn}
-use Rattle.keyspace.specs.Range.{is_filled}
-use Rattle.keyspace.proofs.SomeElement.{Any-first, Any-later, Any-left, Any-right}
+use Rattle.keys.specs.Range.{is_filled}
+use Rattle.keys.proofs.SomeElement.{Any-first, Any-later, Any-left, Any-right}
 use Rattle.keyspace.specs.declared.ends.Kind.{Kind}
 use Rattle.keyspace.specs.declared.ends.Kind.TheVariants.{Read, Write}
 use Rattle.keyspace.specs.declared.ends.Side.{Side}

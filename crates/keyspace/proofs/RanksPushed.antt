@@ -27,10 +27,10 @@ use Rattle.std.proofs.Common.{
 use Rattle.std.specs.Prelude.{IsTrue}
 use Rattle.std.proofs.Math.Seq.{drop-cons}
 use Rattle.std.proofs.lemmas.List.{map-append}
-use Rattle.keyspace.specs.Range.{IsEmpty}
-use Rattle.keyspace.specs.declared.range.Range.{Range}
-use Rattle.keyspace.proofs.KeyOrder.{not_before_itself}
-use Rattle.keyspace.specs.Range.{is_filled}
+use Rattle.keys.specs.Range.{IsEmpty}
+use Rattle.keys.specs.declared.range.Range.{Range}
+use Rattle.keys.proofs.KeyOrder.{not_before_itself}
+use Rattle.keys.specs.Range.{is_filled}
 use Rattle.keyspace.specs.declared.ends.Kind.{Kind}
 use Rattle.keyspace.specs.declared.ends.Side.TheVariants as side
 use Rattle.keyspace.specs.declared.ends.End.{End}

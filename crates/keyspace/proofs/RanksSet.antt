@@ -48,9 +48,9 @@ use Rattle.std.proofs.lemmas.List.Elements.{
 }
 use Rattle.std.proofs.lemmas.Option.{same_Some, slice_get_cases, slice_get_within}
 use Rattle.std.proofs.lemmas.Bool.{cases_eq}
-use Rattle.keyspace.proofs.SomeElement.{Any-none, Any-push_cases}
-use Rattle.keyspace.specs.Range.{is_filled}
-use Rattle.keyspace.specs.declared.range.Range.{Range}
+use Rattle.keys.proofs.SomeElement.{Any-none, Any-push_cases}
+use Rattle.keys.specs.Range.{is_filled}
+use Rattle.keys.specs.declared.range.Range.{Range}
 use Rattle.keyspace.specs.declared.txn.Txn.{Txn}
 use Rattle.keyspace.specs.declared.ends.End.{End}
 use Rattle.keyspace.specs.declared.ends.sorting.Digested.{Digested}

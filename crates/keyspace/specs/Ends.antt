@@ -1,7 +1,7 @@
 -- The ends of the ranges of transactions, each named by indices. This project's own.
 use Rattle.std.specs.Prelude.{◌≡◌, ◌⊎◌, ℕ, List, [], ◌++◌, map, flat_map, Option, Some, None, slice_get, Any, Contains}
-use Rattle.keyspace.specs.Range.{IsEmpty}
-use Rattle.keyspace.specs.declared.range.Range.{Range}
+use Rattle.keys.specs.Range.{IsEmpty}
+use Rattle.keys.specs.declared.range.Range.{Range}
 use Rattle.keyspace.specs.declared.txn.Txn.{Txn}
 use Rattle.keyspace.specs.declared.ends.Kind.{Kind}
 use Rattle.keyspace.specs.declared.ends.Kind.TheVariants.{Read, Write}

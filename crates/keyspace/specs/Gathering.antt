@@ -1,8 +1,8 @@
 -- The ends of the ranges of transactions, in the order of these. This project's own.
 use Rattle.std.specs.Prelude.{ℕ, ◌+◌, if◌then◌else◌, List, [], ◌∷◌, ◌++◌, length, map}
-use Rattle.keyspace.specs.declared.range.Range.{Range}
+use Rattle.keys.specs.declared.range.Range.{Range}
 use Rattle.keyspace.specs.declared.txn.Txn.{Txn}
-use Rattle.keyspace.specs.Range.{is_filled}
+use Rattle.keys.specs.Range.{is_filled}
 use Rattle.keyspace.specs.declared.ends.Kind.{Kind}
 use Rattle.keyspace.specs.declared.ends.Kind.TheVariants.{Read, Write}
 use Rattle.keyspace.specs.declared.ends.Side.TheVariants as side

@@ -22,7 +22,7 @@ use Rattle.std.specs.Prelude.{
 }
 use Rattle.std.specs.List.{list_any}
 use Rattle.std.proofs.Common.{ap, subst, sym}
-use Rattle.keyspace.specs.declared.range.Range.{Range}
+use Rattle.keys.specs.declared.range.Range.{Range}
 use Rattle.keyspace.specs.declared.txn.Txn.{Txn}
 use Rattle.keyspace.specs.declared.batch.Batch.{Batch}
 use Rattle.keyspace.specs.declared.reply.Verdict.{Verdict}
@@ -30,7 +30,7 @@ use Rattle.keyspace.specs.declared.reply.Verdict.TheVariants.{Conflict, TooOld, 
 use Rattle.keyspace.specs.declared.reply.Entry.{Entry}
 use Rattle.keyspace.specs.declared.reply.Reply.{Reply}
 use Rattle.keyspace.specs.declared.batch.TheConstants.{MAX_TXNS}
-use Rattle.keyspace.specs.Range.{ranges_meet}
+use Rattle.keys.specs.Range.{ranges_meet}
 use Rattle.keyspace.specs.Writes.{Write, counted}
 use Rattle.keyspace.specs.Judged.{edge}
 

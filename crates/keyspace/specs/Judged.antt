@@ -24,14 +24,14 @@ use Rattle.std.specs.Prelude.{
 }
 use Rattle.std.specs.Int.{int_max}
 use Rattle.std.specs.List.Sorted.{IsStrictlyIncreasing}
-use Rattle.keyspace.specs.declared.range.Range.{Range}
+use Rattle.keys.specs.declared.range.Range.{Range}
 use Rattle.keyspace.specs.declared.txn.Txn.{Txn}
 use Rattle.keyspace.specs.declared.batch.Batch.{Batch}
 use Rattle.keyspace.specs.declared.reply.Verdict.{Verdict}
 use Rattle.keyspace.specs.declared.reply.Verdict.TheVariants.{Conflict, TooOld, Committed}
 use Rattle.keyspace.specs.declared.reply.Entry.{Entry}
 use Rattle.keyspace.specs.declared.reply.Reply.{Reply}
-use Rattle.keyspace.specs.Range.{Meets}
+use Rattle.keys.specs.Range.{Meets}
 use Rattle.keyspace.specs.Writes.{Write, earlier}
 
 -- the batch's version minus the window, or 0 where that is negative

@@ -3,32 +3,22 @@ use Rattle.std.specs.Prelude.{
   ◌≡◌,
   ℕ,
   ◌+◌,
-  ◌<◌,
-  ◌≤◌,
   ◌==◌,
   ℤ,
   ◌<ℤ◌,
   ◌≤ℤ◌,
-  ◌↔◌,
   List,
   [],
   ◌∷◌,
   ◌++◌,
   length,
-  take,
-  drop,
-  slice_index,
   filter,
   Some,
   None,
   All,
 }
-use Rattle.keyspace.specs.declared.range.Range.{Range}
 use Rattle.keyspace.specs.declared.batch.Batch.{Batch}
 use Rattle.keyspace.specs.declared.reply.Reply.{Reply}
-use Rattle.keyspace.specs.Key.{IsBytes, is_before, IsBefore, IsAtMost}
-use Rattle.keyspace.specs.Digest.{first_eight, digest_of}
-use Rattle.keyspace.specs.Range.{IsEmpty, Meets}
 use Rattle.keyspace.specs.Processed.{version_of}
 use Rattle.keyspace.specs.Writes.{Write}
 use Rattle.keyspace.specs.Judged.{Judged}
@@ -36,39 +26,6 @@ use Rattle.keyspace.specs.Judge.{judge}
 use Rattle.keyspace.specs.Chain.{IsChain}
 use Rattle.keyspace.specs.Leaving.{Held, next_due}
 use Rattle.keyspace.specs.Run.{Step, Finish, run, answers, part}
-
--- digests are in the order of the keys, as far as they reach
-pub record DigestsTell (a b : List ℕ) : Type 0 where
-  -- the key with the lesser digest comes first
-  pub less : digest_of a < digest_of b → IsBefore a b
-  pub at_most : IsAtMost a b → digest_of a ≤ digest_of b
-  -- where the digests are the same, so are the first eight bytes, with zeros for those that are missing
-  pub same : digest_of a ≡ digest_of b → first_eight a ≡ first_eight b
-  pub same_long : digest_of a ≡ digest_of b → 8 ≤ length a → 8 ≤ length b → take 8 a ≡ take 8 b
-
-abbrev pub DigestsTellOrder : Type 0
-DigestsTellOrder = (a b : List ℕ) → IsBytes a → IsBytes b → DigestsTell a b
-
--- two keys begin with the same bytes, so many
-pub record BeginAlike (n : ℕ) (a b : List ℕ) : Type 0 where
-  pub in_first : n ≤ length a
-  pub in_second : n ≤ length b
-  pub same : take n a ≡ take n b
-
--- keys that begin alike are in the order of what stands behind
-pub record RestsTell (n : ℕ) (a b : List ℕ) : Type 0 where
-  pub rests : is_before a b ≡ is_before (drop n a) (drop n b)
-  -- the one that ends there comes first
-  pub shorter : length a ≡ n → n < length b → IsBefore a b
-  -- so does the one with the lesser next byte
-  pub differing : n < length a → n < length b → slice_index a n < slice_index b n → IsBefore a b
-
-abbrev pub RestsTellOrder : Type 0
-RestsTellOrder = (n : ℕ) (a b : List ℕ) → BeginAlike n a b → RestsTell n a b
-
--- two ranges overlap exactly if neither is empty and each begins before the other ends
-abbrev pub MeetByEnds : Range → Range → Type 0
-MeetByEnds a b = Meets a b ↔ (¬ IsEmpty a × ¬ IsEmpty b × IsBefore a.begin b.end × IsBefore b.begin a.end)
 
 -- whatever was written and whatever the batch is, the plain scan gives a reply that is right
 abbrev pub JudgeIsRight : Type 0

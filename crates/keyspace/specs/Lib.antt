@@ -1,8 +1,4 @@
 -- In the order in which one reads them aloud.
-pub mod Bytes
-pub mod Key
-pub mod Digest
-pub mod Range
 pub mod Ranges
 pub mod Places
 pub mod Processed
@@ -20,3 +16,4 @@ pub mod Ends
 pub mod Gathering
 pub mod Sorting
 pub mod Ranks
+pub mod Versions

@@ -1,6 +1,6 @@
 -- The ranges of a transaction, wherever they are kept. This project's own.
 use Rattle.std.specs.Prelude.{List, slice_range}
-use Rattle.keyspace.specs.declared.range.Range.{Range}
+use Rattle.keys.specs.declared.range.Range.{Range}
 use Rattle.keyspace.specs.declared.ranges.Part.{Part}
 use Rattle.keyspace.specs.declared.ranges.Kept.{Kept}
 use Rattle.keyspace.specs.declared.ranges.Kept.TheVariants.{Own, Shared}

@@ -1,9 +1,9 @@
 -- Ranks of keys among sorted keys, and the runs of gaps that ranges cover between them. This project's own.
 use Rattle.std.specs.Prelude.{◌≡◌, ℕ, List, map, if◌then◌else◌, count_by, All, AllPairs}
-use Rattle.keyspace.specs.Key.{is_before, IsBefore, IsKey}
-use Rattle.keyspace.specs.Range.{is_filled}
+use Rattle.keys.specs.Key.{is_before, IsBefore, IsKey}
+use Rattle.keys.specs.Range.{is_filled}
 use Rattle.keyspace.specs.Ends.{keys_of, ranges_in, HaveEnds, IsEndIn}
-use Rattle.keyspace.specs.declared.range.Range.{Range}
+use Rattle.keys.specs.declared.range.Range.{Range}
 use Rattle.keyspace.specs.declared.txn.Txn.{Txn}
 use Rattle.keyspace.specs.declared.ends.End.{End}
 

@@ -26,17 +26,17 @@ use Rattle.std.specs.Prelude.{
 }
 use Rattle.std.specs.List.{list_all}
 use Rattle.keyspace.specs.declared.TheConstants.{WINDOW}
-use Rattle.keyspace.specs.declared.key.TheConstants.{MAX_KEY_LENGTH}
+use Rattle.keys.specs.declared.key.TheConstants.{MAX_KEY_LENGTH}
 use Rattle.keyspace.specs.declared.txn.TheConstants.{MAX_RANGES}
 use Rattle.keyspace.specs.declared.batch.TheConstants.{MAX_TXNS}
-use Rattle.keyspace.specs.declared.range.Range.{Range}
+use Rattle.keys.specs.declared.range.Range.{Range}
 use Rattle.keyspace.specs.declared.txn.Txn.{Txn}
 use Rattle.keyspace.specs.declared.batch.Batch.{Batch}
 use Rattle.keyspace.specs.declared.reply.Verdict.{Verdict}
 use Rattle.keyspace.specs.declared.reply.Verdict.TheVariants.{Conflict, TooOld, Committed}
 use Rattle.keyspace.specs.declared.answer.Answer.{Answer}
 use Rattle.keyspace.specs.declared.answer.Answer.TheVariants as told
-use Rattle.keyspace.specs.Key.{IsKey, is_before, IsAtMost}
+use Rattle.keys.specs.Key.{IsKey, is_before, IsAtMost}
 use Rattle.keyspace.specs.Run.{Step, Take, Finish, answers}
 
 -- The types keep their limits. Here the limits are tests that compute.

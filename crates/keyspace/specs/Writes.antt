@@ -1,7 +1,7 @@
 -- The write ranges of committed transactions. Source: Algorithm 1 of the FoundationDB paper (SIGMOD 2021), which
 -- keeps the last version of each committed write.
 use Rattle.std.specs.Prelude.{ℕ, ℤ, List, [], ◌∷◌, ◌++◌, map, take, flat_map}
-use Rattle.keyspace.specs.declared.range.Range.{Range}
+use Rattle.keys.specs.declared.range.Range.{Range}
 use Rattle.keyspace.specs.declared.txn.Txn.{Txn}
 use Rattle.keyspace.specs.declared.batch.Batch.{Batch}
 use Rattle.keyspace.specs.declared.reply.Verdict.{Verdict}

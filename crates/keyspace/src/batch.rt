@@ -1,7 +1,11 @@
-ghost use Rattle.std.specs.Prelude.{◌≡◌, ◌≤◌, ◌≤ℤ◌, ◌<ℤ◌, pos, negsuc, length};
+ghost use Rattle.std.specs.Prelude.{◌≡◌, ◌≤◌, ◌<◌, ◌≤ℤ◌, ◌<ℤ◌, ◌↔◌, pos, negsuc, length, vec_len, IfOk, IsErrOf, IsTrue};
+ghost use Rattle.keyspace.specs.Versions.{AreVersions};
 ghost use Rattle.keyspace.specs.declared.batch.TheConstants.{MAX_TXNS};
 
+use crate::error::LimitError;
+use crate::txn::Txn;
 use crate::txns::Txns;
+use std::alloc::Global;
 
 /// The greatest number of transactions in a batch, this project's own limit.
 pub const MAX_TXNS: usize = 4_096;
@@ -47,4 +51,40 @@ impl Batch {
             txns,
         }
     }
+
+    /// Puts transactions together in this order, and creates a batch of them, or returns an error if it is outside its
+    /// limits. The versions are looked at first: [`LimitError::Version`] if one of them is outside its limits, else
+    /// [`LimitError::Count`] if there are more than [`MAX_TXNS`] transactions, else [`LimitError::Memory`] if memory is
+    /// refused.
+    pub fn checked(
+        alloc: Global,
+        previous: i64,
+        version: i64,
+        received: i64,
+        txns: Vec<Txn>,
+    ) -> Result<Self, LimitError>
+        ensures previous { IfOk result (λ batch. batch.previous ≡ previous) }
+        ensures version { IfOk result (λ batch. batch.version ≡ version) }
+        ensures received { IfOk result (λ batch. batch.received ≡ received) }
+        ensures txns { IfOk result (λ batch. batch.txns ≡ txns.items) }
+        ensures beyond_version { IsErrOf result LimitError.Version ↔ (¬ AreVersions previous version received) }
+        ensures beyond_count { IsErrOf result LimitError.Count ↔
+            AreVersions previous version received × (MAX_TXNS < vec_len txns) }
+    {
+        if !are_versions(previous, version, received) {
+            return Err(LimitError::Version);
+        }
+        if txns.len() > MAX_TXNS {
+            return Err(LimitError::Count);
+        }
+        let txns = Txns::new(alloc, txns)?;
+        Ok(Batch::new(previous, version, received, txns))
+    }
+}
+
+// Whether a batch may have these versions.
+fn are_versions(previous: i64, version: i64, received: i64) -> bool
+    ensures versions { IsTrue result ↔ AreVersions previous version received }
+{
+    -1 <= previous && previous < version && -1 <= received && received < version
 }

@@ -10,9 +10,9 @@ ghost use Rattle.keyspace.specs.declared.txn.TheConstants.{MAX_RANGES};
 mod distinct;
 mod sorting;
 
-use crate::range::Range;
 use crate::txn::Txn;
 use distinct::keep_distinct;
+use keys::Range;
 use sorting::{Digested, sort};
 use std::alloc::{AllocError, Global};
 

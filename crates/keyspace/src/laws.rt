@@ -1,26 +1,8 @@
 //! Laws about the reference definitions. Each is the contract of a function with an empty body.
 
-ghost use Rattle.keyspace.specs.declared.range.Range.{Range};
-ghost use Rattle.keyspace.specs.Laws.{DigestsTellOrder, RestsTellOrder};
-ghost use Rattle.keyspace.specs.Laws.{MeetByEnds, JudgeIsRight, OnlyJudgeIsRight, RunsAreChains, NextDueLeaves};
+ghost use Rattle.keyspace.specs.Laws.{JudgeIsRight, OnlyJudgeIsRight, RunsAreChains, NextDueLeaves};
 ghost use Rattle.keyspace.specs.Laws.{NothingHeldIsDue, EachBatchIsAnswered, NoneIsHeldAfterFinish};
 ghost use Rattle.keyspace.specs.Rows.{Limits, WorkedRows};
-
-/// The key with the lesser digest comes first. Keys with the same digest have the same first eight bytes, where missing
-/// ones count as zeros.
-pub fn digests()
-    ensures order { DigestsTellOrder }
-{}
-
-/// Keys that begin with the same bytes are in the order of what stands behind these.
-pub fn beginnings()
-    ensures order { RestsTellOrder }
-{}
-
-/// Two ranges overlap exactly if neither is empty and each begins before the other ends.
-pub fn meeting()
-    ensures by_ends { (a b : Range) → MeetByEnds a b }
-{}
 
 /// For each list of writes and each batch exactly one reply is right: that of the plain scan.
 pub fn one_reply()

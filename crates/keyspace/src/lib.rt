@@ -1,4 +1,4 @@
-//! Keys, ranges, transactions, batches and replies as plain data. Each type keeps its limits.
+//! Transactions, batches and replies as plain data, over the keys and ranges of `keys`. Each type keeps its limits.
 //!
 //! `specs/` holds the reference definitions, in reading order: all that has to be believed about verdicts and about the
 //! chain of versions. The contracts of the crates above cite them. A crate above may use the contracts of the types here
@@ -6,19 +6,13 @@
 //!
 //! [`Txns`] puts the transactions of a batch together, with the keys of their ranges in order. So that work is done where
 //! a batch is read, and not where batches are resolved one after the other.
-//!
-//! [`digest()`] and [`common`] tell keys apart quickly: by the first eight bytes, and by how far two keys begin alike.
 #![tactic(auto)]
 
 mod answer;
 mod batch;
-mod bytes;
 mod ends;
-mod key;
+mod error;
 pub mod laws;
-mod prefix;
-mod range;
-mod range_ref;
 mod ranges;
 mod reply;
 mod sequence;
@@ -28,10 +22,8 @@ mod txns;
 pub use answer::Answer;
 pub use batch::{Batch, MAX_TXNS};
 pub use ends::{End, Kind, Side};
-pub use key::{Key, MAX_KEY_LENGTH};
-pub use prefix::{common, digest};
-pub use range::Range;
-pub use range_ref::RangeRef;
+pub use error::LimitError;
+pub use keys::{Key, KeyError, MAX_KEY_LENGTH, Range, RangeRef, common, digest};
 pub use ranges::Ranges;
 pub use reply::{Entry, Places, Reply, Verdict};
 pub use sequence::Sequence;

@@ -3,8 +3,8 @@
 
 ghost use Rattle.std.specs.Prelude.{◌≡◌, ◌↔◌, ◌≤◌, [], IsTrue, length, slice_range};
 
-use crate::range::Range;
 use crate::sequence::Sequence;
+use keys::Range;
 use std::alloc::Global;
 use std::fmt;
 use std::marker::Model;
@@ -36,7 +36,7 @@ struct Part {
 
 impl Model for Ranges {
     ghost use Rattle.std.specs.Prelude.{List};
-    ghost use Rattle.keyspace.specs.declared.range.Range.{Range};
+    ghost use Rattle.keys.specs.declared.range.Range.{Range};
     ghost use Rattle.keyspace.specs.Ranges.{ranges_kept};
 
     ghost Value = { List Range };

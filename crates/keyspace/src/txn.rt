@@ -1,9 +1,10 @@
-ghost use Rattle.std.specs.Prelude.{◌≡◌, ◌≤◌, ◌≤ℤ◌, pos, length};
+ghost use Rattle.std.specs.Prelude.{◌≡◌, ◌≤◌, ◌<◌, ◌≤ℤ◌, ◌<ℤ◌, ◌↔◌, ◌⊎◌, pos, length, IfOk, IsErrOf};
 ghost use Rattle.keyspace.specs.declared.txn.TheConstants.{MAX_RANGES};
 
-use crate::range::Range;
+use crate::error::LimitError;
 use crate::ranges::Ranges;
 use crate::sequence::Sequence;
+use keys::Range;
 
 /// The greatest number of read ranges of a transaction, and of write ranges: this project's own limit.
 pub const MAX_RANGES: usize = 1_024;
@@ -38,6 +39,33 @@ impl Txn {
         ensures writes { result.writes ≡ writes }
     {
         Txn::with_ranges(snapshot, marked, Ranges::new(reads), Ranges::new(writes))
+    }
+
+    /// Creates a transaction, with its ranges in the order sent, or returns an error if it is outside its limits. The
+    /// snapshot is looked at first: [`LimitError::Version`] if it is negative, else [`LimitError::Count`] if there are more
+    /// than [`MAX_RANGES`] read ranges or write ranges.
+    pub fn checked(
+        snapshot: i64,
+        marked: bool,
+        reads: Sequence<Range>,
+        writes: Sequence<Range>,
+    ) -> Result<Self, LimitError>
+        ensures snapshot { IfOk result (λ txn. txn.snapshot ≡ snapshot) }
+        ensures marked { IfOk result (λ txn. txn.marked ≡ marked) }
+        ensures reads { IfOk result (λ txn. txn.reads ≡ reads) }
+        ensures writes { IfOk result (λ txn. txn.writes ≡ writes) }
+        ensures beyond_version { IsErrOf result LimitError.Version ↔ snapshot <ℤ pos 0 }
+        ensures beyond_count { IsErrOf result LimitError.Count ↔
+            pos 0 ≤ℤ snapshot × (MAX_RANGES < length reads ⊎ MAX_RANGES < length writes) }
+        ensures never_memory { ¬ IsErrOf result LimitError.Memory }
+    {
+        if snapshot < 0 {
+            return Err(LimitError::Version);
+        }
+        if reads.len() > MAX_RANGES || writes.len() > MAX_RANGES {
+            return Err(LimitError::Count);
+        }
+        Ok(Txn::new(snapshot, marked, reads, writes))
     }
 
     /// Creates a transaction as [`Txn::new`] does, whose ranges may lie among those of others.

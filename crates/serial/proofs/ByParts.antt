@@ -27,13 +27,13 @@ use Rattle.std.specs.Prelude.{Option, Some, slice_get, IsSomeAnd, Contains}
 use Rattle.std.specs.List.{AllZip}
 use Rattle.std.proofs.lemmas.List.Elements.{All-get_or}
 use Rattle.std.proofs.lemmas.Option.{slice_get_within, slice_get-get_or, get_or_from_slice_get}
-use Rattle.keyspace.specs.declared.range.Range.{Range}
+use Rattle.keys.specs.declared.range.Range.{Range}
 use Rattle.keyspace.specs.declared.txn.Txn.{Txn}
-use Rattle.keyspace.specs.Key.{IsBytes, is_before}
+use Rattle.keys.specs.Key.{IsBytes, is_before}
 use Rattle.keyspace.specs.Processed.{Processed}
 use Rattle.keyspace.specs.Writes.{writes, earlier}
 use Rattle.keyspace.specs.Chain.{IsChain}
-use Rattle.keyspace.proofs.Booleans.{and_both, false_unless, true_or_false, not_both_ways}
+use Rattle.keys.proofs.Booleans.{and_both, false_unless, true_or_false, not_both_ways}
 use Rattle.serial.specs.Serial.{
   IsCommitted,
   before,

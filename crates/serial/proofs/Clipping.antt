@@ -33,15 +33,15 @@ use Rattle.std.specs.List.{AllZip}
 use Rattle.std.proofs.lemmas.List.Folds.{list_any-append}
 use Rattle.std.proofs.lemmas.Option.{MatchOption-at_some}
 use Rattle.std.proofs.lemmas.Slice.Zip.{AllZip-left, AllZip-long}
-use Rattle.keyspace.specs.declared.range.Range.{Range}
+use Rattle.keys.specs.declared.range.Range.{Range}
 use Rattle.keyspace.specs.declared.txn.Txn.{Txn}
 use Rattle.keyspace.specs.declared.reply.Verdict.{Verdict}
 use Rattle.keyspace.specs.declared.reply.Verdict.TheVariants.{Conflict, TooOld, Committed}
 use Rattle.keyspace.specs.declared.reply.Entry.{Entry}
-use Rattle.keyspace.specs.Key.{IsBytes}
+use Rattle.keys.specs.Key.{IsBytes}
 use Rattle.keyspace.specs.Processed.{Processed}
 use Rattle.keyspace.specs.Writes.{at_version, counted, committed, writes, writes_of}
-use Rattle.keyspace.proofs.Booleans.{and_left, and_right, and_both, or_either, or_left, or_right}
+use Rattle.keys.proofs.Booleans.{and_left, and_right, and_both, or_either, or_left, or_right}
 use Rattle.serial.specs.Serial.{
   holds,
   in_ranges,

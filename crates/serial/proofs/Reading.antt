@@ -28,17 +28,17 @@ use Rattle.std.specs.Prelude.{Option, Some, None, slice_get, IsSomeAnd, Any, Con
 use Rattle.std.proofs.lemmas.Int.{ints}
 use Rattle.std.proofs.lemmas.List.Folds.{Any-from_list_any}
 use Rattle.std.proofs.lemmas.Option.{slice_get_read}
-use Rattle.keyspace.specs.declared.range.Range.{Range}
+use Rattle.keys.specs.declared.range.Range.{Range}
 use Rattle.keyspace.specs.declared.txn.Txn.{Txn}
 use Rattle.keyspace.specs.declared.reply.Verdict.TheVariants.{Committed}
 use Rattle.keyspace.specs.declared.reply.Entry.{Entry}
-use Rattle.keyspace.specs.Key.{IsBytes, is_before}
-use Rattle.keyspace.specs.Range.{Holds, Meets}
+use Rattle.keys.specs.Key.{IsBytes, is_before}
+use Rattle.keys.specs.Range.{Holds, Meets}
 use Rattle.keyspace.specs.Processed.{Processed}
 use Rattle.keyspace.specs.Writes.{Write, writes, earlier}
 use Rattle.keyspace.specs.Judged.{IsInConflict, HasVerdict, edge}
 use Rattle.keyspace.specs.Chain.{IsChain}
-use Rattle.keyspace.proofs.Booleans.{and_left, and_right, false_unless}
+use Rattle.keys.proofs.Booleans.{and_left, and_right, false_unless}
 use Rattle.serial.specs.Serial.{IsCommitted, holds, in_ranges, Current}
 use Rattle.serial.proofs.Holding.{is_above, written_above, current_from_tests}
 

@@ -34,13 +34,13 @@ use Rattle.std.specs.Prelude.{
   All,
 }
 use Rattle.std.specs.List.{AllZip, list_any}
-use Rattle.keyspace.specs.declared.range.Range.{Range}
+use Rattle.keys.specs.declared.range.Range.{Range}
 use Rattle.keyspace.specs.declared.txn.Txn.{Txn}
 use Rattle.keyspace.specs.declared.reply.Verdict.{Verdict}
 use Rattle.keyspace.specs.declared.reply.Verdict.TheVariants.{Conflict, TooOld, Committed}
 use Rattle.keyspace.specs.declared.reply.Entry.{Entry}
 use Rattle.keyspace.specs.declared.batch.Batch.{Batch}
-use Rattle.keyspace.specs.Key.{IsBytes, is_before, IsBefore}
+use Rattle.keys.specs.Key.{IsBytes, is_before, IsBefore}
 use Rattle.keyspace.specs.Chain.{IsChain}
 use Rattle.keyspace.specs.Processed.{Processed}
 use Rattle.keyspace.specs.Writes.{Write, at_version, writes, earlier}

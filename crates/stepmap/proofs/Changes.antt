@@ -2,9 +2,9 @@
 use Rattle.std.proofs.Common.{◌≡◌, ℕ, ◌+◌, ◌≤◌, ◌<◌, List, [], ◌∷◌, ◌++◌, length, get_or, sym, subst, arith}
 use Rattle.std.specs.Prelude.{ℤ, ◌≤ℤ◌, None}
 use Rattle.std.proofs.lemmas.Int.{ints}
-use Rattle.keyspace.specs.Range.{Holds, IsEmpty}
+use Rattle.keys.specs.Range.{Holds, IsEmpty}
 use Rattle.keyspace.specs.Writes.{Write}
-use Rattle.keyspace.specs.declared.range.Range.{Range}
+use Rattle.keys.specs.declared.range.Range.{Range}
 use Rattle.stepmap.specs.Boundary.{Boundary, value_at, AreUpTo}
 use Rattle.stepmap.specs.StepMap.{Steps, AreSteps, IsRound}
 use Rattle.stepmap.specs.Writing.{after_write}

@@ -5,9 +5,9 @@ use Rattle.std.proofs.lemmas.Bool.{cases_Bool, ne_eqb}
 use Rattle.std.proofs.lemmas.List.{map-append, length-map, append-nil}
 use Rattle.std.proofs.lemmas.List.Elements.{All-weaker, All-map, All-filter, filter-append, filter_passes}
 use Rattle.arena.specs.Arena.{Arena, Record, IsLive, record_at}
-use Rattle.keyspace.specs.Key.{is_before, IsBefore}
-use Rattle.keyspace.proofs.Booleans.{and_left, and_right, false_unless, not_both_ways}
-use Rattle.keyspace.proofs.KeyOrder.{before_trans}
+use Rattle.keys.specs.Key.{is_before, IsBefore}
+use Rattle.keys.proofs.Booleans.{and_left, and_right, false_unless, not_both_ways}
+use Rattle.keys.proofs.KeyOrder.{before_trans}
 use Rattle.tree.specs.declared.entry.Entry.{Entry}
 use Rattle.tree.specs.Item.{Item, item_of}
 use Rattle.tree.specs.Path.{IsCut, passing, behind, between}

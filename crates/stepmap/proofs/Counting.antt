@@ -22,11 +22,11 @@ use Rattle.std.proofs.Common.{
 }
 use Rattle.std.specs.Prelude.{ℤ}
 use Rattle.std.proofs.lemmas.List.Elements.{filter-append}
-use Rattle.keyspace.specs.Key.{is_before, IsBefore}
-use Rattle.keyspace.specs.Range.{IsEmpty}
-use Rattle.keyspace.specs.declared.range.Range.{Range}
-use Rattle.keyspace.proofs.KeyOrder.{before_trans}
-use Rattle.keyspace.proofs.Booleans.{true_or_false}
+use Rattle.keys.specs.Key.{is_before, IsBefore}
+use Rattle.keys.specs.Range.{IsEmpty}
+use Rattle.keys.specs.declared.range.Range.{Range}
+use Rattle.keys.proofs.KeyOrder.{before_trans}
+use Rattle.keys.proofs.Booleans.{true_or_false}
 use Rattle.stepmap.specs.Boundary.{Boundary, value_at, below, from_on}
 use Rattle.stepmap.specs.Writing.{closed_at, written}
 use Rattle.stepmap.proofs.WritingValues.{begins_before_end}

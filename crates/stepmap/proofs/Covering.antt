@@ -3,12 +3,12 @@ use Rattle.std.proofs.Common.{◌≡◌, ℕ, List, [], ◌∷◌, ◌++◌, sym
 use Rattle.std.specs.Prelude.{ℤ, ◌≤ℤ◌, ◌<ℤ◌}
 use Rattle.std.proofs.lemmas.Int.{ints}
 use Rattle.std.proofs.lemmas.List.Quantifiers.{Any-push}
-use Rattle.keyspace.specs.Range.{Holds}
+use Rattle.keys.specs.Range.{Holds}
 use Rattle.keyspace.specs.Writes.{Write}
-use Rattle.keyspace.specs.declared.range.Range.{Range}
-use Rattle.keyspace.proofs.KeyOrder.{before_or_at_most, not_both}
+use Rattle.keys.specs.declared.range.Range.{Range}
+use Rattle.keys.proofs.KeyOrder.{before_or_at_most, not_both}
 use Rattle.stepmap.specs.Covers.{SameFrom, Covers}
-use Rattle.keyspace.proofs.SomeElement.{Any-longer, Any-push_cases}
+use Rattle.keys.proofs.SomeElement.{Any-longer, Any-push_cases}
 
 pub covers_same : (f g : List ℕ → ℤ) (ws : List Write) (edge : ℤ) → SameFrom edge f g → Covers f ws edge
     → Covers g ws edge

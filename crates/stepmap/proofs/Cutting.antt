@@ -10,8 +10,8 @@ use Rattle.tree.specs.Item.{Item}
 use Rattle.tree.specs.Path.{IsCut, passing, behind}
 use Rattle.tree.specs.Tree.{Items}
 use Rattle.tree.proofs.Cuts.{none_pass}
-use Rattle.keyspace.proofs.KeyOrder.{before_trans, is_le-cmp}
-use Rattle.keyspace.proofs.Booleans.{true_or_false, false_unless, not_both_ways}
+use Rattle.keys.proofs.KeyOrder.{before_trans, is_le-cmp}
+use Rattle.keys.proofs.Booleans.{true_or_false, false_unless, not_both_ways}
 use Rattle.stepmap.specs.Boundary.{Boundary, RiseFrom}
 use Rattle.stepmap.specs.Cut.{passes_at, slot_passes}
 use Rattle.stepmap.specs.Stored.{bytes_at, boundary_of, boundaries_of, IsStored}

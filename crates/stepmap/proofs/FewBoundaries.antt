@@ -4,13 +4,13 @@ use Rattle.std.specs.Prelude.{ℤ, ◌≤ℤ◌, int_le, All}
 use Rattle.std.proofs.lemmas.List.Sums.{sum_by-cons}
 use Rattle.std.proofs.lemmas.Int.{ints}
 use Rattle.std.proofs.lemmas.List.Elements.{All-head, All-tail, All-filter, filter_passes, All-weaker}
-use Rattle.keyspace.specs.Key.{is_before, IsBefore}
+use Rattle.keys.specs.Key.{is_before, IsBefore}
 use Rattle.keyspace.specs.Writes.{Write}
-use Rattle.keyspace.proofs.KeyOrder.{not_before_itself, at_most_antisym}
-use Rattle.keyspace.proofs.Booleans.{true_or_false, not_both_ways, or_right, and_both}
+use Rattle.keys.proofs.KeyOrder.{not_before_itself, at_most_antisym}
+use Rattle.keys.proofs.Booleans.{true_or_false, not_both_ways, or_right, and_both}
 use Rattle.stepmap.specs.Boundary.{Boundary, AreBoundaries}
 use Rattle.stepmap.specs.Rooted.{IsEndOf, Ends}
-use Rattle.keyspace.specs.Range.{is_filled}
+use Rattle.keys.specs.Range.{is_filled}
 use Rattle.stepmap.specs.Counting.{live_count}
 use Rattle.stepmap.proofs.Order.{
   Rising,
@@ -22,7 +22,7 @@ use Rattle.stepmap.proofs.Order.{
 }
 use Rattle.stepmap.proofs.WritingValues.{begins_before_end}
 use Rattle.stepmap.proofs.Rooting.{OneEnd}
-use Rattle.keyspace.proofs.SomeElement.{Any-cases, Any-none}
+use Rattle.keys.proofs.SomeElement.{Any-cases, Any-none}
 
 -- whether the boundary is at another key
 abbrev is_elsewhere : List ℕ → Boundary → Bool

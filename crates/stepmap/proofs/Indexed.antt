@@ -4,7 +4,7 @@ use Rattle.std.specs.Prelude.{IfSome}
 use Rattle.std.specs.List.{All, Contains}
 use Rattle.std.proofs.lemmas.List.Elements.{All-contains, All-map, All-head, All-tail, All-cons, All-nil, All-weaker}
 use Rattle.arena.specs.Arena.{Arena, Records, record_at, key_at}
-use Rattle.keyspace.specs.Key.{IsBytes}
+use Rattle.keys.specs.Key.{IsBytes}
 use Rattle.tree.specs.Hints.{KeyBytes, Hint, IsHinted, AreHinted, IsKnown, Begins, digest_at, digest_behind}
 use Rattle.tree.specs.Item.{Item}
 use Rattle.tree.specs.Tree.{Items, hints_in, KnowItems}

@@ -20,9 +20,9 @@ use Rattle.std.proofs.Common.{
 }
 use Rattle.std.specs.Prelude.{All}
 use Rattle.std.proofs.lemmas.List.Elements.{All-head, All-tail, All-cons, All-nil}
-use Rattle.keyspace.specs.Key.{is_before, IsBefore, IsAtMost}
-use Rattle.keyspace.proofs.KeyOrder.{before_trans}
-use Rattle.keyspace.proofs.Booleans.{not_both_ways}
+use Rattle.keys.specs.Key.{is_before, IsBefore, IsAtMost}
+use Rattle.keys.proofs.KeyOrder.{before_trans}
+use Rattle.keys.proofs.Booleans.{not_both_ways}
 use Rattle.stepmap.specs.Boundary.{Boundary, RiseFrom, AreInOrder}
 
 -- no key comes before the empty one

@@ -26,8 +26,8 @@ use Rattle.std.proofs.Common.{
   arith,
 }
 use Rattle.std.specs.List.Sorted.{IsPartitionedBy, IsPartitionPoint}
-use Rattle.keyspace.specs.Key.{IsBefore}
-use Rattle.keyspace.proofs.Booleans.{true_or_false, false_unless, not_both_ways}
+use Rattle.keys.specs.Key.{IsBefore}
+use Rattle.keys.proofs.Booleans.{true_or_false, false_unless, not_both_ways}
 use Rattle.stepmap.specs.Boundary.{Boundary, RiseFrom}
 use Rattle.stepmap.proofs.Order.{Rising, rising_from, rise_above}
 

@@ -55,7 +55,7 @@ use Rattle.tree.specs.Item.{Item}
 use Rattle.tree.specs.Path.{passing, behind}
 use Rattle.tree.specs.Tree.{Items}
 use Rattle.tree.proofs.Times.{times, once, once_cases, times-append, once_if_distinct, distinct_if_once}
-use Rattle.keyspace.specs.Key.{is_before}
+use Rattle.keys.specs.Key.{is_before}
 use Rattle.stepmap.specs.Boundary.{Boundary, AreInOrder, below}
 use Rattle.stepmap.specs.Indexes.{up_to, after}
 use Rattle.stepmap.specs.Cut.{passes_at, slot_passes}

@@ -33,14 +33,14 @@ use Rattle.std.proofs.Common.{
 use Rattle.std.specs.Prelude.{ℤ, negsuc}
 use Rattle.std.specs.List.{insert}
 use Rattle.std.proofs.lemmas.List.{take_at, drop_at, drop_more, drop_all, length-take-le}
-use Rattle.keyspace.specs.Key.{is_before, IsBefore, IsAtMost}
-use Rattle.keyspace.specs.Range.{IsEmpty}
-use Rattle.keyspace.specs.declared.range.Range.{Range}
-use Rattle.keyspace.proofs.KeyOrder.{before_trans, at_most_itself}
-use Rattle.keyspace.proofs.Booleans.{true_or_false}
+use Rattle.keys.specs.Key.{is_before, IsBefore, IsAtMost}
+use Rattle.keys.specs.Range.{IsEmpty}
+use Rattle.keys.specs.declared.range.Range.{Range}
+use Rattle.keys.proofs.KeyOrder.{before_trans, at_most_itself}
+use Rattle.keys.proofs.Booleans.{true_or_false}
 use Rattle.stepmap.specs.Boundary.{Boundary, AreInOrder, value_at, value_from, last_version, below, from_on}
 use Rattle.stepmap.specs.Writing.{closed_at, written}
-use Rattle.keyspace.proofs.KeyOrder.{not_before_if}
+use Rattle.keys.proofs.KeyOrder.{not_before_if}
 use Rattle.stepmap.proofs.Order.{Rising, not_empty_if_after}
 use Rattle.stepmap.proofs.Values.{value_from_on}
 use Rattle.stepmap.proofs.WritingValues.{begins_before_end}

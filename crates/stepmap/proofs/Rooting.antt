@@ -4,11 +4,11 @@ use Rattle.std.specs.Prelude.{ℤ, ◌≤ℤ◌}
 use Rattle.std.specs.Int.{int_max}
 use Rattle.std.proofs.lemmas.Int.{ints}
 use Rattle.std.proofs.lemmas.List.Elements.{All-weaker}
-use Rattle.keyspace.specs.Range.{IsEmpty}
+use Rattle.keys.specs.Range.{IsEmpty}
 use Rattle.keyspace.specs.Writes.{Write}
 use Rattle.stepmap.specs.Boundary.{Boundary, last_version}
 use Rattle.stepmap.specs.Rooted.{IsEndOf, Ends, AreRooted}
-use Rattle.keyspace.proofs.SomeElement.{Any-weaker, Any-longer}
+use Rattle.keys.proofs.SomeElement.{Any-weaker, Any-longer}
 
 abbrev pub OneEnd : ℤ → List ℕ → Write → Type 0
 OneEnd version key w = ¬ IsEmpty w.range × ((w.range.begin ≡ key) ⊎ (w.range.end ≡ key))

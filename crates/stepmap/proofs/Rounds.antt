@@ -2,7 +2,7 @@
 use Rattle.std.proofs.Common.{◌≡◌, ◌≤◌, true, false, not, ◌&&◌, List, [], ◌∷◌, ◌++◌, length, drop, refl, sym, ◌∙◌, ap, subst, arith, append-nil, length-drop}
 use Rattle.std.specs.Prelude.{ℤ}
 use Rattle.std.proofs.lemmas.List.{take_all, drop_all}
-use Rattle.keyspace.specs.Key.{is_before, IsBefore}
+use Rattle.keys.specs.Key.{is_before, IsBefore}
 use Rattle.keyspace.specs.Writes.{Write}
 use Rattle.stepmap.specs.Boundary.{Boundary, AreInOrder, RiseFrom}
 use Rattle.stepmap.specs.StepMap.{Steps, AreSteps}

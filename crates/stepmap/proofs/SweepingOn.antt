@@ -4,13 +4,13 @@ use Rattle.std.specs.Prelude.{ℤ, negsuc, int_lt}
 use Rattle.std.proofs.Math.Seq.{take-add}
 use Rattle.std.proofs.lemmas.Bool.{cases_Bool}
 use Rattle.std.proofs.lemmas.List.{drop-drop, length-drop, take_all, drop_all}
-use Rattle.keyspace.specs.Key.{IsKey}
+use Rattle.keys.specs.Key.{IsKey}
 use Rattle.stepmap.specs.Boundary.{Boundary, AreInOrder, last_version}
 use Rattle.stepmap.specs.Stored.{first_key}
 use Rattle.stepmap.specs.Sweeping.{left_from, passed_to, thinned}
 use Rattle.stepmap.proofs.Order.{rising_in_order, not_empty_if_after}
 use Rattle.stepmap.proofs.Looking.{parted_left, left_middle}
-use Rattle.keyspace.proofs.SomeElement.{Any-first, Any-right}
+use Rattle.keys.proofs.SomeElement.{Any-first, Any-right}
 use Rattle.stepmap.proofs.Sweeps.{new_of, last_passed, looked, unseen, Stands, stands, swept_has}
 use Rattle.stepmap.proofs.ThinnedRun.{passed_middle}
 

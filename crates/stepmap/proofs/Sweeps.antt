@@ -25,7 +25,7 @@ use Rattle.std.proofs.Common.{
 }
 use Rattle.std.specs.Prelude.{ℤ, negsuc, ◌≤ℤ◌, All}
 use Rattle.std.proofs.lemmas.List.Elements.{All-append, All-cons, All-filter, All-take, All-drop}
-use Rattle.keyspace.specs.Key.{IsBefore}
+use Rattle.keys.specs.Key.{IsBefore}
 use Rattle.keyspace.specs.Writes.{Write}
 use Rattle.stepmap.specs.Boundary.{Boundary, AreInOrder, RiseFrom, value_at, last_version, below}
 use Rattle.stepmap.specs.Sweeping.{thinned, is_left, left_from, passed_to, swept}

@@ -23,7 +23,7 @@ use Rattle.std.proofs.Common.{
 use Rattle.std.specs.Prelude.{ℤ, negsuc, ◌≤ℤ◌, All, Option, Some, None, IfSome}
 use Rattle.std.proofs.lemmas.Int.{ints}
 use Rattle.std.proofs.lemmas.List.Elements.{All-filter, All-drop, All-head, All-nil}
-use Rattle.keyspace.specs.Key.{IsKey}
+use Rattle.keys.specs.Key.{IsKey}
 use Rattle.keyspace.specs.Writes.{Write}
 use Rattle.stepmap.specs.Boundary.{Boundary, value_at, below}
 use Rattle.stepmap.specs.StepMap.{Round, Steps, IsRound, AreSteps}

@@ -2,10 +2,10 @@
 use Rattle.std.proofs.Common.{sym, subst, arith}
 use Rattle.std.specs.Prelude.{ℤ, ◌≤ℤ◌, ◌<ℤ◌}
 use Rattle.std.proofs.lemmas.Int.{ints}
-use Rattle.keyspace.specs.Range.{Holds, Meets}
+use Rattle.keys.specs.Range.{Holds, Meets}
 use Rattle.stepmap.specs.Boundary.{value_at}
 use Rattle.stepmap.specs.Laws.{TellsHits, GreatestTells}
-use Rattle.keyspace.proofs.SomeElement.{Any-weaker}
+use Rattle.keys.proofs.SomeElement.{Any-weaker}
 
 pub tells_hits : TellsHits
 tells_hits m ws range s covers le = (

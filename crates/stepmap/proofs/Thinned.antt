@@ -25,9 +25,9 @@ use Rattle.std.specs.Prelude.{ℤ, ◌≤ℤ◌, ◌<ℤ◌, ◌↔◌, int_lt, 
 use Rattle.std.specs.Int.{int_max}
 use Rattle.std.proofs.lemmas.Int.{ints, clamps}
 use Rattle.std.proofs.lemmas.List.Elements.{All-head, All-tail, All-cons, All-nil}
-use Rattle.keyspace.specs.Key.{is_before}
+use Rattle.keys.specs.Key.{is_before}
 use Rattle.keyspace.specs.Writes.{Write}
-use Rattle.keyspace.proofs.Booleans.{true_or_false, and_left, and_right}
+use Rattle.keys.proofs.Booleans.{true_or_false, and_left, and_right}
 use Rattle.stepmap.specs.Boundary.{Boundary, RiseFrom, value_from, last_version}
 use Rattle.stepmap.specs.Sweeping.{thinned}
 use Rattle.stepmap.specs.Rooted.{IsEndOf, Ends, AreRooted}

@@ -5,19 +5,19 @@ use Rattle.std.specs.Int.{int_max}
 use Rattle.std.proofs.lemmas.Int.{ints}
 use Rattle.std.proofs.lemmas.List.Sums.{sum_by-cons, sum_by-append}
 use Rattle.std.proofs.lemmas.List.Elements.{All-weaker}
-use Rattle.keyspace.specs.Range.{Holds, IsEmpty}
+use Rattle.keys.specs.Range.{Holds, IsEmpty}
 use Rattle.keyspace.specs.Writes.{Write, at_version}
-use Rattle.keyspace.specs.declared.range.Range.{Range}
+use Rattle.keys.specs.declared.range.Range.{Range}
 use Rattle.stepmap.specs.Boundary.{Boundary, below}
 use Rattle.stepmap.specs.Rooted.{IsEndOf, Ends, AreRooted}
-use Rattle.keyspace.specs.Range.{is_filled}
+use Rattle.keys.specs.Range.{is_filled}
 use Rattle.stepmap.specs.Counting.{filled_count, live_count}
 use Rattle.keyspace.specs.Ends.{IsEndIn}
 use Rattle.stepmap.specs.Uniting.{Unites}
 use Rattle.stepmap.specs.Laws.{UnitingTells, CountedAlong}
 use Rattle.stepmap.proofs.WrittenMap.{if_some_map}
 use Rattle.stepmap.proofs.Rooting.{OneEnd}
-use Rattle.keyspace.proofs.SomeElement.{Any-weaker, Any-parts, Any-left, Any-right, Any-map, Any-unmap}
+use Rattle.keys.proofs.SomeElement.{Any-weaker, Any-parts, Any-left, Any-right, Any-map, Any-unmap}
 
 abbrev at : ℤ → Range → Write
 at version range = record { range = range; version = version }

@@ -3,12 +3,12 @@ use Rattle.std.proofs.Common.{◌≡◌, ℕ, zero, suc, ◌+◌, List, [], ◌�
 use Rattle.std.specs.Prelude.{ℤ, ◌≤ℤ◌, Some, slice_get}
 use Rattle.std.proofs.lemmas.List.{take_all}
 use Rattle.std.proofs.lemmas.Option.{slice_get_within}
-use Rattle.keyspace.specs.Range.{IsEmpty}
-use Rattle.keyspace.specs.Key.{IsBefore}
-use Rattle.keyspace.proofs.KeyOrder.{not_before_itself}
-use Rattle.keyspace.proofs.Booleans.{not_both_ways}
+use Rattle.keys.specs.Range.{IsEmpty}
+use Rattle.keys.specs.Key.{IsBefore}
+use Rattle.keys.proofs.KeyOrder.{not_before_itself}
+use Rattle.keys.proofs.Booleans.{not_both_ways}
 use Rattle.keyspace.specs.Writes.{Write, at_version}
-use Rattle.keyspace.specs.declared.range.Range.{Range}
+use Rattle.keys.specs.declared.range.Range.{Range}
 use Rattle.stepmap.specs.Boundary.{AreUpTo}
 use Rattle.stepmap.specs.StepMap.{Steps, AreSteps, lengths}
 use Rattle.stepmap.specs.Writing.{AreApart, after_write}

@@ -2,11 +2,11 @@
 use Rattle.std.proofs.Common.{◌≡◌, ℕ, false, not, List, [], ◌∷◌, ◌++◌, refl, sym, subst, inl, inr, arith}
 use Rattle.std.specs.Prelude.{ℤ, negsuc, ◌≤ℤ◌, All}
 use Rattle.std.proofs.lemmas.List.Elements.{All-head}
-use Rattle.keyspace.specs.Key.{IsKey, is_before, IsBefore, IsAtMost}
-use Rattle.keyspace.specs.Range.{IsEmpty}
-use Rattle.keyspace.specs.declared.range.Range.{Range}
-use Rattle.keyspace.proofs.KeyOrder.{before_at_most}
-use Rattle.keyspace.proofs.Booleans.{true_or_false}
+use Rattle.keys.specs.Key.{IsKey, is_before, IsBefore, IsAtMost}
+use Rattle.keys.specs.Range.{IsEmpty}
+use Rattle.keys.specs.declared.range.Range.{Range}
+use Rattle.keys.proofs.KeyOrder.{before_at_most}
+use Rattle.keys.proofs.Booleans.{true_or_false}
 use Rattle.stepmap.specs.Boundary.{Boundary, AreBoundaries, AreInOrder, RiseFrom, value_at, below, from_on}
 use Rattle.stepmap.specs.Writing.{closed_at, written}
 use Rattle.stepmap.proofs.Order.{

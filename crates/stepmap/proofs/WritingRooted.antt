@@ -5,12 +5,12 @@ use Rattle.std.specs.Int.{int_max}
 use Rattle.std.proofs.lemmas.Int.{ints, clamps}
 use Rattle.std.proofs.lemmas.List.Quantifiers.{Any-push}
 use Rattle.std.proofs.lemmas.List.Elements.{All-head, All-filter}
-use Rattle.keyspace.specs.Key.{is_before, IsAtMost}
-use Rattle.keyspace.specs.Range.{IsEmpty}
+use Rattle.keys.specs.Key.{is_before, IsAtMost}
+use Rattle.keys.specs.Range.{IsEmpty}
 use Rattle.keyspace.specs.Writes.{Write}
-use Rattle.keyspace.specs.declared.range.Range.{Range}
-use Rattle.keyspace.proofs.KeyOrder.{at_most_antisym, at_most_itself}
-use Rattle.keyspace.proofs.Booleans.{true_or_false}
+use Rattle.keys.specs.declared.range.Range.{Range}
+use Rattle.keys.proofs.KeyOrder.{at_most_antisym, at_most_itself}
+use Rattle.keys.proofs.Booleans.{true_or_false}
 use Rattle.stepmap.specs.Boundary.{Boundary, AreUpTo, value_at, value_from, last_version, below, from_on}
 use Rattle.stepmap.specs.Writing.{closed_at, written}
 use Rattle.stepmap.specs.Rooted.{IsEndOf, Ends, AreRooted}

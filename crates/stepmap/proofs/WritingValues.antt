@@ -2,10 +2,10 @@
 use Rattle.std.proofs.Common.{◌≡◌, ℕ, not, List, [], ◌∷◌, refl, sym, ◌∙◌, ap, inl, inr}
 use Rattle.std.specs.Prelude.{ℤ, negsuc, All}
 use Rattle.std.proofs.lemmas.List.Elements.{All-head, All-cons, All-append, All-filter}
-use Rattle.keyspace.specs.Key.{is_before, IsBefore, IsAtMost}
-use Rattle.keyspace.specs.Range.{Holds, IsEmpty}
-use Rattle.keyspace.specs.declared.range.Range.{Range}
-use Rattle.keyspace.proofs.KeyOrder.{
+use Rattle.keys.specs.Key.{is_before, IsBefore, IsAtMost}
+use Rattle.keys.specs.Range.{Holds, IsEmpty}
+use Rattle.keys.specs.declared.range.Range.{Range}
+use Rattle.keys.proofs.KeyOrder.{
   before_at_most,
   at_most_trans,
   before_at_most_same,
@@ -13,10 +13,10 @@ use Rattle.keyspace.proofs.KeyOrder.{
   before_or_same,
   at_most_itself,
 }
-use Rattle.keyspace.proofs.Booleans.{true_or_false}
+use Rattle.keys.proofs.Booleans.{true_or_false}
 use Rattle.stepmap.specs.Boundary.{Boundary, value_from, value_at, last_version, below, from_on}
 use Rattle.stepmap.specs.Writing.{closed_at, written}
-use Rattle.keyspace.proofs.KeyOrder.{not_before_if}
+use Rattle.keys.proofs.KeyOrder.{not_before_if}
 use Rattle.stepmap.proofs.Order.{Rising, at_most_if}
 use Rattle.stepmap.proofs.Values.{
   FirstAfter,

@@ -21,11 +21,11 @@ use Rattle.std.proofs.Common.{
 use Rattle.std.specs.Prelude.{ℤ, negsuc, ◌≤ℤ◌, All, Option, Some, None, IfSome}
 use Rattle.std.proofs.lemmas.Int.{ints}
 use Rattle.std.proofs.lemmas.List.Elements.{All-head, All-tail, All-cons, All-nil, All-weaker}
-use Rattle.keyspace.specs.Key.{is_before}
-use Rattle.keyspace.specs.Range.{IsEmpty}
+use Rattle.keys.specs.Key.{is_before}
+use Rattle.keys.specs.Range.{IsEmpty}
 use Rattle.keyspace.specs.Writes.{Write}
-use Rattle.keyspace.specs.declared.range.Range.{Range}
-use Rattle.keyspace.proofs.Booleans.{true_or_false, not_both_ways}
+use Rattle.keys.specs.declared.range.Range.{Range}
+use Rattle.keys.proofs.Booleans.{true_or_false, not_both_ways}
 use Rattle.stepmap.specs.Boundary.{Boundary, AreBoundaries, AreUpTo, value_at, below}
 use Rattle.stepmap.specs.StepMap.{Round, Steps, IsRound, AreSteps}
 use Rattle.stepmap.specs.Writing.{written, after_write}

@@ -1,9 +1,9 @@
 -- What boundaries are asked, and what their tree is asked for that. This project's own.
 use Rattle.std.specs.Prelude.{◌≡◌, ℕ, ◌<ℤ◌, Bool, true, false, List}
 use Rattle.arena.specs.Arena.{Arena}
-use Rattle.keyspace.specs.Key.{IsBytes}
-use Rattle.keyspace.specs.Range.{Holds, IsEmpty}
-use Rattle.keyspace.specs.declared.range.Range.{Range}
+use Rattle.keys.specs.Key.{IsBytes}
+use Rattle.keys.specs.Range.{Holds, IsEmpty}
+use Rattle.keys.specs.declared.range.Range.{Range}
 use Rattle.stepmap.specs.Boundary.{Boundary, value_at}
 use Rattle.stepmap.specs.declared.asked.Asked.{Asked}
 use Rattle.stepmap.specs.declared.cut.Cut.{Cut}

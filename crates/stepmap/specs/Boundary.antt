@@ -1,6 +1,6 @@
 -- A step function from keys to versions, kept by its boundaries. This project's own.
 use Rattle.std.specs.Prelude.{◌≡◌, ℕ, ℤ, negsuc, ◌≤ℤ◌, not, if◌then◌else◌, List, [], ◌∷◌, filter, All}
-use Rattle.keyspace.specs.Key.{IsKey, is_before, IsBefore}
+use Rattle.keys.specs.Key.{IsKey, is_before, IsBefore}
 
 -- the function takes this version at the key, and keeps it up to the next boundary
 pub record Boundary : Type 0 where

@@ -1,8 +1,8 @@
 -- How many boundaries there can be. This project's own.
 use Rattle.std.specs.Prelude.{ℕ, ℤ, ◌&&◌, int_le, List, count_by}
-use Rattle.keyspace.specs.Range.{is_filled}
+use Rattle.keys.specs.Range.{is_filled}
 use Rattle.keyspace.specs.Writes.{Write}
-use Rattle.keyspace.specs.declared.range.Range.{Range}
+use Rattle.keys.specs.declared.range.Range.{Range}
 
 -- how many of the ranges aren't empty
 abbrev pub filled_count : List Range → ℕ

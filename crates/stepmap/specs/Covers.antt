@@ -1,9 +1,9 @@
 -- How a step function stands for the writes that it remembers.
 use Rattle.std.specs.Prelude.{ℕ, ℤ, ◌≤ℤ◌, ◌<ℤ◌, ◌↔◌, List, Any}
-use Rattle.keyspace.specs.Key.{IsBytes}
-use Rattle.keyspace.specs.Range.{Holds}
+use Rattle.keys.specs.Key.{IsBytes}
+use Rattle.keys.specs.Range.{Holds}
 use Rattle.keyspace.specs.Writes.{Write}
-use Rattle.keyspace.specs.declared.range.Range.{Range}
+use Rattle.keys.specs.declared.range.Range.{Range}
 use Rattle.stepmap.specs.Boundary.{value_at}
 use Rattle.stepmap.specs.StepMap.{Steps}
 

@@ -1,6 +1,6 @@
 -- Where a key stands among boundaries.
 use Rattle.std.specs.Prelude.{ℕ, not, List, filter}
-use Rattle.keyspace.specs.Key.{is_before}
+use Rattle.keys.specs.Key.{is_before}
 use Rattle.stepmap.specs.Boundary.{Boundary}
 
 -- the boundaries whose keys aren't after the key

@@ -19,10 +19,10 @@ use Rattle.std.specs.Prelude.{
   Some,
   slice_get,
 }
-use Rattle.keyspace.specs.Key.{IsBytes}
-use Rattle.keyspace.specs.Range.{IsEmpty, Holds, Meets}
+use Rattle.keys.specs.Key.{IsBytes}
+use Rattle.keys.specs.Range.{IsEmpty, Holds, Meets}
 use Rattle.keyspace.specs.Writes.{Write, at_version}
-use Rattle.keyspace.specs.declared.range.Range.{Range}
+use Rattle.keys.specs.declared.range.Range.{Range}
 use Rattle.stepmap.specs.Boundary.{Boundary, AreBoundaries, AreUpTo, value_at}
 use Rattle.stepmap.specs.StepMap.{Steps, AreSteps, lengths}
 use Rattle.stepmap.specs.Writing.{AreApart, after_write}

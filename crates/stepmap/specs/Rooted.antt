@@ -1,7 +1,7 @@
 -- Where boundaries come from: the begins and ends of ranges written not too long ago, so that there are few.
 use Rattle.std.specs.Prelude.{◌≡◌, ◌≢◌, ℕ, ℤ, negsuc, ◌≤ℤ◌, ◌⊎◌, List, [], ◌∷◌, All, Any, IfSome}
 use Rattle.std.specs.Int.{int_max}
-use Rattle.keyspace.specs.Range.{IsEmpty}
+use Rattle.keys.specs.Range.{IsEmpty}
 use Rattle.keyspace.specs.Writes.{Write}
 use Rattle.stepmap.specs.Boundary.{Boundary, below}
 use Rattle.stepmap.specs.StepMap.{Steps}

@@ -17,8 +17,8 @@ use Rattle.std.specs.Prelude.{
   ◌≤ℤ◌,
   ◌≢◌,
 }
-use Rattle.keyspace.specs.Key.{IsKey}
-use Rattle.keyspace.specs.declared.range.Range.{Range}
+use Rattle.keys.specs.Key.{IsKey}
+use Rattle.keys.specs.declared.range.Range.{Range}
 use Rattle.stepmap.specs.declared.step_map.TheConstants.{MAX_LIMIT}
 use Rattle.stepmap.specs.Boundary.{Boundary, AreBoundaries}
 

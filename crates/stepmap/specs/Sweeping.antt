@@ -20,7 +20,7 @@ use Rattle.std.specs.Prelude.{
   Some,
   None,
 }
-use Rattle.keyspace.specs.Key.{is_before}
+use Rattle.keys.specs.Key.{is_before}
 use Rattle.stepmap.specs.Boundary.{Boundary, last_version}
 use Rattle.stepmap.specs.StepMap.{Round, Steps}
 

@@ -1,9 +1,9 @@
 -- Ranges that hold the same keys as others, apart from one another. This project's own.
 use Rattle.std.specs.Prelude.{ℕ, ◌≤◌, ◌↔◌, List, length, All, Any}
-use Rattle.keyspace.specs.Key.{IsBytes}
-use Rattle.keyspace.specs.Range.{Holds}
+use Rattle.keys.specs.Key.{IsBytes}
+use Rattle.keys.specs.Range.{Holds}
 use Rattle.keyspace.specs.Ends.{IsEndIn}
-use Rattle.keyspace.specs.declared.range.Range.{Range}
+use Rattle.keys.specs.declared.range.Range.{Range}
 use Rattle.stepmap.specs.Writing.{AreApart}
 use Rattle.stepmap.specs.Counting.{filled_count}
 

@@ -1,7 +1,7 @@
 -- A range is written. This project's own.
 use Rattle.std.specs.Prelude.{ℕ, ℤ, if◌then◌else◌, List, [], ◌∷◌, ◌++◌, drop}
-use Rattle.keyspace.specs.Key.{is_before, IsBefore}
-use Rattle.keyspace.specs.declared.range.Range.{Range}
+use Rattle.keys.specs.Key.{is_before, IsBefore}
+use Rattle.keys.specs.declared.range.Range.{Range}
 use Rattle.stepmap.specs.Boundary.{Boundary, value_at, below, from_on}
 use Rattle.stepmap.specs.StepMap.{Steps}
 

@@ -1,12 +1,12 @@
 //! What a step map is asked, and what the tree of its boundaries is asked for that.
 ghost use Rattle.std.specs.Prelude.{◌≡◌, ◌≤◌, length, take, IfSome, OnOk, slice_get};
 ghost use Rattle.std.specs.List.{All, AllZip};
-ghost use Rattle.keyspace.specs.Range.{IsEmpty};
+ghost use Rattle.keys.specs.Range.{IsEmpty};
 ghost use Rattle.stepmap.specs.Asking.{AsksFor};
 
 use crate::cut::Cut;
 use arena::Arena;
-use keyspace::{Range, common};
+use keys::{Range, common};
 use std::alloc::AllocError;
 use tree::Question;
 

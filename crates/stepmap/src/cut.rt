@@ -1,11 +1,11 @@
 ghost use Rattle.arena.specs.Arena.{key_at};
 ghost use Rattle.std.specs.Prelude.{◌≡◌, drop};
-ghost use Rattle.keyspace.specs.Key.{IsBytes};
+ghost use Rattle.keys.specs.Key.{IsBytes};
 ghost use Rattle.stepmap.specs.Stored.{bytes_at};
 ghost use Rattle.stepmap.specs.Cut.{slot_passes, passes_in_order};
 
 use arena::{Arena, Slot};
-use keyspace::{common, digest};
+use keys::{common, digest};
 use std::cmp::Ordering;
 use tree::Probe;
 

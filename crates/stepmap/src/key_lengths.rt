@@ -2,12 +2,12 @@ ghost use Rattle.std.specs.Prelude.{◌≡◌, IfOk, OnOk};
 ghost use Rattle.stepmap.specs.StepMap.{lengths};
 ghost use Rattle.stepmap.specs.Stored.{each_length};
 
-use keyspace::RangeRef;
+use keys::RangeRef;
 use std::alloc::{AllocError, Global};
 use std::collections::VecDeque;
 use std::marker::Model;
 
-/// The lengths in bytes of a range's begin and end, each at most [`MAX_KEY_LENGTH`](keyspace::MAX_KEY_LENGTH). Contracts
+/// The lengths in bytes of a range's begin and end, each at most [`MAX_KEY_LENGTH`](keys::MAX_KEY_LENGTH). Contracts
 /// see them as a pair, that of the begin first.
 #[derive(Clone, Copy, Debug, PartialEq, Eq, Hash)]
 pub struct KeyLengths {
@@ -17,7 +17,7 @@ pub struct KeyLengths {
 
 impl Model for KeyLengths {
     ghost use Rattle.std.specs.Prelude.{ℕ, ◌≤◌};
-    ghost use Rattle.keyspace.specs.declared.key.TheConstants.{MAX_KEY_LENGTH};
+    ghost use Rattle.keys.specs.declared.key.TheConstants.{MAX_KEY_LENGTH};
 
     ghost Value = { ℕ × ℕ };
 

@@ -2,8 +2,8 @@
 ghost use Rattle.std.specs.Prelude.{◌≡◌, ◌≢◌, ℕ, ◌≤◌, negsuc, [], ◌++◌, length, take, drop, vec_capacity};
 ghost use Rattle.std.specs.Prelude.{Any, All, IfSome, unwrap_or, option_map};
 ghost use Rattle.arena.specs.Arena.{IsLive};
-ghost use Rattle.keyspace.specs.Key.{IsKey};
-ghost use Rattle.keyspace.specs.declared.key.TheConstants.{MAX_KEY_LENGTH};
+ghost use Rattle.keys.specs.Key.{IsKey};
+ghost use Rattle.keys.specs.declared.key.TheConstants.{MAX_KEY_LENGTH};
 ghost use Rattle.stepmap.specs.Boundary.{AreBoundaries, last_version};
 ghost use Rattle.stepmap.specs.Stored.{spare_in, first_key, bytes_at};
 ghost use Rattle.stepmap.specs.Sweeping.{left_from, passed_to, swept, thinned};

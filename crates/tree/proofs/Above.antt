@@ -9,7 +9,7 @@ use mir.Val.{SFits, to_z, of_z}
 use Rattle.tree.specs.declared.entry.Entry.{Entry}
 use Rattle.tree.specs.Item.{Item, Tells, item_of}
 use Rattle.tree.proofs.Cuts.{not_both}
-use Rattle.keyspace.proofs.SomeElement.{
+use Rattle.keys.proofs.SomeElement.{
   Any-weaker,
   Any-first,
   Any-later,

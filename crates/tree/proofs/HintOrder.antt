@@ -4,9 +4,9 @@ use Rattle.std.specs.Int.{w64, to_be_bytes, from_be_bytes}
 use Rattle.std.proofs.lemmas.Bool.{cases_lt, cases_order}
 use Rattle.std.proofs.lemmas.List.{take-take, take-append-le, take-append-drop, take_more_same, length-take-le, drop-take, length-drop, get_or_append_left}
 use Rattle.std.proofs.lemmas.List.Elements.{All-drop}
-use Rattle.keyspace.specs.Key.{IsBytes, IsBefore}
-use Rattle.keyspace.specs.Digest.{first_eight, digest_of}
-use Rattle.keyspace.proofs.Digests.{digest_less, digest_of-bytes, behind_common, behind_shorter, behind_differing}
+use Rattle.keys.specs.Key.{IsBytes, IsBefore}
+use Rattle.keys.specs.Digest.{first_eight, digest_of}
+use Rattle.keys.proofs.Digests.{digest_less, digest_of-bytes, behind_common, behind_shorter, behind_differing}
 use Rattle.tree.specs.Hints.{digest_behind, PassesInOrder, TellsCommon}
 
 abbrev IsByte : ℕ → Type 0

@@ -6,8 +6,8 @@ use Rattle.std.proofs.lemmas.List.Elements.{All-nil, All-cons, All-head, All-tai
 use Rattle.std.specs.FinMap as finite
 use Rattle.std.specs.Ordering.{nat_cmp}
 use Rattle.arena.specs.Arena.{Arena, Record, record_at, header_at}
-use Rattle.keyspace.specs.Digest.{digest_of}
-use Rattle.keyspace.specs.Key.{IsBytes}
+use Rattle.keys.specs.Digest.{digest_of}
+use Rattle.keys.specs.Key.{IsBytes}
 use Rattle.tree.specs.declared.entry.Entry.{Entry}
 use Rattle.tree.specs.declared.node.Node.{Node}
 use Rattle.tree.specs.Hints.{KeyBytes, Begins, Hint, IsHinted, AreHinted, digest_behind}

@@ -19,7 +19,7 @@ use Rattle.tree.proofs.Cuts.{All-front, All-back, none_pass, none_passed, IsCut-
 use Rattle.tree.proofs.Inserting.{Ended, ended_some, same_ends}
 use Rattle.tree.proofs.Keys.{behind-parts}
 use Rattle.tree.proofs.Leaves.{entries_of_cut}
-use Rattle.keyspace.proofs.SomeElement.{Any-first, Any-right}
+use Rattle.keys.proofs.SomeElement.{Any-first, Any-right}
 use Rattle.tree.proofs.Stepping.{IsAt, items_split}
 use Rattle.tree.proofs.Told.{filter_around, none_of_fewer}
 use Rattle.tree.proofs.Ways.{way}

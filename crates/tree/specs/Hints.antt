@@ -1,8 +1,8 @@
 -- What nodes know of the bytes of keys. This project's own.
 use Rattle.std.specs.Prelude.{◌≡◌, ◌⊎◌, ◌≤◌, ◌↔◌, ℕ, Bool, true, false, List, [], length, map, take, drop, Option, Some, slice_get, unwrap_or, IfSome, MatchOption}
 use Rattle.std.specs.List.{All, Contains}
-use Rattle.keyspace.specs.Key.{IsBytes, IsBefore}
-use Rattle.keyspace.specs.Digest.{digest_of}
+use Rattle.keys.specs.Key.{IsBytes, IsBefore}
+use Rattle.keys.specs.Digest.{digest_of}
 use Rattle.tree.specs.declared.entry.Entry.{Entry}
 
 -- the bytes of keys, of those that are known

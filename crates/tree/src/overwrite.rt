@@ -3,7 +3,7 @@
 ghost use Rattle.std.specs.Prelude.{◌≡◌, ◌≢◌, ◌≤◌, ◌<◌, ◌+◌, ◌*◌, ◌++◌, ◌∷◌, ◌-◌, ℕ, [], true, length, map, take, drop, nat_eq, IfSome, None, Some};
 ghost use Rattle.std.specs.List.{All, IsDistinct};
 ghost use Rattle.arena.specs.Arena.{IsLive, spare_of};
-ghost use Rattle.keyspace.specs.Key.{IsBytes};
+ghost use Rattle.keys.specs.Key.{IsBytes};
 ghost use Rattle.tree.specs.Hints.{AreHinted, IsKnown, KnowsAt};
 ghost use Rattle.tree.specs.Item.{item_of};
 ghost use Rattle.tree.specs.Node.{entries_of, hints_of, keys_of};

@@ -1,7 +1,7 @@
 //! What is looked for in a tree.
 
 ghost use Rattle.std.specs.Prelude.{◌≡◌, ◌≤◌, ◌↔◌, ℕ, Bool, List, [], length, take, Option, Some, IsTrue};
-ghost use Rattle.keyspace.specs.Key.{IsBytes};
+ghost use Rattle.keys.specs.Key.{IsBytes};
 ghost use Rattle.tree.specs.Hints.{KeyBytes, digest_behind, PassesInOrder, TellsCommon};
 
 use arena::Slot;

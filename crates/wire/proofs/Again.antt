@@ -10,8 +10,8 @@ use Rattle.std.proofs.lemmas.List.Concat.{flat_map-cons}
 use Rattle.std.proofs.Math.Facts.{Fits-of_z}
 use Rattle.byteorder.specs.Endian.{big_bytes, big_number}
 use Rattle.byteorder.specs.Numbers.{big_number-reads_back, length-bytes_high_first}
-use Rattle.keyspace.specs.Key.{is_before}
-use Rattle.keyspace.proofs.Booleans.{and_both}
+use Rattle.keys.specs.Key.{is_before}
+use Rattle.keys.proofs.Booleans.{and_both}
 use Rattle.wire.specs.declared.version.WireVersion.{WireVersion}
 use Rattle.wire.specs.declared.version.WireVersion.TheVariants.{One, Two}
 use Rattle.wire.specs.Fields.{RangeFields, TxnFields, BatchFields}

@@ -4,8 +4,8 @@ use Rattle.std.specs.Coded.{le_prop, Coded-set, coded_list, coded_ℕ}
 use lib.Dec.{T_prop}
 use mathlib.Core.Bool.{Bool-set}
 use mathlib.Core.HLevel.{is_prop→PathP}
-use Rattle.keyspace.specs.Key.{IsKey, IsAtMost}
-use Rattle.keyspace.specs.declared.range.Range.{Range}
+use Rattle.keys.specs.Key.{IsKey, IsAtMost}
+use Rattle.keys.specs.declared.range.Range.{Range}
 use Rattle.keyspace.specs.declared.txn.Txn.{Txn}
 use Rattle.keyspace.specs.declared.batch.Batch.{Batch}
 use Rattle.keyspace.specs.declared.reply.Verdict.{Verdict}

@@ -10,8 +10,8 @@ use Rattle.std.proofs.lemmas.List.{take-append-drop, length-take, length-append,
 use Rattle.std.proofs.lemmas.List.Concat.{flat_map-cons}
 use Rattle.std.proofs.lemmas.List.Elements.{All-nil, All-cons, All-append}
 use Rattle.byteorder.specs.Endian.{big_bytes}
-use Rattle.keyspace.specs.Key.{IsKey, IsBytes, is_before}
-use Rattle.keyspace.proofs.Booleans.{and_left, and_right}
+use Rattle.keys.specs.Key.{IsKey, IsBytes, is_before}
+use Rattle.keys.proofs.Booleans.{and_left, and_right}
 use Rattle.wire.specs.declared.error.WireError.{WireError}
 use Rattle.wire.specs.declared.error.WireError.TheVariants.{Kind, Marks, Count, KeyLength, Inverted, Cut, Spelling}
 use Rattle.wire.specs.declared.version.WireVersion.{WireVersion}

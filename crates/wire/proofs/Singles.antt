@@ -8,8 +8,8 @@ use Rattle.std.proofs.lemmas.Bool.{eqb-true, eq-eqb, ne_eqb}
 use Rattle.std.proofs.lemmas.Cmp.{nat_cmp_total, tied_itself}
 use Rattle.std.proofs.lemmas.List.{length-append}
 use Rattle.std.proofs.lemmas.Slice.Eq.{bytes_eq-Decides}
-use Rattle.keyspace.specs.Key.{is_before, IsAtMost}
-use Rattle.keyspace.proofs.Booleans.{and_left, and_right, and_both}
+use Rattle.keys.specs.Key.{is_before, IsAtMost}
+use Rattle.keys.proofs.Booleans.{and_left, and_right, and_both}
 use Rattle.wire.specs.Fields.{RangeFields}
 use Rattle.wire.specs.Spelling.{single_key, is_single_key}
 

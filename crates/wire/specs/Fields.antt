@@ -1,6 +1,6 @@
 -- What a frame says: ranges, transactions, batches, entries and replies, without the facts that their types carry.
 use Rattle.std.specs.Prelude.{ℕ, ℤ, Bool, List, map}
-use Rattle.keyspace.specs.declared.range.Range.{Range}
+use Rattle.keys.specs.declared.range.Range.{Range}
 use Rattle.keyspace.specs.declared.txn.Txn.{Txn}
 use Rattle.keyspace.specs.declared.batch.Batch.{Batch}
 use Rattle.keyspace.specs.declared.reply.Verdict.{Verdict}

@@ -1,6 +1,6 @@
 -- A transaction on its way, whose ranges lie among those of others. This project's own.
 use Rattle.std.specs.Prelude.{◌≤◌, List, length, map, slice_range}
-use Rattle.keyspace.specs.declared.range.Range.{Range}
+use Rattle.keys.specs.declared.range.Range.{Range}
 use Rattle.wire.specs.declared.head.Head.{Head}
 use Rattle.wire.specs.Fields.{TxnFields, range_fields}
 

@@ -2,10 +2,10 @@
 use Rattle.std.specs.Prelude.{◌≡◌, ◌≢◌, ℕ, ◌+◌, zero, suc, ℤ, pos, negsuc, Bool, ◌&&◌, List, [], ◌∷◌, length, take, drop, slice_index, Option, Some, None, Result, Ok, Err, nat_lt, nat_le, int_lt, int_le, ◌==◌, if◌then◌else◌}
 use Rattle.std.specs.Int.{w64, cast_signed}
 use Rattle.byteorder.specs.Endian.{big_number}
-use Rattle.keyspace.specs.declared.key.TheConstants.{MAX_KEY_LENGTH}
+use Rattle.keys.specs.declared.key.TheConstants.{MAX_KEY_LENGTH}
 use Rattle.keyspace.specs.declared.txn.TheConstants.{MAX_RANGES}
 use Rattle.keyspace.specs.declared.batch.TheConstants.{MAX_TXNS}
-use Rattle.keyspace.specs.Key.{is_before}
+use Rattle.keys.specs.Key.{is_before}
 use Rattle.keyspace.specs.declared.reply.Verdict.{Verdict}
 use Rattle.keyspace.specs.declared.reply.Verdict.TheVariants.{Conflict, TooOld, Committed}
 use Rattle.wire.specs.declared.error.WireError.{WireError}

@@ -9,7 +9,7 @@ use Rattle.std.specs.Int.RustNames.{FitsSigned}
 use Rattle.byteorder.specs.Endian.{big_bytes}
 use Rattle.keyspace.specs.declared.txn.TheConstants.{MAX_RANGES}
 use Rattle.keyspace.specs.declared.batch.TheConstants.{MAX_TXNS}
-use Rattle.keyspace.specs.Key.{IsKey, IsAtMost}
+use Rattle.keys.specs.Key.{IsKey, IsAtMost}
 use Rattle.keyspace.specs.Places.{ArePlaces}
 use Rattle.keyspace.specs.declared.batch.Batch.{Batch}
 use Rattle.keyspace.specs.declared.reply.Verdict.{Verdict}

@@ -7,7 +7,7 @@ ghost use Rattle.wire.specs.Reading.{Gives, number_at, signed_at, count_at, mark
 
 use crate::error::WireError;
 use byteorder::{BigEndian, ByteOrder};
-use keyspace::{Key, MAX_KEY_LENGTH};
+use keys::{Key, MAX_KEY_LENGTH};
 use std::alloc::Global;
 
 /// The longest body of a frame, in bytes.

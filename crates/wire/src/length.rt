@@ -7,7 +7,8 @@ ghost use Rattle.wire.specs.Spelling.{key_text, ends_text, range_text, txn_text,
 
 use crate::single::is_single;
 use crate::version::WireVersion;
-use keyspace::{Batch, Entry, Key, MAX_RANGES, MAX_TXNS, Range, Reply, Txn};
+use keys::{Key, Range};
+use keyspace::{Batch, Entry, MAX_RANGES, MAX_TXNS, Reply, Txn};
 
 fn key_length(key: &Key) -> usize
     ensures exact { result ≡ length (key_text key.now) }

@@ -11,7 +11,8 @@ ghost use Rattle.wire.specs.Spelling.{signed_text, key_text, ends_text, formed_t
 
 use crate::single::is_single;
 use crate::version::WireVersion;
-use keyspace::{Entry, Key, Range, Txn, Verdict};
+use keys::{Key, Range};
+use keyspace::{Entry, Txn, Verdict};
 use std::alloc::AllocError;
 
 /// Appends a number of two bytes.

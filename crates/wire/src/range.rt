@@ -6,7 +6,7 @@ use crate::error::WireError;
 use crate::field::{key_of, room_for, u8_at};
 use crate::single::{MAX_SINGLE_KEY_LENGTH, end_of_single, is_single};
 use crate::version::WireVersion;
-use keyspace::{MAX_KEY_LENGTH, Range};
+use keys::{MAX_KEY_LENGTH, Range};
 use std::alloc::Global;
 
 // The fewest bytes that a range takes in either version: in version 2, a form and the length of a key.

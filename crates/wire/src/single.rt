@@ -4,7 +4,7 @@ ghost use Rattle.std.specs.Prelude.{◌≡◌, ◌≤◌, ◌++◌, ◌∷◌, [
 ghost use Rattle.wire.specs.Fields.{range_fields};
 ghost use Rattle.wire.specs.Spelling.{is_single_key};
 
-use keyspace::{Key, MAX_KEY_LENGTH, Range};
+use keys::{Key, MAX_KEY_LENGTH, Range};
 use std::alloc::{AllocError, Global};
 
 /// The greatest length of a single key, in bytes. Its end has one byte more.

@@ -9,7 +9,8 @@ use crate::field::{count_of, i64_at, marks_of, room_for};
 use crate::head::Head;
 use crate::range::push_ranges;
 use crate::version::WireVersion;
-use keyspace::{MAX_RANGES, Range, Ranges, Sequence, Txn};
+use keys::Range;
+use keyspace::{MAX_RANGES, Ranges, Sequence, Txn};
 use std::alloc::{AllocError, Global};
 use std::sync::Arc;
 

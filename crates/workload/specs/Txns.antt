@@ -1,7 +1,7 @@
 -- What the transactions of a file look like, by the shape. Which of these keys and snapshots are drawn isn't said.
 use Rattle.std.specs.Prelude.{◌≡◌, ℕ, ◌+◌, ◌-◌, ◌%◌, ◌<◌, ◌≤◌, ℤ, List, [], ◌∷◌, ◌++◌, length, replicate, All, codes, false}
 use Rattle.std.specs.Int.{w64, to_be_bytes}
-use Rattle.keyspace.specs.declared.range.Range.{Range}
+use Rattle.keys.specs.declared.range.Range.{Range}
 use Rattle.keyspace.specs.declared.txn.Txn.{Txn}
 use Rattle.workload.specs.Versions.{version_of, keys_of, reads_of, writes_of}
 use Rattle.workload.specs.declared.shape.Shape.{Shape}

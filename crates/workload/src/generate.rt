@@ -8,9 +8,9 @@ ghost use Rattle.workload.specs.Chain.{previous_of, AreFrames};
 
 use crate::chain::{version, version_before};
 use crate::fault::Fault;
-use crate::keys::draw_ranges;
 use crate::plan::Plan;
 use crate::random::Random;
+use crate::ranges::draw_ranges;
 use crate::shape::Shape;
 use keyspace::{Batch, MAX_RANGES, MAX_TXNS, Sequence, Txn, Txns};
 use std::alloc::Global;

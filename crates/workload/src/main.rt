@@ -1,7 +1,7 @@
 //! The program `workload` writes a file of batch frames to measure `replay` with: `workload SHAPE BATCHES TRANSACTIONS`.
 //!
 //! `words` reads the command line. `generate` draws the batches of one chain by the numbers of `random`, as their `shape` wants,
-//! and writes their frames. `chain` settles their versions, and `keys` their keys.
+//! and writes their frames. `chain` settles their versions, and `ranges` their ranges.
 #![tactic(auto)]
 
 ghost use Rattle.std.specs.Prelude.{◌≡◌, ◌⊎◌, ◌<◌, ◌≤◌, ℕ, List, true, false, length, map, string_bytes, Ok, Err, IfOk, OnOk};
@@ -13,9 +13,9 @@ ghost use Rattle.workload.specs.declared.fault.Fault.{Fault as FaultValue};
 mod chain;
 mod fault;
 mod generate;
-mod keys;
 mod plan;
 mod random;
+mod ranges;
 mod shape;
 mod words;
 

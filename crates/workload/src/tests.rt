@@ -3,8 +3,8 @@
 
 use super::*;
 use crate::generate::draw_batch;
-use crate::keys::draw_range;
 use crate::random::Random;
+use crate::ranges::draw_range;
 use crate::shape::Shape;
 use std::alloc::Global;
 use std::collections::BTreeSet;

@@ -1,7 +1,7 @@
 //! The keys of sorted ends, each once, and the ranks of the ends among them.
 
 ghost use Rattle.std.specs.Prelude.{◌≡◌, ◌↔◌, ◌<◌, ℕ, List, length, map, replicate, All, Contains, IsTrue, OnOk};
-ghost use Rattle.keyspace.specs.declared.range.Range.{Range};
+ghost use Rattle.keys.specs.declared.range.Range.{Range};
 ghost use Rattle.keyspace.specs.Ranks.{AreRising, runs_of};
 ghost use Rattle.keyspace.specs.Ends.{key_of_end, keys_of};
 ghost use Rattle.keyspace.specs.Sorting.{keys_in_order, places_of, AreAlike, AreInKeyOrder, ArePlaced};

@@ -1,5 +1,5 @@
 use Rattle.std.proofs.Common.{◌≡◌, ◌++◌, ℕ, List, length, take}
-use Rattle.keyspace.specs.declared.range.Range.{Range}
+use Rattle.keys.specs.declared.range.Range.{Range}
 use Rattle.conflict.specs.Written.{AreWrittenGaps, TellRuns}
 use Rattle.conflict.proofs.in_batch.mark.Given as goal
 

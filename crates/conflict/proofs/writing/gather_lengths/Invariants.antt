@@ -1,5 +1,5 @@
 use Rattle.std.proofs.Common.{◌≡◌, List, take, map, length}
-use Rattle.keyspace.specs.declared.range.Range.{Range}
+use Rattle.keys.specs.declared.range.Range.{Range}
 use Rattle.stepmap.specs.StepMap.{lengths}
 use Rattle.keyspace.specs.Ends.{keys_of}
 use Rattle.conflict.specs.Union.{AreSpanned}

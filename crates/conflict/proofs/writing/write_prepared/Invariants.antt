@@ -1,6 +1,6 @@
 use Rattle.std.proofs.Common.{◌≡◌, ℕ, ◌≤◌, ◌-◌, List, length}
 use Rattle.std.specs.Prelude.{MatchOption, Some, slice_get}
-use Rattle.keyspace.specs.declared.range.Range.{Range}
+use Rattle.keys.specs.declared.range.Range.{Range}
 use Rattle.stepmap.specs.Laws.{IsWriting}
 use Rattle.keyspace.specs.Ends.{keys_of}
 use Rattle.conflict.specs.Union.{Spans, AreSpanned}

@@ -1,7 +1,7 @@
 use Rattle.std.proofs.Common.{◌≡◌, List, [], ◌∷◌, length, get_or, refl, true, false, arith, rules}
 use Rattle.std.specs.Prelude.{IfSome, slice_get}
 use Rattle.std.proofs.lemmas.List.Elements.{All-more}
-use Rattle.keyspace.specs.Range.{IsEmpty}
+use Rattle.keys.specs.Range.{IsEmpty}
 use Rattle.stepmap.specs.declared.asked.Asked.{Asked}
 use Rattle.stepmap.proofs.asked.filled.Goals as goal
 

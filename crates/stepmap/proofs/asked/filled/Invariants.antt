@@ -1,6 +1,6 @@
 use Rattle.std.proofs.Common.{◌≤◌, ◌-◌, length, take}
 use Rattle.std.specs.List.{All}
-use Rattle.keyspace.specs.Range.{IsEmpty}
+use Rattle.keys.specs.Range.{IsEmpty}
 use Rattle.stepmap.proofs.asked.filled.Given as goal
 
 abbrev pub invariant-loop-count : goal.invariant-loop-count

@@ -2,8 +2,8 @@ use Rattle.std.proofs.Common.{rules, w64, ◌+◌, sym, subst, refl, true, false
 use Rattle.std.specs.List.{AllZip}
 use Rattle.std.proofs.lemmas.Int.{to_z-of_z}
 use Rattle.std.proofs.lemmas.List.Elements.{All-get_or}
-use Rattle.keyspace.specs.Key.{IsBefore}
-use Rattle.keyspace.specs.Range.{IsEmpty}
+use Rattle.keys.specs.Key.{IsBefore}
+use Rattle.keys.specs.Range.{IsEmpty}
 use Rattle.stepmap.specs.Asking.{AsksFor}
 use Rattle.stepmap.specs.declared.asked.Asked.{Asked}
 use Rattle.stepmap.proofs.Asking.{Asks}

@@ -1,5 +1,5 @@
 use Rattle.std.proofs.Common.{◌≡◌, List, length, take, replicate}
-use Rattle.keyspace.specs.declared.range.Range.{Range}
+use Rattle.keys.specs.declared.range.Range.{Range}
 use Rattle.keyspace.specs.Ends.{keys_of}
 use Rattle.keyspace.specs.Sorting.{keys_in_order, places_of, ArePlaced}
 use Rattle.keyspace.proofs.RanksDistinct.{Kept}

@@ -2,7 +2,7 @@ use Rattle.std.proofs.Common.{◌≡◌, ◌+◌, ◌≢◌, [], ◌++◌, Some,
 use Rattle.std.specs.List.{Contains}
 use Rattle.std.specs.FinMap as finite
 use Rattle.arena.specs.Arena.{Arena, record_at}
-use Rattle.keyspace.specs.Key.{IsBefore}
+use Rattle.keys.specs.Key.{IsBefore}
 use Rattle.tree.specs.declared.entry.Entry.{Entry}
 use Rattle.tree.specs.Item.{Item, item_of}
 use Rattle.tree.specs.Path.{passing, behind, between}

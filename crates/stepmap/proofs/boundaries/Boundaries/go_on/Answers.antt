@@ -3,7 +3,7 @@ use Rattle.std.specs.Prelude.{MatchOption}
 use Rattle.std.proofs.lemmas.Int.{to_z-of_z}
 use Rattle.std.proofs.lemmas.List.Elements.{All-filter, All-weaker}
 use Rattle.arena.specs.Arena.{IsLive}
-use Rattle.keyspace.specs.Key.{IsKey}
+use Rattle.keys.specs.Key.{IsKey}
 use Rattle.tree.specs.Item.{Item, item_of}
 use Rattle.tree.specs.Path.{passing, behind}
 use Rattle.tree.specs.Tree.{IsLast}

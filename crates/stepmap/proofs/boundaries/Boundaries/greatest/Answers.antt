@@ -4,7 +4,7 @@ use Rattle.std.specs.Int.{int_max}
 use Rattle.std.proofs.lemmas.Int.{to_z-of_z}
 use Rattle.tree.specs.Item.{Item}
 use Rattle.tree.specs.Path.{between}
-use Rattle.keyspace.specs.Key.{IsBefore}
+use Rattle.keys.specs.Key.{IsBefore}
 use Rattle.stepmap.specs.Boundary.{Boundary, value_at}
 use Rattle.stepmap.specs.Cut.{slot_passes}
 use Rattle.stepmap.specs.Stored.{Stored, boundaries_of}

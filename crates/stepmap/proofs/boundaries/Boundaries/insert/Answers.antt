@@ -3,7 +3,7 @@ use Rattle.std.proofs.lemmas.List.{length-map}
 use Rattle.std.proofs.lemmas.List.Elements.{All-from_get_or}
 use Rattle.std.proofs.lemmas.Int.{to_z-of_z}
 use Rattle.stepmap.specs.Stored.{Stored, boundary_of, boundaries_of}
-use Rattle.keyspace.specs.Key.{IsBytes}
+use Rattle.keys.specs.Key.{IsBytes}
 use Rattle.stepmap.proofs.Indexed.{hinted_placed, known_placed}
 use Rattle.stepmap.proofs.Inserted.{with_boundary}
 use Rattle.stepmap.proofs.Placed.{is_placed, placed_cut, placed_boundaries, placed_stored}

@@ -2,8 +2,8 @@ use Rattle.std.proofs.Common.{◌≡◌, ◌∙◌, ap, take, arith, refl, true,
 use Rattle.std.specs.Prelude.{IsTrue, Any, ◌↔◌, ◌<ℤ◌}
 use Rattle.std.proofs.lemmas.Int.{to_z-of_z}
 use Rattle.std.proofs.Common.{w64}
-use Rattle.keyspace.specs.Key.{IsBytes, IsBefore}
-use Rattle.keyspace.specs.Range.{Holds}
+use Rattle.keys.specs.Key.{IsBytes, IsBefore}
+use Rattle.keys.specs.Range.{Holds}
 use Rattle.tree.specs.Item.{Item}
 use Rattle.tree.specs.Path.{from_last}
 use Rattle.stepmap.specs.Boundary.{AreBoundaries, value_at}

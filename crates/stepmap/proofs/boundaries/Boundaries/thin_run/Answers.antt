@@ -5,7 +5,7 @@ use Rattle.std.proofs.lemmas.List.Elements.{All-filter, All-drop, All-weaker}
 use Rattle.std.specs.List.{Contains}
 use Rattle.std.specs.FinMap as finite
 use Rattle.arena.specs.Arena.{Arena, IsLive, record_at}
-use Rattle.keyspace.specs.Key.{IsKey}
+use Rattle.keys.specs.Key.{IsKey}
 use Rattle.tree.specs.declared.entry.Entry.{Entry}
 use Rattle.tree.specs.declared.node.Node.{Node}
 use Rattle.tree.specs.Item.{Item, item_of}

@@ -12,7 +12,7 @@ use Rattle.tree.specs.Hints.{AreHinted}
 use Rattle.tree.specs.Overwrite.{entries_of_run}
 use Rattle.tree.specs.Tree.{Items, hints_in}
 use Rattle.arena.specs.Arena.{Arena, IsLive, record_at, key_at, spare_of, size_of, wanted_of}
-use Rattle.keyspace.specs.Key.{IsBefore, IsBytes}
+use Rattle.keys.specs.Key.{IsBefore, IsBytes}
 use Rattle.stepmap.specs.Boundary.{value_at}
 use Rattle.stepmap.specs.Cut.{slot_passes}
 use Rattle.stepmap.specs.Stored.{Stored, spare_in, boundary_of, boundaries_of, AreIndexed}

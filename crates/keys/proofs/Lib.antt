@@ -1,0 +1,6 @@
+pub mod Booleans
+pub mod SomeElement
+pub mod KeyOrder
+pub mod Meeting
+pub mod Digests
+pub mod Words

@@ -1,0 +1,5 @@
+use Rattle.keys.proofs.Meeting.{meets_by_ends}
+use Rattle.keys.proofs.laws.meeting.Goals as goal
+
+pub returns : goal.returns
+returns c = record { by_ends = meets_by_ends }

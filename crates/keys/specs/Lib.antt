@@ -1,0 +1,6 @@
+-- In the order in which one reads them aloud.
+pub mod Key
+pub mod Digest
+pub mod Range
+pub mod Laws
+pub mod Bytes

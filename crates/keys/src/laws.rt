@@ -1,0 +1,20 @@
+//! Laws about keys and ranges. Each is the contract of a function with an empty body.
+
+ghost use Rattle.keys.specs.declared.range.Range.{Range};
+ghost use Rattle.keys.specs.Laws.{DigestsTellOrder, RestsTellOrder, MeetByEnds};
+
+/// The key with the lesser digest comes first. Keys with the same digest have the same first eight bytes, where missing
+/// ones count as zeros.
+pub fn digests()
+    ensures order { DigestsTellOrder }
+{}
+
+/// Keys that begin with the same bytes are in the order of what stands behind these.
+pub fn beginnings()
+    ensures order { RestsTellOrder }
+{}
+
+/// Two ranges overlap exactly if neither is empty and each begins before the other ends.
+pub fn meeting()
+    ensures by_ends { (a b : Range) → MeetByEnds a b }
+{}

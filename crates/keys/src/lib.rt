@@ -1,0 +1,25 @@
+//! Keys and half-open ranges of keys.
+//!
+//! A [`Key`] is a byte string of limited length, a [`Range`] has two of them, and a [`RangeRef`] borrows these. Keys are
+//! compared byte by byte, a proper prefix first.
+//!
+//! [`digest()`] and [`common`] tell keys apart quickly: by the first eight bytes, and by how far two keys begin alike.
+//!
+//! `specs/` says, in reading order, what a key is and which of two comes first (`Key`), what its digest is (`Digest`), and
+//! when a range holds a key and when two ranges meet (`Range`). `Laws` ties these together, and the functions of [`laws`]
+//! prove it. The crates above may use the contracts of the types and functions here, and these laws.
+#![tactic(auto)]
+
+mod bytes;
+mod error;
+mod key;
+pub mod laws;
+mod prefix;
+mod range;
+mod range_ref;
+
+pub use error::KeyError;
+pub use key::{Key, MAX_KEY_LENGTH};
+pub use prefix::{common, digest};
+pub use range::Range;
+pub use range_ref::RangeRef;

@@ -1,0 +1,60 @@
+ghost use Rattle.std.specs.Prelude.{◌≡◌, ◌≢◌, ◌<◌, ◌≤◌, ◌*◌, length, take, slice_index};
+ghost use Rattle.keys.specs.Digest.{digest_of};
+
+/// Returns the first eight bytes as one big-endian number. Missing bytes count as zeros.
+///
+/// The key with the lesser digest comes first. Keys with the same digest have the same first eight bytes, where missing
+/// ones count as zeros. [`crate::laws::digests`] states both.
+pub fn digest(bytes: &[u8]) -> u64
+    ensures digest { result ≡ digest_of bytes.now }
+{
+    if let Some(first) = bytes.first_chunk::<8>() {
+        return u64::from_be_bytes(*first);
+    }
+    short_digest(bytes)
+}
+
+// Returns the same of bytes that may be fewer than eight.
+fn short_digest(bytes: &[u8]) -> u64
+    ensures digest { result ≡ digest_of bytes.now }
+{
+    let mut first = [0; 8];
+    let length = bytes.len().min(first.len());
+    first[..length].copy_from_slice(&bytes[..length]);
+    u64::from_be_bytes(first)
+}
+
+/// Returns how many bytes both begin with.
+///
+/// Behind these the next bytes differ, or one of the keys ends. So they tell which key comes first, as
+/// [`crate::laws::beginnings`] states.
+pub fn common(a: &[u8], b: &[u8]) -> usize
+    ensures within { (result ≤ length a.now) × (result ≤ length b.now) }
+    ensures same { take result a.now ≡ take result b.now }
+    ensures differ { result < length a.now → result < length b.now
+        → slice_index a.now result ≢ slice_index b.now result }
+{
+    let from = 8 * common_words(a, b);
+    from + common_bytes(&a[from..], &b[from..])
+}
+
+// Returns how many words of eight bytes both begin with.
+fn common_words(a: &[u8], b: &[u8]) -> usize
+    ensures within { (8 * result ≤ length a.now) × (8 * result ≤ length b.now) }
+    ensures same { take (8 * result) a.now ≡ take (8 * result) b.now }
+{
+    a.chunks_exact(8)
+        .zip(b.chunks_exact(8))
+        .take_while(|(x, y)| digest(x) == digest(y))
+        .count()
+}
+
+// Returns how many bytes both begin with, one after the other.
+fn common_bytes(a: &[u8], b: &[u8]) -> usize
+    ensures within { (result ≤ length a.now) × (result ≤ length b.now) }
+    ensures same { take result a.now ≡ take result b.now }
+    ensures differ { result < length a.now → result < length b.now
+        → slice_index a.now result ≢ slice_index b.now result }
+{
+    a.iter().zip(b).take_while(|(x, y)| x == y).count()
+}

@@ -1,0 +1,60 @@
+ghost use Rattle.std.specs.Prelude.{◌≡◌, ◌≤◌, length};
+ghost use Rattle.keys.specs.Key.{IsKey, IsAtMost};
+ghost use Rattle.keys.specs.declared.key.TheConstants.{MAX_KEY_LENGTH};
+
+use std::marker::Model;
+
+/// The half-open range `[begin, end)` with borrowed keys: `KeyRangeRef` of FoundationDB 7.1. Contracts see it as the range.
+// It isn't `Copy`, which the language doesn't have yet on a struct with a lifetime and a model.
+#[derive(Debug, Drop)]
+pub struct RangeRef<'a> {
+    begin: &'a [u8],
+    end: &'a [u8],
+    ghost begin_is_key: { IsKey begin.now },
+    ghost end_is_key: { IsKey end.now },
+    ghost ordered: { IsAtMost begin.now end.now },
+}
+
+impl<'a> Model for RangeRef<'a> {
+    ghost use Rattle.keys.specs.contracts.range.Range as range_type;
+    ghost use Rattle.keys.specs.declared.range.Range.{Range};
+
+    ghost Value = { Range };
+
+    ghost coded = { range_type.the_row.coded };
+
+    ghost view = { λ r. record {
+      begin = r.begin.now;
+      end = r.end.now;
+      begin_is_key = r.begin_is_key;
+      end_is_key = r.end_is_key;
+      ordered = r.ordered;
+    } };
+}
+
+impl<'a> RangeRef<'a> {
+    /// Creates the half-open range `[begin, end)`, without copying the keys.
+    pub fn new(begin: &'a [u8], end: &'a [u8]) -> Self
+        requires begin { length begin.now ≤ MAX_KEY_LENGTH }
+        requires end { length end.now ≤ MAX_KEY_LENGTH }
+        requires ordered { IsAtMost begin.now end.now }
+        ensures begin { result.begin ≡ begin.now }
+        ensures end { result.end ≡ end.now }
+    {
+        RangeRef { begin, end }
+    }
+
+    /// Returns the bytes of the begin, at most [`MAX_KEY_LENGTH`](crate::MAX_KEY_LENGTH).
+    pub fn begin(&self) -> &'a [u8]
+        ensures bytes { result.now ≡ self.now.begin }
+    {
+        self.begin
+    }
+
+    /// Returns the bytes of the end, at most [`MAX_KEY_LENGTH`](crate::MAX_KEY_LENGTH).
+    pub fn end(&self) -> &'a [u8]
+        ensures bytes { result.now ≡ self.now.end }
+    {
+        self.end
+    }
+}
