@@ -18,6 +18,9 @@ use crate::asked::Asked;
 use crate::boundaries::Boundaries;
 use crate::error::StepError;
 use crate::key_lengths::{KeyLengths, keep};
+use crate::left::{left_of, put_told};
+use crate::single::{is_single, note};
+use filter::Filter;
 use keyspace::{MAX_KEY_LENGTH, Range, RangeRef};
 use std::alloc::{AllocError, Global};
 use std::collections::VecDeque;
@@ -47,6 +50,8 @@ pub enum SweepEnd {
 pub struct StepMap {
     alloc: Global,
     boundaries: Boundaries<FAN_OUT>,
+    // What is written is noted there too.
+    filter: Filter,
     edge: i64,
     // The lengths of the ranges that may be written next.
     ready: VecDeque<KeyLengths>,
@@ -66,7 +71,7 @@ impl Model for StepMap {
 
     ghost invariant = { λ m. IsKept
         (steps_of m.boundaries m.edge m.ready.items m.cursor.items m.round m.limit)
-        m.boundaries m.cursor.items (vec_capacity m.cursor) };
+        m.boundaries m.filter m.cursor.items (vec_capacity m.cursor) };
 }
 
 impl StepMap {
@@ -82,10 +87,12 @@ impl StepMap {
         ensures err { IfErr result (λ error. error ≡ StepError.Memory) }
     {
         let cursor = Vec::with_capacity(alloc, MAX_KEY_LENGTH)?;
+        let filter = Filter::new(alloc)?;
         let boundaries = Boundaries::new(alloc).map_err(|_| AllocError)?;
         Ok(StepMap {
             alloc,
             boundaries,
+            filter,
             edge: 0,
             ready: VecDeque::new(alloc),
             cursor,
@@ -130,7 +137,15 @@ impl StepMap {
     ) -> Result<(), AllocError>
         ensures above { OnOk result (AllZip (λ a above. IsTrue above ↔ IsAbove self.now a.range.now a.version) asked.now answers.new.items) }
     {
-        self.boundaries.are_above(asked, answers)
+        if !self.filter.is_useful() {
+            return self.boundaries.are_above(asked, answers);
+        }
+        self.mark(asked, answers)?;
+        let left = left_of(self.alloc, asked, answers)?;
+        let mut told = Vec::with_capacity(self.alloc, left.len())?;
+        self.boundaries.are_above(&left, &mut told)?;
+        put_told(answers, &told);
+        Ok(())
     }
 
     /// Returns the number of boundaries, that at the empty key included.
@@ -200,6 +215,7 @@ impl StepMap {
         ensures count { length self.new.boundaries ≤ length self.old.boundaries + 2 }
     {
         self.ready.pop_front();
+        note(&mut self.filter, &range, version);
         self.boundaries.write(&range, version);
     }
 
@@ -243,6 +259,30 @@ impl StepMap {
         SweepEnd::Stopped
     }
 
+    // Marks those of the asked that the filter leaves open, in place of the marks that there are. The function isn't above the
+    // versions of the others.
+    fn mark(&self, asked: &[Asked<'_>], marks: &mut Vec<bool>) -> Result<(), AllocError>
+        ensures others { OnOk result (AllZip (λ a mark. ¬ IsTrue mark → ¬ IsAbove self.now a.range.now a.version) asked.now marks.new.items) }
+    {
+        marks.clear();
+        for one in asked {
+            marks.push(self.may_exceed(one.range, one.version))?;
+        }
+        Ok(())
+    }
+
+    // Returns whether the filter leaves open that the version at some key of the range is above this one. It tells only of
+    // single keys, and only from the edge on.
+    fn may_exceed(&self, range: &Range, version: i64) -> bool
+        ensures not_above { ¬ IsTrue result → ¬ IsAbove self.now range.now version }
+    {
+        let begin = range.begin.as_bytes();
+        version < self.edge
+            || version < self.filter.newest_range()
+            || !is_single(begin, range.end.as_bytes())
+            || version < self.filter.bound(begin)
+    }
+
     // Returns whether the boundaries, and two for each of so many ranges, are within the limit.
     fn has_room_for(&self, ranges: usize) -> bool
         ensures room { result ≡ nat_le (length self.now.boundaries + 2 * ranges) self.now.limit }
@@ -284,7 +324,11 @@ impl StepMap {
         ensures ok { OnOk result (self.new ≡ record self.old { ready = lengths.now }) }
         ensures err { OnErr result (self.new ≡ record self.old { ready = [] }) }
     {
-        let kept = keep(&mut self.ready, lengths);
+        let cells = 2 * (self.boundaries.len() + 2 * lengths.len());
+        let kept = match self.filter.reserve(cells) {
+            Ok(()) => keep(&mut self.ready, lengths),
+            Err(refused) => Err(refused),
+        };
         let reserved = match kept {
             Ok(()) => self.boundaries.reserve(lengths),
             Err(refused) => Err(refused),
