@@ -14,10 +14,10 @@ invariant_of-self c =
       | in-Ok w ↦
           let later = w.reserve-reserved.new.self in
           rw (w.self-inside-is, c.clear.ensures.items)
-          (kept_with_none_ready i.boundaries later i.edge i.ready.items cursor i.round i.limit room c.self.invariant
-          w.reserve-reserved.ensures.boundaries w.reserve-reserved.ensures.room)
+          (kept_with_none_ready i.boundaries later i.filter c.reserve.new.self i.edge i.ready.items cursor i.round i.limit room
+          c.self.invariant w.reserve-reserved.ensures.boundaries w.reserve-reserved.ensures.room c.reserve.ensures.same)
       | in-Err w ↦
           rw (w.self-inside-is, c.clear.ensures.items)
-          (kept_with_none_ready i.boundaries i.boundaries i.edge i.ready.items cursor i.round i.limit room
-          c.self.invariant refl (omega arith))
+          (kept_with_none_ready i.boundaries i.boundaries i.filter c.reserve.new.self i.edge i.ready.items cursor i.round
+          i.limit room c.self.invariant refl (omega arith) c.reserve.ensures.same)
     ]
