@@ -2,6 +2,8 @@ ghost use Rattle.std.specs.Prelude.{◌≡◌, ℕ, ◌+◌, ◌*◌, ◌≤◌,
 ghost use Rattle.std.specs.Prelude.{List, [], length, slice_get, Some, None, Err};
 ghost use Rattle.std.specs.Prelude.{IfOk, OnOk, OnErr, IfErr, IsTrue};
 ghost use Rattle.std.specs.List.{AllZip};
+ghost use Rattle.arena.specs.Arena.{wanted_of};
+ghost use Rattle.filter.specs.Filter.{bound};
 ghost use Rattle.keyspace.specs.Key.{IsBytes};
 ghost use Rattle.keyspace.specs.Range.{Holds, IsEmpty};
 ghost use Rattle.keyspace.specs.Writes.{Write, with_write};
@@ -13,6 +15,7 @@ ghost use Rattle.stepmap.specs.Limit.{HasRoomFor, after_round, made_room, prepar
 ghost use Rattle.stepmap.specs.Covers.{SameFrom, MapCovers, IsAbove};
 ghost use Rattle.stepmap.specs.Rooted.{Ends, Rooted};
 ghost use Rattle.stepmap.specs.Counting.{live_count};
+ghost use Rattle.stepmap.specs.Stored.{spare_in, each_length};
 
 use crate::asked::Asked;
 use crate::boundaries::Boundaries;
@@ -276,11 +279,13 @@ impl StepMap {
     fn may_exceed(&self, range: &Range, version: i64) -> bool
         ensures not_above { ¬ IsTrue result → ¬ IsAbove self.now range.now version }
     {
+        let told_from = self.edge.max(self.filter.newest_range());
+        if version < told_from {
+            return true;
+        }
         let begin = range.begin.as_bytes();
-        version < self.edge
-            || version < self.filter.newest_range()
-            || !is_single(begin, range.end.as_bytes())
-            || version < self.filter.bound(begin)
+        let end = range.end.as_bytes();
+        !is_single(begin, end) || version < self.filter.bound(begin)
     }
 
     // Returns whether the boundaries, and two for each of so many ranges, are within the limit.
@@ -324,18 +329,37 @@ impl StepMap {
         ensures ok { OnOk result (self.new ≡ record self.old { ready = lengths.now }) }
         ensures err { OnErr result (self.new ≡ record self.old { ready = [] }) }
     {
-        let cells = 2 * (self.boundaries.len() + 2 * lengths.len());
-        let kept = match self.filter.reserve(cells) {
-            Ok(()) => keep(&mut self.ready, lengths),
-            Err(refused) => Err(refused),
-        };
-        let reserved = match kept {
-            Ok(()) => self.boundaries.reserve(lengths),
-            Err(refused) => Err(refused),
-        };
+        let reserved = take_memory(
+            &mut self.boundaries,
+            &mut self.filter,
+            &mut self.ready,
+            lengths,
+        );
         if reserved.is_err() {
             self.ready.clear();
         }
         reserved
     }
+}
+
+// Takes the memory that writing ranges with keys of these lengths needs, and keeps these as those that are ready. The filter
+// grows first, to a few cells for each boundary that there may be then.
+fn take_memory(
+    boundaries: &mut Boundaries<FAN_OUT>,
+    filter: &mut Filter,
+    ready: &mut VecDeque<KeyLengths>,
+    lengths: &[KeyLengths],
+) -> Result<(), AllocError>
+    requires few { length boundaries.old.boundaries + 2 * length lengths.now ≤ MAX_LIMIT }
+    ensures ready { OnOk result (ready.new.items ≡ lengths.now) }
+    ensures keys { OnOk result ((size : ℕ) → size < 10
+        → wanted_of (each_length lengths.now) size ≤ spare_in boundaries.new size) }
+    ensures nodes { OnOk result (length boundaries.new.boundaries + 2 * length lengths.now ≤ boundaries.new.room) }
+    ensures boundaries { boundaries.new.boundaries ≡ boundaries.old.boundaries }
+    ensures room { boundaries.old.room ≤ boundaries.new.room }
+    ensures bounds { (key : List ℕ) → bound filter.new key ≡ bound filter.old key }
+{
+    filter.reserve(2 * (boundaries.len() + 2 * lengths.len()))?;
+    keep(ready, lengths)?;
+    boundaries.reserve(lengths)
 }
