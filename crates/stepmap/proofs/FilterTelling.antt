@@ -1,9 +1,8 @@
 -- What the filter tells, and that it goes on telling where a step map changes.
-use Rattle.std.proofs.Common.{◌≡◌, ℕ, false, List, [], inl, inr, sym, subst, arith}
+use Rattle.std.proofs.Common.{◌≡◌, ℕ, false, List, inl, inr, sym, subst, arith}
 use Rattle.std.specs.Prelude.{ℤ, negsuc, ◌≤ℤ◌, ◌<ℤ◌, int_lt}
 use Rattle.std.proofs.lemmas.Int.{ints}
 use Rattle.filter.specs.Filter.{FilterState, bound}
-use Rattle.keyspace.specs.Key.{IsBytes, IsBefore, IsAtMost}
 use Rattle.keyspace.specs.Range.{Holds}
 use Rattle.keyspace.specs.declared.range.Range.{Range}
 use Rattle.keyspace.proofs.KeyOrder.{not_both, before_or_at_most}
