@@ -44,3 +44,6 @@ pub mod Exchanged
 pub mod WrittenInLeaf
 pub mod NextReady
 pub mod NoneReady
+pub mod SingleKeys
+pub mod FilterTelling
+pub mod LeftOpen

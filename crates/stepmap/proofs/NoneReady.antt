@@ -1,17 +1,21 @@
 -- A step map where no range is ready to be written.
-use Rattle.std.proofs.Common.{◌≡◌, ℕ, ◌≤◌, List, [], length, sym, ap, subst, arith}
+use Rattle.std.proofs.Common.{◌≡◌, ℕ, ◌≤◌, List, [], length, refl, sym, ap, subst, arith}
 use Rattle.std.specs.Prelude.{ℤ, Option}
+use Rattle.filter.specs.Filter.{FilterState, bound}
 use Rattle.stepmap.specs.Boundary.{AreBoundaries}
 use Rattle.stepmap.specs.Stored.{Stored}
 use Rattle.stepmap.specs.Kept.{steps_of, IsKept}
+use Rattle.stepmap.proofs.FilterTelling.{tells_alike}
 
--- the memory that there is does for the boundaries themselves, also where more was taken
-pub kept_with_none_ready : (stored later : Stored) (edge : ℤ) (ready : List (ℕ × ℕ)) (cursor : List ℕ)
+-- the memory that there is does for the boundaries themselves, also where more was taken, and for the filter
+pub kept_with_none_ready : (stored later : Stored) (f g : FilterState) (edge : ℤ) (ready : List (ℕ × ℕ)) (cursor : List ℕ)
     (round : Option ℤ) (limit cursor_room : ℕ)
-    → IsKept (steps_of stored edge ready cursor round limit) stored cursor cursor_room
-    → later.boundaries ≡ stored.boundaries → stored.room ≤ later.room
-    → IsKept (steps_of later edge [] cursor round limit) later cursor cursor_room
-kept_with_none_ready stored later edge ready cursor round limit cursor_room h same more = record {
+    → IsKept (steps_of stored edge ready cursor round limit) stored f cursor cursor_room
+    → later.boundaries ≡ stored.boundaries → stored.room ≤ later.room → ((key : List ℕ) → bound g key ≡ bound f key)
+    → IsKept (steps_of later edge [] cursor round limit) later g cursor cursor_room
+kept_with_none_ready stored later f g edge ready cursor round limit cursor_room h same more alike = record {
+  tells = tells_alike f (steps_of stored edge ready cursor round limit) (steps_of later edge [] cursor round limit) h.tells g
+      refl same alike;
   steps = record {
     boundaries = subst AreBoundaries (sym same) h.steps.boundaries;
     round = h.steps.round;

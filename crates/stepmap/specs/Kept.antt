@@ -1,10 +1,12 @@
 -- What a step map keeps beside what it is seen as.
 use Rattle.std.specs.Prelude.{◌≡◌, ℕ, ◌+◌, ◌*◌, ◌<◌, ◌≤◌, ℤ, List, length, Option, Some, None}
 use Rattle.arena.specs.Arena.{wanted_of}
-use Rattle.keys.specs.declared.key.TheConstants.{MAX_KEY_LENGTH}
+use Rattle.filter.specs.Filter.{FilterState}
+use Rattle.keyspace.specs.declared.key.TheConstants.{MAX_KEY_LENGTH}
 use Rattle.stepmap.specs.StepMap.{Round, Steps, AreSteps}
 use Rattle.stepmap.specs.Stored.{Stored, spare_in, each_length}
 use Rattle.stepmap.specs.Sweeping.{cursor_of}
+use Rattle.stepmap.specs.Filtering.{FilterTells}
 
 -- the round under way, of the cursor and the edge that are kept
 abbrev pub round_of : List ℕ → Option ℤ → Option Round
@@ -21,9 +23,10 @@ steps_of stored edge ready cursor round limit = record {
   limit = limit;
 }
 
--- there is room for what is to come
-pub record IsKept (m : Steps) (stored : Stored) (cursor : List ℕ) (cursor_room : ℕ) : Type 0 where
+-- there is room for what is to come, and the filter tells
+pub record IsKept (m : Steps) (stored : Stored) (beside : FilterState) (cursor : List ℕ) (cursor_room : ℕ) : Type 0 where
   pub steps : AreSteps m
+  pub tells : FilterTells beside m
   -- for two boundaries of each range that may be written
   pub boundaries : length m.boundaries + 2 * length m.ready ≤ stored.room
   pub keys : (size : ℕ) → size < 10 → wanted_of (each_length m.ready) size ≤ spare_in stored size

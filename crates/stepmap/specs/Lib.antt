@@ -13,4 +13,5 @@ pub mod Indexes
 pub mod Cut
 pub mod Stored
 pub mod Asking
+pub mod Filtering
 pub mod Kept

@@ -16,7 +16,9 @@ mod cut;
 mod error;
 mod key_lengths;
 pub mod laws;
+mod left;
 mod release;
+mod single;
 mod step_map;
 mod sweeping;
 

@@ -2,8 +2,10 @@ ghost use Rattle.std.specs.Prelude.{◌≡◌, ℕ, ◌+◌, ◌*◌, ◌≤◌,
 ghost use Rattle.std.specs.Prelude.{List, [], length, slice_get, Some, None, Err};
 ghost use Rattle.std.specs.Prelude.{IfOk, OnOk, OnErr, IfErr, IsTrue};
 ghost use Rattle.std.specs.List.{AllZip};
-ghost use Rattle.keys.specs.Key.{IsBytes};
-ghost use Rattle.keys.specs.Range.{Holds, IsEmpty};
+ghost use Rattle.arena.specs.Arena.{wanted_of};
+ghost use Rattle.filter.specs.Filter.{bound};
+ghost use Rattle.keyspace.specs.Key.{IsBytes};
+ghost use Rattle.keyspace.specs.Range.{Holds, IsEmpty};
 ghost use Rattle.keyspace.specs.Writes.{Write, with_write};
 ghost use Rattle.stepmap.specs.Boundary.{value_at, AreUpTo};
 ghost use Rattle.stepmap.specs.StepMap.{lengths, new_map, AreSteps};
@@ -13,12 +15,16 @@ ghost use Rattle.stepmap.specs.Limit.{HasRoomFor, after_round, made_room, prepar
 ghost use Rattle.stepmap.specs.Covers.{SameFrom, MapCovers, IsAbove};
 ghost use Rattle.stepmap.specs.Rooted.{Ends, Rooted};
 ghost use Rattle.stepmap.specs.Counting.{live_count};
+ghost use Rattle.stepmap.specs.Stored.{spare_in, each_length};
 
 use crate::asked::Asked;
 use crate::boundaries::Boundaries;
 use crate::error::StepError;
 use crate::key_lengths::{KeyLengths, keep};
-use keys::{MAX_KEY_LENGTH, Range, RangeRef};
+use crate::left::{left_of, put_told};
+use crate::single::{is_single, note};
+use filter::Filter;
+use keyspace::{MAX_KEY_LENGTH, Range, RangeRef};
 use std::alloc::{AllocError, Global};
 use std::collections::VecDeque;
 use std::marker::Model;
@@ -47,6 +53,8 @@ pub enum SweepEnd {
 pub struct StepMap {
     alloc: Global,
     boundaries: Boundaries<FAN_OUT>,
+    // What is written is noted there too.
+    filter: Filter,
     edge: i64,
     // The lengths of the ranges that may be written next.
     ready: VecDeque<KeyLengths>,
@@ -66,7 +74,7 @@ impl Model for StepMap {
 
     ghost invariant = { λ m. IsKept
         (steps_of m.boundaries m.edge m.ready.items m.cursor.items m.round m.limit)
-        m.boundaries m.cursor.items (vec_capacity m.cursor) };
+        m.boundaries m.filter m.cursor.items (vec_capacity m.cursor) };
 }
 
 impl StepMap {
@@ -82,10 +90,12 @@ impl StepMap {
         ensures err { IfErr result (λ error. error ≡ StepError.Memory) }
     {
         let cursor = Vec::with_capacity(alloc, MAX_KEY_LENGTH)?;
+        let filter = Filter::new(alloc)?;
         let boundaries = Boundaries::new(alloc).map_err(|_| AllocError)?;
         Ok(StepMap {
             alloc,
             boundaries,
+            filter,
             edge: 0,
             ready: VecDeque::new(alloc),
             cursor,
@@ -130,7 +140,15 @@ impl StepMap {
     ) -> Result<(), AllocError>
         ensures above { OnOk result (AllZip (λ a above. IsTrue above ↔ IsAbove self.now a.range.now a.version) asked.now answers.new.items) }
     {
-        self.boundaries.are_above(asked, answers)
+        if !self.filter.is_useful() {
+            return self.boundaries.are_above(asked, answers);
+        }
+        self.mark(asked, answers)?;
+        let left = left_of(self.alloc, asked, answers)?;
+        let mut told = Vec::with_capacity(self.alloc, left.len())?;
+        self.boundaries.are_above(&left, &mut told)?;
+        put_told(answers, &told);
+        Ok(())
     }
 
     /// Returns the number of boundaries, that at the empty key included.
@@ -200,6 +218,7 @@ impl StepMap {
         ensures count { length self.new.boundaries ≤ length self.old.boundaries + 2 }
     {
         self.ready.pop_front();
+        note(&mut self.filter, &range, version);
         self.boundaries.write(&range, version);
     }
 
@@ -243,6 +262,32 @@ impl StepMap {
         SweepEnd::Stopped
     }
 
+    // Marks those of the asked that the filter leaves open, in place of the marks that there are. The function isn't above the
+    // versions of the others.
+    fn mark(&self, asked: &[Asked<'_>], marks: &mut Vec<bool>) -> Result<(), AllocError>
+        ensures others { OnOk result (AllZip (λ a mark. ¬ IsTrue mark → ¬ IsAbove self.now a.range.now a.version) asked.now marks.new.items) }
+    {
+        marks.clear();
+        for one in asked {
+            marks.push(self.may_exceed(one.range, one.version))?;
+        }
+        Ok(())
+    }
+
+    // Returns whether the filter leaves open that the version at some key of the range is above this one. It tells only of
+    // single keys, and only from the edge on.
+    fn may_exceed(&self, range: &Range, version: i64) -> bool
+        ensures not_above { ¬ IsTrue result → ¬ IsAbove self.now range.now version }
+    {
+        let told_from = self.edge.max(self.filter.newest_range());
+        if version < told_from {
+            return true;
+        }
+        let begin = range.begin.as_bytes();
+        let end = range.end.as_bytes();
+        !is_single(begin, end) || version < self.filter.bound(begin)
+    }
+
     // Returns whether the boundaries, and two for each of so many ranges, are within the limit.
     fn has_room_for(&self, ranges: usize) -> bool
         ensures room { result ≡ nat_le (length self.now.boundaries + 2 * ranges) self.now.limit }
@@ -284,14 +329,37 @@ impl StepMap {
         ensures ok { OnOk result (self.new ≡ record self.old { ready = lengths.now }) }
         ensures err { OnErr result (self.new ≡ record self.old { ready = [] }) }
     {
-        let kept = keep(&mut self.ready, lengths);
-        let reserved = match kept {
-            Ok(()) => self.boundaries.reserve(lengths),
-            Err(refused) => Err(refused),
-        };
+        let reserved = take_memory(
+            &mut self.boundaries,
+            &mut self.filter,
+            &mut self.ready,
+            lengths,
+        );
         if reserved.is_err() {
             self.ready.clear();
         }
         reserved
     }
+}
+
+// Takes the memory that writing ranges with keys of these lengths needs, and keeps these as those that are ready. The filter
+// grows first, to a few cells for each boundary that there may be then.
+fn take_memory(
+    boundaries: &mut Boundaries<FAN_OUT>,
+    filter: &mut Filter,
+    ready: &mut VecDeque<KeyLengths>,
+    lengths: &[KeyLengths],
+) -> Result<(), AllocError>
+    requires few { length boundaries.old.boundaries + 2 * length lengths.now ≤ MAX_LIMIT }
+    ensures ready { OnOk result (ready.new.items ≡ lengths.now) }
+    ensures keys { OnOk result ((size : ℕ) → size < 10
+        → wanted_of (each_length lengths.now) size ≤ spare_in boundaries.new size) }
+    ensures nodes { OnOk result (length boundaries.new.boundaries + 2 * length lengths.now ≤ boundaries.new.room) }
+    ensures boundaries { boundaries.new.boundaries ≡ boundaries.old.boundaries }
+    ensures room { boundaries.old.room ≤ boundaries.new.room }
+    ensures bounds { (key : List ℕ) → bound filter.new key ≡ bound filter.old key }
+{
+    filter.reserve(2 * (boundaries.len() + 2 * lengths.len()))?;
+    keep(ready, lengths)?;
+    boundaries.reserve(lengths)
 }

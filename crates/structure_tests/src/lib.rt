@@ -1,5 +1,5 @@
-//! Tests of the structures that the resolver stands on, through their public calls: the arena, the step map, the stores of
-//! the version chain, and the lane.
+//! Tests of the structures that the resolver stands on, through their public calls: the arena, the filter, the step map, the
+//! stores of the version chain, and the lane.
 //!
 //! What no contract says is tested here: the worked rows, printed text, calls by chance beside a plain structure, and memory
 //! that is refused. The tests named for it, as `one_growth_refused`, pass whichever one growth is refused; `.ci/refused-memory`
@@ -13,9 +13,13 @@ mod arena_memory;
 #[cfg(test)]
 mod chain_calls;
 #[cfg(test)]
+mod filter_calls;
+#[cfg(test)]
 mod lane_calls;
 #[cfg(test)]
 mod lane_threads;
+#[cfg(test)]
+mod single_keys;
 #[cfg(test)]
 mod sorted;
 #[cfg(test)]

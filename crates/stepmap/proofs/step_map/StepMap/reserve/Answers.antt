@@ -1,23 +1,12 @@
-use Rattle.std.proofs.Common.{refl, arith}
 use Rattle.std.specs.Prelude.{vec_capacity}
 use Rattle.stepmap.proofs.NoneReady.{kept_with_none_ready}
 use Rattle.stepmap.proofs.step_map.StepMap.reserve.Goals as goal
-use Rattle.stepmap.proofs.step_map.StepMap.reserve.Goals.{in-Ok, in-Err}
 
 -- where memory was refused, no range is ready
 pub invariant_of-self : goal.invariant_of-self
 invariant_of-self c =
     let i = c.self.inside in
-    let cursor = i.cursor.items in
-    let room = vec_capacity i.cursor in
-    elim c.match-kept.branch [
-      | in-Ok w ↦
-          let later = w.reserve-reserved.new.self in
-          rw (w.self-inside-is, c.clear.ensures.items)
-          (kept_with_none_ready i.boundaries later i.edge i.ready.items cursor i.round i.limit room c.self.invariant
-          w.reserve-reserved.ensures.boundaries w.reserve-reserved.ensures.room)
-      | in-Err w ↦
-          rw (w.self-inside-is, c.clear.ensures.items)
-          (kept_with_none_ready i.boundaries i.boundaries i.edge i.ready.items cursor i.round i.limit room
-          c.self.invariant refl (omega arith))
-    ]
+    let taken = c.take_memory-reserved in
+    rw c.clear.ensures.items
+    (kept_with_none_ready i.boundaries taken.new.boundaries i.filter taken.new.filter i.edge i.ready.items i.cursor.items
+    i.round i.limit (vec_capacity i.cursor) c.self.invariant taken.ensures.boundaries taken.ensures.room taken.ensures.bounds)

@@ -27,6 +27,7 @@ use Rattle.stepmap.specs.Sweeping.{cursor_of, round_edge, rest, after_sweep, pas
 use Rattle.stepmap.specs.Stored.{first_key}
 use Rattle.stepmap.specs.Kept.{round_of, steps_of, IsKept}
 use Rattle.stepmap.proofs.Changes.{sweep_keeps}
+use Rattle.stepmap.proofs.FilterTelling.{tells_same}
 use Rattle.stepmap.proofs.Passing.{
   IsPass,
   ended_map,
@@ -101,12 +102,13 @@ stopped_is c later =
 -- what is kept beside the map stays
 stays : (c : After-is_empty) (round : Option ℤ) → cursor_of (new_map c round).round ≡ c.thin.new.cursor.items
     → new_map c round ≡ after_sweep c.args.count (old c)
-    → IsKept (new_map c round) c.thin.new.self c.thin.new.cursor.items (vec_capacity c.thin.new.cursor)
+    → IsKept (new_map c round) c.thin.new.self c.self.inside.filter c.thin.new.cursor.items (vec_capacity c.thin.new.cursor)
 unfolding old new_map
 stays c round at is =
     let keeps = sweep_keeps c.args.count (old c) c.self.invariant.steps _ is in
     record {
       steps = keeps.steps;
+      tells = tells_same c.self.inside.filter (old c) (new_map c round) c.self.invariant.tells refl keeps.same;
       boundaries = omega (arith, c.self.invariant.boundaries, keeps.no_more, c.thin.ensures.room);
       keys = λ size lt. omega (arith, c.self.invariant.keys size lt, c.thin.ensures.spare size);
       any_key = omega (arith, c.self.invariant.any_key, c.thin.ensures.capacity);

@@ -1,0 +1,14 @@
+use Rattle.std.proofs.Common.{◌≡◌, ℕ, ◌*◌, ◌-◌, List, length}
+use Rattle.filter.specs.Filter.{bound}
+use Rattle.filter.specs.declared.filter.TheConstants.{MAX_CELLS}
+use Rattle.filter.proofs.filter.Filter.reserve.Given as goal
+
+abbrev pub invariant-loop-self : goal.invariant-loop-self
+invariant-loop-self l = record {
+  same : (key : List ℕ) → bound l.self key ≡ bound l.initial.self key;
+  range : l.self.newest_range ≡ l.initial.self.newest_range;
+  newest : l.self.newest_key ≡ l.initial.self.newest_key;
+}
+
+abbrev pub decreases-loop-self : goal.decreases-loop-self
+decreases-loop-self l = 2 * MAX_CELLS - length l.self.versions

@@ -1,0 +1,151 @@
+ghost use Rattle.std.specs.Prelude.{◌≡◌, ℕ, ◌≤◌, ◌*◌, ◌<◌, ◌≤ℤ◌, ◌<ℤ◌, ◌↔◌, negsuc, List, length, IfOk, OnOk, OnErr, IsTrue};
+ghost use Rattle.std.specs.Int.{int_max};
+ghost use Rattle.filter.specs.Filter.{bound, cell_of, each_twice};
+
+use crate::hashing::hash;
+use std::alloc::{AllocError, Global};
+use std::marker::Model;
+
+/// The greatest number of cells.
+pub const MAX_CELLS: usize = 134_217_728;
+
+const _: () = prove!(MAX_CELLS == 134_217_728);
+
+// How many cells there are at first.
+const FIRST_CELLS: usize = 1024;
+
+// Two to the power of 32: a number of 64 bits divided by it is its high half.
+const HALF: u64 = 0x1_0000_0000;
+
+/// A filter of writes: cells with versions, and the versions of the newest range and the newest key. Contracts see these, and
+/// speak of the bounds of keys.
+#[derive(Debug, Drop)]
+pub struct Filter {
+    alloc: Global,
+    cells: Vec<i64>,
+    newest_range: i64,
+    newest_key: i64,
+}
+
+impl Model for Filter {
+    ghost use Rattle.std.specs.Prelude.{length, ◌*◌, ◌<◌, ◌≤◌};
+    ghost use Rattle.filter.specs.Filter.{FilterState};
+    ghost use Rattle.filter.specs.declared.filter.TheConstants.{MAX_CELLS};
+
+    ghost Value = { FilterState };
+
+    ghost view = { λ f. record { versions = f.cells.items; newest_range = f.newest_range; newest_key = f.newest_key } };
+
+    ghost invariant = { λ f. (0 < length f.cells.items) × (length f.cells.items ≤ 2 * MAX_CELLS) };
+}
+
+impl Filter {
+    /// Makes the filter in which nothing is written: all versions are -1.
+    pub fn new(alloc: Global) -> Result<Self, AllocError>
+        ensures bounds { IfOk result (λ f. (key : List ℕ) → bound f key ≡ negsuc 0) }
+        ensures range { IfOk result (λ f. f.newest_range ≡ negsuc 0) }
+        ensures key { IfOk result (λ f. f.newest_key ≡ negsuc 0) }
+    {
+        Ok(Filter {
+            alloc,
+            cells: Vec::from_elem(alloc, -1, FIRST_CELLS)?,
+            newest_range: -1,
+            newest_key: -1,
+        })
+    }
+
+    /// Returns the bound of the key: no write of it is above that.
+    pub fn bound(&self, key: &[u8]) -> i64
+        ensures bound { result ≡ bound self.now key.now }
+    {
+        self.cells[self.cell(key)].max(self.newest_range)
+    }
+
+    /// Returns the version of the newest range.
+    pub fn newest_range(&self) -> i64
+        ensures newest { result ≡ self.now.newest_range }
+    {
+        self.newest_range
+    }
+
+    /// Returns whether the newest key is newer than the newest range. Where it isn't, no bound tells more than the version of
+    /// that range.
+    pub fn is_useful(&self) -> bool
+        ensures useful { IsTrue result ↔ (self.now.newest_range <ℤ self.now.newest_key) }
+    {
+        self.newest_range < self.newest_key
+    }
+
+    /// Notes that the key is written at the version. It takes no memory.
+    pub fn write_key(&mut self, key: &[u8], version: i64)
+        ensures written { bound self.new key.now ≡ int_max version (bound self.old key.now) }
+        ensures raised { (other : List ℕ) → bound self.old other ≤ℤ bound self.new other }
+        ensures no_higher { (other : List ℕ) → bound self.new other ≤ℤ int_max version (bound self.old other) }
+        ensures range { self.new.newest_range ≡ self.old.newest_range }
+        ensures newest { self.new.newest_key ≡ int_max version self.old.newest_key }
+    {
+        let cell = self.cell(key);
+        self.cells[cell] = self.cells[cell].max(version);
+        self.newest_key = self.newest_key.max(version);
+    }
+
+    /// Notes that a range is written at the version, whichever keys it holds: the bound of each key rises to it. It takes no
+    /// memory.
+    pub fn write_range(&mut self, version: i64)
+        ensures written { (key : List ℕ) → bound self.new key ≡ int_max version (bound self.old key) }
+        ensures range { self.new.newest_range ≡ int_max version self.old.newest_range }
+        ensures newest { self.new.newest_key ≡ self.old.newest_key }
+    {
+        self.newest_range = self.newest_range.max(version);
+    }
+
+    /// Doubles the cells as long as there are fewer than so many, and fewer than [`MAX_CELLS`], if the filter is useful. More
+    /// cells tell apart more of the keys that are written from then on. Returns an error where memory is refused. Each bound
+    /// stays as it is, also then.
+    pub fn reserve(&mut self, count: usize) -> Result<(), AllocError>
+        ensures same { (key : List ℕ) → bound self.new key ≡ bound self.old key }
+        ensures range { self.new.newest_range ≡ self.old.newest_range }
+        ensures newest { self.new.newest_key ≡ self.old.newest_key }
+    {
+        if !self.is_useful() {
+            return Ok(());
+        }
+        while self.cells.len() < count.min(MAX_CELLS) {
+            self.double()?;
+        }
+        Ok(())
+    }
+
+    // Makes two cells of each, with its version.
+    fn double(&mut self) -> Result<(), AllocError>
+        requires few { length self.old.versions < MAX_CELLS }
+        ensures same { (key : List ℕ) → bound self.new key ≡ bound self.old key }
+        ensures range { self.new.newest_range ≡ self.old.newest_range }
+        ensures newest { self.new.newest_key ≡ self.old.newest_key }
+        ensures count { OnOk result (length self.new.versions ≡ 2 * length self.old.versions) }
+    {
+        self.cells = each_twice(self.alloc, &self.cells)?;
+        Ok(())
+    }
+
+    // Returns the cell that the key falls into.
+    fn cell(&self, key: &[u8]) -> usize
+        ensures cell { result ≡ cell_of (length self.now.versions) key.now }
+        ensures within { result < length self.now.versions }
+    {
+        let count = self.cells.len() as u64;
+        (hash(key) / HALF * count / HALF) as usize
+    }
+}
+
+// Returns each of the versions twice, in order.
+fn each_twice(alloc: Global, versions: &[i64]) -> Result<Vec<i64>, AllocError>
+    ensures twice { IfOk result (λ twice. twice.items ≡ each_twice versions.now) }
+{
+    let mut twice = Vec::with_capacity(alloc, versions.len().saturating_mul(2))?;
+    for version in versions {
+        twice.push(*version)?;
+        twice.push(*version)?;
+    }
+    Ok(twice)
+}

@@ -1,0 +1,73 @@
+//! The calls of the filter: bounds, cells that grow, and the hash.
+
+use filter::{Filter, hash};
+use std::alloc::{AllocError, Global};
+use std::test::Fail;
+
+// Writes a key at 100, a range at 150, a key at 200, and the first one again at an older version.
+fn four_writes(alloc: Global) -> Result<Filter, AllocError> {
+    let mut filter = Filter::new(alloc)?;
+    filter.write_key(b"first", 100);
+    filter.write_range(150);
+    filter.write_key(b"second", 200);
+    filter.write_key(b"first", 120);
+    Ok(filter)
+}
+
+// Returns whether the bounds are those of these writes.
+fn is_as_written(filter: &Filter) -> bool {
+    filter.bound(b"first") == 150
+        && filter.bound(b"second") == 200
+        && filter.bound(b"neither") == 150
+        && filter.newest_range() == 150
+        && filter.is_useful()
+}
+
+#[test]
+fn bounds_of_writes(rt: HostRuntime) -> Result<(), Fail> {
+    let filter = four_writes(rt.alloc())?;
+    assert!(rt; is_as_written(&filter));
+    Ok(())
+}
+
+#[test]
+fn useful_while_the_newest_is_a_key(rt: HostRuntime) -> Result<(), Fail> {
+    let mut filter = Filter::new(rt.alloc())?;
+    assert!(rt; !filter.is_useful());
+    filter.write_key(b"first", 100);
+    assert!(rt; filter.is_useful());
+    filter.write_range(100);
+    assert!(rt; !filter.is_useful());
+    Ok(())
+}
+
+// Its outcome is the same whichever one growth is refused: the next try succeeds.
+#[test]
+fn filter_with_one_growth_refused(rt: HostRuntime) -> Result<(), Fail> {
+    let mut filter = match four_writes(rt.alloc()) {
+        Ok(filter) => filter,
+        Err(_refused) => four_writes(rt.alloc())?,
+    };
+    if filter.reserve(8_000).is_err() {
+        assert!(rt; is_as_written(&filter));
+        filter.reserve(8_000)?;
+    }
+    assert!(rt; is_as_written(&filter));
+    Ok(())
+}
+
+// Counts the cells, of 4,096, into which the first thousand keys fall.
+#[test]
+fn hash_spreads(rt: HostRuntime) -> Result<(), Fail> {
+    let mut is_filled = vec![in rt.alloc(); false; 4_096]?;
+    for number in 0..1_000 {
+        let key = format!(in rt.alloc(); "user/{number:06}")?;
+        let cell = hash(key.as_bytes()) / 0x10_0000_0000_0000;
+        if let Some(is_filled) = is_filled.get_mut(cell as usize) {
+            *is_filled = true;
+        }
+    }
+    let count = is_filled.iter().filter(|is_filled| **is_filled).count();
+    assert!(rt; count >= 600, "{count}");
+    Ok(())
+}
