@@ -1,6 +1,6 @@
 -- A number made of a key, by which it finds its cell. This project's own.
 use Rattle.std.specs.Prelude.{ℕ, ◌+◌, ◌-◌, ◌*◌, ◌/◌, ◌%◌, ◌^◌, List, [], ◌∷◌, length, drop, fold}
-use Rattle.keyspace.specs.Digest.{digest_of}
+use Rattle.keys.specs.Digest.{digest_of}
 use Rattle.filter.specs.declared.hashing.TheConstants.{FACTOR}
 
 -- a word of eight bytes is mixed in

@@ -1,8 +1,8 @@
 ghost use Rattle.std.specs.Prelude.{◌≡◌, ◌^◌, ◌<◌};
-ghost use Rattle.keyspace.specs.Digest.{digest_of};
+ghost use Rattle.keys.specs.Digest.{digest_of};
 ghost use Rattle.filter.specs.Hash.{hash_of, mixed};
 
-use keyspace::digest;
+use keys::digest;
 
 // An odd number whose products spread: it is that of SplitMix64.
 const FACTOR: u64 = 0xBF58_476D_1CE4_E5B9;

@@ -3,9 +3,9 @@ use Rattle.std.proofs.Common.{◌≡◌, ℕ, false, List, inl, inr, sym, subst,
 use Rattle.std.specs.Prelude.{ℤ, negsuc, ◌≤ℤ◌, ◌<ℤ◌, int_lt}
 use Rattle.std.proofs.lemmas.Int.{ints}
 use Rattle.filter.specs.Filter.{FilterState, bound}
-use Rattle.keyspace.specs.Range.{Holds}
-use Rattle.keyspace.specs.declared.range.Range.{Range}
-use Rattle.keyspace.proofs.KeyOrder.{not_both, before_or_at_most}
+use Rattle.keys.specs.Range.{Holds}
+use Rattle.keys.specs.declared.range.Range.{Range}
+use Rattle.keys.proofs.KeyOrder.{not_both, before_or_at_most}
 use Rattle.stepmap.specs.Boundary.{value_at}
 use Rattle.stepmap.specs.StepMap.{Steps}
 use Rattle.stepmap.specs.Covers.{SameFrom, IsAbove}

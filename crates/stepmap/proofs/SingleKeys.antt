@@ -5,10 +5,10 @@ use Rattle.std.specs.Cmp.{nat_cmp_is}
 use Rattle.std.specs.Cmp.Lexicographic.{slice_cmp}
 use Rattle.std.specs.declared.cmp.Ordering.TheVariants.{Less, Equal}
 use Rattle.std.proofs.lemmas.Bool.{cases_order}
-use Rattle.keyspace.specs.Key.{is_before, IsBefore, IsAtMost}
-use Rattle.keyspace.specs.Range.{Holds}
-use Rattle.keyspace.specs.declared.range.Range.{Range}
-use Rattle.keyspace.proofs.KeyOrder.{not_both, before_at_most_same}
+use Rattle.keys.specs.Key.{is_before, IsBefore, IsAtMost}
+use Rattle.keys.specs.Range.{Holds}
+use Rattle.keys.specs.declared.range.Range.{Range}
+use Rattle.keys.proofs.KeyOrder.{not_both, before_at_most_same}
 use Rattle.stepmap.specs.Filtering.{IsSingle}
 
 -- the lesser first byte comes first

@@ -1,7 +1,7 @@
 -- What a filter tells beside a step map, and who is asked instead where it tells nothing. This project's own.
 use Rattle.std.specs.Prelude.{◌≡◌, ℕ, ℤ, ◌≤ℤ◌, ◌<ℤ◌, if◌then◌else◌, Bool, true, false, List, [], ◌∷◌, ◌++◌}
 use Rattle.filter.specs.Filter.{FilterState, bound}
-use Rattle.keyspace.specs.Key.{IsBytes}
+use Rattle.keys.specs.Key.{IsBytes}
 use Rattle.stepmap.specs.Boundary.{value_at}
 use Rattle.stepmap.specs.StepMap.{Steps}
 use Rattle.stepmap.specs.declared.asked.Asked.{Asked}

@@ -2,7 +2,7 @@
 use Rattle.std.specs.Prelude.{◌≡◌, ℕ, ◌+◌, ◌*◌, ◌<◌, ◌≤◌, ℤ, List, length, Option, Some, None}
 use Rattle.arena.specs.Arena.{wanted_of}
 use Rattle.filter.specs.Filter.{FilterState}
-use Rattle.keyspace.specs.declared.key.TheConstants.{MAX_KEY_LENGTH}
+use Rattle.keys.specs.declared.key.TheConstants.{MAX_KEY_LENGTH}
 use Rattle.stepmap.specs.StepMap.{Round, Steps, AreSteps}
 use Rattle.stepmap.specs.Stored.{Stored, spare_in, each_length}
 use Rattle.stepmap.specs.Sweeping.{cursor_of}

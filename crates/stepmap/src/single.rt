@@ -1,11 +1,11 @@
 //! Single keys, which the filter tells of.
 ghost use Rattle.std.specs.Prelude.{ℕ, ◌≤ℤ◌, ◌↔◌, List, IsTrue};
 ghost use Rattle.filter.specs.Filter.{bound};
-ghost use Rattle.keyspace.specs.Range.{Holds};
+ghost use Rattle.keys.specs.Range.{Holds};
 ghost use Rattle.stepmap.specs.Filtering.{IsSingle};
 
 use filter::Filter;
-use keyspace::RangeRef;
+use keys::RangeRef;
 
 // Returns whether the range between the two holds its begin alone: it ends with the key right after that.
 pub fn is_single(begin: &[u8], end: &[u8]) -> bool

@@ -4,7 +4,7 @@ use Rattle.std.proofs.lemmas.Int.{ints, clamps}
 use mir.Syntax.{w64}
 use mir.Val.{to_z, of_z}
 use Rattle.filter.specs.Filter.{bound}
-use Rattle.keyspace.proofs.Booleans.{false_unless}
+use Rattle.keys.proofs.Booleans.{false_unless}
 use Rattle.stepmap.specs.StepMap.{Steps}
 use Rattle.stepmap.specs.Filtering.{FilterTells, IsSingle}
 use Rattle.stepmap.proofs.FilterTelling.{not_less, not_above}
