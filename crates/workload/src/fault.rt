@@ -4,6 +4,7 @@ ghost use Rattle.std.specs.Prelude.{◌≡◌};
 ghost use Rattle.workload.specs.Fault.{line_of};
 ghost use Rattle.workload.specs.declared.fault.Fault.TheVariants.{Write};
 
+use keyspace::{KeyError, LimitError};
 use std::alloc::{AllocError, AllocFailed};
 use wire::{Failed, WireError};
 
@@ -40,6 +41,21 @@ impl From<AllocError> for Fault {
 impl<T: Drop> From<AllocFailed<T>> for Fault {
     fn from(_refused: AllocFailed<T>) -> Fault {
         Fault::Memory
+    }
+}
+
+impl From<KeyError> for Fault {
+    fn from(_beyond: KeyError) -> Fault {
+        Fault::Limit
+    }
+}
+
+impl From<LimitError> for Fault {
+    fn from(refused: LimitError) -> Fault {
+        match refused {
+            LimitError::Memory => Fault::Memory,
+            LimitError::Version | LimitError::Count => Fault::Limit,
+        }
     }
 }
 

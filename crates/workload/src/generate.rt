@@ -12,7 +12,7 @@ use crate::plan::Plan;
 use crate::random::Random;
 use crate::ranges::draw_ranges;
 use crate::shape::Shape;
-use keyspace::{Batch, MAX_RANGES, MAX_TXNS, Sequence, Txn, Txns};
+use keyspace::{Batch, Sequence, Txn};
 use std::alloc::Global;
 use wire::{Sink, encode_batch_1, write_all};
 
@@ -37,11 +37,8 @@ fn draw_txn(alloc: Global, random: &mut Random, shape: Shape, number: u32) -> Re
     let snapshot = draw_snapshot(random, shape, number);
     let reads = draw_ranges(alloc, random, shape, shape.reads())?;
     let writes = draw_ranges(alloc, random, shape, shape.writes())?;
-    if snapshot < 0 || reads.len() > MAX_RANGES || writes.len() > MAX_RANGES {
-        return Err(Fault::Limit);
-    }
     let reads = Sequence::new(reads);
-    Ok(Txn::new(snapshot, false, reads, Sequence::new(writes)))
+    Ok(Txn::checked(snapshot, false, reads, Sequence::new(writes))?)
 }
 
 // Draws so many transactions of the batch of this number.
@@ -79,14 +76,10 @@ pub fn draw_batch(
     ensures txns { IfOk result (λ batch. All (IsTxnOf shape number) batch.txns) }
 {
     let txns = draw_txns(alloc, random, shape, number, count)?;
-    if txns.len() > MAX_TXNS {
-        return Err(Fault::Limit);
-    }
-    let txns = Txns::new(alloc, txns)?;
     let previous = version_before(shape, number, 1);
     let received = version_before(shape, number, BATCHES_IN_FLIGHT);
     let version = version(shape, number);
-    Ok(Batch::new(previous, version, received, txns))
+    Ok(Batch::checked(alloc, previous, version, received, txns)?)
 }
 
 /// Writes the frames of the batches that the plan asks for, and nothing else, and flushes the sink. Returns `Write` where the

@@ -6,29 +6,8 @@ ghost use Rattle.workload.specs.Txns.{numbered_key, point, IsRangeOf};
 use crate::fault::Fault;
 use crate::random::Random;
 use crate::shape::Shape;
-use keys::{Key, MAX_KEY_LENGTH, Range};
+use keys::{Key, Range};
 use std::alloc::Global;
-
-// Creates a key of these bytes, which are checked.
-fn key(bytes: Vec<u8>) -> Result<Key, Fault>
-    ensures key { IfOk result (λ key. key ≡ bytes.items) }
-{
-    if bytes.len() > MAX_KEY_LENGTH {
-        return Err(Fault::Limit);
-    }
-    Ok(Key::new(bytes))
-}
-
-// Creates a range, whose ends are checked.
-fn range(begin: Key, end: Key) -> Result<Range, Fault>
-    ensures begin { IfOk result (λ range. range.begin ≡ begin) }
-    ensures end { IfOk result (λ range. range.end ≡ end) }
-{
-    if end < begin {
-        return Err(Fault::Limit);
-    }
-    Ok(Range::new(begin, end))
-}
 
 // A key of 16 bytes: a fixed text, then the number.
 fn numbered_key(alloc: Global, number: u64) -> Result<Key, Fault>
@@ -36,7 +15,7 @@ fn numbered_key(alloc: Global, number: u64) -> Result<Key, Fault>
 {
     let mut bytes = Vec::from_slice(alloc, b"workload")?;
     bytes.extend_from_slice(&number.to_be_bytes())?;
-    key(bytes)
+    Ok(Key::checked(bytes)?)
 }
 
 // The bytes of a key of 8 to 24 bytes: the number, then a filling whose length the number settles.
@@ -57,13 +36,14 @@ pub fn draw_range(alloc: Global, random: &mut Random, shape: Shape) -> Result<Ra
         Shape::SkipListTest => {
             let begin = numbered_key(alloc, number)?;
             let width = 1 + random.below(10);
-            range(begin, numbered_key(alloc, number + width)?)
+            let end = numbered_key(alloc, number + width)?;
+            Ok(Range::checked(begin, end)?)
         }
         Shape::Points => {
-            let begin = key(point(alloc, number)?)?;
+            let begin = Key::checked(point(alloc, number)?)?;
             let mut end = point(alloc, number)?;
             end.push(0)?;
-            range(begin, key(end)?)
+            Ok(Range::checked(begin, Key::checked(end)?)?)
         }
     }
 }

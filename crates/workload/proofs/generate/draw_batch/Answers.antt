@@ -13,6 +13,6 @@ before shape (suc number) previous none version =
 
 pub returns-clause-previous : goal.returns-clause-previous
 returns-clause-previous c =
-    let same : c.new-2.result.previous ≡ c.version_before-previous.result = search rules in
+    let same : c.in_ok-checked.field-0.previous ≡ c.version_before-previous.result = search rules in
     same ∙ before c.args.shape c.args.number c.version_before-previous.result c.version_before-previous.ensures.none
     c.version_before-previous.ensures.version
