@@ -71,7 +71,7 @@ fn write_and_ask(rt: &impl Abort, alloc: Global, spans: u32) -> Result<Written, 
         let version = i64::from(number);
         written.write(rt, &range, version, "")?;
         if number % 64 == 0 {
-            written.raise(rt, version.saturating_sub(400));
+            written.raise(rt, version.saturating_sub(400).max(0));
             written.sweep(40);
             let ranges = draw(alloc, &mut random)?;
             assert!(rt; answers_as_alone(alloc, written.map(), &ranges, version)?);
@@ -119,7 +119,10 @@ fn key_written_between_others(rt: HostRuntime) -> Result<(), Fail> {
         }];
         let mut answers = Vec::new(rt.alloc());
         written.map().exceeds_each(&asked, &mut answers)?;
-        assert!(rt; answers.as_slice() == [above], "{number} at {version}");
+        assert!(rt;
+            answers.as_slice() == [above].as_slice(),
+            "{number} at {version}"
+        );
     }
     Ok(())
 }
