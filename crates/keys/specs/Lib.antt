@@ -2,5 +2,6 @@
 pub mod Key
 pub mod Digest
 pub mod Range
+pub mod Ranks
 pub mod Laws
 pub mod Bytes
