@@ -4,3 +4,6 @@ pub mod KeyOrder
 pub mod Meeting
 pub mod Digests
 pub mod Words
+pub mod Heads
+pub mod Presorting
+pub mod Sorting

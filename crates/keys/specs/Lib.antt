@@ -3,5 +3,6 @@ pub mod Key
 pub mod Digest
 pub mod Range
 pub mod Ranks
+pub mod Sorting
 pub mod Laws
 pub mod Bytes
