@@ -4,5 +4,6 @@ pub mod Digest
 pub mod Range
 pub mod Ranks
 pub mod Sorting
+pub mod Numbering
 pub mod Laws
 pub mod Bytes
