@@ -11,3 +11,5 @@ pub mod Sorting
 pub mod Ranking
 pub mod Kept
 pub mod Numbering
+pub mod Reaching
+pub mod Galloping

@@ -133,9 +133,9 @@ pub others_more : (all : List Headed) (i : ℕ) (runs now : List (ℕ × ℕ)) (
     → OthersStay (take (i + 1) all) runs (set now (get_or all i no_headed).index run)
 others_more all i runs now run below stay =
     let d = get_or all i no_headed in
-    subst (λ hs. OthersStay hs runs (set now d.index run)) (sym (take_more all i no_headed below)) (λ index no.
+    subst (λ hs. OthersStay hs runs (set now d.index run)) (sym (take_more all i no_headed below)) (λ index none.
     let not : ¬ Contains (indices_of (take i all) ++ d.index ∷ []) index =
-    subst (λ is. ¬ Contains is index) (map_push (λ (h : Headed). h.index) (take i all) d) no in
+    subst (λ is. ¬ Contains is index) (map_push (λ (h : Headed). h.index) (take i all) d) none in
     let other : index ≡ d.index → ⊥ =
     λ e. not (subst (Contains (indices_of (take i all) ++ d.index ∷ [])) (sym e)
     (Contains-push (indices_of (take i all)) d.index)) in

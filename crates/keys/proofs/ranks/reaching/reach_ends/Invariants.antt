@@ -1,7 +1,7 @@
 use Rattle.std.proofs.Common.{◌≡◌, ℕ, List, length, take, All}
-use Rattle.keys.specs.Ranks.{rank}
-use Rattle.keys.specs.Sorting.{begin_at, indices_of}
-use Rattle.keys.specs.Numbering.{AreNumbered, HasRun, OthersStay, run_at}
+use Rattle.keys.specs.Sorting.{indices_of}
+use Rattle.keys.specs.Numbering.{AreNumbered, OthersStay}
+use Rattle.keys.proofs.Reaching.{AreReached}
 use Rattle.keys.proofs.ranks.reaching.reach_ends.Given as goal
 
 abbrev pub invariant-loop-place : goal.invariant-loop-place
