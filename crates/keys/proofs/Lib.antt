@@ -13,3 +13,5 @@ pub mod Kept
 pub mod Numbering
 pub mod Reaching
 pub mod Galloping
+pub mod Filled
+pub mod Ranked
