@@ -1,7 +1,8 @@
 -- Ranges that are ranked once their begins are sorted, numbered and reached.
-use Rattle.std.proofs.Common.{◌≡◌, ℕ, ◌<◌, ◌≤◌, Bool, true, false, List, [], ◌∷◌, length, get_or, map, replicate, refl, sym, ap, subst, ◌∙◌, inl, inr, arith}
+use Rattle.std.proofs.Common.{◌≡◌, ℕ, ◌<◌, ◌≤◌, Bool, true, false, List, [], ◌∷◌, ◌++◌, length, get_or, map, take, drop, replicate, refl, sym, ap, subst, ◌∙◌, inl, inr, arith}
 use Rattle.std.specs.Prelude.{All, Contains, Some, slice_get}
 use Rattle.std.specs.List.Sorted.{IsPermutation}
+use Rattle.std.proofs.Math.Seq.{take-append_seam}
 use Rattle.std.proofs.lemmas.List.{ext_get_or, get_or-map, get_or-replicate, length-map, length-replicate}
 use Rattle.std.proofs.lemmas.List.Elements.{All-contains, Contains-get_or}
 use Rattle.std.proofs.lemmas.List.Sorted.{Contains-permutation, IsPermutation-sym}
@@ -120,3 +121,9 @@ are_in_order ranges headed sorted moved = record {
       (begins_rise ranges headed i j no_headed sorted (omega arith) j_lt));
   all = moved;
 }
+
+-- a list that was written over the whole of another
+pub written_whole : {X : Type 0} (n : ℕ) (new old : List X) → length new ≡ n
+    → take n (new ++ drop (length new) old) ≡ new
+written_whole n new old is =
+    subst (λ k. take k (new ++ drop (length new) old) ≡ new) is (take-append_seam new (drop (length new) old))
