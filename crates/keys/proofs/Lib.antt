@@ -4,3 +4,14 @@ pub mod KeyOrder
 pub mod Meeting
 pub mod Digests
 pub mod Words
+pub mod Values
+pub mod Heads
+pub mod Presorting
+pub mod Sorting
+pub mod Ranking
+pub mod Kept
+pub mod Numbering
+pub mod Reaching
+pub mod Galloping
+pub mod Filled
+pub mod Ranked

@@ -67,10 +67,10 @@ test_from_meets a b m = overlap_to a b (record {
   from_second = at_most_before b.begin m.0 a.end m.3.0 m.2.1;
 })
 
-before_unless_empty : (a : Range) → (a.begin ≡ a.end → ⊥) → IsBefore a.begin a.end
+pub before_unless_empty : (a : Range) → (a.begin ≡ a.end → ⊥) → IsBefore a.begin a.end
 before_unless_empty a h = elim (before_or_same a.begin a.end a.ordered) [ inl k ↦ k | inr e ↦ absurd (h e) ]
 
-not_empty : (a : Range) → IsBefore a.begin a.end → a.begin ≡ a.end → ⊥
+pub not_empty : (a : Range) → IsBefore a.begin a.end → a.begin ≡ a.end → ⊥
 not_empty a h e = not_both a.begin a.end h (subst (λ key. IsAtMost key a.begin) e (at_most_itself a.begin))
 
 -- the same in words: neither is empty

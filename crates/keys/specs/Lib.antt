@@ -2,5 +2,8 @@
 pub mod Key
 pub mod Digest
 pub mod Range
+pub mod Ranks
+pub mod Sorting
+pub mod Numbering
 pub mod Laws
 pub mod Bytes

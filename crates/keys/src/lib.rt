@@ -3,6 +3,9 @@
 //! A [`Key`] is a byte string of limited length, a [`Range`] has two of them, and a [`RangeRef`] borrows these. Keys are
 //! compared byte by byte, a proper prefix first.
 //!
+//! [`Ranks`] orders ranges by their begins and says which of the gaps between these each of them covers, wherever the ranges lie
+//! ([`RangeList`]).
+//!
 //! [`digest()`] and [`common`] tell keys apart quickly: by the first eight bytes, and by how far two keys begin alike.
 //!
 //! `specs/` says, in reading order, what a key is and which of two comes first (`Key`), what its digest is (`Digest`), and
@@ -16,10 +19,14 @@ mod key;
 pub mod laws;
 mod prefix;
 mod range;
+mod range_list;
 mod range_ref;
+mod ranks;
 
 pub use error::KeyError;
 pub use key::{Key, MAX_KEY_LENGTH};
 pub use prefix::{common, digest};
 pub use range::Range;
+pub use range_list::RangeList;
 pub use range_ref::RangeRef;
+pub use ranks::{MAX_RANKED, Ranks};

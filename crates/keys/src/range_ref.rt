@@ -1,4 +1,5 @@
-ghost use Rattle.std.specs.Prelude.{◌≡◌, ◌≤◌, length};
+ghost use Rattle.std.specs.Prelude.{◌≡◌, ◌≤◌, ◌↔◌, length, IsTrue};
+ghost use Rattle.keys.specs.Range.{IsEmpty};
 ghost use Rattle.keys.specs.Key.{IsKey, IsAtMost};
 ghost use Rattle.keys.specs.declared.key.TheConstants.{MAX_KEY_LENGTH};
 
@@ -42,6 +43,13 @@ impl<'a> RangeRef<'a> {
         ensures end { result.end ≡ end.now }
     {
         RangeRef { begin, end }
+    }
+
+    /// Returns `true` if the range holds no key.
+    pub fn is_empty(&self) -> bool
+        ensures empty { IsTrue result ↔ IsEmpty self.now }
+    {
+        self.begin == self.end
     }
 
     /// Returns the bytes of the begin, at most [`MAX_KEY_LENGTH`](crate::MAX_KEY_LENGTH).

@@ -1,0 +1,111 @@
+-- The first of the ranges that doesn't begin below an end, sought by steps that double and then between the last two.
+use Rattle.std.proofs.Common.{◌≡◌, ℕ, ◌+◌, ◌-◌, ◌<◌, ◌≤◌, true, false, List, length, get_or, take, drop, sym, ap, subst, ◌∙◌, inl, inr, arith, not, length-drop, length-take, get_or-drop}
+use Rattle.std.specs.Prelude.{All}
+use Rattle.std.specs.List.Sorted.{IsPartitionedBy, IsPartitionPoint}
+use Rattle.std.proofs.lemmas.Bool.{cases_lt}
+use Rattle.std.proofs.lemmas.List.{get_or_default, get_or-take}
+use Rattle.keys.specs.Key.{is_before, IsBefore, IsAtMost}
+use Rattle.keys.specs.declared.range.Range.{Range}
+use Rattle.keys.specs.declared.ranks.sorting.Headed.{Headed}
+use Rattle.keys.specs.Sorting.{begin_at, AreInBeginOrder}
+use Rattle.keys.proofs.KeyOrder.{at_most_before, at_most_trans}
+use Rattle.keys.proofs.Presorting.{no_headed}
+use Rattle.keys.proofs.Reaching.{begins_rise, AreSplit}
+
+-- a range before one that begins below the end does so too
+below_before : (ranges : List Range) (headed : List Headed) (end : List ℕ) (i j : ℕ) (d : Headed)
+    → AreInBeginOrder ranges headed → i ≤ j → j < length headed
+    → IsBefore (begin_at ranges (get_or headed j d).index) end
+    → IsBefore (begin_at ranges (get_or headed i d).index) end
+below_before ranges headed end i j d sorted le lt below =
+    at_most_before (begin_at ranges (get_or headed i d).index) (begin_at ranges (get_or headed j d).index) end
+    (begins_rise ranges headed i j d sorted le lt) below
+
+-- a step further
+pub steps_more : (ranges : List Range) (headed : List Headed) (end : List ℕ) (m : ℕ)
+    → AreInBeginOrder ranges headed → 0 < m → m ≤ length headed
+    → IsBefore (begin_at ranges (get_or headed (m - 1) no_headed).index) end
+    → All (λ h. IsBefore (begin_at ranges h.index) end) (take m headed)
+steps_more ranges headed end m sorted some within below = λ k d lt.
+    let short : k < m = omega (arith, length-take m headed) in
+    subst (λ (h : Headed). IsBefore (begin_at ranges h.index) end)
+    (get_or_default headed k no_headed d (omega arith) ∙ sym (get_or-take m headed k d short))
+    (below_before ranges headed end k (m - 1) no_headed sorted (omega arith) (omega arith) below)
+
+-- an element of a part
+part_at : (headed : List Headed) (from count k : ℕ) (d : Headed) → k < length (take count (drop from headed))
+    → get_or (take count (drop from headed)) k d ≡ get_or headed (from + k) d
+part_at headed from count k d lt =
+    get_or-take count (drop from headed) k d (omega (arith, length-take count (drop from headed)))
+    ∙ get_or-drop from headed k d
+
+part_within : (headed : List Headed) (from count k : ℕ) → k < length (take count (drop from headed))
+    → from + k < length headed
+part_within headed from count k lt = omega (arith, length-take count (drop from headed), length-drop from headed)
+
+-- in a part too no range that begins below the end comes after one that doesn't
+pub part_split : (ranges : List Range) (headed : List Headed) (end : List ℕ) (from count : ℕ)
+    → AreInBeginOrder ranges headed
+    → IsPartitionedBy (λ (h : Headed). is_before (begin_at ranges h.index) end) (take count (drop from headed))
+part_split ranges headed end from count sorted i j d le lt below =
+    subst (λ (h : Headed). IsBefore (begin_at ranges h.index) end) (sym (part_at headed from count i d (omega arith)))
+    (below_before ranges headed end (from + i) (from + j) d sorted (omega arith)
+    (part_within headed from count j lt)
+    (subst (λ (h : Headed). IsBefore (begin_at ranges h.index) end) (part_at headed from count j d lt) below))
+
+-- the place in the part is that in the whole
+pub whole_split : (ranges : List Range) (headed : List Headed) (end : List ℕ) (from last i : ℕ)
+    → AreInBeginOrder ranges headed → from ≤ last → last ≤ length headed
+    → All (λ h. IsBefore (begin_at ranges h.index) end) (take from headed)
+    → (last < length headed → IsAtMost end (begin_at ranges (get_or headed last no_headed).index))
+    → i ≤ length (take (last - from) (drop from headed))
+    → IsPartitionPoint (λ (h : Headed). is_before (begin_at ranges h.index) end ≡ true)
+    (λ h. is_before (begin_at ranges h.index) end ≡ false) (take (last - from) (drop from headed)) i
+    → AreSplit ranges headed end (from + i)
+whole_split ranges headed end from last i sorted ordered within below behind few point =
+    let long : length (take (last - from) (drop from headed)) ≡ last - from =
+    omega (arith, length-take (last - from) (drop from headed), length-drop from headed) in
+    record {
+      below = λ k d first lt.
+          elim (cases_lt k from) [
+            | inl early ↦
+                subst (λ (h : Headed). IsBefore (begin_at ranges h.index) end) (get_or-take from headed k d early)
+                (below k d (omega (arith, length-take from headed)))
+            | inr later ↦
+                let j = k - from in
+                let same : from + j ≡ k = omega arith in
+                subst (λ q. IsBefore (begin_at ranges (get_or headed q d).index) end) same
+                (subst (λ (h : Headed). IsBefore (begin_at ranges h.index) end)
+                (part_at headed from (last - from) j d (omega arith))
+                (point.0 j d (omega arith) (omega arith)))
+          ];
+      behind = λ k d after lt.
+          elim (cases_lt k last) [
+            | inl inside ↦
+                let j = k - from in
+                let same : from + j ≡ k = omega arith in
+                subst (λ q. IsAtMost end (begin_at ranges (get_or headed q d).index)) same
+                (subst (λ (h : Headed). IsAtMost end (begin_at ranges h.index))
+                (part_at headed from (last - from) j d (omega arith))
+                (ap not (point.1 j d (omega arith) (omega arith))))
+            | inr past ↦
+                subst (λ (h : Headed). IsAtMost end (begin_at ranges h.index)) (get_or_default headed k no_headed d lt)
+                (at_most_trans end (begin_at ranges (get_or headed last no_headed).index)
+                (begin_at ranges (get_or headed k no_headed).index) (behind (omega arith))
+                (begins_rise ranges headed last k no_headed sorted past lt))
+          ];
+    }
+
+-- the same of all that come first and of all the others
+pub below_split : (ranges : List Range) (headed : List Headed) (end : List ℕ) (m : ℕ) → AreSplit ranges headed end m
+    → All (λ h. IsBefore (begin_at ranges h.index) end) (take m headed)
+below_split ranges headed end m split = λ k d lt.
+    let short : k < m = omega (arith, length-take m headed) in
+    subst (λ (h : Headed). IsBefore (begin_at ranges h.index) end) (sym (get_or-take m headed k d short))
+    (split.below k d short (omega (arith, length-take m headed)))
+
+pub behind_split : (ranges : List Range) (headed : List Headed) (end : List ℕ) (m : ℕ) → AreSplit ranges headed end m
+    → All (λ h. IsAtMost end (begin_at ranges h.index)) (drop m headed)
+behind_split ranges headed end m split = λ k d lt.
+    subst (λ (h : Headed). IsAtMost end (begin_at ranges h.index)) (sym (get_or-drop m headed k d))
+    (split.behind (m + k) d (omega arith) (omega (arith, length-drop m headed)))
