@@ -1,6 +1,6 @@
 //! Tests of the data and of its wire form, by the public calls of `keys`, `keyspace` and `wire` alone: worked frames and
 //! the fault that each other one is refused for, readers and writers that give out anywhere, keys, ranges, and the ranks
-//! of ends.
+//! of ends and of ranges.
 #![tactic(auto)]
 
 #[cfg(test)]
@@ -13,6 +13,8 @@ mod keys_and_ranges;
 mod long_batches;
 #[cfg(test)]
 mod paper;
+#[cfg(test)]
+mod range_ranks;
 #[cfg(test)]
 mod ranks;
 #[cfg(test)]
