@@ -1,6 +1,6 @@
 //! Tests of the data and of its wire form, by the public calls of `keys`, `keyspace` and `wire` alone: worked frames and
 //! the fault that each other one is refused for, readers and writers that give out anywhere, keys, ranges, their limits, and
-//! the ranks of ends.
+//! the ranks of ends and of ranges.
 #![tactic(auto)]
 
 #[cfg(test)]
@@ -15,6 +15,8 @@ mod limits;
 mod long_batches;
 #[cfg(test)]
 mod paper;
+#[cfg(test)]
+mod range_ranks;
 #[cfg(test)]
 mod ranks;
 #[cfg(test)]

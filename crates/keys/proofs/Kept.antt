@@ -41,26 +41,16 @@ use Rattle.std.proofs.lemmas.List.{
   take_all,
   take_more,
 }
-use Rattle.std.proofs.lemmas.List.Elements.{
-  All-contains,
-  All-head,
-  All-map,
-  All-tail,
-  Contains-append_left,
-  Contains-get_or,
-  Contains-push,
-  Contains-push_cases,
-}
+use Rattle.std.proofs.lemmas.List.Elements.{All-contains, All-map, Contains-append_left, Contains-get_or, Contains-push, Contains-push_cases}
 use Rattle.std.proofs.lemmas.List.Quantifiers.{all_pairs_push}
 use Rattle.std.proofs.lemmas.List.Sorted.{ranks_by, sorted_far}
-use Rattle.std.proofs.lemmas.List.Sums.{sum_by_push}
 use Rattle.keys.specs.Key.{is_before, IsBefore, IsAtMost}
-use Rattle.keys.proofs.KeyOrder.{before_at_most, before_or_same, not_before_if, not_before_itself}
+use Rattle.keys.proofs.KeyOrder.{before_at_most, before_or_same, not_before_itself}
 use Rattle.keys.specs.declared.range.Range.{Range}
 use Rattle.keys.specs.declared.ranks.sorting.Headed.{Headed}
 use Rattle.keys.specs.Ranks.{rank, AreRising}
 use Rattle.keys.specs.Sorting.{begin_at, begins_of, AreInBeginOrder}
-use Rattle.keys.proofs.Ranking.{one_if, rank_behind, rank_push, rank_kept}
+use Rattle.keys.proofs.Ranking.{rank_behind, rank_push, rank_kept}
 
 pub not_true : (b : Bool) → b ≡ false → b ≡ true → ⊥
 not_true true f t = cc

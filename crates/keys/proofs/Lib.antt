@@ -15,3 +15,4 @@ pub mod Reaching
 pub mod Galloping
 pub mod Filled
 pub mod Ranked
+pub mod Runs

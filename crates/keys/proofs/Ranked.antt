@@ -1,5 +1,5 @@
 -- Ranges that are ranked once their begins are sorted, numbered and reached.
-use Rattle.std.proofs.Common.{◌≡◌, ℕ, ◌<◌, ◌≤◌, Bool, true, false, List, [], ◌∷◌, ◌++◌, length, get_or, map, take, drop, replicate, refl, sym, ap, subst, ◌∙◌, inl, inr, arith}
+use Rattle.std.proofs.Common.{◌≡◌, ℕ, ◌<◌, Bool, true, false, List, ◌++◌, length, get_or, take, drop, replicate, refl, sym, ap, subst, ◌∙◌, inl, inr, arith}
 use Rattle.std.specs.Prelude.{All, Contains, Some, slice_get}
 use Rattle.std.specs.List.Sorted.{IsPermutation}
 use Rattle.std.proofs.Math.Seq.{take-append_seam}
@@ -8,23 +8,12 @@ use Rattle.std.proofs.lemmas.List.Elements.{All-contains, Contains-get_or}
 use Rattle.std.proofs.lemmas.List.Sorted.{Contains-permutation, IsPermutation-sym}
 use Rattle.std.proofs.lemmas.Option.{get_or_from_slice_get, same_Some, slice_get-get_or, slice_get_cases, slice_get_within}
 use Rattle.keys.specs.Key.{IsAtMost}
-use Rattle.keys.specs.Range.{IsEmpty, is_filled}
+use Rattle.keys.specs.Range.{is_filled}
 use Rattle.keys.specs.declared.range.Range.{Range}
 use Rattle.keys.specs.declared.ranks.sorting.Headed.{Headed}
-use Rattle.keys.specs.Ranks.{
-  rank,
-  run_or_none,
-  runs_of,
-  filled_from,
-  AreBegins,
-  AreInOrder,
-  BeginsFirst,
-  HaveBegin,
-  IsBeginIn,
-}
+use Rattle.keys.specs.Ranks.{rank, run_or_none, runs_of, filled_from, AreBegins, AreInOrder, HaveBegin, IsBeginIn}
 use Rattle.keys.specs.Sorting.{begin_at, begin_of, indices_of, AreInBeginOrder}
 use Rattle.keys.specs.Numbering.{end_at, end_of, run_at, AreEachOnce, HasRun, IsFilledAt, OthersStay}
-use Rattle.keys.proofs.KeyOrder.{not_before_itself}
 use Rattle.keys.proofs.Meeting.{before_unless_empty, not_empty}
 use Rattle.keys.proofs.Filled.{filled_at, filled_in}
 use Rattle.keys.proofs.Kept.{not_true}

@@ -1,19 +1,18 @@
 -- How far the runs of ranges reach, once the begins are numbered.
-use Rattle.std.proofs.Common.{◌≡◌, ℕ, ◌+◌, ◌-◌, ◌<◌, ◌≤◌, true, false, List, [], ◌∷◌, ◌++◌, length, get_or, set, take, drop, refl, sym, ap, subst, ◌∙◌, inl, inr, arith, not, length-drop, get_or-drop}
-use Rattle.std.specs.Prelude.{All, Contains, Some, slice_get}
+use Rattle.std.proofs.Common.{◌≡◌, ℕ, ◌+◌, ◌-◌, ◌<◌, ◌≤◌, List, [], ◌∷◌, ◌++◌, length, get_or, set, take, drop, sym, ap, subst, ◌∙◌, inl, inr, arith, not, length-drop, get_or-drop}
+use Rattle.std.specs.Prelude.{All, Contains}
 use Rattle.std.proofs.lemmas.Bool.{cases_eq, cases_lt}
 use Rattle.std.proofs.lemmas.Cmp.{nat_list_cmp_total}
 use Rattle.std.proofs.lemmas.List.{get_or_default, get_or-set_other, get_or-set_same, get_or-take, map_push, take_more, length-take-le}
-use Rattle.std.proofs.lemmas.List.Elements.{All-contains, All-nil, All-push, Contains-get_or}
+use Rattle.std.proofs.lemmas.List.Elements.{All-nil, All-push, Contains-get_or}
 use Rattle.std.proofs.lemmas.List.Sorted.{ranks_by, sorted_far}
 use Rattle.keys.specs.Key.{is_before, IsBefore, IsAtMost}
-use Rattle.keys.specs.Range.{is_filled}
 use Rattle.keys.specs.declared.range.Range.{Range}
 use Rattle.keys.specs.declared.ranks.sorting.Headed.{Headed}
 use Rattle.keys.specs.Ranks.{rank}
-use Rattle.keys.specs.Sorting.{begin_at, begins_of, indices_of, AreInBeginOrder}
-use Rattle.keys.specs.Numbering.{end_at, end_of, run_at, AreEachOnce, AreNumbered, HasRun, IsFilledAt, IsNumbered, OthersStay}
-use Rattle.keys.proofs.KeyOrder.{at_most_before, at_most_trans, before_at_most, not_before_if}
+use Rattle.keys.specs.Sorting.{begin_at, indices_of, AreInBeginOrder}
+use Rattle.keys.specs.Numbering.{end_at, run_at, AreEachOnce, AreNumbered, HasRun, IsFilledAt, OthersStay}
+use Rattle.keys.proofs.KeyOrder.{at_most_before, before_at_most, not_before_if}
 use Rattle.keys.proofs.Presorting.{no_headed}
 use Rattle.keys.proofs.Ranking.{rank_behind, rank_same}
 use Rattle.keys.proofs.Values.{value_of}

@@ -4,6 +4,8 @@ use Rattle.keys.specs.declared.range.Range.{Range}
 use Rattle.keys.specs.Key.{IsBytes, is_before, IsBefore, IsAtMost}
 use Rattle.keys.specs.Digest.{first_eight, digest_of}
 use Rattle.keys.specs.Range.{IsEmpty, Meets}
+use Rattle.keys.specs.Ranks.{run, HaveBegin}
+use Rattle.keys.specs.Gaps.{HasGap, HaveCommonGap}
 
 -- digests are in the order of the keys, as far as they reach
 pub record DigestsTell (a b : List ℕ) : Type 0 where
@@ -37,3 +39,20 @@ RestsTellOrder = (n : ℕ) (a b : List ℕ) → BeginAlike n a b → RestsTell n
 -- two ranges overlap exactly if neither is empty and each begins before the other ends
 abbrev pub MeetByEnds : Range → Range → Type 0
 MeetByEnds a b = Meets a b ↔ (¬ IsEmpty a × ¬ IsEmpty b × IsBefore a.begin b.end × IsBefore b.begin a.end)
+
+-- among the keys that have their begins, two ranges overlap exactly if their runs have a gap in common
+abbrev pub RunsTellMeeting : Type 0
+RunsTellMeeting =
+    (keys : List (List ℕ)) (a b : Range) → HaveBegin keys a → HaveBegin keys b →
+    Meets a b ↔ HaveCommonGap (run keys a) (run keys b)
+
+-- the run of an empty range holds no gap
+abbrev pub EmptyHasNoGap : Type 0
+EmptyHasNoGap =
+    (keys : List (List ℕ)) (range : Range) (gap : ℕ) → IsEmpty range → ¬ HasGap (run keys range) gap
+
+-- a run isn't backwards, and ends at the number of the keys at the latest
+abbrev pub RunsAreWithin : Type 0
+RunsAreWithin =
+    (keys : List (List ℕ)) (range : Range) →
+    ((run keys range).0 ≤ (run keys range).1) × ((run keys range).1 ≤ length keys)

@@ -5,5 +5,6 @@ pub mod Range
 pub mod Ranks
 pub mod Sorting
 pub mod Numbering
+pub mod Gaps
 pub mod Laws
 pub mod Bytes

@@ -1,8 +1,8 @@
 -- The order of ranges by their begins, the numbers of these, and the runs of gaps that ranges cover. This project's own.
-use Rattle.std.specs.Prelude.{◌≡◌, ◌&&◌, ℕ, ◌+◌, ◌<◌, ◌≤◌, ◌↔◌, List, [], ◌∷◌, length, map, if◌then◌else◌, count_by, Option, Some, None, slice_get, All, AllPairs, Any, Contains}
+use Rattle.std.specs.Prelude.{◌≡◌, ℕ, ◌+◌, List, [], ◌∷◌, length, map, if◌then◌else◌, count_by, Some, slice_get, All, AllPairs, Any, Contains}
 use Rattle.std.specs.List.Sorted.{IsPermutation}
 use Rattle.keys.specs.Key.{is_before, IsBefore, IsAtMost}
-use Rattle.keys.specs.Range.{IsEmpty, Meets, is_filled}
+use Rattle.keys.specs.Range.{IsEmpty, is_filled}
 use Rattle.keys.specs.declared.range.Range.{Range}
 
 -- each key comes before the ones after it

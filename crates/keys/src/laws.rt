@@ -1,7 +1,7 @@
 //! Laws about keys and ranges. Each is the contract of a function with an empty body.
 
 ghost use Rattle.keys.specs.declared.range.Range.{Range};
-ghost use Rattle.keys.specs.Laws.{DigestsTellOrder, RestsTellOrder, MeetByEnds};
+ghost use Rattle.keys.specs.Laws.{DigestsTellOrder, RestsTellOrder, MeetByEnds, RunsTellMeeting, EmptyHasNoGap, RunsAreWithin};
 
 /// The key with the lesser digest comes first. Keys with the same digest have the same first eight bytes, where missing
 /// ones count as zeros.
@@ -17,4 +17,12 @@ pub fn beginnings()
 /// Two ranges overlap exactly if neither is empty and each begins before the other ends.
 pub fn meeting()
     ensures by_ends { (a b : Range) → MeetByEnds a b }
+{}
+
+/// Ranges overlap exactly if their runs have a gap in common, where the keys have the begins of those ranges that
+/// aren't empty.
+pub fn runs()
+    ensures meeting { RunsTellMeeting }
+    ensures empty { EmptyHasNoGap }
+    ensures within { RunsAreWithin }
 {}

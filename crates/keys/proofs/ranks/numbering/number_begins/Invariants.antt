@@ -1,6 +1,5 @@
-use Rattle.std.proofs.Common.{◌≡◌, ◌≤◌, ℕ, List, length, take, All}
-use Rattle.keys.specs.Sorting.{begins_of, indices_of}
-use Rattle.keys.specs.Numbering.{IsNumbered, OthersStay}
+use Rattle.std.proofs.Common.{◌≡◌, ◌≤◌, ℕ, List, length, take}
+use Rattle.keys.specs.Numbering.{OthersStay}
 use Rattle.keys.proofs.Numbering.{AreNumberedSoFar}
 use Rattle.keys.proofs.ranks.numbering.number_begins.Given as goal
 

@@ -1,4 +1,4 @@
-use Rattle.std.proofs.Common.{◌≡◌, ℕ, List, length, take, All}
+use Rattle.std.proofs.Common.{◌≡◌, ℕ, List, length, take}
 use Rattle.keys.specs.Sorting.{indices_of}
 use Rattle.keys.specs.Numbering.{AreNumbered, OthersStay}
 use Rattle.keys.proofs.Reaching.{AreReached}
