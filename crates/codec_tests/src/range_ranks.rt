@@ -3,7 +3,7 @@
 use crate::rows::expect;
 use fixtures::{Unmade, range};
 use keys::{MAX_RANKED, Range, RangeList, RangeRef, Ranks};
-use std::alloc::Global;
+use std::alloc::{AllocError, Global};
 use std::test::Fail;
 
 // Ranges of their own.
@@ -31,7 +31,8 @@ fn read_ranges(alloc: Global, text: &str) -> Result<Owned, Unmade> {
         let Some((begin, end)) = word.split_once(',') else {
             return Err(Unmade::Text("range"));
         };
-        all.push(range(alloc, begin.as_bytes(), end.as_bytes())?)?;
+        let range = range(alloc, begin.as_bytes(), end.as_bytes())?;
+        all.push(range).map_err(AllocError::from)?;
     }
     Ok(Owned { all })
 }
