@@ -40,7 +40,7 @@ use Rattle.keyspace.specs.declared.batch.Batch.{Batch}
 use Rattle.keyspace.specs.Processed.{version_of}
 use Rattle.keyspace.specs.Leaving.{Held, next_due}
 use Rattle.keyspace.specs.Laws.{held_of}
-use Rattle.keyspace.specs.Run.{State, Step, Take, hold, admit, leave_all, step, run, part}
+use Rattle.keyspace.specs.Run.{Step, Take, hold, admit, leave_all, run}
 use Rattle.keyspace.proofs.Answered.{each_is_answered}
 use Rattle.keyspace.proofs.Waiting.{run_quiet, next_due_leaves}
 use Rattle.lane.specs.Lane.{Lane}

@@ -6,7 +6,7 @@ use Rattle.resolver.specs.Books.{made_to}
 use Rattle.resolver.specs.Lanes.{taken_from, sent_to}
 use Rattle.resolver.specs.Resolver.{ResolverState}
 
--- how many of the batches that are held at most fall to each of so many proxies
+-- what falls to each of so many proxies of the batches that are held at most, rounded down
 abbrev pub share_of : ℕ → ℕ
 share_of proxies = MAX_HELD / proxies
 
