@@ -1,5 +1,4 @@
 //! Transactions, batches and replies as plain data, over the keys and ranges of `keys`. Each type keeps its limits.
-//! [`Txn::checked`] and [`Batch::checked`] look at the limits of what comes from outside, and refuse by name.
 //!
 //! `specs/` holds the reference definitions, in reading order: all that has to be believed about verdicts and about the
 //! chain of versions. The contracts of the crates above cite them. A crate above may use the contracts of the types here
