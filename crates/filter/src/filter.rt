@@ -1,4 +1,4 @@
-ghost use Rattle.std.specs.Prelude.{◌≡◌, ℕ, ◌≤◌, ◌*◌, ◌<◌, ◌≤ℤ◌, ◌<ℤ◌, ◌↔◌, negsuc, List, length, IfOk, OnOk, OnErr, IsTrue};
+ghost use Rattle.std.specs.Prelude.{◌≡◌, ℕ, ◌≤◌, ◌*◌, ◌<◌, ◌≤ℤ◌, ◌<ℤ◌, ◌↔◌, negsuc, List, length, IfOk, OnOk, IsTrue, min};
 ghost use Rattle.std.specs.Int.{int_max};
 ghost use Rattle.filter.specs.Filter.{bound, cell_of, each_twice};
 
@@ -106,6 +106,9 @@ impl Filter {
         ensures same { (key : List ℕ) → bound self.new key ≡ bound self.old key }
         ensures range { self.new.newest_range ≡ self.old.newest_range }
         ensures newest { self.new.newest_key ≡ self.old.newest_key }
+        ensures no_fewer { length self.old.versions ≤ length self.new.versions }
+        ensures enough { OnOk result (self.old.newest_range <ℤ self.old.newest_key
+            → min count MAX_CELLS ≤ length self.new.versions) }
     {
         if !self.is_useful() {
             return Ok(());
@@ -122,6 +125,7 @@ impl Filter {
         ensures same { (key : List ℕ) → bound self.new key ≡ bound self.old key }
         ensures range { self.new.newest_range ≡ self.old.newest_range }
         ensures newest { self.new.newest_key ≡ self.old.newest_key }
+        ensures no_fewer { length self.old.versions ≤ length self.new.versions }
         ensures count { OnOk result (length self.new.versions ≡ 2 * length self.old.versions) }
     {
         self.cells = each_twice(self.alloc, &self.cells)?;

@@ -32,3 +32,8 @@ pub returns-clause-count : goal.returns-clause-count
 returns-clause-count c =
     let at = (goal.at.returns-clause-count c).In_ok-self-inside in
     omega (arith, few at, many at)
+
+pub returns-clause-no_fewer : goal.returns-clause-no_fewer
+returns-clause-no_fewer c =
+    let at = (goal.at.returns-clause-no_fewer c).In_ok-self-inside in
+    omega (arith, few at, many at)

@@ -1,4 +1,4 @@
-use Rattle.std.proofs.Common.{◌≡◌, ℕ, ◌*◌, ◌-◌, List, length}
+use Rattle.std.proofs.Common.{◌≡◌, ℕ, ◌*◌, ◌-◌, ◌≤◌, List, length}
 use Rattle.filter.specs.Filter.{bound}
 use Rattle.filter.specs.declared.filter.TheConstants.{MAX_CELLS}
 use Rattle.filter.proofs.filter.Filter.reserve.Given as goal
@@ -8,6 +8,7 @@ invariant-loop-self l = record {
   same : (key : List ℕ) → bound l.self key ≡ bound l.initial.self key;
   range : l.self.newest_range ≡ l.initial.self.newest_range;
   newest : l.self.newest_key ≡ l.initial.self.newest_key;
+  no_fewer : length l.initial.self.versions ≤ length l.self.versions;
 }
 
 abbrev pub decreases-loop-self : goal.decreases-loop-self
