@@ -1,0 +1,58 @@
+//! Whose batch goes first where all proxies wait for each other.
+
+ghost use Rattle.std.specs.Prelude.{◌≡◌, ℕ, ◌↔◌, List, [], ◌∷◌, ◌++◌, length, IfSome, IsTrue, None};
+ghost use Rattle.flow.specs.Next.{AllWait, IsNext, NoneStands, HasFirst, WaitsForOthers};
+ghost use Rattle.flow.specs.declared.told.Told.{Told as WhatIsTold};
+
+use crate::told::{Stand, Told};
+
+// A proxy that stands, and the previous version of its batch.
+#[derive(Clone, Copy)]
+struct Candidate {
+    proxy: usize,
+    previous: i64,
+}
+
+/// Returns the proxy whose batch is to be let through. `told` is what each proxy tells, at its number, and `sent` how many
+/// answers were sent to it.
+///
+/// There is one only where all wait for each other: each proxy has closed its lane, or stands and has received all answers
+/// that were sent to it. Of those that stand it is the one whose batch has the least previous version, among equals the one
+/// with the lowest number.
+pub fn next_through(told: &[Told], sent: &[u64]) -> Option<usize>
+    requires each { length told.now ≡ length sent.now }
+    ensures some { IfSome result (λ proxy. AllWait told.now sent.now × IsNext told.now proxy) }
+    ensures none { result ≡ None → AllWait told.now sent.now → NoneStands told.now }
+{
+    let mut first = None;
+    for (proxy, state) in told.iter().enumerate() {
+        if !waits_for_others(*state, sent[proxy]) {
+            return None;
+        }
+        first = first_of(first, proxy, *state);
+    }
+    Some(first?.proxy)
+}
+
+// Returns which goes first, of those before this proxy and this one.
+fn first_of(first: Option<Candidate>, proxy: usize, state: Told) -> Option<Candidate>
+    ensures first { (before : List WhatIsTold) → length before ≡ proxy
+        → HasFirst before first → HasFirst (before ++ state ∷ []) result }
+{
+    match (first, state) {
+        (Some(candidate), Told::Stands(stand)) if candidate.previous <= stand.previous => first,
+        (_, Told::Stands(Stand { previous, .. })) => Some(Candidate { proxy, previous }),
+        (_, Told::Goes | Told::Closed) => first,
+    }
+}
+
+// Returns whether a proxy to which so many answers were sent waits for others.
+fn waits_for_others(told: Told, sent: u64) -> bool
+    ensures waits { IsTrue result ↔ WaitsForOthers told sent }
+{
+    match told {
+        Told::Goes => false,
+        Told::Stands(stand) => stand.answered == sent,
+        Told::Closed => true,
+    }
+}
