@@ -129,6 +129,13 @@ impl<T> Intake<T> {
         port.token = Some(part(&self.ring, &mut self.token));
         taken
     }
+
+    /// Returns how many items were taken.
+    pub fn taken(&self) -> u64
+        ensures count { result ≡ length self.now.taken }
+    {
+        self.counts.taken
+    }
 }
 
 // The intake's look: it loads tail. Nothing else changes what the intake has seen sent, or that it has seen the close.

@@ -145,6 +145,13 @@ impl<T> Port<T> {
         };
         close(&self.ring, token, &mut self.counts);
     }
+
+    /// Returns how many items were sent.
+    pub fn sent(&self) -> u64
+        ensures count { result ≡ length self.now.sent }
+    {
+        self.counts.sent
+    }
 }
 
 // Whether none of the last `capacity` items was seen taken.
