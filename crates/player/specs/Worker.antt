@@ -1,5 +1,5 @@
 -- What a worker does. This project's own.
-use Rattle.std.specs.Prelude.{◌≡◌, ◌≢◌, ℕ, ◌≤◌, ◌⊎◌, Bool, true, List, [], ◌∷◌, ◌++◌, length, Option, None, Some, IfSome, option_to_list}
+use Rattle.std.specs.Prelude.{◌≡◌, ◌≢◌, ℕ, ◌<◌, ◌≤◌, ◌⊎◌, Bool, true, List, [], ◌∷◌, ◌++◌, length, Option, None, Some, IfSome, option_to_list}
 use Rattle.std.specs.Io.KnownBytes.{IsAtEnd}
 use Rattle.keyspace.specs.declared.batch.Batch.{Batch}
 use Rattle.keyspace.specs.declared.answer.Answer.{Answer}
@@ -12,7 +12,10 @@ use Rattle.resolver.specs.declared.client.Client.{Client}
 use Rattle.player.specs.declared.worker.Finished.{Finished}
 use Rattle.player.specs.declared.worker.FileEnd.{FileEnd}
 use Rattle.player.specs.declared.worker.FileEnd.TheVariants.{Reached, Fault, Unsent}
+use Rattle.player.specs.declared.worker.Worker.{Worker}
 use Rattle.player.specs.Inbox.{KeepsLines}
+use Rattle.flow.specs.declared.told.Stand.{Stand}
+use Rattle.flow.specs.Share.{unanswered}
 
 -- the same client later: its ends are of the same lanes
 pub record ClientGoesOn (old new : Client) : Type 0 where
@@ -64,3 +67,17 @@ pub record HasWorked (frames : Bool) (proxy : ℕ) (bytes : Option (List ℕ)) (
       KeepsLines frames proxy given.replies.taken finished.client.replies.taken finished.lines.items finished.lost
   pub closed : finished.client.requests.closed ≡ true
   pub ended : HasEnded finished.client.replies
+
+-- the worker's share isn't used up
+abbrev pub IsBelowShare : Worker → Type 0
+IsBelowShare worker =
+    unanswered (length worker.requests.sent) (length worker.inbox.replies.taken) < worker.share
+
+-- what the worker tells with this batch in hand
+abbrev pub stand_with : Batch → Worker → Stand
+stand_with batch worker = record { previous = batch.previous; answered = length worker.inbox.replies.taken }
+
+-- the worker's share isn't used up, or this gatekeeper lets the batch through
+abbrev pub KeepsToShare : {G : Type 0} → (G → ℕ → Stand → Type 0) → G → Worker → Batch → Type 0
+KeepsToShare lets_through gatekeeper worker batch =
+    IsBelowShare worker ⊎ lets_through gatekeeper worker.proxy (stand_with batch worker)
