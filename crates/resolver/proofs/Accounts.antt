@@ -34,7 +34,7 @@ begins_whole xs ys begins same =
     sym (append-nil xs) ∙ ap (λ rest. xs ++ rest) (sym none) ∙ sym begins.1
 
 -- the answers made to a proxy begin those of the reference resolver
-made_begins : (stop : Option Stop) (log : List Step) (given : Given) (books : Books)
+pub made_begins : (stop : Option Stop) (log : List Step) (given : Given) (books : Books)
     → StandsBy stop log given books → (proxy : ℕ) → proxy < length books.owed
     → IsBeginning (made_to proxy given books) (answers books.set.window log proxy)
 made_begins None log given books stands proxy inside =

@@ -2,6 +2,7 @@
 use Rattle.std.proofs.Common.{◌≡◌, ℕ, true, List, ◌++◌, length, Some, None, sym, ap, subst, ◌∙◌, refl, inl, inr, arith}
 use Rattle.std.specs.Prelude.{◌↔◌, is_some, slice_get}
 use Rattle.std.proofs.lemmas.Bool.{true≢false}
+use Rattle.std.proofs.lemmas.List.{length-map}
 use Rattle.std.proofs.lemmas.Option.{slice_get_past, none-some}
 use Rattle.keyspace.specs.Run.{Step}
 use Rattle.lane.specs.Lane.{HasEnded}
@@ -9,7 +10,7 @@ use Rattle.resolver.specs.Owed.{owed_to, owed_count}
 use Rattle.resolver.specs.Lanes.{Lanes, Each, sent_to, all_ended}
 use Rattle.resolver.specs.Resolver.{ResolverState, StandsOver, IsThrough}
 use Rattle.resolver.specs.Links.{LinkView, Parts, AreParts, EachLink, lanes_of, owed_with, closed_link, resolver_of}
-use Rattle.resolver.proofs.Linked.{field_same, both_at, each_lanes, owed_with-same}
+use Rattle.resolver.proofs.Linked.{field_same, both_at, each_lanes, owed_with-length, owed_with-same}
 use Rattle.resolver.proofs.Handed.{StandsBy-moved}
 use Rattle.resolver.proofs.HandedOut.{list_all-same}
 use Rattle.resolver.proofs.Logged.{stands_same}
@@ -21,8 +22,16 @@ ClosedOver old new = record {
   closed : (p : ℕ) (l : Lanes) → slice_get new.lanes p ≡ Some l → (l.replies.closed ≡ true) ↔ IsThrough new;
   core : new.core ≡ old.core;
   lanes : Each (λ _ l m. m ≡ record l { replies = record l.replies { closed = m.replies.closed } }) old.lanes new.lanes;
+  count : length new.core.books.owed ≡ length new.lanes;
   next : new.next ≡ old.next;
 }
+
+-- a resolver owes answers to as many proxies as it has lanes
+pub as_many : (parts : Parts) → AreParts parts
+    → length (resolver_of parts).core.books.owed ≡ length (resolver_of parts).lanes
+as_many parts are =
+    owed_with-length parts.links parts.core.books.owed ∙ sym are.count
+    ∙ sym (length-map parts.links (λ l. l.lanes))
 
 -- the parts of a resolver that is through, and its links with their reply lanes closed
 module _ (parts : Parts) (are : AreParts parts) (through : IsThrough (resolver_of parts)) (now : List LinkView)
@@ -121,6 +130,7 @@ module _ (parts : Parts) (are : AreParts parts) (through : IsThrough (resolver_o
           each_lane.each p l m at_old at_new
           ∙ ap (λ x. record l { replies = record l.replies { closed = x } }) (sym (is_closed p m at_new));
     };
+    count = as_many closed_parts parts_after;
     next = refl;
   }
 

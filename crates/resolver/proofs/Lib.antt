@@ -25,5 +25,6 @@ pub mod Connected
 pub mod Settling
 pub mod Unchanged
 pub mod Accounts
+pub mod Shares
 pub mod Later
 pub mod TwoProxies

@@ -37,7 +37,7 @@ leave-none : (turns : ℕ) (window : ℤ) (s : State) → next_due (version_of s
 leave-none zero window s none = refl
 leave-none (suc turns) window s none = ap (leave_then (leave turns window) window s) none
 
-leave_all-none : (window : ℤ) (s : State) → next_due (version_of s.processed) s.held ≡ None
+pub leave_all-none : (window : ℤ) (s : State) → next_due (version_of s.processed) s.held ≡ None
     → leave_all window s ≡ s
 leave_all-none window s none = leave-none (length s.held) window s none
 

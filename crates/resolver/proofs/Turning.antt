@@ -7,7 +7,7 @@ use Rattle.keyspace.specs.declared.answer.Answer.{Answer}
 use Rattle.keyspace.specs.Run.{State, Step, Take, Finish}
 use Rattle.lane.specs.Lane.{PortGoesOn, IntakeGoesOn}
 use Rattle.resolver.specs.Owed.{owed_to, owed_count}
-use Rattle.resolver.specs.Books.{StopsAtLimit}
+use Rattle.resolver.specs.Books.{Books, StopsAtLimit}
 use Rattle.resolver.specs.Stands.{CoreState}
 use Rattle.keyspace.specs.declared.batch.Batch.{Batch}
 use Rattle.resolver.proofs.Handed.{StopsAtLimit-moved}
@@ -262,8 +262,11 @@ module _ (mid new : ResolverState) (a : AnswersOver mid new) (taken : Option ℕ
       true≢false (sym both.0 ∙ ended_same mid new a ∙ still_open proxy is)) in
       rw (none, is_closed) refl
 
--- the batch at which the core stopped is the same once answers were handed out and lanes closed
+-- the conflict set and the batch at which the core stopped are the same once answers were handed out and lanes closed
 module _ {mid given new : ResolverState} (h : HandedOver mid given) (k : ClosedOver given new) where
+  pub same_set : new.core.books.set ≡ mid.core.books.set
+  same_set = ap (λ (c : CoreState). c.books.set) k.core ∙ ap (λ (b : Books). b.set) h.same.books
+
   sent_same : (p : ℕ) → sent_to new.lanes p ≡ sent_to given.lanes p
   sent_same =
       field_same (λ (l : Lanes). l.replies.sent) given.lanes new.lanes k.lanes.count

@@ -5,6 +5,7 @@ pub mod Books
 pub mod Stands
 pub mod Lanes
 pub mod Resolver
+pub mod Share
 pub mod Links
 pub mod Settled
 pub mod Served

@@ -10,7 +10,11 @@
 //! [`serve_two`] shows them used: it serves two proxies in one thread, and its contract says in the reference resolver's words
 //! what they received. The definition is `AreServed`, in `specs/Served.antt`.
 //!
-//! The law of [`laws`] says that in none of these is there a batch of a proxy without a client.
+//! [`share`] is the share of each proxy in what the resolver holds. While no client has more batches sent without an answer, no turn
+//! answers `GateFull`. The definitions are in `specs/Share.antt`.
+//!
+//! The laws of [`laws`] say that in none of these is there a batch of a proxy without a client, and that a client which keeps its share
+//! isn't one that has more unanswered.
 #![tactic(auto)]
 
 mod books;
@@ -23,6 +27,7 @@ mod over_lanes;
 mod owed;
 mod sequential;
 mod serving;
+mod sharing;
 mod stop;
 mod turn;
 
@@ -31,5 +36,6 @@ pub use opening::open;
 pub use over_lanes::Resolver;
 pub use sequential::{Core, MAX_PROXIES};
 pub use serving::{Served, serve_two};
+pub use sharing::share;
 pub use stop::{OpenError, Stop};
 pub use turn::{Account, Turn};

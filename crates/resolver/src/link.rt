@@ -73,6 +73,13 @@ impl Link {
         self.ended
     }
 
+    /// Returns how many answers were sent to the proxy.
+    pub fn sent(&self) -> u64
+        ensures count { result ≡ length self.now.lanes.replies.sent }
+    {
+        self.replies.sent()
+    }
+
     /// Returns whether an answer waits for room on the reply lane.
     pub fn is_waiting(&self) -> bool
         ensures waiting { IsTrue result ↔ IsSome self.now.waiting }

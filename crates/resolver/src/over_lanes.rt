@@ -14,6 +14,7 @@ ghost use Rattle.resolver.specs.Links.{IsNewLink, lanes_of};
 ghost use Rattle.resolver.specs.declared.sequential.TheConstants.{MAX_PROXIES};
 ghost use Rattle.resolver.specs.Lanes.{Lanes, all_ended, Each, LanesGoOn, IsLookedThrough, ComesBefore, IsFull, TakesNone, AreSameLists, sent_to};
 ghost use Rattle.resolver.specs.Resolver.{ResolverState, StandsOver, IsResolving, TakesFrom, Finishes, TakesNoStep, StepsBy, IfNotTaken, IsThrough, SameBut, AreClients, SameClients};
+ghost use Rattle.resolver.specs.Share.{share_of, HasMoreUnanswered};
 ghost use Rattle.resolver.specs.Settled.{Settled, IsComplete};
 
 use crate::client::Client;
@@ -95,6 +96,9 @@ impl Resolver {
     /// owed and no answer is still to come, it closes the reply lanes.
     ///
     /// An error is final: this and every later turn take no more, hand out what the reply lanes accept, and return the same one.
+    ///
+    /// `GateFull` first comes only where more batches of some proxy than its [`share`](crate::share) were taken for which no answer was
+    /// made. So it never comes where each client never has more than the share of batches sent for which it has no answer.
     pub fn turn(&mut self) -> Result<Turn, Stop>
         // What the resolver stands for afterwards.
         ensures step { IfOk result (λ turn. StepsBy turn self.old self.new) }
@@ -125,6 +129,9 @@ impl Resolver {
         ensures gate_full { self.old.core.stop ≡ None → result ≡ Err Stop.GateFull
             → (proxy : ℕ) × (took : TakesFrom proxy self.old self.new)
             × (self.old.core.books.version <ℤ took.batch.previous) × (length self.old.core.books.held ≡ MAX_HELD) }
+        ensures beyond_share { self.old.core.stop ≡ None → result ≡ Err Stop.GateFull → IsResolving self.old
+            → (proxy : ℕ) × (proxy < length self.new.lanes)
+            × HasMoreUnanswered (share_of (length self.new.lanes)) proxy self.new }
         ensures arena_full { self.old.core.stop ≡ None → result ≡ Err Stop.ArenaFull → (log : List Step) → StandsOver self.old log
             → (proxy : ℕ) × (took : TakesFrom proxy self.old self.new)
             × StopsAtLimit self.old.core.books.set.map.limit self.old.core.books.set.window proxy took.batch
@@ -174,6 +181,16 @@ impl Resolver {
         ensures count { result ≡ owed_count self.now.core.books.owed }
     {
         self.core.owed() + links::waiting(&self.links)
+    }
+
+    /// Returns how many answers were sent to the proxy, or 0 where there is no such proxy.
+    pub fn sent(&self, proxy: usize) -> u64
+        ensures count { result ≡ length (sent_to self.now.lanes proxy) }
+    {
+        match self.links.get(proxy) {
+            Some(link) => link.sent(),
+            None => 0,
+        }
     }
 
     // Takes a batch of the next proxy that has one and admits it, and returns the proxy; or finishes the core, once all have ended.
@@ -243,6 +260,7 @@ impl Resolver {
             → (l.replies.closed ≡ true) ↔ IsThrough self.new }
         ensures core { self.new.core ≡ self.old.core }
         ensures lanes { Each (λ _ l m. m ≡ record l { replies = record l.replies { closed = m.replies.closed } }) self.old.lanes self.new.lanes }
+        ensures count { length self.new.core.books.owed ≡ length self.new.lanes }
         ensures next { self.new.next ≡ self.old.next }
     {
         if !self.closed && self.is_through() {

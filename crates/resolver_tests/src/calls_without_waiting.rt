@@ -16,8 +16,9 @@ fn over_a_lane(alloc: Global) -> Result<bool, Unmade> {
     let is_sent = port.send(7).is_ok();
     let is_taken = intake.take_beside(&mut port) == Taken::Item(7);
     let is_all_taken = agree(&mut port, &mut intake);
+    let are_counted = port.sent() == 1 && intake.taken() == 1;
     port.close();
-    Ok(is_sent && is_taken && is_all_taken && intake.take() == Taken::End)
+    Ok(is_sent && is_taken && is_all_taken && are_counted && intake.take() == Taken::End)
 }
 
 // Makes each call of a resolver of one proxy that sends nothing.
@@ -32,7 +33,7 @@ fn over_a_resolver(alloc: Global) -> Result<bool, Unmade> {
         complete: true,
         stop: None,
     };
-    Ok(is_idle && is_done && service.settle() == account)
+    Ok(is_idle && is_done && service.sent(0) == 0 && service.settle() == account)
 }
 
 #[test]

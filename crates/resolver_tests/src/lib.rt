@@ -2,8 +2,8 @@
 //!
 //! `set` and `scan` resolve batches by a conflict set: by hand, and at random beside a plain scan of all committed writes.
 //! `cores` plays the worked rows of `rows` over a core, `rows_over_lanes` the same over lanes of one, and `lanes` those that are of
-//! lanes alone; `serving` has those of two proxies served in one thread. `calls_without_waiting` makes each call over lanes where
-//! nothing can wait. `refusals` prints each stop and each refusal.
+//! lanes alone; `serving` has those of two proxies served in one thread. `shares` has two proxies send up to their share and beyond it.
+//! `calls_without_waiting` makes each call over lanes where nothing can wait. `refusals` prints each stop and each refusal.
 //!
 //! The tests named for it, as `core_stops_at_one_growth_refused`, pass whichever one growth is refused; `.ci/refused-memory` refuses
 //! each in turn.
@@ -37,3 +37,5 @@ mod service;
 mod serving;
 #[cfg(test)]
 mod set;
+#[cfg(test)]
+mod shares;

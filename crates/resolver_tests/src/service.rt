@@ -81,6 +81,11 @@ impl Service {
         self.resolver.settle(&mut self.clients)
     }
 
+    /// Returns how many answers were sent to the proxy.
+    pub fn sent(&self, proxy: usize) -> u64 {
+        self.resolver.sent(proxy)
+    }
+
     /// Returns the number of answers owed to all proxies.
     pub fn owed(&self) -> usize {
         self.resolver.owed()

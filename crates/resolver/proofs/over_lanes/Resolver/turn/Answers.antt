@@ -5,8 +5,9 @@ use Rattle.std.proofs.Common.{◌≡◌, Result, refl, sym, ap, ◌∙◌, Ok, E
 use Rattle.keyspace.specs.Run.{run}
 use Rattle.resolver.specs.Lanes.{Each, IsLookedThrough, ComesBefore}
 use Rattle.resolver.specs.Resolver.{StepsBy, IsThrough, IfNotTaken}
-use Rattle.resolver.proofs.Turning.{TakesFrom-on, Finishes-on, TakesNoStep-on, looked_on, full_on, lanes_on, told, StepsBy-told, IfNotTaken-told, took-told, all_looked_on, stopped_on, stop_met_on, done_means, done_where, closed_by, answers_over, stops_on}
+use Rattle.resolver.proofs.Turning.{TakesFrom-on, Finishes-on, TakesNoStep-on, looked_on, full_on, lanes_on, told, StepsBy-told, IfNotTaken-told, took-told, all_looked_on, stopped_on, stop_met_on, done_means, done_where, closed_by, answers_over, stops_on, same_set}
 use Rattle.resolver.proofs.Resolving.{resolving_turned, resolving_stopped}
+use Rattle.resolver.proofs.Shares.{beyond_share}
 use Rattle.resolver.proofs.Stops.{same_stop, OnErr-always}
 use Rattle.resolver.specs.declared.stop.Stop.TheVariants as stop
 use Rattle.resolver.proofs.over_lanes.Resolver.turn.Goals as goal
@@ -112,3 +113,11 @@ returns-in_err-proxy-clause-arena_full c = λ running is log s.
       TakesFrom-on c.hand_out.ensures c.close.ensures full.0 full.1,
       stops_on c.hand_out.ensures c.close.ensures set.map.limit set.window full.0 full.1.batch (run set.window log) full.2,
     )
+
+pub returns-in_err-proxy-clause-beyond_share : goal.returns-in_err-proxy-clause-beyond_share
+returns-in_err-proxy-clause-beyond_share c = λ running is before.
+    let full = returns-in_err-proxy-clause-gate_full c running is in
+    let set = same_set c.hand_out.ensures c.close.ensures in
+    beyond_share c.args.self.now c.close.new.self
+    (ap (λ s. s.window) set ∙ c.step-stepped.ensures.goes_on.window) c.close.ensures.count running before full.0 full.1
+    full.2 full.3

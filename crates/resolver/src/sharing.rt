@@ -1,0 +1,17 @@
+//! The share of each proxy in what a resolver holds.
+
+ghost use Rattle.std.specs.Prelude.{◌≡◌, ◌≤◌};
+ghost use Rattle.resolver.specs.Share.{share_of};
+
+use chain::MAX_HELD;
+
+/// Returns the share of each of so many proxies in the batches that a resolver holds: [`MAX_HELD`] divided by their number, rounded
+/// down.
+///
+/// Where none of them ever has more batches sent for which it has no answer, no turn answers `GateFull`.
+pub fn share(proxies: usize) -> u64
+    requires some { 1 ≤ proxies }
+    ensures share { result ≡ share_of proxies }
+{
+    (MAX_HELD / proxies) as u64
+}
