@@ -32,7 +32,18 @@ pub record IsNext (told : List Told) (proxy : ℕ) : Type 0 where
       (other : ℕ) (s : Stand) → other < proxy → slice_get told other ≡ Some (Stands s) →
       stand.previous <ℤ s.previous
 
--- the candidate is that proxy, with that version; there is none where none stands
-abbrev pub HasFirst : List Told → Option Candidate → Type 0
-HasFirst told None = NoneStands told
-HasFirst told (Some candidate) = (next : IsNext told candidate.proxy) × (next.stand.previous ≡ candidate.previous)
+-- of the proxies below this number, the candidate is the next
+pub record IsFirstBelow (n : ℕ) (told : List Told) (candidate : Candidate) : Type 0 where
+  pub inside : candidate.proxy < n
+  pub stands : slice_get told candidate.proxy ≡ Some (Stands candidate.stand)
+  pub least :
+      (other : ℕ) (s : Stand) → other < n → slice_get told other ≡ Some (Stands s) →
+      candidate.stand.previous ≤ℤ s.previous
+  pub first :
+      (other : ℕ) (s : Stand) → other < candidate.proxy → slice_get told other ≡ Some (Stands s) →
+      candidate.stand.previous <ℤ s.previous
+
+-- there is a candidate where one of these stands
+abbrev pub HasFirst : ℕ → List Told → Option Candidate → Type 0
+HasFirst n told None = (proxy : ℕ) (stand : Stand) → proxy < n → slice_get told proxy ≢ Some (Stands stand)
+HasFirst n told (Some candidate) = IsFirstBelow n told candidate

@@ -5,7 +5,7 @@
 //! [`next_through`] says whose batch is let through all the same.
 //!
 //! The crate knows nothing of batches, lanes or the resolver, but for the numbers that they go by. Its definitions are in
-//! `specs/Share.antt`, `specs/Next.antt` and `specs/Word.antt`.
+//! `specs/Share.antt` and `specs/Next.antt`.
 #![tactic(auto)]
 
 mod next;

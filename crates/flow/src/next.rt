@@ -1,16 +1,30 @@
 //! Whose batch goes first where all proxies wait for each other.
 
-ghost use Rattle.std.specs.Prelude.{◌≡◌, ℕ, ◌↔◌, List, [], ◌∷◌, ◌++◌, length, IfSome, IsTrue, None};
+ghost use Rattle.std.specs.Prelude.{◌≡◌, ◌+◌, ◌<ℤ◌, ◌≤ℤ◌, ◌↔◌, List, length, slice_get, IfSome, IsTrue, None, Some};
 ghost use Rattle.flow.specs.Next.{AllWait, IsNext, NoneStands, HasFirst, WaitsForOthers};
 ghost use Rattle.flow.specs.declared.told.Told.{Told as WhatIsTold};
 
 use crate::told::{Stand, Told};
 
-// A proxy that stands, and the previous version of its batch.
+// A proxy that stands.
 #[derive(Clone, Copy)]
 struct Candidate {
     proxy: usize,
-    previous: i64,
+    stand: Stand,
+}
+
+impl Candidate {
+    // Returns which goes first, of this one and one with a higher number.
+    fn or(self, other: Candidate) -> Candidate
+        ensures least { self.stand.previous ≤ℤ other.stand.previous → result ≡ self }
+        ensures other { other.stand.previous <ℤ self.stand.previous → result ≡ other }
+    {
+        if self.stand.previous <= other.stand.previous {
+            self
+        } else {
+            other
+        }
+    }
 }
 
 /// Returns the proxy whose batch is to be let through. `told` is what each proxy tells, at its number, and `sent` how many
@@ -36,13 +50,16 @@ pub fn next_through(told: &[Told], sent: &[u64]) -> Option<usize>
 
 // Returns which goes first, of those before this proxy and this one.
 fn first_of(first: Option<Candidate>, proxy: usize, state: Told) -> Option<Candidate>
-    ensures first { (before : List WhatIsTold) → length before ≡ proxy
-        → HasFirst before first → HasFirst (before ++ state ∷ []) result }
+    ensures first { (told : List WhatIsTold) → slice_get told proxy ≡ Some state
+        → HasFirst proxy told first → HasFirst (proxy + 1) told result }
 {
-    match (first, state) {
-        (Some(candidate), Told::Stands(stand)) if candidate.previous <= stand.previous => first,
-        (_, Told::Stands(Stand { previous, .. })) => Some(Candidate { proxy, previous }),
-        (_, Told::Goes | Told::Closed) => first,
+    let Told::Stands(stand) = state else {
+        return first;
+    };
+    let next = Candidate { proxy, stand };
+    match first {
+        Some(candidate) => Some(candidate.or(next)),
+        None => Some(next),
     }
 }
 
