@@ -27,7 +27,7 @@ ClosedOver old new = record {
 }
 
 -- a resolver owes answers to as many proxies as it has lanes
-pub as_many : (parts : Parts) → AreParts parts
+as_many : (parts : Parts) → AreParts parts
     → length (resolver_of parts).core.books.owed ≡ length (resolver_of parts).lanes
 as_many parts are =
     owed_with-length parts.links parts.core.books.owed ∙ sym are.count
@@ -135,6 +135,11 @@ module _ (parts : Parts) (are : AreParts parts) (through : IsThrough (resolver_o
   }
 
 -- as the resolver is read after the calls
+pub as_many_seen : {parts : Parts} {old : ResolverState} → AreParts parts → resolver_of parts ≡ old
+    → length old.core.books.owed ≡ length old.lanes
+as_many_seen {parts} are was =
+    subst (λ (r : ResolverState). length r.core.books.owed ≡ length r.lanes) was (as_many parts are)
+
 module _ {parts : Parts} {old : ResolverState} {seen now links : List LinkView} where
   pub closed_all : AreParts parts → resolver_of parts ≡ old → IsThrough old → seen ≡ parts.links
       → EachLink (λ _ l m. m ≡ closed_link l) seen now → links ≡ now

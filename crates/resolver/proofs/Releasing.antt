@@ -101,7 +101,7 @@ pub record LeavesNext (books : Books) (h : Held) (others : List Held) : Type 0 w
   pub fewer : length books.held ≡ length others + 1
 
 -- what holds of each holds of each but one, and of that one
-All-without : {X : Type 0} (P : X → Type 0) (before : List X) (x : X) (after : List X)
+pub All-without : {X : Type 0} (P : X → Type 0) (before : List X) (x : X) (after : List X)
     → All P (before ++ x ∷ after) → P x × All P (before ++ after)
 All-without P [] x after all = (All-head P x after all, All-tail P x after all)
 All-without P (y ∷ before) x after all =
