@@ -12,7 +12,6 @@ use Rattle.resolver.specs.declared.client.Client.{Client}
 use Rattle.player.specs.declared.worker.Finished.{Finished}
 use Rattle.player.specs.declared.worker.FileEnd.{FileEnd}
 use Rattle.player.specs.declared.worker.FileEnd.TheVariants.{Reached, Fault, Unsent}
-use Rattle.player.specs.declared.worker.Worker.{Worker}
 use Rattle.player.specs.Inbox.{KeepsLines}
 use Rattle.flow.specs.declared.told.Stand.{Stand}
 use Rattle.flow.specs.Share.{unanswered}
@@ -68,16 +67,10 @@ pub record HasWorked (frames : Bool) (proxy : ℕ) (bytes : Option (List ℕ)) (
   pub closed : finished.client.requests.closed ≡ true
   pub ended : HasEnded finished.client.replies
 
--- the worker's share isn't used up
-abbrev pub IsBelowShare : Worker → Type 0
-IsBelowShare worker =
-    unanswered (length worker.requests.sent) (length worker.inbox.replies.taken) < worker.share
+-- by what these ends have sent and taken, the share isn't used up
+abbrev pub IsBelowShare : ℕ → PortView Batch → IntakeView Answer → Type 0
+IsBelowShare share requests replies = unanswered (length requests.sent) (length replies.taken) < share
 
--- what the worker tells with this batch in hand
-abbrev pub stand_with : Batch → Worker → Stand
-stand_with batch worker = record { previous = batch.previous; answered = length worker.inbox.replies.taken }
-
--- the worker's share isn't used up, or this gatekeeper lets the batch through
-abbrev pub KeepsToShare : {G : Type 0} → (G → ℕ → Stand → Type 0) → G → Worker → Batch → Type 0
-KeepsToShare lets_through gatekeeper worker batch =
-    IsBelowShare worker ⊎ lets_through gatekeeper worker.proxy (stand_with batch worker)
+-- what is told with this batch in hand
+abbrev pub stand_with : Batch → IntakeView Answer → Stand
+stand_with batch replies = record { previous = batch.previous; answered = length replies.taken }

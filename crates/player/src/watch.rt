@@ -1,6 +1,6 @@
 //! The watch over proxies that may all wait for each other.
 
-ghost use Rattle.std.specs.Prelude.{◌≡◌, ◌↔◌, All, length, IfOk, IfSome, IsTrue, None};
+ghost use Rattle.std.specs.Prelude.{◌≡◌, ◌<◌, ◌↔◌, All, length, slice_get, slice_set, IfOk, IfSome, IsTrue, None, Some};
 ghost use Rattle.flow.specs.Next.{AllWait, IsNext, NoneStands};
 ghost use Rattle.player.specs.Watch.{SeesSent};
 
@@ -72,10 +72,25 @@ impl Watch {
         for proxy in 0..self.told.len() {
             let told = gatekeeper.told(proxy);
             let sent = resolver.sent(proxy);
-            is_same = is_same && self.told[proxy] == told && self.sent[proxy] == sent;
-            self.told[proxy] = told;
-            self.sent[proxy] = sent;
+            if !self.keep(proxy, told, sent) {
+                is_same = false;
+            }
         }
+        is_same
+    }
+
+    // Keeps what is found of the proxy, and returns whether the last look has found the same.
+    fn keep(&mut self, proxy: usize, told: Told, sent: u64) -> bool
+        requires inside { proxy < length self.old.told }
+        ensures counts { length self.old.told ≡ length self.old.sent }
+        ensures told { self.new.told ≡ slice_set self.old.told proxy told }
+        ensures sent { self.new.sent ≡ slice_set self.old.sent proxy sent }
+        ensures same { IsTrue result ↔ ((slice_get self.old.told proxy ≡ Some told)
+            × (slice_get self.old.sent proxy ≡ Some sent)) }
+    {
+        let is_same = self.told[proxy] == told && self.sent[proxy] == sent;
+        self.told[proxy] = told;
+        self.sent[proxy] = sent;
         is_same
     }
 }

@@ -1,12 +1,12 @@
 //! A worker reads the file of one proxy, sends its batches and takes its answers, in a thread of its own.
 
-ghost use Rattle.std.specs.Prelude.{◌≡◌, ◌<◌, ◌≤◌, ◌↔◌, [], ◌∷◌, ◌++◌, true, false, length, None, Some, IsSome, IsTrue, Err, OnOk, OnErr, IfErr};
+ghost use Rattle.std.specs.Prelude.{◌≡◌, ◌<◌, ◌≤◌, ◌↔◌, ◌⊎◌, [], ◌∷◌, ◌++◌, true, false, length, None, Some, IsSome, IsTrue, Err, OnOk, OnErr, IfErr};
 ghost use Rattle.lane.specs.declared.port.TheConstants.{MAX_SENT};
 ghost use Rattle.lane.specs.Lane.{PortGoesOn, HasEnded};
 ghost use Rattle.lane.specs.Refused.{item_of};
 ghost use Rattle.wire.specs.Frames.{frames_reader, refusal_of};
 ghost use Rattle.player.specs.Inbox.{Keeps, InboxGoesOn};
-ghost use Rattle.player.specs.Worker.{HasWorked, SendsFrames, CannotSend, IsBelowShare, KeepsToShare, fault_of, stand_with, unsent_of};
+ghost use Rattle.player.specs.Worker.{HasWorked, SendsFrames, CannotSend, IsBelowShare, fault_of, stand_with, unsent_of};
 
 use crate::gatekeeper::Gatekeeper;
 use crate::inbox::Inbox;
@@ -188,7 +188,8 @@ impl Worker {
         ensures handed_back { IfErr result (λ refused. item_of refused ≡ batch) }
         ensures closed { result ≡ Err (Refused.Closed batch) → self.new.requests.closed ≡ true }
         ensures worn { result ≡ Err (Refused.Worn batch) → MAX_SENT ≤ length self.new.requests.sent }
-        ensures share { OnOk result (KeepsToShare G.lets_through gatekeeper.now self.old batch) }
+        ensures share { OnOk result (IsBelowShare self.old.share self.old.requests self.old.inbox.replies
+            ⊎ G.lets_through gatekeeper.now self.old.proxy (stand_with batch self.old.inbox.replies)) }
     {
         if !self.may_send(gatekeeper, &batch) {
             return Err(Refused::Full(batch));
@@ -201,7 +202,8 @@ impl Worker {
     // Returns whether the batch may be sent now: it may where the share isn't used up, and else where the gatekeeper lets it
     // through.
     fn may_send<G: Gatekeeper>(&self, gatekeeper: &G, batch: &Batch) -> bool
-        ensures share { IsTrue result → KeepsToShare G.lets_through gatekeeper.now self.now batch.now }
+        ensures share { IsTrue result → IsBelowShare self.now.share self.now.requests self.now.inbox.replies
+            ⊎ G.lets_through gatekeeper.now self.now.proxy (stand_with batch.now self.now.inbox.replies) }
     {
         gatekeeper.may_send(self.proxy, self.place)
             && (self.is_below_share() || gatekeeper.stands(self.proxy, self.stand(batch)))
@@ -209,14 +211,14 @@ impl Worker {
 
     // Returns whether the share isn't used up.
     fn is_below_share(&self) -> bool
-        ensures below { IsTrue result ↔ IsBelowShare self.now }
+        ensures below { IsTrue result ↔ IsBelowShare self.now.share self.now.requests self.now.inbox.replies }
     {
         is_below_share(self.requests.sent(), self.inbox.replies.taken(), self.share)
     }
 
     // Returns what is told where this batch is in hand.
     fn stand(&self, batch: &Batch) -> Stand
-        ensures stand { result ≡ stand_with batch.now self.now }
+        ensures stand { result ≡ stand_with batch.now self.now.inbox.replies }
     {
         Stand {
             previous: batch.previous,
