@@ -1,4 +1,4 @@
-.PHONY: demo replay test refused-memory plant bench
+.PHONY: demo replay test refused-memory stalled-pipes plant bench
 
 # Runs the program on the recorded files of examples/, unproved. A file NAME.args names the further files of a run.
 demo:
@@ -17,6 +17,10 @@ test:
 # Behind `make test`, refuses each allocation in turn to the tests named for it and to the program, as that has built them.
 refused-memory:
 	.ci/refused-memory
+
+# Behind `make replay`: deals a chain of batches to pipes of which some stall, and compares what the program prints.
+stalled-pipes:
+	.ci/stalled-pipes
 
 # Tries wrong bodies on a copy of each crate, and lists those that its contracts let through.
 plant:

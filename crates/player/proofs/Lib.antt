@@ -13,6 +13,7 @@ pub mod Numbers
 pub mod Refusals
 pub mod Serving
 pub mod Working
+pub mod Watching
 pub mod Stopping
 pub mod Runs
 pub mod Keeping

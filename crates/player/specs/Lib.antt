@@ -5,6 +5,7 @@ pub mod Start
 pub mod Opening
 pub mod Inbox
 pub mod Worker
+pub mod Watch
 pub mod Threads
 pub mod Words
 pub mod Stops

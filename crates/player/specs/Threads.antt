@@ -29,14 +29,18 @@ module _ {S : Type 0} where
 
   -- what the worker of a task is to be given
   abbrev pub given_by : {G : Type 0} → Task S G → Given S
-  given_by task =
-      record { frames = task.frames; proxy = task.proxy; client = task.client; reader = task.reader }
+  given_by task = record {
+    frames = task.assignment.frames;
+    proxy = task.assignment.proxy;
+    client = task.client;
+    reader = task.reader;
+  }
 
   -- what a worker was given that was promised this work
   abbrev pub given_for : Work S → Given S
   given_for work = record {
-    frames = work.frames;
-    proxy = work.proxy;
+    frames = work.assignment.frames;
+    proxy = work.assignment.proxy;
     client = work.client.value;
     reader = work.reader.value;
   }

@@ -1,5 +1,5 @@
 -- What a worker does. This project's own.
-use Rattle.std.specs.Prelude.{◌≡◌, ◌≢◌, ℕ, ◌≤◌, ◌⊎◌, Bool, true, List, [], ◌∷◌, ◌++◌, length, Option, None, Some, IfSome, option_to_list}
+use Rattle.std.specs.Prelude.{◌≡◌, ◌≢◌, ℕ, ◌<◌, ◌≤◌, ◌⊎◌, Bool, true, List, [], ◌∷◌, ◌++◌, length, Option, None, Some, IfSome, option_to_list}
 use Rattle.std.specs.Io.KnownBytes.{IsAtEnd}
 use Rattle.keyspace.specs.declared.batch.Batch.{Batch}
 use Rattle.keyspace.specs.declared.answer.Answer.{Answer}
@@ -13,6 +13,8 @@ use Rattle.player.specs.declared.worker.Finished.{Finished}
 use Rattle.player.specs.declared.worker.FileEnd.{FileEnd}
 use Rattle.player.specs.declared.worker.FileEnd.TheVariants.{Reached, Fault, Unsent}
 use Rattle.player.specs.Inbox.{KeepsLines}
+use Rattle.flow.specs.declared.told.Stand.{Stand}
+use Rattle.flow.specs.Share.{unanswered}
 
 -- the same client later: its ends are of the same lanes
 pub record ClientGoesOn (old new : Client) : Type 0 where
@@ -64,3 +66,11 @@ pub record HasWorked (frames : Bool) (proxy : ℕ) (bytes : Option (List ℕ)) (
       KeepsLines frames proxy given.replies.taken finished.client.replies.taken finished.lines.items finished.lost
   pub closed : finished.client.requests.closed ≡ true
   pub ended : HasEnded finished.client.replies
+
+-- by what these ends have sent and taken, the share isn't used up
+abbrev pub IsBelowShare : ℕ → PortView Batch → IntakeView Answer → Type 0
+IsBelowShare share requests replies = unanswered (length requests.sent) (length replies.taken) < share
+
+-- what is told with this batch in hand
+abbrev pub stand_with : Batch → IntakeView Answer → Stand
+stand_with batch replies = record { previous = batch.previous; answered = length replies.taken }

@@ -1,23 +1,44 @@
 //! When a worker may send.
 
-ghost use Rattle.std.specs.Prelude.{IsTrue};
+ghost use Rattle.std.specs.Prelude.{◌≡◌, ℕ, IsTrue};
+ghost use Rattle.flow.specs.declared.told.Stand.{Stand as InHand};
 
-/// Says when workers may send their batches. A test holds workers back through it; the program never does.
+use flow::{Stand, Told, WaitingRoom};
+
+/// Says when workers may send their batches, and whose batch is let through where all have used up their share. The program's
+/// is a [`WaitingRoom`]. A test holds workers back through one of its own.
 ///
 /// Places count from 0, those of the batches of a proxy and those of its answers alike.
 pub trait Gatekeeper {
+    // A proxy whose share is used up may send this batch all the same.
+    ghost lets_through: { Self → ℕ → InHand → Type 0 };
+
     /// Returns whether the proxy may send its batch at this place now. It is asked before each try.
     fn may_send(&self, proxy: usize, place: u64) -> bool;
 
     /// Tells that the proxy has taken its answer at this place.
     fn answered(&self, proxy: usize, place: u64);
+
+    /// Tells that the proxy stands with a batch in hand, since its share is used up. Returns whether the batch may be sent all
+    /// the same. It is asked before each try.
+    fn stands(&self, proxy: usize, stand: Stand) -> bool
+        ensures through { IsTrue result → lets_through self.now proxy stand };
+
+    /// Tells that the proxy has closed its lane.
+    fn closed(&self, proxy: usize);
+
+    /// Returns what the proxy has told.
+    fn told(&self, proxy: usize) -> Told;
+
+    /// Lets the batch through with which the proxy stands.
+    fn let_through(&self, proxy: usize);
 }
 
-/// Lets every batch pass.
-#[derive(Clone, Copy, Debug)]
-pub struct AlwaysOpen;
+impl Gatekeeper for WaitingRoom {
+    ghost use Rattle.std.specs.Prelude.{⊤};
 
-impl Gatekeeper for AlwaysOpen {
+    ghost lets_through = { λ _ _ _. ⊤ };
+
     fn may_send(&self, _proxy: usize, _place: u64) -> bool
         ensures open { IsTrue result }
     {
@@ -25,4 +46,54 @@ impl Gatekeeper for AlwaysOpen {
     }
 
     fn answered(&self, _proxy: usize, _place: u64) {}
+
+    fn stands(&self, proxy: usize, stand: Stand) -> bool {
+        WaitingRoom::stands(self, proxy, stand)
+    }
+
+    fn closed(&self, proxy: usize) {
+        self.closes(proxy);
+    }
+
+    fn told(&self, proxy: usize) -> Told {
+        WaitingRoom::told(self, proxy)
+    }
+
+    fn let_through(&self, proxy: usize) {
+        WaitingRoom::let_through(self, proxy);
+    }
+}
+
+/// Lets every batch pass.
+#[derive(Clone, Copy, Debug)]
+pub struct AlwaysOpen;
+
+impl Gatekeeper for AlwaysOpen {
+    ghost use Rattle.std.specs.Prelude.{⊤};
+
+    ghost lets_through = { λ _ _ _. ⊤ };
+
+    fn may_send(&self, _proxy: usize, _place: u64) -> bool
+        ensures open { IsTrue result }
+    {
+        true
+    }
+
+    fn answered(&self, _proxy: usize, _place: u64) {}
+
+    fn stands(&self, _proxy: usize, _stand: Stand) -> bool
+        ensures open { IsTrue result }
+    {
+        true
+    }
+
+    fn closed(&self, _proxy: usize) {}
+
+    fn told(&self, _proxy: usize) -> Told
+        ensures goes { result ≡ Told.Goes }
+    {
+        Told::Goes
+    }
+
+    fn let_through(&self, _proxy: usize) {}
 }

@@ -29,6 +29,7 @@ mod running;
 mod start;
 mod status;
 mod threads;
+mod watch;
 mod words;
 mod worker;
 
@@ -47,4 +48,4 @@ pub use report::{Report, print_report};
 pub use start::{StartError, fail_to_start};
 pub use status::Status;
 pub use words::{CommandLine, read_words};
-pub use worker::{Finished, work};
+pub use worker::{Assignment, Finished, work};

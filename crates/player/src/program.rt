@@ -9,13 +9,13 @@ ghost use Rattle.player.specs.Replayed.{IsReplayed, Took, written};
 ghost use Rattle.player.specs.Words.{IsMistaken};
 
 use crate::files::Files;
-use crate::gatekeeper::AlwaysOpen;
 use crate::opening::{fail_to_open, open_files};
 use crate::replay::replay_over;
 use crate::start::{StartError, fail_to_start};
 use crate::status::Status;
 use crate::words::{CommandLine, read_words};
-use std::alloc::Global;
+use flow::WaitingRoom;
+use std::alloc::{AllocError, Global};
 use std::sync::{Arc, Wait};
 use std::thread::Threads;
 use wire::Sink;
@@ -73,8 +73,13 @@ pub fn replay_files<R: Threads + Wait + Copy + Send + 'static, F: Files, O: Sink
         Ok(readers) => readers,
         Err(cause) => return fail_to_open(error, cause),
     };
-    let Ok(gatekeeper) = Arc::new(alloc, AlwaysOpen) else {
+    let Ok(gatekeeper) = gatekeeper(alloc, readers.len()) else {
         return fail_to_start(error, StartError::Memory);
     };
     replay_over(rt, alloc, readers, line.options, &gatekeeper, out, error)
+}
+
+// Makes the gatekeeper of so many proxies.
+fn gatekeeper(alloc: Global, proxies: usize) -> Result<Arc<WaitingRoom, Global>, AllocError> {
+    Ok(Arc::new(alloc, WaitingRoom::new(alloc, proxies)?)?)
 }

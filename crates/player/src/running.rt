@@ -14,6 +14,7 @@ use crate::options::Options;
 use crate::outcome::Outcome;
 use crate::start::StartError;
 use crate::threads::{join_all, start_workers};
+use crate::watch::Watch;
 use resolver::{Account, Resolver, Turn, open};
 use std::alloc::Global;
 use std::sync::{Arc, Wait};
@@ -50,16 +51,23 @@ pub fn run<
         frames,
     } = options;
     let outcome = Outcome::with_room(alloc, proxies)?;
+    let mut watch = Watch::new(alloc, proxies)?;
     let (mut resolver, clients) = open(alloc, proxies, capacity, window, limit)?;
     let workers = start_workers(rt, alloc, frames, readers, clients, gatekeeper)?;
-    turn_to_end(rt, &mut resolver);
+    turn_to_end(rt, &mut resolver, &**gatekeeper, &mut watch);
     let mut outcome = join_all(rt, workers, outcome);
     let account = resolver.settle(outcome.clients.as_mut_slice());
     Ok((outcome, account))
 }
 
-// Turns the resolver until it is done; after a stop, until a turn leaves nothing owed.
-fn turn_to_end<R: Wait>(rt: &R, resolver: &mut Resolver)
+// Turns the resolver until it is done; after a stop, until a turn leaves nothing owed. Where all proxies wait for each other a
+// batch is let through.
+fn turn_to_end<G: Gatekeeper, R: Wait>(
+    rt: &R,
+    resolver: &mut Resolver,
+    gatekeeper: &G,
+    watch: &mut Watch,
+)
     ensures through { IsThrough resolver.new }
     ensures closed { (proxy : ℕ) (l : Lanes) → slice_get resolver.new.lanes proxy ≡ Some l → l.replies.closed ≡ true }
     ensures accounted { IsAccountedFor resolver.old → IsAccountedFor resolver.new }
@@ -69,12 +77,27 @@ fn turn_to_end<R: Wait>(rt: &R, resolver: &mut Resolver)
 {
     for _ in rt.forever() {
         match resolver.turn() {
-            Ok(Turn::Took(_)) => {}
-            Ok(Turn::Idle) => thread::yield_now(),
+            Ok(Turn::Took(_)) => watch.forget(),
+            Ok(Turn::Idle) => {
+                let_through(resolver, gatekeeper, watch);
+                thread::yield_now();
+            }
             Ok(Turn::Done) => return,
             Err(_) if resolver.owed() == 0 => return,
             Err(_) => thread::yield_now(),
         }
     }
     unreachable!()
+}
+
+// Lets the batch of the proxy through that is next, after a turn that took nothing. What all proxies have told twice, with such
+// a turn between, is so at once: none of them has gone on meanwhile, and all that they have sent was taken.
+fn let_through<G: Gatekeeper>(resolver: &Resolver, gatekeeper: &G, watch: &mut Watch) {
+    if resolver.owed() > 0 {
+        return;
+    }
+    if let Some(proxy) = watch.look(resolver, gatekeeper) {
+        gatekeeper.let_through(proxy);
+        watch.forget();
+    }
 }

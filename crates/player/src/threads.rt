@@ -9,8 +9,8 @@ ghost use Rattle.player.specs.Threads.{given_each, given_by, given_to, HasWorked
 use crate::gatekeeper::Gatekeeper;
 use crate::outcome::Outcome;
 use crate::start::StartError;
-use crate::worker::{Finished, work};
-use resolver::Client;
+use crate::worker::{Assignment, Finished, work};
+use resolver::{Client, share};
 use std::alloc::{AllocError, Global};
 use std::snapshot::Snapshot;
 use std::sync::{Arc, Wait};
@@ -21,15 +21,14 @@ use wire::Source;
 // Promises what a worker does with what it is given.
 #[derive(Drop)]
 struct Work<S> {
-    frames: bool,
-    proxy: usize,
+    assignment: Assignment,
     client: Snapshot<Client>,
     reader: Snapshot<S>,
 }
 
 impl<S: Source> Promise<Finished> for Work<S> {
     ghost kept_by = { λ work finished.
-        HasWorked work.frames work.proxy (S.remaining work.reader.value) work.client.value finished };
+        HasWorked work.assignment.frames work.assignment.proxy (S.remaining work.reader.value) work.client.value finished };
 }
 
 /// A worker that was started, and what it was given.
@@ -41,8 +40,7 @@ pub struct Started<S: Source> {
 // What a worker is started with.
 #[derive(Drop)]
 struct Task<S, G> {
-    frames: bool,
-    proxy: usize,
+    assignment: Assignment,
     client: Client,
     reader: S,
     gatekeeper: Arc<G, Global>,
@@ -53,13 +51,12 @@ impl<S: Source + Drop, G: Gatekeeper + Drop> Task<S, G> {
         ensures worked { HasWorkedOn S.remaining (given_by self) result }
     {
         let Task {
-            frames,
-            proxy,
+            assignment,
             client,
             reader,
             gatekeeper,
         } = self;
-        work(rt, alloc, frames, proxy, client, reader, &*gatekeeper)
+        work(rt, alloc, assignment, client, reader, &*gatekeeper)
     }
 }
 
@@ -79,11 +76,13 @@ pub fn start_workers<
     clients: Vec<Client>,
     gatekeeper: &Arc<G, Global>,
 ) -> Result<Vec<Started<S>>, StartError>
+    requires some { 1 ≤ vec_len readers }
     requires each { vec_len readers ≡ vec_len clients }
     ensures given { IfOk result (λ workers.
         map given_to workers.items ≡ given_each frames 0 clients.items readers.items) }
 {
-    let tasks = make_tasks(alloc, frames, readers, clients, gatekeeper)?;
+    let share = share(readers.len());
+    let tasks = make_tasks(alloc, frames, share, readers, clients, gatekeeper)?;
     let mut workers = Vec::with_capacity(alloc, tasks.len())?;
     for task in tasks {
         workers.push_reserved(start(rt, alloc, task)?);
@@ -95,6 +94,7 @@ pub fn start_workers<
 fn make_tasks<S: Drop, G: Drop>(
     alloc: Global,
     frames: bool,
+    share: u64,
     readers: Vec<S>,
     clients: Vec<Client>,
     gatekeeper: &Arc<G, Global>,
@@ -108,9 +108,13 @@ fn make_tasks<S: Drop, G: Drop>(
         let Some(reader) = readers.next() else {
             unreachable!()
         };
-        tasks.push_reserved(Task {
-            frames,
+        let assignment = Assignment {
             proxy: tasks.len(),
+            share,
+            frames,
+        };
+        tasks.push_reserved(Task {
+            assignment,
             client,
             reader,
             gatekeeper: Arc::try_clone(gatekeeper)?,
@@ -129,8 +133,7 @@ fn start<
 {
     let there = *rt;
     let promise = Work {
-        frames: task.frames,
-        proxy: task.proxy,
+        assignment: task.assignment,
         client: Snapshot::of(&task.client),
         reader: Snapshot::of(&task.reader),
     };

@@ -1,23 +1,35 @@
 //! A worker reads the file of one proxy, sends its batches and takes its answers, in a thread of its own.
 
-ghost use Rattle.std.specs.Prelude.{◌≡◌, ◌<◌, ◌≤◌, ◌↔◌, [], ◌∷◌, ◌++◌, true, false, length, None, Some, IsSome, Err, OnOk, OnErr, IfErr};
+ghost use Rattle.std.specs.Prelude.{◌≡◌, ◌<◌, ◌≤◌, ◌↔◌, ◌⊎◌, [], ◌∷◌, ◌++◌, true, false, length, None, Some, IsSome, IsTrue, Err, OnOk, OnErr, IfErr};
 ghost use Rattle.lane.specs.declared.port.TheConstants.{MAX_SENT};
 ghost use Rattle.lane.specs.Lane.{PortGoesOn, HasEnded};
 ghost use Rattle.lane.specs.Refused.{item_of};
 ghost use Rattle.wire.specs.Frames.{frames_reader, refusal_of};
 ghost use Rattle.player.specs.Inbox.{Keeps, InboxGoesOn};
-ghost use Rattle.player.specs.Worker.{HasWorked, SendsFrames, CannotSend, fault_of, unsent_of};
+ghost use Rattle.player.specs.Worker.{HasWorked, SendsFrames, CannotSend, IsBelowShare, fault_of, stand_with, unsent_of};
 
 use crate::gatekeeper::Gatekeeper;
 use crate::inbox::Inbox;
 use crate::line::Line;
 use crate::pause::pause;
+use flow::{Stand, is_below_share};
 use keyspace::Batch;
 use lane::{Port, Refused};
 use resolver::Client;
 use std::alloc::Global;
 use std::sync::Wait;
 use wire::{Frames, Source, WireError, read_frames};
+
+/// What a worker is assigned.
+#[derive(Clone, Copy, Debug, PartialEq, Eq)]
+pub struct Assignment {
+    /// The number of its proxy.
+    pub proxy: usize,
+    /// So many of its batches may be unanswered as long as it sends freely.
+    pub share: u64,
+    /// Whether the lines of replies are their frames.
+    pub frames: bool,
+}
 
 /// What a worker hands back.
 #[derive(Drop)]
@@ -50,44 +62,55 @@ struct Worker {
     requests: Port<Batch>,
     inbox: Inbox,
     proxy: usize,
+    share: u64,
     // the place of the next batch
     place: u64,
     ghost counted: { place ≤ length requests.sent },
 }
 
 /// Sends the batches of the frames of a file, in order, up to the file's end or its fault, closes the lane and takes answers
-/// to their end. Where the answers end earlier, it stops sending. With `frames` the lines of replies are their frames.
+/// to their end. Where the answers end earlier, it stops sending.
+///
+/// Where as many of its batches are unanswered as is its share, it stands: it sends the next one only where the gatekeeper
+/// lets it through, or once it has taken an answer.
 pub fn work<S: Source + Drop, G: Gatekeeper, R: Wait>(
     rt: &R,
     alloc: Global,
-    frames: bool,
-    proxy: usize,
+    assignment: Assignment,
     client: Client,
     reader: S,
     gatekeeper: &G,
 ) -> Finished
-    ensures worked { HasWorked frames proxy (S.remaining reader) client result }
+    ensures worked { HasWorked assignment.frames assignment.proxy (S.remaining reader) client result }
 {
-    let mut worker = Worker::new(alloc, frames, proxy, client);
+    let mut worker = Worker::new(alloc, assignment, client);
     let end = worker.send_frames(rt, gatekeeper, &mut read_frames(alloc, reader));
     worker.requests.close();
+    gatekeeper.closed(assignment.proxy);
     worker.inbox.take_to_end(rt, gatekeeper);
     worker.finish(end)
 }
 
 impl Worker {
-    fn new(alloc: Global, frames: bool, proxy: usize, client: Client) -> Self
+    fn new(alloc: Global, assignment: Assignment, client: Client) -> Self
         ensures requests { result.requests ≡ client.requests }
         ensures replies { result.inbox.replies ≡ client.replies }
-        ensures proxy { result.inbox.proxy ≡ proxy }
-        ensures frames { result.inbox.frames ≡ frames }
+        ensures proxy { result.inbox.proxy ≡ assignment.proxy }
+        ensures frames { result.inbox.frames ≡ assignment.frames }
+        ensures share { result.share ≡ assignment.share }
         ensures lines { Keeps client.replies.taken result.inbox }
     {
+        let Assignment {
+            proxy,
+            share,
+            frames,
+        } = assignment;
         let Client { requests, replies } = client;
         Worker {
             requests,
             inbox: Inbox::new(alloc, frames, proxy, replies),
             proxy,
+            share,
             place: 0,
         }
     }
@@ -152,7 +175,7 @@ impl Worker {
         unreachable!()
     }
 
-    // Tries once. A batch that the gatekeeper holds back is refused as by a full lane.
+    // Tries once. A batch that the gatekeeper or the share holds back is refused as by a full lane.
     fn try_send<G: Gatekeeper>(
         &mut self,
         gatekeeper: &G,
@@ -165,13 +188,42 @@ impl Worker {
         ensures handed_back { IfErr result (λ refused. item_of refused ≡ batch) }
         ensures closed { result ≡ Err (Refused.Closed batch) → self.new.requests.closed ≡ true }
         ensures worn { result ≡ Err (Refused.Worn batch) → MAX_SENT ≤ length self.new.requests.sent }
+        ensures share { OnOk result (IsBelowShare self.old.share self.old.requests self.old.inbox.replies
+            ⊎ G.lets_through gatekeeper.now self.old.proxy (stand_with batch self.old.inbox.replies)) }
     {
-        if !gatekeeper.may_send(self.proxy, self.place) {
+        if !self.may_send(gatekeeper, &batch) {
             return Err(Refused::Full(batch));
         }
         self.requests.send(batch)?;
         self.place += 1;
         Ok(())
+    }
+
+    // Returns whether the batch may be sent now: it may where the share isn't used up, and else where the gatekeeper lets it
+    // through.
+    fn may_send<G: Gatekeeper>(&self, gatekeeper: &G, batch: &Batch) -> bool
+        ensures share { IsTrue result → IsBelowShare self.now.share self.now.requests self.now.inbox.replies
+            ⊎ G.lets_through gatekeeper.now self.now.proxy (stand_with batch.now self.now.inbox.replies) }
+    {
+        gatekeeper.may_send(self.proxy, self.place)
+            && (self.is_below_share() || gatekeeper.stands(self.proxy, self.stand(batch)))
+    }
+
+    // Returns whether the share isn't used up.
+    fn is_below_share(&self) -> bool
+        ensures below { IsTrue result ↔ IsBelowShare self.now.share self.now.requests self.now.inbox.replies }
+    {
+        is_below_share(self.requests.sent(), self.inbox.replies.taken(), self.share)
+    }
+
+    // Returns what is told where this batch is in hand.
+    fn stand(&self, batch: &Batch) -> Stand
+        ensures stand { result ≡ stand_with batch.now self.now.inbox.replies }
+    {
+        Stand {
+            previous: batch.previous,
+            answered: self.inbox.replies.taken(),
+        }
     }
 
     fn finish(self, end: FileEnd) -> Finished

@@ -1,14 +1,14 @@
 //! Rows of faulty files, of the second version of the form, and of readers and writers that fail.
 
 use crate::failing::Failing;
-use crate::runs::{ended, ends, file_of, gives, opened, reader, replayed_from};
+use crate::runs::{ended, ends, file_of, gives, opened, reader, replayed_from, waiting_room};
 use fixtures::Unmade;
-use player::{AlwaysOpen, Options, replay_over};
+use player::{Options, replay_over};
 use std::alloc::{AllocError, Global};
 use std::io;
 use std::io::Read;
 use std::process::Abort;
-use std::sync::{Arc, Wait};
+use std::sync::Wait;
 use std::test::Fail;
 use std::thread::Threads;
 use wire::{StdSink, StdSource};
@@ -73,7 +73,7 @@ fn is_cut<R: Threads + Wait + Copy + Send + 'static>(
     let mut file = first_run(alloc)?;
     file.truncate(length);
     let readers = vec![in alloc; reader(file)].map_err(AllocError::from)?;
-    let gatekeeper = Arc::new(alloc, AlwaysOpen).map_err(AllocError::from)?;
+    let gatekeeper = waiting_room(alloc, 1)?;
     let found = replayed_from(rt, alloc, readers, Options::default(), &gatekeeper)?;
     Ok(
         found.as_str()
@@ -134,7 +134,7 @@ impl Read for Unreadable {
 #[test]
 fn unreadable_file(rt: HostRuntime) -> Result<(), Fail> {
     let readers = vec![in rt.alloc(); StdSource::new(Unreadable)]?;
-    let gatekeeper = Arc::new(rt.alloc(), AlwaysOpen)?;
+    let gatekeeper = waiting_room(rt.alloc(), 1)?;
     let found = replayed_from(&rt, rt.alloc(), readers, Options::default(), &gatekeeper)?;
     assert_eq!(rt; found.as_str(), "failed: replay: proxy 0: wire 12 Read\n");
     Ok(())
@@ -147,7 +147,7 @@ fn unwritten<R: Threads + Wait + Copy + Send + 'static>(
 ) -> Result<String, Unmade> {
     let file = opened(alloc, &[], b"")?;
     let readers = vec![in alloc; reader(file)].map_err(AllocError::from)?;
-    let gatekeeper = Arc::new(alloc, AlwaysOpen).map_err(AllocError::from)?;
+    let gatekeeper = waiting_room(alloc, 1)?;
     let mut out = StdSink::new(Failing::after(0));
     let mut error = StdSink::new(Vec::new(alloc));
     let options = Options::default();

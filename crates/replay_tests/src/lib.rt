@@ -1,7 +1,8 @@
 //! Tests of what the program `replay` does once its files are open, by the public calls of `player` alone.
 //!
 //! `verdicts`, `reports`, `batches`, `options`, `proxies` and `files` are the worked rows, played over memory by `runs`, each a
-//! test of its row's name; `meeting` holds back two proxies that wait for each other. `workers` looks at a worker alone, and
+//! test of its row's name, and `sharing` those of files that use up their share; `meeting` holds back two proxies that wait for each
+//! other, and `stalling` a reader. `workers` looks at a worker alone, and
 //! the others at the command line and at what is printed. `shell` and `shell_failures` run the program whole, over the words of an
 //! environment and the files of a `shelf`. The tests of `memory` pass whichever one growth is refused; `.ci/refused-memory` refuses
 //! each in turn.
@@ -41,11 +42,15 @@ mod rows;
 #[cfg(test)]
 mod runs;
 #[cfg(test)]
+mod sharing;
+#[cfg(test)]
 mod shelf;
 #[cfg(test)]
 mod shell;
 #[cfg(test)]
 mod shell_failures;
+#[cfg(test)]
+mod stalling;
 #[cfg(test)]
 mod verdicts;
 #[cfg(test)]

@@ -5,6 +5,7 @@
 
 use crate::runs::{file_of, opened, reader, replayed_from};
 use fixtures::Unmade;
+use flow::{Stand, Told};
 use lane::MAX_CAPACITY;
 use player::{Gatekeeper, Options};
 use std::alloc::{AllocError, Global};
@@ -47,6 +48,10 @@ impl Meeting {
 }
 
 impl Gatekeeper for Meeting {
+    ghost use Rattle.std.specs.Prelude.{⊤};
+
+    ghost lets_through = { λ _ _ _. ⊤ };
+
     fn may_send(&self, proxy: usize, place: u64) -> bool {
         let is_open = match (proxy, place) {
             (1, 0) => self.has_answered(0),
@@ -61,6 +66,18 @@ impl Gatekeeper for Meeting {
             answered.store(1, Ordering::SeqCst);
         }
     }
+
+    fn stands(&self, _proxy: usize, _stand: Stand) -> bool {
+        true
+    }
+
+    fn closed(&self, _proxy: usize) {}
+
+    fn told(&self, _proxy: usize) -> Told {
+        Told::Goes
+    }
+
+    fn let_through(&self, _proxy: usize) {}
 }
 
 // Replays a file for each of the two, and returns what comes of it, and whether they have met.

@@ -1,7 +1,8 @@
 //! A run over files in memory, and what it gives.
 
 use fixtures::{Unmade, batch};
-use player::{AlwaysOpen, Gatekeeper, Options, Status, replay_over};
+use flow::WaitingRoom;
+use player::{Gatekeeper, Options, Status, replay_over};
 use resolver::MAX_PROXIES;
 use std::alloc::{AllocError, Global};
 use std::io::Cursor;
@@ -62,6 +63,11 @@ pub fn ended(status: Status, out: Vec<u8>, error: &[u8]) -> Result<String, Unmad
     }
 }
 
+/// Makes the gatekeeper that the program has, of so many proxies.
+pub fn waiting_room(alloc: Global, proxies: usize) -> Result<Arc<WaitingRoom, Global>, AllocError> {
+    Ok(Arc::new(alloc, WaitingRoom::new(alloc, proxies)?)?)
+}
+
 /// Replays as the program does, from these readers, and puts what comes of it into words.
 pub fn replayed_from<
     S: Source + Send + Drop + 'static,
@@ -108,7 +114,7 @@ fn replayed<R: Threads + Wait + Copy + Send + 'static>(
     for file in files {
         readers.push(reader(file)).map_err(AllocError::from)?;
     }
-    let gatekeeper = Arc::new(alloc, AlwaysOpen).map_err(AllocError::from)?;
+    let gatekeeper = waiting_room(alloc, readers.len())?;
     replayed_from(rt, alloc, readers, options, &gatekeeper)
 }
 

@@ -4,13 +4,20 @@ use crate::runs::{file_of, push_batch, reader};
 use fixtures::Unmade;
 use keyspace::{Answer, Batch};
 use lane::{Intake, Port, Taken, lane};
-use player::{AlwaysOpen, Finished, work};
+use player::{AlwaysOpen, Assignment, Finished, work};
 use resolver::Client;
 use std::alloc::Global;
 use std::process::Abort;
 use std::sync::Wait;
 use std::test::Fail;
 use std::thread;
+
+// What the worker of proxy 0 is assigned.
+const FIRST: Assignment = Assignment {
+    proxy: 0,
+    share: 4,
+    frames: false,
+};
 
 // A client, and the resolver's ends of its lanes.
 #[derive(Drop)]
@@ -81,7 +88,7 @@ fn told(
         mut replies,
     } = connected;
     let are_sent = send_two(&mut replies);
-    let finished = work(rt, alloc, false, 0, client, reader(file), &AlwaysOpen);
+    let finished = work(rt, alloc, FIRST, client, reader(file), &AlwaysOpen);
     let has_ended = matches!(requests.take(), Taken::End);
     (handed_back(alloc, &finished), are_sent && has_ended)
 }
@@ -173,7 +180,7 @@ fn sends_every_batch_in_order(rt: HostRuntime) -> Result<(), Fail> {
     let (is_clean, is_same) = thread::join(
         &rt,
         move || {
-            let finished = work(&rt, alloc, false, 0, client, reader(file), &AlwaysOpen);
+            let finished = work(&rt, alloc, FIRST, client, reader(file), &AlwaysOpen);
             finished.lines.is_empty() && finished.fault.is_none() && finished.unsent.is_none()
         },
         || takes_versions(&rt, requests, replies, 20),

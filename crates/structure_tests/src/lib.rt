@@ -1,5 +1,5 @@
 //! Tests of the structures that the resolver stands on, through their public calls: the arena, the filter, the step map, the
-//! stores of the version chain, and the lane.
+//! stores of the version chain, the lane, and the waiting room of proxies that stand.
 //!
 //! What no contract says is tested here: the worked rows, printed text, calls by chance beside a plain structure, and memory
 //! that is refused. The tests named for it, as `one_growth_refused`, pass whichever one growth is refused; `.ci/refused-memory`
@@ -22,6 +22,8 @@ mod lane_threads;
 mod single_keys;
 #[cfg(test)]
 mod sorted;
+#[cfg(test)]
+mod standing;
 #[cfg(test)]
 mod step_calls;
 #[cfg(test)]

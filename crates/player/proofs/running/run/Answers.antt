@@ -1,4 +1,5 @@
-use Rattle.std.proofs.Common.{◌≡◌, ℕ, List, ap, sym, subst, ◌∙◌, arith, rules, ℤ, length, w64, to_z, of_z}
+use Rattle.std.proofs.lemmas.Bool.{false≢true}
+use Rattle.std.proofs.Common.{◌≡◌, ℕ, List, [], ap, sym, subst, ◌∙◌, arith, rules, ℤ, length, w64, to_z, of_z}
 use Rattle.std.proofs.lemmas.Int.{ints, to_z-of_z}
 use Rattle.std.specs.Prelude.{map, true, Option, None, IfSome, slice_get}
 use Rattle.std.specs.List.{All, AllZip}
@@ -10,7 +11,8 @@ use Rattle.resolver.specs.Resolver.{AreClients, SameClients}
 use Rattle.resolver.specs.Settled.{Settled}
 use Rattle.resolver.proofs.Settling.{written_back}
 use Rattle.player.specs.declared.worker.Finished.{Finished}
-use Rattle.player.specs.Threads.{given_each, given_to, HasWorkedOn}
+use Rattle.player.specs.declared.outcome.Outcome.{Outcome}
+use Rattle.player.specs.Threads.{given_each, given_to, HasWorkedOn, IsOutcomeOf}
 use Rattle.player.specs.Run.{HasCapacity}
 use Rattle.player.specs.Stops.{IsStopOf}
 use Rattle.player.proofs.SameLanes.{clients_go_on}
@@ -18,6 +20,22 @@ use Rattle.player.proofs.Stopping.{accounted_new}
 use Rattle.player.proofs.Working.{capacities, capacities_stay, clients_back, clients_ended, given_count}
 use Rattle.player.proofs.Runs.{is_run}
 use Rattle.player.proofs.running.run.Goals as goal
+
+-- nothing was handed back yet
+nothing_back : (outcome : Outcome) → outcome.clients.items ≡ [] → outcome.lines.items ≡ [] → outcome.failures.items ≡ []
+    → outcome.all_sent ≡ true → IsOutcomeOf [] outcome
+nothing_back outcome clients lines failures all_sent = record {
+  clients = clients;
+  lines = lines;
+  failures = failures;
+  all_sent = λ _ k d inside. absurd (omega arith);
+  unsent = λ none. absurd (false≢true (sym none ∙ all_sent));
+}
+
+pub join_all-outcome-requires-clause-empty : goal.join_all-outcome-requires-clause-empty
+join_all-outcome-requires-clause-empty g c =
+    let made = c.in_ok-outcome.ensures in
+    nothing_back c.in_ok-outcome.outcome made.clients made.lines made.failures made.all_sent
 
 pub join_all-outcome-requires-clause-room : goal.join_all-outcome-requires-clause-room
 join_all-outcome-requires-clause-room g c =

@@ -1,0 +1,3 @@
+-- In the order in which one reads them aloud.
+pub mod Share
+pub mod Next

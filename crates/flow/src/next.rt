@@ -1,0 +1,75 @@
+//! Whose batch goes first where all proxies wait for each other.
+
+ghost use Rattle.std.specs.Prelude.{◌≡◌, ◌+◌, ◌<ℤ◌, ◌≤ℤ◌, ◌↔◌, List, length, slice_get, IfSome, IsTrue, None, Some};
+ghost use Rattle.flow.specs.Next.{AllWait, IsNext, NoneStands, HasFirst, WaitsForOthers};
+ghost use Rattle.flow.specs.declared.told.Told.{Told as WhatIsTold};
+
+use crate::told::{Stand, Told};
+
+// A proxy that stands.
+#[derive(Clone, Copy)]
+struct Candidate {
+    proxy: usize,
+    stand: Stand,
+}
+
+impl Candidate {
+    // Returns which goes first, of this one and one with a higher number.
+    fn or(self, other: Candidate) -> Candidate
+        ensures least { self.stand.previous ≤ℤ other.stand.previous → result ≡ self }
+        ensures other { other.stand.previous <ℤ self.stand.previous → result ≡ other }
+    {
+        if self.stand.previous <= other.stand.previous {
+            self
+        } else {
+            other
+        }
+    }
+}
+
+/// Returns the proxy whose batch is to be let through. `told` is what each proxy tells, at its number, and `sent` how many
+/// answers were sent to it.
+///
+/// There is one only where all wait for each other: each proxy has closed its lane, or stands and has received all answers
+/// that were sent to it. Of those that stand it is the one whose batch has the least previous version, among equals the one
+/// with the lowest number.
+pub fn next_through(told: &[Told], sent: &[u64]) -> Option<usize>
+    requires each { length told.now ≡ length sent.now }
+    ensures some { IfSome result (λ proxy. AllWait told.now sent.now × IsNext told.now proxy) }
+    ensures none { result ≡ None → AllWait told.now sent.now → NoneStands told.now }
+{
+    let mut first = None;
+    for (proxy, state) in told.iter().enumerate() {
+        if !waits_for_others(*state, sent[proxy]) {
+            return None;
+        }
+        first = first_of(first, proxy, *state);
+    }
+    Some(first?.proxy)
+}
+
+// Returns which goes first, of those before this proxy and this one.
+fn first_of(first: Option<Candidate>, proxy: usize, state: Told) -> Option<Candidate>
+    ensures first { (told : List WhatIsTold) → slice_get told proxy ≡ Some state
+        → HasFirst proxy told first → HasFirst (proxy + 1) told result }
+{
+    let Told::Stands(stand) = state else {
+        return first;
+    };
+    let next = Candidate { proxy, stand };
+    match first {
+        Some(candidate) => Some(candidate.or(next)),
+        None => Some(next),
+    }
+}
+
+// Returns whether a proxy to which so many answers were sent waits for others.
+fn waits_for_others(told: Told, sent: u64) -> bool
+    ensures waits { IsTrue result ↔ WaitsForOthers told sent }
+{
+    match told {
+        Told::Goes => false,
+        Told::Stands(stand) => stand.answered == sent,
+        Told::Closed => true,
+    }
+}

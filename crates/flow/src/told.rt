@@ -1,0 +1,21 @@
+//! What a proxy tells of itself.
+
+/// A batch in the hand of a proxy whose share is used up.
+#[derive(Clone, Copy, Debug, PartialEq, Eq)]
+pub struct Stand {
+    /// The batch's previous version.
+    pub previous: i64,
+    /// How many answers the proxy has received.
+    pub answered: u64,
+}
+
+/// What a proxy tells of itself.
+#[derive(Clone, Copy, Debug, PartialEq, Eq)]
+pub enum Told {
+    /// It reads, sends or takes answers.
+    Goes,
+    /// It has a batch in hand, and its share is used up.
+    Stands(Stand),
+    /// It sends no more.
+    Closed,
+}

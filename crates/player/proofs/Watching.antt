@@ -1,0 +1,51 @@
+-- A place of a look is written anew. Is the look still the one that it was?
+use Rattle.std.specs.Prelude.{◌≡◌, ◌↔◌, ◌⊎◌, ℕ, ◌<◌, Bool, true, false, List, length, IsTrue, Some, slice_get}
+use Rattle.std.proofs.Common.{get_or, set, sym, ◌∙◌, ap, inl, inr, arith, length-set, get_or-set_same}
+use Rattle.std.proofs.lemmas.Bool.{false≢true}
+use Rattle.std.proofs.lemmas.List.{set-get_or}
+use Rattle.std.proofs.lemmas.Option.{get_or_from_slice_get, slice_get-get_or}
+use Rattle.flow.specs.declared.told.Told.{Told}
+
+module _ {X : Type 0} where
+  written : (now : List X) (place : ℕ) (x : X) → place < length now → slice_get (set now place x) place ≡ Some x
+  written now place x inside =
+      slice_get-get_or (set now place x) place x (omega (arith, length-set now place x))
+      ∙ ap (λ (y : X). Some y) (get_or-set_same now place x x inside)
+
+  -- what stands there is written once more
+  written_again : (now : List X) (place : ℕ) (x : X) → slice_get now place ≡ Some x → set now place x ≡ now
+  written_again now place x at =
+      ap (λ (y : X). set now place y) (sym (get_or_from_slice_get now place x x at)) ∙ set-get_or now place x
+
+  -- the list is what it was, so this stood there before
+  stood : (was now : List X) (place : ℕ) (x : X) → place < length now → slice_get now place ≡ slice_get was place
+      → set now place x ≡ was → slice_get now place ≡ Some x
+  stood was now place x inside untouched same =
+      untouched ∙ ap (λ (l : List X). slice_get l place) (sym same) ∙ written now place x inside
+
+-- Whether the look is as it was (`after`), where one place was as before until now, by whether the rest is (`before`) and
+-- what is written stood there already (`kept`).
+pub same_after : (was_told old_told new_told : List Told) (was_sent old_sent new_sent : List ℕ) (place : ℕ) (t : Told)
+    (s : ℕ) (before kept after : Bool) → place < length old_told → place < length old_sent
+    → slice_get old_told place ≡ slice_get was_told place → slice_get old_sent place ≡ slice_get was_sent place
+    → new_told ≡ set old_told place t → new_sent ≡ set old_sent place s
+    → IsTrue before ↔ ((old_told ≡ was_told) × (old_sent ≡ was_sent))
+    → IsTrue kept ↔ ((slice_get old_told place ≡ Some t) × (slice_get old_sent place ≡ Some s))
+    → ((kept ≡ false) × (after ≡ false)) ⊎ ((kept ≡ true) × (after ≡ before))
+    → IsTrue after ↔ ((new_told ≡ was_told) × (new_sent ≡ was_sent))
+same_after was_told old_told new_told was_sent old_sent new_sent place t s before kept after in_told in_sent told_was sent_was
+    told_is sent_is same keeps (inl other) = (
+      λ is. absurd (false≢true (sym other.1 ∙ is)),
+      λ both. absurd (false≢true (sym other.0 ∙ keeps.1 (
+        stood was_told old_told place t in_told told_was (sym told_is ∙ both.0),
+        stood was_sent old_sent place s in_sent sent_was (sym sent_is ∙ both.1),
+      ))),
+    )
+same_after was_told old_told new_told was_sent old_sent new_sent place t s before kept after in_told in_sent told_was sent_was
+    told_is sent_is same keeps (inr still) =
+    let at = keeps.0 still.0 in
+    let told_stays : new_told ≡ old_told = told_is ∙ written_again old_told place t at.0 in
+    let sent_stays : new_sent ≡ old_sent = sent_is ∙ written_again old_sent place s at.1 in (
+      λ is. let rest = same.0 (sym still.1 ∙ is) in (told_stays ∙ rest.0, sent_stays ∙ rest.1),
+      λ both. still.1 ∙ same.1 (sym told_stays ∙ both.0, sym sent_stays ∙ both.1),
+    )

@@ -1,0 +1,14 @@
+-- What a look at all proxies finds. This project's own.
+use Rattle.std.specs.Prelude.{◌≡◌, ℕ, ◌<◌, List, length, slice_index}
+use Rattle.flow.specs.declared.told.Told.{Told}
+use Rattle.resolver.specs.Lanes.{Lanes, sent_to}
+
+-- of each proxy, at its number, what it has told, and how many answers were sent to it
+pub record Look : Type 0 where
+  pub told : List Told
+  pub sent : List ℕ
+
+-- so many answers were sent
+abbrev pub SeesSent : List Lanes → Look → Type 0
+SeesSent lanes look =
+    (proxy : ℕ) → proxy < length look.sent → slice_index look.sent proxy ≡ length (sent_to lanes proxy)
