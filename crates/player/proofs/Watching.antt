@@ -1,6 +1,6 @@
 -- A place of a look is written anew. Is the look still the one that it was?
 use Rattle.std.specs.Prelude.{◌≡◌, ◌↔◌, ◌⊎◌, ℕ, ◌<◌, Bool, true, false, List, length, IsTrue, Some, slice_get}
-use Rattle.std.proofs.Common.{get_or, set, sym, ◌∙◌, ap, inl, inr, arith, length-set, get_or-set_same}
+use Rattle.std.proofs.Common.{set, sym, ◌∙◌, ap, inl, inr, arith, length-set, get_or-set_same}
 use Rattle.std.proofs.lemmas.Bool.{false≢true}
 use Rattle.std.proofs.lemmas.List.{set-get_or}
 use Rattle.std.proofs.lemmas.Option.{get_or_from_slice_get, slice_get-get_or}
