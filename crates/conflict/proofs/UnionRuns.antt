@@ -26,7 +26,7 @@ use Rattle.keys.specs.Key.{IsBefore}
 use Rattle.keys.specs.Range.{IsEmpty}
 use Rattle.keys.specs.declared.range.Range.{Range}
 use Rattle.keys.proofs.KeyOrder.{before_at_most_same}
-use Rattle.keyspace.specs.Ends.{IsEndIn}
+use Rattle.stepmap.specs.Uniting.{IsEndIn}
 use Rattle.conflict.specs.Gaps.{IsMarked}
 use Rattle.keyspace.specs.Ends.{HaveEnds}
 use Rattle.keyspace.specs.Ranks.{AreRising, rank, run}

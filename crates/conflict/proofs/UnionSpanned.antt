@@ -33,8 +33,7 @@ use Rattle.std.proofs.lemmas.List.Elements.{
 use Rattle.std.proofs.lemmas.Option.{same_Some}
 use Rattle.keys.specs.Range.{Holds}
 use Rattle.keys.specs.declared.range.Range.{Range}
-use Rattle.keyspace.specs.Ends.{IsEndIn}
-use Rattle.stepmap.specs.Uniting.{Unites}
+use Rattle.stepmap.specs.Uniting.{IsEndIn, Unites}
 use Rattle.stepmap.specs.Writing.{AreApart}
 use Rattle.keys.proofs.SomeElement.{Any-map, Any-unmap}
 use Rattle.conflict.specs.Gaps.{IsMarked}
