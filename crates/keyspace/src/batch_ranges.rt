@@ -45,8 +45,9 @@ impl RangeList for BatchRanges<'_> {
     }
 
     fn range(&self, index: usize) -> RangeRef<'_> {
-        let name = self.names[index];
-        let ranges = ranges_of_kind(&self.txns[name.txn as usize], name.kind);
+        let (txns, names) = (self.txns, self.names);
+        let name = names[index];
+        let ranges = ranges_of_kind(&txns[name.txn as usize], name.kind);
         ranges[name.range as usize].as_ref()
     }
 }
