@@ -1,12 +1,11 @@
 -- The names of the ranges of the transactions of a batch, and how many they are.
-use Rattle.std.proofs.Common.{◌≡◌, ℕ, zero, suc, ◌+◌, ◌*◌, ◌<◌, ◌≤◌, List, [], ◌∷◌, ◌++◌, length, get_or, take, map, sym, ◌∙◌, ap, inl, inr, append_assoc, append-nil, length-append, arith}
+use Rattle.std.proofs.Common.{◌≡◌, ℕ, ◌+◌, ◌*◌, ◌<◌, ◌≤◌, List, [], ◌∷◌, ◌++◌, length, get_or, take, map, sym, ◌∙◌, ap, inl, inr, append_assoc, append-nil, length-append, arith}
 use Rattle.std.specs.Prelude.{Some, option_map, option_and_then, slice_get}
 use Rattle.std.proofs.lemmas.Grind.{flat_map-append}
-use Rattle.std.proofs.lemmas.List.{length-map, map-append, take_all, take_more}
+use Rattle.std.proofs.lemmas.List.{length-map, map-append, take_more}
 use Rattle.std.proofs.lemmas.Option.{get_or_from_slice_get, option_and_then_some, same_Some, slice_get-get_or, slice_get-map, slice_get_cases}
 use Rattle.keys.specs.declared.range.Range.{Range}
 use Rattle.keyspace.specs.declared.txn.Txn.{Txn}
-use Rattle.keyspace.specs.declared.range_name.Kind.{Kind}
 use Rattle.keyspace.specs.declared.range_name.RangeName.{RangeName}
 use Rattle.keyspace.specs.BatchRanges.{range_named, ranges_in, ranges_of_kind, ranges_of_txn, AreNamed}
 
