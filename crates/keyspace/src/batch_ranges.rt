@@ -29,7 +29,7 @@ impl<'a> Model for BatchRanges<'a> {
 
 impl<'a> BatchRanges<'a> {
     /// Lists the ranges of the transactions, which have these names.
-    pub fn new(txns: &'a [Txn], names: &'a [RangeName]) -> Self
+    pub(crate) fn new(txns: &'a [Txn], names: &'a [RangeName]) -> Self
         requires named { AreNamed txns.now names.now }
         ensures ranges { result ≡ ranges_in txns.now }
     {

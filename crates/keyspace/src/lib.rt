@@ -4,8 +4,8 @@
 //! chain of versions, and last how the ranges of a batch are numbered. The contracts of the crates above cite them. A crate
 //! above may use the contracts of the types here and the laws of [`laws`].
 //!
-//! What comes from outside is made by [`Txn::checked`] and [`Batch::checked`], which refuse it by name where it is beyond the
-//! limits. Callers that know it to be within them have [`Txn::new`] and [`Batch::new`].
+//! [`Txn::checked`] and [`Batch::checked`] take what comes from outside, and return a [`LimitError`] where it is beyond a limit.
+//! Callers that know it to be within the limits have [`Txn::new`] and [`Batch::new`].
 //!
 //! [`Txns`] puts the transactions of a batch together, and ranks their ranges ([`Ranks`]). So that work is done where a batch
 //! is read, and not where batches are resolved one after the other. [`BatchRanges`] is the list of these ranges.

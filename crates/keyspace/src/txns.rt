@@ -3,12 +3,16 @@ ghost use Rattle.keys.specs.Ranks.{AreRanked};
 ghost use Rattle.keyspace.specs.BatchRanges.{ranges_in};
 ghost use Rattle.keyspace.specs.declared.batch.TheConstants.{MAX_TXNS};
 
+use crate::batch::MAX_TXNS;
 use crate::batch_ranges::BatchRanges;
 use crate::range_name::{RangeName, name_ranges};
-use crate::txn::Txn;
-use keys::Ranks;
+use crate::txn::{MAX_RANGES, Txn};
+use keys::{MAX_RANKED, Ranks};
 use std::alloc::{AllocError, Global};
 use std::marker::Model;
+
+// As many ranges as a batch may have are ranked at once.
+const _: () = prove!(MAX_TXNS * 2 * MAX_RANGES <= MAX_RANKED);
 
 /// The transactions of a batch, in the order in which they are judged. Contracts see the list of these.
 ///
