@@ -6,8 +6,9 @@ pub mod Digests
 pub mod Words
 pub mod Values
 pub mod Heads
-pub mod Presorting
 pub mod Sorting
+pub mod Digits
+pub mod Counting
 pub mod Ranking
 pub mod Kept
 pub mod Numbering

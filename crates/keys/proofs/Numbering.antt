@@ -9,7 +9,7 @@ use Rattle.keys.specs.declared.ranks.sorting.Headed.{Headed}
 use Rattle.keys.specs.Ranks.{rank}
 use Rattle.keys.specs.Sorting.{begin_at, begins_of, indices_of, AreInBeginOrder}
 use Rattle.keys.specs.Numbering.{AreNumbered, IsNumbered, OthersStay}
-use Rattle.keys.proofs.Presorting.{no_headed}
+use Rattle.keys.proofs.Sorting.{no_headed}
 use Rattle.keys.proofs.Kept.{EndsWith, Kept, KeptNext, IsNext, kept_none, kept_next, up_to_next}
 use Rattle.keys.proofs.Values.{begin_of_listed}
 

@@ -17,7 +17,7 @@ use Rattle.keys.specs.Numbering.{end_at, end_of, run_at, AreEachOnce, HasRun, Is
 use Rattle.keys.proofs.Meeting.{before_unless_empty, not_empty}
 use Rattle.keys.proofs.Filled.{filled_at, filled_in}
 use Rattle.keys.proofs.Kept.{not_true}
-use Rattle.keys.proofs.Presorting.{no_headed}
+use Rattle.keys.proofs.Sorting.{no_headed}
 use Rattle.keys.proofs.Reaching.{begins_rise}
 use Rattle.keys.proofs.Values.{begin_of_listed, contains_value, value_of}
 

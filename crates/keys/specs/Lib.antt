@@ -4,6 +4,7 @@ pub mod Digest
 pub mod Range
 pub mod Ranks
 pub mod Sorting
+pub mod Counting
 pub mod Numbering
 pub mod Gaps
 pub mod Laws

@@ -1,7 +1,7 @@
 use Rattle.std.proofs.Common.{◌<◌, arith, length, sym, get_or, ◌∙◌, subst, take, inl, inr}
 use Rattle.std.proofs.lemmas.List.{length-set, take_all}
 use Rattle.keys.specs.Sorting.{begin_at, begins_of}
-use Rattle.keys.proofs.Presorting.{no_headed}
+use Rattle.keys.proofs.Sorting.{no_headed}
 use Rattle.keys.proofs.Kept.{not_true, none_last, last_before, EndsWith}
 use Rattle.keys.proofs.Numbering.{AreNumberedSoFar, IsCounted, counted_few, counted_some, numbered_more, numbered_all, others_more}
 use Rattle.keys.proofs.ranks.numbering.number_begins.Given as given

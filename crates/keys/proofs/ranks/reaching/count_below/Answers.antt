@@ -4,7 +4,7 @@ use Rattle.keys.specs.Key.{is_before, IsAtMost}
 use Rattle.keys.specs.Sorting.{begin_at}
 use Rattle.keys.specs.declared.ranks.sorting.Headed.{Headed}
 use Rattle.keys.proofs.Galloping.{steps_more, part_split, whole_split, below_split, behind_split}
-use Rattle.keys.proofs.Presorting.{no_headed}
+use Rattle.keys.proofs.Sorting.{no_headed}
 use Rattle.keys.proofs.Reaching.{AreSplit}
 use Rattle.keys.proofs.ranks.reaching.count_below.Given as given
 use Rattle.keys.proofs.ranks.reaching.count_below.Goals.{After-partition_point, then-loop-step-test+else-begins_below, else-loop-step-test}

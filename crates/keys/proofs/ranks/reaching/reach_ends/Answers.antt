@@ -7,7 +7,7 @@ use Rattle.keys.specs.Ranks.{rank}
 use Rattle.keys.specs.Sorting.{begin_at, indices_of}
 use Rattle.keys.specs.Numbering.{end_at, run_at, AreNumbered, IsFilledAt}
 use Rattle.keys.specs.declared.ranks.sorting.Headed.{Headed}
-use Rattle.keys.proofs.Presorting.{no_headed}
+use Rattle.keys.proofs.Sorting.{no_headed}
 use Rattle.keys.proofs.Reaching.{reached_more, split_at, rank_of_next, rank_of_last, others_at}
 use Rattle.keys.proofs.Values.{contains_value}
 use Rattle.keys.proofs.ranks.reaching.reach_ends.Goals.{in-Some, in-None}
