@@ -34,8 +34,8 @@ pub record RangeHolds (range : RangeFields) : Type 0 where
   pub end : IsKey range.end
   pub ordered : IsAtMost range.begin range.end
 
--- the fields are those of a transaction
-pub record TxnHolds (txn : TxnFields) : Type 0 where
+-- the fields of a transaction are within its limits
+pub record TxnLimits (txn : TxnFields) : Type 0 where
   pub snapshot : pos 0 ≤ℤ txn.snapshot
   pub few_reads : length txn.reads ≤ MAX_RANGES
   pub few_writes : length txn.writes ≤ MAX_RANGES
@@ -63,7 +63,7 @@ length-ranges_with [] holds = refl
 length-ranges_with (range ∷ ranges) holds = ap suc (length-ranges_with ranges (All-tail RangeHolds range ranges holds))
 
 -- the transaction that has these fields
-abbrev pub txn_with : (txn : TxnFields) → TxnHolds txn → Txn
+abbrev pub txn_with : (txn : TxnFields) → TxnLimits txn → Txn
 txn_with txn holds = record {
   snapshot = txn.snapshot;
   marked = txn.marked;
@@ -75,7 +75,7 @@ txn_with txn holds = record {
 }
 
 -- the transactions that have these fields
-abbrev pub txns_with : (txns : List TxnFields) → All TxnHolds txns → List Txn
+abbrev pub txns_with : (txns : List TxnFields) → All TxnLimits txns → List Txn
 txns_with [] holds = []
 txns_with (txn ∷ txns) holds =
-    txn_with txn (All-head TxnHolds txn txns holds) ∷ txns_with txns (All-tail TxnHolds txn txns holds)
+    txn_with txn (All-head TxnLimits txn txns holds) ∷ txns_with txns (All-tail TxnLimits txn txns holds)

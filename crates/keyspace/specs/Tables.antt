@@ -3,7 +3,7 @@
 use Rattle.std.specs.Prelude.{◌≡◌, ℕ, ◌+◌, ◌≤◌, List, length, map, flat_map, slice_range, All}
 use Rattle.keyspace.specs.declared.span.Span.{Span}
 use Rattle.keyspace.specs.declared.row.Row.{Row}
-use Rattle.keyspace.specs.Fields.{RangeFields, TxnFields, TxnHolds}
+use Rattle.keyspace.specs.Fields.{RangeFields, TxnFields, TxnLimits}
 
 -- so many bytes of the buffer, from an index on
 abbrev pub bytes_at : List ℕ → ℕ → ℕ → List ℕ
@@ -46,4 +46,4 @@ pub record AreTables (buffer : List ℕ) (spans : List Span) (rows : List Row) :
   pub rows_within : All (IsRowOf (length spans)) rows
   -- the spans of the rows, one after the other, are all the spans
   pub whole : flat_map (λ row. slice_range spans row.reads row.end) rows ≡ spans
-  pub holds : All TxnHolds (txns_told buffer spans rows)
+  pub holds : All TxnLimits (txns_told buffer spans rows)
