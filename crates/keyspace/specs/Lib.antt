@@ -1,5 +1,4 @@
 -- In the order in which one reads them aloud.
-pub mod Ranges
 pub mod Places
 pub mod Processed
 pub mod Writes
@@ -13,5 +12,8 @@ pub mod Run
 pub mod Laws
 pub mod Rows
 pub mod Versions
--- Not of the reference: how the ranges of a batch are numbered, this project's own.
+-- Not of the reference: how the transactions of a batch are kept and their ranges numbered, this project's own.
 pub mod BatchRanges
+pub mod Fields
+pub mod Tables
+pub mod Putting

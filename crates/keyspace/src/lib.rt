@@ -1,37 +1,42 @@
 //! Transactions, batches and replies as plain data, over the keys and ranges of `keys`. Each type keeps its limits.
 //!
 //! `specs/` holds the reference definitions, in reading order: all that has to be believed about verdicts and about the
-//! chain of versions, and last how the ranges of a batch are numbered. The contracts of the crates above cite them. A crate
+//! chain of versions, and last how the transactions of a batch are kept. The contracts of the crates above cite them. A crate
 //! above may use the contracts of the types here and the laws of [`laws`].
 //!
 //! [`Txn::checked`] and [`Batch::checked`] take what comes from outside, and return a [`LimitError`] where it is beyond a limit.
 //! Callers that know it to be within the limits have [`Txn::new`] and [`Batch::new`].
 //!
-//! [`Txns`] puts the transactions of a batch together, and ranks their ranges ([`Ranks`]). So that work is done where a batch
-//! is read, and not where batches are resolved one after the other. [`BatchRanges`] is the list of these ranges.
+//! A batch keeps its transactions as [`Txns`]: one buffer with the bytes of all keys, a [`Span`] a range, and a [`Row`] a
+//! transaction. It lends them as [`TxnRef`], [`RangesRef`] and [`RangeRef`], so no key is copied once it is read. Their ranges
+//! are ranked ([`Ranks`]) where a batch is read, and not where batches are resolved one after the other.
 #![tactic(auto)]
 
 mod answer;
 mod batch;
-mod batch_ranges;
 mod error;
 pub mod laws;
-mod range_name;
-mod ranges;
+mod ranges_ref;
 mod reply;
+mod row;
 mod sequence;
+mod span;
+mod tables;
 mod txn;
+mod txn_ref;
 mod txns;
 
 pub use answer::Answer;
 pub use batch::{Batch, MAX_TXNS};
-pub use batch_ranges::BatchRanges;
 pub use error::LimitError;
 pub use keys::{Key, KeyError, MAX_KEY_LENGTH, Range, RangeList, RangeRef, Ranks, common, digest};
-pub use ranges::Ranges;
+pub use ranges_ref::RangesRef;
 pub use reply::{Entry, Places, Reply, Verdict};
+pub use row::Row;
 pub use sequence::Sequence;
+pub use span::Span;
 pub use txn::{MAX_RANGES, Txn};
+pub use txn_ref::TxnRef;
 pub use txns::Txns;
 
 /// The default window, in versions: how far back the resolver remembers committed writes. It is

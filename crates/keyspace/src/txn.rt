@@ -2,7 +2,6 @@ ghost use Rattle.std.specs.Prelude.{◌≡◌, ◌≤◌, ◌<◌, ◌≤ℤ◌,
 ghost use Rattle.keyspace.specs.declared.txn.TheConstants.{MAX_RANGES};
 
 use crate::error::LimitError;
-use crate::ranges::Ranges;
 use crate::sequence::Sequence;
 use keys::Range;
 
@@ -19,9 +18,9 @@ pub struct Txn {
     /// Whether the transaction asks for the places of its read ranges in conflict.
     pub marked: bool,
     /// The read conflict ranges, at most [`MAX_RANGES`], in the order sent.
-    pub reads: Ranges,
+    pub reads: Sequence<Range>,
     /// The write conflict ranges, at most [`MAX_RANGES`], in the order sent.
-    pub writes: Ranges,
+    pub writes: Sequence<Range>,
     ghost natural: { pos 0 ≤ℤ snapshot },
     ghost few_reads: { length reads ≤ MAX_RANGES },
     ghost few_writes: { length writes ≤ MAX_RANGES },
@@ -38,7 +37,12 @@ impl Txn {
         ensures reads { result.reads ≡ reads }
         ensures writes { result.writes ≡ writes }
     {
-        Txn::with_ranges(snapshot, marked, Ranges::new(reads), Ranges::new(writes))
+        Txn {
+            snapshot,
+            marked,
+            reads,
+            writes,
+        }
     }
 
     /// Creates a transaction, with its ranges in the order sent, or returns an error if it is outside its limits. The
@@ -66,23 +70,5 @@ impl Txn {
             return Err(LimitError::Count);
         }
         Ok(Txn::new(snapshot, marked, reads, writes))
-    }
-
-    /// Creates a transaction as [`Txn::new`] does, whose ranges may lie among those of others.
-    pub fn with_ranges(snapshot: i64, marked: bool, reads: Ranges, writes: Ranges) -> Self
-        requires natural { pos 0 ≤ℤ snapshot }
-        requires few_reads { length reads ≤ MAX_RANGES }
-        requires few_writes { length writes ≤ MAX_RANGES }
-        ensures snapshot { result.snapshot ≡ snapshot }
-        ensures marked { result.marked ≡ marked }
-        ensures reads { result.reads ≡ reads }
-        ensures writes { result.writes ≡ writes }
-    {
-        Txn {
-            snapshot,
-            marked,
-            reads,
-            writes,
-        }
     }
 }

@@ -1,74 +1,109 @@
-ghost use Rattle.std.specs.Prelude.{◌≡◌, ◌≤◌, length, vec_len, IfOk};
+ghost use Rattle.std.specs.Prelude.{◌≡◌, ◌<◌, ◌≤◌, Some, length, vec_len, map, slice_get, IfOk};
 ghost use Rattle.keys.specs.Ranks.{AreRanked};
 ghost use Rattle.keyspace.specs.BatchRanges.{ranges_in};
+ghost use Rattle.keyspace.specs.Fields.{txn_fields};
+ghost use Rattle.keyspace.specs.Tables.{txns_told, AreTables};
 ghost use Rattle.keyspace.specs.declared.batch.TheConstants.{MAX_TXNS};
 
-use crate::batch::MAX_TXNS;
-use crate::batch_ranges::BatchRanges;
-use crate::range_name::{RangeName, name_ranges};
-use crate::txn::{MAX_RANGES, Txn};
-use keys::{MAX_RANKED, Ranks};
+use crate::ranges_ref::RangesRef;
+use crate::row::Row;
+use crate::span::Span;
+use crate::tables::Tables;
+use crate::txn::Txn;
+use crate::txn_ref::TxnRef;
+use keys::Ranks;
 use std::alloc::{AllocError, Global};
 use std::marker::Model;
 
-// As many ranges as a batch may have are ranked at once.
-const _: () = prove!(MAX_TXNS * 2 * MAX_RANGES <= MAX_RANKED);
-
 /// The transactions of a batch, in the order in which they are judged. Contracts see the list of these.
 ///
-/// What doesn't depend on other batches is computed once, where the transactions are put together: the order of their ranges
-/// by begins, and which of the gaps between these each range covers.
+/// They lie in one buffer with the bytes of all keys, a table of spans that says where each range lies in it, and a table
+/// with a row for each transaction. What doesn't depend on other batches is computed once, where the transactions are put
+/// together: the order of their ranges by begins, and which of the gaps between these each range covers.
 #[derive(Debug, Drop)]
 pub struct Txns {
-    txns: Vec<Txn>,
-    names: Vec<RangeName>,
+    buffer: Vec<u8>,
+    spans: Vec<Span>,
+    rows: Vec<Row>,
     ranks: Ranks,
+    ghost tables: { AreTables buffer.items spans.items rows.items },
 }
 
 impl Model for Txns {
     ghost use Rattle.std.specs.Prelude.{List};
     ghost use Rattle.keys.specs.Ranks.{AreRanked};
-    ghost use Rattle.keyspace.specs.BatchRanges.{ranges_in, AreNamed};
+    ghost use Rattle.keyspace.specs.BatchRanges.{ranges_in};
+    ghost use Rattle.keyspace.specs.Fields.{txns_with};
+    ghost use Rattle.keyspace.specs.Tables.{txns_told};
     ghost use Rattle.keyspace.specs.declared.txn.Txn.{Txn};
 
     ghost Value = { List Txn };
 
-    ghost view = { λ t. t.txns.items };
+    ghost view = { λ t. txns_with (txns_told t.buffer.items t.spans.items t.rows.items) t.tables.holds };
 
-    ghost invariant = { λ t. AreNamed t.txns.items t.names.items × AreRanked (ranges_in t.txns.items) t.ranks };
+    ghost invariant = { λ t. AreRanked
+        (ranges_in (txns_with (txns_told t.buffer.items t.spans.items t.rows.items) t.tables.holds)) t.ranks };
 }
 
 impl Txns {
-    /// Puts transactions together in this order, or returns an error if memory is refused.
+    /// Puts transactions together in this order, or returns an error if memory is refused, or if their keys have more than
+    /// 4 GiB.
     pub fn new(alloc: Global, txns: Vec<Txn>) -> Result<Self, AllocError>
         requires few { vec_len txns ≤ MAX_TXNS }
-        ensures txns { IfOk result (λ ranked. ranked ≡ txns.items) }
+        ensures txns { IfOk result (λ kept. kept ≡ txns.items) }
     {
-        let names = name_ranges(alloc, &txns)?;
-        let ranks = Ranks::new(alloc, &BatchRanges::new(&txns, &names))?;
-        Ok(Txns { txns, names, ranks })
+        let tables = Tables::of(alloc, &txns)?;
+        Txns::from_tables(alloc, tables.buffer, tables.spans, tables.rows)
     }
 
-    /// Returns the transactions as a slice.
-    pub fn as_slice(&self) -> &[Txn]
-        ensures txns { result.now ≡ self.now }
+    /// Takes the transactions that the tables mean, without copying a key, or returns an error if memory is refused.
+    pub fn from_tables(
+        alloc: Global,
+        buffer: Vec<u8>,
+        spans: Vec<Span>,
+        rows: Vec<Row>,
+    ) -> Result<Self, AllocError>
+        requires tables { AreTables buffer.items spans.items rows.items }
+        requires few { vec_len rows ≤ MAX_TXNS }
+        ensures fields { IfOk result (λ txns. map txn_fields txns ≡ txns_told buffer.items spans.items rows.items) }
     {
-        &self.txns
+        let ranks = Ranks::new(alloc, &RangesRef::new(&buffer, &spans))?;
+        Ok(Txns {
+            buffer,
+            spans,
+            rows,
+            ranks,
+        })
     }
 
     /// Returns the number of transactions.
     pub fn len(&self) -> usize
         ensures count { result ≡ length self.now }
     {
-        self.txns.len()
+        self.rows.len()
+    }
+
+    /// Returns the transaction at the index, without copying its keys.
+    pub fn txn(&self, index: usize) -> TxnRef<'_>
+        requires within { index < length self.now }
+        ensures txn { slice_get self.now index ≡ Some result }
+    {
+        let row = self.rows[index];
+        let ranges = self.ranges();
+        TxnRef {
+            snapshot: row.snapshot,
+            marked: row.marked,
+            reads: ranges.slice(row.reads as usize, row.writes as usize),
+            writes: ranges.slice(row.writes as usize, row.end as usize),
+        }
     }
 
     /// Returns the ranges of the transactions as one list: those of each transaction, its read ranges before its write
     /// ranges.
-    pub fn ranges(&self) -> BatchRanges<'_>
+    pub fn ranges(&self) -> RangesRef<'_>
         ensures ranges { result ≡ ranges_in self.now }
     {
-        BatchRanges::new(&self.txns, &self.names)
+        RangesRef::new(&self.buffer, &self.spans)
     }
 
     /// Returns the order of the ranges by their begins, and their runs. The index of a range is that in

@@ -1,5 +1,10 @@
-use Rattle.std.proofs.Common.{rules, arith}
+use Rattle.std.proofs.Common.{rules, ◌≡◌, IsTrue, IsErrOf, ap}
+use Rattle.std.proofs.lemmas.Int.{to_z-of_z}
+use Rattle.std.specs.Prelude.{ℤ}
+use Rattle.keyspace.specs.Versions.{AreVersions}
 use Rattle.keyspace.proofs.batch.Batch.checked.Goals as goal
 
 pub returns-clause-beyond_version : goal.returns-clause-beyond_version
-returns-clause-beyond_version c = (λ none versions. grind (arith, none), λ beyond. search rules)
+returns-clause-beyond_version c =
+    let versions : AreVersions c.args.previous c.args.version c.args.received = search (rules, to_z-of_z) in
+    (λ e. absurd cc, λ no. absurd (no versions))

@@ -1,9 +1,14 @@
-use Rattle.std.proofs.Common.{◌≤◌, length, subst, sym, arith}
-use Rattle.keyspace.proofs.Naming.{all_few}
+use Rattle.std.proofs.Common.{◌≡◌, List, ap, map, ◌∙◌}
+use Rattle.std.proofs.lemmas.Result.{IfOk-weaker}
+use Rattle.keyspace.specs.declared.txn.Txn.{Txn}
+use Rattle.keyspace.specs.Fields.{txn_fields}
+use Rattle.keyspace.proofs.SameFields.{same_txns}
 use Rattle.keyspace.proofs.txns.Txns.new.Goals as goal
 
-pub new-requires-2 : goal.new-requires-2
-new-requires-2 c =
-    let txns = c.deref-2.result.now in
-    let few = all_few txns (omega (arith, c.deref-2.ensures.len, c.requires.few)) in
-    record { few = subst (λ ranges. length ranges ≤ 8388608) (sym c.new.ensures.ranges) few }
+pub returns : goal.returns
+returns c =
+    let told = c.in_ok-tables.ensures.told ∙ ap (map txn_fields) c.deref.ensures.value in
+    record {
+      txns = IfOk-weaker c.from_tables.result _ (λ (kept : List Txn). kept ≡ c.args.txns.items)
+          (λ kept fields. same_txns kept c.args.txns.items (fields ∙ told)) c.from_tables.ensures.fields;
+    }
