@@ -40,7 +40,7 @@ use Rattle.conflict.proofs.Written.{no_more_written}
 use Rattle.conflict.proofs.FirstMet.{none_counted, closed_entry}
 
 -- one more transaction that is judged
-committed_push : (ts : List Txn) (es : List Entry) (t : Txn) (e : Entry) → length ts ≡ length es
+pub committed_push : (ts : List Txn) (es : List Entry) (t : Txn) (e : Entry) → length ts ≡ length es
     → committed (ts ++ t ∷ []) (es ++ e ∷ []) ≡ committed ts es ++ counted e.verdict t.writes
 committed_push [] [] t e same = append-nil (counted e.verdict t.writes)
 committed_push [] (f ∷ es) t e same = absurd (omega arith)

@@ -11,12 +11,10 @@ pub mod Told
 pub mod Written
 pub mod FirstMet
 pub mod JudgedTo
-pub mod UnionGathered
-pub mod UnionPlaces
-pub mod UnionRuns
-pub mod UnionFew
-pub mod UnionSpanned
 pub mod Spanned
+pub mod UnionAdded
+pub mod UnionOrder
+pub mod Marks
 pub mod JudgedBatch
 pub mod UnionWritten
 pub mod Swept

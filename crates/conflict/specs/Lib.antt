@@ -4,5 +4,4 @@ pub mod Asking
 pub mod Ranks
 pub mod Written
 pub mod Union
-pub mod Judging
 pub mod ConflictSet

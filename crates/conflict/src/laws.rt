@@ -2,7 +2,6 @@
 
 ghost use Rattle.conflict.specs.Ranks.{RunsTellMeeting, RunsTellOverlap, EmptyHasNoGap, RunsAreWithin};
 ghost use Rattle.conflict.specs.InBatch.{HistoryFirst};
-ghost use Rattle.conflict.specs.Union.{UnionOfRuns};
 
 /// Ranges overlap exactly if their runs have a gap in common, where the keys have the begins of those ranges that
 /// aren't empty.
@@ -16,9 +15,4 @@ pub fn runs()
 /// The plain scan may ask the history for all transactions first, and then go through the batch in order.
 pub fn history_first()
     ensures scan { HistoryFirst }
-{}
-
-/// The runs of the gaps that ranges cover tell ranges that unite these.
-pub fn union()
-    ensures runs { UnionOfRuns }
 {}
