@@ -1,6 +1,6 @@
 //! Tests of the data and of its wire form, by the public calls of `keys`, `keyspace` and `wire` alone: worked frames and
 //! the fault that each other one is refused for, readers and writers that give out anywhere, keys, ranges, their limits, and
-//! the ranks of ends and of ranges.
+//! the ranks of ranges, of a batch and wherever they lie.
 #![tactic(auto)]
 
 #[cfg(test)]

@@ -1,24 +1,28 @@
-//! Tests of ranks: of transactions by hand, of random ones compared with a plain count, and where memory is refused.
+//! Tests of the ranks of a batch's ranges: by hand, at random compared with a plain count, and where memory is refused.
 
 use crate::rows::expect;
 use fixtures::{Random, Unmade, batch, batch_of, txn};
-use keyspace::{Batch, Range, Txn, Txns};
+use keys::{Range, RangeList};
+use keyspace::{Batch, Txn, Txns};
 use std::alloc::{AllocError, Global};
 use std::test::Fail;
 
-// Five ranges between seven keys, and an empty range.
+// Five ranges with five begins, and an empty range.
 const THREE_TXNS: &str = "0>1: R[b,d) R[m,m) W[a,c); W[aa,y); R[c,d) W[,a)";
 
-// The keys of the ends in hexadecimal, and the runs.
+// The indices of the ranges in order, each with its begin in hexadecimal, and the runs.
 fn show_ranks(alloc: Global, txns: &Txns) -> Result<String, Unmade> {
-    let ranks = txns.ranks();
-    let mut text = String::from_str(alloc, "keys")?;
-    for end in ranks.ends {
-        let key = hex::encode(alloc, txns.key(end))?;
-        write!(text, " [{key}]")?;
+    let ranges = txns.ranges();
+    let mut text = String::from_str(alloc, "order")?;
+    for index in txns.ranks().order() {
+        if *index >= ranges.len() {
+            return Err(Unmade::Beyond("order"));
+        }
+        let begin = hex::encode(alloc, ranges.range(*index).begin())?;
+        write!(text, " {index}[{begin}]")?;
     }
     text.push_str(", runs")?;
-    for (begin, end) in ranks.runs {
+    for (begin, end) in txns.ranks().runs() {
         write!(text, " {begin}-{end}")?;
     }
     Ok(text)
@@ -30,7 +34,7 @@ fn ranks_of(alloc: Global, text: &str) -> Result<String, Unmade> {
     show_ranks(alloc, &batch.txns)
 }
 
-const THREE_RANKS: &str = "keys [] [61] [6161] [62] [63] [64] [79], runs 3-5 0-0 1-4 2-6 4-5 0-1";
+const THREE_RANKS: &str = "order 5[] 2[61] 3[6161] 0[62] 4[63], runs 3-5 0-0 1-4 2-5 4-5 0-1";
 
 #[test]
 fn ranks_of_three_txns(rt: HostRuntime) -> Result<(), Fail> {
@@ -39,7 +43,7 @@ fn ranks_of_three_txns(rt: HostRuntime) -> Result<(), Fail> {
 
 #[test]
 fn no_txns_have_no_ranks(rt: HostRuntime) -> Result<(), Fail> {
-    expect(&rt, ranks_of(rt.alloc(), "0>1:"), "keys, runs")
+    expect(&rt, ranks_of(rt.alloc(), "0>1:"), "order, runs")
 }
 
 // Whichever growth is refused, of the transactions or of their ranks, the next try succeeds.
@@ -71,14 +75,6 @@ fn random_batch(alloc: Global, random: &mut Random) -> Result<Batch, Unmade> {
     batch_of(alloc, -1, 0, -1, txns)
 }
 
-// Adds the key, unless it is there.
-fn add<'a>(keys: &mut Vec<&'a [u8]>, key: &'a [u8]) -> Result<(), AllocError> {
-    if !keys.iter().any(|other| *other == key) {
-        keys.push(key)?;
-    }
-    Ok(())
-}
-
 // Returns the ranges of the transactions, the read ranges of each one first.
 fn all_ranges<'a>(alloc: Global, txns: &'a Txns) -> Result<Vec<&'a Range>, AllocError> {
     let mut all = Vec::new(alloc);
@@ -93,40 +89,32 @@ fn all_ranges<'a>(alloc: Global, txns: &'a Txns) -> Result<Vec<&'a Range>, Alloc
     Ok(all)
 }
 
-// Returns the keys that the ranges begin and end with, each once, unless the range is empty.
-fn all_keys<'a>(alloc: Global, ranges: &[&'a Range]) -> Result<Vec<&'a [u8]>, AllocError> {
-    let mut keys = Vec::new(alloc);
+// Returns the keys that ranges begin with, each once, unless the range is empty.
+fn all_begins<'a>(alloc: Global, ranges: &[&'a Range]) -> Result<Vec<&'a [u8]>, AllocError> {
+    let mut begins = Vec::new(alloc);
     for range in ranges {
-        if !range.is_empty() {
-            add(&mut keys, range.begin.as_bytes())?;
-            add(&mut keys, range.end.as_bytes())?;
+        let begin = range.begin.as_bytes();
+        if !range.is_empty() && !begins.iter().any(|other| *other == begin) {
+            begins.push(begin)?;
         }
     }
-    Ok(keys)
+    Ok(begins)
 }
 
-fn rank(keys: &[&[u8]], key: &[u8]) -> usize {
-    keys.iter()
-        .filter(|other| (**other).cmp(key).is_lt())
+fn rank(begins: &[&[u8]], key: &[u8]) -> usize {
+    begins
+        .iter()
+        .filter(|begin| (**begin).cmp(key).is_lt())
         .count()
 }
 
-// Whether the ends stand in the order of a plain count, one for each key.
-fn ends_agree(txns: &Txns, keys: &[&[u8]]) -> bool {
-    let ends = txns.ranks().ends;
-    for (index, end) in ends.iter().enumerate() {
-        if rank(keys, txns.key(end)) != index {
-            return false;
-        }
+// Whether the run of a range is from the rank of its begin to that of its end, and that of an empty one has no gap.
+fn run_agrees(run: (usize, usize), range: &Range, begins: &[&[u8]]) -> bool {
+    if range.is_empty() {
+        run.0 == run.1
+    } else {
+        run.0 == rank(begins, range.begin.as_bytes()) && run.1 == rank(begins, range.end.as_bytes())
     }
-    ends.len() == keys.len()
-}
-
-// Whether the run of a range is from the rank of its begin to that of its end. Of an empty one it doesn't matter.
-fn run_agrees(run: (usize, usize), range: &Range, keys: &[&[u8]]) -> bool {
-    range.is_empty()
-        || (run.0 == rank(keys, range.begin.as_bytes())
-            && run.1 == rank(keys, range.end.as_bytes()))
 }
 
 // Whether the run overlaps the runs of exactly the ranges that its range overlaps.
@@ -146,20 +134,41 @@ fn overlaps_agree(
 }
 
 // Whether there is one run for each range, and each is right.
-fn runs_agree(runs: &[(usize, usize)], ranges: &[&Range], keys: &[&[u8]]) -> bool {
+fn runs_agree(runs: &[(usize, usize)], ranges: &[&Range], begins: &[&[u8]]) -> bool {
     for (run, range) in runs.iter().zip(ranges) {
-        if !run_agrees(*run, range, keys) || !overlaps_agree(*run, range, runs, ranges) {
+        if !run_agrees(*run, range, begins) || !overlaps_agree(*run, range, runs, ranges) {
             return false;
         }
     }
     runs.len() == ranges.len()
 }
 
-// Compares the ranks of the ends with a plain count, and overlaps of runs with those of ranges.
+// Whether the order has each range that isn't empty, and none that begins before the one ahead of it.
+fn order_agrees(order: &[usize], ranges: &[&Range]) -> bool {
+    let mut last: &[u8] = &[];
+    for index in order {
+        let Some(range) = ranges.get(*index) else {
+            return false;
+        };
+        let begin = range.begin.as_bytes();
+        if begin.cmp(last).is_lt() || range.is_empty() {
+            return false;
+        }
+        last = begin;
+    }
+    order.len() == ranges.iter().filter(|range| !range.is_empty()).count()
+}
+
+// Compares the ranks with a plain count.
 fn agrees(alloc: Global, txns: &Txns) -> Result<bool, AllocError> {
     let ranges = all_ranges(alloc, txns)?;
-    let keys = all_keys(alloc, &ranges)?;
-    Ok(ends_agree(txns, &keys) && runs_agree(txns.ranks().runs, &ranges, &keys))
+    let begins = all_begins(alloc, &ranges)?;
+    let ranks = txns.ranks();
+    Ok(
+        ranks.begins() == begins.len()
+            && runs_agree(ranks.runs(), &ranges, &begins)
+            && order_agrees(ranks.order(), &ranges),
+    )
 }
 
 #[test]

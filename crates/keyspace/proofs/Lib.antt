@@ -5,13 +5,4 @@ pub mod Judging
 pub mod Chaining
 pub mod Waiting
 pub mod Answered
-pub mod Ranking
-pub mod RanksDistinct
-pub mod RanksPlaced
-pub mod RanksSet
-pub mod RanksGathered
-pub mod RanksPushed
-pub mod Presorting
-pub mod RanksAll
-pub mod RanksKeys
-pub mod SortingEnds
+pub mod Naming

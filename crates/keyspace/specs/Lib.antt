@@ -12,8 +12,6 @@ pub mod Leaving
 pub mod Run
 pub mod Laws
 pub mod Rows
-pub mod Ends
-pub mod Gathering
-pub mod Sorting
-pub mod Ranks
 pub mod Versions
+-- Not of the reference: how the ranges of a batch are numbered, this project's own.
+pub mod BatchRanges

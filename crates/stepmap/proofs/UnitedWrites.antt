@@ -12,8 +12,7 @@ use Rattle.stepmap.specs.Boundary.{Boundary, below}
 use Rattle.stepmap.specs.Rooted.{IsEndOf, Ends, AreRooted}
 use Rattle.keys.specs.Range.{is_filled}
 use Rattle.stepmap.specs.Counting.{filled_count, live_count}
-use Rattle.keyspace.specs.Ends.{IsEndIn}
-use Rattle.stepmap.specs.Uniting.{Unites}
+use Rattle.stepmap.specs.Uniting.{IsEndIn, Unites}
 use Rattle.stepmap.specs.Laws.{UnitingTells, CountedAlong}
 use Rattle.stepmap.proofs.WrittenMap.{if_some_map}
 use Rattle.stepmap.proofs.Rooting.{OneEnd}

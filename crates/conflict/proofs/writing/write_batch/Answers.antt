@@ -3,7 +3,9 @@ use Rattle.std.proofs.lemmas.Bool.{cases_lt}
 use Rattle.stepmap.specs.StepMap.{Steps, AreSteps}
 use Rattle.stepmap.specs.Limit.{HasRoomFor, made_room}
 use Rattle.stepmap.specs.Sweeping.{rest}
-use Rattle.conflict.specs.Union.{AreMarkedRuns}
+use Rattle.stepmap.specs.Uniting.{Unites}
+use Rattle.keyspace.specs.Writes.{committed}
+use Rattle.conflict.specs.Union.{AreSpanned}
 use Rattle.conflict.proofs.UnionWritten.{
   union,
   spanned,
