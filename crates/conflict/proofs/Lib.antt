@@ -5,7 +5,7 @@ pub mod GapsMarks
 pub mod InBatch
 pub mod Hits
 pub mod Questions
-pub mod Ranks
+pub mod Overlap
 pub mod Parts
 pub mod Told
 pub mod Written

@@ -6,14 +6,13 @@ ghost use Rattle.keyspace.specs.Judge.{judge_txns};
 ghost use Rattle.stepmap.specs.Covers.{MapCovers};
 ghost use Rattle.conflict.specs.InBatch.{by_history};
 ghost use Rattle.conflict.specs.Asking.{question, AreAnswers};
-ghost use Rattle.keyspace.specs.Ranks.{AreRanked};
 
 use crate::asking::{first_reads, list_first, list_others, other_reads};
 use crate::gaps::Gaps;
 use crate::history::judge_by_history;
 use crate::in_batch::judge_in_batch;
 use crate::laws;
-use keyspace::{Batch, Entry, Ranks};
+use keyspace::{Batch, Entry};
 use std::alloc::{AllocError, Global};
 use stepmap::{Asked, StepMap};
 
@@ -24,18 +23,17 @@ pub fn judge_batch(
     gaps: &mut Gaps,
     oldest: i64,
     batch: &Batch,
-    ranks: Ranks<'_>,
 ) -> Result<Vec<Entry>, AllocError>
     requires late { steps.now.edge ≤ℤ oldest }
-    requires ranked { AreRanked batch.now.txns ranks.ends.now ranks.runs.now }
     ensures judged { IfOk result (λ entries. (ws : List Write) → MapCovers steps.now ws
         → entries.items ≡ judge_txns oldest ws [] batch.now.txns) }
     ensures count { IfOk result (λ entries. length entries.items ≡ length batch.now.txns) }
 {
     laws::history_first();
     let mut entries = judge_all_by_history(alloc, steps, oldest, batch)?;
-    gaps.reset(ranks.ends.len())?;
-    judge_in_batch(alloc, batch, ranks.runs, gaps, &mut entries)?;
+    let ranks = batch.txns.ranks();
+    gaps.reset(ranks.begins())?;
+    judge_in_batch(alloc, batch, ranks.runs(), gaps, &mut entries)?;
     Ok(entries)
 }
 
