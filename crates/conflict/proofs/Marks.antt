@@ -7,7 +7,7 @@ use Rattle.keyspace.specs.declared.reply.Verdict.TheVariants.{Conflict, TooOld, 
 use Rattle.keyspace.specs.declared.txn.Txn.{Txn}
 use Rattle.keyspace.specs.declared.reply.Entry.{Entry}
 use Rattle.keyspace.specs.Writes.{counted, committed}
-use Rattle.keyspace.specs.Ends.{ranges_in, ranges_of_txn}
+use Rattle.keyspace.specs.BatchRanges.{ranges_in, ranges_of_txn}
 use Rattle.conflict.specs.Union.{picked}
 use Rattle.conflict.proofs.JudgedTo.{committed_push}
 

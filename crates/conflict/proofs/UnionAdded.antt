@@ -12,10 +12,9 @@ use Rattle.keys.specs.declared.range.Range.{Range}
 use Rattle.keys.proofs.KeyOrder.{at_most_itself, before_at_most, before_at_most_same, before_or_at_most, at_most_trans, not_both}
 use Rattle.keys.proofs.Meeting.{before_unless_empty}
 use Rattle.keys.proofs.SomeElement.{Any-longer, Any-push_cases}
-use Rattle.keyspace.specs.Ends.{IsEndIn}
 use Rattle.stepmap.specs.Writing.{AreApart}
 use Rattle.stepmap.specs.Counting.{filled_count}
-use Rattle.stepmap.specs.Uniting.{Unites}
+use Rattle.stepmap.specs.Uniting.{IsEndIn, Unites}
 use Rattle.conflict.specs.declared.union.Span.{Span}
 use Rattle.conflict.specs.Union.{AreSpanned, AreUnited, Spans}
 use Rattle.conflict.proofs.Parts.{all_split}

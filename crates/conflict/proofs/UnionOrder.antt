@@ -17,9 +17,8 @@ use Rattle.keys.proofs.Filled.{filled_at}
 use Rattle.keys.proofs.KeyOrder.{not_both}
 use Rattle.keys.proofs.Meeting.{before_unless_empty}
 use Rattle.keys.proofs.SomeElement.{Any-cases, Any-first, Any-later, Any-left, Any-none, Any-parts, Any-right}
-use Rattle.keyspace.specs.Ends.{IsEndIn}
 use Rattle.stepmap.specs.Counting.{filled_count}
-use Rattle.stepmap.specs.Uniting.{Unites}
+use Rattle.stepmap.specs.Uniting.{IsEndIn, Unites}
 use Rattle.conflict.specs.Union.{picked}
 
 -- the range, if there is one

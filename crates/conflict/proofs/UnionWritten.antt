@@ -55,8 +55,11 @@ spanned_same ranges (x ∷ spans) (a ∷ us) (b ∷ vs) su sv = (
   spanned_same ranges spans us vs su.1 sv.1,
 )
 
-module _ (ranges : List Range) (spans : List Span) (written : List Range)
-    (one : (united : List Range) × AreSpanned ranges spans united × Unites united written) where
+-- the spans are those of ranges that unite the ones written
+abbrev pub IsUnion : List Range → List Span → List Range → Type 0
+IsUnion ranges spans written = (united : List Range) × AreSpanned ranges spans united × Unites united written
+
+module _ (ranges : List Range) (spans : List Span) (written : List Range) (one : IsUnion ranges spans written) where
   pub spanned : (united : List Range) × AreSpanned ranges spans united
   spanned = (one.0, one.1)
 

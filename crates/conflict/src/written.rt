@@ -2,7 +2,7 @@
 
 ghost use Rattle.std.specs.Prelude.{◌≡◌, length, OnOk};
 ghost use Rattle.keyspace.specs.Writes.{committed};
-ghost use Rattle.keyspace.specs.Ends.{ranges_in};
+ghost use Rattle.keyspace.specs.BatchRanges.{ranges_in};
 ghost use Rattle.conflict.specs.Union.{picked};
 
 use keyspace::{Batch, Entry, Verdict};

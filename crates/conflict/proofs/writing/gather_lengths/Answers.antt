@@ -4,12 +4,12 @@ use Rattle.stepmap.specs.StepMap.{lengths}
 use Rattle.conflict.proofs.Spanned.{spanned_at, spanned_count, lengths_same, map_next}
 use Rattle.conflict.proofs.writing.gather_lengths.Goals as goal
 
-pub range_of-requires-clause-spans : goal.range_of-requires-clause-spans
-range_of-requires-clause-spans g c =
+pub range_of-requires : goal.range_of-requires
+range_of-requires g c =
     let ranges = g.L.RangeList.ranges c.args.ranges.now in
     let at = spanned_at ranges c.args.spans.now c.requires.spanned.0 c.requires.spanned.1 c.loop-span.span-index
     (record { begin = 0; end = 0 }) c.loop-span-test.true in
-    (at.0, at.2)
+    record { spans = (at.0, at.2) }
 
 pub loop-span-preserved : goal.loop-span-preserved
 loop-span-preserved g c =

@@ -12,11 +12,11 @@ found g c =
     let lookup = c.in-Some.ensures.lookup in
     slice_get-get_or c.args.spans.now c.args.index c.in-Some.span.now (omega arith) ∙ ap Some (sym lookup.1)
 
-pub range_of-requires-clause-spans : goal.range_of-requires-clause-spans
-range_of-requires-clause-spans g c =
+pub range_of-requires : goal.range_of-requires
+range_of-requires g c =
     let at = span_at (g.L.RangeList.ranges c.args.ranges.now) c.args.spans.now c.requires.spanned.0 c.requires.spanned.1
-    c.args.index c.in-Some.span.now (found g (goal.at.range_of-requires-clause-spans g c).In-Some) in
-    (at.0, at.2)
+    c.args.index c.in-Some.span.now (found g (goal.at.range_of-requires g c).In-Some) in
+    record { spans = (at.0, at.2) }
 
 pub returns-in-Some : goal.returns-in-Some
 returns-in-Some g c = record {
