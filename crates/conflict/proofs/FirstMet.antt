@@ -40,11 +40,9 @@ use Rattle.keyspace.specs.Writes.{counted}
 use Rattle.keyspace.specs.Judge.{meets_earlier, places_from, in_conflict_at}
 use Rattle.keyspace.proofs.Judging.{entry_same}
 use Rattle.conflict.specs.InBatch.{first_met, unless_met, by_verdict, in_batch}
-use Rattle.keyspace.specs.Ranks.{run_or_none}
-use Rattle.conflict.specs.Ranks.{RunsTellOverlap}
-use Rattle.keyspace.specs.Ends.{HaveEnds}
+use Rattle.keys.specs.Ranks.{HaveBegin, run_or_none}
 use Rattle.conflict.specs.Gaps.{SomeMarked}
-use Rattle.conflict.specs.Written.{AreWrittenGaps, TellRuns}
+use Rattle.conflict.specs.Written.{AreWrittenGaps, RunsTellOverlap, TellRuns}
 use Rattle.conflict.proofs.Written.{any_marked_is_met}
 
 module _ {X Y : Type 0} (Yes No : Y → Type 0) (f : X → Y) (test : X → Bool) where
@@ -88,17 +86,17 @@ module _ {X Y : Type 0} (Yes No : Y → Type 0) (f : X → Y) (test : X → Bool
   first_passes (x ∷ xs) tested r first = first_in x (x ∷ xs) (omega arith) tested r first
 
 module _ (keys : List (List ℕ)) (tells : RunsTellOverlap) (marks : List Bool) (written : List Range)
-    (told : AreWrittenGaps keys marks written) (have : All (HaveEnds keys) written) where
+    (told : AreWrittenGaps keys marks written) (have : All (HaveBegin keys) written) where
   abbrev SomeIn : ℕ × ℕ → Type 0
   SomeIn r = SomeMarked marks r.0 r.1
 
-  marked_tests : (ranges : List Range) → All (HaveEnds keys) ranges
+  marked_tests : (ranges : List Range) → All (HaveBegin keys) ranges
       → AreTested SomeIn (λ r. ¬ SomeIn r) (run_or_none keys) (meets_earlier written) ranges
-  marked_tests ranges ends i d inside =
+  marked_tests ranges begins i d inside =
       let range = get_or ranges i d in (
-        λ some. sym (any_marked_is_met keys tells marks written range true (ends i d inside)
+        λ some. sym (any_marked_is_met keys tells marks written range true (begins i d inside)
             (λ _. some, λ _. refl) told have),
-        λ none. sym (any_marked_is_met keys tells marks written range false (ends i d inside)
+        λ none. sym (any_marked_is_met keys tells marks written range false (begins i d inside)
             (λ t. absurd (true≢false (sym t)), λ some. absurd (none some)) told have),
       )
 
@@ -109,7 +107,7 @@ module _ (keys : List (List ℕ)) (tells : RunsTellOverlap) (marks : List Bool) 
       → r ≡ position (meets_earlier written) ranges
   first_marked runs ranges tell r first =
       first_passes SomeIn (λ r. ¬ SomeIn r) (run_or_none keys) (meets_earlier written) ranges
-      (marked_tests ranges tell.have_ends) r
+      (marked_tests ranges tell.have_begins) r
       (subst (λ (rs : List (ℕ × ℕ)). MatchOption r (AllWithin (λ r. ¬ SomeIn r) rs 0 (length rs))
       (λ i. (i < length rs) × HoldsAt SomeIn rs i × AllWithin (λ r. ¬ SomeIn r) rs 0 i)) tell.are_runs first)
 

@@ -23,7 +23,7 @@ use Rattle.std.proofs.Common.{
   append-nil,
 }
 use Rattle.std.specs.Prelude.{All}
-use Rattle.std.proofs.lemmas.List.{take_more, take_more_set, drop_more, drop-set-lt, length-take, take_all}
+use Rattle.std.proofs.lemmas.List.{take_more, take_more_set, drop_more, drop-set-lt, length-take}
 use Rattle.std.proofs.lemmas.List.Elements.{All-nil, All-append}
 use Rattle.keys.specs.declared.range.Range.{Range}
 use Rattle.keyspace.specs.declared.txn.Txn.{Txn}
@@ -31,7 +31,8 @@ use Rattle.keyspace.specs.declared.reply.Verdict.{Verdict}
 use Rattle.keyspace.specs.declared.reply.Verdict.TheVariants.{Conflict, TooOld, Committed}
 use Rattle.keyspace.specs.declared.reply.Entry.{Entry}
 use Rattle.keyspace.specs.Writes.{counted, committed}
-use Rattle.keyspace.specs.Ends.{ranges_of_txn, ranges_in, HaveEnds}
+use Rattle.keys.specs.Ranks.{HaveBegin}
+use Rattle.keyspace.specs.BatchRanges.{ranges_of_txn, ranges_in}
 use Rattle.conflict.specs.InBatch.{in_batch, in_batches}
 use Rattle.conflict.specs.Written.{AreWrittenGaps, TellRuns}
 use Rattle.conflict.proofs.Parts.{all_split}
@@ -40,7 +41,7 @@ use Rattle.conflict.proofs.Written.{no_more_written}
 use Rattle.conflict.proofs.FirstMet.{none_counted, closed_entry}
 
 -- one more transaction that is judged
-committed_push : (ts : List Txn) (es : List Entry) (t : Txn) (e : Entry) → length ts ≡ length es
+pub committed_push : (ts : List Txn) (es : List Entry) (t : Txn) (e : Entry) → length ts ≡ length es
     → committed (ts ++ t ∷ []) (es ++ e ∷ []) ≡ committed ts es ++ counted e.verdict t.writes
 committed_push [] [] t e same = append-nil (counted e.verdict t.writes)
 committed_push [] (f ∷ es) t e same = absurd (omega arith)
@@ -62,7 +63,7 @@ module _ (keys : List (List ℕ)) (whole : List Entry) where
       (es : List Entry) : Type 0 where
     pub judged : ds ++ in_batches (committed ts ds) us es ≡ whole
     pub marked : AreWrittenGaps keys marks (committed ts ds)
-    pub have_ends : All (HaveEnds keys) (committed ts ds)
+    pub have_begins : All (HaveBegin keys) (committed ts ds)
     pub left : TellRuns keys runs (ranges_in us)
 
   module _ (runs : List (ℕ × ℕ)) (marks : List Bool) (ts us : List Txn) (ds es : List Entry) (t : Txn) (e : Entry)
@@ -86,9 +87,9 @@ module _ (keys : List (List ℕ)) (whole : List Entry) where
               ∙ ap (λ (d : Entry). ds ++ d ∷ rest d) is
               ∙ so_far.judged;
           marked = rw writes marked;
-          have_ends = rw writes (All-append (HaveEnds keys) before _ so_far.have_ends
-              (all_counted (HaveEnds keys) d.verdict t.writes
-              (all_split (HaveEnds keys) t.reads t.writes left_split.0.have_ends).1));
+          have_begins = rw writes (All-append (HaveBegin keys) before _ so_far.have_begins
+              (all_counted (HaveBegin keys) d.verdict t.writes
+              (all_split (HaveBegin keys) t.reads t.writes left_split.0.have_begins).1));
           left = left_split.1;
         }
 
@@ -99,15 +100,6 @@ module _ (keys : List (List ℕ)) (whole : List Entry) where
 
   module _ (i : ℕ) (runs : List (ℕ × ℕ)) (marks : List Bool) (txns : List Txn) (entries : List Entry)
       (so_far : JudgedBelow i runs marks txns entries) where
-    -- in the end what is written is marked, and the keys have its ends
-    pub all_marked : length txns ≤ i → length entries ≤ i → AreWrittenGaps keys marks (committed txns entries)
-    all_marked txns_end entries_end =
-        rw (take_all i txns txns_end, take_all i entries entries_end) at so_far.marked
-
-    pub all_have_ends : length txns ≤ i → length entries ≤ i → All (HaveEnds keys) (committed txns entries)
-    all_have_ends txns_end entries_end =
-        rw (take_all i txns txns_end, take_all i entries entries_end) at so_far.have_ends
-
     module _ (t : Txn) (inside : i < length txns) (is_next : t ≡ get_or txns i t) where
       txns_left : drop i txns ≡ t ∷ drop (i + 1) txns
       txns_left = drop_more txns i t inside ∙ ap (λ u. u ∷ drop (i + 1) txns) (sym is_next)
@@ -132,9 +124,9 @@ module _ (keys : List (List ℕ)) (whole : List Entry) where
 
         -- the next one is judged, after what is written so far
         pub next_judged : (d : Entry) (new : List Bool)
-            → ((written : List Range) → AreWrittenGaps keys marks written → All (HaveEnds keys) written
+            → ((written : List Range) → AreWrittenGaps keys marks written → All (HaveBegin keys) written
             → d ≡ in_batch written t e)
-            → ((written : List Range) → AreWrittenGaps keys marks written → All (HaveEnds keys) written
+            → ((written : List Range) → AreWrittenGaps keys marks written → All (HaveBegin keys) written
             → AreWrittenGaps keys new (written ++ counted d.verdict t.writes))
             → JudgedBelow (i + 1) (drop (length (ranges_of_txn t)) runs) new txns (set entries i d)
         next_judged d new judges marks_more =
@@ -145,7 +137,7 @@ module _ (keys : List (List ℕ)) (whole : List Entry) where
             let entries_from = drop-set-lt (i + 1) entries i d (omega arith) in
             rw (txns_to, entries_to, entries_from) (one_more_judged _ _ _ _ _ _ _ _ next d new
             (omega (arith, length-take i txns, length-take i entries))
-            (judges before so_far.marked so_far.have_ends) (marks_more before so_far.marked so_far.have_ends))
+            (judges before so_far.marked so_far.have_begins) (marks_more before so_far.marked so_far.have_begins))
 
         -- one that the history doesn't let commit stays, and writes nothing
         pub closed_judged : (e.verdict ≡ Committed → ⊥)

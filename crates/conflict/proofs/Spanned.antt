@@ -1,23 +1,22 @@
--- The ranges that runs span, one after the other.
-use Rattle.std.proofs.Common.{◌≡◌, ℕ, zero, suc, ◌+◌, ◌<◌, List, [], ◌∷◌, ◌++◌, length, take, drop, map, get_or, add-one, sym, ap, ◌∙◌}
+-- The ranges that spans name, one after the other.
+use Rattle.std.proofs.Common.{◌≡◌, ℕ, zero, suc, ◌+◌, ◌<◌, List, [], ◌∷◌, ◌++◌, length, take, drop, map, get_or, add-one, refl, sym, ap, subst, ◌∙◌}
 use Rattle.std.specs.Prelude.{Option, Some, slice_get, ℤ}
 use Rattle.std.proofs.lemmas.List.{map-append}
-use Rattle.std.proofs.lemmas.Option.{slice_get-get_or}
+use Rattle.std.proofs.lemmas.Option.{same_Some, slice_get-get_or}
+use Rattle.std.specs.List.{AllZip}
 use Rattle.keys.specs.Range.{IsEmpty}
 use Rattle.keys.specs.declared.range.Range.{Range}
 use Rattle.stepmap.specs.StepMap.{Steps, lengths}
 use Rattle.stepmap.specs.Boundary.{below, from_on, value_at}
 use Rattle.stepmap.specs.Writing.{closed_at, after_write}
+use Rattle.conflict.specs.declared.union.Span.{Span}
 use Rattle.conflict.specs.Union.{Spans, AreSpanned}
 
 -- the first i elements, and the next
 pub take_next : {X : Type 0} (xs : List X) (i : ℕ) (x : X) → slice_get xs i ≡ Some x
     → take (suc i) xs ≡ take i xs ++ x ∷ []
 take_next [] i x at = cc
-take_next (y ∷ ys) zero x at = ap (λ z. z ∷ []) (Some_same y x at)
-  where
-    Some_same : {X : Type 0} (a b : X) → Some a ≡ Some b → a ≡ b
-    Some_same a b e = cc
+take_next (y ∷ ys) zero x at = ap (λ z. z ∷ []) (same_Some y x at)
 take_next (y ∷ ys) (suc i) x at = ap (λ l. y ∷ l) (take_next ys i x at)
 
 pub map_next : {X Y : Type 0} (f : X → Y) (xs : List X) (i : ℕ) (x : X) → slice_get xs i ≡ Some x
@@ -26,23 +25,82 @@ map_next f xs i x at =
     ap (λ n. map f (take n xs)) (add-one i) ∙ ap (map f) (take_next xs i x at)
     ∙ map-append f (take i xs) (x ∷ [])
 
--- the range that the run at an index spans
-pub spanned_at : {keys : List (List ℕ)} {runs : List (ℕ × ℕ)} {united : List Range}
-    → AreSpanned keys runs united → (i : ℕ) → i < length runs
-    → (range : Range) × (slice_get united i ≡ Some range) × Spans keys (get_or runs i (0, 0)) range
-spanned_at {keys} {runs} {united} s i inside =
-    s.each i (get_or runs i (0, 0)) (slice_get-get_or runs i (0, 0) inside)
+-- there are as many ranges as spans
+pub spanned_count : (ranges : List Range) (spans : List Span) (united : List Range) → AreSpanned ranges spans united
+    → length united ≡ length spans
+spanned_count ranges [] [] s = refl
+spanned_count ranges [] (u ∷ united) s = absurd s
+spanned_count ranges (x ∷ spans) [] s = absurd s
+spanned_count ranges (x ∷ spans) (u ∷ united) s = ap suc (spanned_count ranges spans united s.1)
 
--- two ranges that span the same run have the same keys
-module _ {keys : List (List ℕ)} {run : ℕ × ℕ} {a b : Range} (sa : Spans keys run a) (sb : Spans keys run b) where
+-- the range of a span
+pub span_at : (ranges : List Range) (spans : List Span) (united : List Range) → AreSpanned ranges spans united
+    → (i : ℕ) (span : Span) → slice_get spans i ≡ Some span
+    → (range : Range) × (slice_get united i ≡ Some range) × Spans ranges span range
+span_at ranges [] united s i span at = cc
+span_at ranges (x ∷ spans) [] s i span at = absurd s
+span_at ranges (x ∷ spans) (u ∷ united) s zero span at =
+    (u, refl, subst (λ x. Spans ranges x u) (same_Some x span at) s.0)
+span_at ranges (x ∷ spans) (u ∷ united) s (suc i) span at = span_at ranges spans united s.1 i span at
+
+-- the same by an index within
+pub spanned_at : (ranges : List Range) (spans : List Span) (united : List Range) → AreSpanned ranges spans united
+    → (i : ℕ) (d : Span) → i < length spans
+    → (range : Range) × (slice_get united i ≡ Some range) × Spans ranges (get_or spans i d) range
+spanned_at ranges spans united s i d inside =
+    span_at ranges spans united s i (get_or spans i d) (slice_get-get_or spans i d inside)
+
+-- the last span and its range, and the others
+pub record LastSpanned (ranges : List Range) (front : List Span) (last : Span) (united : List Range) : Type 0 where
+  pub ranges_front : List Range
+  pub range : Range
+  pub is : united ≡ ranges_front ++ range ∷ []
+  pub spanned : AreSpanned ranges front ranges_front
+  pub spans : Spans ranges last range
+
+pub last_spanned : (ranges : List Range) (front : List Span) (last : Span) (united : List Range)
+    → AreSpanned ranges (front ++ last ∷ []) united → LastSpanned ranges front last united
+last_spanned ranges [] last [] s = absurd s
+last_spanned ranges [] last (u ∷ []) s =
+    record { ranges_front = []; range = u; is = refl; spanned = tt; spans = s.0 }
+last_spanned ranges [] last (u ∷ v ∷ united) s = absurd s.1
+last_spanned ranges (x ∷ front) last [] s = absurd s
+last_spanned ranges (x ∷ front) last (u ∷ united) s =
+    let rest = last_spanned ranges front last united s.1 in
+    record {
+      ranges_front = u ∷ rest.ranges_front;
+      range = rest.range;
+      is = ap (λ us. u ∷ us) rest.is;
+      spanned = (s.0, rest.spanned);
+      spans = rest.spans;
+    }
+
+-- one more
+pub spanned_push : (ranges : List Range) (spans : List Span) (united : List Range) (span : Span) (range : Range)
+    → AreSpanned ranges spans united → Spans ranges span range
+    → AreSpanned ranges (spans ++ span ∷ []) (united ++ range ∷ [])
+spanned_push ranges [] [] span range s one = (one, tt)
+spanned_push ranges [] (u ∷ united) span range s one = absurd s
+spanned_push ranges (x ∷ spans) [] span range s one = absurd s
+spanned_push ranges (x ∷ spans) (u ∷ united) span range s one =
+    (s.0, spanned_push ranges spans united span range s.1 one)
+
+-- two ranges that a span names have the same keys
+module _ {ranges : List Range} {span : Span} {a b : Range} (sa : Spans ranges span a) (sb : Spans ranges span b) where
   some_same : {X : Type 0} (o : Option X) (x y : X) → o ≡ Some x → o ≡ Some y → x ≡ y
   some_same o x y ex ey = cc
 
   pub begins_same : a.begin ≡ b.begin
-  begins_same = some_same (slice_get keys run.0) a.begin b.begin sa.begin sb.begin
+  begins_same =
+      sym sa.begins.2
+      ∙ ap (λ (r : Range). r.begin) (some_same (slice_get ranges span.begin) sa.begins.0 sb.begins.0 sa.begins.1 sb.begins.1)
+      ∙ sb.begins.2
 
   pub ends_same : a.end ≡ b.end
-  ends_same = some_same (slice_get keys run.1) a.end b.end sa.end sb.end
+  ends_same =
+      sym sa.ends.2
+      ∙ ap (λ (r : Range). r.end) (some_same (slice_get ranges span.end) sa.ends.0 sb.ends.0 sa.ends.1 sb.ends.1)
+      ∙ sb.ends.2
 
   pub lengths_same : lengths a ≡ lengths b
   lengths_same = ap (λ key. (length key, length a.end)) begins_same

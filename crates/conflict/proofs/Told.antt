@@ -30,12 +30,11 @@ use Rattle.std.proofs.lemmas.List.Elements.{All-map}
 use Rattle.std.proofs.Math.Seq.{take-append_seam, drop-append_seam}
 use Rattle.keys.specs.declared.range.Range.{Range}
 use Rattle.keys.specs.Range.{is_filled}
-use Rattle.keyspace.specs.Ranks.{run, run_or_none, runs_of}
-use Rattle.conflict.specs.Ranks.{HasGap}
-use Rattle.keyspace.specs.Ends.{HaveEnds}
+use Rattle.keys.specs.Ranks.{HaveBegin, run, run_or_none, runs_of}
+use Rattle.keys.specs.Gaps.{HasGap}
 use Rattle.conflict.specs.Written.{AreRunsWithin, TellRuns}
-use Rattle.keyspace.proofs.Ranking.{before_unless_empty}
-use Rattle.conflict.proofs.Ranks.{filled_from_gap, runs_are_within}
+use Rattle.keys.proofs.Meeting.{before_unless_empty}
+use Rattle.keys.proofs.Runs.{filled_from_gap, runs_are_within}
 use Rattle.conflict.proofs.Parts.{all_split}
 
 -- the element at an index, whatever is read past the end
@@ -85,17 +84,17 @@ module _ (keys : List (List ℕ)) where
   pub told_split : (runs : List (ℕ × ℕ)) (first others : List Range) → TellRuns keys runs (first ++ others)
       → TellRuns keys (take (length first) runs) first × TellRuns keys (drop (length first) runs) others
   told_split runs first others told =
-      let both = all_split (HaveEnds keys) first others told.have_ends in
+      let both = all_split (HaveBegin keys) first others told.have_begins in
       let long : length first ≡ length (runs_of keys first) = sym (length-map first (run_or_none keys)) in
       let is = told.are_runs ∙ map-append (run_or_none keys) first others in (
         record {
-          have_ends = both.0;
+          have_begins = both.0;
           are_runs = ap (take (length first)) is
               ∙ ap (λ n. take n (runs_of keys first ++ runs_of keys others)) long
               ∙ take-append_seam (runs_of keys first) (runs_of keys others);
         },
         record {
-          have_ends = both.1;
+          have_begins = both.1;
           are_runs = ap (drop (length first)) is
               ∙ ap (λ n. drop n (runs_of keys first ++ runs_of keys others)) long
               ∙ drop-append_seam (runs_of keys first) (runs_of keys others);

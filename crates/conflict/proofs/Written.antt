@@ -26,16 +26,14 @@ use Rattle.std.proofs.Common.{
 use Rattle.std.specs.Prelude.{IsTrue, All}
 use Rattle.std.proofs.lemmas.Bool.Decides.{same_from_decides}
 use Rattle.std.proofs.lemmas.List.{take_more}
-use Rattle.std.proofs.lemmas.List.Elements.{All-weaker}
 use Rattle.std.proofs.lemmas.List.Quantifiers.{Any-push}
 use Rattle.keys.specs.declared.range.Range.{Range}
 use Rattle.keyspace.specs.Judge.{meets_earlier}
 use Rattle.keys.proofs.SomeElement.{Any-longer, Any-push_cases}
-use Rattle.keyspace.specs.Ranks.{run, run_or_none}
-use Rattle.conflict.specs.Ranks.{HasGap, HaveBegin, RunsTellOverlap}
-use Rattle.keyspace.specs.Ends.{HaveEnds}
+use Rattle.keys.specs.Ranks.{HaveBegin, run, run_or_none}
+use Rattle.keys.specs.Gaps.{HasGap}
 use Rattle.conflict.specs.Gaps.{IsInRun, IsMarked, SomeMarked}
-use Rattle.conflict.specs.Written.{AreWrittenGaps, TellRuns}
+use Rattle.conflict.specs.Written.{AreWrittenGaps, RunsTellOverlap, TellRuns}
 use Rattle.conflict.proofs.Told.{same_gaps, told_at}
 
 module _ (keys : List (List ℕ)) where
@@ -87,14 +85,12 @@ module _ (keys : List (List ℕ)) where
 
   -- whether a gap in a range's run is marked tells whether it overlaps a written range
   pub any_marked_is_met : RunsTellOverlap → (marks : List Bool) (written : List Range) (range : Range) (b : Bool)
-      → HaveEnds keys range
+      → HaveBegin keys range
       → IsTrue b ↔ SomeMarked marks (run_or_none keys range).0 (run_or_none keys range).1
-      → AreWrittenGaps keys marks written → All (HaveEnds keys) written → b ≡ meets_earlier written range
+      → AreWrittenGaps keys marks written → All (HaveBegin keys) written → b ≡ meets_earlier written range
   any_marked_is_met tells marks written range b own says told have =
-      let begins =
-      All-weaker (HaveEnds keys) (HaveBegin keys) (λ w ends filled. (ends filled).0) written have in
       let same = same_gaps keys range in
       same_from_decides b (meets_earlier written range) (
         λ t. let m = says.0 t in (m.0, (same m.0).0 m.1, (told m.0).0 m.2),
         λ g. says.1 (g.0, (same g.0).1 g.1, (told g.0).1 g.2),
-      ) (tells keys range written (λ filled. (own filled).0) begins)
+      ) (tells keys range written own have)

@@ -1,9 +1,9 @@
--- The gaps that written ranges cover. This project's own.
-use Rattle.std.specs.Prelude.{◌≡◌, ℕ, ◌≤◌, ◌↔◌, Bool, List, All, Any}
+-- The gaps that written ranges cover, and what they tell of reads. This project's own.
+use Rattle.std.specs.Prelude.{◌≡◌, ℕ, ◌≤◌, ◌↔◌, Bool, List, All, Any, IsTrue}
 use Rattle.keys.specs.declared.range.Range.{Range}
-use Rattle.keyspace.specs.Ranks.{run, runs_of}
-use Rattle.conflict.specs.Ranks.{HasGap}
-use Rattle.keyspace.specs.Ends.{HaveEnds}
+use Rattle.keys.specs.Ranks.{HaveBegin, run, runs_of}
+use Rattle.keys.specs.Gaps.{HasGap}
+use Rattle.keyspace.specs.Judge.{meets_earlier}
 use Rattle.conflict.specs.Gaps.{IsMarked}
 
 -- a gap is marked exactly if the run of one of the written ranges has it
@@ -15,7 +15,16 @@ AreWrittenGaps keys marks written =
 abbrev pub AreRunsWithin : ℕ → List (ℕ × ℕ) → Type 0
 AreRunsWithin count runs = All (λ run. (run.0 ≤ run.1) × (run.1 ≤ count)) runs
 
--- the keys have the ends of the ranges, and the runs are those of the ranges among the keys
+-- the keys have the begins of the ranges, and the runs are those of the ranges among the keys
 pub record TellRuns (keys : List (List ℕ)) (runs : List (ℕ × ℕ)) (ranges : List Range) : Type 0 where
-  pub have_ends : All (HaveEnds keys) ranges
+  pub have_begins : All (HaveBegin keys) ranges
   pub are_runs : runs ≡ runs_of keys ranges
+
+-- among the keys that have their begins, a range overlaps one of a list exactly if the run of one of these has a gap of
+-- its run
+abbrev pub RunsTellOverlap : Type 0
+RunsTellOverlap =
+    (keys : List (List ℕ)) (a : Range) (ranges : List Range) → HaveBegin keys a →
+    All (HaveBegin keys) ranges →
+    IsTrue (meets_earlier ranges a) ↔ ((gap : ℕ) × HasGap (run keys a) gap
+    × Any (λ range. HasGap (run keys range) gap) ranges)

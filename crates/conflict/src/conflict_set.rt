@@ -192,10 +192,9 @@ fn resolve_at(
         → (steps.new.boundaries ≡ steps.old.boundaries)
         ⊎ HasRoomToWrite (raised edge steps.old) (committed batch.now.txns entries) }
 {
-    let ranks = batch.txns.ranks();
-    let entries = judge_batch(alloc, steps, &mut scratch.gaps, edge, batch, ranks)?;
+    let entries = judge_batch(alloc, steps, &mut scratch.gaps, edge, batch)?;
     steps.raise(edge);
-    let count = write_batch(steps, scratch, batch, ranks.ends)?;
+    let count = write_batch(steps, scratch, batch, &entries)?;
     steps.sweep(3 * count + 10);
     Ok(Reply::new(batch.version, Sequence::new(entries)))
 }

@@ -3,10 +3,11 @@
 ghost use Rattle.std.specs.Prelude.{◌≡◌, ◌<◌, ◌≤◌, ◌∷◌, ◌++◌, ℕ, List, [], length, position, if◌then◌else◌};
 ghost use Rattle.std.specs.Prelude.{All, IfOk, IfSome, OnOk, take, drop};
 ghost use Rattle.keys.specs.declared.range.Range.{Range};
+ghost use Rattle.keys.specs.Ranks.{HaveBegin};
 ghost use Rattle.keyspace.specs.declared.reply.Verdict.TheVariants.{Committed};
-ghost use Rattle.keyspace.specs.Writes.{committed, counted};
+ghost use Rattle.keyspace.specs.Writes.{counted};
 ghost use Rattle.keyspace.specs.Judge.{meets_earlier};
-ghost use Rattle.keyspace.specs.Ends.{ranges_in, HaveEnds};
+ghost use Rattle.keyspace.specs.BatchRanges.{ranges_in};
 ghost use Rattle.conflict.specs.Gaps.{IsMarked};
 ghost use Rattle.conflict.specs.Written.{AreWrittenGaps, AreRunsWithin, TellRuns};
 ghost use Rattle.conflict.specs.InBatch.{in_batch, in_batches};
@@ -17,8 +18,8 @@ use keyspace::{Batch, Entry, Places, Txn, Verdict};
 use std::alloc::{AllocError, Global};
 
 /// Judges in order each transaction that the history lets commit, after what the transactions before it write that
-/// commit. The runs are those of the ranges of all transactions, in order. The gaps say in the end what the batch
-/// writes. After an error, which says that memory was refused, the entries and the gaps are unspecified.
+/// commit. The runs are those of the ranges of all transactions, in order. After an error, which says that memory was
+/// refused, the entries are unspecified.
 pub fn judge_in_batch(
     alloc: Global,
     batch: &Batch,
@@ -31,11 +32,6 @@ pub fn judge_in_batch(
         × TellRuns keys runs.now (ranges_in batch.now.txns) }
     requires unmarked { (gap : ℕ) → ¬ IsMarked gaps.old gap }
     ensures judged { OnOk result (entries.new ≡ in_batches [] batch.now.txns entries.old) }
-    ensures count { length gaps.new ≡ length gaps.old }
-    ensures marked { OnOk result ((keys : List (List ℕ)) → length gaps.old ≡ length keys
-        → TellRuns keys runs.now (ranges_in batch.now.txns)
-        → AreWrittenGaps keys gaps.new (committed batch.now.txns entries.new)
-        × All (HaveEnds keys) (committed batch.now.txns entries.new)) }
 {
     let mut rest = runs;
     for (index, txn) in batch.txns.as_slice().iter().enumerate() {
@@ -63,12 +59,12 @@ fn judge_open(
     requires within { AreRunsWithin (length gaps.old) runs.now }
     ensures judged { OnOk result ((keys : List (List ℕ)) (written : List Range)
         → TellRuns keys runs.now (txn.now.reads ++ txn.now.writes)
-        → AreWrittenGaps keys gaps.old written → All (HaveEnds keys) written
+        → AreWrittenGaps keys gaps.old written → All (HaveBegin keys) written
         → entry.new ≡ in_batch written txn.now entry.old) }
     ensures count { length gaps.new ≡ length gaps.old }
     ensures marked { OnOk result ((keys : List (List ℕ)) (written : List Range)
         → TellRuns keys runs.now (txn.now.reads ++ txn.now.writes)
-        → AreWrittenGaps keys gaps.old written → All (HaveEnds keys) written
+        → AreWrittenGaps keys gaps.old written → All (HaveBegin keys) written
         → AreWrittenGaps keys gaps.new (written ++ counted entry.new.verdict txn.now.writes)) }
 {
     let (reads, writes) = runs.split_at(txn.reads.len());
@@ -84,7 +80,7 @@ fn judge_open(
 fn first_met(gaps: &Gaps, runs: &[(usize, usize)]) -> Option<usize>
     requires within { AreRunsWithin (length gaps.now) runs.now }
     ensures first { (keys : List (List ℕ)) (written ranges : List Range) → TellRuns keys runs.now ranges
-        → AreWrittenGaps keys gaps.now written → All (HaveEnds keys) written
+        → AreWrittenGaps keys gaps.now written → All (HaveBegin keys) written
         → result ≡ position (meets_earlier written) ranges }
     ensures within { IfSome result (λ place. place < length runs.now) }
 {

@@ -1,24 +1,17 @@
-//! Laws of runs, each the contract of a function that does nothing.
+//! Laws of runs and of the scan, each the contract of a function that does nothing.
 
-ghost use Rattle.conflict.specs.Ranks.{RunsTellMeeting, RunsTellOverlap, EmptyHasNoGap, RunsAreWithin};
+ghost use Rattle.conflict.specs.Written.{RunsTellOverlap};
 ghost use Rattle.conflict.specs.InBatch.{HistoryFirst};
-ghost use Rattle.conflict.specs.Union.{UnionOfRuns};
 
-/// Ranges overlap exactly if their runs have a gap in common, where the keys have the begins of those ranges that
-/// aren't empty.
+/// A range overlaps one of a list exactly if the run of one of these has a gap of its run, where the keys have the begins
+/// of those ranges that aren't empty.
 pub fn runs()
-    ensures meeting { RunsTellMeeting }
     ensures overlap { RunsTellOverlap }
-    ensures empty { EmptyHasNoGap }
-    ensures within { RunsAreWithin }
-{}
+{
+    keys::laws::runs();
+}
 
 /// The plain scan may ask the history for all transactions first, and then go through the batch in order.
 pub fn history_first()
     ensures scan { HistoryFirst }
-{}
-
-/// The runs of the gaps that ranges cover tell ranges that unite these.
-pub fn union()
-    ensures runs { UnionOfRuns }
 {}

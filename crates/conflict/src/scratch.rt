@@ -11,9 +11,11 @@ use stepmap::KeyLengths;
 pub struct Scratch {
     /// The gaps between the keys of its ranges that it writes.
     pub gaps: Gaps,
-    /// The runs of those gaps.
+    /// Whether it writes its ranges, in order.
+    pub written: Vec<bool>,
+    /// The ranges that it writes, united.
     pub union: Union,
-    /// The lengths of the keys of the ranges that the runs span.
+    /// The lengths of the keys of the united ranges.
     pub lengths: Vec<KeyLengths>,
 }
 
@@ -25,6 +27,7 @@ impl Scratch {
     {
         Scratch {
             gaps: Gaps::new(alloc),
+            written: Vec::new(alloc),
             union: Union::new(alloc),
             lengths: Vec::new(alloc),
         }

@@ -1,24 +1,39 @@
-//! The union of the ranges that a batch writes, as runs of gaps.
-ghost use Rattle.std.specs.Prelude.{◌≡◌, [], OnOk};
-ghost use Rattle.conflict.specs.Union.{AreMarkedRuns};
+//! The union of the ranges that a batch writes.
 
-use crate::gaps::Gaps;
+ghost use Rattle.std.specs.Prelude.{◌≡◌, ◌<◌, ◌++◌, ◌∷◌, List, [], length, All, OnOk, Some, slice_get};
+ghost use Rattle.keys.specs.Key.{IsAtMost};
+ghost use Rattle.keys.specs.Range.{IsEmpty};
+ghost use Rattle.keys.specs.Ranks.{AreInOrder};
+ghost use Rattle.keys.specs.declared.range.Range.{Range};
+ghost use Rattle.stepmap.specs.Uniting.{Unites};
+ghost use Rattle.conflict.specs.Union.{picked, AreSpanned, AreUnited};
+
+use keys::RangeList;
 use std::alloc::{AllocError, Global};
 use std::marker::Model;
 
-/// The runs of marked gaps, in order, each as long as it can be. Contracts see the list of the runs. The vector is kept
-/// for the next batch.
+/// A united range, from the begin of the one range to the end of the other.
+#[derive(Clone, Copy, Debug)]
+pub struct Span {
+    /// The index of the range that it begins with.
+    pub begin: usize,
+    /// The index of the range that it ends with.
+    pub end: usize,
+}
+
+/// The ranges that a batch writes, united. Contracts see the list of the spans. The vector is kept for the next batch.
 #[derive(Debug, Drop)]
 pub struct Union {
-    runs: Vec<(usize, usize)>,
+    spans: Vec<Span>,
 }
 
 impl Model for Union {
-    ghost use Rattle.std.specs.Prelude.{List, ℕ};
+    ghost use Rattle.std.specs.Prelude.{List};
+    ghost use Rattle.conflict.specs.declared.union.Span.{Span};
 
-    ghost Value = { List (ℕ × ℕ) };
+    ghost Value = { List Span };
 
-    ghost view = { λ u. u.runs.items };
+    ghost view = { λ u. u.spans.items };
 }
 
 impl Union {
@@ -27,29 +42,64 @@ impl Union {
         ensures empty { result ≡ [] }
     {
         Union {
-            runs: Vec::new(alloc),
+            spans: Vec::new(alloc),
         }
     }
 
-    /// Replaces the runs by those of the marked gaps. After an error the runs are unspecified, and the next call starts
-    /// anew.
-    pub fn gather(&mut self, gaps: &Gaps) -> Result<(), AllocError>
-        ensures runs { OnOk result (AreMarkedRuns gaps.now self.new) }
+    /// Replaces the spans by those of ranges that unite the ones marked as written. `order` lists the ranges that aren't empty
+    /// in the order of their begins. After an error the spans are unspecified, and the next call starts anew.
+    pub fn gather<L: RangeList>(
+        &mut self,
+        ranges: &L,
+        order: &[usize],
+        written: &[bool],
+    ) -> Result<(), AllocError>
+        requires in_order { AreInOrder (L.ranges ranges.now) order.now }
+        requires count { length written.now ≡ length (L.ranges ranges.now) }
+        ensures united { OnOk result ((united : List Range) × AreSpanned (L.ranges ranges.now) self.new united
+            × Unites united (picked written.now (L.ranges ranges.now))) }
     {
-        self.runs.clear();
-        let mut from = 0;
-        while let Some(run) = gaps.next_run(from) {
-            self.runs.push(run)?;
-            from = run.1;
+        self.spans.clear();
+        for index in order {
+            if written[*index] {
+                self.add(ranges, *index)?;
+            }
         }
         Ok(())
     }
 
-    /// Returns the runs, each as the index of its first gap and the index after its last. A run begins at the key of the
-    /// one index and ends at the key of the other.
-    pub fn runs(&self) -> &[(usize, usize)]
-        ensures runs { result.now ≡ self.now }
+    // Adds the range at the index, which doesn't begin before any that was added. It is united with the last span unless it
+    // begins behind the end of that.
+    fn add<L: RangeList>(&mut self, ranges: &L, index: usize) -> Result<(), AllocError>
+        requires within { index < length (L.ranges ranges.now) }
+        requires spanned { (united : List Range) × AreSpanned (L.ranges ranges.now) self.old united }
+        ensures added { OnOk result ((range : Range) (added : List Range)
+            → slice_get (L.ranges ranges.now) index ≡ Some range → ¬ IsEmpty range
+            → All (λ earlier. IsAtMost earlier.begin range.begin) added
+            → AreUnited (L.ranges ranges.now) self.old added
+            → AreUnited (L.ranges ranges.now) self.new (added ++ range ∷ [])) }
     {
-        &self.runs
+        let range = ranges.range(index);
+        if let Some(last) = self.spans.last_mut() {
+            let end = ranges.range(last.end).end();
+            if range.begin().cmp(end).is_le() {
+                if end.cmp(range.end()).is_lt() {
+                    last.end = index;
+                }
+                return Ok(());
+            }
+        }
+        self.spans.push(Span {
+            begin: index,
+            end: index,
+        })?;
+        Ok(())
+    }
+
+    /// Returns the spans, in the order of the ranges.
+    pub fn spans(&self) -> &[Span]
+        ensures spans { result.now ≡ self.now }
+    {
+        &self.spans
     }
 }

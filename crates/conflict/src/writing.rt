@@ -1,9 +1,9 @@
 //! The writing of what a batch commits, as ranges apart that hold the same keys.
 
 ghost use Rattle.std.specs.Prelude.{◌≡◌, ◌+◌, ◌*◌, ◌<◌, ◌≤◌, ◌≤ℤ◌, ◌⊎◌, List, ◌++◌, length, map};
-ghost use Rattle.std.specs.Prelude.{ℕ, OnOk, OnErr, IfOk, MatchOption, Err, Some, slice_get};
+ghost use Rattle.std.specs.Prelude.{OnOk, OnErr, IfOk, MatchOption, Err, Some, slice_get};
 ghost use Rattle.keys.specs.declared.range.Range.{Range};
-ghost use Rattle.keyspace.specs.Writes.{Write, at_version};
+ghost use Rattle.keyspace.specs.Writes.{Write, at_version, committed};
 ghost use Rattle.stepmap.specs.declared.step_map.TheConstants.{MAX_LIMIT};
 ghost use Rattle.stepmap.specs.StepMap as map_of;
 ghost use Rattle.stepmap.specs.Boundary.{AreUpTo};
@@ -14,159 +14,133 @@ ghost use Rattle.stepmap.specs.Rooted.{Rooted};
 ghost use Rattle.stepmap.specs.Rooted as rooted_by;
 ghost use Rattle.stepmap.specs.Uniting.{Unites};
 ghost use Rattle.stepmap.specs.Laws.{IsWriting};
-ghost use Rattle.keyspace.specs.Ranks.{AreRising};
-ghost use Rattle.keyspace.specs.Ends.{keys_of};
+ghost use Rattle.conflict.specs.declared.union.Span as span_type;
 ghost use Rattle.conflict.specs.Union.{Spans, AreSpanned};
-ghost use Rattle.conflict.specs.Judging.{TellWritten};
 ghost use Rattle.conflict.specs.ConflictSet.{IsOverLimit, IsOverLimitUnited, HasRoomToWrite, HasNoRoomToWrite};
 
 use crate::error::SetStop;
 use crate::scratch::Scratch;
-use keys::RangeRef;
-use keyspace::{Batch, End};
+use crate::union::Span;
+use crate::written::mark_written;
+use keys::{RangeList, RangeRef};
+use keyspace::{Batch, Entry};
 use std::alloc::AllocError;
 use stepmap::{KeyLengths, StepMap, laws};
 
-/// Writes what the batch commits, at its version, and returns the number of the ranges that it is united to. The gaps of
-/// `scratch` between the keys of the ends say what the batch commits.
+/// Writes what the batch commits, at its version, and returns the number of the ranges that it is united to. The entries are
+/// those of its transactions, in order.
 ///
 /// An error leaves the function as it was at and above the edge.
 pub fn write_batch(
     steps: &mut StepMap,
     scratch: &mut Scratch,
     batch: &Batch,
-    ends: &[End],
+    entries: &[Entry],
 ) -> Result<usize, SetStop>
-    requires told { (ranges : List Range)
-        × TellWritten (keys_of batch.now.txns ends.now) scratch.old.gaps ranges }
+    requires entries { length entries.now ≡ length batch.now.txns }
     requires newest { AreUpTo batch.now.version steps.old.boundaries }
     requires late { steps.old.edge ≤ℤ batch.now.version }
     ensures newest { OnOk result (AreUpTo batch.now.version steps.new.boundaries) }
     ensures edge { steps.new.edge ≡ steps.old.edge }
     ensures limit { steps.new.limit ≡ steps.old.limit }
     ensures few { IfOk result (λ count. 2 * count ≤ MAX_LIMIT) }
-    ensures united { IfOk result (λ count. (ranges : List Range)
-        → TellWritten (keys_of batch.now.txns ends.now) scratch.old.gaps ranges
-        → (united : List Range) × Unites united ranges × (length united ≡ count)) }
-    ensures covers { OnOk result ((ranges : List Range)
-        → TellWritten (keys_of batch.now.txns ends.now) scratch.old.gaps ranges
-        → (ws : List Write) → MapCovers steps.old ws
-        → MapCovers steps.new (ws ++ at_version batch.now.version ranges)) }
-    ensures rooted { OnOk result ((ranges : List Range)
-        → TellWritten (keys_of batch.now.txns ends.now) scratch.old.gaps ranges
-        → (ws : List Write) → Rooted steps.old ws
-        → Rooted steps.new (ws ++ at_version batch.now.version ranges)) }
-    ensures swept { IfOk result (λ count. (ranges : List Range)
-        → TellWritten (keys_of batch.now.txns ends.now) scratch.old.gaps ranges
-        → (ws : List Write) → Rooted steps.old ws
-        → rooted_by.Ends steps.new.boundaries (ws ++ at_version batch.now.version ranges) steps.old.edge
+    ensures united { IfOk result (λ count. (united : List Range)
+        × Unites united (committed batch.now.txns entries.now) × (length united ≡ count)) }
+    ensures covers { OnOk result ((ws : List Write) → MapCovers steps.old ws
+        → MapCovers steps.new (ws ++ at_version batch.now.version (committed batch.now.txns entries.now))) }
+    ensures rooted { OnOk result ((ws : List Write) → Rooted steps.old ws
+        → Rooted steps.new (ws ++ at_version batch.now.version (committed batch.now.txns entries.now))) }
+    ensures swept { IfOk result (λ count. (ws : List Write) → Rooted steps.old ws
+        → rooted_by.Ends steps.new.boundaries
+        (ws ++ at_version batch.now.version (committed batch.now.txns entries.now)) steps.old.edge
         ⊎ ((steps.new.round ≡ steps.old.round) × (rest steps.new ≤ rest steps.old + 2 * count))) }
     ensures still_covers { OnErr result ((ws : List Write) → MapCovers steps.old ws → MapCovers steps.new ws) }
     ensures still_rooted { OnErr result ((ws : List Write) → Rooted steps.old ws → Rooted steps.new ws) }
-    ensures full { result ≡ Err SetStop.ArenaFull → (ranges : List Range)
-        → TellWritten (keys_of batch.now.txns ends.now) scratch.old.gaps ranges
-        → (ws : List Write) → Rooted steps.old ws
-        → IsOverLimit steps.old.limit steps.old.edge (ws ++ at_version batch.now.version ranges) }
-    ensures full_united { result ≡ Err SetStop.ArenaFull → (ranges : List Range)
-        → TellWritten (keys_of batch.now.txns ends.now) scratch.old.gaps ranges
-        → (ws : List Write) → Rooted steps.old ws
-        → IsOverLimitUnited steps.old.limit steps.old.edge ws ranges }
-    ensures room { OnOk result ((ranges : List Range)
-        → TellWritten (keys_of batch.now.txns ends.now) scratch.old.gaps ranges → HasRoomToWrite steps.old ranges) }
-    ensures no_room { result ≡ Err SetStop.ArenaFull → (ranges : List Range)
-        → TellWritten (keys_of batch.now.txns ends.now) scratch.old.gaps ranges → HasNoRoomToWrite steps.old ranges }
-    ensures memory { result ≡ Err SetStop.Memory → (ranges : List Range)
-        → TellWritten (keys_of batch.now.txns ends.now) scratch.old.gaps ranges
-        → (steps.new.boundaries ≡ steps.old.boundaries) ⊎ HasRoomToWrite steps.old ranges }
+    ensures full { result ≡ Err SetStop.ArenaFull → (ws : List Write) → Rooted steps.old ws
+        → IsOverLimit steps.old.limit steps.old.edge
+        (ws ++ at_version batch.now.version (committed batch.now.txns entries.now)) }
+    ensures full_united { result ≡ Err SetStop.ArenaFull → (ws : List Write) → Rooted steps.old ws
+        → IsOverLimitUnited steps.old.limit steps.old.edge ws (committed batch.now.txns entries.now) }
+    ensures room { OnOk result (HasRoomToWrite steps.old (committed batch.now.txns entries.now)) }
+    ensures no_room { result ≡ Err SetStop.ArenaFull
+        → HasNoRoomToWrite steps.old (committed batch.now.txns entries.now) }
+    ensures memory { result ≡ Err SetStop.Memory → (steps.new.boundaries ≡ steps.old.boundaries)
+        ⊎ HasRoomToWrite steps.old (committed batch.now.txns entries.now) }
 {
-    crate::laws::union();
     stepmap::laws::writing();
     stepmap::laws::counts();
-    scratch.union.gather(&scratch.gaps)?;
-    let runs = scratch.union.runs();
-    gather_lengths(&mut scratch.lengths, batch, ends, runs)?;
+    mark_written(&mut scratch.written, batch, entries)?;
+    let ranges = batch.txns.ranges();
+    let ranks = batch.txns.ranks();
+    scratch
+        .union
+        .gather(&ranges, ranks.order(), &scratch.written)?;
+    let spans = scratch.union.spans();
+    gather_lengths(&mut scratch.lengths, &ranges, spans)?;
     steps.prepare(&scratch.lengths)?;
-    write_prepared(steps, batch, ends, runs);
-    Ok(runs.len())
+    write_prepared(steps, &ranges, spans, batch.version);
+    Ok(spans.len())
 }
 
-// Replaces the lengths by those of the keys of the ranges that the runs span.
-fn gather_lengths(
+// Replaces the lengths by those of the keys of the united ranges.
+fn gather_lengths<L: RangeList>(
     lengths: &mut Vec<KeyLengths>,
-    batch: &Batch,
-    ends: &[End],
-    runs: &[(usize, usize)],
+    ranges: &L,
+    spans: &[Span],
 ) -> Result<(), AllocError>
-    requires rising { AreRising (keys_of batch.now.txns ends.now) }
-    requires spanned { (united : List Range) × AreSpanned (keys_of batch.now.txns ends.now) runs.now united }
-    ensures lengths { OnOk result ((united : List Range)
-        → AreSpanned (keys_of batch.now.txns ends.now) runs.now united
+    requires spanned { (united : List Range) × AreSpanned (L.ranges ranges.now) spans.now united }
+    ensures lengths { OnOk result ((united : List Range) → AreSpanned (L.ranges ranges.now) spans.now united
         → lengths.new.items ≡ map map_of.lengths united) }
-    ensures count { OnOk result (length lengths.new.items ≡ length runs.now) }
+    ensures count { OnOk result (length lengths.new.items ≡ length spans.now) }
 {
     lengths.clear();
-    for run in runs {
-        lengths.push(KeyLengths::of(range_of(batch, ends, *run)))?;
+    for span in spans {
+        lengths.push(KeyLengths::of(range_of(ranges, *span)))?;
     }
     Ok(())
 }
 
-// Writes the ranges that the runs span one after the other, where none is written yet. Takes no memory. The next range
-// is looked up before each write, so that its keys are read while the write goes on.
-fn write_prepared(steps: &mut StepMap, batch: &Batch, ends: &[End], runs: &[(usize, usize)])
-    requires rising { AreRising (keys_of batch.now.txns ends.now) }
-    requires spanned { (united : List Range) × AreSpanned (keys_of batch.now.txns ends.now) runs.now united }
-    requires apart { (united : List Range) → AreSpanned (keys_of batch.now.txns ends.now) runs.now united
-        → AreApart united }
-    requires start { (united : List Range) → AreSpanned (keys_of batch.now.txns ends.now) runs.now united
-        → IsWriting united batch.now.version 0 steps.old steps.old }
-    ensures written { (united : List Range) → AreSpanned (keys_of batch.now.txns ends.now) runs.now united
-        → IsWriting united batch.now.version (length united) steps.old steps.new }
+// Writes the united ranges one after the other, where none is written yet. Takes no memory. The next range is looked up
+// before each write, so that its keys are read while the write goes on.
+fn write_prepared<L: RangeList>(steps: &mut StepMap, ranges: &L, spans: &[Span], version: i64)
+    requires spanned { (united : List Range) × AreSpanned (L.ranges ranges.now) spans.now united }
+    requires apart { (united : List Range) → AreSpanned (L.ranges ranges.now) spans.now united → AreApart united }
+    requires start { (united : List Range) → AreSpanned (L.ranges ranges.now) spans.now united
+        → IsWriting united version 0 steps.old steps.old }
+    ensures written { (united : List Range) → AreSpanned (L.ranges ranges.now) spans.now united
+        → IsWriting united version (length united) steps.old steps.new }
     ensures edge { steps.new.edge ≡ steps.old.edge }
     ensures limit { steps.new.limit ≡ steps.old.limit }
 {
     laws::writing();
     let mut index = 0;
-    let mut next = range_at(batch, ends, runs, index);
+    let mut next = range_at(ranges, spans, index);
     while let Some(range) = next {
         index += 1;
-        next = range_at(batch, ends, runs, index);
-        steps.write(range, batch.version);
+        next = range_at(ranges, spans, index);
+        steps.write(range, version);
     }
 }
 
-// Returns the range that the run at an index spans, or none where there is no run.
-fn range_at<'a>(
-    batch: &'a Batch,
-    ends: &[End],
-    runs: &[(usize, usize)],
-    index: usize,
-) -> Option<RangeRef<'a>>
-    requires rising { AreRising (keys_of batch.now.txns ends.now) }
-    requires spanned { (united : List Range) × AreSpanned (keys_of batch.now.txns ends.now) runs.now united }
-    ensures range { MatchOption result (length runs.now ≤ index) (λ range. (run : ℕ × ℕ)
-        × (slice_get runs.now index ≡ Some run) × Spans (keys_of batch.now.txns ends.now) run range) }
+// Returns the united range at an index, or none where there is none.
+fn range_at<'a, L: RangeList>(ranges: &'a L, spans: &[Span], index: usize) -> Option<RangeRef<'a>>
+    requires spanned { (united : List Range) × AreSpanned (L.ranges ranges.now) spans.now united }
+    ensures range { MatchOption result (length spans.now ≤ index) (λ range. (span : span_type.Span)
+        × (slice_get spans.now index ≡ Some span) × Spans (L.ranges ranges.now) span range) }
 {
-    match runs.get(index) {
-        Some(run) => Some(range_of(batch, ends, *run)),
+    match spans.get(index) {
+        Some(span) => Some(range_of(ranges, *span)),
         None => None,
     }
 }
 
-// Returns the range that the run spans.
-fn range_of<'a>(batch: &'a Batch, ends: &[End], run: (usize, usize)) -> RangeRef<'a>
-    requires rising { AreRising (keys_of batch.now.txns ends.now) }
-    requires spans { (range : Range) × Spans (keys_of batch.now.txns ends.now) run range }
-    ensures spans { Spans (keys_of batch.now.txns ends.now) run result }
+// Returns the united range of the span.
+fn range_of<'a, L: RangeList>(ranges: &'a L, span: Span) -> RangeRef<'a>
+    requires spans { (range : Range) × Spans (L.ranges ranges.now) span range }
+    ensures spans { Spans (L.ranges ranges.now) span result }
 {
-    let (begin, end) = run;
-    RangeRef::new(key_at(batch, ends, begin), key_at(batch, ends, end))
-}
-
-// Returns the key of the end at an index.
-fn key_at<'a>(batch: &'a Batch, ends: &[End], index: usize) -> &'a [u8]
-    requires within { index < length ends.now }
-    ensures key { slice_get (keys_of batch.now.txns ends.now) index ≡ Some result.now }
-{
-    batch.txns.key(&ends[index])
+    RangeRef::new(
+        ranges.range(span.begin).begin(),
+        ranges.range(span.end).end(),
+    )
 }

@@ -27,7 +27,7 @@ returns-in_err-count-clause-full_united c = λ full ws entries covers rooted jud
     c.raise.ensures.map ∙ ap (λ e. raised e c.args.steps.now) edge_is in
     subst (λ es. IsOverLimitUnited c.args.steps.now.limit c.args.edge ws (committed txns es)) same
     (subst (λ (m : Steps). IsOverLimitUnited m.limit m.edge ws items) up
-    (c.in_err-count.ensures.full_united is items c.in_ok-entries.ensures.told ws (c.raise.ensures.rooted ws rooted)))
+    (c.in_err-count.ensures.full_united is ws (c.raise.ensures.rooted ws rooted)))
 
 pub returns-in_err-count-clause-no_room : goal.returns-in_err-count-clause-no_room
 returns-in_err-count-clause-no_room c = λ full ws entries covers judged.
@@ -39,7 +39,7 @@ returns-in_err-count-clause-no_room c = λ full ws entries covers judged.
     let up : c.raise.new.self ≡ raised c.args.edge c.args.steps.now =
     c.raise.ensures.map ∙ ap (λ e. raised e c.args.steps.now) edge_is in
     subst (λ es. HasNoRoomToWrite (raised c.args.edge c.args.steps.now) (committed txns es)) same
-    (subst (λ m. HasNoRoomToWrite m items) up (c.in_err-count.ensures.no_room is items c.in_ok-entries.ensures.told))
+    (subst (λ m. HasNoRoomToWrite m items) up (c.in_err-count.ensures.no_room is))
 
 pub returns-in_err-count-clause-memory : goal.returns-in_err-count-clause-memory
 returns-in_err-count-clause-memory c = λ memory ws entries covers judged.
@@ -54,7 +54,7 @@ returns-in_err-count-clause-memory c = λ memory ws entries covers judged.
     subst (λ es. (now.boundaries ≡ c.args.steps.now.boundaries)
     ⊎ HasRoomToWrite (raised c.args.edge c.args.steps.now) (committed txns es)) same
     (subst (λ (m : Steps). (now.boundaries ≡ m.boundaries) ⊎ HasRoomToWrite m items) up
-    (c.in_err-count.ensures.memory is items c.in_ok-entries.ensures.told))
+    (c.in_err-count.ensures.memory is))
 
 pub returns-clause-covers : goal.returns-clause-covers
 returns-clause-covers c = λ ws covers.
@@ -62,7 +62,7 @@ returns-clause-covers c = λ ws covers.
     let version = c.args.batch.now.version in
     let entries = c.in_ok-entries.entries.items in
     let same = c.new-2.ensures.entries ∙ c.new.ensures.items in
-    let wrote = c.in_ok-count.ensures.covers (committed txns entries) c.in_ok-entries.ensures.told ws
+    let wrote = c.in_ok-count.ensures.covers ws
     (c.raise.ensures.covers ws covers) in
     c.sweep.ensures.covers (ws ++ writes_of c.args.batch.now c.new-2.result)
     (subst (λ es. MapCovers c.write_batch.new.steps (ws ++ at_version version (committed txns es))) (sym same) wrote)
@@ -73,7 +73,7 @@ returns-clause-rooted c = λ ws rooted.
     let version = c.args.batch.now.version in
     let entries = c.in_ok-entries.entries.items in
     let same = c.new-2.ensures.entries ∙ c.new.ensures.items in
-    let wrote = c.in_ok-count.ensures.rooted (committed txns entries) c.in_ok-entries.ensures.told ws
+    let wrote = c.in_ok-count.ensures.rooted ws
     (c.raise.ensures.rooted ws rooted) in
     c.sweep.ensures.rooted (ws ++ writes_of c.args.batch.now c.new-2.result)
     (subst (λ es. Rooted c.write_batch.new.steps (ws ++ at_version version (committed txns es))) (sym same) wrote)
@@ -91,15 +91,15 @@ returns-clause-swept c = λ ws rooted.
     let raised : c.raise.new.self.edge ≡ c.args.edge =
     ap (λ (m : Steps). m.edge) c.raise.ensures.map ∙ to_z-of_z w64 c.args.edge c.ranges.edge in
     let mid_edge : mid.edge ≡ c.args.edge = c.in_ok-count.ensures.edge ∙ raised in
-    let wrote = c.in_ok-count.ensures.swept (committed txns entries) c.in_ok-entries.ensures.told ws
+    let wrote = c.in_ok-count.ensures.swept ws
     (c.raise.ensures.rooted ws rooted) in
-    let rooted_mid = c.in_ok-count.ensures.rooted (committed txns entries) c.in_ok-entries.ensures.told ws
+    let rooted_mid = c.in_ok-count.ensures.rooted ws
     (c.raise.ensures.rooted ws rooted) in
     let before : Ends mid.boundaries all c.args.edge
     ⊎ ((mid.round ≡ old.round) × (rest mid ≤ rest old + 2 * c.in_ok-count.count)) =
     since_raised old c.raise.new.self mid c.args.edge all c.in_ok-count.count raised
     (ap (λ (m : Steps). m.round) c.raise.ensures.map) (ap rest c.raise.ensures.map) wrote in
-    let united = c.in_ok-count.ensures.united (committed txns entries) c.in_ok-entries.ensures.told in
+    let united = c.in_ok-count.ensures.united in
     subst (λ es. IsSwept c.args.edge old now (ws ++ at_version version (committed txns es)) (committed txns es))
     (sym same)
     (swept_on c.args.edge old mid now all (committed txns entries) c.in_ok-count.count united mid_edge before
@@ -115,4 +115,4 @@ returns-clause-room c =
     c.raise.ensures.map ∙ ap (λ e. raised e c.args.steps.now) (to_z-of_z w64 c.args.edge c.ranges.edge) in
     subst (λ es. HasRoomToWrite (raised c.args.edge c.args.steps.now) (committed txns es)) (sym same)
     (subst (λ m. HasRoomToWrite m (committed txns entries)) up
-    (c.in_ok-count.ensures.room (committed txns entries) c.in_ok-entries.ensures.told))
+    c.in_ok-count.ensures.room)

@@ -1,11 +1,11 @@
 use Rattle.std.proofs.Common.{◌≡◌, ◌++◌, ◌∙◌, ◌+◌, ◌<◌, ◌≤◌, [], length, get_or, take, drop, ap, arith, rules}
 use Rattle.std.proofs.lemmas.List.{length-append}
 use Rattle.keyspace.specs.declared.reply.Verdict.TheVariants.{Committed}
-use Rattle.keyspace.specs.Ends.{ranges_of_txn}
+use Rattle.keyspace.specs.BatchRanges.{ranges_of_txn}
 use Rattle.conflict.specs.InBatch.{in_batches}
 use Rattle.conflict.specs.Written.{TellRuns}
 use Rattle.conflict.proofs.Told.{told_within}
-use Rattle.conflict.proofs.JudgedTo.{all_marked, all_have_ends, next_told, next_within, next_judged, closed_judged}
+use Rattle.conflict.proofs.JudgedTo.{next_told, next_within, next_judged, closed_judged}
 use Rattle.conflict.proofs.in_batch.judge_in_batch.Goals.{then-eq+in_ok-judge_open, else-eq}
 use Rattle.conflict.proofs.in_batch.judge_in_batch.Goals as goal
 
@@ -81,17 +81,3 @@ loop-index-preserved c =
             inside is_next c.index-entries-index.result count closed);
       }
     ]
-
-pub returns-clause-marked : goal.returns-clause-marked
-returns-clause-marked c = λ keys same tell.
-    let txns = c.args.batch.now.txns in
-    let items = c.as_slice-txn-items.ensures.txns in
-    let i = c.loop-index.index in
-    let so_far = c.loop-index.invariant.judged keys same tell in
-    let txns_end : length txns ≤ i = omega (arith, ap length items) in
-    let entries_end : length c.loop-index.entries ≤ i = omega (arith, ap length items) in (
-      all_marked keys (in_batches [] txns c.args.entries.now) i c.loop-index.rest.now c.loop-index.gaps txns
-          c.loop-index.entries so_far txns_end entries_end,
-      all_have_ends keys (in_batches [] txns c.args.entries.now) i c.loop-index.rest.now c.loop-index.gaps txns
-          c.loop-index.entries so_far txns_end entries_end,
-    )

@@ -1,5 +1,5 @@
 use Rattle.std.proofs.Common.{◌≡◌, ℕ, List, [], length}
-use Rattle.keyspace.specs.Ends.{ranges_in}
+use Rattle.keyspace.specs.BatchRanges.{ranges_in}
 use Rattle.conflict.specs.Written.{TellRuns}
 use Rattle.conflict.specs.InBatch.{in_batches}
 use Rattle.conflict.proofs.JudgedTo.{JudgedBelow}

@@ -1,112 +1,110 @@
-use Rattle.std.proofs.Common.{rules, w64, SFits, ℕ, ◌≡◌, ◌≤◌, ◌<◌, length, ap, arith, sym, subst, ◌∙◌}
+use Rattle.std.proofs.Common.{w64, ◌≡◌, ◌≤◌, ◌<◌, length, ap, arith, sym, subst, ◌∙◌}
 use Rattle.std.specs.Prelude.{MatchOption, Some, slice_get}
 use Rattle.std.proofs.lemmas.Int.{to_z-of_z}
 use Rattle.std.proofs.lemmas.Option.{slice_get_within}
-use Rattle.keyspace.specs.Ends.{keys_of}
-use Rattle.stepmap.specs.Laws.{IsWriting}
+use Rattle.keys.specs.declared.range.Range.{Range}
+use Rattle.stepmap.specs.Laws.{IsWriting, MayBeNext}
 use Rattle.stepmap.specs.Writing.{after_write}
+use Rattle.conflict.specs.declared.union.Span.{Span}
 use Rattle.conflict.specs.Union.{Spans}
-use Rattle.conflict.proofs.Spanned.{lengths_same, empty_same, after_same}
+use Rattle.conflict.proofs.Spanned.{span_at, spanned_count, lengths_same, empty_same, after_same}
+use Rattle.conflict.proofs.writing.write_prepared.Given as given
 use Rattle.conflict.proofs.writing.write_prepared.Goals.{In-Some, In_default}
 use Rattle.conflict.proofs.writing.write_prepared.Goals as goal
 
--- the run at the index, which the range spans
-run_at : (c : In-Some) → (run : ℕ × ℕ) × (slice_get c.args.runs.now c.loop-next.index ≡ Some run)
-    × Spans (keys_of c.args.batch.now.txns c.args.ends.now) run c.in-Some.range
-run_at c =
-    subst (λ o. MatchOption o (length c.args.runs.now ≤ c.loop-next.index) (λ range. (run : ℕ × ℕ)
-    × (slice_get c.args.runs.now c.loop-next.index ≡ Some run)
-    × Spans (keys_of c.args.batch.now.txns c.args.ends.now) run range)) c.in-Some.is c.loop-next.invariant.next
+-- the span at the index, which the range is of
+found : (g : given.Over) (c : In-Some g) → (span : Span) × (slice_get c.args.spans.now c.loop-next.index ≡ Some span)
+    × Spans (g.L.RangeList.ranges c.args.ranges.now) span c.in-Some.range
+found g c =
+    subst (λ o. MatchOption o (length c.args.spans.now ≤ c.loop-next.index) (λ range. (span : Span)
+    × (slice_get c.args.spans.now c.loop-next.index ≡ Some span)
+    × Spans (g.L.RangeList.ranges c.args.ranges.now) span range)) c.in-Some.is c.loop-next.invariant.next
 
 -- one more range is there
-below : (c : In-Some) → c.loop-next.index < length c.args.runs.now
-below c =
-    let run = run_at c in
-    slice_get_within c.args.runs.now c.loop-next.index run.0 run.1
+below : (g : given.Over) (c : In-Some g) → c.loop-next.index < length c.args.spans.now
+below g c =
+    let span = found g c in
+    slice_get_within c.args.spans.now c.loop-next.index span.0 span.1
+
+-- the range in a list that the spans name, and what a write of it requires
+united_at : (g : given.Over) (c : In-Some g) → (range : Range)
+    × Spans (g.L.RangeList.ranges c.args.ranges.now) (found g c).0 range
+    × MayBeNext range c.args.version c.loop-next.steps
+united_at g c =
+    let ranges = g.L.RangeList.ranges c.args.ranges.now in
+    let span = found g c in
+    let united = c.requires.spanned.0 in
+    let spanned = c.requires.spanned.1 in
+    let at = span_at ranges c.args.spans.now united spanned c.loop-next.index span.0 span.1 in
+    let turn = c.writing.ensures.in_turn united c.args.version (c.requires.apart united spanned) in (
+      at.0,
+      at.2,
+      turn.next c.loop-next.index at.0 c.args.steps.now c.loop-next.steps (c.loop-next.invariant.written united spanned)
+          at.1,
+    )
 
 pub overflow_add-index : goal.overflow_add-index
-overflow_add-index c = omega (arith, below (goal.at.overflow_add-index c).In-Some, c.well_formed)
+overflow_add-index g c = omega (arith, below g (goal.at.overflow_add-index g c).In-Some, c.well_formed)
 
 pub write-requires-clause-filled : goal.write-requires-clause-filled
-write-requires-clause-filled c = λ empty.
-    let run = run_at (goal.at.write-requires-clause-filled c).In-Some in
-    let united = c.requires.spanned.0 in
-    let spanned = c.requires.spanned.1 in
-    let at = spanned.each c.loop-next.index run.0 run.1 in
-    let turn = c.writing.ensures.in_turn united c.args.batch.now.version (c.requires.apart united spanned) in
-    (turn.next c.loop-next.index at.0 c.args.steps.now c.loop-next.steps (c.loop-next.invariant.written united spanned)
-    at.1).filled (empty_same run.2 at.2 empty)
+write-requires-clause-filled g c = λ empty.
+    let here = (goal.at.write-requires-clause-filled g c).In-Some in
+    let at = united_at g here in
+    at.2.filled (empty_same (found g here).2 at.1 empty)
 
 pub write-requires-clause-ready : goal.write-requires-clause-ready
-write-requires-clause-ready c =
-    let run = run_at (goal.at.write-requires-clause-ready c).In-Some in
-    let united = c.requires.spanned.0 in
-    let spanned = c.requires.spanned.1 in
-    let at = spanned.each c.loop-next.index run.0 run.1 in
-    let turn = c.writing.ensures.in_turn united c.args.batch.now.version (c.requires.apart united spanned) in
-    (turn.next c.loop-next.index at.0 c.args.steps.now c.loop-next.steps (c.loop-next.invariant.written united spanned)
-    at.1).ready
-    ∙ ap Some (sym (lengths_same run.2 at.2))
+write-requires-clause-ready g c =
+    let here = (goal.at.write-requires-clause-ready g c).In-Some in
+    let at = united_at g here in
+    at.2.ready ∙ ap Some (sym (lengths_same (found g here).2 at.1))
 
 pub write-requires-clause-newest : goal.write-requires-clause-newest
-write-requires-clause-newest c =
-    let version = c.args.batch.now.version in
-    let fits : SFits w64 version = search rules in
-    let run = run_at (goal.at.write-requires-clause-newest c).In-Some in
-    let united = c.requires.spanned.0 in
-    let spanned = c.requires.spanned.1 in
-    let at = spanned.each c.loop-next.index run.0 run.1 in
-    let turn = c.writing.ensures.in_turn united version (c.requires.apart united spanned) in
-    rw (to_z-of_z w64 version fits) (turn.next c.loop-next.index at.0 c.args.steps.now c.loop-next.steps
-    (c.loop-next.invariant.written united spanned) at.1).newest
+write-requires-clause-newest g c =
+    let here = (goal.at.write-requires-clause-newest g c).In-Some in
+    rw (to_z-of_z w64 c.args.version c.ranges.version) (united_at g here).2.newest
 
 pub write-requires-clause-late : goal.write-requires-clause-late
-write-requires-clause-late c =
-    let version = c.args.batch.now.version in
-    let fits : SFits w64 version = search rules in
-    let run = run_at (goal.at.write-requires-clause-late c).In-Some in
-    let united = c.requires.spanned.0 in
-    let spanned = c.requires.spanned.1 in
-    let at = spanned.each c.loop-next.index run.0 run.1 in
-    let turn = c.writing.ensures.in_turn united version (c.requires.apart united spanned) in
-    rw (to_z-of_z w64 version fits) (turn.next c.loop-next.index at.0 c.args.steps.now c.loop-next.steps
-    (c.loop-next.invariant.written united spanned) at.1).late
+write-requires-clause-late g c =
+    let here = (goal.at.write-requires-clause-late g c).In-Some in
+    rw (to_z-of_z w64 c.args.version c.ranges.version) (united_at g here).2.late
 
 pub loop-next-smaller : goal.loop-next-smaller
-loop-next-smaller c = omega (arith, below (goal.at.loop-next-smaller c).In-Some)
+loop-next-smaller g c = omega (arith, below g (goal.at.loop-next-smaller g c).In-Some)
 
 pub loop-next-preserved : goal.loop-next-preserved
-loop-next-preserved c =
+loop-next-preserved g c =
+    let ranges = g.L.RangeList.ranges c.args.ranges.now in
     let i = c.loop-next.index in
-    let version = c.args.batch.now.version in
-    let fits : SFits w64 version = search rules in
-    let here = (goal.at.loop-next-preserved c).In-Some in
-    let run = run_at here in
+    let version = c.args.version in
+    let here = (goal.at.loop-next-preserved g c).In-Some in
+    let span = found g here in
     let map = c.write.ensures.map in
-    let wrote = map ∙ ap (λ v. after_write c.in-Some.range v c.loop-next.steps) (to_z-of_z w64 version fits) in
+    let wrote = map
+    ∙ ap (λ v. after_write c.in-Some.range v c.loop-next.steps) (to_z-of_z w64 version c.ranges.version) in
     record {
-      within = omega (arith, below here);
+      within = omega (arith, below g here);
       next = c.range_at-next-in-Some.ensures.range;
       written = λ united spanned.
-          let at = spanned.each i run.0 run.1 in
+          let at = span_at ranges c.args.spans.now united spanned i span.0 span.1 in
           let turn = c.writing.ensures.in_turn united version (c.requires.apart united spanned) in
           turn.step i at.0 c.args.steps.now c.loop-next.steps c.write.new.self
           (c.loop-next.invariant.written united spanned) at.1
-          (wrote ∙ after_same run.2 at.2 version c.loop-next.steps);
+          (wrote ∙ after_same span.2 at.2 version c.loop-next.steps);
       edge = ap (λ m. m.edge) map ∙ c.loop-next.invariant.edge;
       limit = ap (λ m. m.limit) map ∙ c.loop-next.invariant.limit;
     }
 
 -- no range is left
-all_written : (c : In_default) → c.loop-next.index ≡ length c.args.runs.now
-all_written c =
-    let none = subst (λ o. MatchOption o (length c.args.runs.now ≤ c.loop-next.index) (λ range. (run : ℕ × ℕ)
-    × (slice_get c.args.runs.now c.loop-next.index ≡ Some run)
-    × Spans (keys_of c.args.batch.now.txns c.args.ends.now) run range)) c.in_default.is c.loop-next.invariant.next in
+all_written : (g : given.Over) (c : In_default g) → c.loop-next.index ≡ length c.args.spans.now
+all_written g c =
+    let none = subst (λ o. MatchOption o (length c.args.spans.now ≤ c.loop-next.index) (λ range. (span : Span)
+    × (slice_get c.args.spans.now c.loop-next.index ≡ Some span)
+    × Spans (g.L.RangeList.ranges c.args.ranges.now) span range)) c.in_default.is c.loop-next.invariant.next in
     omega (arith, none, c.loop-next.invariant.within)
 
 pub returns-clause-written : goal.returns-clause-written
-returns-clause-written c = λ united spanned.
-    let all = all_written (goal.at.returns-clause-written c).In_default in
-    subst (λ n. IsWriting united c.args.batch.now.version n c.args.steps.now c.loop-next.steps)
-    (all ∙ sym spanned.count) (c.loop-next.invariant.written united spanned)
+returns-clause-written g c = λ united spanned.
+    let all = all_written g (goal.at.returns-clause-written g c).In_default in
+    let count = spanned_count (g.L.RangeList.ranges c.args.ranges.now) c.args.spans.now united spanned in
+    subst (λ n. IsWriting united c.args.version n c.args.steps.now c.loop-next.steps) (all ∙ sym count)
+    (c.loop-next.invariant.written united spanned)

@@ -1,9 +1,10 @@
-use Rattle.std.proofs.Common.{◌-◌, length}
-use Rattle.conflict.proofs.UnionGathered.{Gathering}
+use Rattle.std.proofs.Common.{take}
+use Rattle.conflict.specs.Union.{AreUnited}
+use Rattle.conflict.proofs.UnionOrder.{listed}
 use Rattle.conflict.proofs.union.Union.gather.Given as goal
 
-abbrev pub invariant-loop-run : goal.invariant-loop-run
-invariant-loop-run l = Gathering l.gaps l.from l.self-inside.runs.items
-
-abbrev pub decreases-loop-run : goal.decreases-loop-run
-decreases-loop-run l = length l.gaps - l.from
+-- the marked ranges among those gone through are united
+abbrev pub invariant-loop-index : goal.invariant-loop-index
+invariant-loop-index g l =
+    let ranges = g.L.RangeList.ranges l.ranges in
+    AreUnited ranges l.self (listed l.written ranges (take l.index-index l.order))

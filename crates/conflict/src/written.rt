@@ -1,0 +1,30 @@
+//! Which of the ranges of a batch are written.
+
+ghost use Rattle.std.specs.Prelude.{◌≡◌, length, OnOk};
+ghost use Rattle.keyspace.specs.Writes.{committed};
+ghost use Rattle.keyspace.specs.BatchRanges.{ranges_in};
+ghost use Rattle.conflict.specs.Union.{picked};
+
+use keyspace::{Batch, Entry, Verdict};
+use std::alloc::AllocError;
+
+/// Replaces the marks by one for each range of the batch, in order: those of the write ranges of committed transactions are
+/// `true`, and all others `false`. After an error the marks are unspecified.
+pub fn mark_written(
+    written: &mut Vec<bool>,
+    batch: &Batch,
+    entries: &[Entry],
+) -> Result<(), AllocError>
+    requires entries { length entries.now ≡ length batch.now.txns }
+    ensures written { OnOk result (picked written.new.items (ranges_in batch.now.txns)
+        ≡ committed batch.now.txns entries.now) }
+    ensures count { OnOk result (length written.new.items ≡ length (ranges_in batch.now.txns)) }
+{
+    written.clear();
+    for (index, txn) in batch.txns.as_slice().iter().enumerate() {
+        let commits = entries[index].verdict == Verdict::Committed;
+        written.resize(written.len() + txn.reads.len(), false)?;
+        written.resize(written.len() + txn.writes.len(), commits)?;
+    }
+    Ok(())
+}
