@@ -2,7 +2,7 @@
 
 use crate::rows::expect;
 use fixtures::{Random, Unmade, batch, batch_of, txn};
-use keys::{Range, RangeList};
+use keys::Range;
 use keyspace::{Batch, Txn, Txns};
 use std::alloc::{AllocError, Global};
 use std::test::Fail;
@@ -18,7 +18,7 @@ fn show_ranks(alloc: Global, txns: &Txns) -> Result<String, Unmade> {
         if *index >= ranges.len() {
             return Err(Unmade::Beyond("order"));
         }
-        let begin = hex::encode(alloc, ranges.range(*index).begin())?;
+        let begin = hex::encode(alloc, ranges.get(*index).begin())?;
         write!(text, " {index}[{begin}]")?;
     }
     text.push_str(", runs")?;
@@ -76,21 +76,22 @@ fn random_batch(alloc: Global, random: &mut Random) -> Result<Batch, Unmade> {
 }
 
 // Returns the ranges of the transactions, the read ranges of each one first.
-fn all_ranges<'a>(alloc: Global, txns: &'a Txns) -> Result<Vec<&'a Range>, AllocError> {
+fn all_ranges(alloc: Global, txns: &Txns) -> Result<Vec<Range>, AllocError> {
     let mut all = Vec::new(alloc);
-    for txn in txns.as_slice() {
-        for range in txn.reads.as_slice() {
-            all.push(range)?;
+    for index in 0..txns.len() {
+        let txn = txns.txn(index);
+        for place in 0..txn.reads.len() {
+            all.push(txn.reads.get(place).to_range(alloc)?)?;
         }
-        for range in txn.writes.as_slice() {
-            all.push(range)?;
+        for place in 0..txn.writes.len() {
+            all.push(txn.writes.get(place).to_range(alloc)?)?;
         }
     }
     Ok(all)
 }
 
 // Returns the keys that ranges begin with, each once, unless the range is empty.
-fn all_begins<'a>(alloc: Global, ranges: &[&'a Range]) -> Result<Vec<&'a [u8]>, AllocError> {
+fn all_begins<'a>(alloc: Global, ranges: &'a [Range]) -> Result<Vec<&'a [u8]>, AllocError> {
     let mut begins = Vec::new(alloc);
     for range in ranges {
         let begin = range.begin.as_bytes();
@@ -122,7 +123,7 @@ fn overlaps_agree(
     run: (usize, usize),
     range: &Range,
     runs: &[(usize, usize)],
-    ranges: &[&Range],
+    ranges: &[Range],
 ) -> bool {
     for (other, other_range) in runs.iter().zip(ranges) {
         let common = run.0.max(other.0) < run.1.min(other.1);
@@ -134,7 +135,7 @@ fn overlaps_agree(
 }
 
 // Whether there is one run for each range, and each is right.
-fn runs_agree(runs: &[(usize, usize)], ranges: &[&Range], begins: &[&[u8]]) -> bool {
+fn runs_agree(runs: &[(usize, usize)], ranges: &[Range], begins: &[&[u8]]) -> bool {
     for (run, range) in runs.iter().zip(ranges) {
         if !run_agrees(*run, range, begins) || !overlaps_agree(*run, range, runs, ranges) {
             return false;
@@ -144,7 +145,7 @@ fn runs_agree(runs: &[(usize, usize)], ranges: &[&Range], begins: &[&[u8]]) -> b
 }
 
 // Whether the order has each range that isn't empty, and none that begins before the one ahead of it.
-fn order_agrees(order: &[usize], ranges: &[&Range]) -> bool {
+fn order_agrees(order: &[usize], ranges: &[Range]) -> bool {
     let mut last: &[u8] = &[];
     for index in order {
         let Some(range) = ranges.get(*index) else {

@@ -1,8 +1,11 @@
-ghost use Rattle.std.specs.Prelude.{◌≡◌, ◌≤◌, ◌↔◌, length, IsTrue};
+ghost use Rattle.std.specs.Prelude.{◌≡◌, ◌≤◌, ◌↔◌, length, IfOk, IsTrue};
 ghost use Rattle.keys.specs.Range.{IsEmpty};
 ghost use Rattle.keys.specs.Key.{IsKey, IsAtMost};
 ghost use Rattle.keys.specs.declared.key.TheConstants.{MAX_KEY_LENGTH};
 
+use crate::key::Key;
+use crate::range::Range;
+use std::alloc::{AllocError, Global};
 use std::marker::Model;
 
 /// The half-open range `[begin, end)` with borrowed keys: `KeyRangeRef` of FoundationDB 7.1. Contracts see it as the range.
@@ -64,5 +67,14 @@ impl<'a> RangeRef<'a> {
         ensures bytes { result.now ≡ self.now.end }
     {
         self.end
+    }
+
+    /// Copies the range, or returns an error if memory is refused.
+    pub fn to_range(&self, alloc: Global) -> Result<Range, AllocError>
+        ensures equal { IfOk result (λ range. range ≡ self.now) }
+    {
+        let begin = Key::copied(alloc, self.begin)?;
+        let end = Key::copied(alloc, self.end)?;
+        Ok(Range::new(begin, end))
     }
 }

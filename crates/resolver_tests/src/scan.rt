@@ -6,7 +6,7 @@ use crate::drawn::{Drawn, Kind};
 use crate::set::LIMIT;
 use conflict::SetStop;
 use fixtures::{Unmade, show_reply};
-use keyspace::{Batch, Range, Txn, WINDOW};
+use keyspace::{Batch, Range, TxnRef, WINDOW};
 use std::alloc::{AllocError, Global};
 use std::fmt::Write;
 use std::process::Abort;
@@ -28,22 +28,19 @@ impl Scan {
             text.push_str(" empty")?;
         }
         let mut earlier = Vec::new(self.alloc);
-        for txn in batch.txns.as_slice() {
-            if self.judge(&mut text, edge, txn, &earlier)? {
-                for range in txn.writes.as_slice() {
+        for index in 0..batch.txns.len() {
+            let txn = batch.txns.txn(index);
+            if self.judge(&mut text, edge, &txn, &earlier)? {
+                for place in 0..txn.writes.len() {
+                    let range = txn.writes.get(place).to_range(self.alloc)?;
                     earlier.push(range).map_err(AllocError::from)?;
                 }
             }
         }
-        self.add(&earlier, version)?;
-        Ok(text)
-    }
-
-    fn add(&mut self, ranges: &[&Range], version: i64) -> Result<(), AllocError> {
-        for range in ranges {
-            self.written.push((range.copy(self.alloc)?, version))?;
+        for range in earlier {
+            self.written.push((range, version)).map_err(AllocError::from)?;
         }
-        Ok(())
+        Ok(text)
     }
 
     // Writes the verdict and the report of a transaction, and returns whether it commits.
@@ -51,8 +48,8 @@ impl Scan {
         &self,
         text: &mut String,
         edge: i64,
-        txn: &Txn,
-        earlier: &[&Range],
+        txn: &TxnRef<'_>,
+        earlier: &[Range],
     ) -> Result<bool, Unmade> {
         if !txn.reads.is_empty() && txn.snapshot < edge {
             text.push_str(" tooold")?;
@@ -60,7 +57,7 @@ impl Scan {
         }
         let mut hits = self.hits(txn)?;
         if hits.is_empty() {
-            if let Some(place) = first_met(txn, earlier) {
+            if let Some(place) = self.first_met(txn, earlier)? {
                 hits.push(place).map_err(AllocError::from)?;
             }
         }
@@ -76,27 +73,31 @@ impl Scan {
     }
 
     // The places of the read ranges that a write later than the snapshot meets.
-    fn hits(&self, txn: &Txn) -> Result<Vec<usize>, Unmade> {
+    fn hits(&self, txn: &TxnRef<'_>) -> Result<Vec<usize>, Unmade> {
         let mut hits = Vec::new(self.alloc);
-        for (place, range) in txn.reads.as_slice().iter().enumerate() {
-            if self.is_hit(range, txn.snapshot) {
+        for place in 0..txn.reads.len() {
+            let range = txn.reads.get(place).to_range(self.alloc)?;
+            if self.is_hit(&range, txn.snapshot) {
                 hits.push(place).map_err(AllocError::from)?;
             }
         }
         Ok(hits)
     }
 
+    // The place of the first read range that a write of the same batch meets.
+    fn first_met(&self, txn: &TxnRef<'_>, earlier: &[Range]) -> Result<Option<usize>, Unmade> {
+        for place in 0..txn.reads.len() {
+            let range = txn.reads.get(place).to_range(self.alloc)?;
+            if earlier.iter().any(|other| range.meets(other)) {
+                return Ok(Some(place));
+            }
+        }
+        Ok(None)
+    }
+
     fn is_hit(&self, range: &Range, snapshot: i64) -> bool {
         self.written.iter().any(|(other, version)| snapshot < *version && range.meets(other))
     }
-}
-
-// The place of the first read range that a write of the same batch meets.
-fn first_met(txn: &Txn, earlier: &[&Range]) -> Option<usize> {
-    txn.reads
-        .as_slice()
-        .iter()
-        .position(|range| earlier.iter().any(|other| range.meets(other)))
 }
 
 fn report(text: &mut String, places: &[usize]) -> Result<(), Unmade> {
