@@ -14,7 +14,7 @@ ghost use Rattle.conflict.specs.InBatch.{in_batch, in_batches};
 
 use crate::gaps::Gaps;
 use crate::laws;
-use keyspace::{Batch, Entry, Places, Txn, Verdict};
+use keyspace::{Batch, Entry, Places, TxnRef, Verdict};
 use std::alloc::{AllocError, Global};
 
 /// Judges in order each transaction that the history lets commit, after what the transactions before it write that
@@ -34,11 +34,12 @@ pub fn judge_in_batch(
     ensures judged { OnOk result (entries.new ≡ in_batches [] batch.now.txns entries.old) }
 {
     let mut rest = runs;
-    for (index, txn) in batch.txns.as_slice().iter().enumerate() {
+    for index in 0..batch.txns.len() {
+        let txn = batch.txns.txn(index);
         let (own, later) = rest.split_at(txn.reads.len() + txn.writes.len());
         let entry = &mut entries[index];
         if entry.verdict == Verdict::Committed {
-            judge_open(alloc, own, gaps, txn, entry)?;
+            judge_open(alloc, own, gaps, &txn, entry)?;
         }
         rest = later;
     }
@@ -51,7 +52,7 @@ fn judge_open(
     alloc: Global,
     runs: &[(usize, usize)],
     gaps: &mut Gaps,
-    txn: &Txn,
+    txn: &TxnRef<'_>,
     entry: &mut Entry,
 ) -> Result<(), AllocError>
     requires open { entry.old.verdict ≡ Committed }
@@ -89,7 +90,11 @@ fn first_met(gaps: &Gaps, runs: &[(usize, usize)]) -> Option<usize>
 }
 
 // Returns the place alone if the transaction is marked, and else no place, without taking memory.
-fn place_if_marked(alloc: Global, txn: &Txn, place: usize) -> Result<Places, AllocError>
+fn place_if_marked(
+    alloc: Global,
+    txn: &TxnRef<'_>,
+    place: usize,
+) -> Result<Places, AllocError>
     requires within { place < length txn.now.reads }
     ensures places { IfOk result (λ places. places ≡ (if txn.now.marked then place ∷ [] else [])) }
 {
