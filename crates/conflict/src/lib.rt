@@ -4,7 +4,7 @@
 //! commits. First the history is asked, for as many read ranges of each transaction as `asking` lists, and `history` judges
 //! each transaction by the answers alone. Those that are left `in_batch` judges in order:
 //! a batch knows which gaps between its keys each of its ranges covers, and `gaps` keeps those that earlier transactions
-//! wrote. What the batch commits is marked in `written`, its `union` is gathered by begins, and `writing` writes that.
+//! wrote. What the batch commits is marked by `marking`, its `union` is gathered by begins, and `writing` writes that.
 //! `laws` ties these parts to the reference definitions.
 //!
 //! The layer above may use the contracts of [`ConflictSet`] alone, which see it as its window, the greatest version
@@ -19,10 +19,10 @@ mod history;
 mod in_batch;
 mod judging;
 mod laws;
+mod marking;
 mod scratch;
 mod union;
 mod writing;
-mod written;
 
 pub use conflict_set::{ConflictSet, MAX_WINDOW};
 pub use error::SetStop;

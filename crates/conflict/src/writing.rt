@@ -19,9 +19,9 @@ ghost use Rattle.conflict.specs.Union.{Spans, AreSpanned};
 ghost use Rattle.conflict.specs.ConflictSet.{IsOverLimit, IsOverLimitUnited, HasRoomToWrite, HasNoRoomToWrite};
 
 use crate::error::SetStop;
+use crate::marking::mark_written;
 use crate::scratch::Scratch;
 use crate::union::Span;
-use crate::written::mark_written;
 use keys::{RangeList, RangeRef};
 use keyspace::{Batch, Entry};
 use std::alloc::AllocError;

@@ -1,4 +1,4 @@
-use Rattle.std.proofs.Common.{w64, ◌≡◌, ◌≤◌, ◌<◌, length, ap, arith, sym, subst, ◌∙◌}
+use Rattle.std.proofs.Common.{w64, to_z, of_z, ◌≡◌, ◌≤◌, ◌<◌, length, ap, arith, sym, subst, ◌∙◌}
 use Rattle.std.specs.Prelude.{MatchOption, Some, slice_get}
 use Rattle.std.proofs.lemmas.Int.{to_z-of_z}
 use Rattle.std.proofs.lemmas.Option.{slice_get_within}
@@ -29,14 +29,14 @@ below g c =
 -- the range in a list that the spans name, and what a write of it requires
 united_at : (g : given.Over) (c : In-Some g) → (range : Range)
     × Spans (g.L.RangeList.ranges c.args.ranges.now) (found g c).0 range
-    × MayBeNext range c.args.version c.loop-next.steps
+    × MayBeNext range (to_z w64 (of_z w64 c.args.version)) c.loop-next.steps
 united_at g c =
     let ranges = g.L.RangeList.ranges c.args.ranges.now in
     let span = found g c in
     let united = c.requires.spanned.0 in
     let spanned = c.requires.spanned.1 in
     let at = span_at ranges c.args.spans.now united spanned c.loop-next.index span.0 span.1 in
-    let turn = c.writing.ensures.in_turn united c.args.version (c.requires.apart united spanned) in (
+    let turn = c.writing.ensures.in_turn united (to_z w64 (of_z w64 c.args.version)) (c.requires.apart united spanned) in (
       at.0,
       at.2,
       turn.next c.loop-next.index at.0 c.args.steps.now c.loop-next.steps (c.loop-next.invariant.written united spanned)
@@ -61,12 +61,12 @@ write-requires-clause-ready g c =
 pub write-requires-clause-newest : goal.write-requires-clause-newest
 write-requires-clause-newest g c =
     let here = (goal.at.write-requires-clause-newest g c).In-Some in
-    rw (to_z-of_z w64 c.args.version c.ranges.version) (united_at g here).2.newest
+    (united_at g here).2.newest
 
 pub write-requires-clause-late : goal.write-requires-clause-late
 write-requires-clause-late g c =
     let here = (goal.at.write-requires-clause-late g c).In-Some in
-    rw (to_z-of_z w64 c.args.version c.ranges.version) (united_at g here).2.late
+    (united_at g here).2.late
 
 pub loop-next-smaller : goal.loop-next-smaller
 loop-next-smaller g c = omega (arith, below g (goal.at.loop-next-smaller g c).In-Some)
@@ -75,12 +75,10 @@ pub loop-next-preserved : goal.loop-next-preserved
 loop-next-preserved g c =
     let ranges = g.L.RangeList.ranges c.args.ranges.now in
     let i = c.loop-next.index in
-    let version = c.args.version in
+    let version = to_z w64 (of_z w64 c.args.version) in
     let here = (goal.at.loop-next-preserved g c).In-Some in
     let span = found g here in
     let map = c.write.ensures.map in
-    let wrote = map
-    ∙ ap (λ v. after_write c.in-Some.range v c.loop-next.steps) (to_z-of_z w64 version c.ranges.version) in
     record {
       within = omega (arith, below g here);
       next = c.range_at-next-in-Some.ensures.range;
@@ -89,7 +87,7 @@ loop-next-preserved g c =
           let turn = c.writing.ensures.in_turn united version (c.requires.apart united spanned) in
           turn.step i at.0 c.args.steps.now c.loop-next.steps c.write.new.self
           (c.loop-next.invariant.written united spanned) at.1
-          (wrote ∙ after_same span.2 at.2 version c.loop-next.steps);
+          (map ∙ after_same span.2 at.2 version c.loop-next.steps);
       edge = ap (λ m. m.edge) map ∙ c.loop-next.invariant.edge;
       limit = ap (λ m. m.limit) map ∙ c.loop-next.invariant.limit;
     }
@@ -106,5 +104,7 @@ pub returns-clause-written : goal.returns-clause-written
 returns-clause-written g c = λ united spanned.
     let all = all_written g (goal.at.returns-clause-written g c).In_default in
     let count = spanned_count (g.L.RangeList.ranges c.args.ranges.now) c.args.spans.now united spanned in
-    subst (λ n. IsWriting united c.args.version n c.args.steps.now c.loop-next.steps) (all ∙ sym count)
-    (c.loop-next.invariant.written united spanned)
+    subst (λ version. IsWriting united version (length united) c.args.steps.now c.loop-next.steps)
+    (to_z-of_z w64 c.args.version c.ranges.version)
+    (subst (λ n. IsWriting united (to_z w64 (of_z w64 c.args.version)) n c.args.steps.now c.loop-next.steps)
+    (all ∙ sym count) (c.loop-next.invariant.written united spanned))

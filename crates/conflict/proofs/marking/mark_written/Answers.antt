@@ -5,7 +5,7 @@ use Rattle.keyspace.specs.contracts.reply.Verdict.{the_type}
 use Rattle.keyspace.specs.declared.reply.Verdict.{Verdict}
 use Rattle.keyspace.specs.declared.reply.Verdict.TheVariants.{Conflict, TooOld, Committed}
 use Rattle.conflict.proofs.Marks.{AreMarksOf, counts, marks_next, resized}
-use Rattle.conflict.proofs.written.mark_written.Goals as goal
+use Rattle.conflict.proofs.marking.mark_written.Goals as goal
 
 -- what the comparison says
 says : (verdict : Verdict) → sameb the_type verdict Committed ≡ counts verdict
