@@ -1,12 +1,10 @@
 -- Ranges and transactions have the fields that they are made of, and these keep their limits.
-use Rattle.std.proofs.Common.{◌≡◌, ◌≤◌, ◌<◌, ◌+◌, ◌-◌, ℕ, List, [], ◌∷◌, length, map, refl, sym, ap, ap₂, ◌∙◌, subst, All, Some, slice_get, slice_range, slice_index_or, get_or, take, drop}
-use Rattle.std.proofs.lemmas.List.{length-map, take-map, drop-map, get_or-map}
+use Rattle.std.proofs.Common.{◌≡◌, List, [], ◌∷◌, map, refl, ap, ap₂, All, slice_index_or}
+use Rattle.std.proofs.lemmas.List.{length-map}
 use Rattle.std.proofs.lemmas.List.Elements.{All-head, All-tail, All-map}
-use Rattle.std.proofs.lemmas.Option.{slice_get-get_or}
 use Rattle.keys.specs.declared.range.Range.{Range}
 use Rattle.keyspace.specs.declared.txn.Txn.{Txn}
 use Rattle.keyspace.specs.Fields.{RangeFields, TxnFields, range_fields, txn_fields, RangeHolds, TxnLimits, ranges_with, txn_with, txns_with}
-use Rattle.keyspace.proofs.SameFields.{same_ranges, same_range, same_txn}
 
 pub fields_of_ranges : (ranges : List RangeFields) (holds : All RangeHolds ranges)
     → map range_fields (ranges_with ranges holds) ≡ ranges

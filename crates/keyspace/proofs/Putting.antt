@@ -1,5 +1,5 @@
 -- Appending leaves what spans within the buffer tell, so ranges can be appended one after the other.
-use Rattle.std.proofs.Common.{◌≡◌, ◌≤◌, ◌+◌, ℕ, List, [], ◌∷◌, ◌++◌, length, map, refl, sym, ap, ap₂, ◌∙◌, subst, All, slice_range, arith, length-append, append_assoc, append-nil}
+use Rattle.std.proofs.Common.{◌≡◌, ◌+◌, ℕ, List, [], ◌∷◌, ◌++◌, length, map, refl, sym, ap, ap₂, ◌∙◌, subst, All, slice_range, arith, length-append, append_assoc, append-nil}
 use Rattle.std.proofs.lemmas.List.{map-append, length-map}
 use Rattle.std.proofs.lemmas.List.Elements.{All-nil, All-cons, All-head, All-tail, All-append, All-weaker}
 use Rattle.keyspace.specs.declared.span.Span.{Span}
@@ -53,12 +53,12 @@ put_one buffer spans range new_buffer span is begin begin_length end end_length 
     let two = length-append (buffer ++ range.begin) range.end in
     let long = ap length is in
     let begin_told : bytes_at new_buffer span.begin span.begin_length ≡ range.begin =
-        ap₂ (λ bytes from. slice_range bytes from (from + span.begin_length)) (is ∙ joined) begin
-        ∙ slice_range-appended buffer range.begin range.end (length buffer + span.begin_length) (omega arith) in
+    ap₂ (λ bytes from. slice_range bytes from (from + span.begin_length)) (is ∙ joined) begin
+    ∙ slice_range-appended buffer range.begin range.end (length buffer + span.begin_length) (omega arith) in
     let end_told : bytes_at new_buffer span.end span.end_length ≡ range.end =
-        ap₂ (λ bytes from. slice_range bytes from (from + span.end_length))
-        (is ∙ ap (λ bytes. buffer ++ range.begin ++ bytes) (sym (append-nil range.end))) end
-        ∙ slice_range-appended (buffer ++ range.begin) range.end [] (length (buffer ++ range.begin) + span.end_length) (omega arith) in
+    ap₂ (λ bytes from. slice_range bytes from (from + span.end_length))
+    (is ∙ ap (λ bytes. buffer ++ range.begin ++ bytes) (sym (append-nil range.end))) end
+    ∙ slice_range-appended (buffer ++ range.begin) range.end [] (length (buffer ++ range.begin) + span.end_length) (omega arith) in
     record {
       bytes = range.begin ++ range.end;
       added = span ∷ [];

@@ -1,9 +1,9 @@
 -- The ranges that spans tell, by their indices.
-use Rattle.std.proofs.Common.{◌≡◌, ◌≤◌, ◌<◌, ℕ, List, length, map, refl, sym, ap, ◌∙◌, subst, All, Some, slice_get, slice_range, get_or}
+use Rattle.std.proofs.Common.{◌≡◌, ◌<◌, ℕ, List, length, map, refl, sym, ap, ◌∙◌, subst, All, Some, slice_get, slice_range, get_or}
 use Rattle.std.proofs.lemmas.List.{length-map, get_or-map}
 use Rattle.keys.specs.declared.range.Range.{Range}
 use Rattle.keyspace.specs.declared.span.Span.{Span}
-use Rattle.keyspace.specs.Fields.{RangeFields, range_fields, RangeHolds, ranges_with, length-ranges_with}
+use Rattle.keyspace.specs.Fields.{range_fields, RangeHolds, ranges_with, length-ranges_with}
 use Rattle.keyspace.specs.Tables.{range_told}
 use Rattle.keyspace.proofs.SameFields.{same_range, same_ranges}
 use Rattle.keyspace.proofs.FieldsBack.{fields_of_ranges}

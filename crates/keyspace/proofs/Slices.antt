@@ -1,5 +1,5 @@
 -- Lemmas on the part of a list from one index up to another.
-use Rattle.std.proofs.Common.{◌≡◌, ◌≤◌, ◌<◌, ◌+◌, ◌-◌, ℕ, List, [], ◌∷◌, ◌++◌, length, map, refl, sym, ap, ◌∙◌, All, Some, slice_get, slice_range, take, drop, get_or, arith, drop-drop, drop_at, take_all, take-add, length-append}
+use Rattle.std.proofs.Common.{◌≡◌, ◌≤◌, ◌<◌, ◌+◌, ◌-◌, ℕ, List, ◌++◌, length, map, refl, sym, ap, ◌∙◌, All, Some, slice_get, slice_range, take, drop, get_or, arith, drop-drop, drop_at, take_all, take-add}
 use Rattle.std.proofs.lemmas.List.{take-map, drop-map, take-append-le, get_or-map}
 use Rattle.std.proofs.lemmas.List.Elements.{All-take, All-drop}
 use Rattle.std.proofs.lemmas.Slice.{between_is}

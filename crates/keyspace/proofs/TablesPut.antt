@@ -2,10 +2,10 @@
 use Rattle.std.proofs.Common.{◌≡◌, ◌≤◌, ◌+◌, ℕ, List, [], ◌∷◌, ◌++◌, length, map, refl, sym, ap, ap₂, ◌∙◌, subst, subst₂, All, flat_map, slice_range, arith, length-append, append_assoc, append-nil}
 use Rattle.std.proofs.lemmas.List.{map-append}
 use Rattle.std.proofs.lemmas.List.Concat.{flat_map-append}
-use Rattle.std.proofs.lemmas.List.Elements.{All-nil, All-cons, All-head, All-tail, All-append, All-push, All-weaker}
+use Rattle.std.proofs.lemmas.List.Elements.{All-head, All-tail, All-append, All-push, All-weaker}
 use Rattle.keyspace.specs.declared.span.Span.{Span}
 use Rattle.keyspace.specs.declared.row.Row.{Row}
-use Rattle.keyspace.specs.Fields.{RangeFields, TxnFields, TxnLimits}
+use Rattle.keyspace.specs.Fields.{TxnFields, TxnLimits}
 use Rattle.keyspace.specs.Tables.{range_told, txn_told, txns_told, LiesWithin, IsRowOf, AreTables}
 use Rattle.keyspace.specs.Putting.{ArePut}
 use Rattle.keyspace.proofs.Slices.{All-slice_range, slice_range-append, slice_range-appended}
@@ -30,7 +30,7 @@ txns_kept buffer more spans added (row ∷ rows) lie within =
     let reads = part_kept buffer more spans added row.reads row.writes lie (omega arith) in
     let writes = part_kept buffer more spans added row.writes row.end lie first.within in
     let txn : txn_told (buffer ++ more) (spans ++ added) row ≡ txn_told buffer spans row =
-        λ i. record { snapshot = row.snapshot; marked = row.marked; reads = reads i; writes = writes i } in
+    λ i. record { snapshot = row.snapshot; marked = row.marked; reads = reads i; writes = writes i } in
     ap₂ ◌∷◌ txn (txns_kept buffer more spans added rows lie (All-tail (IsRowOf (length spans)) row rows within))
 
 -- the spans that the row has
@@ -68,14 +68,14 @@ module _ (buffer : List ℕ) (spans : List Span) (rows : List Row) (tables : Are
   row_told =
       let told = range_told (buffer ++ more) in
       let first : slice_range (spans ++ (reads ++ writes)) row.reads row.writes ≡ reads =
-          ap (λ from. slice_range (spans ++ (reads ++ writes)) from row.writes) reads_at
-          ∙ slice_range-appended spans reads writes row.writes writes_at in
+      ap (λ from. slice_range (spans ++ (reads ++ writes)) from row.writes) reads_at
+      ∙ slice_range-appended spans reads writes row.writes writes_at in
       let as_one : spans ++ (reads ++ writes) ≡ (spans ++ reads) ++ (writes ++ []) =
-          sym (append_assoc spans reads writes) ∙ ap (λ ws. (spans ++ reads) ++ ws) (sym (append-nil writes)) in
+      sym (append_assoc spans reads writes) ∙ ap (λ ws. (spans ++ reads) ++ ws) (sym (append-nil writes)) in
       let mid : row.writes ≡ length (spans ++ reads) = omega (arith, length-append spans reads) in
       let second : slice_range (spans ++ (reads ++ writes)) row.writes row.end ≡ writes =
-          ap₂ (λ ss from. slice_range ss from row.end) as_one mid
-          ∙ slice_range-appended (spans ++ reads) writes [] row.end (omega (arith, length-append spans reads)) in
+      ap₂ (λ ss from. slice_range ss from row.end) as_one mid
+      ∙ slice_range-appended (spans ++ reads) writes [] row.end (omega (arith, length-append spans reads)) in
       λ i. record {
         snapshot = snapshot i;
         marked = marked i;
@@ -83,7 +83,7 @@ module _ (buffer : List ℕ) (spans : List Span) (rows : List Row) (tables : Are
         writes = (ap (map told) second ∙ writes_told) i;
       }
 
-  pub told_put : txns_told (buffer ++ more) (spans ++ (reads ++ writes)) (rows ++ row ∷ []) ≡ txns_told buffer spans rows ++ txn ∷ []
+  told_put : txns_told (buffer ++ more) (spans ++ (reads ++ writes)) (rows ++ row ∷ []) ≡ txns_told buffer spans rows ++ txn ∷ []
   told_put =
       map-append (txn_told (buffer ++ more) (spans ++ (reads ++ writes))) rows (row ∷ [])
       ∙ ap₂ (λ txns last. txns ++ last ∷ [])
@@ -92,13 +92,13 @@ module _ (buffer : List ℕ) (spans : List Span) (rows : List Row) (tables : Are
   whole_put : flat_map (spans_of (spans ++ (reads ++ writes))) (rows ++ row ∷ []) ≡ spans ++ (reads ++ writes)
   whole_put =
       let last : slice_range (spans ++ (reads ++ writes)) row.reads row.end ≡ reads ++ writes =
-          ap₂ (λ ss from. slice_range ss from row.end) (ap (λ ss. spans ++ ss) (sym (append-nil (reads ++ writes)))) reads_at
-          ∙ slice_range-appended spans (reads ++ writes) [] row.end (omega (arith, length-append reads writes)) in
+      ap₂ (λ ss from. slice_range ss from row.end) (ap (λ ss. spans ++ ss) (sym (append-nil (reads ++ writes)))) reads_at
+      ∙ slice_range-appended spans (reads ++ writes) [] row.end (omega (arith, length-append reads writes)) in
       flat_map-append (spans_of (spans ++ (reads ++ writes))) rows (row ∷ [])
       ∙ ap₂ ◌++◌ (spans_kept spans (reads ++ writes) rows tables.rows_within ∙ tables.whole)
       (append-nil (spans_of (spans ++ (reads ++ writes)) row) ∙ last)
 
-  pub tables_put : AreTables (buffer ++ more) (spans ++ (reads ++ writes)) (rows ++ row ∷ [])
+  tables_put : AreTables (buffer ++ more) (spans ++ (reads ++ writes)) (rows ++ row ∷ [])
   tables_put = record {
     spans_within = All-append (LiesWithin (length (buffer ++ more))) spans (reads ++ writes)
         (within_kept buffer more spans tables.spans_within) lie;
@@ -126,12 +126,12 @@ txn_put buffer buffer₁ buffer₂ spans spans₁ spans₂ rows row txn tables l
     let bytes : buffer₂ ≡ buffer ++ both.bytes = both.buffer_is in
     let places : spans₂ ≡ spans ++ (first.added ++ second.added) = both.spans_are in
     let lie : All (LiesWithin (length (buffer ++ both.bytes))) (first.added ++ second.added) =
-        subst (λ bs. All (LiesWithin (length bs)) (first.added ++ second.added)) bytes both.within in
+    subst (λ bs. All (LiesWithin (length bs)) (first.added ++ second.added)) bytes both.within in
     let reads_told : map (range_told (buffer ++ both.bytes)) first.added ≡ txn.reads =
-        ap (λ bs. map (range_told bs) first.added) (sym bytes ∙ second.buffer_is)
-        ∙ ranges_kept buffer₁ second.bytes first.added first.within ∙ first.told in
+    ap (λ bs. map (range_told bs) first.added) (sym bytes ∙ second.buffer_is)
+    ∙ ranges_kept buffer₁ second.bytes first.added first.within ∙ first.told in
     let writes_told : map (range_told (buffer ++ both.bytes)) second.added ≡ txn.writes =
-        ap (λ bs. map (range_told bs) second.added) (sym bytes) ∙ second.told in
+    ap (λ bs. map (range_told bs) second.added) (sym bytes) ∙ second.told in
     let long = ap length first.spans_are ∙ length-append spans first.added in
     let longer = ap length second.spans_are ∙ length-append spans₁ second.added in
     let writes_at : row.writes ≡ length spans + length first.added = omega arith in

@@ -1,5 +1,5 @@
 -- The ranges that tables tell: those of all spans, at most so many as the limits allow.
-use Rattle.std.proofs.Common.{◌≡◌, ◌≤◌, ◌+◌, ◌*◌, ℕ, List, [], ◌∷◌, ◌++◌, length, map, refl, sym, ap, ap₂, ◌∙◌, subst, All, flat_map, slice_range, arith, length-append, append_assoc}
+use Rattle.std.proofs.Common.{◌≡◌, ◌≤◌, ◌*◌, ℕ, List, [], ◌∷◌, ◌++◌, length, map, refl, sym, ap, ap₂, ◌∙◌, subst, All, flat_map, slice_range, arith, length-append}
 use Rattle.std.proofs.lemmas.List.{length-map, map-append}
 use Rattle.std.proofs.lemmas.List.Elements.{All-nil, All-head, All-tail, All-append}
 use Rattle.keys.specs.declared.range.Range.{Range}
@@ -8,7 +8,7 @@ use Rattle.keyspace.specs.declared.span.Span.{Span}
 use Rattle.keyspace.specs.declared.row.Row.{Row}
 use Rattle.keyspace.specs.BatchRanges.{ranges_in}
 use Rattle.keyspace.specs.Fields.{RangeFields, TxnFields, range_fields, txn_fields, RangeHolds, TxnLimits, txns_with}
-use Rattle.keyspace.specs.Tables.{range_told, txn_told, txns_told, LiesWithin, IsRowOf, AreTables}
+use Rattle.keyspace.specs.Tables.{range_told, txn_told, txns_told, IsRowOf, AreTables}
 use Rattle.keyspace.proofs.SameFields.{same_ranges}
 use Rattle.keyspace.proofs.FieldsBack.{fields_of_txns}
 use Rattle.keyspace.proofs.Slices.{slice_range-join}
@@ -66,7 +66,7 @@ module _ (buffer : List ℕ) (spans : List Span) (rows : List Row) (tables : Are
   few_spans =
       let few = few_in (txns_told buffer spans rows) tables.holds in
       let as_spans : length (fields_in (txns_told buffer spans rows)) ≡ length spans =
-          ap length told_by_spans ∙ length-map spans (range_told buffer) in
+      ap length told_by_spans ∙ length-map spans (range_told buffer) in
       let as_rows : length (txns_told buffer spans rows) ≡ length rows = length-map rows (txn_told buffer spans) in
       omega arith
 

@@ -1,5 +1,5 @@
 -- The transactions that tables tell, by their indices.
-use Rattle.std.proofs.Common.{◌≡◌, ◌≤◌, ◌<◌, ℕ, List, length, map, refl, sym, ap, ◌∙◌, subst, All, Some, slice_get, get_or}
+use Rattle.std.proofs.Common.{◌≡◌, ◌<◌, ℕ, List, length, map, sym, ap, ◌∙◌, subst, All, Some, slice_get, get_or}
 use Rattle.std.proofs.lemmas.List.{length-map, get_or-map}
 use Rattle.keyspace.specs.declared.txn.Txn.{Txn}
 use Rattle.keyspace.specs.declared.span.Span.{Span}

@@ -67,7 +67,11 @@ impl Tables {
 }
 
 // Appends the keys of the ranges to the buffer, and their spans to the others.
-fn put_ranges(buffer: &mut Vec<u8>, spans: &mut Vec<Span>, ranges: &[Range]) -> Result<(), AllocError>
+fn put_ranges(
+    buffer: &mut Vec<u8>,
+    spans: &mut Vec<Span>,
+    ranges: &[Range],
+) -> Result<(), AllocError>
     ensures put { OnOk result (ArePut buffer.old.items spans.old.items (map range_fields ranges.now)
         buffer.new.items spans.new.items) }
 {

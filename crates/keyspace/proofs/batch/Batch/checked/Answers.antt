@@ -1,6 +1,5 @@
-use Rattle.std.proofs.Common.{rules, ◌≡◌, IsTrue, IsErrOf, ap}
+use Rattle.std.proofs.Common.{rules}
 use Rattle.std.proofs.lemmas.Int.{to_z-of_z}
-use Rattle.std.specs.Prelude.{ℤ}
 use Rattle.keyspace.specs.Versions.{AreVersions}
 use Rattle.keyspace.proofs.batch.Batch.checked.Goals as goal
 

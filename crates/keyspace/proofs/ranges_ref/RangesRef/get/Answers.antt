@@ -1,4 +1,4 @@
-use Rattle.std.proofs.Common.{rules, arith, ◌<◌, length, get_or, sym, ap, ◌∙◌, slice_get}
+use Rattle.std.proofs.Common.{rules, arith, ◌<◌, length, sym, ap, ◌∙◌, slice_get}
 use Rattle.keyspace.proofs.RangesTold.{no_span, length-told, holds_at, range_at}
 use Rattle.keyspace.proofs.ranges_ref.RangesRef.get.Goals as goal
 use Rattle.keyspace.proofs.ranges_ref.RangesRef.get.Goals.{After-self}

@@ -1,4 +1,4 @@
-use Rattle.std.proofs.Common.{rules, arith, ◌≡◌, [], ◌∷◌, ◌++◌, ◌≤◌, ◌+◌, ◌*◌, length, map, FitsSigned, w64, refl, sym, ◌∙◌, subst}
+use Rattle.std.proofs.Common.{rules, arith, ◌≡◌, [], ◌∷◌, ◌++◌, ◌≤◌, ◌+◌, length, map, FitsSigned, w64, refl, sym, ◌∙◌, subst}
 use Rattle.std.proofs.lemmas.Int.{to_z-of_z}
 use Rattle.std.proofs.lemmas.List.{length-map}
 use Rattle.keyspace.specs.Fields.{range_fields, txn_fields}
@@ -48,14 +48,14 @@ pub overflow_cast-writes : goal.overflow_cast-writes
 overflow_cast-writes c =
     let at = goal.at.overflow_cast-writes c in
     let fits : c.len-writes.result ≤ 8388608 =
-        omega (arith, few at.Start, more_reads at.In_ok-put_ranges, c.put_ranges.new.spans.ok.0) in
+    omega (arith, few at.Start, more_reads at.In_ok-put_ranges, c.put_ranges.new.spans.ok.0) in
     search rules
 
 pub overflow_cast-end : goal.overflow_cast-end
 overflow_cast-end c =
     let at = goal.at.overflow_cast-end c in
     let fits : c.len-end.result ≤ 8388608 =
-        omega (arith, few at.Start, more_reads at.In_ok-put_ranges, more_writes at.In_ok-put_ranges-2, c.put_ranges-2.new.spans.ok.0) in
+    omega (arith, few at.Start, more_reads at.In_ok-put_ranges, more_writes at.In_ok-put_ranges-2, c.put_ranges-2.new.spans.ok.0) in
     search rules
 
 all_put : (c : In_ok-push)

@@ -1,4 +1,4 @@
-use Rattle.std.proofs.Common.{arith, ◌≡◌, ◌≤◌, length, map, sym, ap, ◌∙◌, subst}
+use Rattle.std.proofs.Common.{arith, ◌≡◌, length, sym, ap, ◌∙◌, subst}
 use Rattle.std.proofs.lemmas.List.{length-map}
 use Rattle.keys.specs.Ranks.{AreRanked}
 use Rattle.keyspace.specs.Fields.{range_fields}
@@ -16,8 +16,8 @@ pub new-requires-2 : goal.new-requires-2
 new-requires-2 c =
     let few = few_spans c.args.buffer.items c.args.spans.items c.args.rows.items c.requires.tables in
     let told : length c.new.result ≡ length c.deref-2.result.now =
-        sym (length-map c.new.result range_fields) ∙ ap length c.new.ensures.told
-        ∙ length-map c.deref-2.result.now (range_told c.deref.result.now) in
+    sym (length-map c.new.result range_fields) ∙ ap length c.new.ensures.told
+    ∙ length-map c.deref-2.result.now (range_told c.deref.result.now) in
     record { few = omega (arith, ap length c.deref-2.ensures.value, c.args.rows.ok.0) }
 
 pub invariant_of-result-2 : goal.invariant_of-result-2

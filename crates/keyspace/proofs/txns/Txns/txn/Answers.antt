@@ -1,4 +1,4 @@
-use Rattle.std.proofs.Common.{rules, arith, ◌≡◌, ◌≤◌, ◌<◌, length, map, get_or, slice_get, slice_range, FitsSigned, w64, sym, ap, ◌∙◌, subst, refl}
+use Rattle.std.proofs.Common.{rules, arith, ◌≡◌, ◌≤◌, ◌<◌, length, map, slice_get, FitsSigned, w64, sym, ap, ◌∙◌, subst, refl}
 use Rattle.std.specs.Prelude.{◌≤ℤ◌, pos}
 use Rattle.std.proofs.lemmas.Int.{to_z-of_z}
 use Rattle.std.proofs.lemmas.List.{length-map}
@@ -72,10 +72,9 @@ invariant_of-result c =
     let fits : FitsSigned w64 row.snapshot = search rules in
     let limits = limits_of at.After-index-row (within_rows at.After-self) in
     let reads = part_told tables.buffer.items tables.spans.items c.ranges-ranges.result c.slice.result row.reads row.writes
-        (told at.After-ranges-ranges) c.slice.ensures.ranges in
+    (told at.After-ranges-ranges) c.slice.ensures.ranges in
     let writes = part_told tables.buffer.items tables.spans.items c.ranges-ranges.result c.slice-2.result row.writes row.end
-        (told at.After-ranges-ranges) c.slice-2.ensures.ranges in
-    (
+    (told at.After-ranges-ranges) c.slice-2.ensures.ranges in (
       subst (λ snapshot. pos 0 ≤ℤ snapshot) (sym (to_z-of_z w64 row.snapshot fits)) limits.snapshot,
       (
         subst (λ n. n ≤ 1024) (sym (ap length reads) ∙ length-map c.slice.result range_fields) limits.few_reads,
@@ -93,9 +92,9 @@ returns c =
     let row = c.index-row.result.now in
     let fits : FitsSigned w64 row.snapshot = search rules in
     let reads = part_told tables.buffer.items tables.spans.items c.ranges-ranges.result c.slice.result row.reads row.writes
-        (told at.After-ranges-ranges) c.slice.ensures.ranges in
+    (told at.After-ranges-ranges) c.slice.ensures.ranges in
     let writes = part_told tables.buffer.items tables.spans.items c.ranges-ranges.result c.slice-2.result row.writes row.end
-        (told at.After-ranges-ranges) c.slice-2.ensures.ranges in
+    (told at.After-ranges-ranges) c.slice-2.ensures.ranges in
     record {
       txn = ap (λ txns. slice_get txns c.args.index) (sym c.self.view_is)
           ∙ txn_at tables.buffer.items tables.spans.items tables.rows.items tables.tables.holds c.args.index row _
