@@ -1,4 +1,5 @@
-use Rattle.std.proofs.Common.{◌≡◌, ◌++◌, ◌∙◌, take, drop, ap, sym, subst}
+use Rattle.std.proofs.Common.{◌≡◌, ◌++◌, ◌∙◌, length, take, drop, ap, sym, subst}
+use Rattle.keyspace.specs.declared.txn.Txn.{Txn}
 use Rattle.conflict.specs.Written.{AreWrittenGaps, TellRuns}
 use Rattle.keyspace.specs.Writes.{counted}
 use Rattle.conflict.proofs.Told.{told_split}
@@ -10,7 +11,7 @@ pub returns-in_ok-place_if_marked-clause-judged : goal.returns-in_ok-place_if_ma
 returns-in_ok-place_if_marked-clause-judged c = λ keys written tell told have.
     let t = c.args.txn.now in
     let runs = c.args.runs.now in
-    let front = c.split_at.ensures.front ∙ ap (λ n. take n runs) c.len.ensures.count in
+    let front = c.split_at.ensures.front ∙ ap (λ n. take n runs) (c.len.ensures.count ∙ ap (λ (u : Txn). length u.reads) c.txn.view_is) in
     let reads : TellRuns keys c.split_at.result.0.now t.reads =
     rw front (told_split keys runs t.reads t.writes tell).0 in
     met_entry written t c.args.entry.now c.new.result c.in-Some.place c.requires.open
@@ -26,7 +27,7 @@ pub returns-in_default-clause-judged : goal.returns-in_default-clause-judged
 returns-in_default-clause-judged c = λ keys written tell told have.
     let t = c.args.txn.now in
     let runs = c.args.runs.now in
-    let front = c.split_at.ensures.front ∙ ap (λ n. take n runs) c.len.ensures.count in
+    let front = c.split_at.ensures.front ∙ ap (λ n. take n runs) (c.len.ensures.count ∙ ap (λ (u : Txn). length u.reads) c.txn.view_is) in
     let reads : TellRuns keys c.split_at.result.0.now t.reads =
     rw front (told_split keys runs t.reads t.writes tell).0 in
     unmet_entry written t c.args.entry.now c.requires.open
@@ -36,7 +37,7 @@ pub returns-in_default-clause-marked : goal.returns-in_default-clause-marked
 returns-in_default-clause-marked c = λ keys written tell told have.
     let t = c.args.txn.now in
     let runs = c.args.runs.now in
-    let back = c.split_at.ensures.back ∙ ap (λ n. drop n runs) c.len.ensures.count in
+    let back = c.split_at.ensures.back ∙ ap (λ n. drop n runs) (c.len.ensures.count ∙ ap (λ (u : Txn). length u.reads) c.txn.view_is) in
     let writes : TellRuns keys c.split_at.result.1.now t.writes =
     rw back (told_split keys runs t.reads t.writes tell).1 in
     let counts : t.writes ≡ counted c.args.entry.now.verdict t.writes =
