@@ -21,7 +21,8 @@ pub fn mark_written(
     ensures count { OnOk result (length written.new.items ≡ length (ranges_in batch.now.txns)) }
 {
     written.clear();
-    for (index, txn) in batch.txns.as_slice().iter().enumerate() {
+    for index in 0..batch.txns.len() {
+        let txn = batch.txns.txn(index);
         let commits = entries[index].verdict == Verdict::Committed;
         written.resize(written.len() + txn.reads.len(), false)?;
         written.resize(written.len() + txn.writes.len(), commits)?;

@@ -1,9 +1,11 @@
-use Rattle.std.proofs.Common.{◌≡◌, ◌+◌, ◌-◌, ◌++◌, ◌∙◌, length, get_or, replicate, refl, sym, ap, subst, arith, append_assoc, false, [], take}
+use Rattle.std.proofs.Common.{◌≡◌, ◌+◌, ◌-◌, ◌++◌, ◌∙◌, ◌<◌, length, get_or, replicate, refl, sym, ap, subst, arith, append_assoc, false, [], take}
 use Rattle.std.proofs.lemmas.List.{take_all}
 use denote.Enum.Bare.{sameb}
 use Rattle.keyspace.specs.contracts.reply.Verdict.{the_type}
 use Rattle.keyspace.specs.declared.reply.Verdict.{Verdict}
 use Rattle.keyspace.specs.declared.reply.Verdict.TheVariants.{Conflict, TooOld, Committed}
+use Rattle.keyspace.specs.declared.txn.Txn.{Txn}
+use Rattle.conflict.proofs.Parts.{lent_at}
 use Rattle.conflict.proofs.Marks.{AreMarksOf, counts, marks_next, resized}
 use Rattle.conflict.proofs.marking.mark_written.Goals as goal
 
@@ -21,9 +23,11 @@ pub loop-index-preserved : goal.loop-index-preserved
 loop-index-preserved c =
     let txns = c.args.batch.now.txns in
     let i = c.loop-index.index in
-    let t = c.txn-item.result in
+    let t = c.txn-txn.result in
+    let inside : i < length txns = omega (arith, c.loop-index-test.true, c.len-index-end.ensures.count) in
+    let reads : c.txn.inside.reads ≡ t.reads = ap (λ (u : Txn). u.reads) c.txn.view_is in
+    let writes : c.txn.inside.writes ≡ t.writes = ap (λ (u : Txn). u.writes) c.txn.view_is in
     let e = c.index-entries-index.result in
-    let items = c.as_slice-txn-items.ensures.txns in
     let old = c.loop-index.written.items in
     let mid = c.resize.new.self.items in
     let new = c.resize-in-loop-index.new.self.items in
@@ -32,14 +36,15 @@ loop-index-preserved c =
     c.eq-commits.ensures ∙ ap (λ x. sameb the_type x.verdict Committed) (sym is_e) ∙ says e.verdict in
     let first : mid ≡ old ++ replicate (length t.reads) false =
     resized old mid false c.len.result c.loop-index.written.len c.len-in-loop-index.result (length t.reads) c.len.ensures
-    c.loop-index.written.ok.0 c.len-in-loop-index.ensures.count c.in_ok-resize.ensures.items in
+    c.loop-index.written.ok.0 (c.len-in-loop-index.ensures.count ∙ ap length reads) c.in_ok-resize.ensures.items in
     let second : new ≡ mid ++ replicate (length t.writes) (counts e.verdict) =
     resized mid new (counts e.verdict) c.len-in-loop-index-2.result c.resize.new.self.len c.len-in-loop-index-3.result
-    (length t.writes) c.len-in-loop-index-2.ensures c.resize.new.self.ok.0 c.len-in-loop-index-3.ensures.count
+    (length t.writes) c.len-in-loop-index-2.ensures c.resize.new.self.ok.0
+    (c.len-in-loop-index-3.ensures.count ∙ ap length writes)
     (c.in_ok-resize-2.ensures.items ∙ ap (λ m. take (c.len-in-loop-index-2.result + c.len-in-loop-index-3.result) mid
     ++ replicate (c.len-in-loop-index-2.result + c.len-in-loop-index-3.result - c.resize.new.self.len) m) commits) in
-    marks_next old new txns c.args.entries.now i t e (omega (arith, ap length items)) c.requires.entries
-    (c.txn-item.is ∙ ap (λ ts. get_or ts i t) items) is_e
+    marks_next old new txns c.args.entries.now i t e inside c.requires.entries
+    (lent_at txns i t inside c.txn-txn.ensures.txn) is_e
     (second ∙ ap (λ ms. ms ++ replicate (length t.writes) (counts e.verdict)) first
     ∙ append_assoc old (replicate (length t.reads) false) (replicate (length t.writes) (counts e.verdict)))
     c.loop-index.invariant
@@ -48,11 +53,10 @@ pub returns : goal.returns
 returns c =
     let txns = c.args.batch.now.txns in
     let i = c.loop-index.index in
-    let items = c.as_slice-txn-items.ensures.txns in
     let all : AreMarksOf c.loop-index.written.items txns c.args.entries.now =
     subst (λ ts. AreMarksOf c.loop-index.written.items ts c.args.entries.now)
-    (take_all i txns (omega (arith, c.loop-index-test.false, ap length items)))
+    (take_all i txns (omega (arith, c.loop-index-test.false, c.len-index-end.ensures.count)))
     (subst (λ es. AreMarksOf c.loop-index.written.items (take i txns) es)
-    (take_all i c.args.entries.now (omega (arith, c.loop-index-test.false, ap length items, c.requires.entries)))
+    (take_all i c.args.entries.now (omega (arith, c.loop-index-test.false, c.len-index-end.ensures.count, c.requires.entries)))
     c.loop-index.invariant) in
     record { written = all.written; count = all.count }
