@@ -1,38 +1,12 @@
 -- Marks of gaps, read off the bits of words.
-use Rattle.std.proofs.Common.{
-  ◌≡◌,
-  ◌≢◌,
-  ℕ,
-  ◌/◌,
-  ◌%◌,
-  ◌<◌,
-  ◌≤◌,
-  Bool,
-  true,
-  false,
-  ◌↔◌,
-  ◌⊎◌,
-  List,
-  [],
-  length,
-  get_or,
-  replicate,
-  refl,
-  sym,
-  ◌∙◌,
-  inl,
-  inr,
-  arith,
-  eq-eqb,
-  eqb-true,
-}
-use Rattle.std.proofs.lemmas.Bool.{cases_eq, cases_lt}
+use Rattle.std.proofs.Common.{◌≡◌, ℕ, ◌/◌, ◌%◌, ◌<◌, ◌≤◌, Bool, true, false, ◌↔◌, ◌⊎◌, List, [], length, get_or, replicate, refl, sym, ◌∙◌, inl, inr, arith, eq-eqb, eqb-true}
+use Rattle.std.proofs.lemmas.Bool.{cases_lt}
 use Rattle.std.proofs.lemmas.List.{get_or-replicate, get_or_past, length-replicate}
 use Rattle.std.proofs.lemmas.List.FromFn.{length-map-range_with_len, get_or-map-range_with_len}
 use Rattle.std.proofs.lemmas.Nat.Bits.{bit_at-zero}
 use Rattle.std.specs.Prelude.{◌==◌}
 use Rattle.std.specs.Int.{bit_at}
-use Rattle.conflict.specs.Gaps.{HasBit, IsFirstOf, IsInRun, IsMarked, IsNextRun, SomeMarked, marks_of}
+use Rattle.conflict.specs.Gaps.{HasBit, IsInRun, IsMarked, SomeMarked, marks_of}
 
 pub length-marks_of : (count : ℕ) (words : List ℕ) → length (marks_of count words) ≡ count
 unfolding marks_of
@@ -106,44 +80,3 @@ some_marked count words from to within = (
   λ found. (found.0, found.1, (IsMarked-marks_of count words found.0).1 (omega arith, found.2)),
   λ found. (found.0, found.1, ((IsMarked-marks_of count words found.0).0 found.2).1),
 )
-
--- no gap from `from` on is marked, where the words have no bit up to the count
-pub none_marked : (count : ℕ) (words : List ℕ) (from found : ℕ) → count ≤ found
-    → ((gap : ℕ) → IsInRun from found gap → ¬ HasBit words gap)
-    → (gap : ℕ) → from ≤ gap → ¬ IsMarked (marks_of count words) gap
-none_marked count words from found past before gap above marked =
-    let has = (IsMarked-marks_of count words gap).0 marked in
-    before gap (above, omega (arith, has.0)) has.1
-
--- a bit that isn't unset is set
-HasBit-unless_not : (words : List ℕ) (bit : ℕ) → ¬ (¬ HasBit words bit) → HasBit words bit
-unfolding HasBit
-HasBit-unless_not words bit not_unset =
-    elim (cases_eq (bit_at (get_or words (bit / 64) 0) (bit % 64)) 1) [
-      | inl set ↦ set
-      | inr unset ↦ absurd (not_unset unset)
-    ]
-
--- the first set bit and the first after it that isn't set are a run's ends
-pub next_run_found : (count : ℕ) (words : List ℕ) (from begin end : ℕ) → begin ≢ count
-    → IsFirstOf (HasBit words) from count begin → IsFirstOf (λ bit. ¬ HasBit words bit) begin count end
-    → IsNextRun (marks_of count words) from (begin, end)
-next_run_found count words from begin end some first last =
-    let long = length-marks_of count words in
-    let within = last.within in
-    let below : begin < count = omega (arith, first.within) in
-    record {
-      after = first.after;
-      filled = elim (cases_eq begin end) [
-        | inl same ↦ absurd (last.here (omega arith) (rw same at (first.here below)))
-        | inr apart ↦ omega (arith, last.after)
-      ];
-      within = omega arith;
-      before = λ gap inside marked. first.before gap inside ((IsMarked-marks_of count words gap).0 marked).1;
-      marked = λ gap inside.
-          (IsMarked-marks_of count words gap).1
-          (omega (arith, inside.1), HasBit-unless_not words gap (last.before gap inside));
-      ended = λ marked.
-          let has = (IsMarked-marks_of count words end).0 marked in
-          last.here has.0 has.1;
-    }

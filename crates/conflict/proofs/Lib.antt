@@ -1,6 +1,5 @@
 pub mod GapsWords
 pub mod GapsFound
-pub mod GapsNext
 pub mod GapsMarks
 pub mod InBatch
 pub mod Hits

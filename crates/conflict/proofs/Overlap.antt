@@ -1,5 +1,5 @@
 -- A range overlaps one of a list exactly if their runs have a gap in common.
-use Rattle.std.proofs.Common.{◌≡◌, ℕ, List, subst}
+use Rattle.std.proofs.Common.{ℕ, List, subst}
 use Rattle.std.specs.Prelude.{IsTrue, All, Any}
 use Rattle.keys.specs.declared.range.Range.{Range}
 use Rattle.keys.specs.Range.{Meets, ranges_meet}

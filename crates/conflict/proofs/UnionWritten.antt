@@ -1,5 +1,5 @@
 -- The ranges that the spans name are written, so what they unite is.
-use Rattle.std.proofs.Common.{◌≡◌, ℕ, ◌+◌, ◌*◌, ◌<◌, ◌≤◌, List, [], ◌∷◌, ◌++◌, length, refl, sym, ap, subst, ◌∙◌, arith, inl, inr}
+use Rattle.std.proofs.Common.{◌≡◌, ℕ, ◌+◌, ◌*◌, ◌<◌, List, [], ◌∷◌, ◌++◌, length, refl, sym, subst, arith, inl, inr}
 use Rattle.std.proofs.lemmas.Bool.{cases_lt}
 use Rattle.std.specs.Prelude.{ℤ, ◌≤ℤ◌}
 use Rattle.std.specs.List.{AllZip}
@@ -10,10 +10,10 @@ use Rattle.keys.specs.declared.range.Range.{Range}
 use Rattle.stepmap.specs.StepMap.{Steps}
 use Rattle.stepmap.specs.Writing.{AreApart}
 use Rattle.stepmap.specs.Uniting.{Unites}
-use Rattle.stepmap.specs.Counting.{live_count, filled_count}
+use Rattle.stepmap.specs.Counting.{live_count}
 use Rattle.stepmap.specs.Laws.{ApartWriteInTurn, CountedAlong, IsWriting, IsWritten}
 use Rattle.conflict.specs.declared.union.Span.{Span}
-use Rattle.conflict.specs.Union.{AreSpanned, Spans}
+use Rattle.conflict.specs.Union.{AreSpanned}
 use Rattle.stepmap.specs.declared.error.StepError.{StepError}
 use Rattle.stepmap.specs.declared.error.StepError.TheVariants as step
 use Rattle.conflict.specs.declared.error.SetStop.TheVariants.{Memory, ArenaFull}

@@ -1,22 +1,5 @@
 -- Sets of gaps: the list of their marks, and the words that keep them, one bit a gap.
-use Rattle.std.specs.Prelude.{
-  ◌≡◌,
-  ℕ,
-  ◌/◌,
-  ◌%◌,
-  ◌<◌,
-  ◌≤◌,
-  ◌==◌,
-  Bool,
-  bit_xor,
-  false,
-  IsTrue,
-  List,
-  length,
-  map,
-  slice_index,
-  slice_index_or,
-}
+use Rattle.std.specs.Prelude.{◌≡◌, ℕ, ◌/◌, ◌%◌, ◌<◌, ◌≤◌, ◌==◌, Bool, false, IsTrue, List, map, slice_index, slice_index_or}
 use Rattle.std.specs.List.{range_with_len}
 use Rattle.std.specs.Int.{bit_at}
 
@@ -32,16 +15,6 @@ IsMarked marks gap = IsTrue (slice_index_or marks gap false)
 abbrev pub SomeMarked : List Bool → ℕ → ℕ → Type 0
 SomeMarked marks from to = (gap : ℕ) × IsInRun from to gap × IsMarked marks gap
 
--- The run is the next one of marked gaps from `from` on: no gap of from..run.0 is marked, each gap of
--- run.0..run.1 is, and the gap run.1 isn't. The gap before `from` may be marked too.
-pub record IsNextRun (marks : List Bool) (from : ℕ) (run : ℕ × ℕ) : Type 0 where
-  pub after : from ≤ run.0
-  pub filled : run.0 < run.1
-  pub within : run.1 ≤ length marks
-  pub before : (gap : ℕ) → IsInRun from run.0 gap → ¬ IsMarked marks gap
-  pub marked : (gap : ℕ) → IsInRun run.0 run.1 gap → IsMarked marks gap
-  pub ended : ¬ IsMarked marks run.1
-
 -- the words have the bit, which is bit `bit % 64` of word `bit / 64`
 unfoldable pub HasBit : List ℕ → ℕ → Type 0
 HasBit words bit = bit_at (slice_index words (bit / 64)) (bit % 64) ≡ 1
@@ -49,17 +22,6 @@ HasBit words bit = bit_at (slice_index words (bit / 64)) (bit % 64) ≡ 1
 -- the bit is one that a mask of this word has
 abbrev pub IsInWord : ℕ → ℕ → ℕ → Type 0
 IsInWord word mask bit = (bit / 64 ≡ word) × (bit_at mask (bit % 64) ≡ 1)
-
--- the bit differs from the one at its place in `plain`
-unfoldable pub Differs : List ℕ → ℕ → ℕ → Type 0
-Differs words plain bit = bit_at (bit_xor (slice_index words (bit / 64)) plain) (bit % 64) ≡ 1
-
--- `found` is the first number of from..to of which P holds, or `to` if there is none
-pub record IsFirstOf (P : ℕ → Type 0) (from to found : ℕ) : Type 0 where
-  pub after : from ≤ found
-  pub within : found ≤ to
-  pub before : (n : ℕ) → IsInRun from found n → ¬ P n
-  pub here : found < to → P found
 
 -- the marks of the gaps below the count, of which the words have the bits
 unfoldable pub marks_of : ℕ → List ℕ → List Bool

@@ -1,10 +1,10 @@
 //! A set of gaps between neighbouring keys, one bit a gap. Its words are kept from batch to batch.
-ghost use Rattle.std.specs.Prelude.{◌≡◌, ◌↔◌, ◌⊎◌, ℕ, ◌≤◌, [], length, IsTrue, IfNone, IfSome, OnErr, OnOk};
-ghost use Rattle.conflict.specs.Gaps.{IsInRun, IsMarked, IsNextRun, SomeMarked};
+ghost use Rattle.std.specs.Prelude.{◌≡◌, ◌↔◌, ◌⊎◌, ℕ, ◌≤◌, [], length, IsTrue, OnErr, OnOk};
+ghost use Rattle.conflict.specs.Gaps.{IsInRun, IsMarked, SomeMarked};
 
 mod words;
 
-use self::words::{any_in_run, next_one, next_zero, set_run};
+use self::words::{any_in_run, set_run};
 use std::alloc::{AllocError, Global};
 use std::marker::Model;
 
@@ -71,22 +71,5 @@ impl Gaps {
         ensures marked { IsTrue result ↔ SomeMarked self.now from to }
     {
         from < to && any_in_run(&self.words, from, to)
-    }
-
-    /// Returns the next run of marked gaps from `from` on, up to the first gap that isn't marked, or `None` if no gap
-    /// from `from` on is marked. The gap before `from` may be marked too.
-    pub fn next_run(&self, from: usize) -> Option<(usize, usize)>
-        ensures some { IfSome result (IsNextRun self.now from) }
-        ensures none { IfNone result ((gap : ℕ) → from ≤ gap → ¬ IsMarked self.now gap) }
-    {
-        if from >= self.count {
-            return None;
-        }
-        let begin = next_one(&self.words, from, self.count);
-        if begin == self.count {
-            return None;
-        }
-        let end = next_zero(&self.words, begin, self.count);
-        Some((begin, end))
     }
 }

@@ -1,7 +1,7 @@
 //! Runs of bits in words. A run takes a mask at each end, and whole words between them.
 ghost use Rattle.std.specs.Prelude.{◌≡◌, ◌↔◌, ◌⊎◌, ℕ, ◌*◌, ◌/◌, ◌<◌, ◌≤◌, IsTrue, length};
 ghost use Rattle.std.specs.Int.{bit_at};
-ghost use Rattle.conflict.specs.Gaps.{Differs, HasBit, IsFirstOf, IsInRun, IsInWord};
+ghost use Rattle.conflict.specs.Gaps.{HasBit, IsInRun, IsInWord};
 
 // The bits of a word from `low` on.
 fn ones_from(low: usize) -> u64
@@ -83,41 +83,4 @@ pub fn any_in_run(words: &[u64], from: usize, to: usize) -> bool
     any_in_word(words, first, ones_from(from % 64))
         || any_in_words(words, first + 1, last)
         || any_in_word(words, last, ones_between(0, to % 64))
-}
-
-// Returns the first bit of the run `from..to` that differs from the one at its place in `plain`, or `to` if there is
-// none.
-fn next_differing(words: &[u64], plain: u64, from: usize, to: usize) -> usize
-    requires ordered { from ≤ to }
-    requires within { to < 64 * length words.now }
-    ensures first { IsFirstOf (Differs words.now plain) from to result }
-{
-    let mut word = from / 64;
-    let mut differing = (words[word] ^ plain) & ones_from(from % 64);
-    while differing == 0 && word < to / 64 {
-        word += 1;
-        differing = words[word] ^ plain;
-    }
-    if differing == 0 {
-        return to;
-    }
-    to.min(64 * word + differing.trailing_zeros() as usize)
-}
-
-/// Returns the first bit of the run `from..to` that is set, or `to` if there is none.
-pub fn next_one(words: &[u64], from: usize, to: usize) -> usize
-    requires ordered { from ≤ to }
-    requires within { to < 64 * length words.now }
-    ensures first { IsFirstOf (HasBit words.now) from to result }
-{
-    next_differing(words, 0, from, to)
-}
-
-/// Returns the first bit of the run `from..to` that isn't set, or `to` if there is none.
-pub fn next_zero(words: &[u64], from: usize, to: usize) -> usize
-    requires ordered { from ≤ to }
-    requires within { to < 64 * length words.now }
-    ensures first { IsFirstOf (λ bit. ¬ HasBit words.now bit) from to result }
-{
-    next_differing(words, u64::MAX, from, to)
 }

@@ -21,8 +21,8 @@ returns-in_err-count-clause-full_united c = λ full ws entries covers rooted jud
     let txns = c.args.batch.now.txns in
     let is = ap Err (sym (of_err _ full c.from_residual-in_err-count.ensures.1)) in
     let edge_is = to_z-of_z w64 c.args.edge c.ranges.edge in
-    let same = c.in_ok-entries.ensures.judged ws covers ∙ ap (λ e. judge_txns e ws [] txns) edge_is ∙ sym judged in
-    let items = committed txns c.in_ok-entries.entries.items in
+    let same = c.deref.ensures.value ∙ c.in_ok-entries.ensures.judged ws covers ∙ ap (λ e. judge_txns e ws [] txns) edge_is ∙ sym judged in
+    let items = committed txns c.deref.result.now in
     let up : c.raise.new.self ≡ raised c.args.edge c.args.steps.now =
     c.raise.ensures.map ∙ ap (λ e. raised e c.args.steps.now) edge_is in
     subst (λ es. IsOverLimitUnited c.args.steps.now.limit c.args.edge ws (committed txns es)) same
@@ -34,8 +34,8 @@ returns-in_err-count-clause-no_room c = λ full ws entries covers judged.
     let txns = c.args.batch.now.txns in
     let is = ap Err (sym (of_err _ full c.from_residual-in_err-count.ensures.1)) in
     let edge_is = to_z-of_z w64 c.args.edge c.ranges.edge in
-    let same = c.in_ok-entries.ensures.judged ws covers ∙ ap (λ e. judge_txns e ws [] txns) edge_is ∙ sym judged in
-    let items = committed txns c.in_ok-entries.entries.items in
+    let same = c.deref.ensures.value ∙ c.in_ok-entries.ensures.judged ws covers ∙ ap (λ e. judge_txns e ws [] txns) edge_is ∙ sym judged in
+    let items = committed txns c.deref.result.now in
     let up : c.raise.new.self ≡ raised c.args.edge c.args.steps.now =
     c.raise.ensures.map ∙ ap (λ e. raised e c.args.steps.now) edge_is in
     subst (λ es. HasNoRoomToWrite (raised c.args.edge c.args.steps.now) (committed txns es)) same
@@ -46,8 +46,8 @@ returns-in_err-count-clause-memory c = λ memory ws entries covers judged.
     let txns = c.args.batch.now.txns in
     let is = ap Err (sym (of_err _ memory c.from_residual-in_err-count.ensures.1)) in
     let edge_is = to_z-of_z w64 c.args.edge c.ranges.edge in
-    let same = c.in_ok-entries.ensures.judged ws covers ∙ ap (λ e. judge_txns e ws [] txns) edge_is ∙ sym judged in
-    let items = committed txns c.in_ok-entries.entries.items in
+    let same = c.deref.ensures.value ∙ c.in_ok-entries.ensures.judged ws covers ∙ ap (λ e. judge_txns e ws [] txns) edge_is ∙ sym judged in
+    let items = committed txns c.deref.result.now in
     let up : c.raise.new.self ≡ raised c.args.edge c.args.steps.now =
     c.raise.ensures.map ∙ ap (λ e. raised e c.args.steps.now) edge_is in
     let now = c.write_batch.new.steps in
@@ -60,8 +60,8 @@ pub returns-clause-covers : goal.returns-clause-covers
 returns-clause-covers c = λ ws covers.
     let txns = c.args.batch.now.txns in
     let version = c.args.batch.now.version in
-    let entries = c.in_ok-entries.entries.items in
-    let same = c.new-2.ensures.entries ∙ c.new.ensures.items in
+    let entries = c.deref.result.now in
+    let same = c.new-2.ensures.entries ∙ c.new.ensures.items ∙ sym c.deref.ensures.value in
     let wrote = c.in_ok-count.ensures.covers ws
     (c.raise.ensures.covers ws covers) in
     c.sweep.ensures.covers (ws ++ writes_of c.args.batch.now c.new-2.result)
@@ -71,8 +71,8 @@ pub returns-clause-rooted : goal.returns-clause-rooted
 returns-clause-rooted c = λ ws rooted.
     let txns = c.args.batch.now.txns in
     let version = c.args.batch.now.version in
-    let entries = c.in_ok-entries.entries.items in
-    let same = c.new-2.ensures.entries ∙ c.new.ensures.items in
+    let entries = c.deref.result.now in
+    let same = c.new-2.ensures.entries ∙ c.new.ensures.items ∙ sym c.deref.ensures.value in
     let wrote = c.in_ok-count.ensures.rooted ws
     (c.raise.ensures.rooted ws rooted) in
     c.sweep.ensures.rooted (ws ++ writes_of c.args.batch.now c.new-2.result)
@@ -82,12 +82,12 @@ pub returns-clause-swept : goal.returns-clause-swept
 returns-clause-swept c = λ ws rooted.
     let txns = c.args.batch.now.txns in
     let version = c.args.batch.now.version in
-    let entries = c.in_ok-entries.entries.items in
+    let entries = c.deref.result.now in
     let old = c.args.steps.now in
     let mid = c.write_batch.new.steps in
     let now = c.sweep.new.self in
     let all = ws ++ at_version version (committed txns entries) in
-    let same = c.new-2.ensures.entries ∙ c.new.ensures.items in
+    let same = c.new-2.ensures.entries ∙ c.new.ensures.items ∙ sym c.deref.ensures.value in
     let raised : c.raise.new.self.edge ≡ c.args.edge =
     ap (λ (m : Steps). m.edge) c.raise.ensures.map ∙ to_z-of_z w64 c.args.edge c.ranges.edge in
     let mid_edge : mid.edge ≡ c.args.edge = c.in_ok-count.ensures.edge ∙ raised in
@@ -109,8 +109,8 @@ returns-clause-swept c = λ ws rooted.
 pub returns-clause-room : goal.returns-clause-room
 returns-clause-room c =
     let txns = c.args.batch.now.txns in
-    let entries = c.in_ok-entries.entries.items in
-    let same = c.new-2.ensures.entries ∙ c.new.ensures.items in
+    let entries = c.deref.result.now in
+    let same = c.new-2.ensures.entries ∙ c.new.ensures.items ∙ sym c.deref.ensures.value in
     let up : c.raise.new.self ≡ raised c.args.edge c.args.steps.now =
     c.raise.ensures.map ∙ ap (λ e. raised e c.args.steps.now) (to_z-of_z w64 c.args.edge c.ranges.edge) in
     subst (λ es. HasRoomToWrite (raised c.args.edge c.args.steps.now) (committed txns es)) (sym same)

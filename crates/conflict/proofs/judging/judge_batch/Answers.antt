@@ -23,8 +23,8 @@ returns-clause-judged c = λ ws covers.
 
 pub judge_in_batch-requires-clause-runs : goal.judge_in_batch-requires-clause-runs
 judge_in_batch-requires-clause-runs c =
-    let ranked = c.ranks.ensures.ranked in
-    let tell : TellRuns ranked.keys c.ranks.result.now.runs (ranges_in c.args.batch.now.txns) = record {
+    let ranked = c.ranks-ranks.ensures.ranked in
+    let tell : TellRuns ranked.keys c.ranks-ranks.result.now.runs (ranges_in c.args.batch.now.txns) = record {
       have_begins = ranked.are_begins.all;
       are_runs = ranked.are_runs;
     } in

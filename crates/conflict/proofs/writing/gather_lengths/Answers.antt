@@ -1,5 +1,5 @@
 use Rattle.std.proofs.lemmas.List.{length-append, take_all}
-use Rattle.std.proofs.Common.{◌≡◌, ◌≤◌, ◌+◌, length, subst, arith, [], ◌∷◌, ◌++◌, ap, sym, ◌∙◌, map, take, get_or}
+use Rattle.std.proofs.Common.{◌≡◌, ◌≤◌, ◌+◌, length, subst, arith, [], ◌∷◌, ◌++◌, ap, sym, ◌∙◌, map, take}
 use Rattle.stepmap.specs.StepMap.{lengths}
 use Rattle.conflict.proofs.Spanned.{spanned_at, spanned_count, lengths_same, map_next}
 use Rattle.conflict.proofs.writing.gather_lengths.Goals as goal

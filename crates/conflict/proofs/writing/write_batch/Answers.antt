@@ -1,9 +1,8 @@
-use Rattle.std.proofs.Common.{w64, SFits, Err, ◌≡◌, ◌≤ℤ◌, ◌+◌, ◌*◌, List, ap, refl, sym, subst, ◌∙◌, inl, inr, length, arith, rules}
+use Rattle.std.proofs.Common.{w64, SFits, Err, ◌≡◌, ◌≤ℤ◌, ◌+◌, ◌*◌, List, ap, sym, subst, ◌∙◌, inl, inr, length, arith, rules}
 use Rattle.std.proofs.lemmas.Bool.{cases_lt}
 use Rattle.std.proofs.lemmas.Int.{to_z-of_z}
 use Rattle.keys.specs.declared.range.Range.{Range}
 use Rattle.keyspace.specs.Writes.{committed}
-use Rattle.keyspace.specs.BatchRanges.{ranges_in}
 use Rattle.stepmap.specs.StepMap.{Steps}
 use Rattle.stepmap.specs.Laws.{IsWriting, IsWritten}
 use Rattle.stepmap.specs.Sweeping.{rest}

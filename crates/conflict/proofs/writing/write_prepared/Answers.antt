@@ -4,7 +4,6 @@ use Rattle.std.proofs.lemmas.Int.{to_z-of_z}
 use Rattle.std.proofs.lemmas.Option.{slice_get_within}
 use Rattle.keys.specs.declared.range.Range.{Range}
 use Rattle.stepmap.specs.Laws.{IsWriting, MayBeNext}
-use Rattle.stepmap.specs.Writing.{after_write}
 use Rattle.conflict.specs.declared.union.Span.{Span}
 use Rattle.conflict.specs.Union.{Spans}
 use Rattle.conflict.proofs.Spanned.{span_at, spanned_count, lengths_same, empty_same, after_same}
