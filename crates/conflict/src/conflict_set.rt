@@ -193,7 +193,15 @@ fn resolve_at(
         ⊎ HasRoomToWrite (raised edge steps.old) (committed batch.now.txns entries) }
 {
     let ranks = batch.txns.ranks();
-    let entries = judge_batch(alloc, steps, &mut scratch.gaps, edge, batch, ranks)?;
+    let entries = judge_batch(
+        alloc,
+        steps,
+        &mut scratch.asking,
+        &mut scratch.gaps,
+        edge,
+        batch,
+        ranks,
+    )?;
     steps.raise(edge);
     let count = write_batch(steps, scratch, batch, ranks.ends)?;
     steps.sweep(3 * count + 10);

@@ -19,6 +19,7 @@ mod history;
 mod in_batch;
 mod judging;
 mod laws;
+mod read_name;
 mod scratch;
 mod union;
 mod writing;
