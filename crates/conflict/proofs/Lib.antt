@@ -4,6 +4,7 @@ pub mod GapsNext
 pub mod GapsMarks
 pub mod InBatch
 pub mod Hits
+pub mod Named
 pub mod Questions
 pub mod Ranks
 pub mod Parts

@@ -122,7 +122,9 @@ fn answer(
         → map (query_named batch.now.txns) asked.now ≡ map Some queries
         → AreAnswers steps.now queries answers.new.items) }
 {
-    steps.exceeds_each(&AskedReads::new(batch.txns.as_slice(), asked), answers)
+    let queries = AskedReads::new(batch.txns.as_slice(), asked);
+    steps.exceeds_each(&queries, answers)?;
+    Ok(())
 }
 
 // Returns how many read ranges are asked for first: one, unless the transaction is too old or has none.

@@ -1,6 +1,6 @@
 //! The boundaries of a step function: their versions in a tree, and their keys in an arena.
 ghost use Rattle.std.specs.Prelude.{◌≡◌, ℕ, ◌+◌, ◌*◌, ◌<◌, ◌≤◌, ◌<ℤ◌, ◌≤ℤ◌, negsuc, ◌↔◌};
-ghost use Rattle.std.specs.Prelude.{List, [], ◌∷◌, ◌++◌, length, slice_get, Any, IsTrue, IfOk, IfSome, IsSomeAnd, OnOk, IsOkUnless};
+ghost use Rattle.std.specs.Prelude.{List, [], ◌∷◌, ◌++◌, length, slice_get, Any, IsTrue, IfOk, IsSomeAnd, OnOk, IsOkUnless};
 ghost use Rattle.std.specs.List.{All, AllZip};
 ghost use Rattle.arena.specs.Arena.{size_of, wanted_of};
 ghost use Rattle.keys.specs.Key.{IsBytes};
@@ -13,10 +13,10 @@ ghost use Rattle.stepmap.specs.Sweeping.{passed_to};
 ghost use Rattle.stepmap.specs.Writing.{written};
 ghost use Rattle.tree.specs.declared.question.TheConstants.{SIDE};
 
-use crate::asking::{CutQuestion, no_question, put_questions};
 use crate::cut::Cut;
 use crate::key_lengths::{KeyLengths, each_length};
 use crate::query::QueryList;
+use crate::questions::{CutQuestion, no_question, put_questions};
 use crate::release::release;
 use crate::step_map::MAX_LIMIT;
 use arena::{Arena, ArenaError};
@@ -156,14 +156,18 @@ impl<const N: usize> Boundaries<N> {
 
     // Answers for each of the queries at these places, in order, whether the version at some key of its range is above its own.
     // There are at most `SIDE`, which are looked up side by side, and no range is empty.
-    pub fn are_above<L: QueryList>(&self, queries: &L, places: &[usize]) -> ArrayVec<bool, SIDE>
+    pub fn are_above<'a, L: QueryList>(
+        &'a self,
+        queries: &'a L,
+        places: &[usize],
+    ) -> ArrayVec<bool, SIDE>
         requires boundaries { AreBoundaries self.now.boundaries }
         requires few { length places.now ≤ SIDE }
         requires filled { All (λ place. IsSomeAnd (slice_get (L.queries queries.now) place) (λ q. ¬ IsEmpty q.0)) places.now }
-        ensures above { AllZip (λ place above. IfSome (slice_get (L.queries queries.now) place)
+        ensures above { AllZip (λ place above. IsSomeAnd (slice_get (L.queries queries.now) place)
             (λ q. IsTrue above ↔ Exceeds self.now.boundaries q)) places.now result.items }
     {
-        let mut questions: [CutQuestion<'_>; SIDE] = array::from_fn(|_| no_question(&self.keys));
+        let mut questions: [CutQuestion<'a>; SIDE] = array::from_fn(|_| no_question(&self.keys));
         put_questions(&self.keys, queries, places, &mut questions);
         self.tree.exceeds_each(&questions[..places.len()])
     }

@@ -11,7 +11,6 @@
 //! these to lists of writes. How the boundaries are kept shows nowhere.
 #![tactic(auto)]
 
-mod asking;
 mod boundaries;
 mod cut;
 mod error;
@@ -19,6 +18,7 @@ mod key_lengths;
 pub mod laws;
 mod left;
 mod query;
+mod questions;
 mod release;
 mod single;
 mod step_map;

@@ -1,5 +1,5 @@
 //! What the tree of boundaries is asked for queries.
-ghost use Rattle.std.specs.Prelude.{◌≡◌, ◌≤◌, length, take, slice_get, IfSome, IsSomeAnd};
+ghost use Rattle.std.specs.Prelude.{◌≡◌, ◌≤◌, length, take, slice_get, IsSomeAnd};
 ghost use Rattle.std.specs.List.{All, AllZip};
 ghost use Rattle.keys.specs.Range.{IsEmpty};
 ghost use Rattle.stepmap.specs.Asking.{AsksFor};
@@ -16,8 +16,8 @@ pub type CutQuestion<'a> = Question<Cut<'a>, Cut<'a>>;
 // Returns what a tree of this arena's keys is asked for the query, whose range isn't empty.
 pub fn question<'a>(keys: &'a Arena<()>, query: RangeQuery<'a>) -> CutQuestion<'a>
     requires filled { ¬ IsEmpty query.range }
-    ensures asks { AsksFor keys.now query.range result.from result.to }
-    ensures version { result.version ≡ query.version }
+    ensures asks { AsksFor keys.now query.entry.range result.from result.to }
+    ensures version { result.version ≡ query.entry.version }
 {
     let begin = query.range.begin();
     let end = query.range.end();
@@ -65,7 +65,7 @@ pub fn put_questions<'a, L: QueryList>(
 )
     requires filled { All (λ place. IsSomeAnd (slice_get (L.queries queries.now) place) (λ q. ¬ IsEmpty q.0)) places.now }
     requires room { length places.now ≤ length questions.old }
-    ensures asks { AllZip (λ place question. IfSome (slice_get (L.queries queries.now) place)
+    ensures asks { AllZip (λ place question. IsSomeAnd (slice_get (L.queries queries.now) place)
         (λ q. AsksFor keys.now q.0 question.from question.to × (question.version ≡ q.1)))
         places.now (take (length places.now) questions.new) }
     ensures count { length questions.new ≡ length questions.old }
