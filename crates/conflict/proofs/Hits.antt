@@ -6,8 +6,10 @@ use Rattle.std.proofs.Common.{
   suc,
   add-one,
   append-nil,
+  append_assoc,
   ◌+◌,
   ◌<◌,
+  ◌≤◌,
   ◌||◌,
   ◌&&◌,
   Bool,
@@ -21,6 +23,7 @@ use Rattle.std.proofs.Common.{
   map,
   take,
   get_or,
+  subst,
   cond,
   refl,
   sym,
@@ -36,12 +39,14 @@ use mathlib.Core.Bool.{beq}
 use Rattle.std.specs.Prelude.{not, ◌≤ℤ◌, IsTrue, All}
 use Rattle.std.specs.List.{list_any}
 use Rattle.std.specs.List.Sorted.{IsStrictlyIncreasing}
-use Rattle.std.proofs.Math.Seq.{get_or-append_seam}
+use Rattle.std.proofs.Math.Seq.{get_or-append_seam, take-length}
 use Rattle.std.proofs.lemmas.List.{length-append, get_or_append_left}
-use Rattle.std.proofs.lemmas.List.Elements.{All-push}
+use Rattle.std.proofs.lemmas.List.Elements.{All-nil, All-push}
 use Rattle.std.proofs.lemmas.List.Folds.{list_any-append}
 use Rattle.keys.specs.declared.range.Range.{Range}
 use Rattle.keyspace.specs.declared.txn.Txn.{Txn}
+use Rattle.keyspace.specs.Places.{ArePlaces}
+use Rattle.keyspace.specs.declared.txn.TheConstants.{MAX_RANGES}
 use Rattle.keyspace.specs.Writes.{Write}
 use Rattle.keyspace.specs.Judge.{is_hit, places_from}
 use Rattle.keys.proofs.Booleans.{false_unless}
@@ -172,34 +177,82 @@ rising_push xs x rising below k inside =
     less_or_same : (m n : ℕ) → m < n + 1 → (m < n) ⊎ (m ≡ n)
     less_or_same m n h = grind arith
 
-module _ (hits : List Bool) where
-  -- the places of those of the first i that are hits
-  pub record GatheredTo (i : ℕ) (places : List ℕ) : Type 0 where
-    pub rising : IsStrictlyIncreasing places
-    pub below : All (λ place. place < i) places
-    pub tells : places ≡ true_places 0 (take i hits)
+-- the places of the first hits rise, and none is above them
+first_places : (hits : List Bool) (n : ℕ) → n ≤ length hits
+    → IsStrictlyIncreasing (true_places 0 (take n hits)) × All (λ place. place < n) (true_places 0 (take n hits))
+first_places hits zero inside = ((λ k more. absurd (omega (arith, more))), All-nil (λ place. place < 0))
+first_places hits (suc n) inside =
+    let before = first_places hits n (omega (arith, inside)) in
+    let places = true_places 0 (take n hits) in
+    let later : All (λ place. place < suc n) places = λ d k more. omega (arith, before.1 d k more) in
+    step (get_or hits n false) refl before later
+  where
+    Both : List ℕ → Type 0
+    Both places = IsStrictlyIncreasing places × All (λ place. place < suc n) places
 
-  below_later : (i : ℕ) (places : List ℕ) → All (λ place. place < i) places
-      → All (λ place. place < i + 1) places
-  below_later i places below k d inside = omega (arith, below k d inside)
+    step : (hit : Bool) → get_or hits n false ≡ hit
+        → IsStrictlyIncreasing (true_places 0 (take n hits)) × All (λ place. place < n) (true_places 0 (take n hits))
+        → All (λ place. place < suc n) (true_places 0 (take n hits)) → Both (true_places 0 (take (suc n) hits))
+    step true is before later =
+        let next : true_places 0 (take (suc n) hits) ≡ true_places 0 (take n hits) ++ n ∷ [] =
+        places_next 0 hits n true (omega (arith, inside)) is
+        ∙ ap (λ m. true_places 0 (take n hits) ++ m ∷ []) (omega arith) in
+        subst Both (sym next)
+        (rising_push (true_places 0 (take n hits)) n before.0 before.1,
+        All-push (λ place. place < suc n) (true_places 0 (take n hits)) n later (omega arith))
+    step false is before later =
+        subst Both (sym (places_next 0 hits n false (omega (arith, inside)) is ∙ append-nil (true_places 0 (take n hits))))
+        (before.0, later)
 
-  module _ (i : ℕ) (places : List ℕ) (inside : i < length hits) (g : GatheredTo i places) where
-    -- a hit adds its place
-    pub gathered_more : get_or hits i false ≡ true → GatheredTo (i + 1) (places ++ i ∷ [])
-    gathered_more is = record {
-      rising = rising_push places i g.rising g.below;
-      below = All-push (λ place. place < i + 1) places i (below_later i places g.below) (omega arith);
-      tells = ap (λ l. l ++ i ∷ []) g.tells
-          ∙ sym (ap (λ n. true_places 0 (take n hits)) (add-one i) ∙ places_next 0 hits i true inside is
-          ∙ ap (λ m. true_places 0 (take i hits) ++ m ∷ []) (omega arith));
-    }
+-- the places of few hits are those of a report
+pub are_places : (hits : List Bool) → length hits ≤ MAX_RANGES → ArePlaces (true_places 0 hits)
+are_places hits few =
+    let both = subst (λ hs. IsStrictlyIncreasing (true_places 0 hs) × All (λ place. place < length hits) (true_places 0 hs))
+    (take-length hits) (first_places hits (length hits) (omega arith)) in
+    record { rising = both.0; below = λ d k more. omega (arith, few, both.1 d k more) }
 
-    -- what isn't a hit adds none
-    pub gathered_same : get_or hits i false ≡ false → GatheredTo (i + 1) places
-    gathered_same is = record {
-      rising = g.rising;
-      below = below_later i places g.below;
-      tells = g.tells
-          ∙ sym (ap (λ n. true_places 0 (take n hits)) (add-one i) ∙ places_next 0 hits i false inside is
-          ∙ append-nil (true_places 0 (take i hits)));
-    }
+-- the places of those of the first i that are hits, counted from a number on, stand behind others
+abbrev pub GatheredTo : List Bool → ℕ → List ℕ → ℕ → List ℕ → Type 0
+GatheredTo hits from before i places = places ≡ before ++ true_places from (take i hits)
+
+module _ (hits : List Bool) (from : ℕ) (before : List ℕ) (i : ℕ) (places : List ℕ) (inside : i < length hits)
+    (g : GatheredTo hits from before i places) where
+  next : (hit : Bool) → get_or hits i false ≡ hit
+      → true_places from (take (i + 1) hits) ≡ true_places from (take i hits) ++ cond hit ((from + i) ∷ []) []
+  next hit is = ap (λ n. true_places from (take n hits)) (add-one i) ∙ places_next from hits i hit inside is
+
+  -- a hit adds its place
+  pub gathered_more : get_or hits i false ≡ true → GatheredTo hits from before (i + 1) (places ++ (from + i) ∷ [])
+  gathered_more is =
+      ap (λ l. l ++ (from + i) ∷ []) g ∙ append_assoc before (true_places from (take i hits)) ((from + i) ∷ [])
+      ∙ ap (λ l. before ++ l) (sym (next true is))
+
+  -- what isn't a hit adds none
+  pub gathered_same : get_or hits i false ≡ false → GatheredTo hits from before (i + 1) places
+  gathered_same is =
+      g ∙ ap (λ l. before ++ l) (sym (next false is ∙ append-nil (true_places from (take i hits))))
+
+-- the places of all, counted from one on, are those of the first and then those of the others
+places_from_on : (i : ℕ) (first others : List Bool)
+    → true_places i first ++ true_places (i + length first) others ≡ true_places i (first ++ others)
+places_from_on i [] others = ap (λ n. true_places n others) (omega arith)
+places_from_on i (true ∷ first) others =
+    ap (λ l. i ∷ l) (later i first others ∙ places_from_on (i + 1) first others)
+  where
+    later : (i : ℕ) (first others : List Bool)
+        → true_places (i + 1) first ++ true_places (i + suc (length first)) others
+        ≡ true_places (i + 1) first ++ true_places ((i + 1) + length first) others
+    later i first others = ap (λ n. true_places (i + 1) first ++ true_places n others) (omega arith)
+places_from_on i (false ∷ first) others =
+    later i first others ∙ places_from_on (i + 1) first others
+  where
+    later : (i : ℕ) (first others : List Bool)
+        → true_places (i + 1) first ++ true_places (i + suc (length first)) others
+        ≡ true_places (i + 1) first ++ true_places ((i + 1) + length first) others
+    later i first others = ap (λ n. true_places (i + 1) first ++ true_places n others) (omega arith)
+
+-- likewise from the first one on
+pub places_of_both : (first others : List Bool)
+    → true_places 0 first ++ true_places (length first) others ≡ true_places 0 (first ++ others)
+places_of_both first others =
+    ap (λ n. true_places 0 first ++ true_places n others) (omega arith) ∙ places_from_on 0 first others

@@ -3,6 +3,7 @@ pub mod GapsFound
 pub mod GapsMarks
 pub mod InBatch
 pub mod Hits
+pub mod Named
 pub mod Questions
 pub mod Overlap
 pub mod Parts

@@ -1,5 +1,5 @@
 -- What is asked for a batch, transaction by transaction, and what the answers say of each.
-use Rattle.std.proofs.Common.{◌≡◌, ◌↔◌, ℕ, zero, suc, ◌+◌, ◌*◌, ◌<◌, ◌≤◌, Bool, true, false, true≢false, cond, ◌||◌, List, [], ◌∷◌, ◌++◌, length, map, get_or, take, drop, refl, sym, ap, subst, ◌∙◌, arith, append-nil, append_assoc}
+use Rattle.std.proofs.Common.{◌≡◌, ◌↔◌, ℕ, zero, suc, ◌+◌, ◌*◌, ◌<◌, ◌≤◌, Bool, true, false, true≢false, cond, ◌||◌, List, [], ◌∷◌, ◌++◌, length, map, get_or, take, drop, refl, sym, ap, subst, ◌∙◌, arith, append-nil, append_assoc, length-drop}
 use Rattle.std.specs.Prelude.{ℤ, ◌≤ℤ◌, IsTrue, flat_map}
 use Rattle.std.specs.List.{AllZip}
 use Rattle.std.proofs.lemmas.Grind.{flat_map-append}
@@ -12,8 +12,8 @@ use Rattle.keyspace.specs.Judge.{is_hit, is_too_old}
 use Rattle.stepmap.specs.StepMap.{Steps}
 use Rattle.stepmap.specs.Covers.{MapCovers, IsAbove}
 use Rattle.stepmap.specs.Laws.{TellsHits}
-use Rattle.stepmap.specs.declared.asked.Asked.{Asked}
-use Rattle.conflict.specs.Asking.{question, asked_at, is_settled, first_asked, then_asked, all_first, all_then, AreAnswers, AreHits}
+use Rattle.conflict.specs.declared.asking.Part.{Part}
+use Rattle.conflict.specs.Asking.{asked_at, is_settled, first_asked, then_asked, all_first, all_then, all_parts, AreAnswers, AreHits}
 use Rattle.conflict.proofs.InBatch.{late_unless_old}
 use Rattle.conflict.proofs.Hits.{exceeds_is_hit}
 
@@ -58,15 +58,44 @@ module _ (oldest : ℤ) (ts : List Txn) (i : ℕ) (t : Txn) (inside : i < length
       (all_then oldest (drop (i + 1) ts) (drop (length (first_asked oldest t)) hits))
       ∙ ap (λ us. done ++ all_then oldest us hits) (sym (txns_left ts i t inside is_next))
 
--- the first transactions have few read ranges
-pub reads_few : (i : ℕ) (ts : List Txn) → length (flat_map (λ (t : Txn). t.reads) (take i ts)) ≤ i * 1024
-reads_few zero ts = omega arith
-reads_few (suc i) [] = omega arith
-reads_few (suc i) (t ∷ ts) =
-    let few_reads = t.few_reads in
-    let rest = reads_few i ts in
-    let both = length-append t.reads (flat_map (λ (u : Txn). u.reads) (take i ts)) in
-    omega arith
+  pub parts_more : (done : List Part) (hits : List Bool) (part : Part)
+      → part.first ≡ length (first_asked oldest t)
+      → part.others ≡ length (then_asked oldest t (take (length (first_asked oldest t)) hits))
+      → (done ++ part ∷ []) ++ all_parts oldest (drop (i + 1) ts) (drop (length (first_asked oldest t)) hits)
+      ≡ done ++ all_parts oldest (drop i ts) hits
+  parts_more done hits part first others =
+      let rest = all_parts oldest (drop (i + 1) ts) (drop (length (first_asked oldest t)) hits) in
+      let Made : ℕ → ℕ → Part = λ m n. record { first = m; others = n } in
+      let is : part ≡ Made (length (first_asked oldest t)) (length (then_asked oldest t (take (length (first_asked oldest t)) hits))) =
+      ap (λ m. Made m part.others) first ∙ ap (Made (length (first_asked oldest t))) others in
+      append_assoc done (part ∷ []) rest ∙ ap (λ p. done ++ p ∷ rest) is
+      ∙ ap (λ us. done ++ all_parts oldest us hits) (sym (txns_left ts i t inside is_next))
+
+  -- the part of the next transaction comes before those after it
+  module _ (parts : List Part) (hits : List Bool) (left : drop i parts ≡ all_parts oldest (drop i ts) hits) where
+    abbrev own_part : Part
+    own_part = record {
+      first = length (first_asked oldest t);
+      others = length (then_asked oldest t (take (length (first_asked oldest t)) hits));
+    }
+
+    abbrev later_parts : List Part
+    later_parts = all_parts oldest (drop (i + 1) ts) (drop (length (first_asked oldest t)) hits)
+
+    parts_left : drop i parts ≡ own_part ∷ later_parts
+    parts_left = left ∙ ap (λ us. all_parts oldest us hits) (txns_left ts i t inside is_next)
+
+    pub part_within : i < length parts
+    part_within = omega (arith, length-drop i parts, ap length parts_left)
+
+    next_parts : get_or parts i own_part ∷ drop (i + 1) parts ≡ own_part ∷ later_parts
+    next_parts = sym (drop_more parts i own_part part_within) ∙ parts_left
+
+    pub part_at : get_or parts i own_part ≡ own_part
+    part_at = ap (λ ps. get_or ps 0 own_part) next_parts
+
+    pub parts_later : drop (i + 1) parts ≡ all_parts oldest (drop (i + 1) ts) (drop (length (first_asked oldest t)) hits)
+    parts_later = ap (drop 1) next_parts
 
 -- the answers to the first questions, and those to the others
 zip_split : {X Y : Type 0} (R : X → Y → Type 0) (xs others : List X) (ys : List Y) → AllZip R (xs ++ others) ys
@@ -86,19 +115,6 @@ zip_count R (x ∷ xs) (y ∷ ys) all = ap suc (zip_count R xs ys all.1)
 pub answer_count : (m : Steps) (asked : List (Range × ℤ)) (answers : List Bool) → AreAnswers m asked answers
     → length answers ≡ length asked
 answer_count m asked answers all = zip_count _ asked answers all
-
-zip_map : {X Y Z : Type 0} (R : Z → Y → Type 0) (f : X → Z) (xs : List X) (ys : List Y)
-    → AllZip (λ x y. R (f x) y) xs ys → AllZip R (map f xs) ys
-zip_map R f [] [] all = tt
-zip_map R f [] (y ∷ ys) all = absurd all
-zip_map R f (x ∷ xs) [] all = absurd all
-zip_map R f (x ∷ xs) (y ∷ ys) all = (all.0, zip_map R f xs ys all.1)
-
--- the answers to what is listed are those to its questions
-pub all_answered : (m : Steps) (asked : List Asked) (bs : List Bool)
-    → AllZip (λ a above. IsTrue above ↔ IsAbove m a.range.now a.version) asked bs → AreAnswers m (map question asked) bs
-all_answered m asked bs all =
-    zip_map (λ (a : Range × ℤ) above. IsTrue above ↔ IsAbove m a.0 a.1) question asked bs all
 
 module _ (m : Steps) (snapshot : ℤ) (ranges : List Range) (others : List (Range × ℤ)) (answers : List Bool)
     (all : AreAnswers m (asked_at snapshot ranges ++ others) answers) where

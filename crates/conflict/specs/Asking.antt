@@ -1,17 +1,28 @@
 -- What is asked of the history for a batch, and what the answers say. This project's own.
-use Rattle.std.specs.Prelude.{◌≡◌, ◌↔◌, ℕ, ◌+◌, ℤ, Bool, false, not, ◌&&◌, ◌||◌, if◌then◌else◌, IsTrue, List, [], ◌∷◌, ◌++◌, length, map, flat_map, take, drop}
+use Rattle.std.specs.Prelude.{◌≡◌, ◌↔◌, ℕ, ◌+◌, ℤ, Bool, false, not, ◌&&◌, ◌||◌, if◌then◌else◌, IsTrue, List, [], ◌∷◌, ◌++◌, length, map, flat_map, take, drop, Option, Some, slice_get, option_and_then, option_map, option_to_list}
 use Rattle.std.specs.List.{AllZip, list_any}
 use Rattle.keys.specs.declared.range.Range.{Range}
 use Rattle.keyspace.specs.declared.txn.Txn.{Txn}
 use Rattle.keyspace.specs.Writes.{Write}
 use Rattle.keyspace.specs.Judge.{is_hit, is_too_old}
-use Rattle.stepmap.specs.declared.asked.Asked.{Asked}
+use Rattle.conflict.specs.declared.asking.Part.{Part}
+use Rattle.conflict.specs.declared.read_name.ReadName.{ReadName}
 use Rattle.stepmap.specs.StepMap.{Steps}
 use Rattle.stepmap.specs.Covers.{IsAbove}
 
--- the range that is asked for, and the version
-abbrev pub question : Asked → Range × ℤ
-question a = (a.range.now, a.version)
+-- what a name asks for: the read range, at the snapshot of its transaction
+abbrev pub query_named : List Txn → ReadName → Option (Range × ℤ)
+query_named txns name =
+    option_and_then (λ t. option_map (λ range. (range, t.snapshot)) (slice_get t.reads name.read))
+    (slice_get txns name.txn)
+
+-- what the names ask for, in order
+abbrev pub queries_named : List Txn → List ReadName → List (Range × ℤ)
+queries_named txns names = flat_map (λ name. option_to_list (query_named txns name)) names
+
+-- each name is that of a read range
+abbrev pub AreNamed : List Txn → List ReadName → Type 0
+AreNamed txns names = map (query_named txns) names ≡ map Some (queries_named txns names)
 
 -- what is asked for these ranges at a snapshot
 abbrev pub asked_at : ℤ → List Range → List (Range × ℤ)
@@ -39,6 +50,15 @@ all_then oldest [] hits = []
 all_then oldest (t ∷ txns) hits =
     asked_at t.snapshot (then_asked oldest t (take (length (first_asked oldest t)) hits))
     ++ all_then oldest txns (drop (length (first_asked oldest t)) hits)
+
+-- how many of the answers are those of each transaction: of those to what was asked first, and of the others
+abbrev pub all_parts : ℤ → List Txn → List Bool → List Part
+all_parts oldest [] hits = []
+all_parts oldest (t ∷ txns) hits =
+    record {
+      first = length (first_asked oldest t);
+      others = length (then_asked oldest t (take (length (first_asked oldest t)) hits));
+    } ∷ all_parts oldest txns (drop (length (first_asked oldest t)) hits)
 
 -- an answer a question: whether the step map is above the version at some key of the range
 abbrev pub AreAnswers : Steps → List (Range × ℤ) → List Bool → Type 0

@@ -1,70 +1,154 @@
 //! What is asked of the history for a batch: the first read range of each transaction, and then the others of those that this
 //! leaves open.
 
-ghost use Rattle.std.specs.Prelude.{◌≡◌, ◌++◌, length, map, flat_map, IfOk, OnOk};
-ghost use Rattle.conflict.specs.Asking.{question, asked_at, is_settled, first_asked, then_asked, all_first, all_then};
+ghost use Rattle.std.specs.Prelude.{◌≡◌, ◌≤◌, ℤ, List, length, map, take, drop, Some, OnOk};
+ghost use Rattle.conflict.specs.Asking.{is_settled, first_asked, then_asked, all_first, all_then, all_parts};
+ghost use Rattle.conflict.specs.Asking.{query_named, AreAnswers, AreNamed};
+ghost use Rattle.keys.specs.declared.range.Range.{Range};
 
 use crate::history::is_old;
-use keys::Range;
+use crate::read_name::{AskedReads, ReadName, push_reads};
 use keyspace::{Batch, Txn};
 use std::alloc::{AllocError, Global};
-use stepmap::Asked;
+use stepmap::StepMap;
 
-/// Lists what is asked for all transactions first, in order.
-pub fn list_first<'a>(
-    alloc: Global,
-    oldest: i64,
-    batch: &'a Batch,
-) -> Result<Vec<Asked<'a>>, AllocError>
-    ensures asked { IfOk result (λ asked. map question asked.items ≡ all_first oldest batch.now.txns) }
-{
-    let mut asked = Vec::with_capacity(alloc, batch.txns.len())?;
-    for txn in batch.txns.as_slice() {
-        push_asked(&mut asked, first_reads(txn, oldest), txn.snapshot)?;
-    }
-    Ok(asked)
+/// How many of the answers are those of a transaction.
+#[derive(Clone, Copy, Debug)]
+pub struct Part {
+    /// Of those to what is asked first.
+    pub first: usize,
+    /// Of those to what is asked then.
+    pub others: usize,
 }
 
-/// Lists what is asked for all transactions then, in order, after the answers to what was asked first.
-pub fn list_others<'a>(
-    alloc: Global,
-    oldest: i64,
-    batch: &'a Batch,
-    answers: &[bool],
-) -> Result<Vec<Asked<'a>>, AllocError>
-    requires count { length answers.now ≡ length (all_first oldest batch.now.txns) }
-    ensures asked { IfOk result (λ asked. map question asked.items ≡ all_then oldest batch.now.txns answers.now) }
+/// What is asked of the history for a batch, and what it answers. The vectors are kept, so that a batch like those before it
+/// takes no memory for them.
+#[derive(Debug, Drop)]
+pub struct Asking {
+    asked: Vec<ReadName>,
+    /// The answers to what is asked first, in order.
+    pub first: Vec<bool>,
+    /// The answers to what is asked then, in order.
+    pub others: Vec<bool>,
+    /// For each transaction, in order, how many of the answers are its own.
+    pub parts: Vec<Part>,
+}
+
+impl Asking {
+    /// Makes empty vectors, and takes no memory.
+    pub fn new(alloc: Global) -> Self {
+        Asking {
+            asked: Vec::new(alloc),
+            first: Vec::new(alloc),
+            others: Vec::new(alloc),
+            parts: Vec::new(alloc),
+        }
+    }
+
+    /// Asks the history twice for all transactions of the batch: first for one read range of each, and then for the others of
+    /// those that aren't settled. After an error the answers are unspecified.
+    pub fn ask(&mut self, steps: &StepMap, oldest: i64, batch: &Batch) -> Result<(), AllocError>
+        ensures first { OnOk result (AreAnswers steps.now (all_first oldest batch.now.txns) self.new.first.items) }
+        ensures others { OnOk result (AreAnswers steps.now (all_then oldest batch.now.txns self.new.first.items)
+            self.new.others.items) }
+        ensures parts { OnOk result (self.new.parts.items ≡ all_parts oldest batch.now.txns self.new.first.items) }
+    {
+        list_first(&mut self.asked, oldest, batch)?;
+        answer(steps, batch, &self.asked, &mut self.first)?;
+        list_others(
+            &mut self.asked,
+            &mut self.parts,
+            oldest,
+            batch,
+            &self.first,
+        )?;
+        answer(steps, batch, &self.asked, &mut self.others)
+    }
+}
+
+// Lists what is asked for all transactions first, in order.
+fn list_first(asked: &mut Vec<ReadName>, oldest: i64, batch: &Batch) -> Result<(), AllocError>
+    ensures asked { OnOk result (map (query_named batch.now.txns) asked.new.items
+        ≡ map Some (all_first oldest batch.now.txns)) }
 {
-    let mut asked = Vec::with_capacity(alloc, read_count(batch))?;
+    asked.clear();
+    for (index, txn) in batch.txns.as_slice().iter().enumerate() {
+        push_reads(asked, index as u16, txn, 0, first_count(txn, oldest))?;
+    }
+    Ok(())
+}
+
+// Lists what is asked for all transactions then, in order, after the answers to what was asked first, and how many of the
+// answers are those of each.
+fn list_others(
+    asked: &mut Vec<ReadName>,
+    parts: &mut Vec<Part>,
+    oldest: i64,
+    batch: &Batch,
+    answers: &[bool],
+) -> Result<(), AllocError>
+    requires count { length answers.now ≡ length (all_first oldest batch.now.txns) }
+    ensures asked { OnOk result (map (query_named batch.now.txns) asked.new.items
+        ≡ map Some (all_then oldest batch.now.txns answers.now)) }
+    ensures parts { OnOk result (parts.new.items ≡ all_parts oldest batch.now.txns answers.now) }
+{
+    asked.clear();
+    parts.clear();
     let mut rest = answers;
-    for txn in batch.txns.as_slice() {
-        let (own, later) = rest.split_at(first_reads(txn, oldest).len());
-        push_asked(&mut asked, other_reads(txn, oldest, own), txn.snapshot)?;
+    for (index, txn) in batch.txns.as_slice().iter().enumerate() {
+        let first = first_count(txn, oldest);
+        let (own, later) = rest.split_at(first);
+        let from = others_from(txn, oldest, own);
+        let count = txn.reads.len();
+        push_reads(asked, index as u16, txn, from, count)?;
+        parts.push(Part {
+            first,
+            others: count - from,
+        })?;
         rest = later;
     }
-    Ok(asked)
+    Ok(())
 }
 
-/// Returns the read ranges that are asked for first: the first one, unless the transaction is too old.
-pub fn first_reads(txn: &Txn, oldest: i64) -> &[Range]
-    ensures reads { result.now ≡ first_asked oldest txn.now }
+// Answers what is asked, in order. The answers replace those that there are.
+fn answer(
+    steps: &StepMap,
+    batch: &Batch,
+    asked: &[ReadName],
+    answers: &mut Vec<bool>,
+) -> Result<(), AllocError>
+    requires named { AreNamed batch.now.txns asked.now }
+    ensures answers { OnOk result ((queries : List (Range × ℤ))
+        → map (query_named batch.now.txns) asked.now ≡ map Some queries
+        → AreAnswers steps.now queries answers.new.items) }
 {
-    let reads = txn.reads.as_slice();
+    let queries = AskedReads::new(batch.txns.as_slice(), asked);
+    steps.exceeds_each(&queries, answers)?;
+    Ok(())
+}
+
+// Returns how many read ranges are asked for first: one, unless the transaction is too old or has none.
+fn first_count(txn: &Txn, oldest: i64) -> usize
+    ensures reads { take result txn.now.reads ≡ first_asked oldest txn.now }
+    ensures within { result ≤ length txn.now.reads }
+{
     if is_old(txn, oldest) {
-        return &reads[..0];
+        return 0;
     }
-    &reads[..reads.len().min(1)]
+    txn.reads.len().min(1)
 }
 
-/// Returns the read ranges that are asked for then: the others, unless the transaction is too old or the hits settle it.
-pub fn other_reads<'a>(txn: &'a Txn, oldest: i64, hits: &[bool]) -> &'a [Range]
-    ensures reads { result.now ≡ then_asked oldest txn.now hits.now }
+// Returns from which read range on they are asked for then: from the second, unless the transaction is too old or the hits
+// settle it.
+fn others_from(txn: &Txn, oldest: i64, hits: &[bool]) -> usize
+    ensures reads { drop result txn.now.reads ≡ then_asked oldest txn.now hits.now }
+    ensures within { result ≤ length txn.now.reads }
 {
-    let reads = txn.reads.as_slice();
+    let count = txn.reads.len();
     if is_old(txn, oldest) || is_settled_by(txn, hits) {
-        return &reads[..0];
+        return count;
     }
-    &reads[reads.len().min(1)..]
+    count.min(1)
 }
 
 // Returns `true` if the hits settle the transaction: one is enough where its places aren't reported.
@@ -72,32 +156,4 @@ fn is_settled_by(txn: &Txn, hits: &[bool]) -> bool
     ensures settled { result ≡ is_settled txn.now hits.now }
 {
     !txn.marked && hits.contains(&true)
-}
-
-/// Appends what is asked for the ranges at the snapshot, in order.
-pub fn push_asked<'a>(
-    asked: &mut Vec<Asked<'a>>,
-    ranges: &'a [Range],
-    snapshot: i64,
-) -> Result<(), AllocError>
-    ensures asked { OnOk result (map question asked.new.items ≡ map question asked.old.items ++ asked_at snapshot ranges.now) }
-{
-    for range in ranges {
-        asked.push(Asked {
-            range,
-            version: snapshot,
-        })?;
-    }
-    Ok(())
-}
-
-// Returns how many read ranges the transactions have.
-fn read_count(batch: &Batch) -> usize
-    ensures count { result ≡ length (flat_map (λ t. t.reads) batch.now.txns) }
-{
-    let mut count = 0;
-    for txn in batch.txns.as_slice() {
-        count += txn.reads.len();
-    }
-    count
 }

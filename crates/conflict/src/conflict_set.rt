@@ -192,7 +192,14 @@ fn resolve_at(
         → (steps.new.boundaries ≡ steps.old.boundaries)
         ⊎ HasRoomToWrite (raised edge steps.old) (committed batch.now.txns entries) }
 {
-    let entries = judge_batch(alloc, steps, &mut scratch.gaps, edge, batch)?;
+    let entries = judge_batch(
+        alloc,
+        steps,
+        &mut scratch.asking,
+        &mut scratch.gaps,
+        edge,
+        batch,
+    )?;
     steps.raise(edge);
     let count = write_batch(steps, scratch, batch, &entries)?;
     steps.sweep(3 * count + 10);

@@ -1,6 +1,6 @@
 //! The check of a transaction against the history.
 
-ghost use Rattle.std.specs.Prelude.{◌≡◌, ◌+◌, ◌≤◌, List, ◌++◌, length, IfOk};
+ghost use Rattle.std.specs.Prelude.{◌≡◌, ◌+◌, ◌≤◌, List, ◌++◌, length, IfOk, OnOk};
 ghost use Rattle.keyspace.specs.declared.txn.TheConstants.{MAX_RANGES};
 ghost use Rattle.keyspace.specs.Writes.{Write};
 ghost use Rattle.keyspace.specs.Judge.{is_too_old};
@@ -17,18 +17,17 @@ pub fn is_old(txn: &Txn, oldest: i64) -> bool
     !txn.reads.is_empty() && txn.snapshot < oldest
 }
 
-// Returns the places of all hits.
-fn hit_places(alloc: Global, hits: &[bool]) -> Result<Places, AllocError>
-    requires few { length hits.now ≤ MAX_RANGES }
-    ensures places { IfOk result (λ places. places ≡ true_places 0 hits.now) }
+// Appends the places of all hits, counted from this one on.
+fn push_places(places: &mut Vec<u16>, hits: &[bool], from: usize) -> Result<(), AllocError>
+    requires few { from + length hits.now ≤ MAX_RANGES }
+    ensures places { OnOk result (places.new.items ≡ places.old.items ++ true_places from hits.now) }
 {
-    let mut places = Vec::new(alloc);
     for (place, hit) in hits.iter().enumerate() {
         if *hit {
-            places.push(place as u16)?;
+            places.push((from + place) as u16)?;
         }
     }
-    Ok(Places::new(places))
+    Ok(())
 }
 
 /// Judges the transaction by the history alone. The first hits say of its first read ranges, in order, whether each hits the
@@ -55,8 +54,8 @@ pub fn judge_by_history(
     if !txn.marked {
         return Ok(Entry::new(Verdict::Conflict, none));
     }
-    let mut hits = Vec::from_slice(alloc, first)?;
-    hits.extend_from_slice(others)?;
-    let places = hit_places(alloc, &hits)?;
-    Ok(Entry::new(Verdict::Conflict, places))
+    let mut places = Vec::new(alloc);
+    push_places(&mut places, first, 0)?;
+    push_places(&mut places, others, first.len())?;
+    Ok(Entry::new(Verdict::Conflict, Places::new(places)))
 }

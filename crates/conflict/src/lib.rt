@@ -20,6 +20,7 @@ mod in_batch;
 mod judging;
 mod laws;
 mod marking;
+mod read_name;
 mod scratch;
 mod union;
 mod writing;

@@ -1,5 +1,6 @@
 ghost use Rattle.std.specs.Prelude.{◌≡◌, []};
 
+use crate::asking::Asking;
 use crate::gaps::Gaps;
 use crate::union::Union;
 use std::alloc::Global;
@@ -9,6 +10,8 @@ use stepmap::KeyLengths;
 /// for them.
 #[derive(Debug, Drop)]
 pub struct Scratch {
+    /// What is asked of the history for it.
+    pub asking: Asking,
     /// The gaps between the keys of its ranges that it writes.
     pub gaps: Gaps,
     /// Whether it writes its ranges, in order.
@@ -26,6 +29,7 @@ impl Scratch {
         ensures union { result.union ≡ [] }
     {
         Scratch {
+            asking: Asking::new(alloc),
             gaps: Gaps::new(alloc),
             written: Vec::new(alloc),
             union: Union::new(alloc),

@@ -1,5 +1,5 @@
 -- Lists of which each element of one goes with the element of the other at the same place.
-use Rattle.std.proofs.Common.{◌≡◌, ℕ, suc, ◌+◌, ◌<◌, List, [], ◌∷◌, ◌++◌, length, get_or, take, sym, subst, ◌∙◌, ap, arith}
+use Rattle.std.proofs.Common.{◌≡◌, ℕ, zero, suc, refl, ◌+◌, ◌<◌, List, [], ◌∷◌, ◌++◌, length, get_or, take, sym, subst, ◌∙◌, ap, arith}
 use Rattle.std.specs.List.{All, AllZip}
 use Rattle.std.proofs.Math.Seq.{take-suc}
 use Rattle.std.proofs.lemmas.List.Elements.{All-nil, All-cons}
@@ -41,3 +41,9 @@ module _ {X Y : Type 0} (R : X → Y → Type 0) where
   AllZip-through S T gives (x ∷ xs) (y ∷ ys) [] all more = absurd more
   AllZip-through S T gives (x ∷ xs) (y ∷ ys) (z ∷ zs) all more =
       (gives x y z all.0 more.0, AllZip-through S T gives xs ys zs all.1 more.1)
+
+-- what stands at an index stands there whatever is given for a missing one
+pub get_or_twice : {X : Type 0} (xs : List X) (i : ℕ) (d : X) → i < length xs → get_or xs i d ≡ get_or xs i (get_or xs i d)
+get_or_twice [] i d inside = absurd (omega (arith, inside))
+get_or_twice (x ∷ xs) zero d inside = refl
+get_or_twice (x ∷ xs) (suc i) d inside = get_or_twice xs i d (omega (arith, inside))

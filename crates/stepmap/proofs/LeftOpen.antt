@@ -1,36 +1,173 @@
 -- Those that are left open, and the answers that are told for them.
-use Rattle.std.proofs.Common.{◌≡◌, ℕ, ◌≤◌, Bool, true, false, cond, List, [], ◌∷◌, ◌++◌, length, take, drop, refl, ◌∙◌, ap, arith, append-nil, drop_of_length-le}
-use Rattle.std.specs.Prelude.{◌↔◌, IsTrue, count_by}
-use Rattle.std.specs.List.{AllZip}
-use Rattle.std.proofs.lemmas.List.{take_all}
+use Rattle.std.proofs.Common.{◌≡◌, ℕ, suc, ◌+◌, ◌<◌, ◌≤◌, ℤ, Bool, true, false, cond, List, [], ◌∷◌, ◌++◌, length, take, drop, refl, sym, ◌∙◌, ap, subst, arith, append-nil, drop_of_length-le, length-append, length-drop}
+use Rattle.std.specs.Prelude.{◌↔◌, IsTrue, IsSomeAnd, Some, count_by, slice_get}
+use Rattle.std.specs.List.{All, AllZip}
+use Rattle.std.proofs.Math.Seq.{take-suc, take-add, take-append_seam}
+use Rattle.std.proofs.lemmas.List.{take_all, get_or-drop, length-take-le}
 use Rattle.std.proofs.lemmas.List.Sums.{sum_by-cons}
-use Rattle.stepmap.specs.Filtering.{left_of, with_told}
-use Rattle.stepmap.specs.declared.asked.Asked.{Asked}
+use Rattle.std.proofs.lemmas.Option.{get_or_from_slice_get, slice_get_within}
+use Rattle.std.proofs.lemmas.Slice.Zip.{AllZip-long, all_zipped_more}
+use Rattle.keys.specs.Range.{IsEmpty}
+use Rattle.keys.specs.declared.range.Range.{Range}
+use Rattle.stepmap.specs.Covers.{IsAbove}
+use Rattle.stepmap.specs.Filtering.{left_of, with_told, AreMarked}
+use Rattle.stepmap.specs.StepMap.{Steps}
+use Rattle.stepmap.proofs.InTurn.{AllZip-append, AllZip-second, AllZip-through}
 
-module _ (Above : Asked → Type 0) where
+module _ (Above : Range × ℤ → Type 0) where
   -- answers that are right of those that are left, and no of the others, are right of all
-  pub told_of_all : (asked : List Asked) (marks told : List Bool) → AllZip (λ a mark. ¬ IsTrue mark → ¬ Above a) asked marks
-      → AllZip (λ a above. IsTrue above ↔ Above a) (left_of asked marks) told
-      → AllZip (λ a above. IsTrue above ↔ Above a) asked (with_told marks told)
+  pub told_of_all : (queries : List (Range × ℤ)) (marks told : List Bool)
+      → AllZip (λ q mark. ¬ IsTrue mark → ¬ Above q) queries marks
+      → AllZip (λ q above. IsTrue above ↔ Above q) (left_of queries marks) told
+      → AllZip (λ q above. IsTrue above ↔ Above q) queries (with_told marks told)
   told_of_all [] [] told others left = tt
   told_of_all [] (mark ∷ marks) told others left = absurd others
-  told_of_all (a ∷ asked) [] told others left = absurd others
-  told_of_all (a ∷ asked) (false ∷ marks) told others left =
-      let no : ¬ Above a = others.0 (λ e. cc) in
-      ((λ e. cc, λ above. absurd (no above)), told_of_all asked marks told others.1 left)
-  told_of_all (a ∷ asked) (true ∷ marks) [] others left = absurd left
-  told_of_all (a ∷ asked) (true ∷ marks) (above ∷ told) others left =
-      (left.0, told_of_all asked marks told others.1 left.1)
+  told_of_all (q ∷ queries) [] told others left = absurd others
+  told_of_all (q ∷ queries) (false ∷ marks) told others left =
+      let no : ¬ Above q = others.0 (λ e. cc) in
+      ((λ e. cc, λ above. absurd (no above)), told_of_all queries marks told others.1 left)
+  told_of_all (q ∷ queries) (true ∷ marks) [] others left = absurd left
+  told_of_all (q ∷ queries) (true ∷ marks) (above ∷ told) others left =
+      (left.0, told_of_all queries marks told others.1 left.1)
 
 -- as many are left as are marked
-pub length-left_of : (asked : List Asked) (marks : List Bool) → length marks ≤ length asked
-    → length (left_of asked marks) ≡ count_by (λ mark. mark) marks
+pub length-left_of : (queries : List (Range × ℤ)) (marks : List Bool) → length marks ≤ length queries
+    → length (left_of queries marks) ≡ count_by (λ mark. mark) marks
 length-left_of [] [] le = refl
 length-left_of [] (mark ∷ marks) le = absurd (omega (arith, le))
-length-left_of (a ∷ asked) [] le = refl
-length-left_of (a ∷ asked) (false ∷ marks) le = length-left_of asked marks (omega (arith, le))
-length-left_of (a ∷ asked) (true ∷ marks) le =
-    omega (arith, length-left_of asked marks (omega (arith, le)), sum_by-cons (λ (mark : Bool). cond mark 1 0) true marks)
+length-left_of (q ∷ queries) [] le = refl
+length-left_of (q ∷ queries) (false ∷ marks) le = length-left_of queries marks (omega (arith, le))
+length-left_of (q ∷ queries) (true ∷ marks) le =
+    omega (arith, length-left_of queries marks (omega (arith, le)), sum_by-cons (λ (mark : Bool). cond mark 1 0) true marks)
+
+-- no more are left than there are marks
+pub left_of_few : (queries : List (Range × ℤ)) (marks : List Bool) → length (left_of queries marks) ≤ length marks
+left_of_few [] marks = omega arith
+left_of_few (q ∷ queries) [] = omega arith
+left_of_few (q ∷ queries) (false ∷ marks) = omega (arith, left_of_few queries marks)
+left_of_few (q ∷ queries) (true ∷ marks) = omega (arith, left_of_few queries marks)
+
+-- one more is marked
+left_of_more : (queries : List (Range × ℤ)) (marks : List Bool) (q : Range × ℤ) (mark : Bool)
+    → length queries ≡ length marks
+    → left_of (queries ++ q ∷ []) (marks ++ mark ∷ []) ≡ left_of queries marks ++ cond mark (q ∷ []) []
+left_of_more [] [] q true same = refl
+left_of_more [] [] q false same = refl
+left_of_more [] (m ∷ marks) q mark same = absurd (omega (arith, same))
+left_of_more (p ∷ queries) [] q mark same = absurd (omega (arith, same))
+left_of_more (p ∷ queries) (false ∷ marks) q mark same = left_of_more queries marks q mark (omega (arith, same))
+left_of_more (p ∷ queries) (true ∷ marks) q mark same =
+    ap (λ rest. p ∷ rest) (left_of_more queries marks q mark (omega (arith, same)))
+
+-- the query behind so many is the next one of the part
+part_more : {X : Type 0} (xs : List X) (from n : ℕ) (x : X) → slice_get xs (from + n) ≡ Some x
+    → take (n + 1) (drop from xs) ≡ take n (drop from xs) ++ x ∷ []
+part_more xs from n x is =
+    let within = slice_get_within xs (from + n) x is in
+    let inside : n < length (drop from xs) = omega (arith, within, length-drop from xs) in
+    let more : n + 1 ≡ suc n = omega arith in
+    ap (λ k. take k (drop from xs)) more ∙ take-suc (drop from xs) n x inside
+    ∙ ap (λ y. take n (drop from xs) ++ y ∷ []) (get_or-drop from xs n x ∙ get_or_from_slice_get xs (from + n) x x is)
+
+module _ (m : Steps) (queries : List (Range × ℤ)) (from : ℕ) where
+  -- none is marked yet
+  pub none_marked : from ≤ length queries → AreMarked m queries from [] []
+  none_marked within = record { within = omega (arith, within); others = tt; left = tt }
+
+  module _ (marks : List Bool) (places : List ℕ) (are : AreMarked m queries from marks places) where
+    abbrev part : List (Range × ℤ)
+    part = take (length marks) (drop from queries)
+
+    long : length part ≡ length marks
+    long = length-take-le (length marks) (drop from queries) (omega (arith, are.within, length-drop from queries))
+
+    -- there are no more places than marks
+    pub places_few : length places ≤ length marks
+    places_few = omega (arith, AllZip-long _ (left_of part marks) places are.left, left_of_few part marks)
+
+    module _ (q : Range × ℤ) (is : slice_get queries (from + length marks) ≡ Some q) where
+      more : (mark : Bool) → length (marks ++ mark ∷ []) ≡ length marks + 1
+      more mark = length-append marks (mark ∷ [])
+
+      next : (mark : Bool) → take (length (marks ++ mark ∷ [])) (drop from queries) ≡ part ++ q ∷ []
+      next mark = ap (λ n. take n (drop from queries)) (more mark) ∙ part_more queries from (length marks) q is
+
+      within : (mark : Bool) → from + length (marks ++ mark ∷ []) ≤ length queries
+      within mark = omega (arith, more mark, slice_get_within queries (from + length marks) q is)
+
+      others : (mark : Bool) → (¬ IsTrue mark → ¬ IsAbove m q.0 q.1)
+          → AllZip (λ q mark. ¬ IsTrue mark → ¬ IsAbove m q.0 q.1)
+          (take (length (marks ++ mark ∷ [])) (drop from queries)) (marks ++ mark ∷ [])
+      others mark it = subst (λ qs. AllZip (λ q mark. ¬ IsTrue mark → ¬ IsAbove m q.0 q.1) qs (marks ++ mark ∷ []))
+          (sym (next mark)) (all_zipped_more _ part marks q mark are.others it)
+
+      left : (mark : Bool) → left_of (take (length (marks ++ mark ∷ [])) (drop from queries)) (marks ++ mark ∷ [])
+          ≡ left_of part marks ++ cond mark (q ∷ []) []
+      left mark = ap (λ qs. left_of qs (marks ++ mark ∷ [])) (next mark) ∙ left_of_more part marks q mark long
+
+      abbrev At : Range × ℤ → ℕ → Type 0
+      At q place = (slice_get queries place ≡ Some q) × (¬ IsEmpty q.0)
+
+      -- one more is marked that is left open
+      pub marked_open : ¬ IsEmpty q.0 → AreMarked m queries from (marks ++ true ∷ []) (places ++ (from + length marks) ∷ [])
+      marked_open filled = record {
+        within = within true;
+        others = others true (λ h. absurd (h cc));
+        left = subst (λ qs. AllZip At qs (places ++ (from + length marks) ∷ [])) (sym (left true))
+            (all_zipped_more At (left_of part marks) places q (from + length marks) are.left (is, filled));
+      }
+
+      -- one more is marked that isn't
+      pub marked_other : ¬ IsAbove m q.0 q.1 → AreMarked m queries from (marks ++ false ∷ []) places
+      marked_other below = record {
+        within = within false;
+        others = others false (λ e. below);
+        left = subst (λ qs. AllZip At qs places) (sym (left false ∙ append-nil (left_of part marks))) are.left;
+      }
+
+    -- the ranges that are left open aren't empty
+    pub places_filled : All (λ place. IsSomeAnd (slice_get queries place) (λ q. ¬ IsEmpty q.0)) places
+    places_filled = AllZip-second (λ (q : Range × ℤ) place. (slice_get queries place ≡ Some q) × (¬ IsEmpty q.0))
+        (λ place. IsSomeAnd (slice_get queries place) (λ q. ¬ IsEmpty q.0))
+        (λ q place at. subst (λ o. IsSomeAnd o (λ q. ¬ IsEmpty q.0)) (sym at.0) at.1) (left_of part marks) places are.left
+
+    -- answers that are right of the queries at the places are right of those that are left
+    module _ (told : List Bool)
+        (right : AllZip (λ place above. IsSomeAnd (slice_get queries place) (λ q. IsTrue above ↔ IsAbove m q.0 q.1)) places told)
+      where
+        told_left : AllZip (λ q above. IsTrue above ↔ IsAbove m q.0 q.1) (left_of part marks) told
+        told_left = AllZip-through (λ (q : Range × ℤ) place. (slice_get queries place ≡ Some q) × (¬ IsEmpty q.0))
+            (λ place above. IsSomeAnd (slice_get queries place) (λ q. IsTrue above ↔ IsAbove m q.0 q.1))
+            (λ q above. IsTrue above ↔ IsAbove m q.0 q.1)
+            (λ q place above at it. subst (λ o. IsSomeAnd o (λ q. IsTrue above ↔ IsAbove m q.0 q.1)) at.0 it)
+            (left_of part marks) places told are.left right
+
+        -- as many are told as are marked
+        pub told_many : count_by (λ mark. mark) marks ≤ length told
+        told_many = omega (
+          arith,
+          length-left_of part marks (omega (arith, long)),
+          AllZip-long _ (left_of part marks) told told_left,
+        )
+
+        told_part : AllZip (λ q above. IsTrue above ↔ IsAbove m q.0 q.1) part (with_told marks told)
+        told_part = told_of_all (λ q. IsAbove m q.0 q.1) part marks told are.others told_left
+
+        -- one answer a mark
+        pub length-told : length (with_told marks told) ≡ length marks
+        length-told = omega (arith, AllZip-long _ part (with_told marks told) told_part, long)
+
+        -- behind answers that are right, they are right
+        pub told_behind : (answers : List Bool) → length answers ≡ from
+            → AllZip (λ q above. IsTrue above ↔ IsAbove m q.0 q.1) (take from queries) answers
+            → AllZip (λ q above. IsTrue above ↔ IsAbove m q.0 q.1)
+            (take (length (answers ++ with_told marks told)) queries) (answers ++ with_told marks told)
+        told_behind answers is before =
+            let count : length (answers ++ with_told marks told) ≡ from + length marks =
+            omega (arith, length-append answers (with_told marks told), length-told) in
+            subst (λ qs. AllZip (λ q above. IsTrue above ↔ IsAbove m q.0 q.1) qs (answers ++ with_told marks told))
+            (sym (ap (λ n. take n queries) count ∙ take-add from (length marks) queries))
+            (AllZip-append _ (take from queries) part answers (with_told marks told) before told_part)
 
 -- what is put back in place of all
 pub put_back : (n : ℕ) (new old : List Bool) → n ≡ length old → length new ≡ length old
@@ -38,3 +175,13 @@ pub put_back : (n : ℕ) (new old : List Bool) → n ≡ length old → length n
 put_back n new old is same =
     ap (λ rest. take n (new ++ rest)) (drop_of_length-le old (omega arith)) ∙ ap (take n) (append-nil new)
     ∙ take_all n new (omega arith)
+
+pub is_false : (b : Bool) → b ≡ false → ¬ IsTrue b
+is_false true e h = absurd (different e)
+  where
+    different : true ≡ false → ⊥
+    different e = cc
+is_false false e h = absurd (different h)
+  where
+    different : false ≡ true → ⊥
+    different e = cc

@@ -1,16 +1,15 @@
 -- What boundaries are asked, and what their tree is asked for that. This project's own.
-use Rattle.std.specs.Prelude.{◌≡◌, ℕ, ◌<ℤ◌, Bool, true, false, List}
+use Rattle.std.specs.Prelude.{◌≡◌, ℕ, ℤ, ◌<ℤ◌, Bool, true, false, List}
 use Rattle.arena.specs.Arena.{Arena}
 use Rattle.keys.specs.Key.{IsBytes}
 use Rattle.keys.specs.Range.{Holds, IsEmpty}
 use Rattle.keys.specs.declared.range.Range.{Range}
 use Rattle.stepmap.specs.Boundary.{Boundary, value_at}
-use Rattle.stepmap.specs.declared.asked.Asked.{Asked}
 use Rattle.stepmap.specs.declared.cut.Cut.{Cut}
 
--- the function is above the version at some key of the range
-abbrev pub Exceeds : List Boundary → Asked → Type 0
-Exceeds bs a = (key : List ℕ) × IsBytes key × Holds a.range.now key × (a.version <ℤ value_at bs key)
+-- what is asked is a range and a version: the function is above the version at some key of the range
+abbrev pub Exceeds : List Boundary → Range × ℤ → Type 0
+Exceeds bs q = (key : List ℕ) × IsBytes key × Holds q.0 key × (q.1 <ℤ value_at bs key)
 
 -- the cut is the one up to a key, or before it, through boundaries whose keys are in this arena
 pub record IsAt (keys : Arena (Unit {0})) (up_to : Bool) (key : List ℕ) (cut : Cut) : Type 0 where

@@ -1,10 +1,13 @@
 -- What a filter tells beside a step map, and who is asked instead where it tells nothing. This project's own.
-use Rattle.std.specs.Prelude.{◌≡◌, ℕ, ℤ, ◌≤ℤ◌, ◌<ℤ◌, if◌then◌else◌, Bool, true, false, List, [], ◌∷◌, ◌++◌}
+use Rattle.std.specs.Prelude.{◌≡◌, ℕ, ℤ, ◌+◌, ◌≤◌, ◌≤ℤ◌, ◌<ℤ◌, if◌then◌else◌, Bool, true, false, IsTrue, List, [], ◌∷◌, ◌++◌, length, take, drop, Some, slice_get}
+use Rattle.std.specs.List.{AllZip}
 use Rattle.filter.specs.Filter.{FilterState, bound}
 use Rattle.keys.specs.Key.{IsBytes}
+use Rattle.keys.specs.Range.{IsEmpty}
+use Rattle.keys.specs.declared.range.Range.{Range}
 use Rattle.stepmap.specs.Boundary.{value_at}
+use Rattle.stepmap.specs.Covers.{IsAbove}
 use Rattle.stepmap.specs.StepMap.{Steps}
-use Rattle.stepmap.specs.declared.asked.Asked.{Asked}
 
 -- where the function is above a number at or above the edge, so is the bound of the key
 abbrev pub FilterTells : FilterState → Steps → Type 0
@@ -15,11 +18,11 @@ FilterTells f m =
 abbrev pub IsSingle : List ℕ → List ℕ → Type 0
 IsSingle begin end = end ≡ begin ++ 0 ∷ []
 
--- those of the asked that are marked, in order
-abbrev pub left_of : List Asked → List Bool → List Asked
+-- those of the queries that are marked, in order
+abbrev pub left_of : List (Range × ℤ) → List Bool → List (Range × ℤ)
 left_of [] marks = []
-left_of (a ∷ asked) [] = []
-left_of (a ∷ asked) (mark ∷ marks) = if mark then a ∷ left_of asked marks else left_of asked marks
+left_of (q ∷ queries) [] = []
+left_of (q ∷ queries) (mark ∷ marks) = if mark then q ∷ left_of queries marks else left_of queries marks
 
 -- the answers that were told, in place of the marks, in order
 abbrev pub with_told : List Bool → List Bool → List Bool
@@ -27,3 +30,11 @@ with_told [] told = []
 with_told (false ∷ marks) told = false ∷ with_told marks told
 with_told (true ∷ marks) [] = true ∷ with_told marks []
 with_told (true ∷ marks) (above ∷ told) = above ∷ with_told marks told
+
+-- The queries from this index on are marked, as many as there are marks. The function isn't above the version of one that
+-- isn't. The others are at these places, and their ranges aren't empty.
+pub record AreMarked (m : Steps) (queries : List (Range × ℤ)) (from : ℕ) (marks : List Bool) (places : List ℕ) : Type 0 where
+  pub within : from + length marks ≤ length queries
+  pub others : AllZip (λ q mark. ¬ IsTrue mark → ¬ IsAbove m q.0 q.1) (take (length marks) (drop from queries)) marks
+  pub left : AllZip (λ q place. (slice_get queries place ≡ Some q) × (¬ IsEmpty q.0))
+      (left_of (take (length marks) (drop from queries)) marks) places

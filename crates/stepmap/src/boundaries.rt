@@ -1,7 +1,7 @@
 //! The boundaries of a step function: their versions in a tree, and their keys in an arena.
 ghost use Rattle.std.specs.Prelude.{◌≡◌, ℕ, ◌+◌, ◌*◌, ◌<◌, ◌≤◌, ◌<ℤ◌, ◌≤ℤ◌, negsuc, ◌↔◌};
-ghost use Rattle.std.specs.Prelude.{Bool, List, [], ◌∷◌, ◌++◌, length, take, Any, IsTrue, IfOk, OnOk, IsOkUnless};
-ghost use Rattle.std.specs.List.{AllZip};
+ghost use Rattle.std.specs.Prelude.{List, [], ◌∷◌, ◌++◌, length, slice_get, Any, IsTrue, IfOk, IsSomeAnd, OnOk, IsOkUnless};
+ghost use Rattle.std.specs.List.{All, AllZip};
 ghost use Rattle.arena.specs.Arena.{size_of, wanted_of};
 ghost use Rattle.keys.specs.Key.{IsBytes};
 ghost use Rattle.keys.specs.Range.{Holds, IsEmpty};
@@ -11,17 +11,21 @@ ghost use Rattle.stepmap.specs.Indexes.{after};
 ghost use Rattle.stepmap.specs.Stored.{spare_in, each_length};
 ghost use Rattle.stepmap.specs.Sweeping.{passed_to};
 ghost use Rattle.stepmap.specs.Writing.{written};
+ghost use Rattle.tree.specs.declared.question.TheConstants.{SIDE};
 
-use crate::asked::{Asked, SIDE, filled, put_questions};
 use crate::cut::Cut;
 use crate::key_lengths::{KeyLengths, each_length};
+use crate::query::QueryList;
+use crate::questions::{CutQuestion, no_question, put_questions};
 use crate::release::release;
 use crate::step_map::MAX_LIMIT;
 use arena::{Arena, ArenaError};
+use arrayvec::ArrayVec;
 use keys::{Range, RangeRef, common};
 use std::alloc::{AllocError, Global};
+use std::array;
 use std::marker::Model;
-use tree::{Overwrite, Question, Tree, item};
+use tree::{Overwrite, SIDE, Tree, item};
 
 // The boundaries of a step function, in the order of their keys, the empty key first. Contracts see them, and for how
 // many more there is memory.
@@ -150,44 +154,22 @@ impl<const N: usize> Boundaries<N> {
         self.tree.exceeds_from_last(&begin, &end, shared, version)
     }
 
-    // Answers for each of these, in order, whether the version at some key of its range is above its own. The answers
-    // replace those that there are.
-    pub fn are_above(&self, asked: &[Asked<'_>], answers: &mut Vec<bool>) -> Result<(), AllocError>
-        requires boundaries { AreBoundaries self.now.boundaries }
-        ensures above { OnOk result (AllZip (λ a above. IsTrue above ↔ Exceeds self.now.boundaries a)
-            asked.now answers.new.items) }
-    {
-        answers.clear();
-        let mut questions = Vec::with_capacity(self.alloc, SIDE)?;
-        let mut from = 0;
-        while from < asked.len() {
-            from += self.answer_some(&asked[from..], &mut questions, answers)?;
-        }
-        Ok(())
-    }
-
-    // Answers the first of these, several of them side by side, and appends the answers. Returns how many it has answered.
-    // An empty range is answered alone: the tree isn't asked for it.
-    fn answer_some<'a>(
+    // Answers for each of the queries at these places, in order, whether the version at some key of its range is above its own.
+    // There are at most `SIDE`, which are looked up side by side, and no range is empty.
+    pub fn are_above<'a, L: QueryList>(
         &'a self,
-        asked: &[Asked<'a>],
-        questions: &mut Vec<Question<Cut<'a>, Cut<'a>>>,
-        answers: &mut Vec<bool>,
-    ) -> Result<usize, AllocError>
+        queries: &'a L,
+        places: &[usize],
+    ) -> ArrayVec<bool, SIDE>
         requires boundaries { AreBoundaries self.now.boundaries }
-        requires some { 1 ≤ length asked.now }
-        ensures some { IfOk result (λ count. (1 ≤ count) × (count ≤ length asked.now)) }
-        ensures told { IfOk result (λ count. (told : List Bool) × (answers.new.items ≡ answers.old.items ++ told)
-            × AllZip (λ a above. IsTrue above ↔ Exceeds self.now.boundaries a) (take count asked.now) told) }
+        requires few { length places.now ≤ SIDE }
+        requires filled { All (λ place. IsSomeAnd (slice_get (L.queries queries.now) place) (λ q. ¬ IsEmpty q.0)) places.now }
+        ensures above { AllZip (λ place above. IsSomeAnd (slice_get (L.queries queries.now) place)
+            (λ q. IsTrue above ↔ Exceeds self.now.boundaries q)) places.now result.items }
     {
-        let count = filled(asked);
-        if count == 0 {
-            answers.push(false)?;
-            return Ok(1);
-        }
-        put_questions(&self.keys, &asked[..count], questions)?;
-        self.tree.exceeds_each(self.alloc, questions, answers)?;
-        Ok(count)
+        let mut questions: [CutQuestion<'a>; SIDE] = array::from_fn(|_| no_question(&self.keys));
+        put_questions(&self.keys, queries, places, &mut questions);
+        self.tree.exceeds_each(&questions[..places.len()])
     }
 
     // Takes the memory for the boundaries of ranges with keys of these lengths.

@@ -11,19 +11,20 @@
 //! these to lists of writes. How the boundaries are kept shows nowhere.
 #![tactic(auto)]
 
-mod asked;
 mod boundaries;
 mod cut;
 mod error;
 mod key_lengths;
 pub mod laws;
 mod left;
+mod query;
+mod questions;
 mod release;
 mod single;
 mod step_map;
 mod sweeping;
 
-pub use asked::Asked;
 pub use error::StepError;
 pub use key_lengths::KeyLengths;
+pub use query::{QueryList, RangeQuery};
 pub use step_map::{MAX_LIMIT, StepMap, SweepEnd};

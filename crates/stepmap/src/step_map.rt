@@ -1,5 +1,5 @@
 ghost use Rattle.std.specs.Prelude.{◌≡◌, ℕ, ◌+◌, ◌*◌, ◌≤◌, ◌<◌, nat_le, ℤ, negsuc, ◌≤ℤ◌, ◌↔◌};
-ghost use Rattle.std.specs.Prelude.{List, [], length, slice_get, Some, None, Err};
+ghost use Rattle.std.specs.Prelude.{Bool, List, [], ◌++◌, length, take, slice_get, Some, None, Err};
 ghost use Rattle.std.specs.Prelude.{IfOk, OnOk, OnErr, IfErr, IsTrue};
 ghost use Rattle.std.specs.List.{AllZip};
 ghost use Rattle.arena.specs.Arena.{wanted_of};
@@ -15,19 +15,22 @@ ghost use Rattle.stepmap.specs.Limit.{HasRoomFor, after_round, made_room, prepar
 ghost use Rattle.stepmap.specs.Covers.{SameFrom, MapCovers, IsAbove};
 ghost use Rattle.stepmap.specs.Rooted.{Ends, Rooted};
 ghost use Rattle.stepmap.specs.Counting.{live_count};
+ghost use Rattle.stepmap.specs.Filtering.{AreMarked};
 ghost use Rattle.stepmap.specs.Stored.{spare_in, each_length};
 
-use crate::asked::Asked;
 use crate::boundaries::Boundaries;
 use crate::error::StepError;
 use crate::key_lengths::{KeyLengths, keep};
-use crate::left::{left_of, put_told};
+use crate::left::put_told;
+use crate::query::{QueryList, RangeQuery};
 use crate::single::{is_single, note};
+use arrayvec::ArrayVec;
 use filter::Filter;
 use keys::{MAX_KEY_LENGTH, Range, RangeRef};
 use std::alloc::{AllocError, Global};
 use std::collections::VecDeque;
 use std::marker::Model;
+use tree::SIDE;
 
 /// The greatest limit on the boundaries of a step map: this project's own.
 pub const MAX_LIMIT: usize = 16_777_216;
@@ -131,23 +134,22 @@ impl StepMap {
         !range.is_empty() && self.boundaries.is_above(range, version)
     }
 
-    /// Answers for each of these, in order, what `exceeds` returns for the range and the version. The answers replace those
-    /// that there are. Several are looked up side by side. After an error the answers are unspecified.
-    pub fn exceeds_each(
+    /// Answers for each query, in order, what `exceeds` returns for its range and its version. The answers replace those that
+    /// there are, and nothing but these takes memory. Several are looked up side by side. After an error the answers are
+    /// unspecified.
+    pub fn exceeds_each<L: QueryList>(
         &self,
-        asked: &[Asked<'_>],
+        queries: &L,
         answers: &mut Vec<bool>,
     ) -> Result<(), AllocError>
-        ensures above { OnOk result (AllZip (λ a above. IsTrue above ↔ IsAbove self.now a.range.now a.version) asked.now answers.new.items) }
+        ensures above { OnOk result (AllZip (λ q above. IsTrue above ↔ IsAbove self.now q.0 q.1)
+            (L.queries queries.now) answers.new.items) }
     {
-        if !self.filter.is_useful() {
-            return self.boundaries.are_above(asked, answers);
+        answers.clear();
+        answers.reserve(queries.len())?;
+        while answers.len() < queries.len() {
+            self.answer_some(queries, answers)?;
         }
-        self.mark(asked, answers)?;
-        let left = left_of(self.alloc, asked, answers)?;
-        let mut told = Vec::with_capacity(self.alloc, left.len())?;
-        self.boundaries.are_above(&left, &mut told)?;
-        put_told(answers, &told);
         Ok(())
     }
 
@@ -262,29 +264,73 @@ impl StepMap {
         SweepEnd::Stopped
     }
 
-    // Marks those of the asked that the filter leaves open, in place of the marks that there are. The function isn't above the
-    // versions of the others.
-    fn mark(&self, asked: &[Asked<'_>], marks: &mut Vec<bool>) -> Result<(), AllocError>
-        ensures others { OnOk result (AllZip (λ a mark. ¬ IsTrue mark → ¬ IsAbove self.now a.range.now a.version) asked.now marks.new.items) }
+    // Answers the next of the queries, and appends the answers. At most `SIDE` of them are looked up, side by side.
+    fn answer_some<L: QueryList>(
+        &self,
+        queries: &L,
+        answers: &mut Vec<bool>,
+    ) -> Result<(), AllocError>
+        requires some { length answers.old.items < length (L.queries queries.now) }
+        ensures more { OnOk result (length answers.old.items < length answers.new.items) }
+        ensures within { OnOk result (length answers.new.items ≤ length (L.queries queries.now)) }
+        ensures told { OnOk result (AllZip (λ q above. IsTrue above ↔ IsAbove self.now q.0 q.1)
+            (take (length answers.old.items) (L.queries queries.now)) answers.old.items
+            → AllZip (λ q above. IsTrue above ↔ IsAbove self.now q.0 q.1)
+            (take (length answers.new.items) (L.queries queries.now)) answers.new.items) }
     {
-        marks.clear();
-        for one in asked {
-            marks.push(self.may_exceed(one.range, one.version))?;
-        }
+        let from = answers.len();
+        let places = self.mark_some(queries, answers)?;
+        let told = self.boundaries.are_above(queries, places.as_slice());
+        put_told(answers, from, told.as_slice());
         Ok(())
+    }
+
+    // Marks the next of the queries, and appends the marks: true where the filter leaves a query open. Returns the places of
+    // these. There are at most `SIDE`.
+    fn mark_some<L: QueryList>(
+        &self,
+        queries: &L,
+        marks: &mut Vec<bool>,
+    ) -> Result<ArrayVec<usize, SIDE>, AllocError>
+        requires some { length marks.old.items < length (L.queries queries.now) }
+        ensures marked { IfOk result (λ places. (told : List Bool) × (marks.new.items ≡ marks.old.items ++ told)
+            × (1 ≤ length told) × AreMarked self.now (L.queries queries.now) (length marks.old.items) told places.items) }
+    {
+        let count = queries.len();
+        let mut places = ArrayVec::new();
+        while marks.len() < count && !places.is_full() {
+            let place = marks.len();
+            let is_open = self.is_open(&queries.query(place));
+            if is_open {
+                places.push(place);
+            }
+            marks.push(is_open)?;
+        }
+        Ok(places)
+    }
+
+    // Returns whether the query is to be looked up: its range isn't empty, and the filter leaves it open.
+    fn is_open(&self, query: &RangeQuery<'_>) -> bool
+        ensures filled { IsTrue result → ¬ IsEmpty query.now.range }
+        ensures others { ¬ IsTrue result → ¬ IsAbove self.now query.now.range query.now.version }
+    {
+        if query.range.is_empty() {
+            return false;
+        }
+        !self.filter.is_useful() || self.may_exceed(&query.range, query.version)
     }
 
     // Returns whether the filter leaves open that the version at some key of the range is above this one. It tells only of
     // single keys, and only from the edge on.
-    fn may_exceed(&self, range: &Range, version: i64) -> bool
+    fn may_exceed(&self, range: &RangeRef<'_>, version: i64) -> bool
         ensures not_above { ¬ IsTrue result → ¬ IsAbove self.now range.now version }
     {
         let told_from = self.edge.max(self.filter.newest_range());
         if version < told_from {
             return true;
         }
-        let begin = range.begin.as_bytes();
-        let end = range.end.as_bytes();
+        let begin = range.begin();
+        let end = range.end();
         !is_single(begin, end) || version < self.filter.bound(begin)
     }
 

@@ -19,6 +19,8 @@ mod lane_calls;
 #[cfg(test)]
 mod lane_threads;
 #[cfg(test)]
+mod queries;
+#[cfg(test)]
 mod single_keys;
 #[cfg(test)]
 mod sorted;

@@ -1,12 +1,13 @@
 //! The worked rows of the step map, and a growth that is refused.
 
+use crate::queries::Queries;
 use crate::written::{Written, shows};
 use fixtures::range;
 use keyspace::Range;
 use std::alloc::{AllocError, Global};
 use std::process::Abort;
 use std::test::Fail;
-use stepmap::{Asked, MAX_LIMIT, StepError, StepMap, SweepEnd};
+use stepmap::{MAX_LIMIT, StepError, StepMap, SweepEnd};
 
 // Writes the version between two keys.
 fn put(
@@ -126,18 +127,15 @@ fn answers_each(
     let mut asked = Vec::new(alloc);
     let mut expected = Vec::new(alloc);
     for version in 80..120 {
-        asked.push(Asked { range, version })?;
+        asked.push((range, version))?;
         expected.push(version < greatest)?;
         if version == 110 {
-            asked.push(Asked {
-                range: none,
-                version: -2,
-            })?;
+            asked.push((none, -2))?;
             expected.push(false)?;
         }
     }
     let mut answers = Vec::from_slice(alloc, &[true])?;
-    map.exceeds_each(&asked, &mut answers)?;
+    map.exceeds_each(&Queries { all: asked }, &mut answers)?;
     Ok(answers.as_slice() == expected.as_slice())
 }
 

@@ -24,6 +24,6 @@ pub use entry::Entry;
 pub use node::Node;
 pub use overwrite::Overwrite;
 pub use probe::Probe;
-pub use question::Question;
+pub use question::{Question, SIDE};
 pub use thin::Thinned;
 pub use tree::{Overwritten, Tree, item};

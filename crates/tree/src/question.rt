@@ -4,6 +4,12 @@ ghost use Rattle.std.specs.Prelude.{◌≡◌, ℕ, true, take};
 
 use crate::probe::Probe;
 
+/// How many questions are answered side by side at most: few enough that they and the nodes that are read for them fit into
+/// the first-level cache together.
+pub const SIDE: usize = 16;
+
+const _: () = prove!(SIDE == 16);
+
 /// Asks whether a version of the items before the second cut, of those before the first one the last alone, is above this
 /// one.
 #[derive(Drop)]

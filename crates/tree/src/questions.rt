@@ -1,7 +1,7 @@
 //! How questions are answered side by side. The way of each is gone down to its leaf, then each leaf is looked at for the
 //! first time, and then each question is answered. So the memory of the leaves is waited for at once.
 
-ghost use Rattle.std.specs.Prelude.{◌≡◌, ◌≢◌, ◌≤◌, ◌<ℤ◌, ◌↔◌, ◌++◌, ℕ, Bool, true, List, length, map, take, Some, [], IfOk, IfSome, IsTrue, OnOk};
+ghost use Rattle.std.specs.Prelude.{◌≡◌, ◌≢◌, ◌≤◌, ◌<ℤ◌, ◌↔◌, ℕ, true, length, map, take, Some, [], IfSome, IsTrue};
 ghost use Rattle.std.specs.List.{All, AllZip, Any};
 ghost use Rattle.tree.specs.Hints.{AreHinted, KnowsAt};
 ghost use Rattle.tree.specs.Node.{hints_of};
@@ -9,16 +9,17 @@ ghost use Rattle.tree.specs.Path.{IsCut, from_last, passing as passing_of};
 ghost use Rattle.tree.specs.Question.{IsApproach, IsLeading, IsLooked, IsNear, IsOwn, IsTold};
 ghost use Rattle.tree.specs.Subtree.{entries_at, items_in, IsSubtree};
 ghost use Rattle.tree.specs.Tree.{least_of};
+ghost use Rattle.tree.specs.declared.question.TheConstants.{SIDE};
 
 use crate::descent::known_at;
 use crate::node::Node;
 use crate::probe::Probe;
-use crate::question::Question;
+use crate::question::{Question, SIDE};
 use crate::root::Root;
 use crate::search::exceeds_from_last;
 use crate::span::any_above;
 use arena::{Arena, Slot};
-use std::alloc::{AllocError, Global};
+use arrayvec::ArrayVec;
 
 /// A leaf to which a way leads.
 #[derive(Clone, Copy, Debug)]
@@ -31,18 +32,19 @@ pub struct Near {
 }
 
 /// Where the way of a question leads.
-#[derive(Clone, Copy, Debug)]
+#[derive(Clone, Copy, Debug, Default)]
 pub enum Approach {
     /// To a leaf, whose memory hasn't been read.
     Leaf(Near),
     /// To a subtree that tells that no version is above the question's.
     Clear,
     /// Nowhere: the keys alone tell.
+    #[default]
     Open,
 }
 
 /// Where the way of a question leads, and what the first look at the leaf gives.
-#[derive(Clone, Copy, Debug)]
+#[derive(Clone, Copy, Debug, Default)]
 pub struct Look {
     pub way: Approach,
     /// The digest there of what the first cut looks for, if it is known to begin as all keys of the leaf do.
@@ -236,23 +238,23 @@ pub fn answer<'a, P: Probe, Q: Probe, const N: usize>(
     }
 }
 
-/// Goes down a tree for each question.
+/// Goes down a tree for each question. There are at most [`SIDE`].
 pub fn descend_each<P: Probe, Q: Probe, const N: usize>(
-    alloc: Global,
     nodes: &Arena<Node<N>>,
     root: &Root,
     questions: &[Question<P, Q>],
-) -> Result<Vec<Approach>, AllocError>
+) -> ArrayVec<Approach, SIDE>
+    requires few { length questions.now ≤ SIDE }
     requires subtree { IsSubtree nodes.now (least_of N) root.now.height root.now.slot }
     requires some { 1 ≤ length (entries_at nodes.now root.now.slot) }
     requires from { All (λ q. IsCut (λ x. P.lets_pass q.from x.key) (items_in nodes.now root.now.height root.now.slot)) questions.now }
     requires to { All (λ q. IsCut (λ x. Q.lets_pass q.to x.key) (items_in nodes.now root.now.height root.now.slot)) questions.now }
     requires passing { All (λ q. passing_of (P.lets_pass q.from) (items_in nodes.now root.now.height root.now.slot) ≢ []) questions.now }
     requires hinted { All (λ q. AreHinted (P.bytes q.from) (hints_of nodes.now)) questions.now }
-    ensures ways { IfOk result (λ ways. AllZip (λ q way. IsApproach nodes.now root.now.height root.now.slot (P.bytes q.from)
-        (P.lets_pass q.from) (Q.lets_pass q.to) (P.sought q.from) q.version true way) questions.now ways.items) }
+    ensures ways { AllZip (λ q way. IsApproach nodes.now root.now.height root.now.slot (P.bytes q.from)
+        (P.lets_pass q.from) (Q.lets_pass q.to) (P.sought q.from) q.version true way) questions.now result.items }
 {
-    let mut ways = Vec::with_capacity(alloc, questions.len())?;
+    let mut ways = ArrayVec::new();
     for question in questions {
         let Question {
             from,
@@ -260,40 +262,40 @@ pub fn descend_each<P: Probe, Q: Probe, const N: usize>(
             shared,
             version,
         } = question;
-        ways.push(descend_from(nodes, *root, from, to, *version, *shared))?;
+        ways.push(descend_from(nodes, *root, from, to, *version, *shared));
     }
-    Ok(ways)
+    ways
 }
 
-/// Looks at each leaf to which a way leads, for the first time.
+/// Looks at each leaf to which a way leads, for the first time. There are at most [`SIDE`].
 pub fn look_at_each<P: Probe, Q: Probe, const N: usize>(
-    alloc: Global,
     nodes: &Arena<Node<N>>,
     questions: &[Question<P, Q>],
     ways: &[Approach],
-) -> Result<Vec<Look>, AllocError>
+) -> ArrayVec<Look, SIDE>
+    requires few { length questions.now ≤ SIDE }
     requires leading { AllZip (λ q way. IsLeading nodes.now (P.bytes q.from) (P.lets_pass q.from) (P.sought q.from) way)
         questions.now ways.now }
     requires hinted { All (λ q. AreHinted (P.bytes q.from) (hints_of nodes.now)) questions.now }
-    ensures ways { IfOk result (λ looks. map (λ l. l.way) looks.items ≡ ways.now) }
-    ensures looked { IfOk result (λ looks. AllZip (λ q l. IsLooked nodes.now (P.bytes q.from) (P.sought q.from) l.way l.own)
-        questions.now looks.items) }
+    ensures ways { map (λ l. l.way) result.items ≡ ways.now }
+    ensures looked { AllZip (λ q l. IsLooked nodes.now (P.bytes q.from) (P.sought q.from) l.way l.own)
+        questions.now result.items }
 {
-    let mut looks = Vec::with_capacity(alloc, questions.len())?;
+    let mut looks = ArrayVec::new();
     for (question, way) in questions.iter().zip(ways) {
-        looks.push(look_at(nodes, way, &question.from))?;
+        looks.push(look_at(nodes, way, &question.from));
     }
-    Ok(looks)
+    looks
 }
 
-/// Answers each question, and appends the answers in their order. After an error some of them may have been appended.
+/// Answers each question, in their order. There are at most [`SIDE`].
 pub fn answer_each<P: Probe, Q: Probe, const N: usize>(
     nodes: &Arena<Node<N>>,
     root: &Root,
     questions: &[Question<P, Q>],
     looks: &[Look],
-    answers: &mut Vec<bool>,
-) -> Result<(), AllocError>
+) -> ArrayVec<bool, SIDE>
+    requires few { length questions.now ≤ SIDE }
     requires subtree { IsSubtree nodes.now (least_of N) root.now.height root.now.slot }
     requires from { All (λ q. IsCut (λ x. P.lets_pass q.from x.key) (items_in nodes.now root.now.height root.now.slot)) questions.now }
     requires to { All (λ q. IsCut (λ x. Q.lets_pass q.to x.key) (items_in nodes.now root.now.height root.now.slot)) questions.now }
@@ -302,10 +304,11 @@ pub fn answer_each<P: Probe, Q: Probe, const N: usize>(
     requires approach { AllZip (λ q l. IsApproach nodes.now root.now.height root.now.slot (P.bytes q.from)
         (P.lets_pass q.from) (Q.lets_pass q.to) (P.sought q.from) q.version true l.way) questions.now looks.now }
     requires looked { AllZip (λ q l. IsLooked nodes.now (P.bytes q.from) (P.sought q.from) l.way l.own) questions.now looks.now }
-    ensures told { OnOk result ((told : List Bool) × (answers.new.items ≡ answers.old.items ++ told)
-        × AllZip (λ q above. IsTrue above ↔ Any (λ x. q.version <ℤ x.version)
-        (from_last (P.lets_pass q.from) (Some (Q.lets_pass q.to)) (items_in nodes.now root.now.height root.now.slot))) questions.now told) }
+    ensures told { AllZip (λ q above. IsTrue above ↔ Any (λ x. q.version <ℤ x.version)
+        (from_last (P.lets_pass q.from) (Some (Q.lets_pass q.to)) (items_in nodes.now root.now.height root.now.slot)))
+        questions.now result.items }
 {
+    let mut answers = ArrayVec::new();
     for (question, look) in questions.iter().zip(looks) {
         let Question {
             from,
@@ -313,7 +316,7 @@ pub fn answer_each<P: Probe, Q: Probe, const N: usize>(
             shared,
             version,
         } = question;
-        answers.push(answer(nodes, *root, from, to, *version, *shared, *look))?;
+        answers.push(answer(nodes, *root, from, to, *version, *shared, *look));
     }
-    Ok(())
+    answers
 }

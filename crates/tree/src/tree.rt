@@ -1,12 +1,13 @@
 //! The tree.
 
-ghost use Rattle.std.specs.Prelude.{◌≡◌, ◌≢◌, ◌<◌, ◌≤◌, ◌<ℤ◌, ◌≤ℤ◌, ◌↔◌, ◌+◌, ◌-◌, ◌++◌, ◌∷◌, ℕ, Bool, List, [], true, not, drop, filter, length, take, map, OnErr, OnOk, IfOk, IfSome, IsOkUnless, IsTrue, MatchOption};
+ghost use Rattle.std.specs.Prelude.{◌≡◌, ◌≢◌, ◌<◌, ◌≤◌, ◌<ℤ◌, ◌≤ℤ◌, ◌↔◌, ◌+◌, ◌-◌, ◌++◌, ◌∷◌, ℕ, List, [], true, not, drop, filter, length, take, map, OnErr, OnOk, IfOk, IfSome, IsOkUnless, IsTrue, MatchOption};
 ghost use Rattle.std.specs.List.{All, AllZip, Any};
 ghost use Rattle.tree.specs.Item.{Item, item_of, IsGreatest};
 ghost use Rattle.tree.specs.Hints.{AreHinted, IsHinted, IsKnown, KeyBytes};
 ghost use Rattle.tree.specs.Node.{entries_of, hint_of};
 ghost use Rattle.tree.specs.Overwrite.{IsOverwritten, entries_of_run};
 ghost use Rattle.tree.specs.Path.{IsCut, passing as passing_of, behind, first_key, between, from_last};
+ghost use Rattle.tree.specs.declared.question.TheConstants.{SIDE};
 ghost use Rattle.tree.specs.Tree.{IsLast, ended_by, thin as thin_of, gone, hints_in, KnowItems};
 
 use crate::entry::Entry;
@@ -14,13 +15,14 @@ use crate::mend::least;
 use crate::node::Node;
 use crate::overwrite::{Done, Overwrite};
 use crate::probe::Probe;
-use crate::question::Question;
+use crate::question::{Question, SIDE};
 use crate::questions::{answer, answer_each, descend_each, descend_from, look_at, look_at_each};
 use crate::root::{Root, overwrite, put, reach};
 use crate::search::{exceeds, greatest, key_behind, passing};
 use crate::thin::{Thinned, thin};
 use arena::{Arena, ArenaError, Slot};
-use std::alloc::{AllocError, Global};
+use arrayvec::ArrayVec;
+use std::alloc::Global;
 use std::fmt;
 use std::marker::Model;
 
@@ -187,25 +189,23 @@ impl<const N: usize> Tree<N> {
         answer(&self.nodes, self.root, from, to, version, shared, look)
     }
 
-    /// Answers each question as `exceeds_from_last` does, and appends the answers in their order. After an error some of
-    /// them may have been appended.
+    /// Answers each question as `exceeds_from_last` does, in their order. There are at most [`SIDE`], and they are answered
+    /// side by side. It takes no memory.
     pub fn exceeds_each<P: Probe, Q: Probe>(
         &self,
-        alloc: Global,
         questions: &[Question<P, Q>],
-        answers: &mut Vec<bool>,
-    ) -> Result<(), AllocError>
+    ) -> ArrayVec<bool, SIDE>
+        requires few { length questions.now ≤ SIDE }
         requires from { All (λ q. IsCut (λ x. P.lets_pass q.from x.key) self.now.items) questions.now }
         requires to { All (λ q. IsCut (λ x. Q.lets_pass q.to x.key) self.now.items) questions.now }
         requires some { All (λ q. passing_of (P.lets_pass q.from) self.now.items ≢ []) questions.now }
         requires hinted { All (λ q. AreHinted (P.bytes q.from) (hints_in self.now)) questions.now }
-        ensures told { OnOk result ((told : List Bool) × (answers.new.items ≡ answers.old.items ++ told)
-            × AllZip (λ q above. IsTrue above ↔ Any (λ x. q.version <ℤ x.version)
-            (from_last (P.lets_pass q.from) (Some (Q.lets_pass q.to)) self.now.items)) questions.now told) }
+        ensures told { AllZip (λ q above. IsTrue above ↔ Any (λ x. q.version <ℤ x.version)
+            (from_last (P.lets_pass q.from) (Some (Q.lets_pass q.to)) self.now.items)) questions.now result.items }
     {
-        let ways = descend_each(alloc, &self.nodes, &self.root, questions)?;
-        let looks = look_at_each(alloc, &self.nodes, questions, &ways)?;
-        answer_each(&self.nodes, &self.root, questions, &looks, answers)
+        let ways = descend_each(&self.nodes, &self.root, questions);
+        let looks = look_at_each(&self.nodes, questions, ways.as_slice());
+        answer_each(&self.nodes, &self.root, questions, looks.as_slice())
     }
 
     /// Returns the greatest version of the items from one cut to another, or none if there is no item.

@@ -1,34 +1,41 @@
-use Rattle.std.proofs.Common.{rules, ◌≡◌, ◌++◌, map, ap, ◌∙◌, w64, to_z, of_z}
-use mir.Val.{SFits}
+use Rattle.std.proofs.Common.{◌≡◌, ◌<◌, ◌≤◌, ◌++◌, length, map, get_or, take, refl, ap, subst, ◌∙◌, w64, to_z, of_z, slice_get, slice_range, Some}
 use Rattle.std.proofs.lemmas.Int.{to_z-of_z}
 use Rattle.std.proofs.lemmas.List.{take_all}
-use Rattle.conflict.specs.Asking.{question, asked_at, first_asked, all_first}
+use Rattle.std.proofs.lemmas.Option.{slice_get_read}
+use Rattle.conflict.specs.Asking.{query_named, asked_at, first_asked, all_first}
+use Rattle.conflict.proofs.Named.{named_more, range_first}
 use Rattle.conflict.proofs.Questions.{first_more}
 use Rattle.conflict.proofs.asking.list_first.Goals as goal
 
-pub loop-txn-preserved : goal.loop-txn-preserved
-loop-txn-preserved c =
-    let ts = c.as_slice-txn-items.result.now in
+pub loop-index-preserved : goal.loop-index-preserved
+loop-index-preserved c =
+    let ts = c.args.batch.now.txns in
     let t = c.txn-item.result in
-    let i = c.loop-txn.txn-index in
+    let i = c.loop-index.index in
     let oldest = to_z w64 (of_z w64 c.args.oldest) in
-    let listed = map question c.loop-txn.asked.items in
-    let fits : SFits w64 t.snapshot = search rules in
-    let more : map question c.push_asked.new.asked.items ≡ listed ++ asked_at t.snapshot (first_asked oldest t) =
-    c.in_ok-push_asked.ensures.asked
-    ∙ ap (λ snapshot. listed ++ asked_at snapshot c.first_reads.result.now) (to_z-of_z w64 t.snapshot fits)
-    ∙ ap (λ ranges. listed ++ asked_at t.snapshot ranges) c.first_reads.ensures.reads in
-    more ∙ first_more oldest ts i t c.loop-txn-test.true c.txn-item.is listed c.loop-txn.invariant
+    let txns = c.as_slice-txn-items.ensures.txns in
+    let inside : i < length ts = subst (λ us. i < length us) txns c.loop-index-test.true in
+    let is : t ≡ get_or ts i t = subst (λ us. t ≡ get_or us i t) txns c.txn-item.is in
+    let reads : slice_range t.reads 0 c.first_count.result ≡ first_asked oldest t =
+    range_first t.reads c.first_count.result ∙ c.first_count.ensures.reads in
+    let appended : map (query_named ts) c.push_reads.new.names.items
+    ≡ map (query_named ts) c.loop-index.asked.items ++ map Some (asked_at t.snapshot (first_asked oldest t)) =
+    c.in_ok-push_reads.ensures.named ts (slice_get_read ts (length ts) i t refl inside is)
+    ∙ ap (λ ranges. map (query_named ts) c.loop-index.asked.items ++ map Some (asked_at t.snapshot ranges)) reads in
+    let before = all_first oldest (take i ts) in
+    named_more ts c.push_reads.new.names.items c.loop-index.asked.items before (asked_at t.snapshot (first_asked oldest t))
+    appended c.loop-index.invariant
+    ∙ ap (map Some) (first_more oldest ts i t inside is before refl)
 
 pub returns : goal.returns
 returns c =
-    let ts = c.as_slice-txn-items.result.now in
-    let i = c.loop-txn.txn-index in
-    let oldest = to_z-of_z w64 c.args.oldest c.ranges.oldest in
+    let ts = c.args.batch.now.txns in
+    let i = c.loop-index.index in
+    let txns = c.as_slice-txn-items.ensures.txns in
+    let most : length ts ≤ i = subst (λ us. length us ≤ i) txns c.loop-index-test.false in
     record {
       asked =
-          c.loop-txn.invariant
-          ∙ ap (all_first (to_z w64 (of_z w64 c.args.oldest))) (take_all i ts c.loop-txn-test.false)
-          ∙ ap (λ old. all_first old ts) oldest
-          ∙ ap (all_first c.args.oldest) c.as_slice-txn-items.ensures.txns;
+          c.loop-index.invariant
+          ∙ ap (λ us. map Some (all_first (to_z w64 (of_z w64 c.args.oldest)) us)) (take_all i ts most)
+          ∙ ap (λ old. map Some (all_first old ts)) (to_z-of_z w64 c.args.oldest c.ranges.oldest);
     }

@@ -1,6 +1,7 @@
-use Rattle.std.proofs.Common.{◌≡◌, map, take}
-use Rattle.conflict.specs.Asking.{question, all_first}
+use Rattle.std.proofs.Common.{◌≡◌, map, take, Some}
+use Rattle.conflict.specs.Asking.{query_named, all_first}
 use Rattle.conflict.proofs.asking.list_first.Given as goal
 
-abbrev pub invariant-loop-txn : goal.invariant-loop-txn
-invariant-loop-txn l = map question l.asked.items ≡ all_first l.oldest (take l.txn-index l.txn-items)
+abbrev pub invariant-loop-index : goal.invariant-loop-index
+invariant-loop-index l =
+    map (query_named l.batch.txns) l.asked.items ≡ map Some (all_first l.oldest (take l.index l.batch.txns))

@@ -1,9 +1,11 @@
-use Rattle.std.proofs.Common.{◌≡◌, ◌++◌, map, drop, length}
-use Rattle.conflict.specs.Asking.{question, all_first, all_then}
+use Rattle.std.proofs.Common.{◌≡◌, ◌++◌, List, map, drop, length, Some, ℤ}
+use Rattle.keys.specs.declared.range.Range.{Range}
+use Rattle.conflict.specs.Asking.{query_named, all_first, all_then, all_parts}
 use Rattle.conflict.proofs.asking.list_others.Given as goal
 
-abbrev pub invariant-loop-txn : goal.invariant-loop-txn
-invariant-loop-txn l =
-    (length l.rest ≡ length (all_first l.oldest (drop l.txn-index l.txn-items)))
-    × (map question l.asked.items ++ all_then l.oldest (drop l.txn-index l.txn-items) l.rest
-    ≡ all_then l.oldest l.txn-items l.answers)
+abbrev pub invariant-loop-index : goal.invariant-loop-index
+invariant-loop-index l =
+    (length l.rest ≡ length (all_first l.oldest (drop l.index l.batch.txns)))
+    × ((done : List (Range × ℤ)) × (map (query_named l.batch.txns) l.asked.items ≡ map Some done)
+    × (done ++ all_then l.oldest (drop l.index l.batch.txns) l.rest ≡ all_then l.oldest l.batch.txns l.answers))
+    × (l.parts.items ++ all_parts l.oldest (drop l.index l.batch.txns) l.rest ≡ all_parts l.oldest l.batch.txns l.answers)

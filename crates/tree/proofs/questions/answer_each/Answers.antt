@@ -1,7 +1,8 @@
-use Rattle.std.proofs.Common.{rules, ◌≡◌, ◌≢◌, ◌≤◌, ◌<◌, ◌++◌, ◌∷◌, ◌∙◌, ◌+◌, ℤ, [], true, Some, None, filter, length, get_or, min, refl, ap, sym, subst, w64, to_z, of_z, append_assoc, length-append, arith}
+use Rattle.std.proofs.Common.{rules, ◌≡◌, ◌≢◌, ◌≤◌, ◌<◌, ◌++◌, ◌∷◌, ◌∙◌, ◌+◌, ℤ, [], true, Some, None, filter, length, get_or, take, min, refl, sym, subst, w64, to_z, of_z, length-append, arith}
 use Rattle.std.specs.Prelude.{◌↔◌, ◌<ℤ◌, IsTrue}
 use Rattle.std.specs.List.{Any}
 use Rattle.std.proofs.lemmas.Int.{to_z-of_z}
+use Rattle.std.proofs.lemmas.List.{length-take}
 use Rattle.std.proofs.lemmas.List.Elements.{All-get_or}
 use Rattle.std.proofs.lemmas.Slice.Zip.{AllZip-long, zip_turn, zip_end}
 use Rattle.tree.specs.Hints.{AreHinted}
@@ -99,18 +100,25 @@ loop-question-preserved g c =
     (from_last (g.P.Probe.lets_pass q.from) (Some (g.Q.Probe.lets_pass q.to)) items) in
     let said : Above q.version = rw (to_z-of_z w64 q.version (search rules)) at c.answer.ensures.above in
     let more : length (c.loop-question.yielded ++ (c.in-Some.question, c.in-Some.look) ∷ []) ≡ i + 1 =
-    length-append c.loop-question.yielded ((c.in-Some.question, c.in-Some.look) ∷ []) in (
-      before.0 ++ above ∷ [],
-      c.in_ok-push.ensures.items ∙ ap (λ bs. bs ++ above ∷ []) before.1 ∙ append_assoc c.args.answers.now.items before.0 (above ∷ []),
-      AllZip-turn _ c.args.questions.now i _ before.0 _ q above t.0 t.2 more refl before.2 said,
-    )
+    length-append c.loop-question.yielded ((c.in-Some.question, c.in-Some.look) ∷ []) in
+    AllZip-turn _ c.args.questions.now i _ c.loop-question.answers.items _ q above t.0 t.2 more c.push.ensures.items before said
+
+pub push-requires : goal.push-requires
+push-requires g c =
+    let t = turn g (goal.at.push-requires g c).In-Some in
+    let qs = c.args.questions.now in
+    let i = length c.loop-question.yielded in
+    let answers = c.loop-question.answers.items in
+    let long = AllZip-long _ (take i qs) answers c.loop-question.invariant in
+    let room : length answers < 16 = omega (arith, long, length-take i qs, t.0, c.requires.few) in
+    (search rules, room)
 
 pub returns : goal.returns
 returns g c =
     let same = AllZip-long _ c.args.questions.now c.args.looks.now c.requires.looked in
     let most : length c.args.questions.now ≤ length c.loop-question.yielded =
     omega (arith, same, end g (goal.at.returns g c).In-None) in
-    let told = c.loop-question.invariant in
     record {
-      told = (told.0, told.1, AllZip-whole _ c.args.questions.now (length c.loop-question.yielded) told.0 most told.2);
+      told = AllZip-whole _ c.args.questions.now (length c.loop-question.yielded) c.loop-question.answers.items most
+          c.loop-question.invariant;
     }

@@ -1,4 +1,4 @@
-use Rattle.std.proofs.Common.{◌≡◌, ◌++◌, Bool, List, Some, IsTrue, length, take}
+use Rattle.std.proofs.Common.{Some, IsTrue, length, take}
 use Rattle.std.specs.Prelude.{◌↔◌, ◌<ℤ◌}
 use Rattle.std.specs.List.{AllZip, Any}
 use Rattle.tree.specs.Path.{from_last}
@@ -7,7 +7,6 @@ use Rattle.tree.proofs.questions.answer_each.Given as goal
 
 abbrev pub invariant-loop-question : goal.invariant-loop-question
 invariant-loop-question g l =
-    (told : List Bool) × (l.answers.items ≡ l.fn.answers.items ++ told)
-    × AllZip (λ q above. IsTrue above ↔ Any (λ x. q.version <ℤ x.version)
+    AllZip (λ q above. IsTrue above ↔ Any (λ x. q.version <ℤ x.version)
     (from_last (g.P.Probe.lets_pass q.from) (Some (g.Q.Probe.lets_pass q.to)) (items_in l.nodes l.root.height l.root.slot)))
-    (take (length l.yielded) l.questions) told
+    (take (length l.yielded) l.questions) l.answers.items

@@ -1,6 +1,8 @@
-use Rattle.std.proofs.Common.{rules, ◌≢◌, [], true, filter, refl, sym, subst, w64}
+use Rattle.std.proofs.Common.{rules, ◌≢◌, ◌<◌, [], true, filter, length, take, refl, sym, subst, w64, arith}
 use Rattle.std.proofs.lemmas.Int.{to_z-of_z}
+use Rattle.std.proofs.lemmas.List.{length-take}
 use Rattle.std.proofs.lemmas.List.Elements.{All-get_or}
+use Rattle.std.proofs.lemmas.Slice.Zip.{AllZip-long}
 use Rattle.tree.specs.Hints.{AreHinted}
 use Rattle.tree.specs.Item.{Item}
 use Rattle.tree.specs.Node.{hints_of}
@@ -57,4 +59,13 @@ loop-question-preserved g c =
     (g.P.Probe.lets_pass q.from) (g.Q.Probe.lets_pass q.to) (g.P.Probe.sought q.from) q.version true way =
     rw (to_z-of_z w64 q.version (search rules)) at c.descend_from.ensures.approach in
     AllZip-turn _ c.args.questions.now c.loop-question.question-index _ c.loop-question.ways.items _ q way
-    c.loop-question-test.true c.question-item.is refl c.in_ok-push.ensures.items c.loop-question.invariant said
+    c.loop-question-test.true c.question-item.is refl c.push.ensures.items c.loop-question.invariant said
+
+pub push-requires : goal.push-requires
+push-requires g c =
+    let qs = c.args.questions.now in
+    let i = c.loop-question.question-index in
+    let ways = c.loop-question.ways.items in
+    let long = AllZip-long _ (take i qs) ways c.loop-question.invariant in
+    let room : length ways < 16 = omega (arith, long, length-take i qs, c.loop-question-test.true, c.requires.few) in
+    (search rules, room)

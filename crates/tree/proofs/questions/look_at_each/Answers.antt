@@ -58,9 +58,9 @@ loop-question-preserved g c =
     let looked : IsLooked c.args.nodes.now (g.P.Probe.bytes q.from) (g.P.Probe.sought q.from) k.way k.own =
     subst (λ w. IsLooked c.args.nodes.now (g.P.Probe.bytes q.from) (g.P.Probe.sought q.from) w k.own) (sym way)
     c.look_at.ensures.looked in (
-      ap (map (λ (k : Look). k.way)) c.in_ok-push.ensures.items
+      ap (map (λ (k : Look). k.way)) c.push.ensures.items
           ∙ map-next (λ (k : Look). k.way) looks c.args.ways.now i k t.1 is before.0 ∙ ap (λ n. take n c.args.ways.now) (sym more),
-      AllZip-turn _ c.args.questions.now i _ looks _ q k t.0 t.2 more c.in_ok-push.ensures.items before.1 looked,
+      AllZip-turn _ c.args.questions.now i _ looks _ q k t.0 t.2 more c.push.ensures.items before.1 looked,
     )
 
 pub returns-clause-ways : goal.returns-clause-ways

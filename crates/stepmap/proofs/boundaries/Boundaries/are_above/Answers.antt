@@ -1,29 +1,72 @@
-use Rattle.std.proofs.Common.{arith, ◌≡◌, ◌+◌, ◌-◌, ◌≤◌, ◌++◌, Bool, List, length, length-drop, take, drop, sym, subst}
-use Rattle.std.specs.Prelude.{◌↔◌, IsTrue}
-use Rattle.std.specs.List.{AllZip}
-use Rattle.std.proofs.Math.Seq.{take-add}
-use Rattle.std.proofs.lemmas.List.{take_all}
+use Rattle.std.proofs.Common.{rules, arith, ◌≡◌, ◌≢◌, ◌≤◌, ℕ, ℤ, Bool, List, [], true, false, length, take, subst, sym}
+use Rattle.std.specs.Prelude.{◌↔◌, IsTrue, IsSomeAnd, slice_get}
+use Rattle.std.specs.List.{All, AllZip}
+use Rattle.std.proofs.lemmas.List.{length-take}
+use Rattle.arena.specs.Arena.{key_at}
+use Rattle.keys.specs.declared.range.Range.{Range}
+use Rattle.tree.specs.Hints.{AreHinted}
+use Rattle.tree.specs.Item.{Item}
+use Rattle.tree.specs.Path.{IsCut, passing}
+use Rattle.tree.specs.Tree.{hints_in}
 use Rattle.stepmap.specs.Asking.{Exceeds}
-use Rattle.stepmap.specs.declared.asked.Asked.{Asked}
-use Rattle.stepmap.proofs.InTurn.{AllZip-append}
+use Rattle.stepmap.specs.Boundary.{Boundary, AreBoundaries}
+use Rattle.stepmap.specs.Stored.{Stored, boundaries_of}
+use Rattle.stepmap.proofs.Asking.{CutQuestion, Asks, Told, passes, is_cut, some_pass, are_hinted, told_above, query_gives, from_query}
+use Rattle.stepmap.proofs.InTurn.{AllZip-second, AllZip-through}
 use Rattle.stepmap.proofs.boundaries.Boundaries.are_above.Goals as goal
 
-pub loop-from-preserved : goal.loop-from-preserved
-loop-from-preserved g c =
-    let from = c.loop-from.from in
-    let count = c.in_ok-from.field-0 in
-    let asked = c.args.asked.now in
-    let before = c.loop-from.answers.items in
-    let Above = λ (a : Asked) (above : Bool). IsTrue above ↔ Exceeds c.args.self.now.boundaries a in
-    let rest : take (length asked - from) (drop from asked) ≡ drop from asked =
-    take_all (length asked - from) (drop from asked) (omega (arith, length-drop from asked)) in
-    let some : count ≤ length (drop from asked) = rw rest at c.in_ok-from.ensures.some.1 in
-    let told : (told : List Bool) × (c.answer_some.new.answers.items ≡ before ++ told)
-    × AllZip Above (take count (drop from asked)) told = rw rest at c.in_ok-from.ensures.told in
+pub exceeds_each-requires : goal.exceeds_each-requires
+exceeds_each-requires g c =
+    let b = c.self.inside in
+    let indexed = c.self.invariant in
+    let queries = g.L.QueryList.queries c.args.queries.now in
+    let places = c.args.places.now in
+    let questions = take (length places) c.put_questions.new.questions in
+    let asked = λ (place : ℕ) (q : CutQuestion). IsSomeAnd (slice_get queries place) (λ a. Asks b.keys a q) in
+    let each : (Q : CutQuestion → Type 0) → ((a : Range × ℤ) (q : CutQuestion) → Asks b.keys a q → Q q) → All Q questions =
+    λ Q gives. AllZip-second asked Q
+    (λ place q some. from_query (slice_get queries place) (λ a. Asks b.keys a q) (λ a asks. gives a q asks) some) places
+    questions c.put_questions.ensures.asks in
+    let few : length questions ≤ 16 =
+    omega (arith, length-take (length places) c.put_questions.new.questions, c.requires.few) in (
+      search rules,
+      (
+        few,
+        (
+        each (λ q. IsCut (λ (x : Item). passes q.from x.key) b.tree.items)
+            (λ a q asks. is_cut b.keys b.tree indexed true a.0.begin q.from asks.0.begin),
+        (
+          each (λ q. IsCut (λ (x : Item). passes q.to x.key) b.tree.items)
+              (λ a q asks. is_cut b.keys b.tree indexed false a.0.end q.to asks.0.end),
+          (
+            each (λ q. passing (passes q.from) b.tree.items ≢ [])
+                (λ a q asks. some_pass b.keys b.tree indexed a.0.begin q.from asks.0.begin),
+            each (λ q. AreHinted (key_at q.from.keys.now) (hints_in b.tree))
+                (λ a q asks. are_hinted b.keys b.tree indexed true a.0.begin q.from asks.0.begin),
+          ),
+        ),
+        ),
+      ),
+    )
+
+pub returns : goal.returns
+returns g c =
+    let b = c.self.inside in
+    let queries = g.L.QueryList.queries c.args.queries.now in
+    let places = c.args.places.now in
+    let questions = take (length places) c.put_questions.new.questions in
+    let bs = boundaries_of b.keys b.tree.items in
+    let are : AreBoundaries bs = subst (λ (v : Stored). AreBoundaries v.boundaries) (sym c.self.view_is) c.requires.boundaries in
+    let Above = λ (bs : List Boundary) (place : ℕ) (above : Bool).
+    IsSomeAnd (slice_get queries place) (λ q. IsTrue above ↔ Exceeds bs q) in
+    let told : AllZip (Told b.tree) questions c.exceeds_each.result.items =
+    c.exceeds_each.ensures.told in
+    let above : AllZip (Above bs) places c.exceeds_each.result.items =
+    AllZip-through (λ (place : ℕ) (q : CutQuestion). IsSomeAnd (slice_get queries place) (λ a. Asks b.keys a q)) (Told b.tree)
+    (Above bs)
+    (λ place q above some told. query_gives (slice_get queries place) (λ a. Asks b.keys a q)
+    (λ a. IsTrue above ↔ Exceeds bs a) (λ a asks. told_above b.keys b.tree c.self.invariant are a q above asks told) some)
+    places questions c.exceeds_each.result.items c.put_questions.ensures.asks told in
     record {
-      within = omega (arith, some, length-drop from asked);
-      told = subst (AllZip Above (take (from + count) asked)) (sym told.1)
-          (subst (λ front. AllZip Above front (before ++ told.0)) (sym (take-add from count asked))
-          (AllZip-append Above (take from asked) (take count (drop from asked)) before told.0 c.loop-from.invariant.told
-          told.2));
+      above = subst (λ (v : Stored). AllZip (Above v.boundaries) places c.exceeds_each.result.items) c.self.view_is above;
     }

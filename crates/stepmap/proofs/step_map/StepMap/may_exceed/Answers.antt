@@ -28,13 +28,13 @@ returns-else-not-is_single c =
       later,
     ) in
     let single : IsSingle range.begin range.end =
-    sym c.as_bytes-end.ensures.bytes ∙ c.is_single.ensures.single.0 c.if-not-is_single.false
-    ∙ ap (λ (key : List ℕ). key ++ 0 ∷ []) c.as_bytes-begin.ensures.bytes in
+    sym c.end-end.ensures.bytes ∙ c.is_single.ensures.single.0 c.if-not-is_single.false
+    ∙ ap (λ (key : List ℕ). key ++ 0 ∷ []) c.begin-begin.ensures.bytes in
     record {
       not_above = λ not_less_than_bound.
           let bounded = to_z w64 (of_z w64 c.bound.result) in
           let less = not_less asked bounded (false_unless (int_lt asked bounded) not_less_than_bound) in
-          let low : bound f c.as_bytes-begin.result.now ≤ℤ version = omega (arith, ints, less, c.bound.ensures.bound) in
+          let low : bound f c.begin-begin.result.now ≤ℤ version = omega (arith, ints, less, c.bound.ensures.bound) in
           not_above f c.args.self.now range version tells from single
-          (subst (λ (key : List ℕ). bound f key ≤ℤ version) c.as_bytes-begin.ensures.bytes low);
+          (subst (λ (key : List ℕ). bound f key ≤ℤ version) c.begin-begin.ensures.bytes low);
     }

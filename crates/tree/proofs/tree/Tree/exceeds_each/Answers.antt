@@ -1,4 +1,4 @@
-use Rattle.std.proofs.Common.{rules, ◌≡◌, ◌≢◌, ◌≤◌, ◌∙◌, ◌++◌, All, Bool, List, Some, OnOk, [], true, length, map, filter, sym, subst}
+use Rattle.std.proofs.Common.{rules, ◌≡◌, ◌≢◌, ◌≤◌, ◌∙◌, All, Some, [], true, length, map, filter, sym, subst}
 use Rattle.std.specs.Prelude.{◌↔◌, ◌<ℤ◌, IsTrue}
 use Rattle.std.specs.List.{AllZip, Any}
 use Rattle.std.proofs.lemmas.List.Elements.{All-weaker}
@@ -46,28 +46,31 @@ inside g c =
           (subst (λ v. AreHinted (g.P.Probe.bytes q.from) (hints_in v)) view h)) qs c.requires.hinted;
     }
 
-pub descend_each-requires : goal.descend_each-requires
-descend_each-requires g c =
-    let i = inside g (goal.at.descend_each-requires g c).After-self in
-    (search rules, (c.self.invariant.rooted.subtree, (i.some, (i.from, (i.to, (i.passing, i.hinted))))))
+pub descend_each-ways-requires : goal.descend_each-ways-requires
+descend_each-ways-requires g c =
+    let i = inside g (goal.at.descend_each-ways-requires g c).After-self in
+    (search rules, (c.requires.few, (c.self.invariant.rooted.subtree, (i.some, (i.from, (i.to, (i.passing, i.hinted)))))))
 
-pub look_at_each-requires : goal.look_at_each-requires
-look_at_each-requires g c =
+pub look_at_each-looks-requires : goal.look_at_each-looks-requires
+look_at_each-looks-requires g c =
     let t = c.self.inside in
-    let i = inside g (goal.at.look_at_each-requires g c).After-self in
+    let i = inside g (goal.at.look_at_each-looks-requires g c).After-self in
     let qs = c.args.questions.now in
-    let ways = c.in_ok-ways.ways.items in
+    let ways = c.descend_each-ways.result.items in
     let leading : AllZip
     (λ q way. IsLeading t.nodes (g.P.Probe.bytes q.from) (g.P.Probe.lets_pass q.from) (g.P.Probe.sought q.from) way) qs ways =
     AllZip-weaker _ _
     (λ q way is. leading_of t.nodes (g.P.Probe.bytes q.from) (g.P.Probe.lets_pass q.from) (g.Q.Probe.lets_pass q.to)
-    (g.P.Probe.sought q.from) q.version t.root.height t.root.slot true way is) qs ways c.in_ok-ways.ensures.ways in (
+    (g.P.Probe.sought q.from) q.version t.root.height t.root.slot true way is) qs ways c.descend_each-ways.ensures.ways in (
       search rules,
       (
-        subst
-            (λ ways. AllZip (λ q way. IsLeading t.nodes (g.P.Probe.bytes q.from) (g.P.Probe.lets_pass q.from)
-            (g.P.Probe.sought q.from) way) qs ways) (sym c.deref.ensures.value) leading,
-        i.hinted,
+        c.requires.few,
+        (
+          subst
+              (λ ways. AllZip (λ q way. IsLeading t.nodes (g.P.Probe.bytes q.from) (g.P.Probe.lets_pass q.from)
+              (g.P.Probe.sought q.from) way) qs ways) (sym c.as_slice.ensures.value) leading,
+          i.hinted,
+        ),
       ),
     )
 
@@ -76,18 +79,20 @@ answer_each-requires g c =
     let t = c.self.inside in
     let i = inside g (goal.at.answer_each-requires g c).After-self in
     let qs = c.args.questions.now in
-    let looks = c.in_ok-looks.looks.items in
-    let made : map (λ (l : Look). l.way) looks ≡ c.in_ok-ways.ways.items = c.in_ok-looks.ensures.ways ∙ c.deref.ensures.value in
+    let looks = c.look_at_each-looks.result.items in
+    let made : map (λ (l : Look). l.way) looks ≡ c.descend_each-ways.result.items = c.look_at_each-looks.ensures.ways ∙ c.as_slice.ensures.value in
     let ways : AllZip
     (λ q way. IsApproach t.nodes t.root.height t.root.slot (g.P.Probe.bytes q.from) (g.P.Probe.lets_pass q.from)
     (g.Q.Probe.lets_pass q.to) (g.P.Probe.sought q.from) q.version true way) qs (map (λ (l : Look). l.way) looks) =
     subst
     (λ ways. AllZip
     (λ q way. IsApproach t.nodes t.root.height t.root.slot (g.P.Probe.bytes q.from) (g.P.Probe.lets_pass q.from)
-    (g.Q.Probe.lets_pass q.to) (g.P.Probe.sought q.from) q.version true way) qs ways) (sym made) c.in_ok-ways.ensures.ways in
-    let value = sym c.deref-2.ensures.value in (
+    (g.Q.Probe.lets_pass q.to) (g.P.Probe.sought q.from) q.version true way) qs ways) (sym made) c.descend_each-ways.ensures.ways in
+    let value = sym c.as_slice-2.ensures.value in (
       search rules,
       (
+        c.requires.few,
+        (
         c.self.invariant.rooted.subtree,
         (
           i.from,
@@ -104,21 +109,21 @@ answer_each-requires g c =
                       qs looks) value (AllZip-unmap _ (λ (l : Look). l.way) qs looks ways),
                   subst
                       (λ looks. AllZip (λ q l. IsLooked t.nodes (g.P.Probe.bytes q.from) (g.P.Probe.sought q.from) l.way l.own)
-                      qs looks) value c.in_ok-looks.ensures.looked,
+                      qs looks) value c.look_at_each-looks.ensures.looked,
                 ),
               ),
             ),
           ),
         ),
       ),
+      ),
     )
 
 pub returns : goal.returns
 returns g c = record {
   told = subst
-      (λ (v : Items). OnOk c.answer_each.result ((told : List Bool)
-      × (c.answer_each.new.answers.items ≡ c.args.answers.now.items ++ told)
-      × AllZip (λ q above. IsTrue above ↔ Any (λ (x : Item). q.version <ℤ x.version)
-      (from_last (g.P.Probe.lets_pass q.from) (Some (g.Q.Probe.lets_pass q.to)) v.items)) c.args.questions.now told))
+      (λ (v : Items). AllZip (λ q above. IsTrue above ↔ Any (λ (x : Item). q.version <ℤ x.version)
+      (from_last (g.P.Probe.lets_pass q.from) (Some (g.Q.Probe.lets_pass q.to)) v.items)) c.args.questions.now
+      c.answer_each.result.items)
       c.self.view_is c.answer_each.ensures.told;
 }

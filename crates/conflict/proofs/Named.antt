@@ -1,0 +1,124 @@
+-- What names of read ranges ask for.
+use Rattle.std.proofs.Common.{◌≡◌, ℕ, zero, suc, ◌+◌, ◌-◌, ◌<◌, ◌≤◌, ℤ, List, [], ◌∷◌, ◌++◌, length, map, get_or, take, drop, refl, sym, ap, ◌∙◌, arith, append_assoc, length-drop}
+use Rattle.std.specs.Prelude.{Option, Some, None, option_to_list, option_and_then, option_map, slice_get, slice_range, unwrap_or}
+use Rattle.std.proofs.Math.Seq.{take-suc}
+use Rattle.std.proofs.lemmas.List.{map-append, map_push, length-map, get_or-drop, take_all}
+use Rattle.std.proofs.lemmas.Option.{get_or_from_slice_get, slice_get_within, slice_get-map}
+use Rattle.keys.specs.declared.range.Range.{Range}
+use Rattle.keyspace.specs.declared.txn.Txn.{Txn}
+use Rattle.conflict.specs.declared.read_name.ReadName.{ReadName}
+use Rattle.conflict.specs.Asking.{asked_at, query_named, queries_named, AreNamed}
+
+-- where each name asks for something, that is what they ask for
+pub queries_of : (txns : List Txn) (names : List ReadName) (queries : List (Range × ℤ))
+    → map (query_named txns) names ≡ map Some queries → queries_named txns names ≡ queries
+queries_of txns [] [] is = refl
+queries_of txns [] (q ∷ queries) is = absurd (omega (arith, ap length is))
+queries_of txns (name ∷ names) [] is = absurd (omega (arith, ap length is))
+queries_of txns (name ∷ names) (q ∷ queries) is =
+    let first : query_named txns name ≡ Some q = ap (λ (os : List (Option (Range × ℤ))). get_or os 0 None) is in
+    ap (λ o. option_to_list o ++ queries_named txns names) first
+    ∙ ap (λ qs. q ∷ qs) (queries_of txns names queries (ap (drop 1) is))
+
+pub are_named : (txns : List Txn) (names : List ReadName) (queries : List (Range × ℤ))
+    → map (query_named txns) names ≡ map Some queries → AreNamed txns names
+are_named txns names queries is = is ∙ ap (map Some) (sym (queries_of txns names queries is))
+
+-- names of more are appended
+pub named_more : (txns : List Txn) (names before : List ReadName) (queries more : List (Range × ℤ))
+    → map (query_named txns) names ≡ map (query_named txns) before ++ map Some more
+    → map (query_named txns) before ≡ map Some queries
+    → map (query_named txns) names ≡ map Some (queries ++ more)
+named_more txns names before queries more appended is =
+    appended ∙ ap (λ os. os ++ map Some more) is ∙ sym (map-append Some queries more)
+
+-- there is an element at each index
+pub some_at : {X : Type 0} (xs : List X) (i : ℕ) → i < length xs → (x : X) × (slice_get xs i ≡ Some x)
+some_at [] i inside = absurd (omega (arith, inside))
+some_at (x ∷ xs) zero inside = (x, refl)
+some_at (x ∷ xs) (suc i) inside = some_at xs i (omega (arith, inside))
+
+-- a range with one element more
+range_more : {X : Type 0} (xs : List X) (from to : ℕ) (x : X) → from ≤ to → slice_get xs to ≡ Some x
+    → slice_range xs from (to + 1) ≡ slice_range xs from to ++ x ∷ []
+range_more xs from to x rises is =
+    let within = slice_get_within xs to x is in
+    let inside : to - from < length (drop from xs) = omega (arith, rises, within, length-drop from xs) in
+    let more : (to + 1) - from ≡ suc (to - from) = omega (arith, rises) in
+    let same : from + (to - from) ≡ to = omega (arith, rises) in
+    ap (λ k. take k (drop from xs)) more ∙ take-suc (drop from xs) (to - from) x inside
+    ∙ ap (λ y. slice_range xs from to ++ y ∷ [])
+    (get_or-drop from xs (to - from) x ∙ ap (λ k. get_or xs k x) same ∙ get_or_from_slice_get xs to x x is)
+
+-- the first of a list, and those from an index on
+pub range_first : {X : Type 0} (xs : List X) (n : ℕ) → slice_range xs 0 n ≡ take n xs
+range_first xs n = ap (λ k. take k xs) (omega arith)
+
+pub range_rest : {X : Type 0} (xs : List X) (from : ℕ) → slice_range xs from (length xs) ≡ drop from xs
+range_rest xs from = take_all (length xs - from) (drop from xs) (omega (arith, length-drop from xs))
+
+-- the name of one read range more is appended
+pub read_named : (txns : List Txn) (t : Txn) (from : ℕ) (names before : List ReadName) (name : ReadName)
+    → slice_get txns name.txn ≡ Some t → from ≤ name.read → name.read < length t.reads
+    → map (query_named txns) names
+    ≡ map (query_named txns) before ++ map Some (asked_at t.snapshot (slice_range t.reads from name.read))
+    → map (query_named txns) (names ++ name ∷ [])
+    ≡ map (query_named txns) before ++ map Some (asked_at t.snapshot (slice_range t.reads from (name.read + 1)))
+read_named txns t from names before name at rises inside done =
+    let range = some_at t.reads name.read inside in
+    let ranges = slice_range t.reads from name.read in
+    let query : Range × ℤ = (range.0, t.snapshot) in
+    let Query = query_named txns in
+    let is : Query name ≡ Some query =
+    ap (option_and_then (λ (u : Txn). option_map (λ range. (range, u.snapshot)) (slice_get u.reads name.read))) at
+    ∙ ap (option_map (λ range. (range, t.snapshot))) range.1 in
+    let asked : asked_at t.snapshot (slice_range t.reads from (name.read + 1)) ≡ asked_at t.snapshot ranges ++ query ∷ [] =
+    ap (asked_at t.snapshot) (range_more t.reads from name.read range.0 rises range.1)
+    ∙ map-append (λ range. (range, t.snapshot)) ranges (range.0 ∷ []) in
+    map_push Query names name ∙ ap (λ o. map Query names ++ o ∷ []) is
+    ∙ ap (λ os. os ++ Some query ∷ []) done
+    ∙ append_assoc (map Query before) (map Some (asked_at t.snapshot ranges)) (Some query ∷ [])
+    ∙ ap (λ os. map Query before ++ os)
+    (sym (ap (map Some) asked ∙ map-append Some (asked_at t.snapshot ranges) (query ∷ [])))
+
+-- the read range that a name asks for
+pub read_found : (txns : List Txn) (name : ReadName) (q : Range × ℤ) → query_named txns name ≡ Some q
+    → (t : Txn) × (slice_get txns name.txn ≡ Some t) × (slice_get t.reads name.read ≡ Some q.0) × (t.snapshot ≡ q.1)
+read_found txns name q is = by_txn (slice_get txns name.txn) refl is
+  where
+    of_txn : Txn → Option (Range × ℤ)
+    of_txn t = option_map (λ range. (range, t.snapshot)) (slice_get t.reads name.read)
+
+    none_is_some : {X : Type 0} (x : X) → None ≡ Some x → ⊥
+    none_is_some x e = cc
+
+    by_range : (t : Txn) → slice_get txns name.txn ≡ Some t → (o : Option Range) → slice_get t.reads name.read ≡ o
+        → option_map (λ range. (range, t.snapshot)) o ≡ Some q
+        → (t : Txn) × (slice_get txns name.txn ≡ Some t) × (slice_get t.reads name.read ≡ Some q.0) × (t.snapshot ≡ q.1)
+    by_range t at None there it = absurd (none_is_some q it)
+    by_range t at (Some range) there it =
+        let same : (range, t.snapshot) ≡ q = ap (λ o. unwrap_or o q) it in
+        (t, at, there ∙ ap (λ (p : Range × ℤ). Some p.0) same, ap (λ (p : Range × ℤ). p.1) same)
+
+    by_txn : (o : Option Txn) → slice_get txns name.txn ≡ o → option_and_then of_txn o ≡ Some q
+        → (t : Txn) × (slice_get txns name.txn ≡ Some t) × (slice_get t.reads name.read ≡ Some q.0) × (t.snapshot ≡ q.1)
+    by_txn None at it = absurd (none_is_some q it)
+    by_txn (Some t) at it = by_range t at (slice_get t.reads name.read) refl it
+
+-- names and what they ask for
+module _ (txns : List Txn) (names : List ReadName) (named : AreNamed txns names) where
+  -- there are as many
+  pub name_count : length names ≡ length (queries_named txns names)
+  name_count =
+      sym (length-map names (query_named txns)) ∙ ap length named ∙ length-map (queries_named txns names) Some
+
+  -- what the name at an index asks for
+  pub named_at : (index : ℕ) (name : ReadName) (q : Range × ℤ) → slice_get names index ≡ Some name
+      → slice_get (queries_named txns names) index ≡ Some q → query_named txns name ≡ Some q
+  named_at index name q is at =
+      let both : option_map (query_named txns) (slice_get names index) ≡ option_map Some (slice_get (queries_named txns names) index) =
+      sym (slice_get-map (query_named txns) names index) ∙ ap (λ os. slice_get os index) named
+      ∙ slice_get-map Some (queries_named txns names) index in
+      let same : Some (query_named txns name) ≡ Some (Some q) =
+      sym (ap (option_map (query_named txns)) is) ∙ both ∙ ap (option_map Some) at in
+      ap (λ o. unwrap_or o None) same

@@ -1,0 +1,78 @@
+//! The read ranges of the transactions of a batch, by indices, and the queries that they are.
+
+ghost use Rattle.std.specs.Prelude.{◌≡◌, ◌≤◌, ◌++◌, List, length, map, slice_get, slice_range, Some, OnOk};
+ghost use Rattle.keyspace.specs.declared.txn.Txn.{Txn};
+ghost use Rattle.conflict.specs.Asking.{asked_at, query_named, queries_named, AreNamed};
+
+use keyspace::Txn;
+use std::alloc::AllocError;
+use stepmap::{QueryList, RangeQuery};
+
+/// Names a read range of some transactions.
+#[derive(Clone, Copy, Debug)]
+pub struct ReadName {
+    /// The index of the transaction.
+    pub txn: u16,
+    /// The index among its read ranges.
+    pub read: u16,
+}
+
+/// Appends the names of those of the transaction's read ranges from one index up to another. It has this index itself.
+pub fn push_reads(
+    names: &mut Vec<ReadName>,
+    index: u16,
+    txn: &Txn,
+    from: usize,
+    to: usize,
+) -> Result<(), AllocError>
+    requires ordered { from ≤ to }
+    requires within { to ≤ length txn.now.reads }
+    ensures named { OnOk result ((txns : List Txn) → slice_get txns index ≡ Some txn.now
+        → map (query_named txns) names.new.items
+        ≡ map (query_named txns) names.old.items
+        ++ map Some (asked_at txn.now.snapshot (slice_range txn.now.reads from to))) }
+{
+    for read in from..to {
+        names.push(ReadName {
+            txn: index,
+            read: read as u16,
+        })?;
+    }
+    Ok(())
+}
+
+/// Queries for read ranges of transactions, each at the snapshot of its transaction.
+#[derive(Debug, Drop)]
+pub struct AskedReads<'a> {
+    txns: &'a [Txn],
+    names: &'a [ReadName],
+    ghost named: { AreNamed txns.now names.now },
+}
+
+impl<'a> AskedReads<'a> {
+    /// Lists the queries for the read ranges of these names.
+    pub fn new(txns: &'a [Txn], names: &'a [ReadName]) -> Self
+        requires named { AreNamed txns.now names.now }
+        ensures txns { result.txns.now ≡ txns.now }
+        ensures names { result.names.now ≡ names.now }
+    {
+        AskedReads { txns, names }
+    }
+}
+
+impl QueryList for AskedReads<'_> {
+    ghost queries = { λ a. queries_named a.txns.now a.names.now };
+
+    fn len(&self) -> usize {
+        self.names.len()
+    }
+
+    fn query(&self, index: usize) -> RangeQuery<'_> {
+        let name = self.names[index];
+        let txn = &self.txns[name.txn as usize];
+        RangeQuery {
+            range: txn.reads.as_slice()[name.read as usize].as_ref(),
+            version: txn.snapshot,
+        }
+    }
+}

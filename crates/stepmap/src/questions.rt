@@ -1,0 +1,76 @@
+//! What the tree of boundaries is asked for queries.
+ghost use Rattle.std.specs.Prelude.{◌≡◌, ◌≤◌, length, take, slice_get, IsSomeAnd};
+ghost use Rattle.std.specs.List.{All, AllZip};
+ghost use Rattle.keys.specs.Range.{IsEmpty};
+ghost use Rattle.stepmap.specs.Asking.{AsksFor};
+
+use crate::cut::Cut;
+use crate::query::{QueryList, RangeQuery};
+use arena::Arena;
+use keys::common;
+use tree::Question;
+
+// What a tree of an arena's keys is asked.
+pub type CutQuestion<'a> = Question<Cut<'a>, Cut<'a>>;
+
+// Returns what a tree of this arena's keys is asked for the query, whose range isn't empty.
+pub fn question<'a>(keys: &'a Arena<()>, query: RangeQuery<'a>) -> CutQuestion<'a>
+    requires filled { ¬ IsEmpty query.range }
+    ensures asks { AsksFor keys.now query.entry.range result.from result.to }
+    ensures version { result.version ≡ query.entry.version }
+{
+    let begin = query.range.begin();
+    let end = query.range.end();
+    Question {
+        from: Cut {
+            keys,
+            key: begin,
+            up_to: true,
+        },
+        to: Cut {
+            keys,
+            key: end,
+            up_to: false,
+        },
+        shared: common(begin, end),
+        version: query.version,
+    }
+}
+
+// Returns a question that stands where none is asked.
+pub fn no_question(keys: &Arena<()>) -> CutQuestion<'_> {
+    Question {
+        from: Cut {
+            keys,
+            key: &[],
+            up_to: false,
+        },
+        to: Cut {
+            keys,
+            key: &[],
+            up_to: false,
+        },
+        shared: 0,
+        version: 0,
+    }
+}
+
+// Puts what a tree of this arena's keys is asked for each of the queries at these places, whose ranges aren't empty, in place of
+// the first questions.
+pub fn put_questions<'a, L: QueryList>(
+    keys: &'a Arena<()>,
+    queries: &'a L,
+    places: &[usize],
+    questions: &mut [CutQuestion<'a>],
+)
+    requires filled { All (λ place. IsSomeAnd (slice_get (L.queries queries.now) place) (λ q. ¬ IsEmpty q.0)) places.now }
+    requires room { length places.now ≤ length questions.old }
+    ensures asks { AllZip (λ place question. IsSomeAnd (slice_get (L.queries queries.now) place)
+        (λ q. AsksFor keys.now q.0 question.from question.to × (question.version ≡ q.1)))
+        places.now (take (length places.now) questions.new) }
+    ensures count { length questions.new ≡ length questions.old }
+{
+    for (index, place) in places.iter().enumerate() {
+        questions[index] = question(keys, queries.query(*place));
+    }
+}

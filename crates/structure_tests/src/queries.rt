@@ -1,0 +1,28 @@
+//! Ranges that a step map is asked for.
+
+ghost use Rattle.std.specs.Prelude.{◌≡◌, map};
+
+use keyspace::Range;
+use stepmap::{QueryList, RangeQuery};
+
+/// Ranges, each with the version at which it is asked for.
+#[derive(Drop)]
+pub struct Queries<'a> {
+    pub all: Vec<(&'a Range, i64)>,
+}
+
+impl QueryList for Queries<'_> {
+    ghost queries = { λ q. map (λ one. (one.0.now, one.1)) q.all.items };
+
+    fn len(&self) -> usize {
+        self.all.len()
+    }
+
+    fn query(&self, index: usize) -> RangeQuery<'_> {
+        let (range, version) = self.all[index];
+        RangeQuery {
+            range: range.as_ref(),
+            version,
+        }
+    }
+}
