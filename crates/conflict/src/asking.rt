@@ -8,7 +8,7 @@ ghost use Rattle.keys.specs.declared.range.Range.{Range};
 
 use crate::history::is_old;
 use crate::read_name::{AskedReads, ReadName, push_reads};
-use keyspace::{Batch, Txn};
+use keyspace::{Batch, TxnRef};
 use std::alloc::{AllocError, Global};
 use stepmap::StepMap;
 
@@ -72,8 +72,9 @@ fn list_first(asked: &mut Vec<ReadName>, oldest: i64, batch: &Batch) -> Result<(
         ≡ map Some (all_first oldest batch.now.txns)) }
 {
     asked.clear();
-    for (index, txn) in batch.txns.as_slice().iter().enumerate() {
-        push_reads(asked, index as u16, txn, 0, first_count(txn, oldest))?;
+    for index in 0..batch.txns.len() {
+        let txn = batch.txns.txn(index);
+        push_reads(asked, index as u16, &txn, 0, first_count(&txn, oldest))?;
     }
     Ok(())
 }
@@ -95,12 +96,13 @@ fn list_others(
     asked.clear();
     parts.clear();
     let mut rest = answers;
-    for (index, txn) in batch.txns.as_slice().iter().enumerate() {
-        let first = first_count(txn, oldest);
+    for index in 0..batch.txns.len() {
+        let txn = batch.txns.txn(index);
+        let first = first_count(&txn, oldest);
         let (own, later) = rest.split_at(first);
-        let from = others_from(txn, oldest, own);
+        let from = others_from(&txn, oldest, own);
         let count = txn.reads.len();
-        push_reads(asked, index as u16, txn, from, count)?;
+        push_reads(asked, index as u16, &txn, from, count)?;
         parts.push(Part {
             first,
             others: count - from,
@@ -122,13 +124,13 @@ fn answer(
         → map (query_named batch.now.txns) asked.now ≡ map Some queries
         → AreAnswers steps.now queries answers.new.items) }
 {
-    let queries = AskedReads::new(batch.txns.as_slice(), asked);
+    let queries = AskedReads::new(&batch.txns, asked);
     steps.exceeds_each(&queries, answers)?;
     Ok(())
 }
 
 // Returns how many read ranges are asked for first: one, unless the transaction is too old or has none.
-fn first_count(txn: &Txn, oldest: i64) -> usize
+fn first_count(txn: &TxnRef<'_>, oldest: i64) -> usize
     ensures reads { take result txn.now.reads ≡ first_asked oldest txn.now }
     ensures within { result ≤ length txn.now.reads }
 {
@@ -140,7 +142,7 @@ fn first_count(txn: &Txn, oldest: i64) -> usize
 
 // Returns from which read range on they are asked for then: from the second, unless the transaction is too old or the hits
 // settle it.
-fn others_from(txn: &Txn, oldest: i64, hits: &[bool]) -> usize
+fn others_from(txn: &TxnRef<'_>, oldest: i64, hits: &[bool]) -> usize
     ensures reads { drop result txn.now.reads ≡ then_asked oldest txn.now hits.now }
     ensures within { result ≤ length txn.now.reads }
 {
@@ -152,7 +154,7 @@ fn others_from(txn: &Txn, oldest: i64, hits: &[bool]) -> usize
 }
 
 // Returns `true` if the hits settle the transaction: one is enough where its places aren't reported.
-fn is_settled_by(txn: &Txn, hits: &[bool]) -> bool
+fn is_settled_by(txn: &TxnRef<'_>, hits: &[bool]) -> bool
     ensures settled { result ≡ is_settled txn.now hits.now }
 {
     !txn.marked && hits.contains(&true)

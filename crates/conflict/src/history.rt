@@ -7,11 +7,11 @@ ghost use Rattle.keyspace.specs.Judge.{is_too_old};
 ghost use Rattle.conflict.specs.InBatch.{by_history};
 ghost use Rattle.conflict.specs.Asking.{AreHits, true_places};
 
-use keyspace::{Entry, Places, Txn, Verdict};
+use keyspace::{Entry, Places, TxnRef, Verdict};
 use std::alloc::{AllocError, Global};
 
 /// Returns `true` if the transaction reads, at a snapshot below the oldest version that may be read.
-pub fn is_old(txn: &Txn, oldest: i64) -> bool
+pub fn is_old(txn: &TxnRef<'_>, oldest: i64) -> bool
     ensures too_old { result ≡ is_too_old oldest txn.now }
 {
     !txn.reads.is_empty() && txn.snapshot < oldest
@@ -38,7 +38,7 @@ pub fn judge_by_history(
     first: &[bool],
     others: &[bool],
     oldest: i64,
-    txn: &Txn,
+    txn: &TxnRef<'_>,
 ) -> Result<Entry, AllocError>
     requires few { length first.now + length others.now ≤ MAX_RANGES }
     ensures judged { IfOk result (λ entry. (ws : List Write) → AreHits oldest ws txn.now (first.now ++ others.now)

@@ -55,11 +55,12 @@ fn judge_all_by_history(
     let mut entries = Vec::with_capacity(alloc, batch.txns.len())?;
     let mut firsts = asking.first.as_slice();
     let mut others = asking.others.as_slice();
-    for (index, txn) in batch.txns.as_slice().iter().enumerate() {
+    for index in 0..batch.txns.len() {
+        let txn = batch.txns.txn(index);
         let part = asking.parts[index];
         let (first, later_firsts) = firsts.split_at(part.first);
         let (other, later_others) = others.split_at(part.others);
-        entries.push(judge_by_history(alloc, first, other, oldest, txn)?)?;
+        entries.push(judge_by_history(alloc, first, other, oldest, &txn)?)?;
         firsts = later_firsts;
         others = later_others;
     }

@@ -4,7 +4,7 @@ ghost use Rattle.std.specs.Prelude.{◌≡◌, ◌≤◌, ◌++◌, List, length
 ghost use Rattle.keyspace.specs.declared.txn.Txn.{Txn};
 ghost use Rattle.conflict.specs.Asking.{asked_at, query_named, queries_named, AreNamed};
 
-use keyspace::Txn;
+use keyspace::{TxnRef, Txns};
 use std::alloc::AllocError;
 use stepmap::{QueryList, RangeQuery};
 
@@ -21,7 +21,7 @@ pub struct ReadName {
 pub fn push_reads(
     names: &mut Vec<ReadName>,
     index: u16,
-    txn: &Txn,
+    txn: &TxnRef<'_>,
     from: usize,
     to: usize,
 ) -> Result<(), AllocError>
@@ -44,14 +44,14 @@ pub fn push_reads(
 /// Queries for read ranges of transactions, each at the snapshot of its transaction.
 #[derive(Debug, Drop)]
 pub struct AskedReads<'a> {
-    txns: &'a [Txn],
+    txns: &'a Txns,
     names: &'a [ReadName],
     ghost named: { AreNamed txns.now names.now },
 }
 
 impl<'a> AskedReads<'a> {
     /// Lists the queries for the read ranges of these names.
-    pub fn new(txns: &'a [Txn], names: &'a [ReadName]) -> Self
+    pub fn new(txns: &'a Txns, names: &'a [ReadName]) -> Self
         requires named { AreNamed txns.now names.now }
         ensures txns { result.txns.now ≡ txns.now }
         ensures names { result.names.now ≡ names.now }
@@ -69,9 +69,9 @@ impl QueryList for AskedReads<'_> {
 
     fn query(&self, index: usize) -> RangeQuery<'_> {
         let name = self.names[index];
-        let txn = &self.txns[name.txn as usize];
+        let txn = self.txns.txn(name.txn as usize);
         RangeQuery {
-            range: txn.reads.as_slice()[name.read as usize].as_ref(),
+            range: txn.reads.get(name.read as usize),
             version: txn.snapshot,
         }
     }

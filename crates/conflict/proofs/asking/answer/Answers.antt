@@ -10,7 +10,7 @@ returns c =
     let txns = c.args.batch.now.txns in
     let names = c.args.asked.now in
     let are : queries_named c.new-queries.result.txns.now c.new-queries.result.names.now ≡ queries_named txns names =
-    ap (λ (ts : List Txn). queries_named ts c.new-queries.result.names.now) (c.new-queries.ensures.txns ∙ c.as_slice.ensures.txns)
+    ap (λ (ts : List Txn). queries_named ts c.new-queries.result.names.now) c.new-queries.ensures.txns
     ∙ ap (queries_named txns) c.new-queries.ensures.names in
     record {
       answers = λ queries is.

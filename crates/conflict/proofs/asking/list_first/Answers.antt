@@ -1,8 +1,8 @@
-use Rattle.std.proofs.Common.{◌≡◌, ◌<◌, ◌≤◌, ◌++◌, length, map, get_or, take, refl, ap, subst, ◌∙◌, w64, to_z, of_z, slice_get, slice_range, Some}
+use Rattle.std.proofs.Common.{◌≡◌, ◌<◌, ◌≤◌, ◌++◌, length, map, take, refl, ap, ◌∙◌, w64, to_z, of_z, arith, slice_range, Some}
 use Rattle.std.proofs.lemmas.Int.{to_z-of_z}
 use Rattle.std.proofs.lemmas.List.{take_all}
-use Rattle.std.proofs.lemmas.Option.{slice_get_read}
 use Rattle.conflict.specs.Asking.{query_named, asked_at, first_asked, all_first}
+use Rattle.conflict.proofs.Parts.{lent_at}
 use Rattle.conflict.proofs.Named.{named_more, range_first}
 use Rattle.conflict.proofs.Questions.{first_more}
 use Rattle.conflict.proofs.asking.list_first.Goals as goal
@@ -10,17 +10,16 @@ use Rattle.conflict.proofs.asking.list_first.Goals as goal
 pub loop-index-preserved : goal.loop-index-preserved
 loop-index-preserved c =
     let ts = c.args.batch.now.txns in
-    let t = c.txn-item.result in
+    let t = c.txn-txn.result in
     let i = c.loop-index.index in
     let oldest = to_z w64 (of_z w64 c.args.oldest) in
-    let txns = c.as_slice-txn-items.ensures.txns in
-    let inside : i < length ts = subst (λ us. i < length us) txns c.loop-index-test.true in
-    let is : t ≡ get_or ts i t = subst (λ us. t ≡ get_or us i t) txns c.txn-item.is in
+    let inside : i < length ts = omega (arith, c.loop-index-test.true, c.len-index-end.ensures.count) in
+    let is = lent_at ts i t inside c.txn-txn.ensures.txn in
     let reads : slice_range t.reads 0 c.first_count.result ≡ first_asked oldest t =
     range_first t.reads c.first_count.result ∙ c.first_count.ensures.reads in
     let appended : map (query_named ts) c.push_reads.new.names.items
     ≡ map (query_named ts) c.loop-index.asked.items ++ map Some (asked_at t.snapshot (first_asked oldest t)) =
-    c.in_ok-push_reads.ensures.named ts (slice_get_read ts (length ts) i t refl inside is)
+    c.in_ok-push_reads.ensures.named ts c.txn-txn.ensures.txn
     ∙ ap (λ ranges. map (query_named ts) c.loop-index.asked.items ++ map Some (asked_at t.snapshot ranges)) reads in
     let before = all_first oldest (take i ts) in
     named_more ts c.push_reads.new.names.items c.loop-index.asked.items before (asked_at t.snapshot (first_asked oldest t))
@@ -31,8 +30,7 @@ pub returns : goal.returns
 returns c =
     let ts = c.args.batch.now.txns in
     let i = c.loop-index.index in
-    let txns = c.as_slice-txn-items.ensures.txns in
-    let most : length ts ≤ i = subst (λ us. length us ≤ i) txns c.loop-index-test.false in
+    let most : length ts ≤ i = omega (arith, c.loop-index-test.false, c.len-index-end.ensures.count) in
     record {
       asked =
           c.loop-index.invariant

@@ -1,8 +1,9 @@
 use Rattle.std.proofs.Common.{◌≡◌, ◌<◌, ◌≤◌, ◌+◌, ◌-◌, ◌++◌, length, map, get_or, take, drop, refl, ap, sym, subst, ◌∙◌, w64, to_z, of_z, arith, append-nil, length-drop, slice_get, slice_range, Some}
 use Rattle.std.proofs.lemmas.Int.{to_z-of_z}
 use Rattle.std.proofs.lemmas.List.{drop_all, length-take-le}
-use Rattle.std.proofs.lemmas.Option.{slice_get_read}
+use Rattle.keyspace.specs.declared.txn.Txn.{Txn}
 use Rattle.conflict.specs.Asking.{query_named, asked_at, first_asked, then_asked, all_then, all_parts}
+use Rattle.conflict.proofs.Parts.{lent_at}
 use Rattle.conflict.proofs.Named.{named_more, range_rest}
 use Rattle.conflict.proofs.Questions.{first_count, then_more, parts_more}
 use Rattle.conflict.proofs.asking.list_others.Goals as goal
@@ -10,13 +11,13 @@ use Rattle.conflict.proofs.asking.list_others.Goals as goal
 pub loop-index-preserved : goal.loop-index-preserved
 loop-index-preserved c =
     let ts = c.args.batch.now.txns in
-    let t = c.txn-item.result in
+    let t = c.txn-txn.result in
     let i = c.loop-index.index in
     let rest = c.loop-index.rest.now in
     let oldest = to_z w64 (of_z w64 c.args.oldest) in
-    let txns = c.as_slice-txn-items.ensures.txns in
-    let inside : i < length ts = subst (λ us. i < length us) txns c.loop-index-test.true in
-    let is : t ≡ get_or ts i t = subst (λ us. t ≡ get_or us i t) txns c.txn-item.is in
+    let inside : i < length ts = omega (arith, c.loop-index-test.true, c.len-index-end.ensures.count) in
+    let is = lent_at ts i t inside c.txn-txn.ensures.txn in
+    let long : c.len-count.result ≡ length t.reads = c.len-count.ensures.count ∙ ap (λ (u : Txn). length u.reads) c.txn.view_is in
     let first = c.first_count-first.result in
     let from = c.others_from-from.result in
     let count : first ≡ length (first_asked oldest t) =
@@ -28,15 +29,15 @@ loop-index-preserved c =
     let others : drop from t.reads ≡ then_asked oldest t (take (length (first_asked oldest t)) rest) =
     c.others_from-from.ensures.reads ∙ ap (then_asked oldest t) own in
     let reads : slice_range t.reads from c.len-count.result ≡ then_asked oldest t (take (length (first_asked oldest t)) rest) =
-    ap (slice_range t.reads from) c.len-count.ensures.count ∙ range_rest t.reads from ∙ others in
+    ap (slice_range t.reads from) long ∙ range_rest t.reads from ∙ others in
     let more = asked_at t.snapshot (then_asked oldest t (take (length (first_asked oldest t)) rest)) in
     let appended : map (query_named ts) c.push_reads.new.names.items
     ≡ map (query_named ts) c.loop-index.asked.items ++ map Some more =
-    c.in_ok-push_reads.ensures.named ts (slice_get_read ts (length ts) i t refl inside is)
+    c.in_ok-push_reads.ensures.named ts c.txn-txn.ensures.txn
     ∙ ap (λ ranges. map (query_named ts) c.loop-index.asked.items ++ map Some (asked_at t.snapshot ranges)) reads in
     let done = c.loop-index.invariant.1 in
     let left : c.len-count.result - from ≡ length (then_asked oldest t (take (length (first_asked oldest t)) rest)) =
-    ap (λ n. n - from) c.len-count.ensures.count ∙ sym (length-drop from t.reads) ∙ ap length others in (
+    ap (λ n. n - from) long ∙ sym (length-drop from t.reads) ∙ ap length others in (
       omega (
         arith,
         c.loop-index.invariant.0,
@@ -60,7 +61,7 @@ returns-clause-asked c =
     let i = c.loop-index.index in
     let old = to_z w64 (of_z w64 c.args.oldest) in
     let oldest = to_z-of_z w64 c.args.oldest c.ranges.oldest in
-    let most : length ts ≤ i = subst (λ us. length us ≤ i) c.as_slice-txn-items.ensures.txns c.loop-index-test.false in
+    let most : length ts ≤ i = omega (arith, c.loop-index-test.false, c.len-index-end.ensures.count) in
     let done = c.loop-index.invariant.1 in
     done.1
     ∙ ap (map Some)
@@ -73,7 +74,7 @@ returns-clause-parts c =
     let i = c.loop-index.index in
     let old = to_z w64 (of_z w64 c.args.oldest) in
     let oldest = to_z-of_z w64 c.args.oldest c.ranges.oldest in
-    let most : length ts ≤ i = subst (λ us. length us ≤ i) c.as_slice-txn-items.ensures.txns c.loop-index-test.false in
+    let most : length ts ≤ i = omega (arith, c.loop-index-test.false, c.len-index-end.ensures.count) in
     let parts = c.loop-index.parts.items in
     sym (append-nil parts) ∙ ap (λ us. parts ++ all_parts old us c.loop-index.rest.now) (sym (drop_all i ts most))
     ∙ c.loop-index.invariant.2 ∙ ap (λ old. all_parts old ts c.args.answers.now) oldest
