@@ -2,9 +2,13 @@ pub mod Loop
 pub mod Appending
 pub mod Steps
 pub mod Taken
+pub mod Rests
+pub mod Sealing
 pub mod Singles
 pub mod Parts
+pub mod Heads
 pub mod Batches
+pub mod Keeping
 pub mod Again
 pub mod PlaceLists
 pub mod Replies
