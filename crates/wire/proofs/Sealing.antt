@@ -1,8 +1,9 @@
 -- Spans that are given their ends, one after the other.
-use Rattle.std.proofs.Common.{◌≡◌, ℕ, ◌+◌, ◌-◌, ◌<◌, ◌≤◌, Bool, true, false, eqb, List, [], ◌∷◌, ◌++◌, length, map, take, drop, set, inl, inr, refl, sym, ap, ◌∙◌, arith}
+use Rattle.std.proofs.Common.{◌≡◌, ℕ, suc, ◌+◌, ◌-◌, ◌<◌, ◌≤◌, Bool, true, false, eqb, List, [], ◌∷◌, ◌++◌, length, map, get_or, take, drop, set, inl, inr, refl, sym, ap, subst, ◌∙◌, arith}
 use Rattle.std.specs.Prelude.{◌==◌, if◌then◌else◌}
 use Rattle.std.proofs.lemmas.Bool.{eq-eqb, ne_eqb}
-use Rattle.std.proofs.lemmas.List.{length-append, length-take, take-take, drop-drop, take-set, take_more_set, take-set-le, drop-set-lt, length-set, drop-append-le, take-append-le}
+use Rattle.std.proofs.lemmas.List.{length-append, length-take, take-take, drop-drop, take-set, take_more_set, take-set-le, drop-set-lt, length-set, drop-append-le, take-append-le, drop_all}
+use Rattle.std.proofs.Math.Seq.{drop-cons}
 use Rattle.keyspace.specs.declared.span.Span.{Span}
 use Rattle.keyspace.specs.Tables.{bytes_at, range_told}
 use Rattle.wire.specs.Fields.{RangeFields}
@@ -244,3 +245,30 @@ sealed_told frame spans h =
     all_told more 0 spans (length frame) h lt
     ∙ reads_in_front more frame 0 spans (length frame) h
     (take-append-le (length frame) frame (0 ∷ []) (omega arith))
+
+next_apart : (spans : List Span) (i : ℕ) (d : Span) (from to : ℕ) → i < length spans → AreApart from (drop i spans) to
+    → AreApart from (get_or spans i d ∷ drop (suc i) spans) to
+next_apart spans i d from to lt h = subst (λ (l : List Span). AreApart from l to) (drop-cons spans i d lt) h
+
+key_within : (from : ℕ) (span : Span) (to : ℕ) → IsBetween from span to → span.begin + span.begin_length ≤ to
+key_within from span to h =
+    elim h.keys [
+      | inl one ↦ one.2
+      | inr two ↦ omega (arith, two.0, two.1)
+    ]
+
+-- the key of the next span lies in the frame
+pub next_key : (spans : List Span) (i : ℕ) (d : Span) (from to : ℕ) → i < length spans → AreApart from (drop i spans) to
+    → (get_or spans i d).begin + (get_or spans i d).begin_length ≤ to
+next_key spans i d from to lt h =
+    let next = next_apart spans i d from to lt h in
+    omega (arith, key_within from (get_or spans i d) next.0 next.1, apart_rises next.0 (drop (suc i) spans) to next.2)
+
+-- all spans have their ends
+pub sealed_all : (frame made : List ℕ) (spans : List Span) (i : ℕ) → AreApart 0 spans (length frame) → length spans ≤ i
+    → sealed made (drop i spans) ≡ sealed (frame ++ 0 ∷ []) spans
+    → map (range_told made) spans ≡ map (range_read frame) spans
+sealed_all frame made spans i h le e =
+    let is : made ≡ sealed (frame ++ 0 ∷ []) spans =
+    ap (λ (l : List Span). sealed made l) (sym (drop_all i spans le)) ∙ e in
+    ap (λ (x : List ℕ). map (range_told x) spans) is ∙ sealed_told frame spans h
