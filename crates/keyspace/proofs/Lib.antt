@@ -5,4 +5,11 @@ pub mod Judging
 pub mod Chaining
 pub mod Waiting
 pub mod Answered
-pub mod Naming
+pub mod SameFields
+pub mod FieldsBack
+pub mod Slices
+pub mod RangesTold
+pub mod TablesRanges
+pub mod TablesTxns
+pub mod Putting
+pub mod TablesPut

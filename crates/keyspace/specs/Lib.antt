@@ -16,3 +16,4 @@ pub mod Versions
 pub mod BatchRanges
 pub mod Fields
 pub mod Tables
+pub mod Putting

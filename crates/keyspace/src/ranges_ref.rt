@@ -50,7 +50,7 @@ impl<'a> RangesRef<'a> {
     pub fn is_empty(&self) -> bool
         ensures empty { IsTrue result ↔ (self.now ≡ []) }
     {
-        self.spans.is_empty()
+        self.len() == 0
     }
 
     /// Returns the range at the index, without copying its keys.
@@ -58,10 +58,11 @@ impl<'a> RangesRef<'a> {
         requires within { index < length self.now }
         ensures range { slice_get self.now index ≡ Some result }
     {
+        let buffer = self.buffer;
         let span = self.spans[index];
         RangeRef::new(
-            bytes_at(self.buffer, span.begin, span.begin_length),
-            bytes_at(self.buffer, span.end, span.end_length),
+            bytes_at(buffer, span.begin, span.begin_length),
+            bytes_at(buffer, span.end, span.end_length),
         )
     }
 
@@ -79,7 +80,7 @@ impl RangeList for RangesRef<'_> {
     ghost ranges = { λ r. r };
 
     fn len(&self) -> usize {
-        self.spans.len()
+        RangesRef::len(self)
     }
 
     fn range(&self, index: usize) -> RangeRef<'_> {

@@ -1,8 +1,9 @@
 //! The tables of transactions that are put together by hand: their keys are copied into one buffer.
 
-ghost use Rattle.std.specs.Prelude.{◌≡◌, ◌++◌, ◌≤◌, length, vec_len, map, take, drop, All, IfOk, OnOk};
+ghost use Rattle.std.specs.Prelude.{◌≡◌, [], ◌∷◌, ◌++◌, ◌<◌, ◌≤◌, length, vec_len, map, IfOk, OnOk};
 ghost use Rattle.keyspace.specs.Fields.{range_fields, txn_fields};
-ghost use Rattle.keyspace.specs.Tables.{range_told, txns_told, AreTables, LiesWithin};
+ghost use Rattle.keyspace.specs.Putting.{ArePut};
+ghost use Rattle.keyspace.specs.Tables.{txns_told, AreTables};
 ghost use Rattle.keyspace.specs.declared.batch.TheConstants.{MAX_TXNS};
 
 use crate::row::Row;
@@ -30,48 +31,69 @@ impl Tables {
         ensures told { IfOk result (λ t. txns_told t.buffer.items t.spans.items t.rows.items ≡ map txn_fields txns.now) }
         ensures count { IfOk result (λ t. vec_len t.rows ≡ length txns.now) }
     {
-        let mut buffer = Vec::new(alloc);
-        let mut spans = Vec::new(alloc);
-        let mut rows = Vec::with_capacity(alloc, txns.len())?;
+        let mut tables = Tables {
+            buffer: Vec::new(alloc),
+            spans: Vec::new(alloc),
+            rows: Vec::with_capacity(alloc, txns.len())?,
+        };
         for txn in txns {
-            let reads = spans.len() as u32;
-            put_ranges(&mut buffer, &mut spans, txn.reads.as_slice())?;
-            let writes = spans.len() as u32;
-            put_ranges(&mut buffer, &mut spans, txn.writes.as_slice())?;
-            rows.push(Row {
-                snapshot: txn.snapshot,
-                marked: txn.marked,
-                reads,
-                writes,
-                end: spans.len() as u32,
-            })?;
+            tables.put(txn)?;
         }
-        Ok(Tables {
-            buffer,
-            spans,
-            rows,
-        })
+        Ok(tables)
+    }
+
+    // Copies a transaction behind the others.
+    fn put(&mut self, txn: &Txn) -> Result<(), AllocError>
+        requires tables { AreTables self.old.buffer.items self.old.spans.items self.old.rows.items }
+        requires few { vec_len self.old.rows < MAX_TXNS }
+        ensures tables { OnOk result (AreTables self.new.buffer.items self.new.spans.items self.new.rows.items) }
+        ensures told { OnOk result (txns_told self.new.buffer.items self.new.spans.items self.new.rows.items
+            ≡ txns_told self.old.buffer.items self.old.spans.items self.old.rows.items ++ txn_fields txn.now ∷ []) }
+    {
+        let reads = self.spans.len() as u32;
+        put_ranges(&mut self.buffer, &mut self.spans, txn.reads.as_slice())?;
+        let writes = self.spans.len() as u32;
+        put_ranges(&mut self.buffer, &mut self.spans, txn.writes.as_slice())?;
+        let end = self.spans.len() as u32;
+        self.rows.push(Row {
+            snapshot: txn.snapshot,
+            marked: txn.marked,
+            reads,
+            writes,
+            end,
+        })?;
+        Ok(())
     }
 }
 
 // Appends the keys of the ranges to the buffer, and their spans to the others.
-fn put_ranges(buffer: &mut Vec<u8>, spans: &mut Vec<Span>, ranges: &[Range]) -> Result<(), AllocError>
-    ensures kept { OnOk result (take (length buffer.old.items) buffer.new.items ≡ buffer.old.items) }
-    ensures others { OnOk result (take (length spans.old.items) spans.new.items ≡ spans.old.items) }
-    ensures told { OnOk result (map (range_told buffer.new.items) (drop (length spans.old.items) spans.new.items)
-        ≡ map range_fields ranges.now) }
-    ensures within { OnOk result (All (LiesWithin (length buffer.new.items)) (drop (length spans.old.items) spans.new.items)) }
+fn put_ranges(
+    buffer: &mut Vec<u8>,
+    spans: &mut Vec<Span>,
+    ranges: &[Range],
+) -> Result<(), AllocError>
+    ensures put { OnOk result (ArePut buffer.old.items spans.old.items (map range_fields ranges.now)
+        buffer.new.items spans.new.items) }
 {
     for range in ranges {
-        let begin = put_key(buffer, range.begin.as_bytes())?;
-        let end = put_key(buffer, range.end.as_bytes())?;
-        spans.push(Span {
-            begin,
-            begin_length: range.begin.as_bytes().len() as u16,
-            end,
-            end_length: range.end.as_bytes().len() as u16,
-        })?;
+        put_range(buffer, spans, range)?;
     }
+    Ok(())
+}
+
+// Appends the keys of the range to the buffer, and its span to the others.
+fn put_range(buffer: &mut Vec<u8>, spans: &mut Vec<Span>, range: &Range) -> Result<(), AllocError>
+    ensures put { OnOk result (ArePut buffer.old.items spans.old.items (range_fields range.now ∷ [])
+        buffer.new.items spans.new.items) }
+{
+    let begin = put_key(buffer, range.begin.as_bytes())?;
+    let end = put_key(buffer, range.end.as_bytes())?;
+    spans.push(Span {
+        begin,
+        begin_length: range.begin.as_bytes().len() as u16,
+        end,
+        end_length: range.end.as_bytes().len() as u16,
+    })?;
     Ok(())
 }
 

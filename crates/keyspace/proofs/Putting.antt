@@ -1,0 +1,91 @@
+-- Appending leaves what spans within the buffer tell, so ranges can be appended one after the other.
+use Rattle.std.proofs.Common.{◌≡◌, ◌+◌, ℕ, List, [], ◌∷◌, ◌++◌, length, map, refl, sym, ap, ap₂, ◌∙◌, subst, All, slice_range, arith, length-append, append_assoc, append-nil}
+use Rattle.std.proofs.lemmas.List.{map-append, length-map}
+use Rattle.std.proofs.lemmas.List.Elements.{All-nil, All-cons, All-head, All-tail, All-append, All-weaker}
+use Rattle.keyspace.specs.declared.span.Span.{Span}
+use Rattle.keyspace.specs.Fields.{RangeFields}
+use Rattle.keyspace.specs.Tables.{bytes_at, range_told, LiesWithin}
+use Rattle.keyspace.specs.Putting.{ArePut}
+use Rattle.keyspace.proofs.Slices.{slice_range-append, slice_range-appended}
+
+pub ranges_kept : (buffer more : List ℕ) (spans : List Span) → All (LiesWithin (length buffer)) spans
+    → map (range_told (buffer ++ more)) spans ≡ map (range_told buffer) spans
+ranges_kept buffer more [] within = refl
+ranges_kept buffer more (span ∷ spans) within =
+    let first = All-head (LiesWithin (length buffer)) span spans within in
+    let begin = slice_range-append buffer more span.begin (span.begin + span.begin_length) first.begin in
+    let end = slice_range-append buffer more span.end (span.end + span.end_length) first.end in
+    let range : range_told (buffer ++ more) span ≡ range_told buffer span = λ i. record { begin = begin i; end = end i } in
+    ap₂ ◌∷◌ range (ranges_kept buffer more spans (All-tail (LiesWithin (length buffer)) span spans within))
+
+pub within_kept : (buffer more : List ℕ) (spans : List Span) → All (LiesWithin (length buffer)) spans
+    → All (LiesWithin (length (buffer ++ more))) spans
+within_kept buffer more spans within =
+    All-weaker (LiesWithin (length buffer)) (LiesWithin (length (buffer ++ more)))
+    (λ span lies. record {
+      begin = omega (arith, length-append buffer more);
+      end = omega (arith, length-append buffer more);
+    }) spans within
+
+pub length-put : (buffer : List ℕ) (spans : List Span) (ranges : List RangeFields) (new_buffer : List ℕ) (new_spans : List Span)
+    → ArePut buffer spans ranges new_buffer new_spans → length new_spans ≡ length spans + length ranges
+length-put buffer spans ranges new_buffer new_spans put =
+    ap length put.spans_are ∙ length-append spans put.added
+    ∙ ap (λ n. length spans + n) (sym (length-map put.added (range_told new_buffer)) ∙ ap length put.told)
+
+pub put_none : (buffer : List ℕ) (spans : List Span) → ArePut buffer spans [] buffer spans
+put_none buffer spans = record {
+  bytes = [];
+  added = [];
+  buffer_is = sym (append-nil buffer);
+  spans_are = sym (append-nil spans);
+  told = refl;
+  within = All-nil (LiesWithin (length buffer));
+}
+
+pub put_one : (buffer : List ℕ) (spans : List Span) (range : RangeFields) (new_buffer : List ℕ) (span : Span)
+    → new_buffer ≡ buffer ++ range.begin ++ range.end → span.begin ≡ length buffer
+    → span.begin_length ≡ length range.begin → span.end ≡ length (buffer ++ range.begin)
+    → span.end_length ≡ length range.end → ArePut buffer spans (range ∷ []) new_buffer (spans ++ span ∷ [])
+put_one buffer spans range new_buffer span is begin begin_length end end_length =
+    let joined = append_assoc buffer range.begin range.end in
+    let one = length-append buffer range.begin in
+    let two = length-append (buffer ++ range.begin) range.end in
+    let long = ap length is in
+    let begin_told : bytes_at new_buffer span.begin span.begin_length ≡ range.begin =
+    ap₂ (λ bytes from. slice_range bytes from (from + span.begin_length)) (is ∙ joined) begin
+    ∙ slice_range-appended buffer range.begin range.end (length buffer + span.begin_length) (omega arith) in
+    let end_told : bytes_at new_buffer span.end span.end_length ≡ range.end =
+    ap₂ (λ bytes from. slice_range bytes from (from + span.end_length))
+    (is ∙ ap (λ bytes. buffer ++ range.begin ++ bytes) (sym (append-nil range.end))) end
+    ∙ slice_range-appended (buffer ++ range.begin) range.end [] (length (buffer ++ range.begin) + span.end_length) (omega arith) in
+    record {
+      bytes = range.begin ++ range.end;
+      added = span ∷ [];
+      buffer_is = is ∙ joined;
+      spans_are = refl;
+      told = λ i. record { begin = begin_told i; end = end_told i } ∷ [];
+      within = All-cons (LiesWithin (length new_buffer)) span [] (record {
+        begin = omega arith;
+        end = omega arith;
+      }) (All-nil (LiesWithin (length new_buffer)));
+    }
+
+abbrev pub put_then : (buffer : List ℕ) (spans : List Span) (ranges : List RangeFields) (buffer₁ : List ℕ) (spans₁ : List Span)
+    (ranges₁ : List RangeFields) (buffer₂ : List ℕ) (spans₂ : List Span)
+    → ArePut buffer spans ranges buffer₁ spans₁ → ArePut buffer₁ spans₁ ranges₁ buffer₂ spans₂
+    → ArePut buffer spans (ranges ++ ranges₁) buffer₂ spans₂
+put_then buffer spans ranges buffer₁ spans₁ ranges₁ buffer₂ spans₂ first second = record {
+  bytes = first.bytes ++ second.bytes;
+  added = first.added ++ second.added;
+  buffer_is = second.buffer_is ∙ ap (λ bytes. bytes ++ second.bytes) first.buffer_is
+      ∙ append_assoc buffer first.bytes second.bytes;
+  spans_are = second.spans_are ∙ ap (λ added. added ++ second.added) first.spans_are
+      ∙ append_assoc spans first.added second.added;
+  told = map-append (range_told buffer₂) first.added second.added
+      ∙ ap₂ ◌++◌ (ap (λ bytes. map (range_told bytes) first.added) second.buffer_is
+      ∙ ranges_kept buffer₁ second.bytes first.added first.within ∙ first.told) second.told;
+  within = All-append (LiesWithin (length buffer₂)) first.added second.added
+      (subst (λ bytes. All (LiesWithin (length bytes)) first.added) (sym second.buffer_is)
+      (within_kept buffer₁ second.bytes first.added first.within)) second.within;
+}

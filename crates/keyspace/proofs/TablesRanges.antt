@@ -1,0 +1,86 @@
+-- The ranges that tables tell: those of all spans, at most so many as the limits allow.
+use Rattle.std.proofs.Common.{◌≡◌, ◌≤◌, ◌*◌, ℕ, List, [], ◌∷◌, ◌++◌, length, map, refl, sym, ap, ap₂, ◌∙◌, subst, All, flat_map, slice_range, arith, length-append}
+use Rattle.std.proofs.lemmas.List.{length-map, map-append}
+use Rattle.std.proofs.lemmas.List.Elements.{All-nil, All-head, All-tail, All-append}
+use Rattle.keys.specs.declared.range.Range.{Range}
+use Rattle.keyspace.specs.declared.txn.Txn.{Txn}
+use Rattle.keyspace.specs.declared.span.Span.{Span}
+use Rattle.keyspace.specs.declared.row.Row.{Row}
+use Rattle.keyspace.specs.BatchRanges.{ranges_in}
+use Rattle.keyspace.specs.Fields.{RangeFields, TxnFields, range_fields, txn_fields, RangeHolds, TxnLimits, txns_with}
+use Rattle.keyspace.specs.Tables.{range_told, txn_told, txns_told, IsRowOf, AreTables}
+use Rattle.keyspace.proofs.SameFields.{same_ranges}
+use Rattle.keyspace.proofs.FieldsBack.{fields_of_txns}
+use Rattle.keyspace.proofs.Slices.{slice_range-join}
+
+-- the ranges of transactions, as one list
+abbrev pub fields_in : List TxnFields → List RangeFields
+fields_in txns = flat_map (λ txn. txn.reads ++ txn.writes) txns
+
+fields_of_ranges_in : (txns : List Txn) → map range_fields (ranges_in txns) ≡ fields_in (map txn_fields txns)
+fields_of_ranges_in [] = refl
+fields_of_ranges_in (txn ∷ txns) =
+    map-append range_fields (txn.reads ++ txn.writes) (ranges_in txns)
+    ∙ ap₂ ◌++◌ (map-append range_fields txn.reads txn.writes) (fields_of_ranges_in txns)
+
+holds_in : (txns : List TxnFields) → All TxnLimits txns → All RangeHolds (fields_in txns)
+holds_in [] limits = All-nil RangeHolds
+holds_in (txn ∷ txns) limits =
+    let first = All-head TxnLimits txn txns limits in
+    All-append RangeHolds (txn.reads ++ txn.writes) (fields_in txns)
+    (All-append RangeHolds txn.reads txn.writes first.reads first.writes)
+    (holds_in txns (All-tail TxnLimits txn txns limits))
+
+few_in : (txns : List TxnFields) → All TxnLimits txns → length (fields_in txns) ≤ 2048 * length txns
+few_in [] limits = omega arith
+few_in (txn ∷ txns) limits =
+    let first = All-head TxnLimits txn txns limits in
+    let others = few_in txns (All-tail TxnLimits txn txns limits) in
+    let both = length-append txn.reads txn.writes in
+    let all = length-append (txn.reads ++ txn.writes) (fields_in txns) in
+    omega arith
+
+told_in : (buffer : List ℕ) (spans : List Span) (rows : List Row) → All (IsRowOf (length spans)) rows
+    → fields_in (txns_told buffer spans rows)
+    ≡ map (range_told buffer) (flat_map (λ row. slice_range spans row.reads row.end) rows)
+told_in buffer spans [] within = refl
+told_in buffer spans (row ∷ rows) within =
+    let told = range_told buffer in
+    let first = All-head (IsRowOf (length spans)) row rows within in
+    let reads = slice_range spans row.reads row.writes in
+    let writes = slice_range spans row.writes row.end in
+    let others = flat_map (λ row. slice_range spans row.reads row.end) rows in
+    let joined = slice_range-join spans row.reads row.writes row.end first.reads_first first.writes_last in
+    ap₂ ◌++◌ (sym (map-append told reads writes) ∙ ap (map told) joined)
+    (told_in buffer spans rows (All-tail (IsRowOf (length spans)) row rows within))
+    ∙ sym (map-append told (slice_range spans row.reads row.end) others)
+
+module _ (buffer : List ℕ) (spans : List Span) (rows : List Row) (tables : AreTables buffer spans rows) where
+  told_by_spans : fields_in (txns_told buffer spans rows) ≡ map (range_told buffer) spans
+  told_by_spans = told_in buffer spans rows tables.rows_within ∙ ap (map (range_told buffer)) tables.whole
+
+  pub spans_hold : All RangeHolds (map (range_told buffer) spans)
+  spans_hold = subst (All RangeHolds) told_by_spans (holds_in (txns_told buffer spans rows) tables.holds)
+
+  pub few_spans : length spans ≤ 2048 * length rows
+  few_spans =
+      let few = few_in (txns_told buffer spans rows) tables.holds in
+      let as_spans : length (fields_in (txns_told buffer spans rows)) ≡ length spans =
+      ap length told_by_spans ∙ length-map spans (range_told buffer) in
+      let as_rows : length (txns_told buffer spans rows) ≡ length rows = length-map rows (txn_told buffer spans) in
+      omega arith
+
+  -- the ranges of the transactions are those of the spans
+  pub ranges_told : (holds : All TxnLimits (txns_told buffer spans rows))
+      → map range_fields (ranges_in (txns_with (txns_told buffer spans rows) holds)) ≡ map (range_told buffer) spans
+  ranges_told holds =
+      fields_of_ranges_in (txns_with (txns_told buffer spans rows) holds)
+      ∙ ap fields_in (fields_of_txns (txns_told buffer spans rows) holds) ∙ told_by_spans
+
+  pub ranges_are : (holds : All TxnLimits (txns_told buffer spans rows)) (bytes : List ℕ) (places : List Span)
+      (ranges : List Range) → bytes ≡ buffer → places ≡ spans
+      → map range_fields ranges ≡ map (range_told bytes) places
+      → ranges ≡ ranges_in (txns_with (txns_told buffer spans rows) holds)
+  ranges_are holds bytes places ranges same_bytes same_places told =
+      same_ranges ranges (ranges_in (txns_with (txns_told buffer spans rows) holds))
+      (told ∙ ap₂ (λ bs ss. map (range_told bs) ss) same_bytes same_places ∙ sym (ranges_told holds))
