@@ -1,7 +1,8 @@
 -- Spans that are appended to others, and what lies among the first of them.
-use Rattle.std.proofs.Common.{◌≡◌, ℕ, ◌-◌, ◌≤◌, List, [], ◌∷◌, ◌++◌, length, map, take, drop, refl, sym, ap, ◌∙◌, arith}
+use Rattle.std.proofs.Common.{◌≡◌, ℕ, ◌+◌, ◌-◌, ◌≤◌, List, [], ◌∷◌, ◌++◌, length, map, take, drop, slice_get, Some, refl, sym, ap, ◌∙◌, arith}
 use Rattle.std.specs.List.{All, flat_map, slice_range}
-use Rattle.std.proofs.lemmas.List.{take-append-le, drop-append-le, take-append-drop, take_rest, length-take, length-drop, map_push, append-nil, take-map, drop-map}
+use Rattle.std.proofs.lemmas.List.{take-append-le, drop-append-le, take-append-drop, take_rest, length-take, length-drop, map_push, append-nil, take-map, drop-map, take_more}
+use Rattle.std.proofs.lemmas.Option.{slice_get_within, get_or_from_slice_get}
 use Rattle.std.proofs.lemmas.List.Elements.{All-head, All-tail, All-weaker, All-push}
 use Rattle.std.proofs.lemmas.Grind.{flat_map-append}
 use Rattle.keyspace.specs.declared.span.Span.{Span}
@@ -124,3 +125,9 @@ pub map_part : {X Y : Type 0} (f : X → Y) (xs : List X) (from to : ℕ)
 map_part {X} {Y} f xs from to =
     sym (take-map f (to - from) (drop from xs))
     ∙ ap (λ (l : List Y). take (to - from) l) (sym (drop-map f from xs))
+
+-- the first ones and the next
+pub one_more : {X : Type 0} (xs : List X) (i : ℕ) (x : X) → slice_get xs i ≡ Some x → take (i + 1) xs ≡ take i xs ++ x ∷ []
+one_more {X} xs i x e =
+    take_more xs i x (slice_get_within xs i x e)
+    ∙ ap (λ (y : X). take i xs ++ y ∷ []) (get_or_from_slice_get xs i x x e)

@@ -1,5 +1,6 @@
 pub mod Loop
 pub mod Appending
+pub mod Texts
 pub mod Steps
 pub mod Taken
 pub mod Rests

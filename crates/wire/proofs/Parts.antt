@@ -324,7 +324,7 @@ txn_takes version bytes x fits e =
     (ok_is made x b_writes.2) (whole, holds)
 
 -- what must hold of the three versions of a batch
-record HeaderHolds (previous version received : ℤ) : Type 0 where
+pub record HeaderHolds (previous version received : ℤ) : Type 0 where
   previous_fits : FitsSigned w64 previous
   version_fits : FitsSigned w64 version
   received_fits : FitsSigned w64 received

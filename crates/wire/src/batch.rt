@@ -3,7 +3,7 @@ ghost use Rattle.byteorder.specs.Endian.{big_number};
 ghost use Rattle.wire.specs.Fields.{batch_fields};
 ghost use Rattle.wire.specs.Lying.{IsRestOf, AreApart, index_of, batch_told};
 ghost use Rattle.wire.specs.Spelling.{BatchHolds, SpellsBatch};
-ghost use Rattle.wire.specs.Reading.{Gives, batch_kind_at, header_at, fields_at, batch_at, read_batch, batch_fault, version_told};
+ghost use Rattle.wire.specs.Reading.{Gives, body_at, batch_kind_at, header_at, fields_at, batch_at, read_batch, batch_fault, version_told};
 ghost use Rattle.wire.specs.declared.field.TheConstants.{MAX_BODY_LENGTH};
 
 use crate::error::WireError;
@@ -95,22 +95,33 @@ fn body_of_batch<'a>(
     Ok(((version, tables), rest))
 }
 
-/// Reads the frame at the front into tables, and returns its wire version, these and its length in bytes. No key is copied.
-#[tactic(auto, unfolding(crate::specs::Reading::read_batch))]
-pub fn tables_of(alloc: Global, bytes: &[u8]) -> Result<(WireVersion, Tables, usize), WireError>
-    ensures reads { Gives (λ x. (x.0, batch_told (take x.2 bytes.now) x.1)) result (read_batch bytes.now) }
-    ensures used { IfOk result (λ x. x.2 ≡ 4 + big_number 4 bytes.now) }
-    ensures within { IfOk result (λ x. x.2 ≤ length bytes.now) }
-    ensures apart { IfOk result (λ x. AreApart 0 x.1.spans.items x.2) }
-    ensures holds { IfOk result (λ x. BatchHolds (batch_told (take x.2 bytes.now) x.1)) }
+// Returns the frame at the front, and its body.
+fn frame_of(bytes: &[u8]) -> Result<(&[u8], &[u8]), WireError>
+    ensures reads { Gives (λ x. x.1.now) result (body_at bytes.now) }
+    ensures frame { IfOk result (λ x. x.0.now ≡ take (4 + big_number 4 bytes.now) bytes.now) }
+    ensures length { IfOk result (λ x. length x.0.now ≡ 4 + big_number 4 bytes.now) }
+    ensures short { IfOk result (λ x. length x.0.now ≤ 4 + MAX_BODY_LENGTH) }
+    ensures body { IfOk result (λ x. IsRestOf x.0.now x.1.now) }
 {
-    let used = 4 + body_of(bytes)?.len();
-    let frame = &bytes[..used];
-    let ((version, tables), rest) = body_of_batch(alloc, frame, &frame[4..])?;
+    let body = body_of(bytes)?;
+    Ok((&bytes[..4 + body.len()], body))
+}
+
+/// Reads the frame at the front into tables, and returns its wire version, these and the frame. No key is copied.
+#[tactic(auto, unfolding(crate::specs::Reading::read_batch))]
+pub fn tables_of(alloc: Global, bytes: &[u8]) -> Result<(WireVersion, Tables, &[u8]), WireError>
+    ensures reads { Gives (λ x. (x.0, batch_told x.2.now x.1)) result (read_batch bytes.now) }
+    ensures frame { IfOk result (λ x. x.2.now ≡ take (4 + big_number 4 bytes.now) bytes.now) }
+    ensures length { IfOk result (λ x. length x.2.now ≡ 4 + big_number 4 bytes.now) }
+    ensures apart { IfOk result (λ x. AreApart 0 x.1.spans.items (length x.2.now)) }
+    ensures holds { IfOk result (λ x. BatchHolds (batch_told x.2.now x.1)) }
+{
+    let (frame, body) = frame_of(bytes)?;
+    let ((version, tables), rest) = body_of_batch(alloc, frame, body)?;
     if !rest.is_empty() {
         return Err(WireError::Trailing);
     }
-    Ok((version, tables, used))
+    Ok((version, tables, frame))
 }
 
 /// Makes the batch of the tables. It keeps the frame, in which each single key is given its end.
@@ -141,10 +152,9 @@ pub fn decode_batch(alloc: Global, bytes: &[u8]) -> Result<(Batch, usize), WireE
     ensures never_read { IfErr result (λ e. e ≢ WireError.Read) }
     ensures never_write { IfErr result (λ e. e ≢ WireError.Write) }
 {
-    let (_, tables, used) = tables_of(alloc, bytes)?;
+    let (_, tables, frame) = tables_of(alloc, bytes)?;
     // One byte more than the frame has, for the end of a single key that stands last.
-    let mut frame = Vec::with_capacity(alloc, used + 1)?;
-    frame.extend_from_slice(&bytes[..used])?;
-    let batch = batch_of(alloc, frame, tables)?;
-    Ok((batch, used))
+    let mut copy = Vec::with_capacity(alloc, frame.len() + 1)?;
+    copy.extend_from_slice(frame)?;
+    Ok((batch_of(alloc, copy, tables)?, frame.len()))
 }

@@ -126,6 +126,8 @@ pub fn key_of<'a>(
 pub fn body_of(bytes: &[u8]) -> Result<&[u8], WireError>
     ensures reads { Gives (λ x. x.now) result (body_at bytes.now) }
     ensures length { IfOk result (λ body. length body.now ≡ big_number 4 bytes.now) }
+    ensures within { IfOk result (λ body. 4 + length body.now ≤ length bytes.now) }
+    ensures short { IfOk result (λ body. length body.now ≤ MAX_BODY_LENGTH) }
 {
     if bytes.len() < 4 {
         return Err(WireError::Short);

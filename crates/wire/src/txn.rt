@@ -1,4 +1,4 @@
-ghost use Rattle.std.specs.Prelude.{◌≡◌, ◌≤◌, IfOk, OnOk, length, vec_len, map, take};
+ghost use Rattle.std.specs.Prelude.{◌≡◌, ◌+◌, ◌≤◌, IfOk, OnOk, length, vec_len, map, take};
 ghost use Rattle.keyspace.specs.Tables.{IsRowOf};
 ghost use Rattle.wire.specs.Lying.{IsRestOf, AreApart, index_of, txn_read};
 ghost use Rattle.wire.specs.Rows.{AreRows};

@@ -1,5 +1,6 @@
-use Rattle.std.proofs.Common.{◌≡◌, length, vec_len, arith, rules}
+use Rattle.std.proofs.Common.{◌≡◌, ℕ, length, vec_len, subst, arith, rules}
 use Rattle.keyspace.specs.declared.span.Span.{Span}
+use Rattle.wire.specs.Lying.{AreApart}
 use Rattle.wire.proofs.Sealing.{next_key, sealed_all}
 use Rattle.wire.proofs.seal.seal.Goals as goal
 
@@ -13,5 +14,8 @@ index_mut-requires c =
     omega (arith, within, len, l.invariant.1)
 
 pub returns-clause-told : goal.returns-clause-told
-returns-clause-told c = sealed_all c.args.frame.now.items c.loop-span.frame.items c.args.spans.now c.loop-span.span-index
-    c.requires.apart c.loop-span-test.false c.loop-span.invariant.0
+returns-clause-told c =
+    let old = c.args.frame.now in
+    let len : vec_len old ≡ length old.items = search rules in
+    sealed_all old.items c.loop-span.frame.items c.args.spans.now c.loop-span.span-index
+    (subst (λ (n : ℕ). AreApart 0 c.args.spans.now n) len c.requires.apart) c.loop-span-test.false c.loop-span.invariant.0
