@@ -1,11 +1,13 @@
 -- Where the ranges of a transaction, and the transactions of a batch, begin in the frame.
-use Rattle.std.proofs.Common.{◌≡◌, ℕ, ℤ, ◌≤◌, Bool, List, Ok, arith}
+use Rattle.std.proofs.Common.{◌≡◌, ℕ, ℤ, ◌^◌, ◌<◌, ◌≤◌, Bool, List, length, Ok, Fits, w32, arith}
+use Rattle.keyspace.specs.declared.span.Span.{Span}
 use Rattle.wire.specs.declared.version.WireVersion.{WireVersion}
 use Rattle.wire.specs.Reading.{signed_at, marks_at, count_at, batch_kind_at, header_at}
-use Rattle.wire.specs.Lying.{IsRestOf, index_of}
+use Rattle.wire.specs.Lying.{IsRestOf, AreApart, index_of}
 use Rattle.wire.proofs.Taken.{AreBytes, signed_takes}
 use Rattle.wire.proofs.Parts.{marks_take, count_takes, header_takes, version_takes_kind}
 use Rattle.wire.proofs.Rests.{rest_after, index_after}
+use Rattle.wire.proofs.Sealing.{apart_rises}
 
 -- what follows the head of a transaction
 pub after_head : (frame bytes : List ℕ) (snapshot : ℤ) (a : List ℕ) (marked : Bool) (b : List ℕ) (reads : ℕ) (c : List ℕ)
@@ -37,3 +39,10 @@ after_header frame bytes header a count b fits rest e f =
     let t = header_takes bytes (header, a) fits e in
     let u = count_takes 4096 a (count, b) t.0.rest_fits f in
     rest_after frame a _ b (rest_after frame bytes _ a rest t.0) u.0
+
+-- the spans of a frame are few
+pub few_spans : (frame rest : List ℕ) (spans : List Span) (count : ℕ) → AreApart 0 spans (index_of frame rest)
+    → length frame ≤ 4194308 → count ≡ length spans → Fits w32 count
+few_spans frame rest spans count apart short e =
+    let few : count < 2 ^ 32 = omega (arith, apart_rises 0 spans (index_of frame rest) apart, short, e) in
+    record { fits = few }

@@ -156,5 +156,6 @@ pub fn decode_batch(alloc: Global, bytes: &[u8]) -> Result<(Batch, usize), WireE
     // One byte more than the frame has, for the end of a single key that stands last.
     let mut copy = Vec::with_capacity(alloc, frame.len() + 1)?;
     copy.extend_from_slice(frame)?;
-    Ok((batch_of(alloc, copy, tables)?, frame.len()))
+    let batch = batch_of(alloc, copy, tables)?;
+    Ok((batch, frame.len()))
 }

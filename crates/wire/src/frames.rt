@@ -52,7 +52,8 @@ pub fn read_next<R: Source>(alloc: Global, reader: &mut R) -> Result<Option<Batc
         return Ok(None);
     }
     let (_, tables, _) = tables_of(alloc, &frame)?;
-    Ok(Some(batch_of(alloc, frame, tables)?))
+    let batch = batch_of(alloc, frame, tables)?;
+    Ok(Some(batch))
 }
 
 impl<R: Source> Frames<R> {

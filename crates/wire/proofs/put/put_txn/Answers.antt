@@ -10,9 +10,7 @@ returns-clause-text c =
     let fits : SFits w64 c.args.txn.now.snapshot = search rules in
     rw (
       c.in_ok-put_ranges-2.ensures.text,
-      c.as_slice-2.ensures.items,
       c.in_ok-put_ranges.ensures.text,
-      c.as_slice.ensures.items,
       c.in_ok-put_u16-2.ensures.text,
       c.in_ok-put_u16.ensures.text,
       c.in_ok-put_marks.ensures.text,
