@@ -8,6 +8,6 @@ pub loop-index-preserved : goal.loop-index-preserved
 loop-index-preserved c =
     let more = length_more (range_text c.args.version) range_fields c.args.ranges.now c.loop-index.index c.get.result
     c.get.ensures.range in (
-      omega (arith, more, c.loop-index.invariant.0, c.range_length.ensures.exact),
-      omega (arith, c.loop-index.invariant.1, c.range_length.ensures.bound),
+      omega (arith, more, c.loop-index.invariant.0, c.range_length-total.ensures.exact),
+      omega (arith, c.loop-index.invariant.1, c.range_length-total.ensures.bound),
     )

@@ -8,6 +8,6 @@ pub loop-index-preserved : goal.loop-index-preserved
 loop-index-preserved c =
     let more = length_more (txn_text c.args.version) txn_fields c.args.txns.now c.loop-index.index c.txn.result
     c.txn.ensures.txn in (
-      omega (arith, more, c.loop-index.invariant.0, c.txn_length.ensures.exact),
-      omega (arith, c.loop-index.invariant.1, c.txn_length.ensures.bound),
+      omega (arith, more, c.loop-index.invariant.0, c.txn_length-total.ensures.exact),
+      omega (arith, c.loop-index.invariant.1, c.txn_length-total.ensures.bound),
     )
