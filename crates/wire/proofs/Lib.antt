@@ -17,6 +17,7 @@ pub mod Fields
 pub mod OneSpelling
 pub mod Held
 pub mod Known
+pub mod Filling
 pub mod Given
 pub mod FrameLengths
 pub mod NextFrames

@@ -9,7 +9,6 @@ use Rattle.wire.specs.FrameLength.{frame_length}
 use Rattle.wire.specs.Reading.{read_batch}
 use Rattle.wire.proofs.FrameLengths.{at_least_four}
 use Rattle.wire.proofs.Known.{held_end}
-use Rattle.wire.proofs.Taken.{AreBytes}
 use Rattle.wire.proofs.NextFrames.{takes_frame, whole_frame, is_fault, each_byte}
 use Rattle.wire.proofs.frames.read_next.Goals as goal
 
@@ -72,6 +71,5 @@ returns-clause-batch g c =
     let read : read_batch held ≡ Ok (t.field-0-0, batch_fields batch) =
     subst (λ (f : BatchFields). read_batch held ≡ Ok (t.field-0-0, f)) fields
     (ap read_batch (sym c.deref.ensures.value) ∙ t.ensures.reads) in
-    let fits : AreBytes held = ? in
     takes_frame (g.R.Source.remaining c.args.reader.now) (g.R.Source.remaining c.fill_frame.new.reader) held t.field-0-0
-    batch fits c.in_ok-fill_frame.ensures.joined within read
+    batch (each_byte held c.in_ok-fill_frame.ensures.bytes) c.in_ok-fill_frame.ensures.joined within read
