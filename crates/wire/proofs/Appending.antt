@@ -1,12 +1,16 @@
--- Ranges that are appended to others, and what lies among the first of them.
-use Rattle.std.proofs.Common.{◌≡◌, ℕ, ◌-◌, ◌≤◌, List, [], ◌∷◌, ◌++◌, length, map, take, drop, refl, sym, ap, ◌∙◌, arith}
-use Rattle.std.specs.List.{All, slice_range}
-use Rattle.std.proofs.lemmas.List.{take-append-le, drop-append-le, take-append-drop, take_rest, length-take, length-drop, map_push}
+-- Spans that are appended to others, and what lies among the first of them.
+use Rattle.std.proofs.Common.{◌≡◌, ℕ, ◌+◌, ◌-◌, ◌≤◌, List, [], ◌∷◌, ◌++◌, length, map, take, drop, slice_get, Some, refl, sym, ap, ◌∙◌, arith}
+use Rattle.std.specs.List.{All, flat_map, slice_range}
+use Rattle.std.proofs.lemmas.List.{take-append-le, drop-append-le, take-append-drop, take_rest, length-take, length-drop, map_push, append-nil, take-map, drop-map, take_more}
+use Rattle.std.proofs.lemmas.Option.{slice_get_within, get_or_from_slice_get}
 use Rattle.std.proofs.lemmas.List.Elements.{All-head, All-tail, All-weaker, All-push}
-use Rattle.keys.specs.declared.range.Range.{Range}
-use Rattle.wire.specs.declared.head.Head.{Head}
+use Rattle.std.proofs.lemmas.Grind.{flat_map-append}
+use Rattle.keyspace.specs.declared.span.Span.{Span}
+use Rattle.keyspace.specs.declared.row.Row.{Row}
+use Rattle.keyspace.specs.Tables.{IsRowOf}
 use Rattle.wire.specs.Fields.{TxnFields}
-use Rattle.wire.specs.Head.{fields_of_head, EndsWithin}
+use Rattle.wire.specs.Rows.{AreRows}
+use Rattle.wire.specs.Lying.{txn_read, IsBetween, AreApart}
 
 -- what one more element does to those behind the first n
 pub pushed_behind : {X Y : Type 0} (f : X → Y) (n : ℕ) (xs new : List X) (x : X) → n ≤ length xs
@@ -44,34 +48,86 @@ part_stays {X} xs new from to ordered within front =
 pub part_to_end : {X : Type 0} (xs : List X) (from to : ℕ) → to ≡ length xs → slice_range xs from to ≡ drop from xs
 part_to_end xs from to is = rw is (take_rest xs from)
 
-head_stays : (xs new : List Range) (head : Head) → EndsWithin xs head → take (length xs) new ≡ xs
-    → fields_of_head new head ≡ fields_of_head xs head
-head_stays xs new head within front =
-    let middle : head.writes ≤ length xs = omega (arith, head.writes_last, within) in
+row_stays : (frame : List ℕ) (xs new : List Span) (row : Row) → IsRowOf (length xs) row → take (length xs) new ≡ xs
+    → txn_read frame new row ≡ txn_read frame xs row
+row_stays frame xs new row h front =
+    let middle : row.writes ≤ length xs = omega (arith, h.writes_last, h.within) in
     rw (
-      part_stays xs new head.reads head.writes head.reads_first middle front,
-      part_stays xs new head.writes head.end head.writes_last within front,
+      part_stays xs new row.reads row.writes h.reads_first middle front,
+      part_stays xs new row.writes row.end h.writes_last h.within front,
     ) refl
 
-pub heads_stay : (xs new : List Range) (heads : List Head) → All (EndsWithin xs) heads
-    → take (length xs) new ≡ xs → map (fields_of_head new) heads ≡ map (fields_of_head xs) heads
-heads_stay xs new [] within front = refl
-heads_stay xs new (head ∷ heads) within front = rw (
-  head_stays xs new head (All-head (EndsWithin xs) head heads within) front,
-  heads_stay xs new heads (All-tail (EndsWithin xs) head heads within) front,
+rows_stay : (frame : List ℕ) (xs new : List Span) (rows : List Row) → All (IsRowOf (length xs)) rows
+    → take (length xs) new ≡ xs → map (txn_read frame new) rows ≡ map (txn_read frame xs) rows
+rows_stay frame xs new [] within front = refl
+rows_stay frame xs new (row ∷ rows) within front = rw (
+  row_stays frame xs new row (All-head (IsRowOf (length xs)) row rows within) front,
+  rows_stay frame xs new rows (All-tail (IsRowOf (length xs)) row rows within) front,
 ) refl
 
-pub heads_within : (xs new : List Range) (heads : List Head) (head : Head) → All (EndsWithin xs) heads
-    → EndsWithin new head → take (length xs) new ≡ xs → All (EndsWithin new) (heads ++ head ∷ [])
-heads_within xs new heads head within last front =
-    let more = longer xs new front in
-    All-push (EndsWithin new) heads head
-    (All-weaker (EndsWithin xs) (EndsWithin new) (λ h w. omega (arith, more, w)) heads within) last
+-- one row more, whose spans were appended
+pub row_pushed : (frame : List ℕ) (xs new : List Span) (rows pushed : List Row) (row : Row) → AreRows xs rows
+    → take (length xs) new ≡ xs → pushed ≡ rows ++ row ∷ []
+    → map (txn_read frame new) pushed ≡ map (txn_read frame xs) rows ++ txn_read frame new row ∷ []
+row_pushed frame xs new rows pushed row h front is =
+    rw (is, map_push (txn_read frame new) rows row)
+    (ap (λ (l : List TxnFields). l ++ txn_read frame new row ∷ []) (rows_stay frame xs new rows h.within front))
 
--- one head more, whose ranges were appended
-pub head_pushed : (xs new : List Range) (heads pushed : List Head) (head : Head) → All (EndsWithin xs) heads
-    → take (length xs) new ≡ xs → pushed ≡ heads ++ head ∷ []
-    → map (fields_of_head new) pushed ≡ map (fields_of_head xs) heads ++ fields_of_head new head ∷ []
-head_pushed xs new heads pushed head within front is =
-    rw (is, map_push (fields_of_head new) heads head)
-    (ap (λ (l : List TxnFields). l ++ fields_of_head new head ∷ []) (heads_stay xs new heads within front))
+abbrev spans_of : List Span → Row → List Span
+spans_of spans row = slice_range spans row.reads row.end
+
+spans_stay : (xs new : List Span) (rows : List Row) → All (IsRowOf (length xs)) rows → take (length xs) new ≡ xs
+    → flat_map (spans_of new) rows ≡ flat_map (spans_of xs) rows
+spans_stay xs new [] within front = refl
+spans_stay xs new (row ∷ rows) within front =
+    let h = All-head (IsRowOf (length xs)) row rows within in
+    let ordered : row.reads ≤ row.end = omega (arith, h.reads_first, h.writes_last) in
+    let first = part_stays xs new row.reads row.end ordered h.within front in
+    let others = spans_stay xs new rows (All-tail (IsRowOf (length xs)) row rows within) front in
+    λ i. first i ++ others i
+
+pub rows_pushed : (xs new : List Span) (rows : List Row) (row : Row) → AreRows xs rows → IsRowOf (length new) row
+    → row.reads ≡ length xs → row.end ≡ length new → take (length xs) new ≡ xs → AreRows new (rows ++ row ∷ [])
+rows_pushed xs new rows row h last from to front =
+    let more = longer xs new front in
+    let own : spans_of new row ≡ drop (length xs) new =
+    part_to_end new row.reads row.end to ∙ ap (λ (n : ℕ). drop n new) from in
+    record {
+      within = All-push (IsRowOf (length new)) rows row
+          (All-weaker (IsRowOf (length xs)) (IsRowOf (length new)) (λ r w. record {
+            reads_first = w.reads_first;
+            writes_last = w.writes_last;
+            within = omega (arith, more, w.within);
+          }) rows h.within) last;
+      whole = flat_map-append (spans_of new) rows (row ∷ [])
+          ∙ ap (λ (l : List Span). l ++ flat_map (spans_of new) (row ∷ []))
+          (spans_stay xs new rows h.within front ∙ h.whole)
+          ∙ ap (λ (l : List Span). xs ++ l) (append-nil (spans_of new row) ∙ own)
+          ∙ sym (behind_front xs new front);
+    }
+
+-- one span more
+pub apart_pushed : (from : ℕ) (spans : List Span) (middle : ℕ) (span : Span) (to : ℕ) → AreApart from spans middle
+    → IsBetween middle span to → AreApart from (spans ++ span ∷ []) to
+apart_pushed from [] middle span to h next =
+    (to, record { begin = omega (arith, h, next.begin); keys = next.keys }, omega arith)
+apart_pushed from (first ∷ spans) middle span to h next = (h.0, h.1, apart_pushed h.0 spans middle span to h.2 next)
+
+-- they may end later
+pub apart_later : (from : ℕ) (spans : List Span) (to later : ℕ) → AreApart from spans to → to ≤ later
+    → AreApart from spans later
+apart_later from [] to later h le = omega (arith, h, le)
+apart_later from (first ∷ spans) to later h le = (h.0, h.1, apart_later h.0 spans to later h.2 le)
+
+-- a part of the values
+pub map_part : {X Y : Type 0} (f : X → Y) (xs : List X) (from to : ℕ)
+    → map f (slice_range xs from to) ≡ slice_range (map f xs) from to
+map_part {X} {Y} f xs from to =
+    sym (take-map f (to - from) (drop from xs))
+    ∙ ap (λ (l : List Y). take (to - from) l) (sym (drop-map f from xs))
+
+-- the first ones and the next
+pub one_more : {X : Type 0} (xs : List X) (i : ℕ) (x : X) → slice_get xs i ≡ Some x → take (i + 1) xs ≡ take i xs ++ x ∷ []
+one_more {X} xs i x e =
+    take_more xs i x (slice_get_within xs i x e)
+    ∙ ap (λ (y : X). take i xs ++ y ∷ []) (get_or_from_slice_get xs i x x e)

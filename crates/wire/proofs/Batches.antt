@@ -9,7 +9,7 @@ use Rattle.wire.specs.declared.error.WireError.TheVariants.{Short, Long, Trailin
 use Rattle.wire.specs.declared.version.WireVersion.{WireVersion}
 use Rattle.wire.specs.declared.version.WireVersion.TheVariants.{One, Two}
 use Rattle.wire.specs.Fields.{BatchFields, batch_fields}
-use Rattle.wire.specs.Spelling.{frame, IsShort, batch_kind, batch_body, SpellsBatch}
+use Rattle.wire.specs.Spelling.{frame, IsShort, batch_kind, batch_body, BatchHolds, SpellsBatch}
 use Rattle.wire.specs.Reading.{number_at, body_at, batch_at, all_of, read_batch, version_told}
 use Rattle.wire.proofs.Loop.{Reading}
 use Rattle.wire.proofs.Steps.{bind_ok, passed_over, passed, ok_is}
@@ -88,6 +88,15 @@ told_again version bytes rest batch s =
     let stands : slice_index (bytes ++ rest) 4 ≡ batch_kind version =
     ap (λ (x : List ℕ). slice_index (x ++ rest) 4) s.text ∙ kind_stands version (batch_fields batch) rest in
     told_kind version (slice_index (bytes ++ rest) 4) stands
+
+-- what is read keeps its limits
+pub read_holds : (bytes : List ℕ) (x : WireVersion × BatchFields) → AreBytes bytes → read_batch bytes ≡ Ok x
+    → BatchHolds x.1
+unfolding read_batch
+read_holds bytes x fits e =
+    let b = bind_ok (body_at bytes) (λ body. all_of (batch_at body)) x e in
+    let at = body_is_at bytes b.0 fits b.1 in
+    (all_taken batch_at versioned_body VersionedHolds batch_takes b.0 x at.fits b.2).1
 
 pub batch_is_spelled : (bytes : List ℕ) (version : WireVersion) (batch : Batch) (n : ℕ) → AreBytes bytes
     → read_batch bytes ≡ Ok (version, batch_fields batch) → n ≡ 4 + big_number 4 bytes

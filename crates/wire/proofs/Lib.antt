@@ -1,10 +1,15 @@
 pub mod Loop
 pub mod Appending
+pub mod Texts
 pub mod Steps
 pub mod Taken
+pub mod Rests
+pub mod Sealing
 pub mod Singles
 pub mod Parts
+pub mod Heads
 pub mod Batches
+pub mod Keeping
 pub mod Again
 pub mod PlaceLists
 pub mod Replies
@@ -12,6 +17,7 @@ pub mod Fields
 pub mod OneSpelling
 pub mod Held
 pub mod Known
+pub mod Filling
 pub mod Given
 pub mod FrameLengths
 pub mod NextFrames

@@ -2,7 +2,7 @@
 use Rattle.std.proofs.Common.{◌≡◌, ◌≢◌, ℕ, ◌+◌, ◌<◌, ◌≤◌, List, [], ◌∷◌, ◌++◌, length, get_or, take, inl, inr, Option, Some, None, Ok, Err, refl, ap, subst, ◌∙◌, arith}
 use Rattle.std.specs.Prelude.{IfSome}
 use Rattle.std.specs.Io.KnownBytes.{Keeps, IsAtEnd, prepend_known}
-use Rattle.std.proofs.lemmas.List.{take_all, get_or_past}
+use Rattle.std.proofs.lemmas.List.{take_all, length-take, get_or_past}
 use Rattle.std.proofs.lemmas.Bool.{cases_lt}
 use Rattle.byteorder.specs.Endian.{big_number}
 use Rattle.keyspace.specs.declared.batch.Batch.{Batch}
@@ -17,6 +17,17 @@ use Rattle.wire.proofs.Taken.{AreBytes}
 use Rattle.wire.proofs.Batches.{batch_is_spelled}
 use Rattle.wire.proofs.FrameLengths.{at_most_whole, same_read}
 use Rattle.wire.proofs.Known.{held_consumes}
+
+-- what is held is no more than its first frame
+pub whole_frame : (held bytes frame : List ℕ) → bytes ≡ held → frame ≡ take (4 + big_number 4 bytes) bytes
+    → length frame ≡ 4 + big_number 4 bytes → length held ≤ frame_length held → frame ≡ held
+whole_frame held bytes frame same front count within =
+    let n = 4 + big_number 4 held in
+    let is : frame ≡ take n held = front ∙ ap (λ (x : List ℕ). take (4 + big_number 4 x) x) same in
+    let len : length frame ≡ n = count ∙ ap (λ (x : List ℕ). 4 + big_number 4 x) same in
+    let taken : length frame ≤ length held = omega (arith, ap length is, length-take n held) in
+    let four : 4 ≤ length held = omega (arith, taken, len) in
+    is ∙ take_all n held (omega (arith, at_most_whole held four, within))
 
 pub takes_frame : (old new : Option (List ℕ)) (held : List ℕ) (version : WireVersion) (batch : Batch)
     → AreBytes held

@@ -50,7 +50,7 @@ marks_same zero h = refl
 marks_same (suc zero) h = refl
 marks_same (suc (suc n)) h = absurd (omega arith)
 
-marks_take : (bytes : List ℕ) (x : Bool × List ℕ) → AreBytes bytes → marks_at bytes ≡ Ok x
+pub marks_take : (bytes : List ℕ) (x : Bool × List ℕ) → AreBytes bytes → marks_at bytes ≡ Ok x
     → Takes bytes (marks_text x.0) x.1
 unfolding marks_at
 marks_take bytes x fits e =
@@ -88,10 +88,10 @@ err_is_not_ok version (Ok x) e h = cc
 err_is_not_ok version (Err d) e h = cc
 
 -- a key of at most so many bytes
-abbrev IsKeyUpTo : ℕ → List ℕ → Type 0
+abbrev pub IsKeyUpTo : ℕ → List ℕ → Type 0
 IsKeyUpTo limit key = IsKey key × (length key ≤ limit)
 
-key_takes : (limit : ℕ) (bytes : List ℕ) (x : List ℕ × List ℕ) → limit ≤ 10001 → AreBytes bytes
+pub key_takes : (limit : ℕ) (bytes : List ℕ) (x : List ℕ × List ℕ) → limit ≤ 10001 → AreBytes bytes
     → key_at limit bytes ≡ Ok x → Takes bytes (key_text x.0) x.1 × IsKeyUpTo limit x.0
 unfolding key_at
 key_takes limit bytes x low fits e =
@@ -324,7 +324,7 @@ txn_takes version bytes x fits e =
     (ok_is made x b_writes.2) (whole, holds)
 
 -- what must hold of the three versions of a batch
-record HeaderHolds (previous version received : ℤ) : Type 0 where
+pub record HeaderHolds (previous version received : ℤ) : Type 0 where
   previous_fits : FitsSigned w64 previous
   version_fits : FitsSigned w64 version
   received_fits : FitsSigned w64 received
@@ -334,7 +334,7 @@ record HeaderHolds (previous version received : ℤ) : Type 0 where
   received_from : int_le (negsuc 0) received ≡ true
   received_before : int_lt received version ≡ true
 
-header_takes : (bytes : List ℕ) (x : (ℤ × ℤ × ℤ) × List ℕ) → AreBytes bytes → header_at bytes ≡ Ok x
+pub header_takes : (bytes : List ℕ) (x : (ℤ × ℤ × ℤ) × List ℕ) → AreBytes bytes → header_at bytes ≡ Ok x
     → Takes bytes (header_text x.0.0 x.0.1 x.0.2) x.1 × HeaderHolds x.0.0 x.0.1 x.0.2
 unfolding header_at
 header_takes bytes x fits e =
@@ -460,7 +460,7 @@ version_spelled kind version e =
       ]
     ]
 
-version_takes_kind : (bytes : List ℕ) (x : WireVersion × List ℕ) → AreBytes bytes → batch_kind_at bytes ≡ Ok x
+pub version_takes_kind : (bytes : List ℕ) (x : WireVersion × List ℕ) → AreBytes bytes → batch_kind_at bytes ≡ Ok x
     → Takes bytes (batch_kind x.0 ∷ []) x.1
 unfolding batch_kind_at
 version_takes_kind bytes x fits e =

@@ -1,38 +1,16 @@
 -- What a frame says: ranges, transactions, batches, entries and replies, without the facts that their types carry.
-use Rattle.std.specs.Prelude.{ℕ, ℤ, Bool, List, map}
-use Rattle.keys.specs.declared.range.Range.{Range}
-use Rattle.keyspace.specs.declared.txn.Txn.{Txn}
+use Rattle.std.specs.Prelude.{ℕ, ℤ, List, map}
+pub use Rattle.keyspace.specs.Fields.{RangeFields, TxnFields, range_fields, txn_fields}
 use Rattle.keyspace.specs.declared.batch.Batch.{Batch}
 use Rattle.keyspace.specs.declared.reply.Verdict.{Verdict}
 use Rattle.keyspace.specs.declared.reply.Entry.{Entry}
 use Rattle.keyspace.specs.declared.reply.Reply.{Reply}
-
-pub record RangeFields : Type 0 where
-  pub begin : List ℕ
-  pub end : List ℕ
-
-pub record TxnFields : Type 0 where
-  pub snapshot : ℤ
-  pub marked : Bool
-  pub reads : List RangeFields
-  pub writes : List RangeFields
 
 pub record BatchFields : Type 0 where
   pub previous : ℤ
   pub version : ℤ
   pub received : ℤ
   pub txns : List TxnFields
-
-abbrev pub range_fields : Range → RangeFields
-range_fields range = record { begin = range.begin; end = range.end }
-
-abbrev pub txn_fields : Txn → TxnFields
-txn_fields txn = record {
-  snapshot = txn.snapshot;
-  marked = txn.marked;
-  reads = map range_fields txn.reads;
-  writes = map range_fields txn.writes;
-}
 
 abbrev pub batch_fields : Batch → BatchFields
 batch_fields batch = record {

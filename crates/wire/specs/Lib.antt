@@ -1,7 +1,8 @@
 pub mod Fields
-pub mod Head
 pub mod Spelling
 pub mod Reading
+pub mod Rows
+pub mod Lying
 pub mod Source
 pub mod FrameLength
 pub mod NextFrame

@@ -9,7 +9,7 @@ use Rattle.std.specs.Int.RustNames.{FitsSigned}
 use Rattle.byteorder.specs.Endian.{big_bytes}
 use Rattle.keyspace.specs.declared.txn.TheConstants.{MAX_RANGES}
 use Rattle.keyspace.specs.declared.batch.TheConstants.{MAX_TXNS}
-use Rattle.keys.specs.Key.{IsKey, IsAtMost}
+pub use Rattle.keyspace.specs.Fields.{RangeHolds}
 use Rattle.keyspace.specs.Places.{ArePlaces}
 use Rattle.keyspace.specs.declared.batch.Batch.{Batch}
 use Rattle.keyspace.specs.declared.reply.Verdict.{Verdict}
@@ -91,11 +91,6 @@ abbrev pub frame : List ℕ → List ℕ
 frame body = big_bytes 4 (length body) ++ body
 
 -- what must hold of each field; a number of a type of the program fits that type
-pub record RangeHolds (range : RangeFields) : Type 0 where
-  pub begin : IsKey range.begin
-  pub end : IsKey range.end
-  pub ordered : IsAtMost range.begin range.end
-
 pub record TxnHolds (txn : TxnFields) : Type 0 where
   pub snapshot_fits : FitsSigned w64 txn.snapshot
   pub snapshot : pos 0 ≤ℤ txn.snapshot

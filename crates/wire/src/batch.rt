@@ -1,15 +1,19 @@
-ghost use Rattle.std.specs.Prelude.{◌≡◌, ◌≢◌, ◌+◌, ◌≤◌, ◌≤ℤ◌, ◌<ℤ◌, negsuc, length, take, IfOk, IfErr, OnOk, Some, None};
+ghost use Rattle.std.specs.Prelude.{◌≡◌, ◌≢◌, ◌+◌, ◌≤◌, ◌≤ℤ◌, ◌<ℤ◌, negsuc, length, take, vec_len, IfOk, IfErr, OnOk, Some, None};
 ghost use Rattle.byteorder.specs.Endian.{big_number};
 ghost use Rattle.wire.specs.Fields.{batch_fields};
-ghost use Rattle.wire.specs.Spelling.{SpellsBatch};
-ghost use Rattle.wire.specs.Reading.{Gives, batch_kind_at, header_at, fields_at, batch_at, read_batch, batch_fault, version_told};
+ghost use Rattle.wire.specs.Lying.{IsRestOf, AreApart, index_of, batch_told};
+ghost use Rattle.wire.specs.Spelling.{BatchHolds, SpellsBatch};
+ghost use Rattle.wire.specs.Reading.{Gives, body_at, batch_kind_at, header_at, fields_at, batch_at, read_batch, batch_fault, version_told};
+ghost use Rattle.wire.specs.declared.field.TheConstants.{MAX_BODY_LENGTH};
 
 use crate::error::WireError;
 use crate::field::{body_of, count_of, i64_at, u8_at};
+use crate::seal::seal;
+use crate::tables::Tables;
 use crate::txn::txns_of;
 use crate::version::WireVersion;
 use keyspace::{Batch, MAX_TXNS, Txns};
-use std::alloc::Global;
+use std::alloc::{AllocError, Global};
 
 // Reads the kind of a batch and returns the wire version that it tells.
 #[tactic(auto, unfolding(crate::specs::Reading::batch_kind_at))]
@@ -50,43 +54,95 @@ fn header_of(bytes: &[u8]) -> Result<((i64, i64, i64), &[u8]), WireError>
 
 // Reads what follows the kind of a batch.
 #[tactic(auto, unfolding(crate::specs::Reading::fields_at))]
-fn fields_of(alloc: Global, version: WireVersion, bytes: &[u8]) -> Result<(Batch, &[u8]), WireError>
-    ensures reads { Gives (λ x. (batch_fields x.0, x.1.now)) result (fields_at version bytes.now) }
+fn fields_of<'a>(
+    alloc: Global,
+    version: WireVersion,
+    frame: &[u8],
+    bytes: &'a [u8],
+) -> Result<(Tables, &'a [u8]), WireError>
+    requires short { length frame.now ≤ 4 + MAX_BODY_LENGTH }
+    requires rest { IsRestOf frame.now bytes.now }
+    ensures reads { Gives (λ x. (batch_told frame.now x.0, x.1.now)) result (fields_at version bytes.now) }
+    ensures apart { IfOk result (λ x. AreApart 0 x.0.spans.items (index_of frame.now x.1.now)) }
 {
     let ((previous, batch_version, received), rest) = header_of(bytes)?;
     let (count, rest) = count_of(MAX_TXNS as u16, rest)?;
-    let (txns, rest) = txns_of(alloc, version, count, rest)?;
-    let txns = Txns::new(alloc, txns)?;
-    let batch = Batch::new(previous, batch_version, received, txns);
-    Ok((batch, rest))
+    let ((spans, rows), rest) = txns_of(alloc, version, count, frame, rest)?;
+    let tables = Tables {
+        previous,
+        version: batch_version,
+        received,
+        spans,
+        rows,
+    };
+    Ok((tables, rest))
 }
 
 // Reads a batch and the wire version that it is spelled in.
 #[tactic(auto, unfolding(crate::specs::Reading::batch_at))]
-fn batch_of(alloc: Global, bytes: &[u8]) -> Result<((WireVersion, Batch), &[u8]), WireError>
-    ensures reads { Gives (λ x. ((x.0.0, batch_fields x.0.1), x.1.now)) result (batch_at bytes.now) }
+fn body_of_batch<'a>(
+    alloc: Global,
+    frame: &[u8],
+    bytes: &'a [u8],
+) -> Result<((WireVersion, Tables), &'a [u8]), WireError>
+    requires short { length frame.now ≤ 4 + MAX_BODY_LENGTH }
+    requires rest { IsRestOf frame.now bytes.now }
+    ensures reads { Gives (λ x. ((x.0.0, batch_told frame.now x.0.1), x.1.now)) result (batch_at bytes.now) }
+    ensures apart { IfOk result (λ x. AreApart 0 x.0.1.spans.items (index_of frame.now x.1.now)) }
 {
     let (version, rest) = version_of(bytes)?;
-    let (batch, rest) = fields_of(alloc, version, rest)?;
-    Ok(((version, batch), rest))
+    let (tables, rest) = fields_of(alloc, version, frame, rest)?;
+    Ok(((version, tables), rest))
 }
 
-/// Decodes the frame at the front, as [`decode_batch`] does, and returns its wire version too.
-#[tactic(auto, unfolding(crate::specs::Reading::read_batch))]
-pub fn read_frame(alloc: Global, bytes: &[u8]) -> Result<(WireVersion, Batch, usize), WireError>
-    ensures reads { Gives (λ x. (x.0, batch_fields x.1)) result (read_batch bytes.now) }
-    ensures used { IfOk result (λ x. x.2 ≡ 4 + big_number 4 bytes.now) }
+// Returns the frame at the front, and its body.
+fn frame_of(bytes: &[u8]) -> Result<(&[u8], &[u8]), WireError>
+    ensures reads { Gives (λ x. x.1.now) result (body_at bytes.now) }
+    ensures frame { IfOk result (λ x. x.0.now ≡ take (4 + big_number 4 bytes.now) bytes.now) }
+    ensures length { IfOk result (λ x. length x.0.now ≡ 4 + big_number 4 bytes.now) }
+    ensures short { IfOk result (λ x. length x.0.now ≤ 4 + MAX_BODY_LENGTH) }
+    ensures body { IfOk result (λ x. IsRestOf x.0.now x.1.now) }
 {
     let body = body_of(bytes)?;
-    let ((version, batch), rest) = batch_of(alloc, body)?;
+    Ok((&bytes[..4 + body.len()], body))
+}
+
+/// Reads the frame at the front into tables, and returns its wire version, these and the frame. No key is copied.
+#[tactic(auto, unfolding(crate::specs::Reading::read_batch))]
+pub fn tables_of(alloc: Global, bytes: &[u8]) -> Result<(WireVersion, Tables, &[u8]), WireError>
+    ensures reads { Gives (λ x. (x.0, batch_told x.2.now x.1)) result (read_batch bytes.now) }
+    ensures frame { IfOk result (λ x. x.2.now ≡ take (4 + big_number 4 bytes.now) bytes.now) }
+    ensures length { IfOk result (λ x. length x.2.now ≡ 4 + big_number 4 bytes.now) }
+    ensures apart { IfOk result (λ x. AreApart 0 x.1.spans.items (length x.2.now)) }
+    ensures holds { IfOk result (λ x. BatchHolds (batch_told x.2.now x.1)) }
+{
+    let (frame, body) = frame_of(bytes)?;
+    let ((version, tables), rest) = body_of_batch(alloc, frame, body)?;
     if !rest.is_empty() {
         return Err(WireError::Trailing);
     }
-    Ok((version, batch, 4 + body.len()))
+    Ok((version, tables, frame))
 }
 
-/// Decodes the frame at the front, of either wire version, and returns its batch and its length in bytes.
-/// What follows the frame isn't looked at. A refusal other than `Memory` is the frame's first fault.
+/// Makes the batch of the tables. It keeps the frame, in which each single key is given its end.
+pub fn batch_of(alloc: Global, frame: Vec<u8>, tables: Tables) -> Result<Batch, AllocError>
+    requires apart { AreApart 0 tables.spans.items (vec_len frame) }
+    requires holds { BatchHolds (batch_told frame.items tables) }
+    ensures fields { IfOk result (λ batch. batch_fields batch ≡ batch_told frame.items tables) }
+{
+    let mut buffer = frame;
+    seal(&mut buffer, &tables.spans)?;
+    let txns = Txns::from_tables(alloc, buffer, tables.spans, tables.rows)?;
+    Ok(Batch::new(
+        tables.previous,
+        tables.version,
+        tables.received,
+        txns,
+    ))
+}
+
+/// Decodes the frame at the front, of either wire version, and returns its batch and its length in bytes. The batch has a copy
+/// of the frame. What follows the frame isn't looked at. A refusal other than `Memory` is the frame's first fault.
 pub fn decode_batch(alloc: Global, bytes: &[u8]) -> Result<(Batch, usize), WireError>
     ensures within { IfOk result (λ found. found.1 ≤ length bytes.now) }
     ensures spelled { IfOk result (λ found.
@@ -96,6 +152,10 @@ pub fn decode_batch(alloc: Global, bytes: &[u8]) -> Result<(Batch, usize), WireE
     ensures never_read { IfErr result (λ e. e ≢ WireError.Read) }
     ensures never_write { IfErr result (λ e. e ≢ WireError.Write) }
 {
-    let (_, batch, used) = read_frame(alloc, bytes)?;
-    Ok((batch, used))
+    let (_, tables, frame) = tables_of(alloc, bytes)?;
+    // One byte more than the frame has, for the end of a single key that stands last.
+    let mut copy = Vec::with_capacity(alloc, frame.len() + 1)?;
+    copy.extend_from_slice(frame)?;
+    let batch = batch_of(alloc, copy, tables)?;
+    Ok((batch, frame.len()))
 }

@@ -40,7 +40,7 @@ fn put_batch(out: &mut Vec<u8>, version: WireVersion, batch: &Batch) -> Result<(
     put_i64(out, batch.version)?;
     put_i64(out, batch.received)?;
     put_u16(out, batch.txns.len() as u16)?;
-    put_txns(out, version, batch.txns.as_slice())?;
+    put_txns(out, version, &batch.txns)?;
     Ok(())
 }
 

@@ -3,12 +3,12 @@
 
 ghost use Rattle.std.specs.Prelude.{◌≡◌, ◌⊎◌, ◌+◌, ◌*◌, ◌<◌, ◌≤◌, IfOk, length};
 ghost use Rattle.byteorder.specs.Endian.{big_number};
+ghost use Rattle.keyspace.specs.Tables.{bytes_at};
+ghost use Rattle.wire.specs.Lying.{IsRestOf, index_of};
 ghost use Rattle.wire.specs.Reading.{Gives, number_at, signed_at, count_at, marks_at, kind_at, key_at, body_at};
 
 use crate::error::WireError;
 use byteorder::{BigEndian, ByteOrder};
-use keys::{Key, MAX_KEY_LENGTH};
-use std::alloc::Global;
 
 /// The longest body of a frame, in bytes.
 pub const MAX_BODY_LENGTH: usize = 4_194_304;
@@ -93,12 +93,21 @@ pub fn room_for(count: u16, least: usize, bytes: &[u8]) -> usize
     (count as usize).min(bytes.len() / least)
 }
 
-/// Reads a key of at most `limit` bytes. Its bytes are copied here and nowhere else.
+/// Reads a key of at most `limit` bytes, and returns its index in the frame, the key and the bytes after it. None is copied.
 #[tactic(auto, unfolding(crate::specs::Reading::key_at))]
-pub fn key_of(alloc: Global, limit: usize, bytes: &[u8]) -> Result<(Key, &[u8]), WireError>
-    requires limit { limit ≤ MAX_KEY_LENGTH }
-    ensures reads { Gives (λ x. (x.0, x.1.now)) result (key_at limit bytes.now) }
-    ensures short { IfOk result (λ x. length x.0 ≤ limit) }
+pub fn key_of<'a>(
+    frame: &[u8],
+    limit: usize,
+    bytes: &'a [u8],
+) -> Result<(u32, &'a [u8], &'a [u8]), WireError>
+    requires short { length frame.now ≤ 4 + MAX_BODY_LENGTH }
+    requires rest { IsRestOf frame.now bytes.now }
+    ensures reads { Gives (λ x. (x.1.now, x.2.now)) result (key_at limit bytes.now) }
+    ensures key { IfOk result (λ x. bytes_at frame.now x.0 (length x.1.now) ≡ x.1.now) }
+    ensures behind { IfOk result (λ x. index_of frame.now bytes.now < x.0) }
+    ensures end { IfOk result (λ x. x.0 + length x.1.now ≡ index_of frame.now x.2.now) }
+    ensures rest { IfOk result (λ x. IsRestOf frame.now x.2.now) }
+    ensures limit { IfOk result (λ x. length x.1.now ≤ limit) }
 {
     let (length, rest) = u16_at(bytes)?;
     let length = length as usize;
@@ -108,8 +117,8 @@ pub fn key_of(alloc: Global, limit: usize, bytes: &[u8]) -> Result<(Key, &[u8]),
     if rest.len() < length {
         return Err(WireError::Cut);
     }
-    let key = Key::front(alloc, rest, length)?;
-    Ok((key, &rest[length..]))
+    let index = frame.len() - rest.len();
+    Ok((index as u32, &rest[..length], &rest[length..]))
 }
 
 /// Returns the body of the frame at the front.
@@ -117,6 +126,8 @@ pub fn key_of(alloc: Global, limit: usize, bytes: &[u8]) -> Result<(Key, &[u8]),
 pub fn body_of(bytes: &[u8]) -> Result<&[u8], WireError>
     ensures reads { Gives (λ x. x.now) result (body_at bytes.now) }
     ensures length { IfOk result (λ body. length body.now ≡ big_number 4 bytes.now) }
+    ensures within { IfOk result (λ body. 4 + length body.now ≤ length bytes.now) }
+    ensures short { IfOk result (λ body. length body.now ≤ MAX_BODY_LENGTH) }
 {
     if bytes.len() < 4 {
         return Err(WireError::Short);

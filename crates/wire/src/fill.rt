@@ -2,6 +2,7 @@
 
 ghost use Rattle.std.specs.Prelude.{◌≡◌, ◌≢◌, ◌<◌, ◌≤◌, ◌+◌, length, take, vec_len, IfOk, IfErr, OnOk};
 ghost use Rattle.std.specs.Io.KnownBytes.{Keeps, IsAtEnd, prepend_known};
+ghost use Rattle.keys.specs.Key.{IsBytes};
 ghost use Rattle.wire.specs.FrameLength.{frame_length};
 
 use crate::error::WireError;
@@ -9,10 +10,11 @@ use crate::field::MAX_BODY_LENGTH;
 use crate::source::Source;
 use byteorder::{BigEndian, ByteOrder};
 
-// The most bytes asked of the reader at once. So a length that no body follows takes little memory.
-const CHUNK_LENGTH: usize = 4_096;
+// The most bytes asked of the reader at once, as long as the buffer holds fewer. So a length that no body follows takes little
+// memory.
+const CHUNK_LENGTH: usize = 65_536;
 
-// Reads once, appends at most `most` bytes to the buffer and returns how many.
+// Reads once into the memory behind what the buffer holds, at most `most` bytes, and returns how many.
 #[tactic(auto, using(crate::proofs::Known::prepended))]
 fn read_more<R: Source>(
     reader: &mut R,
@@ -31,10 +33,13 @@ fn read_more<R: Source>(
     ensures memory { IfErr result (λ e. e ≢ WireError.Read
         → (e ≡ WireError.Memory) × (R.failures reader.new ≡ R.failures reader.old)) }
 {
-    let mut chunk = [0; CHUNK_LENGTH];
-    let wanted = most.min(CHUNK_LENGTH);
-    let count = reader.read(&mut chunk[..wanted])?;
-    buffer.extend_from_slice(&chunk[..count])?;
+    let held = buffer.len();
+    let wanted = most.min(CHUNK_LENGTH.max(held));
+    // Room for one byte more, the end of a single key that stands last.
+    buffer.reserve(wanted + 1)?;
+    buffer.resize(held + wanted, 0)?;
+    let count = reader.read(&mut buffer[held..])?;
+    buffer.truncate(held + count);
     Ok(count)
 }
 
@@ -81,6 +86,7 @@ fn settled_by(front: &[u8]) -> usize
 pub fn fill_frame<R: Source>(reader: &mut R, buffer: &mut Vec<u8>) -> Result<(), WireError>
     ensures joined { OnOk result
         (Keeps (R.remaining reader.old) (prepend_known buffer.new.items (R.remaining reader.new))) }
+    ensures bytes { OnOk result (IsBytes buffer.new.items) }
     ensures within { OnOk result (vec_len buffer.new ≤ frame_length buffer.new.items) }
     ensures end { OnOk result
         (vec_len buffer.new < frame_length buffer.new.items → IsAtEnd (R.remaining reader.new)) }

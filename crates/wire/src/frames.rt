@@ -3,7 +3,7 @@ ghost use Rattle.std.specs.Io.KnownBytes.{IsAtEnd};
 ghost use Rattle.wire.specs.NextFrame.{TakesFrame, IsFaultOf};
 ghost use Rattle.wire.specs.Frames.{frames_reader, refusal_of};
 
-use crate::batch::read_frame;
+use crate::batch::{batch_of, tables_of};
 use crate::error::WireError;
 use crate::fill::fill_frame;
 use crate::source::Source;
@@ -16,8 +16,6 @@ use std::alloc::Global;
 pub struct Frames<R> {
     reader: R,
     alloc: Global,
-    // The bytes of the frame that was read last. Their memory serves the next.
-    buffer: Vec<u8>,
     // The refusal that ended the frames.
     refusal: Option<WireError>,
 }
@@ -30,18 +28,13 @@ pub fn read_frames<R: Source>(alloc: Global, reader: R) -> Frames<R>
     Frames {
         reader,
         alloc,
-        buffer: Vec::new(alloc),
         refusal: None,
     }
 }
 
-/// Returns the batch of the next frame, or `None` at the end of the input. The buffer takes the bytes of the
-/// frame.
-pub fn read_next<R: Source>(
-    alloc: Global,
-    reader: &mut R,
-    buffer: &mut Vec<u8>,
-) -> Result<Option<Batch>, WireError>
+/// Returns the batch of the next frame, or `None` at the end of the input. The batch keeps the bytes of the frame as they
+/// were read.
+pub fn read_next<R: Source>(alloc: Global, reader: &mut R) -> Result<Option<Batch>, WireError>
     ensures batch { IfOk result (λ found. IfSome found
         (TakesFrame (R.remaining reader.old) (R.remaining reader.new))) }
     ensures end { IfOk result (λ found. IfNone found
@@ -53,11 +46,13 @@ pub fn read_next<R: Source>(
     ensures others { IfErr result (λ e. e ≢ WireError.Read → R.failures reader.new ≡ R.failures reader.old) }
     ensures never_write { IfErr result (λ e. e ≢ WireError.Write) }
 {
-    fill_frame(reader, buffer)?;
-    if buffer.is_empty() {
+    let mut frame = Vec::new(alloc);
+    fill_frame(reader, &mut frame)?;
+    if frame.is_empty() {
         return Ok(None);
     }
-    let (_, batch, _) = read_frame(alloc, buffer)?;
+    let (_, tables, _) = tables_of(alloc, &frame)?;
+    let batch = batch_of(alloc, frame, tables)?;
     Ok(Some(batch))
 }
 
@@ -91,7 +86,7 @@ impl<R: Source> Frames<R> {
         if let Some(refusal) = self.refusal {
             return Err(refusal);
         }
-        match read_next(self.alloc, &mut self.reader, &mut self.buffer) {
+        match read_next(self.alloc, &mut self.reader) {
             Ok(found) => Ok(found),
             Err(refusal) => {
                 self.refusal = Some(refusal);

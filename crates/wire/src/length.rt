@@ -2,38 +2,39 @@
 
 ghost use Rattle.std.specs.Prelude.{◌≡◌, ◌≤◌, ◌*◌, length, map};
 ghost use Rattle.std.specs.List.{flat_map};
+ghost use Rattle.keys.specs.declared.key.TheConstants.{MAX_KEY_LENGTH};
 ghost use Rattle.wire.specs.Fields.{range_fields, txn_fields, batch_fields, entry_fields, reply_fields};
 ghost use Rattle.wire.specs.Spelling.{key_text, ends_text, range_text, txn_text, batch_body, entry_text, reply_body};
 
 use crate::single::is_single;
 use crate::version::WireVersion;
-use keys::{Key, Range};
-use keyspace::{Batch, Entry, MAX_RANGES, MAX_TXNS, Reply, Txn};
+use keyspace::{Batch, Entry, MAX_RANGES, MAX_TXNS, RangeRef, RangesRef, Reply, TxnRef, Txns};
 
-fn key_length(key: &Key) -> usize
+fn key_length(key: &[u8]) -> usize
+    requires short { length key.now ≤ MAX_KEY_LENGTH }
     ensures exact { result ≡ length (key_text key.now) }
     ensures bound { result ≤ 10003 }
 {
-    2 + key.as_bytes().len()
+    2 + key.len()
 }
 
-fn ends_length(range: &Range) -> usize
+fn ends_length(range: &RangeRef<'_>) -> usize
     ensures exact { result ≡ length (ends_text (range_fields range.now)) }
     ensures bound { result ≤ 20006 }
 {
-    key_length(&range.begin) + key_length(&range.end)
+    key_length(range.begin()) + key_length(range.end())
 }
 
 #[tactic(auto, unfolding(crate::specs::Spelling::formed_text))]
-fn range_length(version: WireVersion, range: &Range) -> usize
+fn range_length(version: WireVersion, range: &RangeRef<'_>) -> usize
     ensures exact { result ≡ length (range_text version (range_fields range.now)) }
     ensures bound { result ≤ 20007 }
 {
     match version {
         WireVersion::One => ends_length(range),
         WireVersion::Two => {
-            if is_single(range) {
-                1 + key_length(&range.begin)
+            if is_single(range.begin(), range.end()) {
+                1 + key_length(range.begin())
             } else {
                 1 + ends_length(range)
             }
@@ -41,36 +42,36 @@ fn range_length(version: WireVersion, range: &Range) -> usize
     }
 }
 
-fn ranges_length(version: WireVersion, ranges: &[Range]) -> usize
+fn ranges_length(version: WireVersion, ranges: &RangesRef<'_>) -> usize
     requires few { length ranges.now ≤ MAX_RANGES }
     ensures exact { result ≡ length (flat_map (range_text version) (map range_fields ranges.now)) }
     ensures bound { result ≤ 20007 * MAX_RANGES }
 {
     let mut total = 0;
-    for range in ranges {
-        total += range_length(version, range);
+    for index in 0..ranges.len() {
+        total += range_length(version, &ranges.get(index));
     }
     total
 }
 
 #[tactic(auto, unfolding(crate::specs::Spelling::txn_text))]
-fn txn_length(version: WireVersion, txn: &Txn) -> usize
+fn txn_length(version: WireVersion, txn: &TxnRef<'_>) -> usize
     ensures exact { result ≡ length (txn_text version (txn_fields txn.now)) }
     ensures bound { result ≤ 40974349 }
 {
-    let reads = ranges_length(version, txn.reads.as_slice());
-    let writes = ranges_length(version, txn.writes.as_slice());
+    let reads = ranges_length(version, &txn.reads);
+    let writes = ranges_length(version, &txn.writes);
     13 + reads + writes
 }
 
-fn txns_length(version: WireVersion, txns: &[Txn]) -> usize
+fn txns_length(version: WireVersion, txns: &Txns) -> usize
     requires few { length txns.now ≤ MAX_TXNS }
     ensures exact { result ≡ length (flat_map (txn_text version) (map txn_fields txns.now)) }
     ensures bound { result ≤ 40974349 * MAX_TXNS }
 {
     let mut total = 0;
-    for txn in txns {
-        total += txn_length(version, txn);
+    for index in 0..txns.len() {
+        total += txn_length(version, &txns.txn(index));
     }
     total
 }
@@ -80,7 +81,7 @@ fn txns_length(version: WireVersion, txns: &[Txn]) -> usize
 pub fn batch_length(version: WireVersion, batch: &Batch) -> usize
     ensures exact { result ≡ length (batch_body version (batch_fields batch.now)) }
 {
-    27 + txns_length(version, batch.txns.as_slice())
+    27 + txns_length(version, &batch.txns)
 }
 
 #[tactic(auto, using(crate::proofs::PlaceLists::few_places, crate::proofs::PlaceLists::places_length), unfolding(crate::specs::Spelling::entry_text))]

@@ -1,18 +1,18 @@
 //! Appends the text of a field to a text.
 
-ghost use Rattle.std.specs.Prelude.{◌≡◌, ◌++◌, OnOk, length, map};
+ghost use Rattle.std.specs.Prelude.{◌≡◌, ◌++◌, ◌≤◌, OnOk, length, map};
 ghost use Rattle.std.specs.Int.{w64};
 ghost use Rattle.std.specs.Int.RustNames.{FitsSigned};
 ghost use Rattle.std.specs.List.{All, flat_map};
 ghost use Rattle.byteorder.specs.Endian.{big_bytes};
+ghost use Rattle.keys.specs.declared.key.TheConstants.{MAX_KEY_LENGTH};
 ghost use Rattle.keyspace.specs.Places.{ArePlaces};
 ghost use Rattle.wire.specs.Fields.{range_fields, txn_fields, entry_fields};
 ghost use Rattle.wire.specs.Spelling.{signed_text, key_text, ends_text, formed_text, range_text, marks_text, txn_text, verdict_text, places_text, entry_text};
 
 use crate::single::is_single;
 use crate::version::WireVersion;
-use keys::{Key, Range};
-use keyspace::{Entry, Txn, Verdict};
+use keyspace::{Entry, RangeRef, RangesRef, TxnRef, Txns, Verdict};
 use std::alloc::AllocError;
 
 /// Appends a number of two bytes.
@@ -48,35 +48,35 @@ fn put_marks(out: &mut Vec<u8>, marked: bool) -> Result<(), AllocError>
     Ok(())
 }
 
-fn put_key(out: &mut Vec<u8>, key: &Key) -> Result<(), AllocError>
+fn put_key(out: &mut Vec<u8>, key: &[u8]) -> Result<(), AllocError>
+    requires short { length key.now ≤ MAX_KEY_LENGTH }
     ensures text { OnOk result (out.new.items ≡ out.old.items ++ key_text key.now) }
 {
-    let bytes = key.as_bytes();
-    put_u16(out, bytes.len() as u16)?;
-    out.extend_from_slice(bytes)
+    put_u16(out, key.len() as u16)?;
+    out.extend_from_slice(key)
 }
 
-fn put_ends(out: &mut Vec<u8>, range: &Range) -> Result<(), AllocError>
+fn put_ends(out: &mut Vec<u8>, range: &RangeRef<'_>) -> Result<(), AllocError>
     ensures text { OnOk result (out.new.items ≡ out.old.items ++ ends_text (range_fields range.now)) }
 {
-    put_key(out, &range.begin)?;
-    put_key(out, &range.end)
+    put_key(out, range.begin())?;
+    put_key(out, range.end())
 }
 
 #[tactic(auto, unfolding(crate::specs::Spelling::formed_text))]
-fn put_formed(out: &mut Vec<u8>, range: &Range) -> Result<(), AllocError>
+fn put_formed(out: &mut Vec<u8>, range: &RangeRef<'_>) -> Result<(), AllocError>
     ensures text { OnOk result (out.new.items ≡ out.old.items ++ formed_text (range_fields range.now)) }
 {
-    if is_single(range) {
+    if is_single(range.begin(), range.end()) {
         out.push(1)?;
-        put_key(out, &range.begin)
+        put_key(out, range.begin())
     } else {
         out.push(0)?;
         put_ends(out, range)
     }
 }
 
-fn put_range(out: &mut Vec<u8>, version: WireVersion, range: &Range) -> Result<(), AllocError>
+fn put_range(out: &mut Vec<u8>, version: WireVersion, range: &RangeRef<'_>) -> Result<(), AllocError>
     ensures text { OnOk result
         (out.new.items ≡ out.old.items ++ range_text version (range_fields range.now)) }
 {
@@ -86,18 +86,22 @@ fn put_range(out: &mut Vec<u8>, version: WireVersion, range: &Range) -> Result<(
     }
 }
 
-fn put_ranges(out: &mut Vec<u8>, version: WireVersion, ranges: &[Range]) -> Result<(), AllocError>
+fn put_ranges(
+    out: &mut Vec<u8>,
+    version: WireVersion,
+    ranges: &RangesRef<'_>,
+) -> Result<(), AllocError>
     ensures text { OnOk result (out.new.items ≡
         out.old.items ++ flat_map (range_text version) (map range_fields ranges.now)) }
 {
-    for range in ranges {
-        put_range(out, version, range)?;
+    for index in 0..ranges.len() {
+        put_range(out, version, &ranges.get(index))?;
     }
     Ok(())
 }
 
 #[tactic(auto, unfolding(crate::specs::Spelling::txn_text))]
-fn put_txn(out: &mut Vec<u8>, version: WireVersion, txn: &Txn) -> Result<(), AllocError>
+fn put_txn(out: &mut Vec<u8>, version: WireVersion, txn: &TxnRef<'_>) -> Result<(), AllocError>
     ensures text { OnOk result (out.new.items ≡ out.old.items ++ txn_text version (txn_fields txn.now)) }
     ensures fits { FitsSigned w64 txn.now.snapshot }
 {
@@ -105,19 +109,19 @@ fn put_txn(out: &mut Vec<u8>, version: WireVersion, txn: &Txn) -> Result<(), All
     put_marks(out, txn.marked)?;
     put_u16(out, txn.reads.len() as u16)?;
     put_u16(out, txn.writes.len() as u16)?;
-    put_ranges(out, version, txn.reads.as_slice())?;
-    put_ranges(out, version, txn.writes.as_slice())?;
+    put_ranges(out, version, &txn.reads)?;
+    put_ranges(out, version, &txn.writes)?;
     Ok(())
 }
 
 /// Appends the transactions of a batch.
-pub fn put_txns(out: &mut Vec<u8>, version: WireVersion, txns: &[Txn]) -> Result<(), AllocError>
+pub fn put_txns(out: &mut Vec<u8>, version: WireVersion, txns: &Txns) -> Result<(), AllocError>
     ensures text { OnOk result (out.new.items ≡
         out.old.items ++ flat_map (txn_text version) (map txn_fields txns.now)) }
     ensures fit { OnOk result (All (λ txn. FitsSigned w64 txn.snapshot) txns.now) }
 {
-    for txn in txns {
-        put_txn(out, version, txn)?;
+    for index in 0..txns.len() {
+        put_txn(out, version, &txns.txn(index))?;
     }
     Ok(())
 }

@@ -1,93 +1,149 @@
-ghost use Rattle.std.specs.Prelude.{◌≡◌, ◌+◌, OnOk, length, map, take, drop};
-ghost use Rattle.wire.specs.Fields.{range_fields};
+ghost use Rattle.std.specs.Prelude.{◌≡◌, ◌+◌, ◌<◌, ◌≤◌, OnOk, IfOk, length, map, take, drop};
+ghost use Rattle.keyspace.specs.Tables.{bytes_at};
+ghost use Rattle.wire.specs.Lying.{IsRestOf, IsBetween, AreApart, index_of, range_read};
 ghost use Rattle.wire.specs.Reading.{Gives, ends_at, form_at, formed_at, range_at, many_at};
+ghost use Rattle.wire.specs.declared.field.TheConstants.{MAX_BODY_LENGTH};
 
 use crate::error::WireError;
 use crate::field::{key_of, room_for, u8_at};
-use crate::single::{MAX_SINGLE_KEY_LENGTH, end_of_single, is_single};
+use crate::single::{MAX_SINGLE_KEY_LENGTH, is_single};
 use crate::version::WireVersion;
-use keys::{MAX_KEY_LENGTH, Range};
-use std::alloc::Global;
+use keys::MAX_KEY_LENGTH;
+use keyspace::Span;
 
 // The fewest bytes that a range takes in either version: in version 2, a form and the length of a key.
 const MIN_RANGE_LENGTH: usize = 3;
 
-// Reads both ends of a range.
+// Reads both ends of a range. In wire version 2 it mustn't be a single key.
 #[tactic(auto, unfolding(crate::specs::Reading::ends_at))]
-fn ends_of(alloc: Global, bytes: &[u8]) -> Result<(Range, &[u8]), WireError>
-    ensures reads { Gives (λ x. (range_fields x.0, x.1.now)) result (ends_at bytes.now) }
+fn ends_of<'a>(frame: &[u8], bytes: &'a [u8]) -> Result<(Span, &'a [u8]), WireError>
+    requires short { length frame.now ≤ 4 + MAX_BODY_LENGTH }
+    requires rest { IsRestOf frame.now bytes.now }
+    ensures reads { Gives (λ x. (range_read frame.now x.0, x.1.now)) result (ends_at bytes.now) }
+    ensures place { IfOk result (λ x. IsBetween (index_of frame.now bytes.now) x.0 (index_of frame.now x.1.now)) }
+    ensures both { IfOk result (λ x. x.0.begin + x.0.begin_length < x.0.end) }
+    ensures rest { IfOk result (λ x. IsRestOf frame.now x.1.now) }
 {
-    let (begin, rest) = key_of(alloc, MAX_KEY_LENGTH, bytes)?;
-    let (end, rest) = key_of(alloc, MAX_KEY_LENGTH, rest)?;
-    if end.as_bytes().cmp(begin.as_bytes()).is_lt() {
+    let (begin, first, rest) = key_of(frame, MAX_KEY_LENGTH, bytes)?;
+    let (end, last, rest) = key_of(frame, MAX_KEY_LENGTH, rest)?;
+    if last.cmp(first).is_lt() {
         return Err(WireError::Inverted);
     }
-    Ok((Range::new(begin, end), rest))
+    let span = Span {
+        begin,
+        begin_length: first.len() as u16,
+        end,
+        end_length: last.len() as u16,
+    };
+    Ok((span, rest))
 }
 
 // Reads what follows form 0: both ends of a range that isn't a single key.
 #[tactic(auto, unfolding(crate::specs::Reading::form_at))]
-fn form_0_of(alloc: Global, bytes: &[u8]) -> Result<(Range, &[u8]), WireError>
-    ensures reads { Gives (λ x. (range_fields x.0, x.1.now)) result (form_at 0 bytes.now) }
+fn form_0_of<'a>(frame: &[u8], bytes: &'a [u8]) -> Result<(Span, &'a [u8]), WireError>
+    requires short { length frame.now ≤ 4 + MAX_BODY_LENGTH }
+    requires rest { IsRestOf frame.now bytes.now }
+    ensures reads { Gives (λ x. (range_read frame.now x.0, x.1.now)) result (form_at 0 bytes.now) }
+    ensures place { IfOk result (λ x. IsBetween (index_of frame.now bytes.now) x.0 (index_of frame.now x.1.now)) }
+    ensures rest { IfOk result (λ x. IsRestOf frame.now x.1.now) }
 {
-    let (range, rest) = ends_of(alloc, bytes)?;
-    if is_single(&range) {
+    let (span, rest) = ends_of(frame, bytes)?;
+    let begin = part_of(frame, span.begin, span.begin_length);
+    let end = part_of(frame, span.end, span.end_length);
+    if is_single(begin, end) {
         return Err(WireError::Spelling);
     }
-    Ok((range, rest))
+    Ok((span, rest))
 }
 
-// Reads what follows form 1: a single key. Takes memory for a copy of the key and for its end.
-#[tactic(auto, using(crate::proofs::Singles::at_most_end), unfolding(crate::specs::Reading::form_at))]
-fn form_1_of(alloc: Global, bytes: &[u8]) -> Result<(Range, &[u8]), WireError>
-    ensures reads { Gives (λ x. (range_fields x.0, x.1.now)) result (form_at 1 bytes.now) }
+// Reads what follows form 1: a single key.
+#[tactic(auto, unfolding(crate::specs::Reading::form_at))]
+fn form_1_of<'a>(frame: &[u8], bytes: &'a [u8]) -> Result<(Span, &'a [u8]), WireError>
+    requires short { length frame.now ≤ 4 + MAX_BODY_LENGTH }
+    requires rest { IsRestOf frame.now bytes.now }
+    ensures reads { Gives (λ x. (range_read frame.now x.0, x.1.now)) result (form_at 1 bytes.now) }
+    ensures place { IfOk result (λ x. IsBetween (index_of frame.now bytes.now) x.0 (index_of frame.now x.1.now)) }
+    ensures rest { IfOk result (λ x. IsRestOf frame.now x.1.now) }
 {
-    let (begin, rest) = key_of(alloc, MAX_SINGLE_KEY_LENGTH, bytes)?;
-    let end = end_of_single(alloc, &begin)?;
-    Ok((Range::new(begin, end), rest))
+    let (begin, key, rest) = key_of(frame, MAX_SINGLE_KEY_LENGTH, bytes)?;
+    let length = key.len() as u16;
+    let span = Span {
+        begin,
+        begin_length: length,
+        end: begin,
+        end_length: length + 1,
+    };
+    Ok((span, rest))
 }
 
 // Reads a form and what follows it.
 #[tactic(auto, unfolding(crate::specs::Reading::formed_at, crate::specs::Reading::form_at))]
-fn formed_of(alloc: Global, bytes: &[u8]) -> Result<(Range, &[u8]), WireError>
-    ensures reads { Gives (λ x. (range_fields x.0, x.1.now)) result (formed_at bytes.now) }
+fn formed_of<'a>(frame: &[u8], bytes: &'a [u8]) -> Result<(Span, &'a [u8]), WireError>
+    requires short { length frame.now ≤ 4 + MAX_BODY_LENGTH }
+    requires rest { IsRestOf frame.now bytes.now }
+    ensures reads { Gives (λ x. (range_read frame.now x.0, x.1.now)) result (formed_at bytes.now) }
+    ensures place { IfOk result (λ x. IsBetween (index_of frame.now bytes.now) x.0 (index_of frame.now x.1.now)) }
+    ensures rest { IfOk result (λ x. IsRestOf frame.now x.1.now) }
 {
     let (form, rest) = u8_at(bytes)?;
     match form {
-        0 => form_0_of(alloc, rest),
-        1 => form_1_of(alloc, rest),
+        0 => form_0_of(frame, rest),
+        1 => form_1_of(frame, rest),
         _ => Err(WireError::Form),
     }
 }
 
-fn range_of(alloc: Global, version: WireVersion, bytes: &[u8]) -> Result<(Range, &[u8]), WireError>
-    ensures reads { Gives (λ x. (range_fields x.0, x.1.now)) result (range_at version bytes.now) }
+fn range_of<'a>(
+    version: WireVersion,
+    frame: &[u8],
+    bytes: &'a [u8],
+) -> Result<(Span, &'a [u8]), WireError>
+    requires short { length frame.now ≤ 4 + MAX_BODY_LENGTH }
+    requires rest { IsRestOf frame.now bytes.now }
+    ensures reads { Gives (λ x. (range_read frame.now x.0, x.1.now)) result (range_at version bytes.now) }
+    ensures place { IfOk result (λ x. IsBetween (index_of frame.now bytes.now) x.0 (index_of frame.now x.1.now)) }
+    ensures rest { IfOk result (λ x. IsRestOf frame.now x.1.now) }
 {
     match version {
-        WireVersion::One => ends_of(alloc, bytes),
-        WireVersion::Two => formed_of(alloc, bytes),
+        WireVersion::One => ends_of(frame, bytes),
+        WireVersion::Two => formed_of(frame, bytes),
     }
 }
 
-/// Reads `count` ranges, and appends them to those that there are. After an error some of them may have been appended.
+/// Reads `count` ranges, and appends their spans to those that there are. After an error some of them may have been
+/// appended.
 pub fn push_ranges<'a>(
-    alloc: Global,
     version: WireVersion,
     count: u16,
-    ranges: &mut Vec<Range>,
+    frame: &[u8],
+    spans: &mut Vec<Span>,
     bytes: &'a [u8],
 ) -> Result<&'a [u8], WireError>
-    ensures reads { Gives (λ rest. (map range_fields (drop (length ranges.old.items) ranges.new.items), rest.now)) result
-        (many_at (range_at version) count bytes.now) }
-    ensures front { OnOk result (take (length ranges.old.items) ranges.new.items ≡ ranges.old.items) }
-    ensures count { OnOk result (length ranges.new.items ≡ length ranges.old.items + count) }
+    requires short { length frame.now ≤ 4 + MAX_BODY_LENGTH }
+    requires rest { IsRestOf frame.now bytes.now }
+    requires apart { AreApart 0 spans.old.items (index_of frame.now bytes.now) }
+    ensures reads { Gives (λ rest. (map (range_read frame.now) (drop (length spans.old.items) spans.new.items), rest.now))
+        result (many_at (range_at version) count bytes.now) }
+    ensures front { OnOk result (take (length spans.old.items) spans.new.items ≡ spans.old.items) }
+    ensures count { OnOk result (length spans.new.items ≡ length spans.old.items + count) }
+    ensures apart { IfOk result (λ rest. AreApart 0 spans.new.items (index_of frame.now rest.now)) }
+    ensures rest { IfOk result (λ rest. IsRestOf frame.now rest.now) }
 {
-    ranges.reserve(room_for(count, MIN_RANGE_LENGTH, bytes))?;
+    spans.reserve(room_for(count, MIN_RANGE_LENGTH, bytes))?;
     let mut rest = bytes;
     for _ in 0..count {
-        let (range, after) = range_of(alloc, version, rest)?;
-        ranges.push(range)?;
+        let (span, after) = range_of(version, frame, rest)?;
+        spans.push(span)?;
         rest = after;
     }
     Ok(rest)
+}
+
+// Returns so many bytes of the frame, from an index on.
+fn part_of(frame: &[u8], from: u32, count: u16) -> &[u8]
+    requires within { from + count ≤ length frame.now }
+    ensures bytes { result.now ≡ bytes_at frame.now from count }
+{
+    let from = from as usize;
+    &frame[from..from + count as usize]
 }

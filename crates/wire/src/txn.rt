@@ -1,33 +1,39 @@
-ghost use Rattle.std.specs.Prelude.{◌≡◌, IfOk, OnOk, length, vec_len, map, take};
-ghost use Rattle.std.specs.List.{All};
-ghost use Rattle.wire.specs.Fields.{txn_fields};
-ghost use Rattle.wire.specs.Head.{fields_of_head, EndsWithin};
+ghost use Rattle.std.specs.Prelude.{◌≡◌, ◌+◌, ◌≤◌, IfOk, OnOk, length, vec_len, map, take};
+ghost use Rattle.keyspace.specs.Tables.{IsRowOf};
+ghost use Rattle.wire.specs.Lying.{IsRestOf, AreApart, index_of, txn_read};
+ghost use Rattle.wire.specs.Rows.{AreRows};
 ghost use Rattle.wire.specs.Reading.{Gives, txn_at, many_at};
+ghost use Rattle.wire.specs.declared.field.TheConstants.{MAX_BODY_LENGTH};
 
 use crate::error::WireError;
 use crate::field::{count_of, i64_at, marks_of, room_for};
-use crate::head::Head;
 use crate::range::push_ranges;
 use crate::version::WireVersion;
-use keys::Range;
-use keyspace::{MAX_RANGES, Ranges, Sequence, Txn};
-use std::alloc::{AllocError, Global};
-use std::sync::Arc;
+use keyspace::{MAX_RANGES, Row, Span};
+use std::alloc::Global;
 
 // The fewest bytes that a transaction takes.
 const MIN_TXN_LENGTH: usize = 13;
 
-// Reads a transaction, and appends its ranges, the read ranges first. After an error some of them may have been appended.
+// Reads a transaction, and appends the spans of its ranges, those of the read ranges first. After an error some of them may
+// have been appended.
 #[tactic(auto, unfolding(crate::specs::Reading::txn_at, crate::specs::Reading::version_at))]
-fn head_of<'a>(
-    alloc: Global,
+fn row_of<'a>(
     version: WireVersion,
-    ranges: &mut Vec<Range>,
+    frame: &[u8],
+    spans: &mut Vec<Span>,
     bytes: &'a [u8],
-) -> Result<(Head, &'a [u8]), WireError>
-    ensures reads { Gives (λ x. (fields_of_head ranges.new.items x.0, x.1.now)) result (txn_at version bytes.now) }
-    ensures within { IfOk result (λ x. EndsWithin ranges.new.items x.0) }
-    ensures front { OnOk result (take (length ranges.old.items) ranges.new.items ≡ ranges.old.items) }
+) -> Result<(Row, &'a [u8]), WireError>
+    requires short { length frame.now ≤ 4 + MAX_BODY_LENGTH }
+    requires rest { IsRestOf frame.now bytes.now }
+    requires apart { AreApart 0 spans.old.items (index_of frame.now bytes.now) }
+    ensures reads { Gives (λ x. (txn_read frame.now spans.new.items x.0, x.1.now)) result (txn_at version bytes.now) }
+    ensures row { IfOk result (λ x. IsRowOf (length spans.new.items) x.0) }
+    ensures from { IfOk result (λ x. x.0.reads ≡ length spans.old.items) }
+    ensures to { IfOk result (λ x. x.0.end ≡ length spans.new.items) }
+    ensures front { OnOk result (take (length spans.old.items) spans.new.items ≡ spans.old.items) }
+    ensures apart { IfOk result (λ x. AreApart 0 spans.new.items (index_of frame.now x.1.now)) }
+    ensures rest { IfOk result (λ x. IsRestOf frame.now x.1.now) }
 {
     let (snapshot, rest) = i64_at(bytes)?;
     if snapshot < 0 {
@@ -36,63 +42,44 @@ fn head_of<'a>(
     let (marked, rest) = marks_of(rest)?;
     let (read_count, rest) = count_of(MAX_RANGES as u16, rest)?;
     let (write_count, rest) = count_of(MAX_RANGES as u16, rest)?;
-    let reads = ranges.len();
-    let rest = push_ranges(alloc, version, read_count, ranges, rest)?;
-    let writes = ranges.len();
-    let rest = push_ranges(alloc, version, write_count, ranges, rest)?;
-    let head = Head {
+    let reads = spans.len() as u32;
+    let rest = push_ranges(version, read_count, frame, spans, rest)?;
+    let writes = spans.len() as u32;
+    let rest = push_ranges(version, write_count, frame, spans, rest)?;
+    let row = Row {
         snapshot,
         marked,
         reads,
         writes,
-        end: ranges.len(),
+        end: spans.len() as u32,
     };
-    Ok((head, rest))
+    Ok((row, rest))
 }
 
-// Makes the transaction of a head.
-fn txn_of(ranges: &Arc<Sequence<Range>, Global>, head: Head) -> Result<Txn, AllocError>
-    requires within { EndsWithin ranges.now.value head }
-    ensures fields { IfOk result (λ txn. txn_fields txn ≡ fields_of_head ranges.now.value head) }
-{
-    let reads = Ranges::part(Arc::try_clone(ranges)?, head.reads, head.writes);
-    let writes = Ranges::part(Arc::try_clone(ranges)?, head.writes, head.end);
-    Ok(Txn::with_ranges(head.snapshot, head.marked, reads, writes))
-}
-
-// Makes the transactions of the heads, which share the ranges.
-fn txns_with(alloc: Global, ranges: Vec<Range>, heads: &[Head]) -> Result<Vec<Txn>, AllocError>
-    requires within { All (EndsWithin ranges.items) heads.now }
-    ensures fields { IfOk result (λ txns. map txn_fields txns.items ≡ map (fields_of_head ranges.items) heads.now) }
-{
-    let ranges = Arc::new(alloc, Sequence::new(ranges))?;
-    let mut txns = Vec::with_capacity(alloc, heads.len())?;
-    for head in heads {
-        txns.push(txn_of(&ranges, *head)?)?;
-    }
-    Ok(txns)
-}
-
-/// Reads `count` transactions. The ranges of all of them lie in one vector, which they share.
-pub fn txns_of(
+/// Reads `count` transactions: the spans of their ranges, and a row for each. No key is copied.
+pub fn txns_of<'a>(
     alloc: Global,
     version: WireVersion,
     count: u16,
-    bytes: &[u8],
-) -> Result<(Vec<Txn>, &[u8]), WireError>
-    ensures reads { Gives (λ x. (map txn_fields x.0.items, x.1.now)) result
+    frame: &[u8],
+    bytes: &'a [u8],
+) -> Result<((Vec<Span>, Vec<Row>), &'a [u8]), WireError>
+    requires short { length frame.now ≤ 4 + MAX_BODY_LENGTH }
+    requires rest { IsRestOf frame.now bytes.now }
+    ensures reads { Gives (λ x. (map (txn_read frame.now x.0.0.items) x.0.1.items, x.1.now)) result
         (many_at (txn_at version) count bytes.now) }
-    ensures count { IfOk result (λ x. vec_len x.0 ≡ count) }
+    ensures rows { IfOk result (λ x. AreRows x.0.0.items x.0.1.items) }
+    ensures apart { IfOk result (λ x. AreApart 0 x.0.0.items (index_of frame.now x.1.now)) }
 {
     let room = room_for(count, MIN_TXN_LENGTH, bytes);
-    let mut heads = Vec::with_capacity(alloc, room)?;
+    let mut rows = Vec::with_capacity(alloc, room)?;
     // Room for two ranges of each transaction, one read and one written. Where there are more, it grows.
-    let mut ranges = Vec::with_capacity(alloc, 2 * room)?;
+    let mut spans = Vec::with_capacity(alloc, 2 * room)?;
     let mut rest = bytes;
     for _ in 0..count {
-        let (head, after) = head_of(alloc, version, &mut ranges, rest)?;
-        heads.push(head)?;
+        let (row, after) = row_of(version, frame, &mut spans, rest)?;
+        rows.push(row)?;
         rest = after;
     }
-    Ok((txns_with(alloc, ranges, &heads)?, rest))
+    Ok(((spans, rows), rest))
 }

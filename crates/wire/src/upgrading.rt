@@ -18,7 +18,6 @@ fn upgrade_next<R: Source, W: Sink>(
     alloc: Global,
     reader: &mut R,
     writer: &mut W,
-    buffer: &mut Vec<u8>,
 ) -> Result<bool, WireError>
     ensures frame { IfOk result (λ more. IsTrue more → (batch : BatchValue)
         × TakesFrame (R.remaining reader.old) (R.remaining reader.new) batch
@@ -41,7 +40,7 @@ fn upgrade_next<R: Source, W: Sink>(
     ensures no_write { IfErr result (λ e. e ≢ WireError.Write
         → W.failures writer.new ≡ W.failures writer.old) }
 {
-    let Some(batch) = read_next(alloc, reader, buffer)? else {
+    let Some(batch) = read_next(alloc, reader)? else {
         return Ok(false);
     };
     let frame = encode_batch(alloc, &batch)?;
@@ -74,9 +73,8 @@ pub fn upgrade<R: Source, W: Sink>(
     ensures read_ok { OnOk result (R.failures reader.new ≡ R.failures reader.old) }
     ensures write_ok { OnOk result (W.failures writer.new ≡ W.failures writer.old) }
 {
-    let mut buffer = Vec::new(alloc);
     for count in 0..u64::MAX {
-        if !upgrade_next(alloc, reader, writer, &mut buffer)? {
+        if !upgrade_next(alloc, reader, writer)? {
             return Ok(count);
         }
     }

@@ -1,9 +1,6 @@
-use Rattle.std.proofs.Common.{List, append_assoc, rules, subst, SFits, w64}
-use Rattle.std.specs.List.{All}
-use Rattle.std.specs.Int.RustNames.{FitsSigned}
+use Rattle.std.proofs.Common.{append_assoc, rules, SFits, w64}
 use Rattle.std.proofs.lemmas.Int.{to_z-of_z}
 use Rattle.std.proofs.lemmas.List.{length-map}
-use Rattle.keyspace.specs.declared.txn.Txn.{Txn}
 use Rattle.wire.specs.Spelling.{batch_body}
 use Rattle.wire.proofs.Held.{batch_holds}
 use Rattle.wire.proofs.encode.put_batch.Goals as goal
@@ -16,7 +13,6 @@ returns-clause-text c =
     let fits_received : SFits w64 c.args.batch.now.received = search rules in
     rw (
       c.in_ok-put_txns.ensures.text,
-      c.as_slice.ensures.txns,
       c.in_ok-put_u16.ensures.text,
       c.in_ok-put_i64-3.ensures.text,
       c.in_ok-put_i64-2.ensures.text,
@@ -31,6 +27,4 @@ returns-clause-text c =
 
 pub returns-clause-holds : goal.returns-clause-holds
 returns-clause-holds c =
-    batch_holds c.args.batch.now (search rules) (search rules) (search rules)
-    (subst (λ (txns : List Txn). All (λ txn. FitsSigned w64 txn.snapshot) txns) c.as_slice.ensures.txns
-    c.in_ok-put_txns.ensures.fit)
+    batch_holds c.args.batch.now (search rules) (search rules) (search rules) c.in_ok-put_txns.ensures.fit

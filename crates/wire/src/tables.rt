@@ -1,0 +1,16 @@
+ghost use Rattle.wire.specs.Rows.{AreRows};
+
+use keyspace::{Row, Span};
+
+/// What a frame says, as long as its keys lie in it.
+#[derive(Debug, Drop)]
+pub struct Tables {
+    pub previous: i64,
+    pub version: i64,
+    pub received: i64,
+    /// Where each range lies in the frame.
+    pub spans: Vec<Span>,
+    /// Each transaction, and which spans it has.
+    pub rows: Vec<Row>,
+    ghost rows_fit: { AreRows spans.items rows.items },
+}
