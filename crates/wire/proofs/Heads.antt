@@ -23,8 +23,13 @@ after_head frame bytes snapshot a marked b reads c writes d fits rest e f g h =
     let s = rest_after frame a _ b r u in
     let x = rest_after frame b _ c s v.0 in (
       rest_after frame c _ d x w.0,
-      omega (arith, index_after frame bytes _ a rest t.0, index_after frame a _ b r u, index_after frame b _ c s v.0,
-      index_after frame c _ d x w.0),
+      omega (
+        arith,
+        index_after frame bytes _ a rest t.0,
+        index_after frame a _ b r u,
+        index_after frame b _ c s v.0,
+        index_after frame c _ d x w.0,
+      ),
     )
 
 -- what follows the kind of a batch

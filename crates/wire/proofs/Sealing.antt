@@ -1,5 +1,5 @@
 -- Spans that are given their ends, one after the other.
-use Rattle.std.proofs.Common.{◌≡◌, ℕ, suc, ◌+◌, ◌-◌, ◌<◌, ◌≤◌, Bool, true, false, eqb, List, [], ◌∷◌, ◌++◌, length, map, get_or, take, drop, set, inl, inr, refl, sym, ap, subst, ◌∙◌, arith}
+use Rattle.std.proofs.Common.{◌≡◌, ℕ, suc, ◌+◌, ◌-◌, ◌<◌, ◌≤◌, true, false, eqb, List, [], ◌∷◌, ◌++◌, length, map, get_or, take, drop, set, inl, inr, refl, sym, ap, subst, ◌∙◌, arith}
 use Rattle.std.specs.Prelude.{◌==◌, if◌then◌else◌}
 use Rattle.std.proofs.lemmas.Bool.{eq-eqb, ne_eqb}
 use Rattle.std.proofs.lemmas.List.{length-append, length-take, take-take, drop-drop, take-set, take_more_set, take-set-le, drop-set-lt, length-set, drop-append-le, take-append-le, drop_all}
@@ -8,7 +8,7 @@ use Rattle.keyspace.specs.declared.span.Span.{Span}
 use Rattle.keyspace.specs.Tables.{bytes_at, range_told}
 use Rattle.wire.specs.Fields.{RangeFields}
 use Rattle.wire.specs.Spelling.{single_key}
-use Rattle.wire.specs.Lying.{range_read, IsBetween, HasSingleKey, HasBothKeys, AreApart}
+use Rattle.wire.specs.Lying.{range_read, IsBetween, HasSingleKey, AreApart}
 use Rattle.wire.proofs.Rests.{bytes_by_front}
 
 -- the frame with the end of one span

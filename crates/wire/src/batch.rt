@@ -133,12 +133,7 @@ pub fn batch_of(alloc: Global, frame: Vec<u8>, tables: Tables) -> Result<Batch, 
     let mut buffer = frame;
     seal(&mut buffer, &tables.spans)?;
     let txns = Txns::from_tables(alloc, buffer, tables.spans, tables.rows)?;
-    Ok(Batch::new(
-        tables.previous,
-        tables.version,
-        tables.received,
-        txns,
-    ))
+    Ok(Batch::new(tables.previous, tables.version, tables.received, txns))
 }
 
 /// Decodes the frame at the front, of either wire version, and returns its batch and its length in bytes. The batch has a copy

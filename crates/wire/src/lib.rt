@@ -2,8 +2,12 @@
 //!
 //! `specs/` holds what has to be believed, to be read in this order: `Fields` (what a frame says), `Spelling`
 //! (how each value is spelled, and what must hold of it), `Reading` (the fault that reading meets first) and, for
-//! a stream of frames, `Source`, `NextFrame`, `Frames`, `Sink` and `Upgrade`. Of these the code keeps nothing but a
-//! cursor in the bytes. The form has two versions, which differ in the kind of a batch and in the text of a range.
+//! a stream of frames, `Source`, `NextFrame`, `Frames`, `Sink` and `Upgrade`. Beside these, `Rows` and `Lying` say what a
+//! frame is while it is read: the tables of a batch, whose keys lie in the frame. The form has two versions, which differ
+//! in the kind of a batch and in the text of a range.
+//!
+//! No key is copied: a batch keeps the frame that it was read from. Where a range is spelled by a single key, the byte
+//! behind that key is set to zero once the whole frame is read, so that the end of the range lies in the frame too.
 //!
 //! The layers above use [`decode_batch`] and [`decode_reply`], which decode exactly the frames that spell a value
 //! and name the first fault of any other; [`encode_batch`], [`encode_batch_1`] and [`encode_reply`], which encode

@@ -76,7 +76,11 @@ fn put_formed(out: &mut Vec<u8>, range: &RangeRef<'_>) -> Result<(), AllocError>
     }
 }
 
-fn put_range(out: &mut Vec<u8>, version: WireVersion, range: &RangeRef<'_>) -> Result<(), AllocError>
+fn put_range(
+    out: &mut Vec<u8>,
+    version: WireVersion,
+    range: &RangeRef<'_>,
+) -> Result<(), AllocError>
     ensures text { OnOk result
         (out.new.items ≡ out.old.items ++ range_text version (range_fields range.now)) }
 {

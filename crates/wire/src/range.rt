@@ -14,7 +14,7 @@ use keyspace::Span;
 // The fewest bytes that a range takes in either version: in version 2, a form and the length of a key.
 const MIN_RANGE_LENGTH: usize = 3;
 
-// Reads both ends of a range. In wire version 2 it mustn't be a single key.
+// Reads both ends of a range.
 #[tactic(auto, unfolding(crate::specs::Reading::ends_at))]
 fn ends_of<'a>(frame: &[u8], bytes: &'a [u8]) -> Result<(Span, &'a [u8]), WireError>
     requires short { length frame.now ≤ 4 + MAX_BODY_LENGTH }
