@@ -11,7 +11,9 @@ pub mod Told
 pub mod Written
 pub mod FirstMet
 pub mod JudgedTo
+pub mod Comparing
 pub mod Spanned
+pub mod LastSpan
 pub mod UnionAdded
 pub mod UnionOrder
 pub mod Marks

@@ -1,6 +1,5 @@
 -- The ranges that the spans name are written, so what they unite is.
-use Rattle.std.proofs.Common.{◌≡◌, ℕ, ◌+◌, ◌*◌, ◌<◌, List, [], ◌∷◌, ◌++◌, length, refl, sym, subst, arith, inl, inr}
-use Rattle.std.proofs.lemmas.Bool.{cases_lt}
+use Rattle.std.proofs.Common.{◌≡◌, ℕ, ◌+◌, ◌*◌, ◌<◌, List, [], ◌∷◌, ◌++◌, length, refl, subst, arith}
 use Rattle.std.specs.Prelude.{ℤ, ◌≤ℤ◌}
 use Rattle.std.specs.List.{AllZip}
 use Rattle.std.specs.Prelude.{Result, Err, IsErrAnd}
@@ -16,9 +15,8 @@ use Rattle.conflict.specs.declared.union.Span.{Span}
 use Rattle.conflict.specs.Union.{AreSpanned}
 use Rattle.stepmap.specs.declared.error.StepError.{StepError}
 use Rattle.stepmap.specs.declared.error.StepError.TheVariants as step
-use Rattle.conflict.specs.declared.error.SetStop.TheVariants.{Memory, ArenaFull}
-use Rattle.stepmap.specs.Limit.{HasRoomFor, made_room}
-use Rattle.conflict.specs.ConflictSet.{stop_of, IsOverLimit, IsOverLimitUnited, HasRoomToWrite, HasNoRoomToWrite}
+use Rattle.conflict.specs.declared.error.SetStop.TheVariants.{ArenaFull}
+use Rattle.conflict.specs.ConflictSet.{stop_of, IsOverLimit}
 use Rattle.conflict.proofs.Spanned.{begins_same, ends_same, spanned_count}
 
 -- ranges with the same begin and the same end
@@ -60,9 +58,6 @@ abbrev pub IsUnion : List Range → List Span → List Range → Type 0
 IsUnion ranges spans written = (united : List Range) × AreSpanned ranges spans united × Unites united written
 
 module _ (ranges : List Range) (spans : List Span) (written : List Range) (one : IsUnion ranges spans written) where
-  pub spanned : (united : List Range) × AreSpanned ranges spans united
-  spanned = (one.0, one.1)
-
   count : length one.0 ≡ length spans
   count = spanned_count ranges spans one.0 one.1
 
@@ -84,42 +79,10 @@ module _ (ranges : List Range) (spans : List Span) (written : List Range) (one :
       let counted = along edge version ws written late in
       omega (arith, one.2.few, count, counted, over)
 
-  -- so many ranges as spans unite the ranges
-  pub united : (united : List Range) × Unites united written × (length united ≡ length spans)
-  united = (one.0, one.2, count)
-
-  pub over_united : (limit : ℕ) (edge : ℤ) (ws : List Write) → limit < 1 + 2 * (live_count edge ws + length spans)
-      → IsOverLimitUnited limit edge ws written
-  over_united limit edge ws over = (one.0, one.2, omega (arith, over, count))
-
-  -- room for so many ranges as spans is room for what unites the ranges
-  pub room_for : (m : Steps) → HasRoomFor (length spans) (made_room (length spans) m) → HasRoomToWrite m written
-  room_for m room = (one.0, one.2, subst (λ n. HasRoomFor n (made_room n m)) (sym count) room)
-
-  pub no_room_for : (m : Steps) → ¬ HasRoomFor (length spans) (made_room (length spans) m)
-      → HasNoRoomToWrite m written
-  no_room_for m none = (one.0, one.2, subst (λ n. ¬ HasRoomFor n (made_room n m)) (sym count) none)
-
--- there is room where it isn't that there is none
-pub room_unless : (n : ℕ) (m : Steps) → (¬ HasRoomFor n m → ⊥) → HasRoomFor n m
-room_unless n m some = elim (cases_lt m.limit (length m.boundaries + 2 * n)) [
-  | inl beyond ↦ absurd (some (λ room. omega (arith, room, beyond)))
-  | inr room ↦ room
-]
-
 -- a set stops for its limit where its step map is full
 pub full_of : (e : StepError) → ArenaFull ≡ stop_of e → e ≡ step.Full
 full_of step.Full same = refl
 full_of step.Memory same = cc
-
--- and for memory where its step map is refused memory
-pub memory_of : (e : StepError) → Memory ≡ stop_of e → e ≡ step.Memory
-memory_of step.Full same = cc
-memory_of step.Memory same = refl
-
-pub not_full : {T : Type 0} (r : Result T StepError) {e : StepError} → e ≡ step.Memory → r ≡ Err e
-    → r ≡ Err step.Full → ⊥
-not_full r memory is full = cc
 
 pub of_err : {T E : Type 0} (P : E → Type 0) {r : Result T E} {e : E} → r ≡ Err e → IsErrAnd r P → P e
 of_err {T} {E} P {r} {e} is said = subst (λ (x : Result T E). IsErrAnd x P) is said

@@ -9,19 +9,13 @@ use Rattle.stepmap.specs.Sweeping.{rest}
 use Rattle.stepmap.specs.Uniting.{Unites}
 use Rattle.conflict.specs.Union.{AreSpanned, picked}
 use Rattle.conflict.proofs.Spanned.{spanned_count}
-use Rattle.conflict.proofs.UnionWritten.{
-  IsUnion,
-  apart,
-  all_written,
-  over_limit,
-  full_of,
-  of_err,
-}
+use Rattle.conflict.proofs.UnionWritten.{IsUnion, apart, all_written, over_limit, full_of, of_err}
 use Rattle.conflict.proofs.writing.write_batch.Goals.{After-spans-spans, After-write_prepared}
 use Rattle.conflict.proofs.writing.write_batch.Goals as goal
 
 -- the spans are those of ranges that unite what the batch commits
-union : (c : After-spans-spans) → IsUnion c.ranges-ranges.result c.spans-spans.result.now (committed c.args.batch.now.txns c.args.entries.now)
+union : (c : After-spans-spans) → IsUnion c.ranges-ranges.result c.spans-spans.result.now
+    (committed c.args.batch.now.txns c.args.entries.now)
 union c =
     let txns = c.args.batch.now.txns in
     let united = c.in_ok-gather.ensures.united in
@@ -40,8 +34,8 @@ returns-in_err-prepare-clause-full c = λ full ws rooted.
     let one = union (goal.at.returns-in_err-prepare-clause-full c).After-spans-spans in
     let is_full = ap Err (full_of c.in_err-prepare.field-0.0
     (of_err _ full c.from_residual-in_err-prepare.ensures.1)) in
-    over_limit c.ranges-ranges.result c.spans-spans.result.now (committed c.args.batch.now.txns c.args.entries.now) one c.counts.ensures.along old.limit old.edge
-    c.args.batch.now.version ws c.requires.late
+    over_limit c.ranges-ranges.result c.spans-spans.result.now (committed c.args.batch.now.txns c.args.entries.now) one
+    c.counts.ensures.along old.limit old.edge c.args.batch.now.version ws c.requires.late
     (omega (
       arith,
       c.in_err-prepare.ensures.bound is_full ws rooted,
