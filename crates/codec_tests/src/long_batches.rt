@@ -21,9 +21,9 @@ fn frame_to_key(alloc: Global, head: &str, length: usize) -> Result<Vec<u8>, Unm
 fn key_lengths(alloc: Global, batch: &Batch) -> Result<String, Unmade> {
     let mut text = String::new(alloc);
     for index in 0..batch.txns.len() {
-        let txn = batch.txns.txn(index);
-        for place in 0..txn.writes.len() {
-            push_lengths(&mut text, &txn.writes.get(place))?;
+        let writes = batch.txns.txn(index).writes;
+        for number in 0..writes.len() {
+            push_lengths(&mut text, &writes.get(number))?;
         }
     }
     Ok(text)
