@@ -8,7 +8,6 @@ use Rattle.conflict.specs.declared.asking.Part.{Part}
 use Rattle.conflict.proofs.Questions.{
   first_own,
   first_later,
-  first_within,
   other_own,
   other_later,
   other_within,
@@ -19,29 +18,6 @@ use Rattle.conflict.proofs.Questions.{
   hits_from_answers,
 }
 use Rattle.conflict.proofs.judging.judge_all_by_history.Goals as goal
-
-pub split_at-requires : goal.split_at-requires
-split_at-requires c =
-    let m = c.args.steps.now in
-    let ts = c.args.batch.now.txns in
-    let t = c.txn-item.result in
-    let i = c.loop-index.index in
-    let txns = c.as_slice-txn-items.ensures.txns in
-    let inside : i < length ts = subst (λ us. i < length us) txns c.loop-index-test.true in
-    let is : t ≡ get_or ts i t = subst (λ us. t ≡ get_or us i t) txns c.txn-item.is in
-    let firsts = c.loop-index.firsts.now in
-    let told = c.loop-index.invariant.1 in
-    let oldest = to_z w64 (of_z w64 c.args.oldest) in
-    let part = c.index-part.result.now in
-    let own : part ≡ (record {
-      first = length (first_asked oldest t);
-      others = length (then_asked oldest t (take (length (first_asked oldest t)) firsts));
-    }) = c.index-part.ensures ∙ part_at oldest ts i t inside is c.loop-index.parts.now.items firsts c.loop-index.invariant.3 part in
-    let count : part.first ≡ length (first_asked oldest t) = ap (λ (p : Part). p.first) own in
-    let other_count : part.others ≡ length (then_asked oldest t (take (length (first_asked oldest t)) firsts)) =
-    ap (λ (p : Part). p.others) own in
-    let few = first_within m oldest ts i t inside is firsts told in
-    omega (arith, few, count)
 
 pub split_at-requires-in-loop-index : goal.split_at-requires-in-loop-index
 split_at-requires-in-loop-index c =
@@ -59,7 +35,7 @@ split_at-requires-in-loop-index c =
     let own : part ≡ (record {
       first = length (first_asked oldest t);
       others = length (then_asked oldest t (take (length (first_asked oldest t)) firsts));
-    }) = c.index-part.ensures ∙ part_at oldest ts i t inside is c.loop-index.parts.now.items firsts c.loop-index.invariant.3 part in
+    }) = c.index-part.ensures ∙ part_at oldest ts i t inside is c.ask.new.self.parts.items firsts c.loop-index.invariant.3 part in
     let count : part.first ≡ length (first_asked oldest t) = ap (λ (p : Part). p.first) own in
     let other_count : part.others ≡ length (then_asked oldest t (take (length (first_asked oldest t)) firsts)) =
     ap (λ (p : Part). p.others) own in
@@ -82,7 +58,7 @@ judge_by_history-requires c =
     let own : part ≡ (record {
       first = length (first_asked oldest t);
       others = length (then_asked oldest t (take (length (first_asked oldest t)) firsts));
-    }) = c.index-part.ensures ∙ part_at oldest ts i t inside is c.loop-index.parts.now.items firsts c.loop-index.invariant.3 part in
+    }) = c.index-part.ensures ∙ part_at oldest ts i t inside is c.ask.new.self.parts.items firsts c.loop-index.invariant.3 part in
     let count : part.first ≡ length (first_asked oldest t) = ap (λ (p : Part). p.first) own in
     let other_count : part.others ≡ length (then_asked oldest t (take (length (first_asked oldest t)) firsts)) =
     ap (λ (p : Part). p.others) own in
@@ -117,7 +93,7 @@ loop-index-preserved c =
     let own : part ≡ (record {
       first = length (first_asked oldest t);
       others = length (then_asked oldest t (take (length (first_asked oldest t)) firsts));
-    }) = c.index-part.ensures ∙ part_at oldest ts i t inside is c.loop-index.parts.now.items firsts c.loop-index.invariant.3 part in
+    }) = c.index-part.ensures ∙ part_at oldest ts i t inside is c.ask.new.self.parts.items firsts c.loop-index.invariant.3 part in
     let count : part.first ≡ length (first_asked oldest t) = ap (λ (p : Part). p.first) own in
     let other_count : part.others ≡ length (then_asked oldest t (take (length (first_asked oldest t)) firsts)) =
     ap (λ (p : Part). p.others) own in
@@ -144,7 +120,7 @@ loop-index-preserved c =
           ∙ ap (λ n. n + 1) c.loop-index.invariant.0,
       rw later_firsts (first_later m oldest ts i t inside is firsts told),
       rw (later_others, later_firsts) (other_later m oldest ts i t inside is firsts told others others_told),
-      rw later_firsts (parts_later oldest ts i t inside is c.loop-index.parts.now.items firsts c.loop-index.invariant.3),
+      rw later_firsts (parts_later oldest ts i t inside is c.ask.new.self.parts.items firsts c.loop-index.invariant.3),
       c.loop-index.invariant.4,
       λ ws covers. c.in_ok-push.ensures.items
           ∙ judged_more ts i t inside is (by_history oldest ws) c.loop-index.entries.items

@@ -34,9 +34,7 @@ pub bounds-as_slice-name : goal.bounds-as_slice-name
 bounds-as_slice-name c =
     let a = c.args.self.now in
     let f = found a.txns.now a.names.now a.named c.args.index c.requires.within in
-    let txn = c.index-self-name.result in
-    let same : txn ≡ f.2.0 = c.index-self-name.is
-    ∙ get_or_from_slice_get a.txns.now (name a.names.now c.args.index).txn f.2.0 txn f.2.1 in
+    let same = get_or_from_slice_get a.txns.now (name a.names.now c.args.index).txn f.2.0 c.index-self-name.result f.2.1 in
     let reads = c.as_slice.ensures.items ∙ ap (λ (t : Txn). t.reads) same in
     subst (λ (ranges : List Range). (name a.names.now c.args.index).read < length ranges) (sym reads)
     (slice_get_within f.2.0.reads (name a.names.now c.args.index).read f.0.0 f.2.2)
@@ -48,8 +46,9 @@ returns c =
     let at = name a.names.now c.args.index in
     let txn = c.index-self-name.result in
     let fits : SFits w64 txn.snapshot = search rules in
-    let same : txn ≡ f.2.0 = c.index-self-name.is ∙ get_or_from_slice_get a.txns.now at.txn f.2.0 txn f.2.1 in
-    let reads = c.as_slice.ensures.items ∙ ap (λ (t : Txn). t.reads) same in
+    let there = get_or_from_slice_get a.txns.now at.txn f.2.0 txn f.2.1 in
+    let same : txn ≡ f.2.0 = c.index-self-name.is ∙ there in
+    let reads = c.as_slice.ensures.items ∙ ap (λ (t : Txn). t.reads) there in
     let range : c.as_ref.result ≡ f.0.0 =
     c.as_ref.ensures.range ∙ c.index-as_slice-name.is
     ∙ get_or_from_slice_get c.as_slice.result.now at.read f.0.0 c.index-as_slice-name.result
