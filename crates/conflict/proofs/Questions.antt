@@ -88,14 +88,24 @@ module _ (oldest : ℤ) (ts : List Txn) (i : ℕ) (t : Txn) (inside : i < length
     pub part_within : i < length parts
     part_within = omega (arith, length-drop i parts, ap length parts_left)
 
-    next_parts : get_or parts i own_part ∷ drop (i + 1) parts ≡ own_part ∷ later_parts
-    next_parts = sym (drop_more parts i own_part part_within) ∙ parts_left
+    next_parts : (part : Part) → get_or parts i part ∷ drop (i + 1) parts ≡ own_part ∷ later_parts
+    next_parts part = sym (drop_more parts i part part_within) ∙ parts_left
 
-    pub part_at : get_or parts i own_part ≡ own_part
-    part_at = ap (λ ps. get_or ps 0 own_part) next_parts
+    pub part_at : (part : Part) → get_or parts i part
+        ≡ record {
+          first = length (first_asked oldest t);
+          others = length (then_asked oldest t (take (length (first_asked oldest t)) hits));
+        }
+    part_at part = ap (λ ps. get_or ps 0 own_part) (next_parts part)
 
     pub parts_later : drop (i + 1) parts ≡ all_parts oldest (drop (i + 1) ts) (drop (length (first_asked oldest t)) hits)
-    parts_later = ap (drop 1) next_parts
+    parts_later = ap (drop 1) (next_parts own_part)
+
+-- there is a part for each transaction
+pub length-all_parts : (oldest : ℤ) (ts : List Txn) (hits : List Bool) → length (all_parts oldest ts hits) ≡ length ts
+length-all_parts oldest [] hits = refl
+length-all_parts oldest (t ∷ ts) hits =
+    ap suc (length-all_parts oldest ts (drop (length (first_asked oldest t)) hits))
 
 -- the answers to the first questions, and those to the others
 zip_split : {X Y : Type 0} (R : X → Y → Type 0) (xs others : List X) (ys : List Y) → AllZip R (xs ++ others) ys

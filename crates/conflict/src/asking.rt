@@ -52,6 +52,7 @@ impl Asking {
         ensures others { OnOk result (AreAnswers steps.now (all_then oldest batch.now.txns self.new.first.items)
             self.new.others.items) }
         ensures parts { OnOk result (self.new.parts.items ≡ all_parts oldest batch.now.txns self.new.first.items) }
+        ensures each { OnOk result (length self.new.parts.items ≡ length batch.now.txns) }
     {
         list_first(&mut self.asked, oldest, batch)?;
         answer(steps, batch, &self.asked, &mut self.first)?;
@@ -62,7 +63,8 @@ impl Asking {
             batch,
             &self.first,
         )?;
-        answer(steps, batch, &self.asked, &mut self.others)
+        answer(steps, batch, &self.asked, &mut self.others)?;
+        Ok(())
     }
 }
 

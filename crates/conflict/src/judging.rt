@@ -55,9 +55,10 @@ fn judge_all_by_history(
     let mut entries = Vec::with_capacity(alloc, batch.txns.len())?;
     let mut firsts = asking.first.as_slice();
     let mut others = asking.others.as_slice();
+    let parts = &asking.parts;
     for index in 0..batch.txns.len() {
         let txn = batch.txns.txn(index);
-        let part = asking.parts[index];
+        let part = parts[index];
         let (first, later_firsts) = firsts.split_at(part.first);
         let (other, later_others) = others.split_at(part.others);
         entries.push(judge_by_history(alloc, first, other, oldest, &txn)?)?;

@@ -10,6 +10,7 @@ invariant-loop-index l =
     (length l.entries.items ≡ l.index)
     × AreAnswers l.steps (all_first l.oldest (drop l.index l.batch.txns)) l.firsts
     × AreAnswers l.steps (all_then l.oldest (drop l.index l.batch.txns) l.firsts) l.others
-    × (drop l.index l.asking.parts.items ≡ all_parts l.oldest (drop l.index l.batch.txns) l.firsts)
+    × (drop l.index l.parts.items ≡ all_parts l.oldest (drop l.index l.batch.txns) l.firsts)
+    × (length l.parts.items ≡ length l.batch.txns)
     × ((ws : List Write) → MapCovers l.steps ws
     → l.entries.items ≡ map (by_history l.oldest ws) (take l.index l.batch.txns))
