@@ -1,10 +1,11 @@
-use Rattle.std.proofs.Common.{◌≡◌, ◌<◌, ◌≤◌, ◌+◌, [], ◌∷◌, ◌∙◌, length, map, get_or, take, drop, ap, subst, w64, to_z, of_z, arith}
+use Rattle.std.proofs.Common.{◌≡◌, ◌<◌, ◌≤◌, ◌+◌, [], ◌∷◌, ◌∙◌, length, map, take, drop, ap, w64, to_z, of_z, arith}
 use Rattle.std.specs.Prelude.{◌≤ℤ◌}
 use Rattle.std.proofs.lemmas.Int.{to_z-of_z}
 use Rattle.std.proofs.lemmas.List.{length-append, take_all}
 use Rattle.conflict.specs.Asking.{asked_at, first_asked, then_asked, all_first, AreAnswers}
 use Rattle.conflict.specs.InBatch.{by_history}
 use Rattle.conflict.specs.declared.asking.Part.{Part}
+use Rattle.conflict.proofs.Parts.{lent_at}
 use Rattle.conflict.proofs.Questions.{
   first_own,
   first_later,
@@ -23,11 +24,10 @@ pub split_at-requires-in-loop-index : goal.split_at-requires-in-loop-index
 split_at-requires-in-loop-index c =
     let m = c.args.steps.now in
     let ts = c.args.batch.now.txns in
-    let t = c.txn-item.result in
+    let t = c.txn-txn.result in
     let i = c.loop-index.index in
-    let txns = c.as_slice-txn-items.ensures.txns in
-    let inside : i < length ts = subst (λ us. i < length us) txns c.loop-index-test.true in
-    let is : t ≡ get_or ts i t = subst (λ us. t ≡ get_or us i t) txns c.txn-item.is in
+    let inside : i < length ts = omega (arith, c.loop-index-test.true, c.len-index-end.ensures.count) in
+    let is = lent_at ts i t inside c.txn-txn.ensures.txn in
     let firsts = c.loop-index.firsts.now in
     let told = c.loop-index.invariant.1 in
     let oldest = to_z w64 (of_z w64 c.args.oldest) in
@@ -46,11 +46,10 @@ pub judge_by_history-requires : goal.judge_by_history-requires
 judge_by_history-requires c =
     let m = c.args.steps.now in
     let ts = c.args.batch.now.txns in
-    let t = c.txn-item.result in
+    let t = c.txn-txn.result in
     let i = c.loop-index.index in
-    let txns = c.as_slice-txn-items.ensures.txns in
-    let inside : i < length ts = subst (λ us. i < length us) txns c.loop-index-test.true in
-    let is : t ≡ get_or ts i t = subst (λ us. t ≡ get_or us i t) txns c.txn-item.is in
+    let inside : i < length ts = omega (arith, c.loop-index-test.true, c.len-index-end.ensures.count) in
+    let is = lent_at ts i t inside c.txn-txn.ensures.txn in
     let firsts = c.loop-index.firsts.now in
     let told = c.loop-index.invariant.1 in
     let oldest = to_z w64 (of_z w64 c.args.oldest) in
@@ -81,11 +80,10 @@ pub loop-index-preserved : goal.loop-index-preserved
 loop-index-preserved c =
     let m = c.args.steps.now in
     let ts = c.args.batch.now.txns in
-    let t = c.txn-item.result in
+    let t = c.txn-txn.result in
     let i = c.loop-index.index in
-    let txns = c.as_slice-txn-items.ensures.txns in
-    let inside : i < length ts = subst (λ us. i < length us) txns c.loop-index-test.true in
-    let is : t ≡ get_or ts i t = subst (λ us. t ≡ get_or us i t) txns c.txn-item.is in
+    let inside : i < length ts = omega (arith, c.loop-index-test.true, c.len-index-end.ensures.count) in
+    let is = lent_at ts i t inside c.txn-txn.ensures.txn in
     let firsts = c.loop-index.firsts.now in
     let told = c.loop-index.invariant.1 in
     let oldest = to_z w64 (of_z w64 c.args.oldest) in
@@ -134,7 +132,7 @@ pub returns-clause-judged : goal.returns-clause-judged
 returns-clause-judged c = λ ws covers.
     let ts = c.args.batch.now.txns in
     let i = c.loop-index.index in
-    let most : length ts ≤ i = subst (λ us. length us ≤ i) c.as_slice-txn-items.ensures.txns c.loop-index-test.false in
+    let most : length ts ≤ i = omega (arith, c.loop-index-test.false, c.len-index-end.ensures.count) in
     c.loop-index.invariant.5 ws covers
     ∙ ap (λ oldest. map (by_history oldest ws) (take i ts)) (to_z-of_z w64 c.args.oldest c.ranges.oldest)
     ∙ ap (map (by_history c.args.oldest ws)) (take_all i ts most)

@@ -24,39 +24,35 @@ found txns names named index within =
     let is : slice_get names index ≡ Some (name names index) = slice_get-get_or names index (record { txn = 0; read = 0 }) inside in
     (q.0, q.1, read_found txns (name names index) q.0 (named_at txns names named index (name names index) q.0 is q.1))
 
-pub bounds-self-name : goal.bounds-self-name
-bounds-self-name c =
+pub txn-txn-requires : goal.txn-txn-requires
+txn-txn-requires c =
     let a = c.args.self.now in
     let f = found a.txns.now a.names.now a.named c.args.index c.requires.within in
-    slice_get_within a.txns.now (name a.names.now c.args.index).txn f.2.0 f.2.1
+    record { within = slice_get_within a.txns.now (name a.names.now c.args.index).txn f.2.0 f.2.1 }
 
-pub bounds-as_slice-name : goal.bounds-as_slice-name
-bounds-as_slice-name c =
+pub get-requires : goal.get-requires
+get-requires c =
     let a = c.args.self.now in
     let f = found a.txns.now a.names.now a.named c.args.index c.requires.within in
-    let same = get_or_from_slice_get a.txns.now (name a.names.now c.args.index).txn f.2.0 c.index-self-name.result f.2.1 in
-    let reads = c.as_slice.ensures.items ∙ ap (λ (t : Txn). t.reads) same in
-    subst (λ (ranges : List Range). (name a.names.now c.args.index).read < length ranges) (sym reads)
-    (slice_get_within f.2.0.reads (name a.names.now c.args.index).read f.0.0 f.2.2)
+    let same : c.txn-txn.result ≡ f.2.0 = let lent = c.txn-txn.ensures.txn in let is = f.2.1 in cc in
+    let reads = ap (λ (t : Txn). t.reads) (c.txn.view_is ∙ same) in
+    record {
+      within = subst (λ (ranges : List Range). (name a.names.now c.args.index).read < length ranges) (sym reads)
+          (slice_get_within f.2.0.reads (name a.names.now c.args.index).read f.0.0 f.2.2);
+    }
 
 pub returns : goal.returns
 returns c =
     let a = c.args.self.now in
     let f = found a.txns.now a.names.now a.named c.args.index c.requires.within in
     let at = name a.names.now c.args.index in
-    let txn = c.index-self-name.result in
-    let fits : SFits w64 txn.snapshot = search rules in
-    let there = get_or_from_slice_get a.txns.now at.txn f.2.0 txn f.2.1 in
-    let same : txn ≡ f.2.0 = c.index-self-name.is ∙ there in
-    let reads = c.as_slice.ensures.items ∙ ap (λ (t : Txn). t.reads) there in
-    let range : c.as_ref.result ≡ f.0.0 =
-    c.as_ref.ensures.range ∙ c.index-as_slice-name.is
-    ∙ get_or_from_slice_get c.as_slice.result.now at.read f.0.0 c.index-as_slice-name.result
-    (subst (λ (ranges : List Range). slice_get ranges at.read ≡ Some f.0.0) (sym reads) f.2.2) in
-    let snapshot : to_z w64 (of_z w64 (slice_index_or a.txns.now at.txn txn).snapshot) ≡ f.0.1 =
-    ap (λ (t : Txn). to_z w64 (of_z w64 t.snapshot)) (sym c.index-self-name.is) ∙ to_z-of_z w64 txn.snapshot fits
-    ∙ ap (λ (t : Txn). t.snapshot) same ∙ f.2.3 in
+    let same : c.txn-txn.result ≡ f.2.0 = let lent = c.txn-txn.ensures.txn in let is = f.2.1 in cc in
+    let shown = c.txn.view_is ∙ same in
+    let range : c.get.result ≡ f.0.0 =
+    let lent = c.get.ensures.range in
+    let is = subst (λ (ranges : List Range). slice_get ranges at.read ≡ Some f.0.0) (sym (ap (λ (t : Txn). t.reads) shown)) f.2.2 in cc in
+    let snapshot : c.txn.inside.snapshot ≡ f.0.1 = ap (λ (t : Txn). t.snapshot) shown ∙ f.2.3 in
     record {
       query = f.1 ∙ ap (λ (r : Range). Some (r, f.0.1)) (sym range)
-          ∙ ap (λ (s : ℤ). Some (c.as_ref.result, s)) (sym snapshot);
+          ∙ ap (λ (s : ℤ). Some (c.get.result, s)) (sym snapshot);
     }
