@@ -3,6 +3,7 @@ use Rattle.std.specs.List.{list_any}
 use Rattle.std.proofs.lemmas.Int.{to_z-of_z}
 use Rattle.keyspace.specs.Judge.{is_hit, is_too_old}
 use Rattle.keyspace.specs.Places.{ArePlaces}
+use Rattle.keyspace.specs.declared.txn.Txn.{Txn}
 use Rattle.keyspace.specs.declared.txn.TheConstants.{MAX_RANGES}
 use Rattle.conflict.specs.Asking.{true_places}
 use Rattle.conflict.proofs.Hits.{
@@ -63,7 +64,8 @@ returns-then-not-txn c =
     record {
       judged = λ ws hits.
           unmarked_entry c.args.oldest ws t c.new-then-not-txn.result made.verdict places young
-          (some_hit ws t (first ++ others) (hits young).0.0 (hits young).0.1 some) c.if-not-txn.true;
+          (some_hit ws t (first ++ others) (hits young).0.0 (hits young).0.1 some)
+          (ap (λ (u : Txn). u.marked) (sym c.txn.view_is) ∙ c.if-not-txn.true);
     }
 
 -- the places that are reported
@@ -106,7 +108,9 @@ returns c =
       judged = λ ws hits.
           marked_entry c.args.oldest ws t c.new-3.result made.verdict
           (made.places ∙ c.new-2.ensures.places ∙ reported (goal.at.returns c).In_ok-push_places-2
-          ∙ ap (true_places 0) (marked_whole ws t (first ++ others) (hits young).1 c.if-not-txn.false)
+          ∙ ap (true_places 0) (marked_whole ws t (first ++ others) (hits young).1
+          (ap (λ (u : Txn). u.marked) (sym c.txn.view_is) ∙ c.if-not-txn.false))
           ∙ places_of_hits 0 (is_hit ws t) t.reads) young
-          (some_hit ws t (first ++ others) (hits young).0.0 (hits young).0.1 some) c.if-not-txn.false;
+          (some_hit ws t (first ++ others) (hits young).0.0 (hits young).0.1 some)
+          (ap (λ (u : Txn). u.marked) (sym c.txn.view_is) ∙ c.if-not-txn.false);
     }
