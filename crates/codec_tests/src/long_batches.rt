@@ -3,7 +3,7 @@
 use crate::rows::expect;
 use crate::texts::{bytes_of, encoded, is_again, refused};
 use fixtures::{Unmade, batch_of, range, txn};
-use keyspace::{Batch, Range};
+use keyspace::{Batch, RangeRef};
 use std::alloc::{AllocError, Global};
 use std::test::Fail;
 use wire::{WireError, WireVersion, decode_batch};
@@ -20,17 +20,18 @@ fn frame_to_key(alloc: Global, head: &str, length: usize) -> Result<Vec<u8>, Unm
 // The lengths of the keys of the batch's writes.
 fn key_lengths(alloc: Global, batch: &Batch) -> Result<String, Unmade> {
     let mut text = String::new(alloc);
-    for txn in batch.txns.as_slice() {
-        for range in txn.writes.as_slice() {
-            push_lengths(&mut text, range)?;
+    for index in 0..batch.txns.len() {
+        let writes = batch.txns.txn(index).writes;
+        for number in 0..writes.len() {
+            push_lengths(&mut text, &writes.get(number))?;
         }
     }
     Ok(text)
 }
 
-fn push_lengths(text: &mut String, range: &Range) -> Result<(), Unmade> {
-    let begin = range.begin.as_bytes().len();
-    let end = range.end.as_bytes().len();
+fn push_lengths(text: &mut String, range: &RangeRef<'_>) -> Result<(), Unmade> {
+    let begin = range.begin().len();
+    let end = range.end().len();
     write!(text, " {begin} to {end}")?;
     Ok(())
 }
