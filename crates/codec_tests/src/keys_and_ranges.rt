@@ -1,10 +1,9 @@
-//! Tests of keys, of ranges, and of how transactions share them.
+//! Tests of keys and of ranges.
 
 use crate::rows::expect;
-use fixtures::{Unmade, batch_of, key, range, ranges, show_batch};
-use keyspace::{Range, Ranges, Sequence, Txn, common, digest};
-use std::alloc::{AllocError, Global};
-use std::sync::Arc;
+use fixtures::{Unmade, key, range};
+use keyspace::{Range, common, digest};
+use std::alloc::Global;
 use std::test::Fail;
 
 // A copy of a key, in hexadecimal.
@@ -57,36 +56,17 @@ fn copies_a_range(rt: HostRuntime) -> Result<(), Fail> {
     expect(&rt, copied_range(rt.alloc()), "[61,62)")
 }
 
-// A transaction whose read range and two write ranges lie in one vector.
-fn txn_that_shares(alloc: Global) -> Result<Txn, Unmade> {
-    let all = ranges(alloc, &[(b"a", b"b"), (b"c", b"d"), (b"e", b"f")])?;
-    if all.len() < 3 {
-        return Err(Unmade::Beyond("number of ranges"));
-    }
-    let all = Arc::new(alloc, Sequence::new(all)).map_err(AllocError::from)?;
-    let reads = Ranges::part(Arc::try_clone(&all)?, 0, 1);
-    let writes = Ranges::part(all, 1, 3);
-    Ok(Txn::with_ranges(7, true, reads, writes))
-}
-
-// A batch of the transaction alone, as text.
-fn shown_alone(alloc: Global, txn: Txn) -> Result<String, Unmade> {
-    let txns = vec![in alloc; txn].map_err(AllocError::from)?;
-    let batch = batch_of(alloc, 0, 100, -1, txns)?;
-    show_batch(alloc, &batch)
-}
-
-// How many ranges the transaction reads and writes.
-fn counts(txn: &Txn) -> (usize, usize, bool) {
-    (txn.reads.len(), txn.writes.len(), txn.reads.is_empty())
+// Whether a copy of a range that is lent is equal to it.
+fn to_range_is_equal(alloc: Global) -> Result<bool, Unmade> {
+    let range = range(alloc, b"a", b"b")?;
+    let copy = range.as_ref().to_range(alloc)?;
+    Ok(copy.begin == range.begin && copy.end == range.end)
 }
 
 #[test]
-fn shares_ranges(rt: HostRuntime) -> Result<(), Fail> {
-    let txn = txn_that_shares(rt.alloc())?;
-    assert_eq!(rt; counts(&txn), (1, 2, false));
-    let shown = "0>100 received -1; m R[61,62) W[63,64) W[65,66) @7";
-    expect(&rt, shown_alone(rt.alloc(), txn), shown)
+fn copies_a_lent_range(rt: HostRuntime) -> Result<(), Fail> {
+    assert!(rt; to_range_is_equal(rt.alloc())?);
+    Ok(())
 }
 
 #[test]
