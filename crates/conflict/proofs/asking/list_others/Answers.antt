@@ -8,6 +8,19 @@ use Rattle.conflict.proofs.Named.{named_more, range_rest}
 use Rattle.conflict.proofs.Questions.{first_count, then_more, parts_more}
 use Rattle.conflict.proofs.asking.list_others.Goals as goal
 
+pub split_at-requires : goal.split_at-requires
+split_at-requires c =
+    let ts = c.args.batch.now.txns in
+    let t = c.txn-txn.result in
+    let i = c.loop-index.index in
+    let oldest = to_z w64 (of_z w64 c.args.oldest) in
+    let inside : i < length ts = omega (arith, c.loop-index-test.true, c.len-index-end.ensures.count) in
+    let is = lent_at ts i t inside c.txn-txn.ensures.txn in
+    let first = c.first_count-first.result in
+    let count : first ≡ length (first_asked oldest t) =
+    sym (length-take-le first t.reads c.first_count-first.ensures.within) ∙ ap length c.first_count-first.ensures.reads in
+    omega (arith, c.loop-index.invariant.0, count, first_count oldest ts i t inside is)
+
 pub loop-index-preserved : goal.loop-index-preserved
 loop-index-preserved c =
     let ts = c.args.batch.now.txns in

@@ -7,6 +7,8 @@ use Rattle.conflict.specs.InBatch.{by_history}
 use Rattle.conflict.specs.declared.asking.Part.{Part}
 use Rattle.conflict.proofs.Parts.{lent_at}
 use Rattle.conflict.proofs.Questions.{
+  answer_count,
+  first_count,
   first_own,
   first_later,
   other_own,
@@ -19,6 +21,29 @@ use Rattle.conflict.proofs.Questions.{
   hits_from_answers,
 }
 use Rattle.conflict.proofs.judging.judge_all_by_history.Goals as goal
+
+pub split_at-requires : goal.split_at-requires
+split_at-requires c =
+    let m = c.args.steps.now in
+    let ts = c.args.batch.now.txns in
+    let t = c.txn-txn.result in
+    let i = c.loop-index.index in
+    let inside : i < length ts = omega (arith, c.loop-index-test.true, c.len-index-end.ensures.count) in
+    let is = lent_at ts i t inside c.txn-txn.ensures.txn in
+    let firsts = c.loop-index.firsts.now in
+    let oldest = to_z w64 (of_z w64 c.args.oldest) in
+    let part = c.index-part.result.now in
+    let own : part ≡ (record {
+      first = length (first_asked oldest t);
+      others = length (then_asked oldest t (take (length (first_asked oldest t)) firsts));
+    }) = c.index-part.ensures ∙ part_at oldest ts i t inside is c.ask.new.self.parts.items firsts c.loop-index.invariant.3 part in
+    let count : part.first ≡ length (first_asked oldest t) = ap (λ (p : Part). p.first) own in
+    omega (
+      arith,
+      count,
+      first_count oldest ts i t inside is,
+      answer_count m (all_first oldest (drop i ts)) firsts c.loop-index.invariant.1,
+    )
 
 pub split_at-requires-in-loop-index : goal.split_at-requires-in-loop-index
 split_at-requires-in-loop-index c =

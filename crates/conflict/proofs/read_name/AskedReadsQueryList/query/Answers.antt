@@ -51,7 +51,9 @@ returns c =
     let range : c.get.result ≡ f.0.0 =
     let lent = c.get.ensures.range in
     let is = subst (λ (ranges : List Range). slice_get ranges at.read ≡ Some f.0.0) (sym (ap (λ (t : Txn). t.reads) shown)) f.2.2 in cc in
-    let snapshot : c.txn.inside.snapshot ≡ f.0.1 = ap (λ (t : Txn). t.snapshot) shown ∙ f.2.3 in
+    let fits : SFits w64 c.txn.inside.snapshot = search rules in
+    let snapshot : to_z w64 (of_z w64 c.txn.inside.snapshot) ≡ f.0.1 =
+    to_z-of_z w64 c.txn.inside.snapshot fits ∙ ap (λ (t : Txn). t.snapshot) shown ∙ f.2.3 in
     record {
       query = f.1 ∙ ap (λ (r : Range). Some (r, f.0.1)) (sym range)
           ∙ ap (λ (s : ℤ). Some (c.get.result, s)) (sym snapshot);
