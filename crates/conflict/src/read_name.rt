@@ -1,6 +1,6 @@
 //! The read ranges of the transactions of a batch, by indices, and the queries that they are.
 
-ghost use Rattle.std.specs.Prelude.{◌≡◌, ◌≤◌, ◌++◌, List, length, map, slice_get, slice_range, Some, OnOk};
+ghost use Rattle.std.specs.Prelude.{◌≡◌, ◌<◌, ◌≤◌, ◌++◌, List, length, map, slice_get, slice_range, Some, OnOk};
 ghost use Rattle.keyspace.specs.declared.txn.Txn.{Txn};
 ghost use Rattle.conflict.specs.Asking.{asked_at, query_named, queries_named, AreNamed};
 
@@ -70,9 +70,18 @@ impl QueryList for AskedReads<'_> {
     fn query(&self, index: usize) -> RangeQuery<'_> {
         let name = self.names[index];
         let txn = self.txns.txn(name.txn as usize);
-        RangeQuery {
-            range: txn.reads.get(name.read as usize),
-            version: txn.snapshot,
-        }
+        query_of(&txn, name.read as usize)
+    }
+}
+
+// Returns the query for the read range at the index, at the snapshot of the transaction.
+fn query_of<'a>(txn: &TxnRef<'a>, read: usize) -> RangeQuery<'a>
+    requires within { read < length txn.now.reads }
+    ensures range { slice_get txn.now.reads read ≡ Some result.range }
+    ensures version { result.version ≡ txn.now.snapshot }
+{
+    RangeQuery {
+        range: txn.reads.get(read),
+        version: txn.snapshot,
     }
 }

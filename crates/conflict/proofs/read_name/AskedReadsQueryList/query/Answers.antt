@@ -1,10 +1,8 @@
-use Rattle.std.proofs.Common.{rules, ◌≡◌, ◌<◌, ℕ, ℤ, List, ap, sym, subst, ◌∙◌, length, w64, to_z, of_z, slice_get, slice_index_or, Some, arith}
-use mir.Val.{SFits}
-use Rattle.std.proofs.lemmas.Int.{to_z-of_z}
-use Rattle.std.proofs.lemmas.Option.{slice_get-get_or, slice_get_within, get_or_from_slice_get}
+use Rattle.std.proofs.Common.{◌≡◌, ◌<◌, ℕ, ℤ, List, ap, sym, subst, ◌∙◌, length, slice_get, slice_index_or, Some, arith}
+use Rattle.std.proofs.lemmas.Option.{slice_get-get_or, slice_get_within}
 use Rattle.keys.specs.declared.range.Range.{Range}
 use Rattle.keyspace.specs.declared.txn.Txn.{Txn}
-use Rattle.conflict.specs.Asking.{query_named, queries_named, AreNamed}
+use Rattle.conflict.specs.Asking.{queries_named, AreNamed}
 use Rattle.conflict.specs.declared.read_name.ReadName.{ReadName}
 use Rattle.conflict.proofs.Named.{some_at, name_count, named_at, read_found}
 use Rattle.conflict.proofs.read_name.AskedReadsQueryList.query.Goals as goal
@@ -30,14 +28,13 @@ txn-txn-requires c =
     let f = found a.txns.now a.names.now a.named c.args.index c.requires.within in
     record { within = slice_get_within a.txns.now (name a.names.now c.args.index).txn f.2.0 f.2.1 }
 
-pub get-requires : goal.get-requires
-get-requires c =
+pub query_of-requires : goal.query_of-requires
+query_of-requires c =
     let a = c.args.self.now in
     let f = found a.txns.now a.names.now a.named c.args.index c.requires.within in
     let same : c.txn-txn.result ≡ f.2.0 = let lent = c.txn-txn.ensures.txn in let is = f.2.1 in cc in
-    let reads = ap (λ (t : Txn). t.reads) (c.txn.view_is ∙ same) in
     record {
-      within = subst (λ (ranges : List Range). (name a.names.now c.args.index).read < length ranges) (sym reads)
+      within = subst (λ (t : Txn). (name a.names.now c.args.index).read < length t.reads) (sym same)
           (slice_get_within f.2.0.reads (name a.names.now c.args.index).read f.0.0 f.2.2);
     }
 
@@ -47,14 +44,12 @@ returns c =
     let f = found a.txns.now a.names.now a.named c.args.index c.requires.within in
     let at = name a.names.now c.args.index in
     let same : c.txn-txn.result ≡ f.2.0 = let lent = c.txn-txn.ensures.txn in let is = f.2.1 in cc in
-    let shown = c.txn.view_is ∙ same in
-    let range : c.get.result ≡ f.0.0 =
-    let lent = c.get.ensures.range in
-    let is = subst (λ (ranges : List Range). slice_get ranges at.read ≡ Some f.0.0) (sym (ap (λ (t : Txn). t.reads) shown)) f.2.2 in cc in
-    let fits : SFits w64 c.txn.inside.snapshot = search rules in
-    let snapshot : to_z w64 (of_z w64 c.txn.inside.snapshot) ≡ f.0.1 =
-    to_z-of_z w64 c.txn.inside.snapshot fits ∙ ap (λ (t : Txn). t.snapshot) shown ∙ f.2.3 in
+    let range : c.query_of.result.range ≡ f.0.0 =
+    let lent = c.query_of.ensures.range in
+    let is = subst (λ (t : Txn). slice_get t.reads at.read ≡ Some f.0.0) (sym same) f.2.2 in cc in
+    let snapshot : c.query_of.result.version ≡ f.0.1 =
+    c.query_of.ensures.version ∙ ap (λ (t : Txn). t.snapshot) same ∙ f.2.3 in
     record {
       query = f.1 ∙ ap (λ (r : Range). Some (r, f.0.1)) (sym range)
-          ∙ ap (λ (s : ℤ). Some (c.get.result, s)) (sym snapshot);
+          ∙ ap (λ (s : ℤ). Some (c.query_of.result.range, s)) (sym snapshot);
     }
