@@ -1,6 +1,6 @@
 -- What is asked for a batch, transaction by transaction, and what the answers say of each.
-use Rattle.std.proofs.Common.{◌≡◌, ◌↔◌, ℕ, zero, suc, ◌+◌, ◌*◌, ◌<◌, ◌≤◌, Bool, true, false, true≢false, cond, ◌||◌, List, [], ◌∷◌, ◌++◌, length, map, get_or, take, drop, refl, sym, ap, subst, ◌∙◌, arith, append-nil, append_assoc, length-drop}
-use Rattle.std.specs.Prelude.{ℤ, ◌≤ℤ◌, IsTrue, flat_map}
+use Rattle.std.proofs.Common.{◌≡◌, ℕ, suc, ◌+◌, ◌<◌, ◌≤◌, Bool, true, false, true≢false, cond, ◌||◌, List, [], ◌∷◌, ◌++◌, length, map, get_or, take, drop, refl, sym, ap, subst, ◌∙◌, arith, append-nil, append_assoc, length-drop}
+use Rattle.std.specs.Prelude.{ℤ, ◌≤ℤ◌, flat_map}
 use Rattle.std.specs.List.{AllZip}
 use Rattle.std.proofs.lemmas.Grind.{flat_map-append}
 use Rattle.std.proofs.lemmas.List.{length-map, length-append, length-take, map-append, take_more, drop_more}
@@ -10,7 +10,7 @@ use Rattle.keyspace.specs.declared.reply.Entry.{Entry}
 use Rattle.keyspace.specs.Writes.{Write}
 use Rattle.keyspace.specs.Judge.{is_hit, is_too_old}
 use Rattle.stepmap.specs.StepMap.{Steps}
-use Rattle.stepmap.specs.Covers.{MapCovers, IsAbove}
+use Rattle.stepmap.specs.Covers.{MapCovers}
 use Rattle.stepmap.specs.Laws.{TellsHits}
 use Rattle.conflict.specs.declared.asking.Part.{Part}
 use Rattle.conflict.specs.Asking.{asked_at, is_settled, first_asked, then_asked, all_first, all_then, all_parts, AreAnswers, AreHits}

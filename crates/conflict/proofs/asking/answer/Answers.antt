@@ -1,7 +1,7 @@
 use Rattle.std.proofs.Common.{◌≡◌, ℤ, List, ap, subst, ◌∙◌}
 use Rattle.keys.specs.declared.range.Range.{Range}
 use Rattle.keyspace.specs.declared.txn.Txn.{Txn}
-use Rattle.conflict.specs.Asking.{queries_named, AreNamed, AreAnswers}
+use Rattle.conflict.specs.Asking.{queries_named, AreAnswers}
 use Rattle.conflict.proofs.Named.{queries_of}
 use Rattle.conflict.proofs.asking.answer.Goals as goal
 

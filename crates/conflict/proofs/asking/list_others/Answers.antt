@@ -1,4 +1,4 @@
-use Rattle.std.proofs.Common.{◌≡◌, ◌<◌, ◌≤◌, ◌+◌, ◌-◌, ◌++◌, length, map, get_or, take, drop, refl, ap, sym, subst, ◌∙◌, w64, to_z, of_z, arith, append-nil, length-drop, slice_get, slice_range, Some}
+use Rattle.std.proofs.Common.{◌≡◌, ◌<◌, ◌≤◌, ◌+◌, ◌-◌, ◌++◌, length, map, get_or, take, drop, refl, ap, sym, subst, ◌∙◌, w64, to_z, of_z, arith, append-nil, length-drop, slice_range, Some}
 use Rattle.std.proofs.lemmas.Int.{to_z-of_z}
 use Rattle.std.proofs.lemmas.List.{drop_all, length-take-le}
 use Rattle.std.proofs.lemmas.Option.{slice_get_read}

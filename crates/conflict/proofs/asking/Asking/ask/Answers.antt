@@ -1,4 +1,4 @@
-use Rattle.std.proofs.Common.{◌≡◌, List, Bool, ap, sym, subst, ◌∙◌, length, w64, to_z, of_z, map, Some}
+use Rattle.std.proofs.Common.{◌≡◌, List, Bool, ap, sym, subst, ◌∙◌, length, w64, to_z, of_z, map}
 use Rattle.std.specs.Prelude.{ℤ}
 use Rattle.std.proofs.lemmas.Int.{to_z-of_z}
 use Rattle.conflict.specs.Asking.{all_first, all_then, all_parts, query_named, AreNamed, AreAnswers}

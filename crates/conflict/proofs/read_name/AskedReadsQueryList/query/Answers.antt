@@ -4,7 +4,7 @@ use Rattle.std.proofs.lemmas.Int.{to_z-of_z}
 use Rattle.std.proofs.lemmas.Option.{slice_get-get_or, slice_get_within, get_or_from_slice_get}
 use Rattle.keys.specs.declared.range.Range.{Range}
 use Rattle.keyspace.specs.declared.txn.Txn.{Txn}
-use Rattle.conflict.specs.Asking.{query_named, queries_named, AreNamed}
+use Rattle.conflict.specs.Asking.{queries_named, AreNamed}
 use Rattle.conflict.specs.declared.read_name.ReadName.{ReadName}
 use Rattle.conflict.proofs.Named.{some_at, name_count, named_at, read_found}
 use Rattle.conflict.proofs.read_name.AskedReadsQueryList.query.Goals as goal
