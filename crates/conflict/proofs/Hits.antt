@@ -197,9 +197,10 @@ first_places hits (suc n) inside =
         let next : true_places 0 (take (suc n) hits) ≡ true_places 0 (take n hits) ++ n ∷ [] =
         places_next 0 hits n true (omega (arith, inside)) is
         ∙ ap (λ m. true_places 0 (take n hits) ++ m ∷ []) (omega arith) in
-        subst Both (sym next)
-        (rising_push (true_places 0 (take n hits)) n before.0 before.1,
-        All-push (λ place. place < suc n) (true_places 0 (take n hits)) n later (omega arith))
+        subst Both (sym next) (
+          rising_push (true_places 0 (take n hits)) n before.0 before.1,
+          All-push (λ place. place < suc n) (true_places 0 (take n hits)) n later (omega arith),
+        )
     step false is before later =
         subst Both (sym (places_next 0 hits n false (omega (arith, inside)) is ∙ append-nil (true_places 0 (take n hits))))
         (before.0, later)

@@ -56,13 +56,7 @@ impl Asking {
     {
         list_first(&mut self.asked, oldest, batch)?;
         answer(steps, batch, &self.asked, &mut self.first)?;
-        list_others(
-            &mut self.asked,
-            &mut self.parts,
-            oldest,
-            batch,
-            &self.first,
-        )?;
+        list_others(&mut self.asked, &mut self.parts, oldest, batch, &self.first)?;
         answer(steps, batch, &self.asked, &mut self.others)?;
         Ok(())
     }
