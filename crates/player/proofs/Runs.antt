@@ -33,23 +33,23 @@ pub all_at : {X : Type 0} (P : X → Type 0) (xs : List X) (place : ℕ) (x : X)
 all_at P xs place x all at =
     subst P (get_or_from_slice_get xs place x x at) (all place x (slice_get_within xs place x at))
 
-module _ {S : Type 0} (remaining : S → Option (List ℕ)) (options : Options) (readers : List S) (clients : List Client)
+module _ {S : Type 0} (remaining : S → Option (List ℕ)) (options : Options) (share : ℕ) (readers : List S) (clients : List Client)
     (finished : List Finished) (outcome : Outcome) (log : List Step) (ended : List Bool) (account : Account)
     (same : length readers ≡ length clients) (new : All (IsNewClient options.capacity) clients)
-    (worked : AllZip (HasWorkedOn remaining) (given_each options.frames 0 clients readers) finished)
+    (worked : AllZip (HasWorkedOn remaining) (given_each options.frames share 0 clients readers) finished)
     (of_finished : IsOutcomeOf finished outcome)
     (settled : Settled options.window log ended (map (λ (f : Finished). f.client) finished) account)
     (whole : account.stop ≡ None → account.complete ≡ true)
     (met : IfSome account.stop (IsStopOf options.limit options.window log)) where
   count : length finished ≡ length (map remaining readers)
-  count = finished_count remaining options.frames 0 clients readers finished same worked ∙ sym same
+  count = finished_count remaining options.frames share 0 clients readers finished same worked ∙ sym same
       ∙ sym (length-map readers remaining)
 
   served_at : (proxy : ℕ) (bytes : Option (List ℕ)) (f : Finished) → slice_get (map remaining readers) proxy ≡ Some bytes
       → slice_get finished proxy ≡ Some f
       → IsServed options.window options.frames log (is_complete outcome account) account.stop bytes proxy f.lines.items (failure_of f)
   served_at proxy bytes f at there =
-      let given = worked_at remaining options.frames 0 clients readers finished same worked proxy bytes f at there in
+      let given = worked_at remaining options.frames share 0 clients readers finished same worked proxy bytes f at there in
       let client = all_at (IsNewClient options.capacity) clients proxy given.0 new given.1 in
       let has_worked : HasWorked options.frames proxy bytes given.0 f =
       subst (λ (p : ℕ). HasWorked options.frames p bytes given.0 f) (omega arith) given.2 in
@@ -66,7 +66,7 @@ module _ {S : Type 0} (remaining : S → Option (List ℕ)) (options : Options) 
       let not_sent : outcome.all_sent ≡ false = sym (ap (λ (b : Bool). b && outcome.all_sent) yes) ∙ not_all in
       let back = of_finished.unsent not_sent in
       let bytes = found finished (map remaining readers) back.place back.worker (sym count) back.at in
-      let given = worked_at remaining options.frames 0 clients readers finished same worked back.place bytes.0 back.worker
+      let given = worked_at remaining options.frames share 0 clients readers finished same worked back.place bytes.0 back.worker
       bytes.1 back.at in
       let client = all_at (IsNewClient options.capacity) clients back.place given.0 new given.1 in
       let has_worked : HasWorked options.frames back.place bytes.0 given.0 back.worker =

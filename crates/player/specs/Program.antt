@@ -2,7 +2,6 @@
 use Rattle.std.specs.Prelude.{◌≡◌, ◌⊎◌, ℕ, ◌≤◌, List, codes, length, Option, Some}
 use Rattle.clap.specs.Words.{all_of}
 use Rattle.resolver.specs.declared.sequential.TheConstants.{MAX_PROXIES}
-use Rattle.player.specs.declared.opening.OpeningError.{OpeningError}
 use Rattle.player.specs.declared.opening.OpeningError.TheVariants as opening
 use Rattle.player.specs.declared.options.Options.{Options}
 use Rattle.player.specs.declared.start.StartError.TheVariants as start
@@ -38,11 +37,13 @@ pub record AsksToReplay (words : List (List ℕ)) (options : Options) (names : L
   pub least : 1 ≤ length names
   pub most : length names ≤ MAX_PROXIES
 
--- the words could not be read: nothing was printed, and the cause was told
-pub record HasReadNoWords (out error : Written) : Type 0 where
-  pub cause : OpeningError
-  pub nothing_printed : out.after ≡ out.before
-  pub told : Told error (opening_line cause)
+-- what is told of words that aren't text
+abbrev pub not_text : List ℕ
+not_text = codes "error: invalid UTF-8 was detected in one or more arguments\n\nUsage: replay [OPTIONS] <FILE>...\n\nFor more information, try '--help'.\n"
+
+-- the words could not be read as text: nothing was printed, and that was told
+abbrev pub HasReadNoText : Written → Written → Type 0
+HasReadNoText out error = (out.after ≡ out.before) × Told error not_text
 
 -- help or the version was asked for, and shown
 abbrev pub HasShown : List (List ℕ) → Written → Type 0

@@ -14,23 +14,25 @@ use Rattle.player.specs.Worker.{HasWorked}
 -- what a worker is given
 pub record Given (S : Type 0) : Type 0 where
   pub frames : Bool
+  pub share : ℕ
   pub proxy : ℕ
   pub client : Client
   pub reader : S
 
 module _ {S : Type 0} where
   -- from this proxy on, each worker is given the client and the reader at its place
-  abbrev pub given_each : Bool → ℕ → List Client → List S → List (Given S)
-  given_each frames proxy (client ∷ clients) (reader ∷ readers) =
-      record { frames = frames; proxy = proxy; client = client; reader = reader }
-      ∷ given_each frames (proxy + 1) clients readers
-  given_each frames proxy (client ∷ clients) [] = []
-  given_each frames proxy [] readers = []
+  abbrev pub given_each : Bool → ℕ → ℕ → List Client → List S → List (Given S)
+  given_each frames share proxy (client ∷ clients) (reader ∷ readers) =
+      record { frames = frames; share = share; proxy = proxy; client = client; reader = reader }
+      ∷ given_each frames share (proxy + 1) clients readers
+  given_each frames share proxy (client ∷ clients) [] = []
+  given_each frames share proxy [] readers = []
 
   -- what the worker of a task is to be given
   abbrev pub given_by : {G : Type 0} → Task S G → Given S
   given_by task = record {
     frames = task.assignment.frames;
+    share = task.assignment.share;
     proxy = task.assignment.proxy;
     client = task.client;
     reader = task.reader;
@@ -40,6 +42,7 @@ module _ {S : Type 0} where
   abbrev pub given_for : Work S → Given S
   given_for work = record {
     frames = work.assignment.frames;
+    share = work.assignment.share;
     proxy = work.assignment.proxy;
     client = work.client.value;
     reader = work.reader.value;

@@ -5,7 +5,7 @@ ghost use Rattle.std.specs.Io.KnownBytes.{Keeps};
 ghost use Rattle.resolver.specs.declared.sequential.TheConstants.{MAX_PROXIES};
 ghost use Rattle.player.specs.Opening.{contents_each};
 ghost use Rattle.player.specs.Program.{FailsOnFiles, IsDone, IsFailed, Told};
-ghost use Rattle.player.specs.Replayed.{IsReplayed, Took, written};
+ghost use Rattle.player.specs.Replayed.{IsReplayed, written};
 ghost use Rattle.player.specs.Words.{IsMistaken};
 
 use crate::files::Files;

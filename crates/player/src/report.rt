@@ -1,6 +1,6 @@
 //! All that is printed once every file was replayed: the answers, and what failed.
 
-ghost use Rattle.std.specs.Prelude.{◌≡◌, ◌≢◌, ◌↔◌, ◌<◌, ◌≤◌, ℕ, Bool, map, take, length, vec_items, IfSome, IsErr, IsOk, OnOk};
+ghost use Rattle.std.specs.Prelude.{◌≡◌, ◌≢◌, ◌↔◌, ◌<◌, ℕ, Bool, map, take, length, vec_items, IfSome, IsErr, IsOk, OnOk};
 ghost use Rattle.std.specs.Io.KnownBytes.{Appends, Keeps};
 ghost use Rattle.player.specs.Failures.{failure_lines, with_loss, NothingFailed};
 ghost use Rattle.player.specs.Line.{AreLines, answers_of};

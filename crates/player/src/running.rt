@@ -1,7 +1,8 @@
 //! A run: the workers read, send and take, while this thread turns the resolver.
 
-ghost use Rattle.std.specs.Prelude.{◌≡◌, ℕ, ◌≤◌, true, map, vec_items, vec_len, Some, slice_get, IfOk};
+ghost use Rattle.std.specs.Prelude.{◌≡◌, ℕ, ◌≤◌, true, length, map, vec_items, vec_len, Some, slice_get, IfOk};
 ghost use Rattle.std.specs.List.{All};
+ghost use Rattle.flow.specs.Next.{AllWait, IsNext};
 ghost use Rattle.resolver.specs.declared.sequential.TheConstants.{MAX_PROXIES};
 ghost use Rattle.resolver.specs.Books.{GoOn};
 ghost use Rattle.resolver.specs.Lanes.{Lanes, Each, LanesGoOn};
@@ -92,12 +93,22 @@ fn turn_to_end<G: Gatekeeper, R: Wait>(
 
 // Lets the batch of the proxy through that is next, after a turn that took nothing. What all proxies have told twice, with such
 // a turn between, is so at once: none of them has gone on meanwhile, and all that they have sent was taken.
-fn let_through<G: Gatekeeper>(resolver: &Resolver, gatekeeper: &G, watch: &mut Watch) {
+fn let_through<G: Gatekeeper>(resolver: &Resolver, gatekeeper: &G, watch: &mut Watch)
+    ensures proxies { length watch.new.told ≡ length watch.old.told }
+{
     if resolver.owed() > 0 {
         return;
     }
     if let Some(proxy) = watch.look(resolver, gatekeeper) {
-        gatekeeper.let_through(proxy);
+        let_next_through(gatekeeper, watch, proxy);
         watch.forget();
     }
+}
+
+// Lets the batch of a proxy through, which by the last look is next where all wait for each other.
+fn let_next_through<G: Gatekeeper>(gatekeeper: &G, watch: &Watch, proxy: usize)
+    requires waits { AllWait watch.now.told watch.now.sent }
+    requires next { IsNext watch.now.told proxy }
+{
+    gatekeeper.let_through(proxy);
 }

@@ -2,6 +2,7 @@
 
 ghost use Rattle.std.specs.Prelude.{◌≡◌, ◌≤◌, List, map, vec_len, vec_capacity, [], IfErr, IfOk};
 ghost use Rattle.std.specs.List.{AllZip};
+ghost use Rattle.resolver.specs.Share.{share_of};
 ghost use Rattle.player.specs.declared.worker.Finished.{Finished as HandedBack};
 ghost use Rattle.player.specs.Worker.{HasWorked};
 ghost use Rattle.player.specs.Threads.{given_each, given_by, given_to, HasWorkedOn, IsOutcomeOf};
@@ -79,7 +80,7 @@ pub fn start_workers<
     requires some { 1 ≤ vec_len readers }
     requires each { vec_len readers ≡ vec_len clients }
     ensures given { IfOk result (λ workers.
-        map given_to workers.items ≡ given_each frames 0 clients.items readers.items) }
+        map given_to workers.items ≡ given_each frames (share_of (vec_len readers)) 0 clients.items readers.items) }
 {
     let share = share(readers.len());
     let tasks = make_tasks(alloc, frames, share, readers, clients, gatekeeper)?;
@@ -100,7 +101,7 @@ fn make_tasks<S: Drop, G: Drop>(
     gatekeeper: &Arc<G, Global>,
 ) -> Result<Vec<Task<S, G>>, AllocError>
     requires each { vec_len readers ≡ vec_len clients }
-    ensures given { IfOk result (λ tasks. map given_by tasks.items ≡ given_each frames 0 clients.items readers.items) }
+    ensures given { IfOk result (λ tasks. map given_by tasks.items ≡ given_each frames share 0 clients.items readers.items) }
 {
     let mut tasks = Vec::with_capacity(alloc, clients.len())?;
     let mut readers = readers.into_iter();

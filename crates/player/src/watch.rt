@@ -29,9 +29,11 @@ impl Model for Watch {
 }
 
 impl Watch {
-    /// Creates a watch over so many proxies. It takes no memory afterwards.
+    /// Creates a watch over so many proxies, of which it knows nothing yet, as after [`forget`](Watch::forget). It takes no memory
+    /// afterwards.
     pub fn new(alloc: Global, proxies: usize) -> Result<Self, AllocError>
         ensures proxies { IfOk result (λ watch. length watch.told ≡ proxies) }
+        ensures forgotten { IfOk result (λ watch. All (λ told. told ≡ Told.Goes) watch.told) }
     {
         Ok(Watch {
             told: vec![in alloc; Told::Goes; proxies]?,

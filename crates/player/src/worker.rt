@@ -1,8 +1,8 @@
 //! A worker reads the file of one proxy, sends its batches and takes its answers, in a thread of its own.
 
-ghost use Rattle.std.specs.Prelude.{◌≡◌, ◌<◌, ◌≤◌, ◌↔◌, ◌⊎◌, [], ◌∷◌, ◌++◌, true, false, length, None, Some, IsSome, IsTrue, Err, OnOk, OnErr, IfErr};
+ghost use Rattle.std.specs.Prelude.{◌≡◌, ◌<◌, ◌≤◌, ◌↔◌, ◌⊎◌, [], ◌∷◌, ◌++◌, true, length, None, Some, IsSome, IsTrue, Err, OnOk, OnErr, IfErr};
 ghost use Rattle.lane.specs.declared.port.TheConstants.{MAX_SENT};
-ghost use Rattle.lane.specs.Lane.{PortGoesOn, HasEnded};
+ghost use Rattle.lane.specs.Lane.{PortGoesOn};
 ghost use Rattle.lane.specs.Refused.{item_of};
 ghost use Rattle.wire.specs.Frames.{frames_reader, refusal_of};
 ghost use Rattle.player.specs.Inbox.{Keeps, InboxGoesOn};

@@ -3,14 +3,16 @@
 //! The library `player` does all of it, over any words, files and streams. Here it is given those of the process.
 #![tactic(auto)]
 
-ghost use Rattle.std.specs.Prelude.{◌≡◌};
-ghost use Rattle.std.specs.Io.KnownBytes.{Keeps};
+ghost use Rattle.std.specs.Prelude.{◌≡◌, ◌<◌, ◌⊎◌, IsErr};
+ghost use Rattle.std.specs.Io.KnownBytes.{Appends, Keeps};
+ghost use Rattle.player.specs.Start.{start_line};
 
 mod disk;
 
 use disk::Disk;
 use player::{StartError, Status, fail_to_start, run_in};
 use std::fs::{File, Files};
+use std::io;
 use std::io::{BufWriter, Write};
 use std::rt::Env;
 use std::sync::Wait;
@@ -18,18 +20,21 @@ use std::thread::Threads;
 use wire::{Sink, StdSink};
 
 fn main(rt: HostRuntime) -> Status {
-    start(&rt, rt.stdout(), &mut StdSink::new(rt.stderr()))
+    let out = BufWriter::new(rt.alloc(), rt.stdout());
+    start(&rt, out, &mut StdSink::new(rt.stderr()))
 }
 
-// Runs the program on the words and the files of the process.
+// Runs the program on the words and the files of the process. Where there is no buffer for standard output, it can't start.
 fn start<
     R: Files<File = File> + Env + AllocGlobal + Threads + Wait + Copy + Send + 'static,
     O: Write + Drop,
     E: Sink,
->(rt: &R, out: O, error: &mut E) -> Status
+>(rt: &R, out: io::Result<BufWriter<O>>, error: &mut E) -> Status
     ensures quiet { result ≡ Status.Done → Keeps (E.given error.old) (E.given error.new) }
+    ensures no_buffer { IsErr out → (result ≡ Status.Failed) × ((E.failures error.old < E.failures error.new)
+        ⊎ Appends (E.given error.old) (E.given error.new) (start_line StartError.Memory)) }
 {
-    let Ok(out) = BufWriter::new(rt.alloc(), out) else {
+    let Ok(out) = out else {
         return fail_to_start(error, StartError::Memory);
     };
     let files = Disk { rt };
@@ -44,7 +49,8 @@ mod tests {
     #[test]
     fn words_of_a_test(rt: HostRuntime) {
         let mut error = StdSink::new(Vec::new(rt.alloc()));
-        let status = start(&rt, Vec::new(rt.alloc()), &mut error);
+        let out = BufWriter::new(rt.alloc(), Vec::new(rt.alloc()));
+        let status = start(&rt, out, &mut error);
         assert_ne!(rt; status, Status::Done);
         assert!(rt; !error.into_inner().is_empty());
     }

@@ -1,13 +1,12 @@
 //! Reads of single keys that the step map answers side by side, beside what it answers one by one.
 
-use crate::queries::Queries;
 use crate::written::Written;
 use fixtures::{Random, Unmade, range};
 use keyspace::Range;
 use std::alloc::{AllocError, Global};
 use std::process::Abort;
 use std::test::Fail;
-use stepmap::{MAX_LIMIT, StepMap};
+use stepmap::{Asked, MAX_LIMIT, StepMap};
 
 // A key of a number.
 fn key(alloc: Global, number: u32) -> Result<String, Unmade> {
@@ -40,11 +39,11 @@ fn answers_as_alone(
     let mut expected = Vec::new(alloc);
     for distance in [-1, 0, 1, 50] {
         let version = version.saturating_sub(distance);
-        asked.push((range, version))?;
+        asked.push(Asked { range, version })?;
         expected.push(map.exceeds(range, version))?;
     }
     let mut answers = Vec::new(alloc);
-    map.exceeds_each(&Queries { all: asked }, &mut answers)?;
+    map.exceeds_each(&asked, &mut answers)?;
     Ok(answers.as_slice() == expected.as_slice())
 }
 
@@ -94,47 +93,6 @@ fn single_keys_as_alone(rt: HostRuntime) -> Result<(), Fail> {
 fn single_keys_and_spans_as_alone(rt: HostRuntime) -> Result<(), Fail> {
     for spans in [2, 10, 500] {
         write_and_ask(&rt, rt.alloc(), spans)?;
-    }
-    Ok(())
-}
-
-// A key is written at 100, two others as a span at 200, and one between these and the first at 300.
-fn three_writes(rt: &impl Abort, alloc: Global) -> Result<Written, Fail> {
-    let mut written = Written::new(alloc, MAX_LIMIT)?;
-    let first = single(alloc, 5)?;
-    written.write(rt, &first, 100, "")?;
-    let others = span(alloc, 7, 2)?;
-    written.write(rt, &others, 200, "")?;
-    let between = single(alloc, 6)?;
-    written.write(rt, &between, 300, "")?;
-    Ok(written)
-}
-
-// What is answered for a single key at a version.
-fn answer(alloc: Global, map: &StepMap, number: u32, version: i64) -> Result<Option<bool>, Unmade> {
-    let range = single(alloc, number)?;
-    let mut all = Vec::new(alloc);
-    all.push((&range, version)).map_err(AllocError::from)?;
-    let mut answers = Vec::new(alloc);
-    map.exceeds_each(&Queries { all }, &mut answers)?;
-    Ok(answers.first().copied())
-}
-
-#[test]
-fn key_written_between_others(rt: HostRuntime) -> Result<(), Fail> {
-    let written = three_writes(&rt, rt.alloc())?;
-    for (number, version, above) in [
-        (5, 99, true),
-        (5, 100, false),
-        (7, 199, true),
-        (8, 200, false),
-        (6, 299, true),
-        (6, 300, false),
-        (4, 0, false),
-        (4, 250, false),
-    ] {
-        let answered = answer(rt.alloc(), written.map(), number, version)?;
-        assert!(rt; answered == Some(above), "{number} at {version}");
     }
     Ok(())
 }

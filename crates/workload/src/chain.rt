@@ -1,6 +1,6 @@
 //! The versions of the batches, by their numbers from 0.
 
-ghost use Rattle.std.specs.Prelude.{◌≡◌, ◌≤◌, ◌<◌, ◌-◌, ◌≤ℤ◌, ◌<ℤ◌, pos, negsuc};
+ghost use Rattle.std.specs.Prelude.{◌≡◌, ◌≤◌, ◌<◌, ◌-◌, ◌≤ℤ◌, ◌<ℤ◌, negsuc};
 ghost use Rattle.workload.specs.Versions.{version_of};
 
 use crate::shape::Shape;

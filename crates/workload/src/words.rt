@@ -1,6 +1,6 @@
 //! The words of the command line.
 
-ghost use Rattle.std.specs.Prelude.{◌≤◌, ℕ, IfSome, IfNone, map, string_bytes};
+ghost use Rattle.std.specs.Prelude.{ℕ, IfSome, IfNone, map, string_bytes};
 ghost use Rattle.workload.specs.declared.plan.Plan.{Plan as PlanValue};
 ghost use Rattle.workload.specs.Words.{AskFor, IsNumberTo};
 

@@ -1,7 +1,7 @@
 use Rattle.std.proofs.lemmas.Bool.{false≢true}
 use Rattle.std.proofs.Common.{◌≡◌, ℕ, List, [], ap, sym, subst, ◌∙◌, arith, rules, ℤ, length, w64, to_z, of_z}
 use Rattle.std.proofs.lemmas.Int.{ints, to_z-of_z}
-use Rattle.std.specs.Prelude.{map, true, Option, None, IfSome, slice_get}
+use Rattle.std.specs.Prelude.{map, true, Option, None, IfSome, slice_get, vec_len}
 use Rattle.std.specs.List.{All, AllZip}
 use Rattle.std.proofs.lemmas.List.{length-map}
 use Rattle.resolver.specs.declared.client.Client.{Client}
@@ -9,6 +9,7 @@ use Rattle.resolver.specs.declared.stop.Stop.{Stop}
 use Rattle.resolver.specs.Lanes.{Lanes}
 use Rattle.resolver.specs.Resolver.{AreClients, SameClients}
 use Rattle.resolver.specs.Settled.{Settled}
+use Rattle.resolver.specs.Share.{share_of}
 use Rattle.resolver.proofs.Settling.{written_back}
 use Rattle.player.specs.declared.worker.Finished.{Finished}
 use Rattle.player.specs.declared.outcome.Outcome.{Outcome}
@@ -40,6 +41,7 @@ join_all-outcome-requires-clause-empty g c =
 pub join_all-outcome-requires-clause-room : goal.join_all-outcome-requires-clause-room
 join_all-outcome-requires-clause-room g c =
     let readers = c.args.readers.items in
+    let share = share_of (vec_len c.args.readers) in
     let clients = c.in_ok-resolver.clients.items in
     let workers = c.in_ok-workers.workers.items in
     let same : length readers ≡ length clients = omega (arith, c.in_ok-resolver.ensures.proxies, c.len-proxies.ensures) in
@@ -47,7 +49,7 @@ join_all-outcome-requires-clause-room g c =
       arith,
       length-map workers given_to,
       ap length c.in_ok-workers.ensures.given,
-      given_count c.args.options.frames 0 clients readers same,
+      given_count c.args.options.frames share 0 clients readers same,
       same,
       c.in_ok-outcome.ensures.room,
       c.len-proxies.ensures,
@@ -56,6 +58,7 @@ join_all-outcome-requires-clause-room g c =
 pub settle-account-requires : goal.settle-account-requires
 settle-account-requires g c =
     let readers = c.args.readers.items in
+    let share = share_of (vec_len c.args.readers) in
     let clients = c.in_ok-resolver.clients.items in
     let lanes = c.turn_to_end.new.resolver.lanes in
     let worked = c.join_all-outcome.ensures.worked in
@@ -66,12 +69,13 @@ settle-account-requires g c =
       clients = subst (λ (clients : List Client). AreClients lanes clients)
           (sym (c.as_mut_slice.ensures.value ∙ worked.2.clients))
           (clients_go_on c.in_ok-resolver.resolver.lanes lanes clients back c.in_ok-resolver.ensures.clients
-          c.turn_to_end.ensures.lanes (clients_back g.S.Source.remaining c.args.options.frames 0 clients readers worked.0 same handed));
+          c.turn_to_end.ensures.lanes (clients_back g.S.Source.remaining c.args.options.frames share 0 clients readers worked.0 same handed));
     }
 
 pub returns : goal.returns
 returns g c =
     let readers = c.args.readers.items in
+    let share = share_of (vec_len c.args.readers) in
     let clients = c.in_ok-resolver.clients.items in
     let worked = c.join_all-outcome.ensures.worked in
     let same : length readers ≡ length clients = omega (arith, c.in_ok-resolver.ensures.proxies, c.len-proxies.ensures) in
@@ -96,7 +100,7 @@ returns g c =
     let same_clients = subst (λ (l : List Client). SameClients l now) c.as_mut_slice.ensures.value
     c.settle-account.ensures.clients in
     let all_ended = clients_ended g.S.Source.remaining
-    (given_each c.args.options.frames 0 clients readers) worked.0 handed in
+    (given_each c.args.options.frames share 0 clients readers) worked.0 handed in
     let whole : account.stop ≡ None → account.complete ≡ true = λ none.
     c.settle-account.ensures.complete.1 (record {
       no_stop = sym c.settle-account.ensures.stop ∙ none;
@@ -110,12 +114,12 @@ returns g c =
     (subst (λ (stop : Option Stop). IfSome stop (IsStopOf resolver.core.books.set.map.limit resolver.core.books.set.window told.log))
     (sym c.settle-account.ensures.stop) told.met)) in
     record {
-      run = is_run g.S.Source.remaining c.args.options readers clients worked.0 c.join_all-outcome.result told.log ended
+      run = is_run g.S.Source.remaining c.args.options share readers clients worked.0 c.join_all-outcome.result told.log ended
           account same c.in_ok-resolver.ensures.new_clients handed worked.2 settled whole met;
       capacity = subst (All (HasCapacity c.args.options.capacity))
           (sym (written_back outcome.clients.len now outcome.clients.items same_clients.count outcome.clients.ok.0))
           (capacities_stay c.args.options.capacity outcome.clients.items now same_clients
           (subst (All (HasCapacity c.args.options.capacity)) (sym worked.2.clients)
           (capacities c.args.options.capacity clients back c.in_ok-resolver.ensures.new_clients
-          (clients_back g.S.Source.remaining c.args.options.frames 0 clients readers worked.0 same handed))));
+          (clients_back g.S.Source.remaining c.args.options.frames share 0 clients readers worked.0 same handed))));
     }
