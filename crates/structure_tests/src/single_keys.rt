@@ -1,12 +1,13 @@
 //! Reads of single keys that the step map answers side by side, beside what it answers one by one.
 
+use crate::queries::Queries;
 use crate::written::Written;
 use fixtures::{Random, Unmade, range};
 use keyspace::Range;
 use std::alloc::{AllocError, Global};
 use std::process::Abort;
 use std::test::Fail;
-use stepmap::{Asked, MAX_LIMIT, StepMap};
+use stepmap::{MAX_LIMIT, StepMap};
 
 // A key of a number.
 fn key(alloc: Global, number: u32) -> Result<String, Unmade> {
@@ -39,11 +40,11 @@ fn answers_as_alone(
     let mut expected = Vec::new(alloc);
     for distance in [-1, 0, 1, 50] {
         let version = version.saturating_sub(distance);
-        asked.push(Asked { range, version })?;
+        asked.push((range, version))?;
         expected.push(map.exceeds(range, version))?;
     }
     let mut answers = Vec::new(alloc);
-    map.exceeds_each(&asked, &mut answers)?;
+    map.exceeds_each(&Queries { all: asked }, &mut answers)?;
     Ok(answers.as_slice() == expected.as_slice())
 }
 
