@@ -9,7 +9,7 @@ use player::{FileError, Files, Status, run_in};
 use std::alloc::{AllocError, Global};
 use std::env::FillError;
 use std::io;
-use std::io::{Cursor, Read};
+use std::io::{AsBytes, Cursor, Read};
 use std::rt::Env;
 use std::sync::Wait;
 use std::thread::Threads;
@@ -72,13 +72,14 @@ impl Files for Shelf {
 
 // The words of a command line, the program's name before them.
 #[derive(Drop)]
-struct Words<'a>(&'a [&'a str]);
+struct Words<'a, W>(&'a [W]);
 
-impl Env for Words<'_> {
+impl<W: AsBytes> Env for Words<'_, W> {
     fn arg(&self, i: usize, buf: &mut [u8]) -> Result<usize, FillError> {
         let word = self.0.get(i).ok_or(FillError::NotPresent)?;
+        let word = word.as_byte_slice();
         let room = buf.get_mut(..word.len()).ok_or(FillError::TooLong)?;
-        room.copy_from_slice(word.as_bytes());
+        room.copy_from_slice(word);
         Ok(word.len())
     }
 
@@ -92,10 +93,10 @@ impl Env for Words<'_> {
 }
 
 /// Runs the program on these words, whose first is its name, and puts what comes of it into words.
-pub fn shell<R: Threads + Wait + Copy + Send + 'static>(
+pub fn shell<R: Threads + Wait + Copy + Send + 'static, W: AsBytes>(
     rt: &R,
     alloc: Global,
-    words: &[&str],
+    words: &[W],
 ) -> Result<String, Unmade> {
     let mut out = StdSink::new(Vec::new(alloc));
     let mut error = StdSink::new(Vec::new(alloc));
@@ -104,10 +105,10 @@ pub fn shell<R: Threads + Wait + Copy + Send + 'static>(
 }
 
 /// Runs the program on these words and streams.
-pub fn shell_into<R: Threads + Wait + Copy + Send + 'static, O: Sink, E: Sink>(
+pub fn shell_into<R: Threads + Wait + Copy + Send + 'static, W: AsBytes, O: Sink, E: Sink>(
     rt: &R,
     alloc: Global,
-    words: &[&str],
+    words: &[W],
     out: &mut O,
     error: &mut E,
 ) -> Result<Status, Unmade> {

@@ -125,6 +125,24 @@ fn words_that_are_refused(rt: HostRuntime) -> Result<(), Fail> {
     Ok(())
 }
 
+// A word that isn't UTF-8 is refused as other words are, wherever it stands.
+#[test]
+fn words_that_are_no_text(rt: HostRuntime) -> Result<(), Fail> {
+    let rows: [&[&[u8]]; 4] = [
+        &[b"replay", b"\xff"],
+        &[b"replay", b"first", b"sec\xc3ond"],
+        &[b"replay", b"--help", b"\xff"],
+        &[b"rep\x80lay", b"first"],
+    ];
+    let expected = "usage: error: invalid UTF-8 was detected in one or more arguments\n\n\
+        Usage: replay [OPTIONS] <FILE>...\n\nFor more information, try '--help'.\n";
+    for words in rows {
+        let found = shell(&rt, rt.alloc(), words)?;
+        assert_eq!(rt; found.as_str(), expected);
+    }
+    Ok(())
+}
+
 // The words are those behind the program's name, whatever that is.
 #[test]
 fn name_of_the_program(rt: HostRuntime) -> Result<(), Fail> {
