@@ -90,11 +90,7 @@ fn first_met(gaps: &Gaps, runs: &[(usize, usize)]) -> Option<usize>
 }
 
 // Returns the place alone if the transaction is marked, and else no place, without taking memory.
-fn place_if_marked(
-    alloc: Global,
-    txn: &TxnRef<'_>,
-    place: usize,
-) -> Result<Places, AllocError>
+fn place_if_marked(alloc: Global, txn: &TxnRef<'_>, place: usize) -> Result<Places, AllocError>
     requires within { place < length txn.now.reads }
     ensures places { IfOk result (λ places. places ≡ (if txn.now.marked then place ∷ [] else [])) }
 {

@@ -38,7 +38,9 @@ impl Scan {
             }
         }
         for range in earlier {
-            self.written.push((range, version)).map_err(AllocError::from)?;
+            self.written
+                .push((range, version))
+                .map_err(AllocError::from)?;
         }
         Ok(text)
     }

@@ -33,18 +33,18 @@ exceeds_each-requires g c =
       (
         few,
         (
-        each (λ q. IsCut (λ (x : Item). passes q.from x.key) b.tree.items)
-            (λ a q asks. is_cut b.keys b.tree indexed true a.0.begin q.from asks.0.begin),
-        (
-          each (λ q. IsCut (λ (x : Item). passes q.to x.key) b.tree.items)
-              (λ a q asks. is_cut b.keys b.tree indexed false a.0.end q.to asks.0.end),
+          each (λ q. IsCut (λ (x : Item). passes q.from x.key) b.tree.items)
+              (λ a q asks. is_cut b.keys b.tree indexed true a.0.begin q.from asks.0.begin),
           (
-            each (λ q. passing (passes q.from) b.tree.items ≢ [])
-                (λ a q asks. some_pass b.keys b.tree indexed a.0.begin q.from asks.0.begin),
-            each (λ q. AreHinted (key_at q.from.keys.now) (hints_in b.tree))
-                (λ a q asks. are_hinted b.keys b.tree indexed true a.0.begin q.from asks.0.begin),
+            each (λ q. IsCut (λ (x : Item). passes q.to x.key) b.tree.items)
+                (λ a q asks. is_cut b.keys b.tree indexed false a.0.end q.to asks.0.end),
+            (
+              each (λ q. passing (passes q.from) b.tree.items ≢ [])
+                  (λ a q asks. some_pass b.keys b.tree indexed a.0.begin q.from asks.0.begin),
+              each (λ q. AreHinted (key_at q.from.keys.now) (hints_in b.tree))
+                  (λ a q asks. are_hinted b.keys b.tree indexed true a.0.begin q.from asks.0.begin),
+            ),
           ),
-        ),
         ),
       ),
     )

@@ -93,29 +93,29 @@ answer_each-requires g c =
       (
         c.requires.few,
         (
-        c.self.invariant.rooted.subtree,
-        (
-          i.from,
+          c.self.invariant.rooted.subtree,
           (
-            i.to,
+            i.from,
             (
-              i.passing,
+              i.to,
               (
-                i.hinted,
+                i.passing,
                 (
-                  subst
-                      (λ looks. AllZip (λ q l. IsApproach t.nodes t.root.height t.root.slot (g.P.Probe.bytes q.from)
-                      (g.P.Probe.lets_pass q.from) (g.Q.Probe.lets_pass q.to) (g.P.Probe.sought q.from) q.version true l.way)
-                      qs looks) value (AllZip-unmap _ (λ (l : Look). l.way) qs looks ways),
-                  subst
-                      (λ looks. AllZip (λ q l. IsLooked t.nodes (g.P.Probe.bytes q.from) (g.P.Probe.sought q.from) l.way l.own)
-                      qs looks) value c.look_at_each-looks.ensures.looked,
+                  i.hinted,
+                  (
+                    subst
+                        (λ looks. AllZip (λ q l. IsApproach t.nodes t.root.height t.root.slot (g.P.Probe.bytes q.from)
+                        (g.P.Probe.lets_pass q.from) (g.Q.Probe.lets_pass q.to) (g.P.Probe.sought q.from) q.version true l.way)
+                        qs looks) value (AllZip-unmap _ (λ (l : Look). l.way) qs looks ways),
+                    subst
+                        (λ looks. AllZip (λ q l. IsLooked t.nodes (g.P.Probe.bytes q.from) (g.P.Probe.sought q.from) l.way l.own)
+                        qs looks) value c.look_at_each-looks.ensures.looked,
+                  ),
                 ),
               ),
             ),
           ),
         ),
-      ),
       ),
     )
 
