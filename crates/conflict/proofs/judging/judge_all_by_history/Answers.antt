@@ -2,7 +2,7 @@ use Rattle.std.proofs.Common.{◌≡◌, ◌<◌, ◌≤◌, ◌+◌, [], ◌∷
 use Rattle.std.specs.Prelude.{◌≤ℤ◌}
 use Rattle.std.proofs.lemmas.Int.{to_z-of_z}
 use Rattle.std.proofs.lemmas.List.{length-append, take_all}
-use Rattle.conflict.specs.Asking.{asked_at, first_asked, then_asked, AreAnswers}
+use Rattle.conflict.specs.Asking.{all_first, asked_at, first_asked, then_asked, AreAnswers}
 use Rattle.conflict.specs.InBatch.{by_history}
 use Rattle.conflict.specs.declared.asking.Part.{Part}
 use Rattle.conflict.proofs.Parts.{lent_at}
