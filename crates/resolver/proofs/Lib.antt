@@ -28,3 +28,4 @@ pub mod Accounts
 pub mod Shares
 pub mod Later
 pub mod TwoProxies
+pub mod NewBooks
