@@ -44,7 +44,7 @@ impl Chained {
 fn forty(alloc: Global) -> Result<Vec<Batch>, Unmade> {
     let mut batches = Vec::new(alloc);
     for version in 0..40_i64 {
-        let previous = version - 1;
+        let previous = version.saturating_sub(1);
         let text = format!(in alloc;
             "{previous}>{version}: R[b,c) R[m,p) W[b,d) @{version}; R[b,c) W[x,y) @{version}; m R[q,r) W[c,e) W[h,k) @{version}"
         )?;
