@@ -32,8 +32,8 @@ pub fn read_frames<R: Source>(alloc: Global, reader: R) -> Frames<R>
     }
 }
 
-/// Returns the batch of the next frame, or `None` at the end of the input. The batch keeps the bytes of the frame as they
-/// were read.
+/// Returns the batch of the next frame, or `None` at the end of the input. The batch keeps the buffer that the frame was
+/// read into.
 pub fn read_next<R: Source>(alloc: Global, reader: &mut R) -> Result<Option<Batch>, WireError>
     ensures batch { IfOk result (λ found. IfSome found
         (TakesFrame (R.remaining reader.old) (R.remaining reader.new))) }
