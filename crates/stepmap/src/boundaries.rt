@@ -14,7 +14,7 @@ ghost use Rattle.stepmap.specs.Writing.{written};
 ghost use Rattle.tree.specs.declared.question.TheConstants.{SIDE};
 
 use crate::cut::Cut;
-use crate::key_lengths::{KeyLengths, each_length};
+use crate::key_lengths::{KeyLengths, put_each_length};
 use crate::query::QueryList;
 use crate::questions::{CutQuestion, no_question, put_questions};
 use crate::release::release;
@@ -31,7 +31,8 @@ use tree::{Overwrite, SIDE, Tree, item};
 // many more there is memory.
 #[derive(Debug, Drop)]
 pub struct Boundaries<const N: usize> {
-    pub alloc: Global,
+    // The lengths of the keys that memory was taken for last, one by one.
+    pub wanted: Vec<usize>,
     pub keys: Arena<()>,
     pub tree: Tree<N>,
     // A node that is taken out of the tree fits into memory.
@@ -73,7 +74,11 @@ impl<const N: usize> Boundaries<N> {
         let mut keys = Arena::new(alloc);
         let empty = keys.place((), &[])?;
         let tree = Tree::new(alloc, empty, -1)?;
-        Ok(Boundaries { alloc, keys, tree })
+        Ok(Boundaries {
+            wanted: Vec::new(alloc),
+            keys,
+            tree,
+        })
     }
 
     // Returns the number of boundaries.
@@ -181,8 +186,8 @@ impl<const N: usize> Boundaries<N> {
         ensures boundaries { self.new.boundaries ≡ self.old.boundaries }
         ensures room { self.old.room ≤ self.new.room }
     {
-        let wanted = each_length(self.alloc, lengths)?;
-        self.keys.reserve(&wanted).map_err(|_| AllocError)?;
+        put_each_length(&mut self.wanted, lengths)?;
+        self.keys.reserve(&self.wanted).map_err(|_| AllocError)?;
         let room = self.tree.len() + 2 * lengths.len();
         self.tree.reserve(room).map_err(|_| AllocError)
     }

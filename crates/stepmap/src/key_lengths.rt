@@ -1,9 +1,9 @@
-ghost use Rattle.std.specs.Prelude.{◌≡◌, IfOk, OnOk};
+ghost use Rattle.std.specs.Prelude.{◌≡◌, OnOk};
 ghost use Rattle.stepmap.specs.StepMap.{lengths};
 ghost use Rattle.stepmap.specs.Stored.{each_length};
 
 use keys::RangeRef;
-use std::alloc::{AllocError, Global};
+use std::alloc::AllocError;
 use std::collections::VecDeque;
 use std::marker::Model;
 
@@ -54,16 +54,19 @@ impl KeyLengths {
     }
 }
 
-// Returns the lengths one by one, the begin's before the end's.
-pub(crate) fn each_length(alloc: Global, lengths: &[KeyLengths]) -> Result<Vec<usize>, AllocError>
-    ensures each { IfOk result (λ each. each.items ≡ each_length lengths.now) }
+// Puts the lengths one by one, the begin's before the end's, in place of what the list has.
+pub(crate) fn put_each_length(
+    each: &mut Vec<usize>,
+    lengths: &[KeyLengths],
+) -> Result<(), AllocError>
+    ensures each { OnOk result (each.new.items ≡ each_length lengths.now) }
 {
-    let mut each = Vec::new(alloc);
+    each.clear();
     for pair in lengths {
         each.push(pair.begin())?;
         each.push(pair.end())?;
     }
-    Ok(each)
+    Ok(())
 }
 
 // Keeps these lengths in place of those that there are.
