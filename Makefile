@@ -1,9 +1,12 @@
 .PHONY: demo replay test refused-memory stalled-pipes plant bench
 
 # Runs the program on the recorded files of examples/, unproved. A file NAME.args names the further files of a run.
+demo: SHELL := bash
 demo:
 	@echo 'The program runs unproved here: `make replay` proves and builds it.'
-	cd crates/replay && rt try --cases ../../examples --data second_proxy=../../examples/second_proxy -- {}
+	@set -e; folder=$$(mktemp -d); trap 'rm -r "$$folder"' EXIT; \
+	cp examples/* "$$folder"; rm "$$folder/README.md"; \
+	cd crates/replay; rt try --cases "$$folder" --data second_proxy="$$folder/second_proxy" -- {}
 
 # Proves and builds the program, and runs it once.
 replay:
