@@ -1,4 +1,4 @@
-.PHONY: demo replay test refused-memory stalled-pipes plant bench
+.PHONY: demo replay test refused-memory stalled-pipes readme-runs plant bench
 
 # Runs the program on the recorded files of examples/, unproved. A file NAME.args names the further files of a run.
 demo: SHELL := bash
@@ -13,7 +13,7 @@ replay:
 	cd crates/replay && rt run -- ../../examples/first_run
 	@echo 'The proved program: crates/replay/out/replay'
 
-# The whole gate: every proof from nothing, the must-fail edits, the tests and the program.
+# The full check: every proof from nothing, the must-fail edits, the tests and the programs.
 test:
 	rt ci
 
@@ -24,6 +24,10 @@ refused-memory:
 # Behind `make replay`: deals a chain of batches to pipes of which some stall, and compares what the program prints.
 stalled-pipes:
 	.ci/stalled-pipes
+
+# Behind `make replay`, runs the commands of the documents that name a built program, and compares what they print.
+readme-runs:
+	.ci/readme-runs
 
 # Tries wrong bodies on a copy of each crate, and lists those that its contracts let through.
 plant:
