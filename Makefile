@@ -25,7 +25,7 @@ refused-memory:
 stalled-pipes:
 	.ci/stalled-pipes
 
-# Behind `make replay`, runs the commands of the documents that name a built program, and compares what they print.
+# Behind `make test` or `make bench`, runs the commands of the documents that name a built program, and compares what they print.
 readme-runs:
 	.ci/readme-runs
 
