@@ -5,7 +5,8 @@ demo: SHELL := bash
 demo:
 	@echo 'The program runs unproved here: `make replay` proves and builds it.'
 	@set -e; folder=$$(mktemp -d); trap 'rm -r "$$folder"' EXIT; \
-	cp examples/* "$$folder"; rm "$$folder/README.md"; \
+	find examples -maxdepth 1 -type f ! -name '*.*' -exec cp {} "$$folder" ';'; \
+	cp examples/*.args "$$folder"; \
 	cd crates/replay; rt try --cases "$$folder" --data second_proxy="$$folder/second_proxy" -- {}
 
 # Proves and builds the program, and runs it once.
