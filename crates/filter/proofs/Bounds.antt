@@ -1,6 +1,6 @@
 -- What becomes of the bounds of keys where the versions of a filter change.
-use Rattle.std.proofs.Common.{◌≡◌, ℕ, zero, suc, ◌+◌, ◌*◌, ◌<◌, ◌≤◌, inl, inr, List, [], ◌∷◌, length, get_or, set, replicate, refl, sym, ◌∙◌, ap, subst, arith}
-use Rattle.std.specs.Prelude.{ℤ, negsuc, ◌≤ℤ◌}
+use Rattle.std.proofs.Common.{◌≡◌, ℕ, zero, suc, ◌+◌, ◌*◌, ◌/◌, ◌<◌, ◌≤◌, inl, inr, List, [], ◌∷◌, length, get_or, set, replicate, refl, sym, ◌∙◌, ap, subst, arith}
+use Rattle.std.specs.Prelude.{ℤ, negsuc, false, int_lt, ◌≤ℤ◌}
 use Rattle.std.specs.Int.{int_max}
 use Rattle.std.proofs.lemmas.Bool.{cases_lt, cases_order}
 use Rattle.std.proofs.lemmas.Int.{ints, clamps}
@@ -152,3 +152,50 @@ doubled f g is range key =
     (ap (λ (vs : List ℤ). version_at vs (cell_of (length g.versions) key)) is
     ∙ ap (λ (k : ℕ). version_at (each_twice f.versions) (cell_of k key)) many
     ∙ twice_at f.versions (cell_of n key) (cell_of (2 * n) key) (cell_low n key) (cell_high n key))
+
+-- No cell of a new filter is newer than its newest key.
+pub none_newer : (versions : List ℤ) (n : ℕ) → versions ≡ replicate n (negsuc 0) → (i : ℕ) → version_at versions i ≤ℤ negsuc 0
+none_newer versions n is i =
+    let at : version_at versions i ≡ negsuc 0 = ap (λ (vs : List ℤ). version_at vs i) is ∙ each_replicate n i in
+    omega (arith, ints, at)
+
+-- each cell is two
+pub twice_none_newer : (versions doubled : List ℤ) (newest : ℤ) → doubled ≡ each_twice versions
+    → ((i : ℕ) → version_at versions i ≤ℤ newest) → (i : ℕ) → version_at doubled i ≤ℤ newest
+twice_none_newer versions doubled newest is old i =
+    let at : version_at doubled i ≡ version_at versions (i / 2) =
+    ap (λ (vs : List ℤ). version_at vs i) is ∙ twice_at versions (i / 2) i (omega arith) (omega arith) in
+    subst (λ (v : ℤ). v ≤ℤ newest) (sym at) (old (i / 2))
+
+-- one cell has another version
+pub set_none_newer : (versions : List ℤ) (cell : ℕ) (version newest newer : ℤ) → cell < length versions
+    → ((i : ℕ) → version_at versions i ≤ℤ newest) → newest ≤ℤ newer → version ≤ℤ newer
+    → (i : ℕ) → version_at (set versions cell version) i ≤ℤ newer
+set_none_newer versions cell version newest newer within old more is i =
+    let before = old i in
+    let stays : (i ≡ cell → ⊥) → version_at (set versions cell version) i ≤ℤ newer =
+    λ apart.
+    let same = get_or-set_other versions cell i version (negsuc 0) apart in
+    omega (arith, ints, same, before, more) in
+    elim (cases_order i cell) [
+      | inl e ↦
+          let there : version_at (set versions cell version) i ≡ version =
+          ap (version_at (set versions cell version)) e ∙ get_or-set_same versions cell version (negsuc 0) within in
+          omega (arith, ints, there, is)
+      | inr apart ↦ elim apart [
+        | inl below ↦ stays (λ e. omega arith)
+        | inr above ↦ stays (λ e. omega arith)
+      ]
+    ]
+
+-- what isn't less is as much or more
+pub not_less : (x y : ℤ) → int_lt x y ≡ false → y ≤ℤ x
+not_less x y h = grind (arith, ints)
+
+-- Where no cell is newer than the newest range, all bounds are its version.
+pub bound_of_range : (f : FilterState) → ((i : ℕ) → version_at f.versions i ≤ℤ f.newest_key) → f.newest_key ≤ℤ f.newest_range
+    → (key : List ℕ) → bound f key ≡ f.newest_range
+unfolding bound
+bound_of_range f old less key =
+    let cell = old (cell_of (length f.versions) key) in
+    omega (arith, ints, clamps, cell, less)

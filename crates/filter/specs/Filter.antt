@@ -17,6 +17,10 @@ pub record FilterState : Type 0 where
 abbrev pub cell_of : ℕ → List ℕ → ℕ
 cell_of count key = (hash_of key / 2 ^ 32) * count / 2 ^ 32
 
+-- the version of a cell, or that of the newest range, whichever is greater
+unfoldable pub bound_in : FilterState → ℕ → ℤ
+bound_in f cell = int_max (get_or f.versions cell (negsuc 0)) f.newest_range
+
 -- No write of the key is above it. It is the version of the key's cell, or that of the newest range, whichever is greater.
 unfoldable pub bound : FilterState → List ℕ → ℤ
 bound f key = int_max (get_or f.versions (cell_of (length f.versions) key) (negsuc 0)) f.newest_range

@@ -1,6 +1,6 @@
-ghost use Rattle.std.specs.Prelude.{◌≡◌, ℕ, ◌≤◌, ◌*◌, ◌<◌, ◌≤ℤ◌, ◌<ℤ◌, ◌↔◌, negsuc, List, length, IfOk, OnOk, IsTrue, min};
+ghost use Rattle.std.specs.Prelude.{◌≡◌, ℕ, ◌≤◌, ◌*◌, ◌<◌, ◌≤ℤ◌, ◌<ℤ◌, ◌↔◌, negsuc, List, get_or, length, IfOk, OnOk, IsTrue, min};
 ghost use Rattle.std.specs.Int.{int_max};
-ghost use Rattle.filter.specs.Filter.{bound, cell_of, each_twice};
+ghost use Rattle.filter.specs.Filter.{bound, bound_in, cell_of, each_twice};
 
 use crate::hashing::hash;
 use std::alloc::{AllocError, Global};
@@ -28,7 +28,7 @@ pub struct Filter {
 }
 
 impl Model for Filter {
-    ghost use Rattle.std.specs.Prelude.{length, ◌*◌, ◌<◌, ◌≤◌};
+    ghost use Rattle.std.specs.Prelude.{ℕ, get_or, length, negsuc, ◌*◌, ◌<◌, ◌≤◌, ◌≤ℤ◌};
     ghost use Rattle.filter.specs.Filter.{FilterState};
     ghost use Rattle.filter.specs.declared.filter.TheConstants.{MAX_CELLS};
 
@@ -36,7 +36,8 @@ impl Model for Filter {
 
     ghost view = { λ f. record { versions = f.cells.items; newest_range = f.newest_range; newest_key = f.newest_key } };
 
-    ghost invariant = { λ f. (0 < length f.cells.items) × (length f.cells.items ≤ 2 * MAX_CELLS) };
+    ghost invariant = { λ f. (0 < length f.cells.items) × (length f.cells.items ≤ 2 * MAX_CELLS)
+        × ((cell : ℕ) → get_or f.cells.items cell (negsuc 0) ≤ℤ f.newest_key) };
 }
 
 impl Filter {
@@ -58,7 +59,16 @@ impl Filter {
     pub fn bound(&self, key: &[u8]) -> i64
         ensures bound { result ≡ bound self.now key.now }
     {
-        self.cells[self.cell(key)].max(self.newest_range)
+        self.bound_at(self.cell(key))
+    }
+
+    /// Returns the bound of the keys of a cell. Where many keys are asked for, their cells come first and the bounds then, so that the
+    /// memory of all these cells is waited for at once.
+    pub fn bound_at(&self, cell: usize) -> i64
+        requires within { cell < length self.now.versions }
+        ensures bound { result ≡ bound_in self.now cell }
+    {
+        self.cells[cell].max(self.newest_range)
     }
 
     /// Returns the version of the newest range.
@@ -72,6 +82,7 @@ impl Filter {
     /// that range.
     pub fn is_useful(&self) -> bool
         ensures useful { IsTrue result ↔ (self.now.newest_range <ℤ self.now.newest_key) }
+        ensures range { ¬ IsTrue result → (key : List ℕ) → bound self.now key ≡ self.now.newest_range }
     {
         self.newest_range < self.newest_key
     }
@@ -85,7 +96,7 @@ impl Filter {
         ensures newest { self.new.newest_key ≡ int_max version self.old.newest_key }
     {
         let cell = self.cell(key);
-        self.cells[cell] = self.cells[cell].max(version);
+        self.cells[cell] = self.raised(cell, version);
         self.newest_key = self.newest_key.max(version);
     }
 
@@ -132,8 +143,21 @@ impl Filter {
         Ok(())
     }
 
-    // Returns the cell that the key falls into.
-    fn cell(&self, key: &[u8]) -> usize
+    // Returns the greater of the version and that of the cell. No cell is newer than the newest key: so one that is written at no
+    // lesser version isn't read, and its memory not waited for.
+    fn raised(&self, cell: usize, version: i64) -> i64
+        requires within { cell < length self.now.versions }
+        ensures greater { result ≡ int_max version (get_or self.now.versions cell (negsuc 0)) }
+    {
+        if version < self.newest_key {
+            self.cells[cell].max(version)
+        } else {
+            version
+        }
+    }
+
+    /// Returns the cell that the key falls into.
+    pub fn cell(&self, key: &[u8]) -> usize
         ensures cell { result ≡ cell_of (length self.now.versions) key.now }
         ensures within { result < length self.now.versions }
     {

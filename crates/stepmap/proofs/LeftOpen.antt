@@ -1,11 +1,11 @@
 -- Those that are left open, and the answers that are told for them.
-use Rattle.std.proofs.Common.{◌≡◌, ℕ, suc, ◌+◌, ◌<◌, ◌≤◌, ℤ, Bool, true, false, cond, List, [], ◌∷◌, ◌++◌, length, take, drop, refl, sym, ◌∙◌, ap, subst, arith, append-nil, drop_of_length-le, length-append, length-drop}
+use Rattle.std.proofs.Common.{◌≡◌, ℕ, zero, suc, ◌+◌, ◌<◌, ◌≤◌, ℤ, Bool, true, false, cond, List, [], ◌∷◌, ◌++◌, length, take, drop, refl, sym, ◌∙◌, ap, subst, arith, append-nil, drop_of_length-le, length-append, length-drop, length-take, map}
 use Rattle.std.specs.Prelude.{◌↔◌, IsTrue, IsSomeAnd, Some, count_by, slice_get}
 use Rattle.std.specs.List.{All, AllZip}
-use Rattle.std.proofs.Math.Seq.{take-suc, take-add, take-append_seam}
-use Rattle.std.proofs.lemmas.List.{take_all, get_or-drop, length-take-le}
+use Rattle.std.proofs.Math.Seq.{take-suc, take-add}
+use Rattle.std.proofs.lemmas.List.{take_all, get_or-drop, get_or-take, length-take-le}
 use Rattle.std.proofs.lemmas.List.Sums.{sum_by-cons}
-use Rattle.std.proofs.lemmas.Option.{get_or_from_slice_get, slice_get_within}
+use Rattle.std.proofs.lemmas.Option.{get_or_from_slice_get, slice_get-get_or, slice_get_within}
 use Rattle.std.proofs.lemmas.Slice.Zip.{AllZip-long, all_zipped_more}
 use Rattle.keys.specs.Range.{IsEmpty}
 use Rattle.keys.specs.declared.range.Range.{Range}
@@ -60,7 +60,7 @@ left_of_more (p ∷ queries) (true ∷ marks) q mark same =
     ap (λ rest. p ∷ rest) (left_of_more queries marks q mark (omega (arith, same)))
 
 -- the query behind so many is the next one of the part
-part_more : {X : Type 0} (xs : List X) (from n : ℕ) (x : X) → slice_get xs (from + n) ≡ Some x
+pub part_more : {X : Type 0} (xs : List X) (from n : ℕ) (x : X) → slice_get xs (from + n) ≡ Some x
     → take (n + 1) (drop from xs) ≡ take n (drop from xs) ++ x ∷ []
 part_more xs from n x is =
     let within = slice_get_within xs (from + n) x is in
@@ -185,3 +185,46 @@ is_false false e h = absurd (different h)
   where
     different : false ≡ true → ⊥
     different e = cc
+
+-- what two functions make of each, one after the other, is so related to it
+pub AllZip-mapped : {X Y Z : Type 0} (R : X → Y → Type 0) (f : Z → Y) (g : X → Z) → ((x : X) → R x (f (g x))) → (xs : List X)
+    → AllZip R xs (map f (map g xs))
+AllZip-mapped R f g each [] = tt
+AllZip-mapped R f g each (x ∷ xs) = (each x, AllZip-mapped R f g each xs)
+
+-- equal ones are related to all, if that one is
+pub AllZip-equal : {X Y : Type 0} (R : X → Y → Type 0) (y : Y) → ((x : X) → R x y) → (xs : List X) (ys : List Y)
+    → length xs ≡ length ys → All (λ other. other ≡ y) ys → AllZip R xs ys
+AllZip-equal R y each [] [] same equal = tt
+AllZip-equal R y each [] (other ∷ ys) same equal = absurd (omega (arith, same))
+AllZip-equal R y each (x ∷ xs) [] same equal = absurd (omega (arith, same))
+AllZip-equal R y each (x ∷ xs) (other ∷ ys) same equal =
+    let first : other ≡ y = equal 0 y (omega arith) in (
+      subst (R x) (sym first) (each x),
+      AllZip-equal R y each xs ys (omega (arith, same)) (λ k d l. equal (suc k) d (omega (arith, l))),
+    )
+
+-- those at one place are related
+AllZip-at : {X Y : Type 0} (R : X → Y → Type 0) (xs : List X) (ys : List Y) → AllZip R xs ys → (k : ℕ) (x : X) (y : Y)
+    → slice_get xs k ≡ Some x → slice_get ys k ≡ Some y → R x y
+AllZip-at R [] [] are k x y x_is y_is = absurd cc
+AllZip-at R [] (b ∷ ys) are k x y x_is y_is = absurd are
+AllZip-at R (a ∷ xs) [] are k x y x_is y_is = absurd are
+AllZip-at R (a ∷ xs) (b ∷ ys) are zero x y x_is y_is =
+    let left : a ≡ x = cc in
+    let right : b ≡ y = cc in
+    subst (λ z. R z y) left (subst (R a) right are.0)
+AllZip-at R (a ∷ xs) (b ∷ ys) are (suc k) x y x_is y_is = AllZip-at R xs ys are.1 k x y x_is y_is
+
+-- those at one place of a part are related
+pub AllZip-part : {X Y : Type 0} (R : X → Y → Type 0) (xs : List X) (from : ℕ) (ys : List Y)
+    → AllZip R (take (length ys) (drop from xs)) ys → (k : ℕ) (x : X) (y : Y) → slice_get xs (from + k) ≡ Some x
+    → slice_get ys k ≡ Some y → R x y
+AllZip-part R xs from ys are k x y x_is y_is =
+    let within = slice_get_within ys k y y_is in
+    let inside = slice_get_within xs (from + k) x x_is in
+    let there : k < length (drop from xs) = omega (arith, inside, length-drop from xs) in
+    let item = get_or-take (length ys) (drop from xs) k x within ∙ get_or-drop from xs k x ∙ get_or_from_slice_get xs (from + k) x x x_is in
+    let at : slice_get (take (length ys) (drop from xs)) k ≡ Some x =
+    slice_get-get_or (take (length ys) (drop from xs)) k x (omega (arith, within, there, length-take (length ys) (drop from xs))) ∙ ap Some item in
+    AllZip-at R (take (length ys) (drop from xs)) ys are k x y at y_is

@@ -18,6 +18,11 @@ FilterTells f m =
 abbrev pub IsSingle : List ℕ → List ℕ → Type 0
 IsSingle begin end = end ≡ begin ++ 0 ∷ []
 
+-- a bound of the range: if this is a single key, the function isn't above any number from the bound and the edge on
+abbrev pub IsBound : Steps → Range → ℤ → Type 0
+IsBound m range bound =
+    IsSingle range.begin range.end → (s : ℤ) → m.edge ≤ℤ s → bound ≤ℤ s → ¬ IsAbove m range s
+
 -- those of the queries that are marked, in order
 abbrev pub left_of : List (Range × ℤ) → List Bool → List (Range × ℤ)
 left_of [] marks = []

@@ -12,6 +12,7 @@
 #![tactic(auto)]
 
 mod boundaries;
+mod bounding;
 mod cut;
 mod error;
 mod key_lengths;

@@ -1,5 +1,5 @@
 ghost use Rattle.std.specs.Prelude.{◌≡◌, ℕ, ◌+◌, ◌*◌, ◌≤◌, ◌<◌, nat_le, ℤ, negsuc, ◌≤ℤ◌, ◌↔◌};
-ghost use Rattle.std.specs.Prelude.{Bool, List, [], ◌++◌, length, take, slice_get, Some, None, Err};
+ghost use Rattle.std.specs.Prelude.{Bool, List, [], ◌++◌, length, take, drop, slice_get, Some, None, Err};
 ghost use Rattle.std.specs.Prelude.{IfOk, OnOk, OnErr, IfErr, IsTrue};
 ghost use Rattle.std.specs.List.{AllZip};
 ghost use Rattle.arena.specs.Arena.{wanted_of};
@@ -15,10 +15,12 @@ ghost use Rattle.stepmap.specs.Limit.{HasRoomFor, after_round, made_room, prepar
 ghost use Rattle.stepmap.specs.Covers.{SameFrom, MapCovers, IsAbove};
 ghost use Rattle.stepmap.specs.Rooted.{Ends, Rooted};
 ghost use Rattle.stepmap.specs.Counting.{live_count};
-ghost use Rattle.stepmap.specs.Filtering.{AreMarked};
+ghost use Rattle.stepmap.specs.Filtering.{AreMarked, IsBound};
 ghost use Rattle.stepmap.specs.Stored.{spare_in, each_length};
+ghost use Rattle.tree.specs.declared.question.TheConstants.{SIDE};
 
 use crate::boundaries::Boundaries;
+use crate::bounding::{bounds_at, cells_from, repeated};
 use crate::error::StepError;
 use crate::key_lengths::{KeyLengths, keep};
 use crate::left::put_told;
@@ -299,39 +301,78 @@ impl StepMap {
         let count = queries.len();
         let mut places = ArrayVec::new();
         while marks.len() < count && !places.is_full() {
+            self.mark_next(queries, marks, &mut places)?;
+        }
+        Ok(places)
+    }
+
+    // Marks the next queries likewise, at least one and as many as there is room for their places, and adds the places.
+    fn mark_next<L: QueryList>(
+        &self,
+        queries: &L,
+        marks: &mut Vec<bool>,
+        places: &mut ArrayVec<usize, SIDE>,
+    ) -> Result<(), AllocError>
+        requires some { length marks.old.items < length (L.queries queries.now) }
+        requires room { length places.old.items < SIDE }
+        ensures more { OnOk result (length marks.old.items < length marks.new.items) }
+        ensures marked { OnOk result ((old told : List Bool) → marks.old.items ≡ old ++ told
+            → AreMarked self.now (L.queries queries.now) (length old) told places.old.items
+            → (more : List Bool) × (marks.new.items ≡ old ++ more)
+            × AreMarked self.now (L.queries queries.now) (length old) more places.new.items) }
+    {
+        let bounds = self.bounds_from(queries, marks.len(), SIDE - places.len());
+        for bound in bounds.as_slice() {
             let place = marks.len();
-            let is_open = self.is_open(&queries.query(place));
+            let is_open = self.is_open(&queries.query(place), *bound);
             if is_open {
                 places.push(place);
             }
             marks.push(is_open)?;
         }
-        Ok(places)
+        Ok(())
     }
 
-    // Returns whether the query is to be looked up: its range isn't empty, and the filter leaves it open.
-    fn is_open(&self, query: &RangeQuery<'_>) -> bool
+    // Returns bounds of the ranges of the next queries, at least one and at most as many as is said.
+    fn bounds_from<L: QueryList>(
+        &self,
+        queries: &L,
+        from: usize,
+        most: usize,
+    ) -> ArrayVec<i64, SIDE>
+        requires some { from < length (L.queries queries.now) }
+        requires least { 1 ≤ most }
+        requires few { most ≤ SIDE }
+        ensures bounds { AllZip (λ q bound. IsBound self.now q.0 bound)
+            (take (length result.items) (drop from (L.queries queries.now))) result.items }
+        ensures some { 1 ≤ length result.items }
+        ensures few { length result.items ≤ most }
+        ensures within { from + length result.items ≤ length (L.queries queries.now) }
+    {
+        let count = (queries.len() - from).min(most);
+        if !self.filter.is_useful() {
+            return repeated(self.filter.newest_range(), count);
+        }
+        let cells = cells_from(&self.filter, queries, from, from + count);
+        bounds_at(&self.filter, cells.as_slice())
+    }
+
+    // Returns whether the query is to be looked up: its range isn't empty, and this bound of it leaves it open.
+    fn is_open(&self, query: &RangeQuery<'_>, bound: i64) -> bool
+        requires bound { IsBound self.now query.now.range bound }
         ensures filled { IsTrue result → ¬ IsEmpty query.now.range }
         ensures others { ¬ IsTrue result → ¬ IsAbove self.now query.now.range query.now.version }
     {
-        if query.range.is_empty() {
-            return false;
-        }
-        !self.filter.is_useful() || self.may_exceed(&query.range, query.version)
+        !query.range.is_empty() && self.may_exceed(&query.range, query.version, bound)
     }
 
-    // Returns whether the filter leaves open that the version at some key of the range is above this one. It tells only of
+    // Returns whether this bound of the range leaves open that the version at some key of it is above this one. It tells only of
     // single keys, and only from the edge on.
-    fn may_exceed(&self, range: &RangeRef<'_>, version: i64) -> bool
+    fn may_exceed(&self, range: &RangeRef<'_>, version: i64, bound: i64) -> bool
+        requires bound { IsBound self.now range.now bound }
         ensures not_above { ¬ IsTrue result → ¬ IsAbove self.now range.now version }
     {
-        let told_from = self.edge.max(self.filter.newest_range());
-        if version < told_from {
-            return true;
-        }
-        let begin = range.begin();
-        let end = range.end();
-        !is_single(begin, end) || version < self.filter.bound(begin)
+        version < self.edge || version < bound || !is_single(range.begin(), range.end())
     }
 
     // Returns whether the boundaries, and two for each of so many ranges, are within the limit.

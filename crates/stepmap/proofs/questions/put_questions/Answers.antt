@@ -1,4 +1,4 @@
-use Rattle.std.proofs.Common.{◌≡◌, ◌<◌, ◌+◌, ℕ, ℤ, length, take, sym, subst, ◌∙◌, arith, slice_get, slice_set, length-set}
+use Rattle.std.proofs.Common.{◌<◌, ◌+◌, ℕ, ℤ, length, take, sym, subst, ◌∙◌, arith, slice_get, length-set}
 use Rattle.std.specs.Prelude.{IsSomeAnd}
 use Rattle.std.specs.List.{AllZip}
 use Rattle.std.proofs.lemmas.List.{take_more_set}

@@ -1,6 +1,6 @@
 use Rattle.std.proofs.Common.{◌≡◌, ◌*◌, length, refl, ◌∙◌, ap, arith}
 use Rattle.filter.specs.Filter.{FilterState, bound, each_twice}
-use Rattle.filter.proofs.Bounds.{length-each_twice, doubled}
+use Rattle.filter.proofs.Bounds.{length-each_twice, doubled, twice_none_newer}
 use Rattle.filter.proofs.filter.Filter.double.Goals as goal
 use Rattle.filter.proofs.filter.Filter.double.Goals.{In_ok-self-inside}
 
@@ -15,8 +15,11 @@ few c = ap (λ (f : FilterState). length f.versions) c.self.view_is
 
 pub invariant_of-self : goal.invariant_of-self
 invariant_of-self c =
-    let at = (goal.at.invariant_of-self c).In_ok-self-inside in
-    (omega (arith, c.self.invariant, many at), omega (arith, c.requires.few, few at, many at))
+    let at = (goal.at.invariant_of-self c).In_ok-self-inside in (
+      omega (arith, c.self.invariant.0, many at),
+      omega (arith, c.requires.few, few at, many at),
+      twice_none_newer c.self.inside.cells.items _ c.self.inside.newest_key (twice at) c.self.invariant.2,
+    )
 
 pub returns-clause-same : goal.returns-clause-same
 returns-clause-same c =

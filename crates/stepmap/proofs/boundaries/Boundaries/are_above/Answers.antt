@@ -1,4 +1,4 @@
-use Rattle.std.proofs.Common.{rules, arith, ◌≡◌, ◌≢◌, ◌≤◌, ℕ, ℤ, Bool, List, [], true, false, length, take, subst, sym}
+use Rattle.std.proofs.Common.{rules, arith, ◌≢◌, ◌≤◌, ℕ, ℤ, Bool, List, [], true, false, length, take, subst, sym}
 use Rattle.std.specs.Prelude.{◌↔◌, IsTrue, IsSomeAnd, slice_get}
 use Rattle.std.specs.List.{All, AllZip}
 use Rattle.std.proofs.lemmas.List.{length-take}

@@ -1,4 +1,4 @@
-use Rattle.std.proofs.Common.{rules, ◌≡◌, ◌≤◌, ◌++◌, ℕ, Bool, List, length, take, drop, refl, ap, sym, subst, ◌∙◌, arith, slice_get}
+use Rattle.std.proofs.Common.{rules, ◌≡◌, ◌++◌, ℕ, Bool, List, length, take, drop, refl, ap, sym, subst, ◌∙◌, arith, slice_get}
 use Rattle.std.specs.Prelude.{◌↔◌, IsTrue, IsSomeAnd, count_by}
 use Rattle.std.specs.List.{All, AllZip}
 use Rattle.std.proofs.Math.Seq.{take-append_seam, drop-append_seam}
@@ -7,7 +7,7 @@ use Rattle.stepmap.specs.Covers.{IsAbove}
 use Rattle.stepmap.specs.Filtering.{with_told}
 use Rattle.stepmap.specs.Kept.{steps_of}
 use Rattle.stepmap.specs.StepMap.{Steps}
-use Rattle.stepmap.proofs.LeftOpen.{places_filled, told_many, length-told, told_behind, put_back}
+use Rattle.stepmap.proofs.LeftOpen.{places_filled, told_many, told_behind, put_back}
 use Rattle.stepmap.proofs.step_map.StepMap.answer_some.Given.{Over}
 use Rattle.stepmap.proofs.step_map.StepMap.answer_some.Goals as goal
 use Rattle.stepmap.proofs.step_map.StepMap.answer_some.Goals.{After-are_above-told}
