@@ -1,0 +1,7 @@
+pub mod KeyForm
+pub mod Values
+pub mod Names
+pub mod Ranges
+pub mod Batches
+pub mod Replies
+pub mod Written
