@@ -31,3 +31,6 @@ fn main(rt: HostRuntime) -> Status {
         Err(_) => fail(&mut error, rt.alloc(), &Failure::Memory),
     }
 }
+
+#[cfg(test)]
+mod tests;

@@ -4,4 +4,7 @@ pub mod Numbers
 pub mod Objects
 pub mod Lists
 pub mod Rising
+pub mod Forms
+pub mod Tokens
 pub mod ReadBack
+pub mod ReplyBack

@@ -1,13 +1,14 @@
 -- Items of an array, one after the other.
-use Rattle.std.proofs.Common.{◌≡◌, ℕ, suc, ◌+◌, ◌<◌, ◌≤◌, add-one, Bool, true, false, cond, List, [], ◌∷◌, ◌++◌, length, drop, get_or, Option, Some, None, option_map, refl, sym, ap, ◌∙◌, arith, leb}
-use Rattle.std.proofs.lemmas.Bool.{le-leb}
-use Rattle.std.proofs.lemmas.List.{drop_more, drop_all}
+use Rattle.std.proofs.Common.{◌≡◌, ◌≢◌, ℕ, suc, ◌+◌, ◌<◌, ◌≤◌, Bool, true, false, cond, List, [], ◌∷◌, ◌++◌, length, drop, get_or, Option, Some, None, option_map, refl, sym, ap, ◌∙◌, arith, leb}
+use Rattle.std.proofs.lemmas.Bool.{le-leb, lt-leb}
+use Rattle.std.proofs.lemmas.List.{drop_all}
 use Rattle.json.specs.Json.{Json, array, object, Items, no_items, item}
 use Rattle.json.specs.Find.{as_array}
 use Rattle.json.specs.Value.{value_view, items_view}
 use Rattle.json.specs.declared.value.Value.{Value}
-use Rattle.json_lines.specs.Values.{◌>>=◌, each, count, limited}
-use Rattle.json_lines.proofs.Reading.{with_front, goes_on_with, all_read}
+use Rattle.json_lines.specs.Values.{◌>>=◌, each, count}
+use Rattle.json_lines.specs.Ranges.{pair_in}
+use Rattle.json_lines.proofs.Reading.{with_front, goes_on_with, all_read, rest_at}
 
 pub count_items : {A : Type 0} (vs : List (Value A)) → count (items_view vs) ≡ length vs
 count_items [] = refl
@@ -18,11 +19,6 @@ pub few : {A : Type 0} (limit : ℕ) (o : Option Items) (vs : List (Value A)) �
     → (o >>= λ js. cond (leb (count js) limit) (Some js) None) ≡ Some (items_view vs)
 few limit o vs e le =
     rw e (ap (λ b. cond b (Some (items_view vs)) None) (le-leb (count (items_view vs)) limit (omega (arith, count_items vs, le))))
-
--- the rest of the values at one of them
-rest_at : {A : Type 0} (vs : List (Value A)) (i : ℕ) (x : Value A) → i < length vs → x ≡ get_or vs i x
-    → drop i vs ≡ x ∷ drop (i + 1) vs
-rest_at {A} vs i x lt is = drop_more vs i x lt ∙ ap (λ (y : Value A). y ∷ drop (i + 1) vs) (sym is)
 
 -- one more item is read
 pub each_on : {A Y : Type 0} (one : Json → Option Y) (front : List Y) (vs : List (Value A)) (i : ℕ) (x : Value A) (y : Y)
@@ -59,3 +55,17 @@ each_done {A} one front vs i total le so_far =
     let step : with_front front (each one (items_view (drop i vs))) ≡ Some front =
     ap (λ (ws : List (Value A)). with_front front (each one (items_view ws))) (drop_all i vs le) ∙ all_read front in
     sym so_far ∙ step
+
+-- the items are too many
+pub too_many : {A : Type 0} (limit : ℕ) (o : Option Items) (vs : List (Value A)) → o ≡ Some (items_view vs) → limit < length vs
+    → (o >>= λ js. cond (leb (count js) limit) (Some js) None) ≡ None
+too_many limit o vs e lt =
+    rw e (ap (λ b. cond b (Some (items_view vs)) None) (lt-leb (count (items_view vs)) limit (omega (arith, count_items vs, lt))))
+
+-- other than two items are no pair
+pub not_pair : {A : Type 0} (vs : List (Value A)) → length vs ≢ 2 → pair_in (items_view vs) ≡ None
+unfolding pair_in
+not_pair [] other = refl
+not_pair (a ∷ []) other = refl
+not_pair (a ∷ b ∷ []) other = absurd (other refl)
+not_pair (a ∷ b ∷ c ∷ vs) other = refl

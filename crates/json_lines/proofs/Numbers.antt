@@ -1,5 +1,5 @@
 -- Whole numbers, as `parse` finds them and as the definition tests them.
-use Rattle.std.proofs.Common.{◌≡◌, ℕ, ℤ, ◌<◌, Bool, true, false, cond, ◌&&◌, List, [], ◌∷◌, length, Option, Some, None, ok_or, refl, sym, ap, ◌∙◌, w64, arith, MatchOption}
+use Rattle.std.proofs.Common.{◌≡◌, ℕ, ℤ, ◌<◌, Bool, true, false, cond, ◌&&◌, List, [], ◌∷◌, length, Option, Some, None, ok_or, inl, inr, refl, sym, ap, ◌∙◌, w64, arith, MatchOption}
 use Rattle.std.specs.Str.Parse.{AllDigits, IsNumeral, ParsesSigned, without_leading_sign, signed_digits_value}
 use Rattle.std.specs.Char.{digit_value, is_digit}
 use Rattle.std.specs.Int.RustNames.{FitsSigned}
@@ -37,9 +37,9 @@ whole_is text h = ap (λ b. cond b (Some (signed_digits_value 10 text)) None) (p
 
 whole_none : (text : List ℕ) → ¬ (IsWhole text) → whole text ≡ None
 unfolding whole
-whole_none text no =
+whole_none text not_whole =
     elim (cases_Bool (is_whole text && fits (signed_digits_value 10 text))) [
-      inl yes ↦ absurd (no (asked text yes))
+      inl ok ↦ absurd (not_whole (asked text ok))
     | inr fails ↦ ap (λ b. cond b (Some (signed_digits_value 10 text)) None) fails
     ]
 
@@ -55,6 +55,6 @@ pub whole_parses : (text : List ℕ) → ParsesSigned w64 10 text (ok_or (whole 
 unfolding whole
 whole_parses text =
     elim (cases_Bool (is_whole text && fits (signed_digits_value 10 text))) [
-      inl yes ↦ rw yes (asked text yes, refl)
+      inl ok ↦ rw ok (asked text ok, refl)
     | inr fails ↦ rw fails (λ h. false≢true (sym fails ∙ passes text h))
     ]

@@ -40,14 +40,14 @@ form_reads_first b rest small =
       inl is ↦ let e : b ≡ 92 = eqb-true b 92 is in
           subst (λ (x : ℕ). spelled (byte_form x ++ rest) ≡ after_byte x (spelled rest)) (sym e) refl
     | inr other ↦ elim (cases_Bool (is_printable b)) [
-        inl yes ↦
-            let form : byte_form b ≡ b ∷ [] = rw (other, yes) refl in
-            let read : spelled (b ∷ rest) ≡ after_byte b (spelled rest) = rw (other, yes) refl in
+        inl shown ↦
+            let form : byte_form b ≡ b ∷ [] = rw (other, shown) refl in
+            let read : spelled (b ∷ rest) ≡ after_byte b (spelled rest) = rw (other, shown) refl in
             ap (λ (t : List ℕ). spelled (t ++ rest)) form ∙ read
-      | inr no ↦
+      | inr hidden ↦
             let h = digit_char (b / 16) in
             let l = digit_char (b % 16) in
-            let form : byte_form b ≡ 92 ∷ 120 ∷ h ∷ l ∷ [] = rw (other, no) refl in
+            let form : byte_form b ≡ 92 ∷ 120 ∷ h ∷ l ∷ [] = rw (other, hidden) refl in
             let high : digit_value h ≡ b / 16 = digit_value-digit_char (b / 16) (omega arith) in
             let low : digit_value l ≡ b % 16 = digit_value-digit_char (b % 16) (omega arith) in
             let tests : (is_digit h 16 && is_digit l 16) ≡ true =
@@ -78,7 +78,7 @@ from_ok : (o : Option ℤ) (text : List ℕ) (n : ℤ) → ok_or o text ≡ Ok n
 from_ok (Some x) text n e = cc
 from_ok None text n e = absurd cc
 
-whole_again : (n : ℤ) → FitsSigned w64 n → whole (signed_decimal n) ≡ Some n
+pub whole_again : (n : ℤ) → FitsSigned w64 n → whole (signed_decimal n) ≡ Some n
 whole_again n f =
     let text = signed_decimal n in
     let read : ok_or (whole text) text ≡ Ok n =
@@ -123,7 +123,7 @@ count_shown : {A : Type 0} (show : A → Json) (xs : List A) → count (items_of
 count_shown show [] = refl
 count_shown show (x ∷ xs) = ap suc (count_shown show xs)
 
-list_again : {A : Type 0} (one : Json → Option A) (show : A → Json) (Holds : A → Type 0) (limit : ℕ)
+pub list_again : {A : Type 0} (one : Json → Option A) (show : A → Json) (Holds : A → Type 0) (limit : ℕ)
     → ((a : A) → Holds a → one (show a) ≡ Some a) → (xs : List A) → AllByRecursion Holds xs → length xs ≤ limit
     → list_in one limit (list_json show xs) ≡ Some xs
 unfolding list_in
@@ -164,10 +164,10 @@ batch_again batch holds =
 -- ---- texts
 
 -- each value has numbers that can be written, and nests no deeper
-abbrev Fine : ℕ → Json → Type 0
+abbrev pub Fine : ℕ → Json → Type 0
 Fine most j = HasNumbers j × (depth j ≤ most)
 
-all_fine : {A : Type 0} (show : A → Json) (Holds : A → Type 0) (most : ℕ) → ((a : A) → Holds a → Fine most (show a))
+pub all_fine : {A : Type 0} (show : A → Json) (Holds : A → Type 0) (most : ℕ) → ((a : A) → Holds a → Fine most (show a))
     → (xs : List A) → AllByRecursion Holds xs → ItemsHaveNumbers (items_of (map show xs)) × (items_depth (items_of (map show xs)) ≤ most)
 all_fine show Holds most fine [] h = (tt, omega arith)
 all_fine show Holds most fine (x ∷ xs) h =
@@ -175,7 +175,7 @@ all_fine show Holds most fine (x ∷ xs) h =
     let others = all_fine show Holds most fine xs h.1 in
     ((first.0, others.0), omega (arith, first.1, others.1))
 
-number_fine : (n : ℤ) → FitsSigned w64 n → IsNumber (signed_decimal n)
+pub number_fine : (n : ℤ) → FitsSigned w64 n → IsNumber (signed_decimal n)
 number_fine n f = IsNumber-signed_decimal n (omega (arith, f.sfits))
 
 range_fine : (range : RangeFields) → RangeHolds range → Fine 1 (range_json range)
@@ -183,7 +183,7 @@ unfolding range_json
 range_fine range holds =
     elim (cases_Bool (is_single_key range)) [
       inl single ↦ rw single (tt, omega arith)
-    | inr other ↦ rw other ((tt, tt, tt), omega arith)
+    | inr other ↦ rw other ((tt, (tt, tt)), omega arith)
     ]
 
 txn_fine : (txn : TxnFields) → TxnHolds txn → Fine 3 (txn_json txn)
@@ -191,14 +191,14 @@ unfolding txn_json
 txn_fine txn holds =
     let reads = all_fine range_json RangeHolds 1 range_fine txn.reads holds.reads in
     let writes = all_fine range_json RangeHolds 1 range_fine txn.writes holds.writes in
-    ((number_fine txn.snapshot holds.snapshot_fits, tt, reads.0, writes.0, tt), omega (arith, reads.1, writes.1))
+    ((number_fine txn.snapshot holds.snapshot_fits, (tt, (reads.0, (writes.0, tt)))), omega (arith, reads.1, writes.1))
 
 batch_fine : (batch : BatchFields) → BatchHolds batch → Fine 5 (batch_json batch)
 unfolding batch_json
 batch_fine batch holds =
     let txns = all_fine txn_json TxnHolds 3 txn_fine batch.txns holds.txns in
-    ((number_fine batch.previous holds.previous_fits, number_fine batch.version holds.version_fits,
-      number_fine batch.received holds.received_fits, txns.0, tt), omega (arith, txns.1))
+    ((number_fine batch.previous holds.previous_fits, (number_fine batch.version holds.version_fits,
+    (number_fine batch.received holds.received_fits, (txns.0, tt)))), omega (arith, txns.1))
 
 -- the line of a batch spells it
 pub batch_line_again : (batch : BatchFields) → BatchHolds batch → batch_of (batch_line batch) ≡ Some batch

@@ -1,7 +1,7 @@
 -- Places, one after the other, each above the one before it.
-use Rattle.std.proofs.Common.{◌≡◌, ℕ, ◌+◌, ◌<◌, ◌≤◌, ℤ, pos, negsuc, Bool, true, false, cond, ◌&&◌, ltb, leb, List, [], ◌∷◌, ◌++◌, length, drop, get_or, Option, Some, None, refl, sym, ap, subst, ◌∙◌, arith}
+use Rattle.std.proofs.Common.{◌≡◌, ℕ, ◌+◌, ◌<◌, ◌≤◌, ℤ, pos, negsuc, Bool, true, false, cond, ◌&&◌, ltb, leb, List, [], ◌∷◌, ◌++◌, length, drop, get_or, Option, Some, None, inl, inr, refl, sym, ap, subst, ◌∙◌, arith}
 use Rattle.std.proofs.lemmas.Bool.{and_parts, leb-true, ltb-true, cases_Bool}
-use Rattle.std.proofs.lemmas.List.{drop_more, drop_all}
+use Rattle.std.proofs.lemmas.List.{drop_all}
 use Rattle.json.specs.Json.{Json, Items, no_items, item}
 use Rattle.json.specs.Value.{value_view, items_view}
 use Rattle.json.specs.declared.value.Value.{Value}
@@ -9,11 +9,7 @@ use Rattle.keyspace.specs.Places.{ArePlaces}
 use Rattle.wire.proofs.PlaceLists.{RiseFrom, are_places}
 use Rattle.json_lines.specs.Values.{◌>>=◌, number_in}
 use Rattle.json_lines.specs.Replies.{place_from, place_in, rising}
-use Rattle.json_lines.proofs.Reading.{with_front, goes_on_with, all_read}
-
-rest_at : {A : Type 0} (vs : List (Value A)) (i : ℕ) (x : Value A) → i < length vs → x ≡ get_or vs i x
-    → drop i vs ≡ x ∷ drop (i + 1) vs
-rest_at {A} vs i x lt is = drop_more vs i x lt ∙ ap (λ (y : Value A). y ∷ drop (i + 1) vs) (sym is)
+use Rattle.json_lines.proofs.Reading.{with_front, goes_on_with, all_read, rest_at}
 
 pub rising_on : {A : Type 0} (least : ℕ) (front : List ℕ) (vs : List (Value A)) (i : ℕ) (x : Value A) (place : ℕ)
     (total : Option (List ℕ)) → i < length vs → x ≡ get_or vs i x → place_in least (value_view x) ≡ Some place
@@ -53,13 +49,13 @@ rising_done {A} least front vs i total le so_far =
 from_least : (least : ℕ) (n : ℤ) (p : ℕ) → place_from least n ≡ Some p → (least ≤ p) × (p < 1024)
 from_least least (pos n) p e =
     elim (cases_Bool (leb least n && ltb n 1024)) [
-      inl yes ↦
-          let q = and_parts _ _ yes in
-          let same : Some n ≡ Some p = ap (λ (b : Bool). cond b (Some n) None) (sym yes) ∙ e in
+      inl ok ↦
+          let q = and_parts _ _ ok in
+          let same : Some n ≡ Some p = ap (λ (b : Bool). cond b (Some n) None) (sym ok) ∙ e in
           let is : n ≡ p = cc in
           (subst (λ (k : ℕ). least ≤ k) is (leb-true least n q.0), subst (λ (k : ℕ). k < 1024) is (ltb-true n 1024 q.1))
-    | inr no ↦
-          let none : None ≡ Some p = ap (λ (b : Bool). cond b (Some n) None) (sym no) ∙ e in
+    | inr fails ↦
+          let none : None ≡ Some p = ap (λ (b : Bool). cond b (Some n) None) (sym fails) ∙ e in
           absurd cc
     ]
 from_least least (negsuc n) p e = absurd cc

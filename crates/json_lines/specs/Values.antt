@@ -63,7 +63,7 @@ has_member name (member k j ms) = bytes_eq k name || has_member name ms
 unfoldable pub are_among : List (List ℕ) → Members → Bool
 are_among names no_members = true
 are_among names (member k j ms) =
-    list_any (λ name. bytes_eq k name) names && (not (has_member k ms) && are_among names ms)
+    list_any (bytes_eq k) names && (not (has_member k ms) && are_among names ms)
 
 -- an object whose members are so
 abbrev pub has_only : List (List ℕ) → Json → Bool

@@ -1,5 +1,5 @@
 -- The line that is written for a batch, and for a reply.
-use Rattle.std.specs.Prelude.{◌≡◌, ℕ, ℤ, List, [], ◌∷◌, ◌++◌, codes, Bool, map, flat_map, Result, OnOk, if◌then◌else◌}
+use Rattle.std.specs.Prelude.{◌≡◌, ℕ, ℤ, List, [], ◌∷◌, ◌++◌, codes, Bool, map, flat_map, if◌then◌else◌}
 use Rattle.std.specs.Fmt.{signed_decimal}
 use Rattle.std.specs.Prelude.{decimal}
 use Rattle.json.specs.Token as token
@@ -8,7 +8,6 @@ use Rattle.json.specs.Json.{Json, null, boolean, number, string, array, object, 
 use Rattle.json.specs.Print.{print}
 use Rattle.json.specs.Tree.{json_tokens}
 use Rattle.json.specs.Value.{items_of}
-use Rattle.json.specs.Written as json
 use Rattle.keyspace.specs.declared.reply.Verdict.{Verdict}
 use Rattle.keyspace.specs.declared.reply.Verdict.TheVariants as verdict
 use Rattle.wire.specs.Fields.{RangeFields, TxnFields, BatchFields, EntryFields, ReplyFields}
@@ -89,8 +88,3 @@ batch_line batch = print (json_tokens (batch_json batch))
 
 abbrev pub reply_line : ReplyFields → List ℕ
 reply_line reply = print (json_tokens (reply_json reply))
-
--- the tokens are appended, where all went well; what stood before the tokens stays
-pub record Appends {E : Type 0} (r : Result (Unit {0}) E) (old new : json.Written) (tokens : List Token) : Type 0 where
-  pub ok : OnOk r (new.tokens ≡ old.tokens ++ tokens)
-  pub before : new.before ≡ old.before

@@ -9,7 +9,7 @@ ghost use Rattle.keyspace.specs.Fields.{txn_fields};
 ghost use Rattle.wire.specs.Fields.{batch_fields};
 ghost use Rattle.wire.specs.Spelling.{BatchHolds};
 ghost use Rattle.json_lines.specs.Batches.{batch_of};
-ghost use Rattle.json_lines.specs.Written.{Appends, all_tokens, number_tokens, txn_json, batch_json, batch_line, list_json};
+ghost use Rattle.json_lines.specs.Written.{all_tokens, number_tokens, txn_json, batch_json, batch_line, list_json};
 
 use crate::member::Member;
 use crate::range_writer::put_ranges;
@@ -29,7 +29,8 @@ pub fn write_batch(alloc: Global, batch: &Batch) -> Result<Vec<u8>, AllocError>
 
 #[tactic(auto, unfolding(crate::specs::Written::batch_json))]
 fn put_batch(alloc: Global, writer: &mut Writer, batch: &Batch) -> Result<(), AllocError>
-    ensures tokens { Appends result writer.old writer.new (json_tokens (batch_json (batch_fields batch.now))) }
+    ensures tokens { OnOk result (writer.new.tokens ≡ writer.old.tokens ++ (json_tokens (batch_json (batch_fields batch.now)))) }
+    ensures before { writer.new.before ≡ writer.old.before }
     ensures holds { OnOk result (BatchHolds (batch_fields batch.now)) }
 {
     writer.begin_object()?;
@@ -38,13 +39,15 @@ fn put_batch(alloc: Global, writer: &mut Writer, batch: &Batch) -> Result<(), Al
     put_number(writer, Member::Received, batch.received)?;
     writer.key(Member::Transactions.name())?;
     put_txns(alloc, writer, &batch.txns)?;
-    writer.end_object()
+    writer.end_object()?;
+    Ok(())
 }
 
 /// Writes a member that is a whole number.
 pub fn put_number(writer: &mut Writer, member: Member, number: i64) -> Result<(), AllocError>
-    ensures tokens { Appends result writer.old writer.new (number_tokens member number) }
-    ensures fits { FitsSigned w64 number }
+    ensures tokens { OnOk result (writer.new.tokens ≡ writer.old.tokens ++ (number_tokens member number)) }
+    ensures before { writer.new.before ≡ writer.old.before }
+    ensures fits { OnOk result (FitsSigned w64 number) }
 {
     writer.key(member.name())?;
     writer.i64(number)
@@ -52,17 +55,19 @@ pub fn put_number(writer: &mut Writer, member: Member, number: i64) -> Result<()
 
 // Writes the transactions of a batch.
 fn put_txns(alloc: Global, writer: &mut Writer, txns: &Txns) -> Result<(), AllocError>
-    ensures tokens { Appends result writer.old writer.new
-        (json_tokens (list_json txn_json (map txn_fields txns.now))) }
+    ensures tokens { OnOk result (writer.new.tokens ≡ writer.old.tokens ++ (json_tokens (list_json txn_json (map txn_fields txns.now)))) }
+    ensures before { writer.new.before ≡ writer.old.before }
     ensures fit { OnOk result (All (λ txn. FitsSigned w64 txn.snapshot) txns.now) }
 {
     writer.begin_array()?;
     each_txn(alloc, writer, txns)?;
-    writer.end_array()
+    writer.end_array()?;
+    Ok(())
 }
 
 fn each_txn(alloc: Global, writer: &mut Writer, txns: &Txns) -> Result<(), AllocError>
-    ensures tokens { Appends result writer.old writer.new (all_tokens txn_json (map txn_fields txns.now)) }
+    ensures tokens { OnOk result (writer.new.tokens ≡ writer.old.tokens ++ (all_tokens txn_json (map txn_fields txns.now))) }
+    ensures before { writer.new.before ≡ writer.old.before }
     ensures fit { OnOk result (All (λ txn. FitsSigned w64 txn.snapshot) txns.now) }
 {
     let mut form = Vec::new(alloc);
@@ -74,8 +79,9 @@ fn each_txn(alloc: Global, writer: &mut Writer, txns: &Txns) -> Result<(), Alloc
 
 #[tactic(auto, unfolding(crate::specs::Written::txn_json))]
 fn put_txn(writer: &mut Writer, form: &mut Vec<u8>, txn: &TxnRef<'_>) -> Result<(), AllocError>
-    ensures tokens { Appends result writer.old writer.new (json_tokens (txn_json (txn_fields txn.now))) }
-    ensures fits { FitsSigned w64 txn.now.snapshot }
+    ensures tokens { OnOk result (writer.new.tokens ≡ writer.old.tokens ++ (json_tokens (txn_json (txn_fields txn.now)))) }
+    ensures before { writer.new.before ≡ writer.old.before }
+    ensures fits { OnOk result (FitsSigned w64 txn.now.snapshot) }
 {
     writer.begin_object()?;
     put_number(writer, Member::Snapshot, txn.snapshot)?;
@@ -85,5 +91,6 @@ fn put_txn(writer: &mut Writer, form: &mut Vec<u8>, txn: &TxnRef<'_>) -> Result<
     put_ranges(writer, form, &txn.reads)?;
     writer.key(Member::Writes.name())?;
     put_ranges(writer, form, &txn.writes)?;
-    writer.end_object()
+    writer.end_object()?;
+    Ok(())
 }

@@ -3,7 +3,7 @@
 ghost use Rattle.std.specs.Prelude.{◌≡◌, ◌<◌, ◌++◌, map, All, IsAscii, OnOk};
 ghost use Rattle.json.specs.Tree.{json_tokens};
 ghost use Rattle.keyspace.specs.Fields.{range_fields};
-ghost use Rattle.json_lines.specs.Written.{Appends, all_tokens, key_json, pair_json, range_json, list_json};
+ghost use Rattle.json_lines.specs.Written.{all_tokens, key_json, pair_json, range_json, list_json};
 ghost use Rattle.wire.specs.Spelling.{is_single_key};
 
 use crate::key_form::put_key_form;
@@ -18,12 +18,13 @@ pub fn put_ranges(
     form: &mut Vec<u8>,
     ranges: &RangesRef<'_>,
 ) -> Result<(), AllocError>
-    ensures tokens { Appends result writer.old writer.new
-        (json_tokens (list_json range_json (map range_fields ranges.now))) }
+    ensures tokens { OnOk result (writer.new.tokens ≡ writer.old.tokens ++ (json_tokens (list_json range_json (map range_fields ranges.now)))) }
+    ensures before { writer.new.before ≡ writer.old.before }
 {
     writer.begin_array()?;
     each_range(writer, form, ranges)?;
-    writer.end_array()
+    writer.end_array()?;
+    Ok(())
 }
 
 fn each_range(
@@ -31,8 +32,8 @@ fn each_range(
     form: &mut Vec<u8>,
     ranges: &RangesRef<'_>,
 ) -> Result<(), AllocError>
-    ensures tokens { Appends result writer.old writer.new
-        (all_tokens range_json (map range_fields ranges.now)) }
+    ensures tokens { OnOk result (writer.new.tokens ≡ writer.old.tokens ++ (all_tokens range_json (map range_fields ranges.now))) }
+    ensures before { writer.new.before ≡ writer.old.before }
 {
     for index in 0..ranges.len() {
         put_range(writer, form, &ranges.get(index))?;
@@ -47,7 +48,8 @@ fn put_range(
     form: &mut Vec<u8>,
     range: &RangeRef<'_>,
 ) -> Result<(), AllocError>
-    ensures tokens { Appends result writer.old writer.new (json_tokens (range_json (range_fields range.now))) }
+    ensures tokens { OnOk result (writer.new.tokens ≡ writer.old.tokens ++ (json_tokens (range_json (range_fields range.now)))) }
+    ensures before { writer.new.before ≡ writer.old.before }
 {
     if is_single(range.begin(), range.end()) {
         put_key(writer, form, range.begin())
@@ -62,17 +64,20 @@ fn put_pair(
     begin: &[u8],
     end: &[u8],
 ) -> Result<(), AllocError>
-    ensures tokens { Appends result writer.old writer.new (json_tokens (pair_json begin.now end.now)) }
+    ensures tokens { OnOk result (writer.new.tokens ≡ writer.old.tokens ++ (json_tokens (pair_json begin.now end.now))) }
+    ensures before { writer.new.before ≡ writer.old.before }
 {
     writer.begin_array()?;
     put_key(writer, form, begin)?;
     put_key(writer, form, end)?;
-    writer.end_array()
+    writer.end_array()?;
+    Ok(())
 }
 
 // Writes a key. Its printed form is put together in `form`, whose memory is used again.
 fn put_key(writer: &mut Writer, form: &mut Vec<u8>, key: &[u8]) -> Result<(), AllocError>
-    ensures tokens { Appends result writer.old writer.new (json_tokens (key_json key.now)) }
+    ensures tokens { OnOk result (writer.new.tokens ≡ writer.old.tokens ++ (json_tokens (key_json key.now))) }
+    ensures before { writer.new.before ≡ writer.old.before }
 {
     form.clear();
     put_key_form(form, key)?;

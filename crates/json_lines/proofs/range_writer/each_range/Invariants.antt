@@ -1,6 +1,6 @@
 use Rattle.std.proofs.Common.{◌≡◌, ◌++◌, map, take}
 use Rattle.keyspace.specs.Fields.{range_fields}
-use Rattle.json_lines.specs.Written.{Appends, all_tokens, range_json}
+use Rattle.json_lines.specs.Written.{all_tokens, range_json}
 use Rattle.json_lines.proofs.range_writer.each_range.Given as goal
 
 abbrev pub invariant-loop-index : goal.invariant-loop-index
