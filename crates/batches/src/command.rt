@@ -3,7 +3,8 @@
 use clap::{Arg, ArgAction, Command};
 use std::alloc::{AllocError, Global};
 
-const EXAMPLE: &str = "Example:\n  batches encode batches.jsonl > batches && batches decode batches";
+const EXAMPLE: &str =
+    "Example:\n  batches encode batches.jsonl > batches && batches decode batches";
 
 /// Returns the command of the program.
 pub fn command<'a>(alloc: Global) -> Result<Command<'a>, AllocError> {

@@ -1,7 +1,7 @@
 //! What goes wrong, and how it is told.
 
-ghost use Rattle.std.specs.Prelude.{◌≡◌};
-ghost use Rattle.batches.specs.declared.failure.Failure.TheVariants.{Memory, Read, Write};
+ghost use Rattle.std.specs.Prelude.{◌≡◌, ◌≢◌};
+ghost use Rattle.batches.specs.declared.failure.Failure.TheVariants.{Memory, Write};
 
 use crate::status::Status;
 use json_lines::{Cause, Refusal};
@@ -38,7 +38,9 @@ pub enum Failure {
 
 impl Failure {
     /// Creates the failure of a refused line.
-    pub fn of_line(number: u64, refusal: Refusal) -> Self {
+    pub fn of_line(number: u64, refusal: Refusal) -> Self
+        ensures never_write { result ≢ Failure.Write }
+    {
         match refusal.cause {
             Cause::Memory => Failure::Memory,
             cause => Failure::Line(number, Refusal::new(refusal.place, cause)),
@@ -46,7 +48,9 @@ impl Failure {
     }
 
     /// Creates the failure of a refused frame.
-    pub fn of_frame(number: u64, refusal: WireError) -> Self {
+    pub fn of_frame(number: u64, refusal: WireError) -> Self
+        ensures never_write { result ≢ Failure.Write }
+    {
         match refusal {
             WireError::Memory => Failure::Memory,
             WireError::Read => Failure::Read,
@@ -55,7 +59,9 @@ impl Failure {
     }
 
     /// Creates the failure of what a line says, where it has no frame.
-    pub fn of_long(number: u64, refusal: WireError) -> Self {
+    pub fn of_long(number: u64, refusal: WireError) -> Self
+        ensures never_write { result ≢ Failure.Write }
+    {
         match refusal {
             WireError::Long => Failure::Long(number),
             _ => Failure::Memory,
@@ -88,6 +94,8 @@ impl From<Failed> for Failure {
 }
 
 impl From<io::Error> for Failure {
+    ghost from_gives = { λ _ failure. failure ≢ Write };
+
     fn from(error: io::Error) -> Failure {
         match error.kind() {
             io::ErrorKind::OutOfMemory => Failure::Memory,

@@ -96,7 +96,11 @@ fn do_line<R: Files<File = File> + Input + AllocGlobal, O: Sink, E: Sink>(
 // Returns the length of a file whose progress is told.
 fn length_of(file: &File) -> Option<u64> {
     let length = file.metadata().ok()?.len();
-    if length > LONG_FILE { Some(length) } else { None }
+    if length > LONG_FILE {
+        Some(length)
+    } else {
+        None
+    }
 }
 
 // Does the task, and passes on all that was written, after a failure too.

@@ -13,7 +13,10 @@ pub fn batch_table(alloc: Global, batch: &Batch, full: bool) -> Result<String, A
     let mut table = String::new(alloc);
     let (previous, version, received) = (batch.previous, batch.version, batch.received);
     let count = batch.txns.len();
-    writeln!(table, "batch {previous} > {version}, received {received}, transactions {count}")?;
+    writeln!(
+        table,
+        "batch {previous} > {version}, received {received}, transactions {count}"
+    )?;
     for index in 0..count {
         put_txn(alloc, &mut table, index, &batch.txns.txn(index), full)?;
     }

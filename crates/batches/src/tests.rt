@@ -58,7 +58,8 @@ const LINES: &str = r#"{"previous":-1,"version":0,"received":-1,"transactions":[
 {"previous":0,"version":100,"received":-1,"transactions":[{"snapshot":0,"report":true,"reads":[["a","b"],"k"],"writes":[["c","d"],"\\x00\\\\"]}]}
 "#;
 
-const REPLIES: &str = r#"{"version":100,"verdicts":["committed","conflict",{"conflict":[0,2]},"tooold"]}
+const REPLIES: &str =
+    r#"{"version":100,"verdicts":["committed","conflict",{"conflict":[0,2]},"tooold"]}
 "#;
 
 #[test]
@@ -76,13 +77,18 @@ fn lines_become_frames_and_lines(rt: HostRuntime) -> Result<(), Fail> {
 fn refusal_names_its_line(rt: HostRuntime) -> Result<(), Fail> {
     let alloc = rt.alloc();
     let first = "{\"previous\":-1,\"version\":0,\"transactions\":[]}\r\n \t\r\n";
-    let refused = format!(in alloc; "{first}{{\"previous\":0,\"version\":1,\"transactions\":[{{\"snapshot\":0,\"reads\":[\"a\",[\"b\",\"a\"]],\"writes\":[]}}]}}")?;
+    let refused = format!(in alloc;
+        "{first}{{\"previous\":0,\"version\":1,\"transactions\":[{{\"snapshot\":0,\"reads\":[\"a\",[\"b\",\"a\"]],\"writes\":[]}}]}}"
+    )?;
     let written = outcome(alloc, Way::Encode(Kind::Batches), refused.as_bytes())?;
     let frame = outcome(alloc, Way::Encode(Kind::Batches), first.as_bytes())?;
     assert_eq!(rt; frame.len(), 31);
     assert!(rt; written.starts_with(&frame));
     let rest = str::from_utf8(&written[frame.len().min(written.len())..]).ok();
-    assert_eq!(rt; rest, Some("line 3: transactions[0].reads[1]: begin is above end\n"));
+    assert_eq!(rt;
+        rest,
+        Some("line 3: transactions[0].reads[1]: begin is above end\n")
+    );
     Ok(())
 }
 
@@ -113,8 +119,14 @@ fn tables(rt: HostRuntime) -> Result<(), Fail> {
     let alloc = rt.alloc();
     let table = back(alloc, Kind::Batches, Way::Show(Kind::Batches, false), LINES)?;
     assert_eq!(rt; str::from_utf8(&table).ok(), Some(TABLE));
-    let table = back(alloc, Kind::Replies, Way::Show(Kind::Replies, false), REPLIES)?;
-    let want = "reply 100, verdicts 4\n     0  committed\n     1  conflict\n     2  conflict 0 2\n     3  too old\n";
+    let table = back(
+        alloc,
+        Kind::Replies,
+        Way::Show(Kind::Replies, false),
+        REPLIES,
+    )?;
+    let want =
+        "reply 100, verdicts 4\n     0  committed\n     1  conflict\n     2  conflict 0 2\n     3  too old\n";
     assert_eq!(rt; str::from_utf8(&table).ok(), Some(want));
     Ok(())
 }
@@ -122,7 +134,8 @@ fn tables(rt: HostRuntime) -> Result<(), Fail> {
 #[test]
 fn wide_keys_are_cut(rt: HostRuntime) -> Result<(), Fail> {
     let alloc = rt.alloc();
-    let line = "{\"previous\":0,\"version\":1,\"transactions\":[{\"snapshot\":0,\"reads\":[\"0123456789012345678901234567890123456789\"],\"writes\":[]}]}";
+    let line =
+        "{\"previous\":0,\"version\":1,\"transactions\":[{\"snapshot\":0,\"reads\":[\"0123456789012345678901234567890123456789\"],\"writes\":[]}]}";
     let head = "batch 0 > 1, received -1, transactions 1\n     0  snapshot 0\n        read   ";
     let cut = back(alloc, Kind::Batches, Way::Show(Kind::Batches, false), line)?;
     let want = format!(in alloc; "{head}\"01234567890123456789012345678...\"\n")?;

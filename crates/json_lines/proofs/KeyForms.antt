@@ -33,7 +33,7 @@ spelled_step [] some = absurd (some refl)
 spelled_step (c ∷ cs) some =
     ap (λ (o : Option (List ℕ)). cond (c == backslash) o (cond (is_printable c) (after_byte c (spelled cs)) None)) (escaped_step cs)
     ∙ ap (λ (o : Option (List ℕ)). cond (c == backslash) (escaped_at cs >>= then_spelled) o)
-      (sym (bind_cond (is_printable c) (Some (c, cs)) None then_spelled))
+    (sym (bind_cond (is_printable c) (Some (c, cs)) None then_spelled))
     ∙ sym (bind_cond (c == backslash) (escaped_at cs) (cond (is_printable c) (Some (c, cs)) None) then_spelled)
 
 some_left : (rest : List ℕ) → 0 < length rest → rest ≢ []

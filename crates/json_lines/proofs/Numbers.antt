@@ -39,8 +39,8 @@ whole_none : (text : List ℕ) → ¬ (IsWhole text) → whole text ≡ None
 unfolding whole
 whole_none text not_whole =
     elim (cases_Bool (is_whole text && fits (signed_digits_value 10 text))) [
-      inl ok ↦ absurd (not_whole (asked text ok))
-    | inr fails ↦ ap (λ b. cond b (Some (signed_digits_value 10 text)) None) fails
+      | inl ok ↦ absurd (not_whole (asked text ok))
+      | inr fails ↦ ap (λ b. cond b (Some (signed_digits_value 10 text)) None) fails
     ]
 
 -- what `parse` gives is the whole number of the text
@@ -55,6 +55,6 @@ pub whole_parses : (text : List ℕ) → ParsesSigned w64 10 text (ok_or (whole 
 unfolding whole
 whole_parses text =
     elim (cases_Bool (is_whole text && fits (signed_digits_value 10 text))) [
-      inl ok ↦ rw ok (asked text ok, refl)
-    | inr fails ↦ rw fails (λ h. false≢true (sym fails ∙ passes text h))
+      | inl ok ↦ rw ok (asked text ok, refl)
+      | inr fails ↦ rw fails (λ h. false≢true (sym fails ∙ passes text h))
     ]

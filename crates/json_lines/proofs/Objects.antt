@@ -50,7 +50,7 @@ pub doubled_ends : {A : Type 0} (names : List (List ℕ)) (ms : List (Bor (List 
 doubled_ends names ms i m total lt is again so_far =
     sym so_far ∙ among_at names ms i m lt is
     ∙ and_right (list_any (bytes_eq m.0.now) names) _
-      (ap (λ (b : Bool). not b && are_among names (members_view (drop (i + 1) ms))) again)
+    (ap (λ (b : Bool). not b && are_among names (members_view (drop (i + 1) ms))) again)
 
 -- a member of a right name, which doesn't come again
 pub among_on : {A : Type 0} (names : List (List ℕ)) (ms : List (Bor (List ℕ) × Value A)) (i : ℕ) (m : Bor (List ℕ) × Value A)

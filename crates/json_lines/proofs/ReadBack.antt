@@ -37,14 +37,14 @@ form_reads_first : (b : ℕ) (rest : List ℕ) → b < 256 → spelled (byte_for
 unfolding byte_form spelled_from
 form_reads_first b rest small =
     elim (cases_Bool (b == backslash)) [
-      inl is ↦ let e : b ≡ 92 = eqb-true b 92 is in
+      | inl is ↦ let e : b ≡ 92 = eqb-true b 92 is in
           subst (λ (x : ℕ). spelled (byte_form x ++ rest) ≡ after_byte x (spelled rest)) (sym e) refl
-    | inr other ↦ elim (cases_Bool (is_printable b)) [
-        inl shown ↦
+      | inr other ↦ elim (cases_Bool (is_printable b)) [
+        | inl shown ↦
             let form : byte_form b ≡ b ∷ [] = rw (other, shown) refl in
             let read : spelled (b ∷ rest) ≡ after_byte b (spelled rest) = rw (other, shown) refl in
             ap (λ (t : List ℕ). spelled (t ++ rest)) form ∙ read
-      | inr hidden ↦
+        | inr hidden ↦
             let h = digit_char (b / 16) in
             let l = digit_char (b % 16) in
             let form : byte_form b ≡ 92 ∷ 120 ∷ h ∷ l ∷ [] = rw (other, hidden) refl in
@@ -94,14 +94,14 @@ range_again : (range : RangeFields) → RangeHolds range → range_in (range_jso
 unfolding range_json pair_in ends_in
 range_again range holds =
     elim (cases_Bool (is_single_key range)) [
-      inl single ↦
+      | inl single ↦
           let is : single_key range.begin ≡ range = single_is range single in
           let longer : length range.end ≡ length range.begin + 1 =
           ap (λ (r : RangeFields). length r.end) (sym is) ∙ length-append range.begin (0 ∷ []) in
           let key : key_within 10000 (key_form range.begin) ≡ Some range.begin =
           within 10000 range.begin holds.begin.bytes (omega (arith, longer, holds.end.short)) in
           rw (single, key) (ap Some is)
-    | inr other ↦
+      | inr other ↦
           let begin : key_within 10001 (key_form range.begin) ≡ Some range.begin =
           within 10001 range.begin holds.begin.bytes holds.begin.short in
           let end : key_within 10001 (key_form range.end) ≡ Some range.end =
@@ -182,8 +182,8 @@ range_fine : (range : RangeFields) → RangeHolds range → Fine 1 (range_json r
 unfolding range_json
 range_fine range holds =
     elim (cases_Bool (is_single_key range)) [
-      inl single ↦ rw single (tt, omega arith)
-    | inr other ↦ rw other ((tt, (tt, tt)), omega arith)
+      | inl single ↦ rw single (tt, omega arith)
+      | inr other ↦ rw other ((tt, (tt, tt)), omega arith)
     ]
 
 txn_fine : (txn : TxnFields) → TxnHolds txn → Fine 3 (txn_json txn)
@@ -196,9 +196,16 @@ txn_fine txn holds =
 batch_fine : (batch : BatchFields) → BatchHolds batch → Fine 5 (batch_json batch)
 unfolding batch_json
 batch_fine batch holds =
-    let txns = all_fine txn_json TxnHolds 3 txn_fine batch.txns holds.txns in
-    ((number_fine batch.previous holds.previous_fits, (number_fine batch.version holds.version_fits,
-    (number_fine batch.received holds.received_fits, (txns.0, tt)))), omega (arith, txns.1))
+    let txns = all_fine txn_json TxnHolds 3 txn_fine batch.txns holds.txns in (
+      (
+        number_fine batch.previous holds.previous_fits,
+        (
+          number_fine batch.version holds.version_fits,
+          (number_fine batch.received holds.received_fits, (txns.0, tt)),
+        ),
+      ),
+      omega (arith, txns.1),
+    )
 
 -- the line of a batch spells it
 pub batch_line_again : (batch : BatchFields) → BatchHolds batch → batch_of (batch_line batch) ≡ Some batch

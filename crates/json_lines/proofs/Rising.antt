@@ -19,7 +19,7 @@ unfolding rising
 rising_on {A} least front vs i x place total lt is read so_far =
     let rest = items_view (drop (i + 1) vs) in
     let step : with_front front (rising least (items_view (drop i vs)))
-        ≡ with_front (front ++ place ∷ []) (rising (place + 1) rest) =
+    ≡ with_front (front ++ place ∷ []) (rising (place + 1) rest) =
     ap (λ (ws : List (Value A)). with_front front (rising least (items_view ws))) (rest_at vs i x lt is)
     ∙ ap (λ (o : Option ℕ). with_front front (o >>= λ p. rising (p + 1) rest >>= λ ps. Some (p ∷ ps))) read
     ∙ goes_on_with front place (rising (place + 1) rest) in
@@ -49,12 +49,12 @@ rising_done {A} least front vs i total le so_far =
 from_least : (least : ℕ) (n : ℤ) (p : ℕ) → place_from least n ≡ Some p → (least ≤ p) × (p < 1024)
 from_least least (pos n) p e =
     elim (cases_Bool (leb least n && ltb n 1024)) [
-      inl ok ↦
+      | inl ok ↦
           let q = and_parts _ _ ok in
           let same : Some n ≡ Some p = ap (λ (b : Bool). cond b (Some n) None) (sym ok) ∙ e in
           let is : n ≡ p = cc in
           (subst (λ (k : ℕ). least ≤ k) is (leb-true least n q.0), subst (λ (k : ℕ). k < 1024) is (ltb-true n 1024 q.1))
-    | inr fails ↦
+      | inr fails ↦
           let none : None ≡ Some p = ap (λ (b : Bool). cond b (Some n) None) (sym fails) ∙ e in
           absurd cc
     ]

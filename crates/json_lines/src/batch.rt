@@ -28,11 +28,7 @@ const MEMBERS: [Member; 4] = [
 ];
 
 /// Reads the batch of a line, which is one JSON object. The scratch is kept from line to line, so that its memory is taken once.
-pub fn read_batch(
-    alloc: Global,
-    line: &[u8],
-    scratch: &mut Scratch,
-) -> Result<Batch, Refusal>
+pub fn read_batch(alloc: Global, line: &[u8], scratch: &mut Scratch) -> Result<Batch, Refusal>
     ensures batch { IfOk result (λ batch. batch_of line.now ≡ Some (batch_fields batch)) }
     ensures text { OnOk result (IsUtf8 line.now) }
     ensures refused { IfErr result (λ refusal. refusal.cause ≢ cause.Memory → IsUtf8 line.now

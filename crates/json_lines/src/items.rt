@@ -11,10 +11,7 @@ use crate::refusal::Refusal;
 use json::Value;
 
 /// Returns the items of an array.
-pub fn items_of<'v, 'a>(
-    value: &'v Value<'a>,
-    place: Place,
-) -> Result<&'v Vec<Value<'a>>, Refusal>
+pub fn items_of<'v, 'a>(value: &'v Value<'a>, place: Place) -> Result<&'v Vec<Value<'a>>, Refusal>
     ensures reads { Reads (λ items. items_view items.now.items) result (as_array (value_view value.now)) }
 {
     match value {

@@ -28,11 +28,7 @@ pub fn ranges_of(alloc: Global, value: &Value<'_>, place: Place) -> Result<Vec<R
     each_range(alloc, items, place)
 }
 
-fn each_range(
-    alloc: Global,
-    items: &[Value<'_>],
-    place: Place,
-) -> Result<Vec<Range>, Refusal>
+fn each_range(alloc: Global, items: &[Value<'_>], place: Place) -> Result<Vec<Range>, Refusal>
     ensures reads { Reads (λ ranges. map range_fields ranges.items) result (each range_in (items_view items.now)) }
     ensures count { IfOk result (λ ranges. length ranges.items ≡ length items.now) }
 {

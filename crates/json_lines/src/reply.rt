@@ -28,11 +28,7 @@ const MEMBERS: [Member; 2] = [Member::Version, Member::Verdicts];
 const REPORT_MEMBERS: [Member; 1] = [Member::Conflict];
 
 /// Reads the reply of a line, which is one JSON object. The scratch is kept from line to line, so that its memory is taken once.
-pub fn read_reply(
-    alloc: Global,
-    line: &[u8],
-    scratch: &mut Scratch,
-) -> Result<Reply, Refusal>
+pub fn read_reply(alloc: Global, line: &[u8], scratch: &mut Scratch) -> Result<Reply, Refusal>
     ensures reply { IfOk result (λ reply. reply_of line.now ≡ Some (reply_fields reply)) }
     ensures text { OnOk result (IsUtf8 line.now) }
     ensures refused { IfErr result (λ refusal. refusal.cause ≢ cause.Memory → IsUtf8 line.now

@@ -9,8 +9,8 @@ ghost use Rattle.wire.specs.Spelling.{ReplyHolds};
 ghost use Rattle.json_lines.specs.Replies.{reply_of};
 ghost use Rattle.json_lines.specs.Written.{all_tokens, number_tokens, word_of, place_json, report_json, entry_json, reply_json, reply_line, list_json};
 
-use crate::member::Member;
 use crate::batch_writer::put_number;
+use crate::member::Member;
 use json::Writer;
 use keyspace::{Entry, Reply, Verdict};
 use std::alloc::{AllocError, Global};

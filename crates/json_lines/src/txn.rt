@@ -70,7 +70,12 @@ fn members_of(alloc: Global, value: &Value<'_>, place: Place) -> Result<Txn, Ref
     if snapshot < 0 {
         return Err(Refusal::new(place.member(Member::Snapshot), Cause::Negative));
     }
-    Ok(Txn::new(snapshot, report, Sequence::new(reads), Sequence::new(writes)))
+    Ok(Txn::new(
+        snapshot,
+        report,
+        Sequence::new(reads),
+        Sequence::new(writes),
+    ))
 }
 
 /// Reads the whole number of a member that has to be there.

@@ -16,7 +16,8 @@ fn lines_are_read(rt: HostRuntime) -> Result<(), Fail> {
 }
 
 // How a line is written: each member, a range of a single key as that key, and bytes by their numbers only where they have to be.
-const WRITTEN: &str = r#"{"version":0,"previous":-1,"transactions":[]} => {"previous":-1,"version":0,"received":-1,"transactions":[]}
+const WRITTEN: &str =
+    r#"{"version":0,"previous":-1,"transactions":[]} => {"previous":-1,"version":0,"received":-1,"transactions":[]}
 {"previous":0,"version":100,"received":-1,"transactions":[{"snapshot":0,"report":true,"reads":[["a","b"],["k","k\\x00"]],"writes":[["c","d"]]}]} => {"previous":0,"version":100,"received":-1,"transactions":[{"snapshot":0,"report":true,"reads":[["a","b"],"k"],"writes":[["c","d"]]}]}
 {"previous":0,"version":1,"transactions":[{"snapshot":0,"reads":["\\x5c\\x41\\x7F\\xFF\\x20\\x00"],"writes":[["","\\x22"]]}]} => {"previous":0,"version":1,"received":-1,"transactions":[{"snapshot":0,"report":false,"reads":["\\\\A\\x7f\\xff \\x00"],"writes":[["","\""]]}]}"#;
 

@@ -69,19 +69,36 @@ fn many(alloc: Global, part: &str, count: usize) -> Result<String, Unmade> {
 fn limits(alloc: Global, txns: usize, ranges: usize, bytes: usize) -> Result<String, Unmade> {
     let key = "k".repeat(alloc, bytes)?;
     let ranges = many(alloc, "\"k\"", ranges)?;
-    let first = format!(in alloc; "{{\"snapshot\":0,\"reads\":[{ranges}],\"writes\":[\"{key}\",[\"\",\"{key}k\"]]}}")?;
+    let first = format!(in alloc;
+        "{{\"snapshot\":0,\"reads\":[{ranges}],\"writes\":[\"{key}\",[\"\",\"{key}k\"]]}}"
+    )?;
     let others = many(alloc, "{\"snapshot\":0,\"reads\":[],\"writes\":[]}", txns)?;
-    let line = format!(in alloc; "{{\"previous\":0,\"version\":1,\"transactions\":[{first},{others}]}}")?;
+    let line = format!(in alloc;
+        "{{\"previous\":0,\"version\":1,\"transactions\":[{first},{others}]}}"
+    )?;
     let shown = outcome(alloc, Way::Batch, &line)?;
-    Ok(String::from_str(alloc, if shown.starts_with("0>1") { "read" } else { &shown })?)
+    Ok(String::from_str(
+        alloc,
+        if shown.starts_with("0>1") {
+            "read"
+        } else {
+            &shown
+        },
+    )?)
 }
 
 #[test]
 fn limits_are_kept(rt: HostRuntime) -> Result<(), Fail> {
     let alloc = rt.alloc();
     assert_eq!(rt; limits(alloc, 4_095, 1_024, 10_000)?.as_str(), "read");
-    assert_eq!(rt; limits(alloc, 4_096, 1_024, 10_000)?.as_str(), "transactions: more than 4,096 items");
-    assert_eq!(rt; limits(alloc, 1, 1_025, 10_000)?.as_str(), "transactions[0].reads: more than 1,024 items");
+    assert_eq!(rt;
+        limits(alloc, 4_096, 1_024, 10_000)?.as_str(),
+        "transactions: more than 4,096 items"
+    );
+    assert_eq!(rt;
+        limits(alloc, 1, 1_025, 10_000)?.as_str(),
+        "transactions[0].reads: more than 1,024 items"
+    );
     assert_eq!(rt;
         limits(alloc, 1, 1, 10_001)?.as_str(),
         "transactions[0].writes[0]: single key is longer than 10,000 bytes"

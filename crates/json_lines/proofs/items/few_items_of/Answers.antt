@@ -1,4 +1,4 @@
-use Rattle.std.proofs.Common.{◌≤◌, ◌<◌, length, arith, rules}
+use Rattle.std.proofs.Common.{◌≤◌, ◌<◌, length, rules}
 use Rattle.json.specs.Find.{as_array}
 use Rattle.json.specs.Value.{value_view}
 use Rattle.json_lines.proofs.Lists.{few, too_many}

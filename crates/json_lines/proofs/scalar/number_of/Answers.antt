@@ -1,4 +1,4 @@
-use Rattle.std.proofs.Common.{◌≡◌, Option, Some, None, ap, sym, ◌∙◌, rules, w64, SFits}
+use Rattle.std.proofs.Common.{Some, ap, sym, ◌∙◌, rules, w64, SFits}
 use Rattle.std.proofs.lemmas.Int.{to_z-of_z}
 use Rattle.json.specs.Find.{as_number}
 use Rattle.json.specs.Value.{value_view}
