@@ -1,4 +1,4 @@
-.PHONY: demo replay test refused-memory stalled-pipes plant bench
+.PHONY: demo replay batches test refused-memory stalled-pipes plant bench
 
 # Runs the program on the recorded files of examples/, unproved. A file NAME.args names the further files of a run.
 demo:
@@ -9,6 +9,12 @@ demo:
 replay:
 	cd crates/replay && rt run -- ../../examples/first_run
 	@echo 'The proved program: crates/replay/out/replay'
+
+# Proves and builds the program that turns lines of JSON into batches, and shows that the examples and their JSON are the other.
+batches:
+	cd crates/batches && rt run
+	.ci/json-examples
+	@echo 'The proved program: crates/batches/out/batches'
 
 # The whole gate: every proof from nothing, the must-fail edits, the tests and the program.
 test:

@@ -1,9 +1,9 @@
 -- Part after part.
-use Rattle.std.proofs.Common.{◌≡◌, ℕ, List, [], ◌∷◌, ◌++◌, Option, Some, None, refl, sym, ap, subst, ◌∙◌, append_assoc}
+use Rattle.std.proofs.Common.{◌≡◌, ℕ, List, [], ◌∷◌, ◌++◌, Option, Some, None, refl, sym, ap, IfSome, subst, ◌∙◌, append_assoc}
 use Rattle.std.proofs.lemmas.List.{append-nil}
-use Rattle.std.specs.Io.KnownBytes.{Consumes, Appends}
+use Rattle.std.specs.Io.KnownBytes.{Consumes, Appends, IsAtEnd}
 use Rattle.wire.proofs.Known.{consumes_none, consumes_then}
-use Rattle.batches.specs.Turned.{BecomeEach, joined, Turns, TurnsSome}
+use Rattle.batches.specs.Turned.{BecomeEach, joined, Turns, TurnsAll}
 
 appends_none : (a : Option (List ℕ)) → Appends a a []
 appends_none None = tt
@@ -11,9 +11,9 @@ appends_none (Some xs) = sym (append-nil xs)
 
 appends_then : (a b c : Option (List ℕ)) (xs ys : List ℕ) → Appends a b xs → Appends b c ys → Appends a c (xs ++ ys)
 appends_then None b c xs ys h k = tt
-appends_then (Some as) None c xs ys h k = absurd h
-appends_then (Some as) (Some bs) None xs ys h k = absurd k
-appends_then (Some as) (Some bs) (Some cs) xs ys h k = k ∙ ap (λ (t : List ℕ). t ++ ys) h ∙ append_assoc as xs ys
+appends_then (Some us) None c xs ys h k = absurd h
+appends_then (Some us) (Some vs) None xs ys h k = absurd k
+appends_then (Some us) (Some vs) (Some ws) xs ys h k = k ∙ ap (λ (t : List ℕ). t ++ ys) h ∙ append_assoc us xs ys
 
 joined_last : (parts : List (List ℕ)) (part : List ℕ) → joined parts ++ part ≡ joined (parts ++ part ∷ [])
 joined_last [] part = sym (append-nil part)
@@ -26,9 +26,16 @@ each_last Becomes [] part text last each becomes =
     (last, ([], (ap (λ (t : List ℕ). t ++ last) each ∙ sym (append-nil last), (becomes, refl))))
 each_last Becomes (first ∷ parts) part text last each becomes =
     let begin = each.0 in
-    let others = each.1 in
-    (begin, (others ++ last, (ap (λ (t : List ℕ). t ++ last) each.2 ∙ append_assoc begin others last,
-    (each.3, each_last Becomes parts part others last each.4 becomes))))
+    let others = each.1 in (
+      begin,
+      (
+        others ++ last,
+        (
+          ap (λ (t : List ℕ). t ++ last) each.2 ∙ append_assoc begin others last,
+          (each.3, each_last Becomes parts part others last each.4 becomes),
+        ),
+      ),
+    )
 
 pub nothing_yet : (Becomes : List ℕ → List ℕ → Type 0) (left before : Option (List ℕ)) → Turns Becomes left left before before
 nothing_yet Becomes left before = record {
@@ -56,14 +63,23 @@ pub same_output : (Becomes : List ℕ → List ℕ → Type 0) (left now before 
 same_output Becomes left now before after later same so_far =
     subst (λ (out : Option (List ℕ)). Turns Becomes left now before out) (sym same) so_far
 
--- at the end nothing more is read
-pub at_the_end : (Becomes : List ℕ → List ℕ → Type 0) (left now next before after : Option (List ℕ))
-    → Turns Becomes left now before after → Consumes now next [] → Turns Becomes left next before after
-at_the_end Becomes left now next before after so_far none = record {
+-- the parts are all, where nothing is left
+all_parts : (left now : Option (List ℕ)) (bytes : List ℕ) → Consumes left now bytes → IsAtEnd now → IfSome left (λ all. all ≡ bytes)
+all_parts None now bytes read end = tt
+all_parts (Some xs) None bytes read end = absurd read
+all_parts (Some xs) (Some ys) bytes read end = read ∙ ap (λ (t : List ℕ). bytes ++ t) end ∙ append-nil bytes
+
+pub at_the_end : (Becomes : List ℕ → List ℕ → Type 0) (left now before after : Option (List ℕ))
+    → Turns Becomes left now before after → IsAtEnd now → TurnsAll Becomes left before after
+at_the_end Becomes left now before after so_far end = record {
   parts = so_far.parts;
   text = so_far.text;
-  read = subst (Consumes left next) (append-nil (joined so_far.parts))
-      (consumes_then left now next (joined so_far.parts) [] so_far.read none);
+  read = all_parts left now (joined so_far.parts) so_far.read end;
   each = so_far.each;
   written = so_far.written;
 }
+
+pub end_before : (a b : Option (List ℕ)) (bytes : List ℕ) → bytes ≡ [] → Consumes a b bytes → IsAtEnd b → IsAtEnd a
+end_before None b bytes none read end = tt
+end_before (Some xs) None bytes none read end = absurd read
+end_before (Some xs) (Some ys) bytes none read end = read ∙ ap (λ (t : List ℕ). t ++ ys) none ∙ end

@@ -1,5 +1,5 @@
 -- What the program reads, part by part, and what it writes for each part.
-use Rattle.std.specs.Prelude.{◌≡◌, ℕ, List, [], ◌∷◌, ◌++◌, Option}
+use Rattle.std.specs.Prelude.{◌≡◌, ℕ, List, [], ◌∷◌, ◌++◌, Option, IfSome}
 use Rattle.std.specs.Io.KnownBytes.{Consumes, Appends}
 
 -- the bytes are what these parts become, one after the other
@@ -18,6 +18,14 @@ pub record Turns (Becomes : List ℕ → List ℕ → Type 0) (left now before a
   pub parts : List (List ℕ)
   pub text : List ℕ
   pub read : Consumes left now (joined parts)
+  pub each : BecomeEach Becomes parts text
+  pub written : Appends before after text
+
+-- The bytes that were left are these parts, all of them; and the output grew by what the parts become.
+pub record TurnsAll (Becomes : List ℕ → List ℕ → Type 0) (left before after : Option (List ℕ)) : Type 0 where
+  pub parts : List (List ℕ)
+  pub text : List ℕ
+  pub read : IfSome left (λ bytes. bytes ≡ joined parts)
   pub each : BecomeEach Becomes parts text
   pub written : Appends before after text
 

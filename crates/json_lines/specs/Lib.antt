@@ -5,3 +5,4 @@ pub mod Ranges
 pub mod Batches
 pub mod Replies
 pub mod Written
+pub mod Laws

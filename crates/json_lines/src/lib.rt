@@ -13,6 +13,7 @@ mod cause;
 mod document;
 mod items;
 mod key_form;
+pub mod laws;
 mod member;
 mod members;
 mod place;

@@ -1,6 +1,8 @@
 //! Batches and replies drawn by chance, written as lines and read back.
 
-use fixtures::{Random, Unmade, batch_of, reply, single_key, txn};
+ghost use Rattle.std.specs.Prelude.{◌<◌};
+
+use fixtures::{Random, Unmade, batch_of, entry, reply, single_key, txn};
 use json_lines::{Scratch, read_batch, read_reply, write_batch, write_reply};
 use keyspace::{Batch, Entry, Places, Range, Reply, Txn, Verdict};
 use std::alloc::{AllocError, Global};
@@ -67,19 +69,22 @@ fn random_batches_read_back(rt: HostRuntime) -> Result<(), Fail> {
     Ok(())
 }
 
-fn draw_entry(alloc: Global, random: &mut Random) -> Result<Entry, Unmade> {
-    let verdict = match random.below(3) {
-        0 => Verdict::Conflict,
-        1 => Verdict::TooOld,
-        _ => Verdict::Committed,
-    };
+// Makes the entry of a conflict at this place.
+fn report(alloc: Global, place: u16) -> Result<Entry, Unmade>
+    requires below { place < 1024 }
+{
     let mut places = Vec::new(alloc);
-    if verdict == Verdict::Conflict && random.coin() {
-        places
-            .push(random.below(1_024) as u16)
-            .map_err(AllocError::from)?;
+    places.push(place).map_err(AllocError::from)?;
+    Ok(Entry::new(Verdict::Conflict, Places::new(places)))
+}
+
+fn draw_entry(alloc: Global, random: &mut Random) -> Result<Entry, Unmade> {
+    match random.below(4) {
+        0 => report(alloc, random.below(1_024) as u16),
+        1 => Ok(entry(alloc, Verdict::Conflict)),
+        2 => Ok(entry(alloc, Verdict::TooOld)),
+        _ => Ok(entry(alloc, Verdict::Committed)),
     }
-    Ok(Entry::new(verdict, Places::new(places)))
 }
 
 fn draw_reply(alloc: Global, random: &mut Random) -> Result<Reply, Unmade> {

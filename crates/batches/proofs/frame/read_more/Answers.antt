@@ -6,7 +6,7 @@ use Rattle.batches.proofs.frame.read_more.Goals as goal
 pub returns-clause-joined : goal.returns-clause-joined
 returns-clause-joined g c =
     let held = c.len-held.result in
-    let count = c.in_ok-count.count in
+    let count = c.in-Ok.count in
     let old = c.args.buffer.now.items in
     let read = c.read.new.buffer in
     let before = c.args.buffer.now.items in
@@ -21,4 +21,4 @@ returns-clause-joined g c =
     let joined : c.truncate.new.self.items ≡ old ++ take count read = c.truncate.ensures.items
     ∙ filled held count c.resize.new.self.len (take held c.deref_mut.result.now) old read _ _ kept len few within in
     prepended (g.R.Source.remaining c.args.reader.now) (g.R.Source.remaining c.read.new.self) old
-    c.truncate.new.self.items (take count read) joined c.in_ok-count.ensures.bytes
+    c.truncate.new.self.items (take count read) joined c.in-Ok.ensures.bytes
