@@ -23,18 +23,15 @@ joined_last (first ∷ parts) part =
 each_last : (Becomes : List ℕ → List ℕ → Type 0) (parts : List (List ℕ)) (part text last : List ℕ)
     → BecomeEach Becomes parts text → Becomes part last → BecomeEach Becomes (parts ++ part ∷ []) (text ++ last)
 each_last Becomes [] part text last each becomes =
-    (last, ([], (ap (λ (t : List ℕ). t ++ last) each ∙ sym (append-nil last), (becomes, refl))))
+    (last, [], ap (λ (t : List ℕ). t ++ last) each ∙ sym (append-nil last), becomes, refl)
 each_last Becomes (first ∷ parts) part text last each becomes =
     let begin = each.0 in
     let others = each.1 in (
       begin,
-      (
-        others ++ last,
-        (
-          ap (λ (t : List ℕ). t ++ last) each.2 ∙ append_assoc begin others last,
-          (each.3, each_last Becomes parts part others last each.4 becomes),
-        ),
-      ),
+      others ++ last,
+      ap (λ (t : List ℕ). t ++ last) each.2 ∙ append_assoc begin others last,
+      each.3,
+      each_last Becomes parts part others last each.4 becomes,
     )
 
 pub nothing_yet : (Becomes : List ℕ → List ℕ → Type 0) (left before : Option (List ℕ)) → Turns Becomes left left before before

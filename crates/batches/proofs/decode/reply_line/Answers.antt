@@ -6,9 +6,7 @@ use Rattle.batches.proofs.decode.reply_line.Goals as goal
 pub returns-in_ok-push-in-Ok-clause-line : goal.returns-in_ok-push-in-Ok-clause-line
 returns-in_ok-push-in-Ok-clause-line c = (
   c.in-Ok.reply,
-  (
-    subst (λ (bytes : List ℕ). SpellsReply bytes c.in-Ok.reply)
-        (take_all c.in-Ok.used c.args.frame.now c.if-used-frame.false) c.in-Ok.ensures.spelled,
-    c.in_ok-push.ensures.items ∙ ap (λ (t : List ℕ). t ++ 10 ∷ []) c.in_ok-line.ensures.text,
-  ),
+  subst (λ (bytes : List ℕ). SpellsReply bytes c.in-Ok.reply)
+      (take_all c.in-Ok.used c.args.frame.now c.if-used-frame.false) c.in-Ok.ensures.spelled,
+  c.in_ok-push.ensures.items ∙ ap (λ (t : List ℕ). t ++ 10 ∷ []) c.in_ok-line.ensures.text,
 )
