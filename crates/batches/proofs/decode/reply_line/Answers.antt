@@ -8,5 +8,5 @@ returns-in_ok-push-in-Ok-clause-line c = (
   c.in-Ok.reply,
   subst (λ (bytes : List ℕ). SpellsReply bytes c.in-Ok.reply)
       (take_all c.in-Ok.used c.args.frame.now c.if-used-frame.false) c.in-Ok.ensures.spelled,
-  c.in_ok-push.ensures.items ∙ ap (λ (t : List ℕ). t ++ 10 ∷ []) c.in_ok-line.ensures.text,
+  c.in_ok-push-in-Ok.ensures.items ∙ ap (λ (t : List ℕ). t ++ 10 ∷ []) c.in_ok-line-in-Ok.ensures.text,
 )
