@@ -12,7 +12,7 @@ replay:
 
 # Proves and builds the program that turns lines of JSON into batches, and shows that the examples and their JSON are the other.
 batches:
-	cd crates/batches && rt run
+	cd crates/batches && rt run -- --version
 	.ci/json-examples
 	@echo 'The proved program: crates/batches/out/batches'
 
