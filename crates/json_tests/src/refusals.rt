@@ -77,14 +77,10 @@ fn limits(alloc: Global, txns: usize, ranges: usize, bytes: usize) -> Result<Str
         "{{\"previous\":0,\"version\":1,\"transactions\":[{first},{others}]}}"
     )?;
     let shown = outcome(alloc, Way::Batch, &line)?;
-    Ok(String::from_str(
-        alloc,
-        if shown.starts_with("0>1") {
-            "read"
-        } else {
-            &shown
-        },
-    )?)
+    if shown.starts_with("0>1") {
+        return Ok(String::from_str(alloc, "read")?);
+    }
+    Ok(shown)
 }
 
 #[test]
