@@ -1,4 +1,4 @@
-.PHONY: demo replay test refused-memory stalled-pipes readme-runs plant bench
+.PHONY: demo replay batches test refused-memory json-examples stalled-pipes readme-runs plant bench
 
 # Runs the program on the recorded files of examples/, unproved. A file NAME.args names the further files of a run.
 demo: SHELL := bash
@@ -13,6 +13,16 @@ demo:
 replay:
 	cd crates/replay && rt run -- ../../examples/first_run
 	@echo 'The proved program: crates/replay/out/replay'
+
+# Proves and builds the program that turns lines of JSON into batches, and shows that the examples and their JSON are the other.
+batches:
+	cd crates/batches && rt run -- --version
+	.ci/json-examples
+	@echo 'The proved program: crates/batches/out/batches'
+
+# After `make test` or `make batches`: encodes the JSON of each example, and decodes the example, and compares.
+json-examples:
+	.ci/json-examples
 
 # The full check: every proof from nothing, the must-fail edits, the tests and the programs.
 test:

@@ -1,0 +1,6 @@
+/// What frames and lines are of.
+#[derive(Clone, Copy, Debug, PartialEq, Eq)]
+pub enum Kind {
+    Batches,
+    Replies,
+}

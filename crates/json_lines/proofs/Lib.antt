@@ -1,0 +1,10 @@
+pub mod Reading
+pub mod KeyForms
+pub mod Numbers
+pub mod Objects
+pub mod Lists
+pub mod Rising
+pub mod Forms
+pub mod Tokens
+pub mod ReadBack
+pub mod ReplyBack

@@ -1,0 +1,60 @@
+-- Whole numbers, as `parse` finds them and as the definition tests them.
+use Rattle.std.proofs.Common.{◌≡◌, ℕ, ℤ, ◌<◌, Bool, true, false, cond, ◌&&◌, List, [], ◌∷◌, length, Option, Some, None, ok_or, inl, inr, refl, sym, ap, ◌∙◌, w64, arith, MatchOption}
+use Rattle.std.specs.Str.Parse.{AllDigits, IsNumeral, ParsesSigned, without_leading_sign, signed_digits_value}
+use Rattle.std.specs.Char.{digit_value, is_digit}
+use Rattle.std.specs.Int.RustNames.{FitsSigned}
+use Rattle.std.specs.List.{list_all}
+use Rattle.std.proofs.lemmas.Bool.{and_from, and_parts, lt-ltb, ltb-true, cases_Bool, false≢true}
+use Rattle.json_lines.specs.Values.{◌>>=◌, is_whole, fits, whole}
+
+digits_pass : (ds : List ℕ) → AllDigits 10 ds → list_all (λ c. is_digit c 10) ds ≡ true
+digits_pass [] d = refl
+digits_pass (c ∷ cs) d = and_from (is_digit c 10) _ (lt-ltb (digit_value c) 10 d.0) (digits_pass cs d.1)
+
+pass_digits : (ds : List ℕ) → list_all (λ c. is_digit c 10) ds ≡ true → AllDigits 10 ds
+pass_digits [] e = tt
+pass_digits (c ∷ cs) e = let p = and_parts (is_digit c 10) _ e in (ltb-true (digit_value c) 10 p.0, pass_digits cs p.1)
+
+-- what `parse` asks of a text
+abbrev pub IsWhole : List ℕ → Type 0
+IsWhole text = IsNumeral 10 (without_leading_sign text) × FitsSigned w64 (signed_digits_value 10 text)
+
+pub passes : (text : List ℕ) → IsWhole text → (is_whole text && fits (signed_digits_value 10 text)) ≡ true
+passes text h =
+    and_from (is_whole text) (fits (signed_digits_value 10 text))
+    (and_from _ _ (lt-ltb 0 (length (without_leading_sign text)) h.0.0) (digits_pass (without_leading_sign text) h.0.1))
+    (lt-ltb _ _ h.1.sfits)
+
+asked : (text : List ℕ) → (is_whole text && fits (signed_digits_value 10 text)) ≡ true → IsWhole text
+asked text e =
+    let p = and_parts (is_whole text) (fits (signed_digits_value 10 text)) e in
+    let q = and_parts _ _ p.0 in
+    ((ltb-true 0 (length (without_leading_sign text)) q.0, pass_digits (without_leading_sign text) q.1), record { sfits = ltb-true _ _ p.1 })
+
+pub whole_is : (text : List ℕ) → IsWhole text → whole text ≡ Some (signed_digits_value 10 text)
+unfolding whole
+whole_is text h = ap (λ b. cond b (Some (signed_digits_value 10 text)) None) (passes text h)
+
+whole_none : (text : List ℕ) → ¬ (IsWhole text) → whole text ≡ None
+unfolding whole
+whole_none text not_whole =
+    elim (cases_Bool (is_whole text && fits (signed_digits_value 10 text))) [
+      | inl ok ↦ absurd (not_whole (asked text ok))
+      | inr fails ↦ ap (λ b. cond b (Some (signed_digits_value 10 text)) None) fails
+    ]
+
+-- what `parse` gives is the whole number of the text
+pub parsed : (o : Option (List ℕ)) (r : Option ℤ) → MatchOption o (r ≡ None) (λ s. ParsesSigned w64 10 s (ok_or r s))
+    → (o >>= whole) ≡ r
+parsed None r h = sym h
+parsed (Some s) (Some n) h = whole_is s h.0 ∙ ap Some (sym h.1)
+parsed (Some s) None h = whole_none s h
+
+-- the definition says of each text what `parse` says of it
+pub whole_parses : (text : List ℕ) → ParsesSigned w64 10 text (ok_or (whole text) text)
+unfolding whole
+whole_parses text =
+    elim (cases_Bool (is_whole text && fits (signed_digits_value 10 text))) [
+      | inl ok ↦ rw ok (asked text ok, refl)
+      | inr fails ↦ rw fails (λ h. false≢true (sym fails ∙ passes text h))
+    ]

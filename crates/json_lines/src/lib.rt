@@ -1,0 +1,37 @@
+//! Batches and replies as lines of JSON, and back.
+//!
+//! `specs/` holds what has to be believed, to be read in this order: `KeyForm` (keys as text), `Values`, `Names`, `Ranges`,
+//! `Batches` and `Replies` (what a JSON value says, if it says a batch or a reply), and `Written` (which line is written).
+//!
+//! The layers above use [`read_batch`] and [`read_reply`], which read a line or say which member is wrong and why
+//! ([`Refusal`]); and [`write_batch`] and [`write_reply`], whose lines read back as what was written ([`laws`]).
+#![tactic(auto)]
+
+mod batch;
+mod batch_writer;
+mod cause;
+mod document;
+mod items;
+mod key_form;
+pub mod laws;
+mod member;
+mod members;
+mod place;
+mod range;
+mod range_writer;
+mod refusal;
+mod reply;
+mod reply_writer;
+mod scalar;
+mod txn;
+
+pub use batch::read_batch;
+pub use batch_writer::write_batch;
+pub use cause::Cause;
+pub use json::Scratch;
+pub use key_form::{MAX_SINGLE_KEY_LENGTH, put_key_form};
+pub use member::Member;
+pub use place::Place;
+pub use refusal::Refusal;
+pub use reply::read_reply;
+pub use reply_writer::write_reply;

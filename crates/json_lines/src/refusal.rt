@@ -1,0 +1,56 @@
+//! Why a line is refused.
+
+ghost use Rattle.std.specs.Prelude.{◌≡◌};
+ghost use Rattle.json_lines.specs.declared.cause.Cause.TheVariants.{Memory};
+
+use crate::cause::Cause;
+use crate::place::Place;
+use std::alloc::{AllocError, AllocFailed};
+use std::fmt;
+
+/// Why a line is refused: which of its values is wrong, and what of it. As text the two stand behind one another, as
+/// `transactions[0].reads[1]: begin is above end`.
+#[derive(Debug, Drop, PartialEq, Eq)]
+pub struct Refusal {
+    pub place: Place,
+    pub cause: Cause,
+}
+
+impl Refusal {
+    /// Creates a refusal of what stands at the place.
+    pub fn new(place: Place, cause: Cause) -> Self
+        ensures place { result.place ≡ place }
+        ensures cause { result.cause ≡ cause }
+    {
+        Refusal { place, cause }
+    }
+}
+
+impl From<AllocError> for Refusal {
+    ghost from_gives = { λ _ refusal. refusal.cause ≡ Memory };
+
+    fn from(_refused: AllocError) -> Refusal {
+        Refusal::new(Place::Line, Cause::Memory)
+    }
+}
+
+impl<T: Drop> From<AllocFailed<T>> for Refusal {
+    ghost from_gives = { λ _ refusal. refusal.cause ≡ Memory };
+
+    fn from(_refused: AllocFailed<T>) -> Refusal {
+        Refusal::new(Place::Line, Cause::Memory)
+    }
+}
+
+impl fmt::Display for Refusal {
+    fn fmt<W: fmt::Write>(&self, f: &mut fmt::Formatter<W>) -> fmt::Result {
+        let cause = &self.cause;
+        if self.place == Place::Line {
+            return write!(f, "{cause}");
+        }
+        let place = self.place;
+        write!(f, "{place}: {cause}")
+    }
+}
+
+impl std::error::Error for Refusal {}

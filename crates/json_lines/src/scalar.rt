@@ -1,0 +1,40 @@
+//! Numbers and truth values.
+
+ghost use Rattle.std.specs.Prelude.{◌≡◌};
+ghost use Rattle.json.specs.Find.{as_bool};
+ghost use Rattle.json.specs.Value.{value_view};
+ghost use Rattle.json_lines.specs.Values.{Reads, number_in};
+
+use crate::cause::Cause;
+use crate::place::Place;
+use crate::refusal::Refusal;
+use json::Value;
+
+/// Reads a whole number.
+pub fn number_of(value: &Value<'_>, place: Place) -> Result<i64, Refusal>
+    ensures reads { Reads (λ n. n) result (number_in (value_view value.now)) }
+{
+    match value.as_i64() {
+        Some(number) => Ok(number),
+        None => Err(Refusal::new(place, number_fault(value))),
+    }
+}
+
+// Returns why a value is no whole number of 64 bits.
+fn number_fault(value: &Value<'_>) -> Cause {
+    if value.as_number().is_some() {
+        Cause::NotWhole
+    } else {
+        Cause::NotNumber
+    }
+}
+
+/// Reads a truth value.
+pub fn bool_of(value: &Value<'_>, place: Place) -> Result<bool, Refusal>
+    ensures reads { Reads (λ b. b) result (as_bool (value_view value.now)) }
+{
+    match value.as_bool() {
+        Some(truth) => Ok(truth),
+        None => Err(Refusal::new(place, Cause::NotBool)),
+    }
+}
