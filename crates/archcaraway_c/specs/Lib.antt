@@ -1,0 +1,5 @@
+pub mod Status
+pub mod Bound
+pub mod Object
+pub mod Given
+pub mod CoreObject
