@@ -1,8 +1,7 @@
 //! A batch as one frame, with nothing behind it.
 
-ghost use Rattle.std.specs.Prelude.{◌≡◌, ◌≢◌, ◌⊎◌, ◌<◌, length, take, Some, None, IfOk, IfErr, Err};
-ghost use Rattle.wire.specs.Spelling.{SpellsBatch};
-ghost use Rattle.wire.specs.Reading.{batch_fault, version_told};
+ghost use Rattle.std.specs.Prelude.{IfOk, IfErr};
+ghost use Rattle.archcaraway_c.specs.BatchFrame.{IsFrame, IsNoFrame};
 
 use crate::refusal::Refusal;
 use keyspace::Batch;
@@ -11,12 +10,15 @@ use wire::decode_batch;
 
 /// Decodes a frame of either wire version, and returns its batch. Bytes behind the frame are refused, `Behind`.
 pub fn decode_frame(alloc: Global, frame: &[u8]) -> Result<Batch, Refusal>
-    ensures spelled { IfOk result (λ batch. SpellsBatch (version_told frame.now) frame.now batch) }
-    ensures refused { IfErr result (IsFrameRefused frame.now) }
+    ensures frame { IfOk result (λ batch. IsFrame frame.now batch) }
+    ensures refused { IfErr result (λ refusal. IsNoFrame frame.now refusal) }
 {
-    match decode_batch(alloc, frame) {
-        Ok((batch, length)) if length == frame.len() => Ok(batch),
-        Ok(_) => Err(Refusal::Behind),
-        Err(fault) => Err(Refusal::Wire(fault)),
+    let (batch, length) = match decode_batch(alloc, frame) {
+        Ok(found) => found,
+        Err(fault) => return Err(Refusal::Wire(fault)),
+    };
+    if length < frame.len() {
+        return Err(Refusal::Behind);
     }
+    Ok(batch)
 }

@@ -1,6 +1,15 @@
-//! The exports over a core. Each writes back the pointer of the handle that it takes.
+//! The exports over a core. Each writes back the pointer of the handle that it takes. What lies behind that pointer then, no clause can
+//! say; that is said of [`CoreObject`].
 
-ghost use Rattle.std.specs.Prelude.{◌≡◌, pos};
+ghost use Rattle.std.specs.Prelude.{◌≡◌, ◌≢◌, ◌⊎◌, ◌↔◌, ◌<◌, pos, negsuc, length, IfSome};
+ghost use Rattle.keyspace.specs.declared.batch.Batch.{Batch};
+ghost use Rattle.archcaraway_c.specs.BatchFrame.{IsFrame};
+ghost use Rattle.archcaraway_c.specs.Numbers.{AreCoreNumbers};
+ghost use Rattle.archcaraway_c.specs.Status.{stop_status, refusal_status, bytes_needed};
+ghost use Rattle.archcaraway_c.specs.Given.{Tells, given_kind, given_version, given_length};
+ghost use Rattle.archcaraway_c.specs.CoreObject.{CoreRefuses, GiveRefuses, next_owed, still_owed_count, maybe_stop_status};
+ghost use Rattle.archcaraway_c.specs.declared.given.Given.{Given};
+ghost use Rattle.archcaraway_c.specs.declared.refusal.Refusal.{Refusal};
 
 use crate::core_handle::CoreHandle;
 use crate::core_object::CoreObject;
@@ -16,7 +25,10 @@ pub extern "C" fn archcaraway_export_core_new(
     window: i64,
     limit: u64,
     at: &mut *mut u8,
-) -> i32 {
+) -> i32
+    ensures argument { (result ≡ pos 202) ↔ (¬ AreCoreNumbers proxies window limit) }
+    ensures made { AreCoreNumbers proxies window limit → (result ≡ pos 0) ⊎ (result ≡ pos 1) }
+{
     let object = match CoreObject::new(alloc, proxies, window, limit) {
         Ok(object) => object,
         Err(refusal) => return refusal.status(),
@@ -37,7 +49,13 @@ pub extern "C" fn archcaraway_export_core_admit(
     proxy: u32,
     frame: &[u8],
     at: &mut *mut u8,
-) -> i32 {
+) -> i32
+    ensures admitted { result ≡ pos 0 → (batch : Batch) × IsFrame frame.now batch }
+    ensures refused { result ≢ pos 0 → (refusal : Refusal) × (result ≡ refusal_status refusal)
+        × CoreRefuses core.value proxy frame.now refusal }
+    ensures stopped { proxy < length core.value.waiting
+        → IfSome core.value.core.stop (λ stop. result ≡ stop_status stop) }
+{
     let mut core = core.into_box();
     let admitted = core.admit(proxy, frame);
     *at = Box::into_raw(core).cast();
@@ -46,7 +64,10 @@ pub extern "C" fn archcaraway_export_core_admit(
 
 /// Answers every batch that is still held.
 #[unsafe(no_mangle)]
-pub extern "C" fn archcaraway_export_core_finish(core: CoreHandle, at: &mut *mut u8) -> i32 {
+pub extern "C" fn archcaraway_export_core_finish(core: CoreHandle, at: &mut *mut u8) -> i32
+    ensures stopped { IfSome core.value.core.stop (λ stop. result ≡ stop_status stop) }
+    ensures memory { core.value.core.stop ≡ None → (result ≡ pos 0) ⊎ (result ≡ pos 1) }
+{
     let mut core = core.into_box();
     let finished = core.finish();
     *at = Box::into_raw(core).cast();
@@ -63,7 +84,13 @@ pub extern "C" fn archcaraway_export_core_give(
     kind: &mut i32,
     version: &mut i64,
     at: &mut *mut u8,
-) -> i32 {
+) -> i32
+    ensures told { result ≡ pos 0 → (given : Given) × (kind.new ≡ given_kind given) × (version.new ≡ given_version given)
+        × (answer_length.new ≡ given_length given) × Tells given answer.new (next_owed proxy core.value) }
+    ensures refused { result ≢ pos 0 → (refusal : Refusal) × (result ≡ refusal_status refusal)
+        × (answer_length.new ≡ bytes_needed refusal) × (kind.new ≡ pos 0) × (version.new ≡ negsuc 0)
+        × GiveRefuses core.value proxy (length answer.old) refusal }
+{
     let mut core = core.into_box();
     let given = core.give(proxy, answer);
     *at = Box::into_raw(core).cast();
@@ -85,7 +112,9 @@ pub extern "C" fn archcaraway_export_core_give(
 
 /// Returns the number of answers owed to all proxies.
 #[unsafe(no_mangle)]
-pub extern "C" fn archcaraway_export_core_owed(core: CoreHandle, at: &mut *mut u8) -> u64 {
+pub extern "C" fn archcaraway_export_core_owed(core: CoreHandle, at: &mut *mut u8) -> u64
+    ensures count { result ≡ still_owed_count core.value }
+{
     let core = core.into_box();
     let owed = core.owed();
     *at = Box::into_raw(core).cast();
@@ -94,7 +123,9 @@ pub extern "C" fn archcaraway_export_core_owed(core: CoreHandle, at: &mut *mut u
 
 /// Returns the number of the stop that was met, or 0.
 #[unsafe(no_mangle)]
-pub extern "C" fn archcaraway_export_core_stop(core: CoreHandle, at: &mut *mut u8) -> i32 {
+pub extern "C" fn archcaraway_export_core_stop(core: CoreHandle, at: &mut *mut u8) -> i32
+    ensures stop { result ≡ maybe_stop_status core.value.core.stop }
+{
     let core = core.into_box();
     let stop = core.stop();
     *at = Box::into_raw(core).cast();

@@ -1,23 +1,30 @@
 //! A resolver over values that takes and gives frames.
 
-ghost use Rattle.std.specs.Prelude.{◌≡◌, ◌<◌, ◌≤◌, ◌⊎◌, ◌^◌, ℕ, [], ◌∷◌, ◌++◌, List, length, IfOk, IfErr, None, option_to_list};
+ghost use Rattle.std.specs.Prelude.{◌≡◌, ◌<◌, ◌≤◌, ◌⊎◌, ◌∷◌, ◌++◌, ℕ, List, [], length, replicate, None, Some, Ok, IfOk, IfErr};
+ghost use Rattle.keyspace.specs.declared.batch.Batch.{Batch};
+ghost use Rattle.keyspace.specs.Run.{Step, Finish};
+ghost use Rattle.resolver.specs.Books.{Given};
+ghost use Rattle.resolver.specs.Stands.{Stands};
+ghost use Rattle.archcaraway_c.specs.BatchFrame.{IsFrame};
+ghost use Rattle.archcaraway_c.specs.Numbers.{AreCoreNumbers};
+ghost use Rattle.archcaraway_c.specs.Given.{Tells};
+ghost use Rattle.archcaraway_c.specs.CoreObject.{Admits, CoreRefuses, GiveRefuses, still_owed, next_owed, still_owed_count};
 
 use crate::batch_frame::decode_frame;
 use crate::given::Given;
 use crate::numbers::are_set_numbers;
 use crate::refusal::Refusal;
-use keyspace::{Answer, Reply};
+use crate::waiting::{count_waiting, nothing_waits, write_answer};
+use keyspace::Answer;
 use resolver::{Core, MAX_PROXIES, Stop};
-use std::alloc::{AllocError, Global};
+use std::alloc::Global;
 use std::marker::Model;
-use wire::encode_reply;
 
 /// A core behind a handle. An answer that was taken from the core waits here until it fits the buffer that C gives.
 #[derive(Debug, Drop)]
 pub struct CoreObject {
     alloc: Global,
     core: Core,
-    // The next answer of each proxy, where it was looked at.
     waiting: Vec<Option<Answer>>,
 }
 
@@ -37,10 +44,19 @@ impl Model for CoreObject {
 
 impl CoreObject {
     /// Creates a resolver for so many proxies, which has taken nothing. `window` is how far back it remembers writes, in
-    /// versions; it never keeps more boundaries than `limit`. A number outside its range is refused, `Argument`.
-    pub fn new(alloc: Global, proxies: u32, window: i64, limit: u64) -> Result<Self, Refusal> {
+    /// versions; it never keeps more boundaries than `limit`. Returns `Argument` if one of them is outside its range, and the
+    /// stop `Memory` if memory is refused.
+    pub fn new(alloc: Global, proxies: u32, window: i64, limit: u64) -> Result<Self, Refusal>
+        ensures stands { IfOk result (λ object. Stands object.core [] (λ _. [])) }
+        ensures goes_on { IfOk result (λ object. object.core.stop ≡ None) }
+        ensures waiting { IfOk result (λ object. object.waiting ≡ replicate proxies None) }
+        ensures within { IfOk result (λ _. AreCoreNumbers proxies window limit) }
+        ensures refused { IfErr result (λ refusal.
+            (AreCoreNumbers proxies window limit × (refusal ≡ Refusal.Stop Stop.Memory))
+            ⊎ ((¬ AreCoreNumbers proxies window limit) × (refusal ≡ Refusal.Argument))) }
+    {
         let proxies = proxies as usize;
-        if !(1..=MAX_PROXIES).contains(&proxies) || !are_set_numbers(window, limit) {
+        if proxies < 1 || proxies > MAX_PROXIES || !are_set_numbers(window, limit) {
             return Err(Refusal::Argument);
         }
         let Ok(core) = Core::new(alloc, proxies, window, limit as usize) else {
@@ -58,42 +74,64 @@ impl CoreObject {
 
     /// Takes the batch of a frame from a proxy. The batch is held, or it and what it frees are answered.
     ///
-    /// The first of these that is so decides: there is no such proxy, `Argument`; the resolver has stopped; the frame is refused.
-    /// Then the batch is taken, or the resolver stops, which is final. Nothing was taken after any refusal but a stop.
-    pub fn admit(&mut self, proxy: u32, frame: &[u8]) -> Result<(), Refusal> {
+    /// The first of these that holds decides. There is no such proxy: `Argument`. The resolver has stopped: that stop. The bytes
+    /// aren't one frame: `Wire`, `Behind`. Then the batch is taken, or the resolver stops for good. Nothing was taken after any
+    /// refusal but a stop.
+    pub fn admit(&mut self, proxy: u32, frame: &[u8]) -> Result<(), Refusal>
+        ensures admitted { IfOk result (λ _. (batch : Batch) × IsFrame frame.now batch
+            × Admits self.old.core proxy batch self.new.core) }
+        ensures goes_on { IfOk result (λ _. (self.old.core.stop ≡ None) × (self.new.core.stop ≡ None)) }
+        ensures refused { IfErr result (λ refusal. CoreRefuses self.old proxy frame.now refusal) }
+        ensures waiting { self.new.waiting ≡ self.old.waiting }
+    {
         let proxy = self.known(proxy)?;
         if let Some(stop) = self.core.stop() {
             return Err(Refusal::Stop(stop));
         }
         let batch = decode_frame(self.alloc, frame)?;
-        self.core.admit(proxy, batch).map_err(Refusal::Stop)
+        match self.core.admit(proxy, batch) {
+            Ok(()) => Ok(()),
+            Err(stop) => Err(Refusal::Stop(stop)),
+        }
     }
 
-    /// Answers every batch that is still held, in order of arrival.
-    pub fn finish(&mut self) -> Result<(), Refusal> {
-        self.core.finish().map_err(Refusal::Stop)
+    /// Answers every batch that is still held, in order of arrival. Returns the stop that was met before or is met now.
+    pub fn finish(&mut self) -> Result<(), Refusal>
+        ensures finished { IfOk result (λ _. (log : List Step) (given : Given) → Stands self.old.core log given
+            → Stands self.new.core (log ++ Finish ∷ []) given) }
+        ensures goes_on { IfOk result (λ _. (self.old.core.stop ≡ None) × (self.new.core.stop ≡ None)) }
+        ensures refused { IfErr result (λ refusal. (stop : StopValue) × (refusal ≡ Refusal.Stop stop)
+            × (self.new.core.stop ≡ Some stop)) }
+        ensures waiting { self.new.waiting ≡ self.old.waiting }
+    {
+        match self.core.finish() {
+            Ok(()) => Ok(()),
+            Err(stop) => Err(Refusal::Stop(stop)),
+        }
     }
 
     /// Gives the proxy the oldest answer owed to it, and writes the frame of a reply to the front of the buffer. After a refusal
-    /// the answer is still owed.
-    pub fn give(&mut self, proxy: u32, buffer: &mut [u8]) -> Result<Given, Refusal> {
+    /// all answers are still owed. `Wire` is `Memory` here, or `Long` for a reply that exceeds a frame; the reply to a batch that
+    /// has a frame doesn't exceed one.
+    pub fn give(&mut self, proxy: u32, buffer: &mut [u8]) -> Result<Given, Refusal>
+        ensures told { IfOk result (λ given. Tells given buffer.new (next_owed proxy self.old)) }
+        ensures taken { IfOk result (λ _. still_owed proxy self.new ≡ drop 1 (still_owed proxy self.old)) }
+        ensures refused { IfErr result (λ refusal. GiveRefuses self.old proxy (length buffer.old) refusal) }
+        ensures kept { IfErr result (λ _. still_owed proxy self.new ≡ still_owed proxy self.old) }
+        ensures others { (other : ℕ) → other ≢ proxy → still_owed other self.new ≡ still_owed other self.old }
+    {
         let proxy = self.known(proxy)?;
-        if self.waiting[proxy].is_none() {
-            self.waiting[proxy] = self.core.give(proxy);
-        }
+        self.look(proxy);
         let given = write_answer(self.alloc, &self.waiting[proxy], buffer)?;
         self.waiting[proxy] = None;
         Ok(given)
     }
 
     /// Returns the number of answers owed to all proxies.
-    pub fn owed(&self) -> u64 {
-        let waiting = self
-            .waiting
-            .iter()
-            .filter(|answer| answer.is_some())
-            .count();
-        (self.core.owed() + waiting) as u64
+    pub fn owed(&self) -> u64
+        ensures count { result ≡ still_owed_count self.now }
+    {
+        (self.core.owed() + count_waiting(&self.waiting)) as u64
     }
 
     /// Returns the stop that was met, if any.
@@ -103,49 +141,28 @@ impl CoreObject {
         self.core.stop()
     }
 
-    // Returns the number of the proxy, where the core knows it.
+    // Returns the number of the proxy, if there is one of that number.
     fn known(&self, proxy: u32) -> Result<usize, Refusal>
         ensures known { IfOk result (λ number. (number ≡ proxy) × (number < length self.now.waiting)) }
-        ensures unknown { IfErr result (λ refusal. (length self.now.waiting ≤ proxy) × (refusal ≡ Refusal.Argument)) }
+        ensures unknown { IfErr result (λ refusal. (refusal ≡ Refusal.Argument) × (length self.now.waiting ≤ proxy)) }
     {
-        let proxy = proxy as usize;
-        if proxy < self.waiting.len() {
-            Ok(proxy)
+        let number = proxy as usize;
+        if number < self.waiting.len() {
+            Ok(number)
         } else {
             Err(Refusal::Argument)
         }
     }
-}
 
-// Has no answer waiting for any of so many proxies.
-fn nothing_waits(alloc: Global, proxies: usize) -> Result<Vec<Option<Answer>>, AllocError> {
-    let mut waiting = Vec::with_capacity(alloc, proxies)?;
-    for _ in 0..proxies {
-        waiting.push(None)?;
+    // Takes the next answer of the proxy from the core, unless one waits.
+    fn look(&mut self, proxy: usize)
+        requires known { proxy < length self.old.waiting }
+        ensures owed { (other : ℕ) → still_owed other self.new ≡ still_owed other self.old }
+        ensures next { slice_get self.new.waiting proxy ≡ Some (next_owed proxy self.old) }
+        ensures count { length self.new.waiting ≡ length self.old.waiting }
+    {
+        if self.waiting[proxy].is_none() {
+            self.waiting[proxy] = self.core.give(proxy);
+        }
     }
-    Ok(waiting)
-}
-
-// Writes what is to be given to the front of the buffer.
-fn write_answer(
-    alloc: Global,
-    answer: &Option<Answer>,
-    buffer: &mut [u8],
-) -> Result<Given, Refusal> {
-    match answer {
-        None => Ok(Given::Nothing),
-        Some(Answer::Reply(reply)) => write_reply(alloc, reply, buffer),
-        Some(Answer::Never(version)) => Ok(Given::Never(*version)),
-        Some(Answer::Held(version)) => Ok(Given::Held(*version)),
-    }
-}
-
-// Writes the frame of a reply to the front of the buffer.
-fn write_reply(alloc: Global, reply: &Reply, buffer: &mut [u8]) -> Result<Given, Refusal> {
-    let bytes = encode_reply(alloc, reply).map_err(Refusal::Wire)?;
-    if buffer.len() < bytes.len() {
-        return Err(Refusal::Buffer(bytes.len()));
-    }
-    buffer[..bytes.len()].copy_from_slice(&bytes);
-    Ok(Given::Reply(reply.version, bytes.len()))
 }

@@ -20,6 +20,7 @@ mod refusal;
 mod set_exports;
 mod set_handle;
 mod set_object;
+mod waiting;
 
 pub use core_handle::CoreHandle;
 pub use core_object::CoreObject;
@@ -27,9 +28,3 @@ pub use given::Given;
 pub use refusal::Refusal;
 pub use set_handle::SetHandle;
 pub use set_object::SetObject;
-
-#[test]
-fn tries(rt: HostRuntime) {
-    let object = SetObject::new(rt.alloc(), 5, 5);
-    let first = CoreObject::new(rt.alloc(), 5, 5, 5);
-}

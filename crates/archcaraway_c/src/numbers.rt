@@ -1,7 +1,7 @@
 //! The limits of the numbers that C gives.
 
 ghost use Rattle.std.specs.Prelude.{◌↔◌, IsTrue};
-ghost use Rattle.archcaraway_c.specs.Object.{AreSetNumbers};
+ghost use Rattle.archcaraway_c.specs.Numbers.{AreSetNumbers};
 
 use conflict::MAX_WINDOW;
 use stepmap::MAX_LIMIT;

@@ -1,6 +1,6 @@
 //! Why a call of the library is refused, and the number by which C sees it.
 
-ghost use Rattle.std.specs.Prelude.{◌≡◌};
+ghost use Rattle.std.specs.Prelude.{◌≡◌, pos, OnOk, IfErr};
 ghost use Rattle.archcaraway_c.specs.Status.{stop_status, wire_status, refusal_status, bytes_needed};
 
 use resolver::Stop;
@@ -53,7 +53,10 @@ impl Refusal {
 }
 
 /// Returns the status of a call that answers nothing.
-pub fn status_of(done: Result<(), Refusal>) -> i32 {
+pub fn status_of(done: Result<(), Refusal>) -> i32
+    ensures ok { OnOk done (result ≡ pos 0) }
+    ensures refused { IfErr done (λ refusal. result ≡ refusal_status refusal) }
+{
     match done {
         Ok(()) => OK,
         Err(refusal) => refusal.status(),

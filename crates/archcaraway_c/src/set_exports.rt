@@ -1,6 +1,12 @@
-//! The exports over a conflict set. Each writes back the pointer of the handle that it takes.
+//! The exports over a conflict set. Each writes back the pointer of the handle that it takes. What lies behind that pointer then, no
+//! clause can say; that is said of [`SetObject`].
 
-ghost use Rattle.std.specs.Prelude.{◌≡◌, pos};
+ghost use Rattle.std.specs.Prelude.{◌≡◌, ◌≢◌, ◌⊎◌, ◌↔◌, pos, length, take, IfSome};
+ghost use Rattle.resolver.specs.Stop.{stop_at_set};
+ghost use Rattle.archcaraway_c.specs.Numbers.{AreSetNumbers};
+ghost use Rattle.archcaraway_c.specs.Status.{stop_status, refusal_status, bytes_needed};
+ghost use Rattle.archcaraway_c.specs.SetObject.{IsReplied, SetRefuses};
+ghost use Rattle.archcaraway_c.specs.declared.refusal.Refusal.{Refusal};
 
 use crate::refusal::{OK, Refusal};
 use crate::set_handle::SetHandle;
@@ -15,7 +21,10 @@ pub extern "C" fn archcaraway_export_set_new(
     window: i64,
     limit: u64,
     at: &mut *mut u8,
-) -> i32 {
+) -> i32
+    ensures argument { (result ≡ pos 202) ↔ (¬ AreSetNumbers window limit) }
+    ensures made { AreSetNumbers window limit → (result ≡ pos 0) ⊎ (result ≡ pos 1) }
+{
     let object = match SetObject::new(alloc, window, limit) {
         Ok(object) => object,
         Err(refusal) => return refusal.status(),
@@ -29,7 +38,7 @@ pub extern "C" fn archcaraway_export_set_new(
     }
 }
 
-/// Resolves the batch of a frame, and writes the frame of its reply.
+/// Resolves the batch of a frame, and writes the frame of its reply and the length of that.
 #[unsafe(no_mangle)]
 pub extern "C" fn archcaraway_export_set_resolve(
     set: SetHandle,
@@ -37,7 +46,12 @@ pub extern "C" fn archcaraway_export_set_resolve(
     answer: &mut [u8],
     answer_length: &mut usize,
     at: &mut *mut u8,
-) -> i32 {
+) -> i32
+    ensures replied { result ≡ pos 0 → IsReplied set.value frame.now (take answer_length.new answer.new) }
+    ensures refused { result ≢ pos 0 → (refusal : Refusal) × (result ≡ refusal_status refusal)
+        × (answer_length.new ≡ bytes_needed refusal) × SetRefuses set.value frame.now (length answer.old) refusal }
+    ensures stopped { IfSome set.value.stop (λ stop. result ≡ stop_status (stop_at_set stop)) }
+{
     let mut set = set.into_box();
     let resolved = set.resolve(frame, answer);
     *at = Box::into_raw(set).cast();
