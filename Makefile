@@ -1,4 +1,6 @@
-.PHONY: demo replay test refused-memory stalled-pipes plant bench
+.PHONY: demo replay test refused-memory stalled-pipes library install library-test plant bench
+
+PREFIX ?= /usr/local
 
 # Runs the program on the recorded files of examples/, unproved. A file NAME.args names the further files of a run.
 demo:
@@ -21,6 +23,23 @@ refused-memory:
 # Behind `make replay`: deals a chain of batches to pipes of which some stall, and compares what the program prints.
 stalled-pipes:
 	.ci/stalled-pipes
+
+# Proves and builds the library for C: out/libarchcaraway.a, out/libarchcaraway.so, out/archcaraway.pc.
+library:
+	.ci/library
+
+# Installs the library for C and its headers, as `make library` has built it, below PREFIX.
+install:
+	install -d '$(PREFIX)/include' '$(PREFIX)/lib/pkgconfig'
+	install -m 644 include/archcaraway.h include/archcaraway_frames.h include/archcaraway.hpp '$(PREFIX)/include'
+	install -m 644 out/libarchcaraway.a '$(PREFIX)/lib'
+	install -m 755 out/libarchcaraway.so '$(PREFIX)/lib/libarchcaraway.so.1'
+	ln -sf libarchcaraway.so.1 '$(PREFIX)/lib/libarchcaraway.so'
+	sed 's|^prefix=.*|prefix=$(abspath $(PREFIX))|' out/archcaraway.pc > '$(PREFIX)/lib/pkgconfig/archcaraway.pc'
+
+# Behind `make test`, tests the library for C: examples, chains beside the program, sanitizers, valgrind, refused memory.
+library-test: library
+	.ci/library-test
 
 # Tries wrong bodies on a copy of each crate, and lists those that its contracts let through.
 plant:

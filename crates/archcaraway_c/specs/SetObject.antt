@@ -16,20 +16,10 @@ use Rattle.archcaraway_c.specs.Bound.{most_reply_length}
 
 -- What holds of the parts of a set behind a handle: it knows the version resolved last, goes on as long as there is no stop, and
 -- remembers some list of writes.
-pub record AreSetParts (set : SetState) (resolved : ℤ) (stop : Option SetStop) : Type 0 where
-  pub resolved : stop ≡ None → set.resolved ≡ resolved
+pub record AreSetParts (set : SetState) (last : ℤ) (stop : Option SetStop) : Type 0 where
+  pub resolved : stop ≡ None → set.resolved ≡ last
   pub goes_on : stop ≡ None → set.stop ≡ None
   pub remembers : (ws : List Write) × Remembers set ws
-
--- The answer is the frame of the reply, the reply to the batch of the frame, whatever writes the set covers.
-pub record IsReply (set : SetState) (frame answer : List ℕ) (batch : Batch) (reply : Reply) : Type 0 where
-  pub asked : IsFrame frame batch
-  pub answered : SpellsReply answer reply
-  pub judged : (ws : List Write) → MapCovers set.map ws → Judged set.window ws batch reply
-
--- some batch and some reply are so
-abbrev pub IsReplied : SetState → List ℕ → List ℕ → Type 0
-IsReplied set frame answer = (batch : Batch) × (reply : Reply) × IsReply set frame answer batch reply
 
 -- The set goes on behind the batch, and covers also what the reply commits.
 pub record GoesOn (old new : SetState) (batch : Batch) (reply : Reply) : Type 0 where
@@ -38,6 +28,27 @@ pub record GoesOn (old new : SetState) (batch : Batch) (reply : Reply) : Type 0 
   pub limit : new.map.limit ≡ old.map.limit
   pub stop : new.stop ≡ None
   pub covers : (ws : List Write) → MapCovers old.map ws → MapCovers new.map (ws ++ writes_of batch reply)
+
+-- The bytes are the frame of the right reply to the batch, whatever writes the set covers, and the set goes on behind it.
+pub record Replies (old new : SetState) (batch : Batch) (answer : List ℕ) : Type 0 where
+  pub reply : Reply
+  pub answered : SpellsReply answer reply
+  pub judged : (ws : List Write) → MapCovers old.map ws → Judged old.window ws batch reply
+  pub goes_on : GoesOn old new batch reply
+
+-- the same of the batch of a frame
+pub record Resolves (old new : SetState) (frame answer : List ℕ) : Type 0 where
+  pub batch : Batch
+  pub asked : IsFrame frame batch
+  pub replies : Replies old new batch answer
+
+-- The second frame is that of the right reply to the batch of the first, whatever writes the set covers.
+pub record IsReplied (set : SetState) (frame answer : List ℕ) : Type 0 where
+  pub batch : Batch
+  pub reply : Reply
+  pub asked : IsFrame frame batch
+  pub answered : SpellsReply answer reply
+  pub judged : (ws : List Write) → MapCovers set.map ws → Judged set.window ws batch reply
 
 -- Why a set refuses a frame, given so many bytes for the reply.
 abbrev pub SetRefuses : SetState → List ℕ → ℕ → Refusal → Type 0
@@ -51,11 +62,6 @@ SetRefuses set frame capacity (Buffer needed) =
     × ((batch : Batch) × IsFrame frame batch × (needed ≡ most_reply_length batch) × (capacity < needed))
 SetRefuses set frame capacity Argument = ⊥
 
--- what is left of the set after a refusal: all, unless it stops now
-abbrev pub IsLeft : SetState → Refusal → SetState → Type 0
-IsLeft old (Stop stop) new = (met : SetStop) × (new.stop ≡ Some met) × (stop ≡ stop_at_set met)
-IsLeft old (Wire fault) new = new ≡ old
-IsLeft old Behind new = new ≡ old
-IsLeft old Version new = new ≡ old
-IsLeft old (Buffer needed) new = new ≡ old
-IsLeft old Argument new = new ≡ old
+-- the set stops, and refuses by that stop
+abbrev pub Stops : SetState → Refusal → Type 0
+Stops new refusal = (met : SetStop) × (new.stop ≡ Some met) × (refusal ≡ Stop (stop_at_set met))

@@ -13,7 +13,7 @@ ghost use Rattle.archcaraway_c.specs.declared.refusal.Refusal.{Refusal};
 
 use crate::core_handle::CoreHandle;
 use crate::core_object::CoreObject;
-use crate::refusal::{OK, Refusal, status_of};
+use crate::refusal::{OK, Refusal};
 use resolver::Stop;
 use std::alloc::Global;
 
@@ -59,7 +59,10 @@ pub extern "C" fn archcaraway_export_core_admit(
     let mut core = core.into_box();
     let admitted = core.admit(proxy, frame);
     *at = Box::into_raw(core).cast();
-    status_of(admitted)
+    match admitted {
+        Ok(()) => OK,
+        Err(refusal) => refusal.status(),
+    }
 }
 
 /// Answers every batch that is still held.
@@ -71,7 +74,10 @@ pub extern "C" fn archcaraway_export_core_finish(core: CoreHandle, at: &mut *mut
     let mut core = core.into_box();
     let finished = core.finish();
     *at = Box::into_raw(core).cast();
-    status_of(finished)
+    match finished {
+        Ok(()) => OK,
+        Err(refusal) => refusal.status(),
+    }
 }
 
 /// Gives a proxy the oldest answer owed to it.

@@ -12,7 +12,7 @@ use std::marker::Model;
 pub struct CoreHandle {
     at: *mut u8,
     alloc: Global,
-    pub ghost value: { object.the_row.Denot },
+    pub ghost value: { object.the_row.Denot } by { object.the_row.coded },
 }
 
 impl Model for CoreHandle {

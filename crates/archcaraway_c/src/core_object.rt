@@ -1,11 +1,11 @@
 //! A resolver over values that takes and gives frames.
 
-ghost use Rattle.std.specs.Prelude.{◌≡◌, ◌<◌, ◌≤◌, ◌⊎◌, ◌∷◌, ◌++◌, ℕ, List, [], length, replicate, None, Some, Ok, IfOk, IfErr};
-ghost use Rattle.keyspace.specs.declared.batch.Batch.{Batch};
+ghost use Rattle.std.specs.Prelude.{◌≡◌, ◌≢◌, IfSome, Err, drop, slice_get, ◌<◌, ◌≤◌, ◌⊎◌, ◌∷◌, ◌++◌, ℕ, List, [], length, replicate, None, Some, Ok, IfOk, IfErr};
 ghost use Rattle.keyspace.specs.Run.{Step, Finish};
-ghost use Rattle.resolver.specs.Books.{Given};
+ghost use Rattle.resolver.specs.Books.{Given as GivenSoFar};
+ghost use Rattle.resolver.specs.declared.stop.Stop.{Stop as StopValue};
 ghost use Rattle.resolver.specs.Stands.{Stands};
-ghost use Rattle.archcaraway_c.specs.BatchFrame.{IsFrame};
+ghost use Rattle.archcaraway_c.specs.BatchFrame.{IsFrame, IsNoFrame};
 ghost use Rattle.archcaraway_c.specs.Numbers.{AreCoreNumbers};
 ghost use Rattle.archcaraway_c.specs.Given.{Tells};
 ghost use Rattle.archcaraway_c.specs.CoreObject.{Admits, CoreRefuses, GiveRefuses, still_owed, next_owed, still_owed_count};
@@ -15,13 +15,13 @@ use crate::given::Given;
 use crate::numbers::are_set_numbers;
 use crate::refusal::Refusal;
 use crate::waiting::{count_waiting, nothing_waits, write_answer};
-use keyspace::Answer;
+use keyspace::{Answer, Batch};
 use resolver::{Core, MAX_PROXIES, Stop};
 use std::alloc::Global;
 use std::marker::Model;
 
 /// A core behind a handle. An answer that was taken from the core waits here until it fits the buffer that C gives.
-#[derive(Debug, Drop)]
+#[derive(Drop)]
 pub struct CoreObject {
     alloc: Global,
     core: Core,
@@ -59,10 +59,10 @@ impl CoreObject {
         if proxies < 1 || proxies > MAX_PROXIES || !are_set_numbers(window, limit) {
             return Err(Refusal::Argument);
         }
-        let Ok(core) = Core::new(alloc, proxies, window, limit as usize) else {
+        let Ok(waiting) = nothing_waits(alloc, proxies) else {
             return Err(Refusal::Stop(Stop::Memory));
         };
-        let Ok(waiting) = nothing_waits(alloc, proxies) else {
+        let Ok(core) = Core::new(alloc, proxies, window, limit as usize) else {
             return Err(Refusal::Stop(Stop::Memory));
         };
         Ok(CoreObject {
@@ -84,12 +84,18 @@ impl CoreObject {
         ensures refused { IfErr result (λ refusal. CoreRefuses self.old proxy frame.now refusal) }
         ensures waiting { self.new.waiting ≡ self.old.waiting }
     {
-        let proxy = self.known(proxy)?;
-        if let Some(stop) = self.core.stop() {
+        let number = match self.known(proxy) {
+            Ok(number) => number,
+            Err(refusal) => return Err(refusal),
+        };
+        if let Some(stop) = self.stop() {
             return Err(Refusal::Stop(stop));
         }
-        let batch = decode_frame(self.alloc, frame)?;
-        match self.core.admit(proxy, batch) {
+        let batch = match self.decode(frame) {
+            Ok(batch) => batch,
+            Err(refusal) => return Err(refusal),
+        };
+        match self.take(number, batch) {
             Ok(()) => Ok(()),
             Err(stop) => Err(Refusal::Stop(stop)),
         }
@@ -97,17 +103,19 @@ impl CoreObject {
 
     /// Answers every batch that is still held, in order of arrival. Returns the stop that was met before or is met now.
     pub fn finish(&mut self) -> Result<(), Refusal>
-        ensures finished { IfOk result (λ _. (log : List Step) (given : Given) → Stands self.old.core log given
+        ensures finished { IfOk result (λ _. (log : List Step) (given : GivenSoFar) → Stands self.old.core log given
             → Stands self.new.core (log ++ Finish ∷ []) given) }
         ensures goes_on { IfOk result (λ _. (self.old.core.stop ≡ None) × (self.new.core.stop ≡ None)) }
         ensures refused { IfErr result (λ refusal. (stop : StopValue) × (refusal ≡ Refusal.Stop stop)
             × (self.new.core.stop ≡ Some stop)) }
+        ensures stopped { IfSome self.old.core.stop (λ stop. result ≡ Err (Refusal.Stop stop)) }
+        ensures memory { self.old.core.stop ≡ None → IfErr result (λ refusal. refusal ≡ Refusal.Stop Stop.Memory) }
         ensures waiting { self.new.waiting ≡ self.old.waiting }
     {
-        match self.core.finish() {
-            Ok(()) => Ok(()),
-            Err(stop) => Err(Refusal::Stop(stop)),
+        if let Err(stop) = self.core.finish() {
+            return Err(Refusal::Stop(stop));
         }
+        Ok(())
     }
 
     /// Gives the proxy the oldest answer owed to it, and writes the frame of a reply to the front of the buffer. After a refusal
@@ -152,6 +160,26 @@ impl CoreObject {
         } else {
             Err(Refusal::Argument)
         }
+    }
+
+    // Decodes the frame of a batch.
+    fn decode(&self, frame: &[u8]) -> Result<Batch, Refusal>
+        ensures frame { IfOk result (λ batch. IsFrame frame.now batch) }
+        ensures refused { IfErr result (λ refusal. IsNoFrame frame.now refusal) }
+    {
+        decode_frame(self.alloc, frame)
+    }
+
+    // Takes a batch of a proxy, or stops.
+    fn take(&mut self, proxy: usize, batch: Batch) -> Result<(), Stop>
+        requires known { proxy < length self.old.waiting }
+        requires goes_on { self.old.core.stop ≡ None }
+        ensures admitted { IfOk result (λ _. Admits self.old.core proxy batch self.new.core) }
+        ensures goes_on { IfOk result (λ _. self.new.core.stop ≡ None) }
+        ensures stops { IfErr result (λ stop. self.new.core.stop ≡ Some stop) }
+        ensures waiting { self.new.waiting ≡ self.old.waiting }
+    {
+        self.core.admit(proxy, batch)
     }
 
     // Takes the next answer of the proxy from the core, unless one waits.

@@ -17,6 +17,7 @@ mod core_object;
 mod given;
 mod numbers;
 mod refusal;
+mod reply_frame;
 mod set_exports;
 mod set_handle;
 mod set_object;

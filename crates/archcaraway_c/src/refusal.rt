@@ -1,6 +1,6 @@
 //! Why a call of the library is refused, and the number by which C sees it.
 
-ghost use Rattle.std.specs.Prelude.{◌≡◌, pos, OnOk, IfErr};
+ghost use Rattle.std.specs.Prelude.{◌≡◌};
 ghost use Rattle.archcaraway_c.specs.Status.{stop_status, wire_status, refusal_status, bytes_needed};
 
 use resolver::Stop;
@@ -52,45 +52,14 @@ impl Refusal {
     }
 }
 
-/// Returns the status of a call that answers nothing.
-pub fn status_of(done: Result<(), Refusal>) -> i32
-    ensures ok { OnOk done (result ≡ pos 0) }
-    ensures refused { IfErr done (λ refusal. result ≡ refusal_status refusal) }
-{
-    match done {
-        Ok(()) => OK,
-        Err(refusal) => refusal.status(),
-    }
-}
-
 fn status_of_stop(stop: Stop) -> i32
     ensures status { result ≡ stop_status stop }
 {
-    match stop {
-        Stop::Memory => 1,
-        Stop::GateFull => 2,
-        Stop::ArenaFull => 3,
-    }
+    stop as i32
 }
 
 fn status_of_fault(fault: WireError) -> i32
     ensures status { result ≡ wire_status fault }
 {
-    match fault {
-        WireError::Short => 101,
-        WireError::Long => 102,
-        WireError::Kind => 103,
-        WireError::Trailing => 104,
-        WireError::Version => 105,
-        WireError::Marks => 106,
-        WireError::Count => 107,
-        WireError::KeyLength => 108,
-        WireError::Inverted => 109,
-        WireError::Cut => 110,
-        WireError::Memory => 111,
-        WireError::Read => 112,
-        WireError::Form => 113,
-        WireError::Spelling => 114,
-        WireError::Write => 115,
-    }
+    100 + fault as i32
 }

@@ -1,30 +1,28 @@
 //! A conflict set that takes and gives frames.
 
-ghost use Rattle.std.specs.Prelude.{◌≡◌, ◌≤◌, ◌⊎◌, ◌++◌, List, length, take, Ok, Err, None, IfOk, IfErr, IfSome};
-ghost use Rattle.keyspace.specs.declared.batch.Batch.{Batch};
-ghost use Rattle.keyspace.specs.declared.reply.Reply.{Reply};
-ghost use Rattle.keyspace.specs.Writes.{Write, writes_of};
-ghost use Rattle.keyspace.specs.Judged.{Judged};
-ghost use Rattle.stepmap.specs.Covers.{MapCovers};
+ghost use Rattle.std.specs.Prelude.{◌≡◌, ◌≤◌, ◌⊎◌, ◌↔◌, ◌≤ℤ◌, ◌<ℤ◌, List, length, take, Err, None, IsTrue, IfOk, IfErr, IfSome};
+ghost use Rattle.keyspace.specs.Writes.{Write};
 ghost use Rattle.conflict.specs.ConflictSet.{new_set, Remembers};
 ghost use Rattle.resolver.specs.Stop.{stop_at_set};
-ghost use Rattle.wire.specs.Spelling.{SpellsReply};
+ghost use Rattle.archcaraway_c.specs.BatchFrame.{IsFrame, IsNoFrame};
+ghost use Rattle.archcaraway_c.specs.Bound.{most_reply_length};
 ghost use Rattle.archcaraway_c.specs.Numbers.{AreSetNumbers};
-ghost use Rattle.archcaraway_c.specs.SetObject.{IsReply, GoesOn, SetRefuses, IsLeft};
+ghost use Rattle.archcaraway_c.specs.SetObject.{Replies, Resolves, SetRefuses, Stops};
 
 use crate::batch_frame::decode_frame;
 use crate::bound::most_reply_length;
 use crate::numbers::are_set_numbers;
 use crate::refusal::Refusal;
+use crate::reply_frame::put_frame;
 use conflict::{ConflictSet, SetStop};
-use keyspace::{Batch, Reply};
+use keyspace::Batch;
 use resolver::Stop;
 use std::alloc::Global;
 use std::marker::Model;
 use wire::encode_reply;
 
 /// A conflict set behind a handle. Contracts see it as the state of that set.
-#[derive(Debug, Drop)]
+#[derive(Drop)]
 pub struct SetObject {
     alloc: Global,
     set: ConflictSet,
@@ -74,35 +72,30 @@ impl SetObject {
     /// reply to the batch: `Buffer`. Then the batch is resolved, or the set stops for good. After any refusal but a stop the set
     /// is as before.
     pub fn resolve(&mut self, frame: &[u8], answer: &mut [u8]) -> Result<usize, Refusal>
-        ensures replied { IfOk result (λ count. (batch : Batch) × (reply : Reply)
-            × IsReply self.old frame.now (take count answer.new) batch reply × GoesOn self.old self.new batch reply) }
-        ensures within { IfOk result (λ count. count ≤ length answer.old) }
+        ensures resolved { IfOk result (λ count. Resolves self.old self.new frame.now (take count answer.new)) }
+        ensures within { IfOk result (λ count. count ≤ length answer.new) }
         ensures refused { IfErr result (λ refusal. SetRefuses self.old frame.now (length answer.old) refusal) }
-        ensures left { IfErr result (λ refusal. IsLeft self.old refusal self.new) }
+        ensures kept { IfErr result (λ refusal. (self.new ≡ self.old) ⊎ Stops self.new refusal) }
         ensures stopped { IfSome self.old.stop (λ stop. (result ≡ Err (Refusal.Stop (stop_at_set stop)))
             × (self.new ≡ self.old)) }
     {
-        if let Some(stop) = self.stop {
+        if let Some(stop) = self.stop() {
             return Err(Refusal::Stop(Stop::from(stop)));
         }
-        let batch = decode_frame(self.alloc, frame)?;
-        if batch.version <= self.resolved {
+        let batch = match self.decode(frame) {
+            Ok(batch) => batch,
+            Err(refusal) => return Err(refusal),
+        };
+        if self.is_late(&batch) {
             return Err(Refusal::Version);
         }
         let most = most_reply_length(&batch);
         if answer.len() < most {
             return Err(Refusal::Buffer(most));
         }
-        match reply_to(self.alloc, &mut self.set, &batch) {
-            Ok((_, bytes)) => {
-                self.resolved = batch.version;
-                answer[..bytes.len()].copy_from_slice(&bytes);
-                Ok(bytes.len())
-            }
-            Err(stop) => {
-                self.stop = Some(stop);
-                Err(Refusal::Stop(Stop::from(stop)))
-            }
+        match self.reply(&batch) {
+            Ok(reply) => Ok(put_frame(&reply, answer)),
+            Err(refusal) => Err(refusal),
         }
     }
 
@@ -113,26 +106,65 @@ impl SetObject {
     {
         self.set.boundaries() as u64
     }
+
+    // Returns the stop that was met, if any.
+    fn stop(&self) -> Option<SetStop>
+        ensures stop { result ≡ self.now.stop }
+    {
+        self.stop
+    }
+
+    // Decodes the frame of a batch.
+    fn decode(&self, frame: &[u8]) -> Result<Batch, Refusal>
+        ensures frame { IfOk result (λ batch. IsFrame frame.now batch) }
+        ensures refused { IfErr result (λ refusal. IsNoFrame frame.now refusal) }
+    {
+        decode_frame(self.alloc, frame)
+    }
+
+    // Returns whether the version of the batch isn't above that of the batch resolved last.
+    fn is_late(&self, batch: &Batch) -> bool
+        requires goes_on { self.now.stop ≡ None }
+        ensures late { IsTrue result ↔ (batch.now.version ≤ℤ self.now.resolved) }
+    {
+        batch.version <= self.resolved
+    }
+
+    // Resolves a batch and returns the frame of its reply, or stops.
+    fn reply(&mut self, batch: &Batch) -> Result<Vec<u8>, Refusal>
+        requires goes_on { self.old.stop ≡ None }
+        requires rising { self.old.resolved <ℤ batch.now.version }
+        ensures replies { IfOk result (λ reply. Replies self.old self.new batch.now reply.items) }
+        ensures short { IfOk result (λ reply. length reply.items ≤ most_reply_length batch.now) }
+        ensures stops { IfErr result (λ refusal. Stops self.new refusal) }
+    {
+        match reply_to(self.alloc, &mut self.set, batch) {
+            Ok(reply) => {
+                self.resolved = batch.version;
+                Ok(reply)
+            }
+            Err(stop) => {
+                self.stop = Some(stop);
+                Err(Refusal::Stop(Stop::from(stop)))
+            }
+        }
+    }
 }
 
-// Resolves a batch, and returns the reply with its frame.
-fn reply_to(
-    alloc: Global,
-    set: &mut ConflictSet,
-    batch: &Batch,
-) -> Result<(Reply, Vec<u8>), SetStop>
+// Resolves a batch, and returns the frame of its reply.
+fn reply_to(alloc: Global, set: &mut ConflictSet, batch: &Batch) -> Result<Vec<u8>, SetStop>
     requires rising { set.old.resolved <ℤ batch.now.version }
     requires remembers { (ws : List Write) × Remembers set.old ws }
-    ensures judged { IfOk result (λ made. (ws : List Write) → MapCovers set.old.map ws
-        → Judged set.old.window ws batch.now made.0) }
-    ensures spelled { IfOk result (λ made. SpellsReply made.1.items made.0) }
-    ensures short { IfOk result (λ made. vec_len made.1 ≤ most_reply_length batch.now) }
-    ensures goes_on { IfOk result (λ made. GoesOn set.old set.new batch.now made.0) }
+    ensures replies { IfOk result (λ reply. Replies set.old set.new batch.now reply.items) }
+    ensures short { IfOk result (λ reply. length reply.items ≤ most_reply_length batch.now) }
     ensures remembers { (ws : List Write) × Remembers set.new ws }
 {
-    let reply = set.resolve(batch)?;
+    let reply = match set.resolve(batch) {
+        Ok(reply) => reply,
+        Err(stop) => return Err(stop),
+    };
     match encode_reply(alloc, &reply) {
-        Ok(bytes) => Ok((reply, bytes)),
+        Ok(frame) => Ok(frame),
         Err(_) => Err(SetStop::Memory),
     }
 }

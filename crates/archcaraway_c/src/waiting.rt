@@ -6,6 +6,7 @@ ghost use Rattle.archcaraway_c.specs.Given.{Tells, WriteRefuses};
 
 use crate::given::Given;
 use crate::refusal::Refusal;
+use crate::reply_frame::write_frame;
 use keyspace::{Answer, Reply};
 use std::alloc::{AllocError, Global};
 use wire::encode_reply;
@@ -51,13 +52,13 @@ fn write_reply(alloc: Global, reply: &Reply, buffer: &mut [u8]) -> Result<Given,
     ensures told { IfOk result (λ given. Tells given buffer.new (Some (Answer.Reply reply.now))) }
     ensures refused { IfErr result (λ refusal. WriteRefuses (Some (Answer.Reply reply.now)) (length buffer.old) refusal) }
 {
-    let bytes = match encode_reply(alloc, reply) {
-        Ok(bytes) => bytes,
+    let frame = match encode_reply(alloc, reply) {
+        Ok(frame) => frame,
         Err(fault) => return Err(Refusal::Wire(fault)),
     };
-    if buffer.len() < bytes.len() {
-        return Err(Refusal::Buffer(bytes.len()));
-    }
-    buffer[..bytes.len()].copy_from_slice(&bytes);
-    Ok(Given::Reply(reply.version, bytes.len()))
+    let count = match write_frame(&frame, buffer) {
+        Ok(count) => count,
+        Err(refusal) => return Err(refusal),
+    };
+    Ok(Given::Reply(reply.version, count))
 }
