@@ -1,5 +1,5 @@
 -- What a core behind a handle is seen as, and what it answers. This project's own.
-use Rattle.std.specs.Prelude.{◌≡◌, ◌≤◌, ◌<◌, ◌⊎◌, ℕ, ℤ, ◌+◌, pos, List, [], ◌∷◌, ◌++◌, length, Option, Some, None, IfSome, option_to_list, slice_get, slice_index_or}
+use Rattle.std.specs.Prelude.{◌≡◌, ◌≤◌, ◌<◌, ◌⊎◌, ℕ, ℤ, ◌+◌, pos, List, [], ◌∷◌, ◌++◌, length, Option, Some, None, option_to_list, slice_get, slice_index_or}
 use Rattle.std.specs.List.{sum_by}
 use Rattle.keyspace.specs.declared.batch.Batch.{Batch}
 use Rattle.keyspace.specs.declared.answer.Answer.{Answer}

@@ -1,4 +1,4 @@
-use Rattle.std.proofs.Common.{rules, ◌≡◌, ◌∙◌, length, take, subst}
+use Rattle.std.proofs.Common.{rules, ◌∙◌, length, take, subst}
 use Rattle.conflict.specs.ConflictSet.{SetState}
 use Rattle.archcaraway_c.specs.SetObject.{IsReplied, SetRefuses}
 use Rattle.archcaraway_c.proofs.set_exports.archcaraway_export_set_resolve.Goals as goal

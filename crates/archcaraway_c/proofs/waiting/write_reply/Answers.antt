@@ -1,4 +1,4 @@
-use Rattle.std.proofs.Common.{rules, ◌≡◌, ℕ, List, length, Some, refl, sym, subst, ◌∙◌, arith}
+use Rattle.std.proofs.Common.{rules, ℕ, List, length, Some, refl, sym, subst, ◌∙◌}
 use Rattle.keyspace.specs.declared.answer.Answer.TheVariants as answer
 use Rattle.wire.specs.Spelling.{SpellsReply}
 use Rattle.archcaraway_c.specs.declared.refusal.Refusal.{Refusal}

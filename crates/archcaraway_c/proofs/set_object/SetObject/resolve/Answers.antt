@@ -1,4 +1,4 @@
-use Rattle.std.proofs.Common.{rules, ◌≡◌, ◌∙◌, ℕ, List, sym, subst}
+use Rattle.std.proofs.Common.{rules, ◌∙◌, ℕ, List, sym, subst}
 use Rattle.archcaraway_c.specs.SetObject.{Replies}
 use Rattle.archcaraway_c.proofs.set_object.SetObject.resolve.Goals as goal
 
