@@ -36,22 +36,19 @@ pub extern "C" fn codec_read_reply(
     frame: &[u8],
     out: &mut [u8],
     out_length: &mut usize,
-) -> i32
-{
+) -> i32 {
     match reply_again(alloc, frame) {
         Ok(bytes) => write(&bytes, out, out_length),
         Err(fault) => fault as i32,
     }
 }
 
-fn batch_in_version_1(alloc: Global, frame: &[u8]) -> Result<Vec<u8>, WireError>
-{
+fn batch_in_version_1(alloc: Global, frame: &[u8]) -> Result<Vec<u8>, WireError> {
     let (batch, _) = decode_batch(alloc, frame)?;
     encode_batch_1(alloc, &batch)
 }
 
-fn reply_again(alloc: Global, frame: &[u8]) -> Result<Vec<u8>, WireError>
-{
+fn reply_again(alloc: Global, frame: &[u8]) -> Result<Vec<u8>, WireError> {
     let (reply, _) = decode_reply(alloc, frame)?;
     encode_reply(alloc, &reply)
 }
