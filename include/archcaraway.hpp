@@ -6,6 +6,7 @@
 // ConflictSet and ConflictBatch have the shape of those of FoundationDB 7.1's ConflictSet.h, and are own code. What differs:
 //  - The window and the edge go by versions: a batch is judged at `now`, and what was written at `now - window` or before is
 //    forgotten. The argument `newOldestVersion` of detectConflicts isn't there: the window is that of the set.
+//    Clearing a set isn't there either: make a new one.
 //  - `now` is above that of every batch before. A transaction with reads whose snapshot is below `now - window` is too old.
 //  - There is one report for a transaction that asks for it, the indices of its read ranges in conflict: all that meet the history, or else the
 //    first that meets a transaction before it in the batch.
@@ -16,9 +17,8 @@
 #define ARCHCARAWAY_HPP
 
 #include <cstdint>
-#include <new>
-#include <optional>
-#include <stdexcept>
+#include <map>
+#include <exception>
 #include <string_view>
 #include <utility>
 #include <vector>
@@ -128,6 +128,10 @@ public:
     }
     void write(View begin, View end) {
         check(archcaraway_batch_write(&writer_, begin.data, begin.size, end.data, end.size));
+    }
+    // Gives the batch these versions, in place of those it was begun with.
+    void versions(std::int64_t previous, std::int64_t version, std::int64_t received) {
+        check(archcaraway_batch_versions(&writer_, previous, version, received));
     }
     // The frame, until the next call.
     View end() {
@@ -259,8 +263,11 @@ public:
         TransactionCommitted = ARCHCARAWAY_COMMITTED
     };
 
-    // Begins the batch that is judged at the version `now`. Throws where that is negative.
-    ConflictBatch(ConflictSet& set, Version now) : set_(set) { set_.writer_.begin(-1, now, -1); }
+    // `conflictingKeyRangeMap` is given the read ranges in conflict of each transaction that asks for them and has some, by its index.
+    explicit ConflictBatch(ConflictSet* set, std::map<int, std::vector<int>>* conflictingKeyRangeMap = nullptr)
+      : set_(*set), ranges_(conflictingKeyRangeMap) {
+        set_.writer_.begin(-1, 0, -1);
+    }
     ConflictBatch(const ConflictBatch&) = delete;
     ConflictBatch& operator=(const ConflictBatch&) = delete;
 
@@ -271,33 +278,29 @@ public:
         for (const KeyRangeRef& range : transaction.write_conflict_ranges) writer.write(range.begin, range.end);
     }
 
-    // Judges the batch, once, and gives the transactions that are committed by their indices, and, where they are asked for, those
-    // that are too old and the read ranges in conflict of each transaction.
-    void detectConflicts(std::vector<int>& nonConflicting, std::vector<int>* tooOld = nullptr,
-                         std::vector<std::vector<int>>* conflictingKeyRanges = nullptr) {
-        int index = 0;
+    // Judges the batch at the version `now`, once. Appends the indices of the transactions that are committed, and of those that are too
+    // old.
+    void detectConflicts(Version now, std::vector<int>& nonConflicting, std::vector<int>* tooOldTransactions = nullptr) {
+        set_.writer_.versions(-1, now, -1);
+        results_.clear();
         for (Entry entry : set_.set_.resolve(set_.writer_.end(), set_.reply_)) {
+            int index = static_cast<int>(results_.size());
+            results_.push_back(static_cast<TransactionCommitResult>(entry.verdict()));
             if (entry.verdict() == Verdict::committed) nonConflicting.push_back(index);
-            if (entry.verdict() == Verdict::tooOld && tooOld != nullptr) tooOld->push_back(index);
-            if (conflictingKeyRanges != nullptr) {
-                std::vector<int>& ranges = conflictingKeyRanges->emplace_back();
-                for (std::size_t i = 0; i < entry.places(); i++) ranges.push_back(static_cast<int>(entry.place(i)));
+            if (entry.verdict() == Verdict::tooOld && tooOldTransactions != nullptr) tooOldTransactions->push_back(index);
+            for (std::size_t i = 0; ranges_ != nullptr && i < entry.places(); i++) {
+                (*ranges_)[index].push_back(static_cast<int>(entry.place(i)));
             }
-            index++;
         }
     }
 
-    // The same, as one result a transaction.
-    std::vector<TransactionCommitResult> detectConflicts() {
-        std::vector<TransactionCommitResult> results;
-        for (Entry entry : set_.set_.resolve(set_.writer_.end(), set_.reply_)) {
-            results.push_back(static_cast<TransactionCommitResult>(entry.verdict()));
-        }
-        return results;
-    }
+    // What detectConflicts has said of each transaction.
+    const std::vector<TransactionCommitResult>& results() const { return results_; }
 
 private:
     ConflictSet& set_;
+    std::map<int, std::vector<int>>* ranges_;
+    std::vector<TransactionCommitResult> results_;
 };
 
 } // namespace archcaraway

@@ -161,6 +161,22 @@ static inline int archcaraway_batch_begin(archcaraway_writer *writer, int64_t pr
 }
 
 /*
+ * Gives the batch that is being written these versions, in place of those it was begun with. Statuses: as archcaraway_batch_begin,
+ * and ARGUMENT where no batch is begun.
+ */
+static inline int archcaraway_batch_versions(archcaraway_writer *writer, int64_t previous, int64_t version,
+                                             int64_t received) {
+    if (writer->status != ARCHCARAWAY_OK) return writer->status;
+    if (previous < -1 || version <= previous || received < -1 || version <= received) {
+        return archcaraway_writer_refuse(writer, ARCHCARAWAY_FRAME_VERSION);
+    }
+    archcaraway_spell(writer->bytes + 5, (uint64_t)previous, 8);
+    archcaraway_spell(writer->bytes + 13, (uint64_t)version, 8);
+    archcaraway_spell(writer->bytes + 21, (uint64_t)received, 8);
+    return ARCHCARAWAY_OK;
+}
+
+/*
  * Begins the next transaction of the batch. `snapshot` is its read version, 0 or more. `report` asks for the places of its read ranges
  * in conflict. Statuses: OK, FRAME_VERSION, FRAME_COUNT, FRAME_LONG, FRAME_MEMORY, ARGUMENT where no batch is begun.
  */

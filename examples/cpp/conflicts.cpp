@@ -20,17 +20,17 @@ static CommitTransactionRef transaction(archcaraway::Version snapshot, std::vect
 }
 
 static void judge(ConflictSet& set, archcaraway::Version now, const std::vector<CommitTransactionRef>& transactions) {
-    ConflictBatch batch(set, now);
+    std::map<int, std::vector<int>> ranges;
+    ConflictBatch batch(&set, &ranges);
     for (const CommitTransactionRef& t : transactions) batch.addTransaction(t);
     std::vector<int> committed, tooOld;
-    std::vector<std::vector<int>> ranges;
-    batch.detectConflicts(committed, &tooOld, &ranges);
+    batch.detectConflicts(now, committed, &tooOld);
     std::printf("%lld committed:", static_cast<long long>(now));
     for (int index : committed) std::printf(" %d", index);
     std::printf(" too old:");
     for (int index : tooOld) std::printf(" %d", index);
-    for (std::size_t i = 0; i < ranges.size(); i++) {
-        for (int place : ranges[i]) std::printf(" [%zu: read range %d]", i, place);
+    for (const auto& [index, places] : ranges) {
+        for (int place : places) std::printf(" [%d: read range %d]", index, place);
     }
     std::printf("\n");
 }

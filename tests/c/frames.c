@@ -174,6 +174,15 @@ static void refusals(void) {
     DEMAND(status == ARCHCARAWAY_FRAME_LONG);
     DEMAND(archcaraway_batch_begin(&writer, -1, 0, -1) == ARCHCARAWAY_OK && archcaraway_batch_end(&writer) == ARCHCARAWAY_OK);
     DEMAND(writer.length == 31);
+    archcaraway_batch_begin(&writer, 3, 9, 4);
+    DEMAND(archcaraway_batch_end(&writer) == ARCHCARAWAY_OK);
+    Bytes empty = copy_bytes(writer.bytes, writer.length);
+    archcaraway_batch_begin(&writer, -1, 0, -1);
+    DEMAND(archcaraway_batch_versions(&writer, 3, 9, 4) == ARCHCARAWAY_OK && archcaraway_batch_end(&writer) == ARCHCARAWAY_OK);
+    DEMAND(writer.length == empty.length && memcmp(writer.bytes, empty.bytes, empty.length) == 0);
+    free(empty.bytes);
+    DEMAND(archcaraway_batch_versions(&writer, 3, 3, -1) == ARCHCARAWAY_FRAME_VERSION);
+    DEMAND(archcaraway_batch_versions(&writer, 3, 9, 4) == ARCHCARAWAY_FRAME_VERSION);
     archcaraway_writer_free(&writer);
 }
 
