@@ -1,4 +1,4 @@
-.PHONY: demo replay batches test refused-memory json-examples stalled-pipes readme-runs plant bench
+.PHONY: demo replay batches test refused-memory json-examples stalled-pipes readme-runs library install library-test plant bench
 
 # Runs the program on the recorded files of examples/, unproved. A file NAME.args names the further files of a run.
 demo: SHELL := bash
@@ -13,6 +13,47 @@ demo:
 replay:
 	cd crates/replay && rt run -- ../../examples/first_run
 	@echo 'The proved program: crates/replay/out/replay'
+
+PREFIX ?= /usr/local
+
+# Runs the program on the recorded files of examples/, unproved. A file NAME.args names the further files of a run.
+demo:
+	@echo 'The program runs unproved here: `make replay` proves and builds it.'
+	cd crates/replay && rt try --cases ../../examples --data second_proxy=../../examples/second_proxy -- {}
+
+# Proves and builds the program, and runs it once.
+replay:
+	cd crates/replay && rt run -- ../../examples/first_run
+	@echo 'The proved program: crates/replay/out/replay'
+
+# The whole gate: every proof from nothing, the must-fail edits, the tests and the program.
+test:
+	rt ci
+
+# Behind `make test`, refuses each allocation in turn to the tests named for it and to the program, as that has built them.
+refused-memory:
+	.ci/refused-memory
+
+# Behind `make replay`: deals a chain of batches to pipes of which some stall, and compares what the program prints.
+stalled-pipes:
+	.ci/stalled-pipes
+
+# Proves and builds the library for C: out/libarchcaraway.a, out/libarchcaraway.so, out/archcaraway.pc.
+library:
+	.ci/library
+
+# Installs the library for C and its headers, as `make library` has built it, below PREFIX.
+install:
+	install -d '$(PREFIX)/include' '$(PREFIX)/lib/pkgconfig'
+	install -m 644 include/archcaraway.h include/archcaraway_frames.h include/archcaraway.hpp '$(PREFIX)/include'
+	install -m 644 out/libarchcaraway.a '$(PREFIX)/lib'
+	install -m 755 out/libarchcaraway.so '$(PREFIX)/lib/libarchcaraway.so.1'
+	ln -sf libarchcaraway.so.1 '$(PREFIX)/lib/libarchcaraway.so'
+	sed 's|^prefix=.*|prefix=$(abspath $(PREFIX))|' out/archcaraway.pc > '$(PREFIX)/lib/pkgconfig/archcaraway.pc'
+
+# Behind `make test`, tests the library for C: examples, chains beside the program, sanitizers, valgrind, refused memory.
+library-test: library
+	.ci/library-test
 
 # Proves and builds the program that turns lines of JSON into batches, and shows that the examples and their JSON are the other.
 batches:

@@ -1,0 +1,69 @@
+-- What a core behind a handle is seen as, and what it answers. This project's own.
+use Rattle.std.specs.Prelude.{◌≡◌, ◌≤◌, ◌<◌, ◌⊎◌, ℕ, ℤ, ◌+◌, pos, List, [], ◌∷◌, ◌++◌, length, Option, Some, None, option_to_list, slice_get, slice_index_or}
+use Rattle.std.specs.List.{sum_by}
+use Rattle.keyspace.specs.declared.batch.Batch.{Batch}
+use Rattle.keyspace.specs.declared.answer.Answer.{Answer}
+use Rattle.keyspace.specs.Run.{Step, Take}
+use Rattle.resolver.specs.declared.sequential.TheConstants.{MAX_PROXIES}
+use Rattle.resolver.specs.declared.stop.Stop.{Stop as StopValue}
+use Rattle.resolver.specs.Owed.{owed_to, owed_count}
+use Rattle.resolver.specs.Books.{Given}
+use Rattle.resolver.specs.Stands.{CoreState, Stands}
+use Rattle.archcaraway_c.specs.declared.refusal.Refusal.{Refusal}
+use Rattle.archcaraway_c.specs.declared.refusal.Refusal.TheVariants.{Stop, Wire, Version, Argument, Buffer, Behind}
+use Rattle.archcaraway_c.specs.BatchFrame.{IsFrame, IsNoFrame}
+use Rattle.archcaraway_c.specs.Given.{WriteRefuses}
+use Rattle.archcaraway_c.specs.Status.{stop_status}
+
+-- a core, and the next answer of each proxy, where it was taken from the core and isn't given yet
+pub record CoreParts : Type 0 where
+  pub core : CoreState
+  pub waiting : List (Option Answer)
+
+-- there is a place for an answer a proxy
+pub record AreCoreParts (parts : CoreParts) : Type 0 where
+  pub count : length parts.waiting ≡ length parts.core.books.owed
+  pub few : length parts.waiting ≤ MAX_PROXIES
+
+-- the answers owed to the proxy, oldest first
+abbrev pub still_owed : ℕ → CoreParts → List Answer
+still_owed proxy parts =
+    option_to_list (slice_index_or parts.waiting proxy None) ++ owed_to proxy parts.core.books.owed
+
+-- the oldest of them
+abbrev pub next_owed : ℕ → CoreParts → Option Answer
+next_owed proxy parts = slice_get (still_owed proxy parts) 0
+
+-- how many answers are owed to all proxies
+abbrev pub still_owed_count : CoreParts → ℕ
+still_owed_count parts =
+    owed_count parts.core.books.owed + sum_by (λ answer. length (option_to_list answer)) parts.waiting
+
+-- the batch is taken from the proxy, as the last step of each log that the core stands for
+abbrev pub Admits : CoreState → ℕ → Batch → CoreState → Type 0
+Admits old proxy batch new =
+    (log : List Step) (given : Given) → Stands old log given → Stands new (log ++ Take proxy batch ∷ []) given
+
+-- why a core doesn't take a frame from a proxy
+abbrev pub CoreRefuses : CoreParts → ℕ → List ℕ → Refusal → Type 0
+CoreRefuses parts proxy frame Argument = length parts.waiting ≤ proxy
+CoreRefuses parts proxy frame (Stop stop) =
+    (proxy < length parts.waiting)
+    × ((parts.core.stop ≡ Some stop) ⊎ ((parts.core.stop ≡ None) × ((batch : Batch) × IsFrame frame batch)))
+CoreRefuses parts proxy frame (Wire fault) =
+    (proxy < length parts.waiting) × (parts.core.stop ≡ None) × IsNoFrame frame (Wire fault)
+CoreRefuses parts proxy frame Behind =
+    (proxy < length parts.waiting) × (parts.core.stop ≡ None) × IsNoFrame frame Behind
+CoreRefuses parts proxy frame Version = ⊥
+CoreRefuses parts proxy frame (Buffer needed) = ⊥
+
+-- why a core gives a proxy nothing, given so many bytes for the frame of a reply
+abbrev pub GiveRefuses : CoreParts → ℕ → ℕ → Refusal → Type 0
+GiveRefuses parts proxy capacity refusal =
+    ((length parts.waiting ≤ proxy) × (refusal ≡ Argument))
+    ⊎ ((proxy < length parts.waiting) × WriteRefuses (next_owed proxy parts) capacity refusal)
+
+-- the number of the stop, or 0
+abbrev pub maybe_stop_status : Option StopValue → ℤ
+maybe_stop_status None = pos 0
+maybe_stop_status (Some stop) = stop_status stop

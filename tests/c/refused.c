@@ -1,0 +1,209 @@
+// Refuses each allocation of the library in turn, and looks at what it says then.
+//
+//     refused CHAINS SEED
+//
+// Linked with --wrap for malloc, realloc and free. A refused call answers a named status: a stop, after which what was answered is a
+// beginning of all answers, or that memory was refused while a frame was read or written, after which the call is made again and
+// nothing is lost. Nothing leaks.
+#include <stdlib.h>
+
+#include "chains.h"
+
+void *__real_malloc(size_t size);
+void *__real_realloc(void *at, size_t size);
+void __real_free(void *at);
+
+// Calls of the library are counted, and what it holds, and one call is refused.
+static bool inside;
+static size_t calls, refuse_at;
+static long held;
+
+static bool is_refused(void) { return inside && ++calls == refuse_at; }
+
+void *__wrap_malloc(size_t size) {
+    if (is_refused()) return NULL;
+    void *at = __real_malloc(size);
+    if (inside && at != NULL) held++;
+    return at;
+}
+
+void *__wrap_realloc(void *old, size_t size) {
+    if (is_refused()) return NULL;
+    void *at = __real_realloc(old, size);
+    if (inside && old == NULL && at != NULL) held++;
+    return at;
+}
+
+void __wrap_free(void *at) {
+    if (inside && at != NULL) held--;
+    __real_free(at);
+}
+
+// Counts from here on to `leave`, which hands the status on.
+static void enter(void) { inside = true; }
+
+static int leave(int status) {
+    inside = false;
+    return status;
+}
+
+// Makes a call of the library.
+#define LIBRARY(call) (enter(), leave(call))
+
+static size_t stops, again;
+
+// Whether the call is to be made again.
+static bool is_again(int status) {
+    again += status == ARCHCARAWAY_FRAME_MEMORY;
+    return status == ARCHCARAWAY_FRAME_MEMORY;
+}
+
+static bool take_answer(archcaraway_core *core, unsigned proxy, Answers *answers) {
+    static uint8_t bytes[100000];
+    size_t length;
+    Answer answer = {proxy, 0, 0, {NULL, 0}};
+    int status;
+    while (is_again(status = LIBRARY(archcaraway_core_give(core, proxy, bytes, sizeof bytes, &length, &answer.kind,
+                                                           &answer.version)))) {
+        DEMAND(length == 0 && answer.kind == ARCHCARAWAY_NOTHING);
+    }
+    DEMAND(status == ARCHCARAWAY_OK);
+    if (answer.kind == ARCHCARAWAY_NOTHING) return false;
+    answer.frame = copy_bytes(bytes, length);
+    keep_answer(answers, answer);
+    return true;
+}
+
+// Runs the chain over a core with allocation number `refuse_at` refused, and answers the stop.
+static int run_core(const Chain *chain, Answers *answers) {
+    archcaraway_core core = ARCHCARAWAY_NONE;
+    int status, stop;
+    calls = 0;
+    status = LIBRARY(archcaraway_core_new(chain->proxies, chain->window, chain->limit, &core));
+    if (status != ARCHCARAWAY_OK) {
+        DEMAND(status == ARCHCARAWAY_MEMORY && core.at == NULL && held == 0);
+        return status;
+    }
+    for (size_t i = 0; i < chain->sent_length && status == ARCHCARAWAY_OK; i++) {
+        const Sent *sent = &chain->sent[i];
+        while (is_again(status = LIBRARY(
+                            archcaraway_core_admit(&core, sent->proxy, sent->frame.bytes, sent->frame.length)))) {
+        }
+    }
+    if (status == ARCHCARAWAY_OK) status = LIBRARY(archcaraway_core_finish(&core));
+    DEMAND(status >= ARCHCARAWAY_OK && status <= ARCHCARAWAY_ARENA_FULL);
+    stop = archcaraway_core_stop(&core);
+    DEMAND(stop == status);
+    for (unsigned proxy = 0; proxy < chain->proxies; proxy++) {
+        while (take_answer(&core, proxy, answers)) {
+        }
+    }
+    enter();
+    archcaraway_core_free(&core);
+    leave(0);
+    DEMAND(held == 0);
+    return stop;
+}
+
+static bool is_same(const Answer *a, const Answer *b) {
+    return a->proxy == b->proxy && a->kind == b->kind && a->version == b->version && a->frame.length == b->frame.length &&
+           (a->frame.length == 0 || memcmp(a->frame.bytes, b->frame.bytes, a->frame.length) == 0);
+}
+
+// Whether those of each proxy are a beginning of all that it is given.
+static bool are_beginnings(const Answers *some, const Answers *all, unsigned proxies) {
+    size_t looked = 0;
+    for (unsigned proxy = 0; proxy < proxies; proxy++) {
+        size_t at = 0;
+        for (size_t i = 0; i < some->length; i++) {
+            if (some->items[i].proxy != proxy) continue;
+            while (at < all->length && all->items[at].proxy != proxy) at++;
+            if (at == all->length || !is_same(&some->items[i], &all->items[at])) return false;
+            at++;
+            looked++;
+        }
+    }
+    return looked == some->length;
+}
+
+static size_t refuse_core(const Chain *chain) {
+    Answers all = {NULL, 0, 0};
+    refuse_at = 0;
+    int stop = run_core(chain, &all);
+    size_t number = calls;
+    for (refuse_at = 1; refuse_at <= number; refuse_at++) {
+        Answers some = {NULL, 0, 0};
+        int met = run_core(chain, &some);
+        DEMAND(met == stop || met == ARCHCARAWAY_MEMORY);
+        stops += met != stop;
+        DEMAND(are_beginnings(&some, &all, chain->proxies));
+        DEMAND(met != stop || some.length == all.length);
+        free_answers(&some);
+    }
+    free_answers(&all);
+    return number;
+}
+
+// Resolves the batches of the chain by a set, and puts the replies one behind the other.
+static int run_set(const Chain *chain, Text *replies) {
+    static uint8_t reply[100000];
+    archcaraway_set set = ARCHCARAWAY_NONE;
+    int status;
+    calls = 0;
+    status = LIBRARY(archcaraway_set_new(chain->window, chain->limit, &set));
+    if (status != ARCHCARAWAY_OK) DEMAND(status == ARCHCARAWAY_MEMORY && set.at == NULL);
+    for (size_t i = 0; i < chain->length && status == ARCHCARAWAY_OK; i++) {
+        Bytes frame = frame_1(&chain->chain[i]);
+        size_t length;
+        while (is_again(status = LIBRARY(archcaraway_set_resolve(&set, frame.bytes, frame.length, reply, sizeof reply,
+                                                                 &length)))) {
+        }
+        for (size_t k = 0; status == ARCHCARAWAY_OK && k < length; k++) put(replies, reply[k], 1);
+        if (status != ARCHCARAWAY_OK) {
+            int met = status;
+            DEMAND(met == ARCHCARAWAY_MEMORY || met == ARCHCARAWAY_ARENA_FULL);
+            DEMAND(LIBRARY(archcaraway_set_resolve(&set, frame.bytes, frame.length, reply, sizeof reply, &length)) == met);
+        }
+        free(frame.bytes);
+    }
+    enter();
+    archcaraway_set_free(&set);
+    leave(0);
+    DEMAND(held == 0);
+    return status;
+}
+
+static size_t refuse_set(const Chain *chain) {
+    Text all = {NULL, 0, 0};
+    refuse_at = 0;
+    int stop = run_set(chain, &all);
+    size_t number = calls;
+    for (refuse_at = 1; refuse_at <= number; refuse_at++) {
+        Text some = {NULL, 0, 0};
+        int met = run_set(chain, &some);
+        DEMAND(met == stop || met == ARCHCARAWAY_MEMORY);
+        stops += met != stop;
+        DEMAND(some.length <= all.length && (some.length == 0 || memcmp(some.bytes, all.bytes, some.length) == 0));
+        DEMAND(met != stop || some.length == all.length);
+        free(some.bytes);
+    }
+    free(all.bytes);
+    return number;
+}
+
+int main(int count, char **words) {
+    DEMAND(count == 3);
+    size_t chains = (size_t)strtoul(words[1], NULL, 10), refused = 0;
+    Random random = {strtoull(words[2], NULL, 10)};
+    for (size_t number = 0; number < chains; number++) {
+        Chain chain = random_chain(&random);
+        if (chain.length < 60) {
+            refused += refuse_core(&chain);
+            refused += refuse_set(&chain);
+        }
+        free_chain(&chain);
+    }
+    printf("refused: %zu allocations in turn; %zu stops, %zu calls made again; nothing lost, nothing leaked\n", refused, stops,
+           again);
+    return 0;
+}
