@@ -16,28 +16,6 @@ replay:
 
 PREFIX ?= /usr/local
 
-# Runs the program on the recorded files of examples/, unproved. A file NAME.args names the further files of a run.
-demo:
-	@echo 'The program runs unproved here: `make replay` proves and builds it.'
-	cd crates/replay && rt try --cases ../../examples --data second_proxy=../../examples/second_proxy -- {}
-
-# Proves and builds the program, and runs it once.
-replay:
-	cd crates/replay && rt run -- ../../examples/first_run
-	@echo 'The proved program: crates/replay/out/replay'
-
-# The whole gate: every proof from nothing, the must-fail edits, the tests and the program.
-test:
-	rt ci
-
-# Behind `make test`, refuses each allocation in turn to the tests named for it and to the program, as that has built them.
-refused-memory:
-	.ci/refused-memory
-
-# Behind `make replay`: deals a chain of batches to pipes of which some stall, and compares what the program prints.
-stalled-pipes:
-	.ci/stalled-pipes
-
 # Proves and builds the library for C: out/libarchcaraway.a, out/libarchcaraway.so, out/archcaraway.pc.
 library:
 	.ci/library
