@@ -1,0 +1,3 @@
+pub mod OneOrder
+pub mod Ordered
+pub mod Matched
