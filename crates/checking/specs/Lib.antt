@@ -2,3 +2,4 @@
 pub mod InOrder
 pub mod Difference
 pub mod Text
+pub mod Check

@@ -1,5 +1,3 @@
-pub mod OneOrder
-pub mod Ordered
 pub mod Known
 pub mod Results
 pub mod Numbered

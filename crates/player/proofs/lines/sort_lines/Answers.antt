@@ -2,7 +2,7 @@ use Rattle.std.proofs.Common.{◌≡◌, length, ◌∙◌, ap, sym, vec_items, 
 use Rattle.std.specs.Vec.{with_items}
 use Rattle.std.proofs.lemmas.List.{with_items_is}
 use Rattle.player.specs.Line.{version_of_line}
-use Rattle.player.specs.Lines.{in_order_by}
+use Rattle.checking.specs.InOrder.{in_order_by}
 use Rattle.player.proofs.Numbered.{changed_to-more}
 use Rattle.player.proofs.lines.sort_lines.Goals as goal
 

@@ -52,7 +52,7 @@ returns g c =
     let error = written (g.E.Sink.given c.args.error.now) (g.E.Sink.given c.print_report.new.error)
     (g.E.Sink.failures c.args.error.now) (g.E.Sink.failures c.print_report.new.error) in
     let are = are_lines options files received failures complete account.stop run in
-    let lines = report.lines options.frames are in
+    let lines = report.lines options.form are in
     record {
       done = λ is.
           let parts = report.done.0 is in
@@ -68,7 +68,7 @@ returns g c =
             report.memory proxy memory,
             length-map c.deref_mut.result.now (vec_items {X = Line} {Z = Global}),
           ))
-          report.nothing (report.beginning options.frames are) report.write.0
+          report.nothing (report.beginning options.form are) report.write.0
           (subst (λ (e : Ending). OnOk c.print_report.result.told (Took error (failure_lines told e))) ending report.failure_lines)
           report.told.0 report.loss report.no_loss
           (λ all.
