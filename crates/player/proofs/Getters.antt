@@ -5,7 +5,7 @@ use Rattle.std.proofs.Common.{refl, sym, ap, ◌∙◌}
 use Rattle.clap.specs.Values.{bool_text}
 use Rattle.clap.specs.Words.{ReadsOne, Row, is_simple, one_of, one_text, rows_of}
 use Rattle.clap.specs.declared.parser.matches.Found.{Found}
-use Rattle.player.specs.Words.{HoldsOptions, replay_app}
+use Rattle.player.specs.Words.{HoldsNumbers, replay_app}
 use Rattle.player.specs.declared.options.Options.{Options}
 use Rattle.clap.proofs.WalkLemmas.{one_text-rows}
 
@@ -50,18 +50,16 @@ unfolding replay_app
 replay_app-simple = refl
 
 -- options with these numbers are those that the rows hold
-pub HoldsOptions-of_parts : (rows : List Row) (made : Option Options) (capacity : ℕ) (window : ℤ) (limit : ℕ)
-    (frames : Bool) → IfSome made (λ options. options.capacity ≡ capacity)
+pub HoldsNumbers-of_parts : (rows : List Row) (made : Option Options) (capacity : ℕ) (window : ℤ) (limit : ℕ)
+    → IfSome made (λ options. options.capacity ≡ capacity)
     → IfSome made (λ options. options.window ≡ window) → IfSome made (λ options. options.limit ≡ limit)
-    → IfSome made (λ options. options.frames ≡ frames)
     → option_map (λ text. digits_value 10 (without_leading_plus text)) (one_of (codes "capacity") rows) ≡ Some capacity
     → option_map (signed_digits_value 10) (one_of (codes "window") rows) ≡ Some window
     → option_map (λ text. digits_value 10 (without_leading_plus text)) (one_of (codes "limit") rows) ≡ Some limit
-    → one_of (codes "frames") rows ≡ Some (bool_text frames) → IfSome made (HoldsOptions rows)
-HoldsOptions-of_parts rows None capacity window limit frames a b c d e f g h = tt
-HoldsOptions-of_parts rows (Some options) capacity window limit frames a b c d e f g h = record {
+    → IfSome made (HoldsNumbers rows)
+HoldsNumbers-of_parts rows None capacity window limit a b c e f g = tt
+HoldsNumbers-of_parts rows (Some options) capacity window limit a b c e f g = record {
   capacity = e ∙ ap (λ (n : ℕ). Some n) (sym a);
   window = f ∙ ap (λ (n : ℤ). Some n) (sym b);
   limit = g ∙ ap (λ (n : ℕ). Some n) (sym c);
-  frames = h ∙ ap (λ (on : Bool). Some (bool_text on)) (sym d);
 }

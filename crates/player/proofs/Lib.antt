@@ -18,3 +18,4 @@ pub mod Keeping
 pub mod Replaying
 pub mod Programs
 pub mod Openings
+pub mod KeptReplies

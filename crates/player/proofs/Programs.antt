@@ -9,9 +9,9 @@ use Rattle.player.specs.declared.refusal.Refusal.{Refusal}
 use Rattle.player.specs.declared.refusal.Refusal.TheVariants as refusal
 use Rattle.player.specs.declared.start.StartError.TheVariants as start
 use Rattle.player.specs.declared.status.Status.{Status}
-use Rattle.player.specs.declared.status.Status.TheVariants.{Done, Failed, Usage}
+use Rattle.player.specs.declared.status.Status.TheVariants.{Done, Failed, Usage, Differs}
 use Rattle.player.specs.Opening.{IsFirstRefused, contents_each, opening_line}
-use Rattle.player.specs.Program.{AsksToReplay, FailsOnFiles, IsDone, IsFailed, Told}
+use Rattle.player.specs.Program.{AsksToCheck, AsksToReplay, ChecksFiles, FailsOnFiles, FailsToCheck, HasDifferences, IsDone, IsFailed, Told}
 use Rattle.player.specs.Replayed.{HasFailed, IsReplayed, Took, Written}
 use Rattle.player.specs.Start.{start_line}
 use Rattle.player.specs.Words.{AsksForText, IsMistaken}
@@ -41,6 +41,8 @@ module _ (has_opened cannot_open : List ℕ → Type 0) (contents : List ℕ →
       pub mistaken : status ≡ Usage → IsMistaken words
       pub nothing : status ≡ Usage → out.after ≡ out.before
       pub usage : status ≡ Usage → (text : List ℕ) × Told error text
+      pub differs : status ≡ Differs → HasDifferences contents words out
+      pub quiet_too : status ≡ Differs → Keeps error.before error.after
 
     pub ends_shown : (text : List ℕ) → AsksForText words → (status ≡ Done → Took out text)
         → (status ≢ Done → (status ≡ Failed) × HasFailed out) → error.after ≡ error.before → Ends
@@ -53,8 +55,15 @@ module _ (has_opened cannot_open : List ℕ → Type 0) (contents : List ℕ →
       mistaken = λ is. absurd (never is);
       nothing = λ is. absurd (never is);
       usage = λ is. absurd (never is);
+      differs = λ is. absurd (never_differs is);
+      quiet_too = λ is. absurd (never_differs is);
     }
       where
+        never_differs : ¬ (status ≡ Differs)
+        never_differs is =
+            let other : status ≢ Done = λ done. let bad : Differs ≡ Done = sym is ∙ done in cc in
+            let bad : Differs ≡ Failed = sym is ∙ (not_shown other).0 in
+            cc
         never : ¬ (status ≡ Usage)
         never is =
             let other : status ≢ Done = λ done. let bad : Usage ≡ Done = sym is ∙ done in cc in
@@ -70,6 +79,8 @@ module _ (has_opened cannot_open : List ℕ → Type 0) (contents : List ℕ →
       mistaken = λ is. mistaken;
       nothing = λ is. nothing;
       usage = λ is. (text, told);
+      differs = λ is. let bad : Usage ≡ Differs = sym usage ∙ is in cc;
+      quiet_too = λ is. let bad : Usage ≡ Differs = sym usage ∙ is in cc;
     }
 
     pub ends_without_memory : status ≡ Failed → out.after ≡ out.before → Told error (start_line start.Memory) → Ends
@@ -80,21 +91,43 @@ module _ (has_opened cannot_open : List ℕ → Type 0) (contents : List ℕ →
       mistaken = λ is. let bad : Failed ≡ Usage = sym failed ∙ is in cc;
       nothing = λ is. nothing;
       usage = λ is. let bad : Failed ≡ Usage = sym failed ∙ is in cc;
+      differs = λ is. let bad : Failed ≡ Differs = sym failed ∙ is in cc;
+      quiet_too = λ is. let bad : Failed ≡ Differs = sym failed ∙ is in cc;
     }
 
     pub ends_replayed : (options : Options) (names : List (List ℕ)) → AsksToReplay words options names
         → (status ≡ Done → IsReplayed options (contents_each contents names) out.before out.after)
         → (status ≡ Done → Keeps error.before error.after)
         → (status ≡ Failed → FailsOnFiles has_opened cannot_open contents options names out error)
-        → status ≢ Usage → Ends
-    ends_replayed options names asked done quiet failed ends = record {
-      done = λ is. inr (record { options = options; names = names; asked = asked; replayed = done is });
+        → status ≢ Usage → status ≢ Differs → Ends
+    ends_replayed options names asked done quiet failed ends same = record {
+      done = λ is. inr (inl (record { options = options; names = names; asked = asked; replayed = done is }));
       quiet = quiet;
       failed = λ is.
-          inr (inr (record { options = options; names = names; asked = asked; failed = failed is }));
+          inr (inr (inl (record { options = options; names = names; asked = asked; failed = failed is })));
       mistaken = λ is. absurd (ends is);
       nothing = λ is. absurd (ends is);
       usage = λ is. absurd (ends is);
+      differs = λ is. absurd (same is);
+      quiet_too = λ is. absurd (same is);
+    }
+
+    pub ends_checked : (options : Options) (names replies : List (List ℕ)) → AsksToCheck words options names replies
+        → (status ≡ Done → ChecksFiles (λ count. count ≡ 0) contents options names replies out.before out.after)
+        → (status ≡ Differs → ChecksFiles (λ count. count ≢ 0) contents options names replies out.before out.after)
+        → (status ≢ Failed → Keeps error.before error.after)
+        → (status ≡ Failed → FailsToCheck has_opened cannot_open contents options names replies out error)
+        → status ≢ Usage → Ends
+    ends_checked options names replies asked done differs quiet failed ends = record {
+      done = λ is. inr (inr (record { options = options; names = names; replies = replies; asked = asked; checked = done is }));
+      quiet = λ is. quiet (λ other. let bad : Done ≡ Failed = sym is ∙ other in cc);
+      failed = λ is.
+          inr (inr (inr (record { options = options; names = names; replies = replies; asked = asked; failed = failed is })));
+      mistaken = λ is. absurd (ends is);
+      nothing = λ is. absurd (ends is);
+      usage = λ is. absurd (ends is);
+      differs = λ is. record { options = options; names = names; replies = replies; asked = asked; checked = differs is };
+      quiet_too = λ is. quiet (λ other. let bad : Differs ≡ Failed = sym is ∙ other in cc);
     }
 
     -- from what was refused, by the clauses of its end

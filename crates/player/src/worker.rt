@@ -101,11 +101,7 @@ impl Worker {
         ensures share { result.share ≡ assignment.share }
         ensures lines { Keeps client.replies.taken result.inbox }
     {
-        let Assignment {
-            proxy,
-            share,
-            form,
-        } = assignment;
+        let Assignment { proxy, share, form } = assignment;
         let Client { requests, replies } = client;
         Worker {
             requests,

@@ -24,6 +24,8 @@ returns-in-Err g c =
       mistaken = ends.mistaken;
       nothing = ends.nothing;
       usage = ends.usage;
+      differs = ends.differs;
+      quiet_too = ends.quiet_too;
     }
 
 pub returns-in-Ok : goal.returns-in-Ok
@@ -54,4 +56,6 @@ returns-in-Ok g c =
       mistaken = ends.mistaken;
       nothing = ends.nothing;
       usage = ends.usage;
+      differs = ends.differs;
+      quiet_too = ends.quiet_too;
     }

@@ -4,6 +4,7 @@ use Rattle.std.proofs.lemmas.List.{length-map}
 use Rattle.player.specs.declared.failures.Ending.{Ending}
 use Rattle.player.specs.declared.failures.ProxyFailure.{ProxyFailure}
 use Rattle.player.specs.declared.line.Line.{Line}
+use Rattle.player.specs.Lines.{lines as lines_of}
 use Rattle.player.specs.Failures.{failure_lines, NothingFailed}
 use Rattle.player.specs.Run.{IsRun, is_complete}
 use Rattle.player.specs.Replayed.{written, Took}
@@ -56,12 +57,12 @@ returns g c =
     record {
       done = λ is.
           let parts = report.done.0 is in
-          is_replayed options files received failures complete account.stop run out
+          is_replayed options files received failures complete account.stop run (λ answers. Took out (lines_of options.form answers))
           (subst (λ (e : Ending). NothingFailed failures e) ending parts.2)
           (held_ok c.print_report.result.printed _ lines parts.0);
       quiet = report.quiet;
       failed = λ is.
-          inr (ran_and_failed options files received failures complete account.stop run out error told
+          inr (ran_and_failed options files received failures complete account.stop run (lines_of options.form) out error told
           c.print_report.result.printed c.print_report.result.told lines
           (λ proxy memory. omega (
             arith,
