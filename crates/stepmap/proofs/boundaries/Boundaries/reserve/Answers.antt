@@ -3,7 +3,10 @@ use Rattle.stepmap.proofs.Indexed.{indexed_still}
 use Rattle.stepmap.proofs.boundaries.Boundaries.reserve.Goals as goal
 
 pub invariant_of-self : goal.invariant_of-self
-invariant_of-self g c =
+invariant_of-self g c = c.self.invariant
+
+pub invariant_of-self-in_err-map_err : goal.invariant_of-self-in_err-map_err
+invariant_of-self-in_err-map_err g c =
     indexed_still c.self.inside.keys c.reserve.new.self c.self.inside.tree c.self.inside.tree c.reserve.ensures.records refl
     refl c.self.invariant
 
