@@ -64,6 +64,7 @@ module _ (has_opened cannot_open : List ℕ → Type 0) (contents : List ℕ →
             let other : status ≢ Done = λ done. let bad : Differs ≡ Done = sym is ∙ done in cc in
             let bad : Differs ≡ Failed = sym is ∙ (not_shown other).0 in
             cc
+
         never : ¬ (status ≡ Usage)
         never is =
             let other : status ≢ Done = λ done. let bad : Usage ≡ Done = sym is ∙ done in cc in

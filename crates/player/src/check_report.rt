@@ -191,7 +191,8 @@ fn kept_of(alloc: Global, lines: Vec<Line>) -> Result<Vec<Reply>, AllocError>
 {
     let mut kept = Vec::new(alloc);
     for line in lines {
-        if let Some(reply) = line.reply {
+        let Line { reply, .. } = line;
+        if let Some(reply) = reply {
             kept.push(reply)?;
         }
     }

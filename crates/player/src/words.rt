@@ -1,6 +1,6 @@
 //! The words of the command line.
 
-ghost use Rattle.std.specs.Prelude.{◌≡◌, ◌≤◌, IfErr, IfOk, IfSome, OnOk, Some, codes, length, map, string_bytes, vec_len};
+ghost use Rattle.std.specs.Prelude.{◌≡◌, ◌≢◌, ◌≤◌, IfErr, IfOk, IfSome, OnOk, Some, codes, length, map, string_bytes, vec_len};
 ghost use Rattle.clap.specs.Words.{all_of, found_of, rows_of};
 ghost use Rattle.player.specs.Words.{AsksForText, HasFiles, HasForm, HasNumbers, HasReplies, HoldsForm, HoldsNumbers, HoldsOptions, IsFormOf, IsMistaken, IsRefusalBy, IsRefusalOf, IsTaken, faults_of, rows_of_words};
 ghost use Rattle.clap.specs.declared.error.kind.ErrorKind.{ErrorKind};
@@ -56,12 +56,8 @@ pub fn read_words<'a>(alloc: Global, words: &'a [String]) -> Result<CommandLine<
         let message = "from 1 to 64 files are wanted";
         return Err(refuse(alloc, ErrorKind::TooManyValues, message)?);
     };
-    let Some(replies) = replies_of(&matches, form, files.len()) else {
-        let message = "--check REPLIES is wanted once a file";
-        return Err(refuse(alloc, ErrorKind::WrongNumberOfValues, message)?);
-    };
+    let replies = replies_of(alloc, &matches, form, files.len())?;
     let files = Vec::from_slice(alloc, files)?;
-    let replies = Vec::from_slice(alloc, replies)?;
     Ok(CommandLine {
         files,
         replies,
@@ -104,21 +100,37 @@ fn files_of<'m, 'a>(matches: &'m ArgMatches<'a>) -> Option<&'m [&'a str]>
     Some(files)
 }
 
-// Returns the files of replies, where replies are kept to be checked, unless they are another number than there are files. Else
-// returns none of them.
-fn replies_of<'m, 'a>(
-    matches: &'m ArgMatches<'a>,
+// Returns the files of replies, where replies are kept to be checked, and else none.
+fn replies_of<'a>(
+    alloc: Global,
+    matches: &ArgMatches<'a>,
     form: Form,
     files: usize,
-) -> Option<&'m [&'a str]>
-    ensures replies { IfSome result (λ replies. form ≡ Form.Kept → all_of (codes "check") (rows_of (found_of matches.entry.now))
-        ≡ Some (map (λ name. name.now) replies.now)) }
-    ensures as_many { IfSome result (λ replies. form ≡ Form.Kept → length replies.now ≡ files) }
-    ensures none { result ≡ None → ¬ HasReplies files (rows_of (found_of matches.entry.now)) }
+) -> Result<Vec<&'a str>, Refusal>
+    ensures replies { IfOk result (λ replies. form ≡ Form.Kept → all_of (codes "check") (rows_of (found_of matches.now))
+        ≡ Some (map (λ name. name.now) replies.items)) }
+    ensures as_many { IfOk result (λ replies. form ≡ Form.Kept → vec_len replies ≡ files) }
+    ensures shown { (text : _) → result ≢ Err (Refusal.Shown text) }
+    ensures refused { (text : _) → result ≡ Err (Refusal.Refused text)
+        → (form ≡ Form.Kept) × ¬ HasReplies files (rows_of (found_of matches.now)) }
 {
     if form != Form::Kept {
-        return Some(&[]);
+        return Ok(Vec::new(alloc));
     }
+    let Some(names) = named_replies(matches, files) else {
+        let message = "--check REPLIES is wanted once a file";
+        return Err(refuse(alloc, ErrorKind::WrongNumberOfValues, message)?);
+    };
+    Ok(Vec::from_slice(alloc, names)?)
+}
+
+// Returns the files of replies, unless they are another number than there are files.
+fn named_replies<'m, 'a>(matches: &'m ArgMatches<'a>, files: usize) -> Option<&'m [&'a str]>
+    ensures replies { IfSome result (λ replies. all_of (codes "check") (rows_of (found_of matches.entry.now))
+        ≡ Some (map (λ name. name.now) replies.now)) }
+    ensures as_many { IfSome result (λ replies. length replies.now ≡ files) }
+    ensures none { result ≡ None → ¬ HasReplies files (rows_of (found_of matches.entry.now)) }
+{
     let replies = matches.get_strs("check")?;
     if replies.len() != files {
         return None;
