@@ -51,7 +51,7 @@ equal_if_neither false true e f = absurd (false≢true (sym f))
 equal_if_neither false false e f = refl
 
 -- neither below b nor b, so above it
-above : (a b : ℤ) → int_lt a b ≡ false → (a ≡ b → ⊥) → int_lt b a ≡ true
+pub above : (a b : ℤ) → int_lt a b ≡ false → (a ≡ b → ⊥) → int_lt b a ≡ true
 above a b far other =
     elim (cases_Bool (int_lt b a)) [
       | inl holds ↦ holds
@@ -114,7 +114,7 @@ first_of-behind version (r ∷ rs) ys all =
     ∙ passed-all r rs (first_of version ys)
 
 -- nothing is found above
-first_of-above : (version : ℤ) (least : ℤ) (rs : List Reply) → int_lt version least ≡ true
+pub first_of-above : (version : ℤ) (least : ℤ) (rs : List Reply) → int_lt version least ≡ true
     → NoneBefore version_of_reply least rs → first_of version rs ≡ None
 first_of-above version least [] high none = refl
 first_of-above version least (r ∷ rs) high none =

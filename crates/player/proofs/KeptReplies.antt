@@ -7,11 +7,12 @@ use Rattle.std.proofs.lemmas.List.Elements.{All-head, All-tail}
 use Rattle.keyspace.specs.declared.answer.Answer.{Answer}
 use Rattle.keyspace.specs.declared.answer.Answer.TheVariants as answer
 use Rattle.keyspace.specs.declared.reply.Reply.{Reply}
+use Rattle.checking.specs.Check.{check_text, count_differences}
 use Rattle.checking.specs.Difference.{expected, expected_by}
 use Rattle.player.specs.declared.form.Form.TheVariants.{Kept}
 use Rattle.player.specs.declared.line.Line.{Line}
 use Rattle.player.specs.Line.{AreLines, IsLineOf, answer_of, answers_of, kept_of}
-use Rattle.player.specs.Checked.{count_lines, replies_kept}
+use Rattle.player.specs.Checked.{check_lines, count_lines, differences_of, replies_kept}
 
 kept_is_expected : (a : Answer) → option_to_list (kept_of Kept a) ≡ expected_by a
 kept_is_expected (answer.Reply reply) = refl
@@ -43,3 +44,14 @@ pub as_many_answers : (received : List (List Line)) → count_lines received ≡
 as_many_answers [] = refl
 as_many_answers (ls ∷ received) =
     ap₂ (λ (n m : ℕ). n + m) (sym (length-map ls answer_of)) (as_many_answers received)
+
+-- the text of a check of what lines keep is that of their answers
+pub check_of_lines : (received : List (List Line)) (batches : ℕ) (kept recorded : List (List Reply)) → AreLines Kept received
+    → batches ≡ count_lines received → kept ≡ map replies_kept received
+    → (check_text batches kept recorded ≡ check_lines recorded (map answers_of received))
+    × (count_differences kept recorded ≡ differences_of recorded (map answers_of received))
+check_of_lines received batches kept recorded are count is =
+    let expected_is = is ∙ kept_are_expected received are in (
+      ap₂ (λ (n : ℕ) (l : List (List Reply)). check_text n l recorded) (count ∙ as_many_answers received) expected_is,
+      ap (λ (l : List (List Reply)). count_differences l recorded) expected_is,
+    )

@@ -18,4 +18,5 @@ pub mod Keeping
 pub mod Replaying
 pub mod Programs
 pub mod Openings
+pub mod ReadingReplies
 pub mod KeptReplies

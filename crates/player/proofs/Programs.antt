@@ -1,9 +1,11 @@
 -- How the program ends, from what each of its parts says.
-use Rattle.std.specs.Prelude.{◌≡◌, ◌≢◌, ℕ, List, Option, None, Some, string_bytes}
+use Rattle.std.specs.Prelude.{◌≡◌, ◌≢◌, ℕ, false, List, Option, None, Some, string_bytes}
 use Rattle.std.specs.Io.KnownBytes.{Keeps}
 use Rattle.std.proofs.Common.{refl, sym, ◌∙◌, subst, inl, inr}
 use Rattle.player.specs.declared.opening.OpeningError.{OpeningError}
 use Rattle.player.specs.declared.opening.OpeningError.TheVariants as opening
+use Rattle.player.specs.declared.form.Form.{Form}
+use Rattle.player.specs.declared.form.Form.TheVariants.{Words, Frames, Json, Kept}
 use Rattle.player.specs.declared.options.Options.{Options}
 use Rattle.player.specs.declared.refusal.Refusal.{Refusal}
 use Rattle.player.specs.declared.refusal.Refusal.TheVariants as refusal
@@ -14,7 +16,7 @@ use Rattle.player.specs.Opening.{IsFirstRefused, contents_each, opening_line}
 use Rattle.player.specs.Program.{AsksToCheck, AsksToReplay, ChecksFiles, FailsOnFiles, FailsToCheck, HasDifferences, IsDone, IsFailed, Told}
 use Rattle.player.specs.Replayed.{HasFailed, IsReplayed, Took, Written}
 use Rattle.player.specs.Start.{start_line}
-use Rattle.player.specs.Words.{AsksForText, IsMistaken}
+use Rattle.player.specs.Words.{AsksForText, IsMistaken, is_kept}
 
 keeps_itself : (a : Option (List ℕ)) → Keeps a a
 keeps_itself None = tt
@@ -22,6 +24,12 @@ keeps_itself (Some xs) = refl
 
 pub keeps_same : (a b : Option (List ℕ)) → b ≡ a → Keeps a b
 keeps_same a b same = subst (Keeps a) (sym same) (keeps_itself a)
+
+pub not_kept : (form : Form) → (form ≡ Kept → ⊥) → is_kept form ≡ false
+not_kept Words other = refl
+not_kept Frames other = refl
+not_kept Json other = refl
+not_kept Kept other = absurd (other refl)
 
 module _ (has_opened cannot_open : List ℕ → Type 0) (contents : List ℕ → Option (List ℕ)) (out error : Written) where
   pub fails_on_files : (options : Options) (names : List (List ℕ)) (cause : OpeningError)
@@ -32,6 +40,15 @@ module _ (has_opened cannot_open : List ℕ → Type 0) (contents : List ℕ →
       inl (record { proxy = proxy; first = first proxy refl; nothing_printed = nothing; told = told })
   fails_on_files options names opening.Memory first nothing told =
       inr (inl (record { cause = start.Memory; nothing_printed = nothing; told = told }))
+
+  pub fails_to_open : (options : Options) (names replies : List (List ℕ)) (cause : OpeningError)
+      → ((proxy : ℕ) → cause ≡ opening.CannotOpen proxy → IsFirstRefused has_opened cannot_open names proxy)
+      → out.after ≡ out.before → Told error (opening_line cause)
+      → FailsToCheck has_opened cannot_open contents options names replies out error
+  fails_to_open options names replies (opening.CannotOpen proxy) first nothing told =
+      inl (record { proxy = proxy; first = first proxy refl; nothing_printed = nothing; told = told })
+  fails_to_open options names replies opening.Memory first nothing told =
+      inr (inr (inl (record { cause = start.Memory; nothing_printed = nothing; told = told })))
 
   module _ (words : List (List ℕ)) (status : Status) where
     pub record Ends : Type 0 where

@@ -1,5 +1,5 @@
 -- What was printed, from what was run and what was reported.
-use Rattle.std.specs.Prelude.{◌≡◌, ◌≢◌, ℕ, zero, suc, ◌+◌, ◌<◌, Bool, true, false, if◌then◌else◌, ◌⊎◌, List, [], ◌∷◌, length, map, Option, Some, None, MatchOption, Result, Ok, Err, OnOk, IsOk, IsErr, slice_get}
+use Rattle.std.specs.Prelude.{◌≡◌, ◌≢◌, ℕ, zero, suc, ◌+◌, ◌<◌, Bool, true, false, if◌then◌else◌, ◌⊎◌, List, [], ◌∷◌, length, map, Option, Some, None, MatchOption, Result, Ok, Err, OnOk, IfOk, IsOk, IsOkAnd, IsErr, slice_get}
 use Rattle.std.specs.List.{All, range_with_len}
 use Rattle.std.proofs.Common.{refl, sym, ap, subst, ◌∙◌, inl, inr, arith}
 use Rattle.std.proofs.lemmas.Bool.{false≢true}
@@ -174,3 +174,14 @@ module _ (options : Options) (files : List (Option (List ℕ))) (received : List
           lines_of_failures = told_of wrote told_lines told_failed;
           why = inl (failed refl);
         }
+
+pub ok_at : {T E : Type 0} (r : Result T E) (t : T) → r ≡ Ok t → IsOk r
+ok_at {T} {E} r t is = subst (λ (s : Result T E). IsOk s) (sym is) refl
+
+pub held_at : {T E : Type 0} (r : Result T E) (t : T) (P : T → Type 0) → r ≡ Ok t → IfOk r P → P t
+held_at {T} {E} r t P is holds = subst (λ (s : Result T E). IfOk s P) is holds
+
+-- what holds where it succeeded, and of the number that it then is
+pub held_and : {E P : Type 0} (r : Result ℕ E) (m : ℕ) (Q : ℕ → Type 0) → OnOk r P → IfOk r (λ n. n ≡ m) → IsOkAnd r Q → P × Q m
+held_and (Ok n) m Q holds same q = (holds, subst Q same q)
+held_and (Err e) m Q holds same q = absurd q

@@ -174,6 +174,7 @@ fn count_lines(received: &[Vec<Line>]) -> Option<usize>
 // Returns the kept replies of each proxy. An error is the proxy for which memory was refused.
 fn kept_each(alloc: Global, received: Vec<Vec<Line>>) -> Result<Vec<Vec<Reply>>, usize>
     ensures kept { IfOk result (λ kept. map vec_items kept.items ≡ map replies_kept (map vec_items received.items)) }
+    ensures count { IfOk result (λ kept. vec_len kept ≡ vec_len received) }
     ensures proxy { IfErr result (λ proxy. proxy < vec_len received) }
 {
     let mut kept = Vec::new(alloc);

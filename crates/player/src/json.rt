@@ -1,6 +1,8 @@
 //! The line of one answer as JSON.
 
-ghost use Rattle.std.specs.Prelude.{◌≡◌, OnOk};
+ghost use Rattle.std.specs.Prelude.{◌≡◌, ◌∷◌, OnOk, codes};
+ghost use Rattle.std.specs.Fmt.{decimal};
+ghost use Rattle.std.specs.List.{join_by};
 ghost use Rattle.std.specs.Io.KnownBytes.{Appends};
 ghost use Rattle.keyspace.specs.Answer.{version_of_answer};
 ghost use Rattle.player.specs.Lines.{conflict_json, entries_json, entry_json, json_line, outcome_json};
@@ -73,9 +75,19 @@ fn print_conflict<W: Write>(out: &mut W, places: &[u16]) -> io::Result<()>
     let Some((first, rest)) = places.split_first() else {
         return out.write_all(b"\"conflict\"");
     };
-    write!(out, "{{\"conflict\":[{first}")?;
+    out.write_all(b"{\"conflict\":[")?;
+    print_places(out, *first, rest)?;
+    out.write_all(b"]}")
+}
+
+// Prints these places, of which the first comes apart, with a comma between.
+fn print_places<W: Write>(out: &mut W, first: u16, rest: &[u16]) -> io::Result<()>
+    ensures text { OnOk result (Appends (W.contents out.old) (W.contents out.new)
+        (join_by decimal (codes ",") (first ∷ rest.now))) }
+{
+    write!(out, "{first}")?;
     for place in rest {
         write!(out, ",{place}")?;
     }
-    out.write_all(b"]}")
+    Ok(())
 }

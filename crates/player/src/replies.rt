@@ -1,6 +1,6 @@
 //! The replies that another resolver gave, read from their files.
 
-ghost use Rattle.std.specs.Prelude.{◌≡◌, ◌↔◌, ◌<◌, ◌≤◌, ◌⊎◌, IfErr, IfOk, IsErr, OnErr, OnOk, map, vec_items};
+ghost use Rattle.std.specs.Prelude.{◌≡◌, ◌↔◌, ◌<◌, ◌≤◌, ◌⊎◌, IfErr, IfOk, IsErr, OnErr, OnOk, length, map, vec_items, vec_len};
 ghost use Rattle.std.specs.Io.KnownBytes.{Appends};
 ghost use Rattle.std.specs.List.{AllZip};
 ghost use Rattle.player.specs.Opening.{contents_each};
@@ -35,6 +35,7 @@ pub fn read_replies<F: Files>(
 ) -> Result<Vec<Vec<Reply>>, RepliesError>
     ensures read { IfOk result (λ recorded. AllZip IsReplyFile
         (contents_each (F.contents files.now) (map (λ name. name.now) names.now)) (map vec_items recorded.items)) }
+    ensures count { IfOk result (λ recorded. vec_len recorded ≡ length names.now) }
     ensures refused { IfErr result (IsCauseOf (F.has_opened files.now) (F.cannot_open files.now) (F.contents files.now)
         (map (λ name. name.now) names.now)) }
 {
@@ -51,6 +52,7 @@ fn read_all<S: Source + Drop>(
     readers: Vec<S>,
 ) -> Result<Vec<Vec<Reply>>, RepliesError>
     ensures read { IfOk result (λ recorded. AllZip IsReplyFile (map S.remaining readers.items) (map vec_items recorded.items)) }
+    ensures count { IfOk result (λ recorded. vec_len recorded ≡ vec_len readers) }
     ensures fault { IfErr result (IsFaultIn (map S.remaining readers.items)) }
 {
     let mut recorded = Vec::new(alloc);

@@ -60,6 +60,7 @@ pub fn print_report<O: Sink, E: Sink>(
         ↔ (IsOk result.printed × IsOk result.told × NothingFailed failures.old ending) }
     ensures quiet { result.status ≡ Status.Done → Keeps (E.given error.old) (E.given error.new) }
     ensures ends { result.status ≢ Status.Usage }
+    ensures same { result.status ≢ Status.Differs }
 {
     let printed = print_and_flush(alloc, out, received);
     if let Err(PrintError::Memory(proxy)) = printed {

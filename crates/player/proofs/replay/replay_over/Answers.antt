@@ -22,6 +22,7 @@ returns-in-Err g c = record {
     told = c.fail_to_start.ensures.line;
   });
   ends = λ is. cc (c.fail_to_start.ensures.status, is);
+  same = λ is. cc (c.fail_to_start.ensures.status, is);
 }
 
 pub returns : goal.returns
@@ -77,4 +78,5 @@ returns g c =
           report.done.1 (all.0, all.1, subst (λ (e : Ending). NothingFailed failures e) (sym ending) all.2) in
           cc (done, is)));
       ends = report.ends;
+      same = report.same;
     }

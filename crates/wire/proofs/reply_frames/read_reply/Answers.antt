@@ -1,9 +1,8 @@
-use Rattle.std.proofs.Common.{◌≡◌, ◌≢◌, ℕ, ◌<◌, ◌≤◌, ◌+◌, List, [], length, vec_len, Ok, Err, ap, sym, subst, ◌∙◌, arith, rules}
+use Rattle.std.proofs.Common.{◌≡◌, ◌≢◌, ℕ, ◌<◌, ◌≤◌, ◌+◌, List, [], length, vec_len, Err, ap, sym, ◌∙◌, arith, rules}
 use Rattle.std.specs.Io.KnownBytes.{IsAtEnd}
 use Rattle.std.proofs.lemmas.List.{nil_from_length}
 use Rattle.std.proofs.lemmas.Result.{err_from_is_err_and}
 use Rattle.byteorder.specs.Endian.{big_number}
-use Rattle.wire.specs.Fields.{reply_fields}
 use Rattle.wire.specs.FrameLength.{frame_length}
 use Rattle.wire.specs.Reading.{read_reply}
 use Rattle.wire.proofs.FrameLengths.{at_least_four}
