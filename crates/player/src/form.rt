@@ -1,5 +1,7 @@
 //! How answers are told.
 
+ghost use Rattle.std.specs.Prelude.{◌≡◌, ◌↔◌, IsTrue};
+
 /// How the answers of a run are told.
 #[derive(Clone, Copy, Debug, PartialEq, Eq)]
 pub enum Form {
@@ -11,4 +13,13 @@ pub enum Form {
     Json,
     /// By no lines: the replies are kept, to be compared with others.
     Kept,
+}
+
+impl Form {
+    /// Returns whether the replies are kept, to be compared with others.
+    pub fn is_kept(self) -> bool
+        ensures kept { IsTrue result ↔ (self ≡ Form.Kept) }
+    {
+        matches!(self, Form::Kept)
+    }
 }

@@ -10,7 +10,6 @@ ghost use Rattle.player.specs.Words.{IsMistaken};
 
 use crate::check::check_over;
 use crate::files::Files;
-use crate::form::Form;
 use crate::opening::{fail_to_open, open_files};
 use crate::replay::replay_over;
 use crate::replies::{fail_to_read_replies, read_replies};
@@ -49,7 +48,7 @@ pub fn run<R: Threads + Wait + Copy + Send + 'static, F: Files, O: Sink, E: Sink
         (written (O.given out.old) (O.given out.new) (O.failures out.old) (O.failures out.new)) }
 {
     match read_words(alloc, words) {
-        Ok(line) if line.options.form == Form::Kept => {
+        Ok(line) if line.options.form.is_kept() => {
             check_files(rt, alloc, files, &line, out, error)
         }
         Ok(line) => replay_files(rt, alloc, files, &line, out, error),

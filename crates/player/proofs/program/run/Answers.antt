@@ -1,5 +1,6 @@
 use Rattle.std.proofs.Common.{◌∙◌, List, ℕ, Err, ap, map, arith}
-use Rattle.std.specs.Prelude.{string_bytes}
+use Rattle.std.specs.Prelude.{string_bytes, IsTrue}
+use Rattle.stepmap.proofs.LeftOpen.{is_false}
 use Rattle.std.proofs.lemmas.List.{length-map}
 use Rattle.player.specs.Replayed.{written}
 use Rattle.player.proofs.Programs.{ends_by, ends_checked, ends_replayed, not_kept}
@@ -40,17 +41,18 @@ returns-in-Ok g c =
     let error = written (g.E.Sink.given c.args.error.now) (g.E.Sink.given c.check_files.new.error)
     (g.E.Sink.failures c.args.error.now) (g.E.Sink.failures c.check_files.new.error) in
     let checked = c.check_files.ensures in
+    let kept = c.is_kept.ensures.kept.0 c.if-is_kept.true in
     let ends = ends_checked (g.F.Files.has_opened files) (g.F.Files.cannot_open files) (g.F.Files.contents files) out error
     words c.check_files.result line.options names replies
     (record {
       taken = c.in-Ok.ensures.taken;
       holds_options = c.in-Ok.ensures.options;
       holds_names = c.in-Ok.ensures.files;
-      holds_replies = c.in-Ok.ensures.replies c.if-eq.true;
+      holds_replies = c.in-Ok.ensures.replies kept;
       least = omega (arith, c.in-Ok.ensures.least, length-map line.files.items (λ name. name.now));
       most = omega (arith, c.in-Ok.ensures.most, length-map line.files.items (λ name. name.now));
-      as_many = omega (arith, c.in-Ok.ensures.as_many c.if-eq.true, length-map line.files.items (λ name. name.now), length-map line.replies.items (λ name. name.now));
-      kept = c.if-eq.true;
+      as_many = omega (arith, c.in-Ok.ensures.as_many kept, length-map line.files.items (λ name. name.now), length-map line.replies.items (λ name. name.now));
+      kept = kept;
     })
     checked.done checked.differs checked.quiet checked.failed checked.ends in
     record {
@@ -75,6 +77,7 @@ returns-in-Ok-2 g c =
     let error = written (g.E.Sink.given c.args.error.now) (g.E.Sink.given c.replay_files.new.error)
     (g.E.Sink.failures c.args.error.now) (g.E.Sink.failures c.replay_files.new.error) in
     let replayed = c.replay_files.ensures in
+    let no : ¬ IsTrue c.is_kept.result = is_false c.is_kept.result c.if-is_kept.false in
     let ends = ends_replayed (g.F.Files.has_opened files) (g.F.Files.cannot_open files) (g.F.Files.contents files) out error
     words c.replay_files.result line.options names
     (record {
@@ -83,7 +86,7 @@ returns-in-Ok-2 g c =
       holds_names = c.in-Ok-2.ensures.files;
       least = omega (arith, c.in-Ok-2.ensures.least, length-map line.files.items (λ name. name.now));
       most = omega (arith, c.in-Ok-2.ensures.most, length-map line.files.items (λ name. name.now));
-      plain = not_kept line.options.form (λ is. c.if-eq.false is);
+      plain = not_kept line.options.form (λ is. no (c.is_kept.ensures.kept.1 is));
     })
     replayed.done replayed.quiet replayed.failed replayed.ends replayed.same in
     record {
