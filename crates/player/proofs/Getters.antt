@@ -1,12 +1,14 @@
 -- What the typed getters of the matches read, and that the command is one of which they are known.
-use Rattle.std.specs.Prelude.{◌≡◌, ℕ, ℤ, Bool, codes, true, false, List, Option, None, Some, Result, Ok, MatchBool, option_map, IfSome}
+use Rattle.std.specs.Prelude.{◌≡◌, ℕ, ℤ, Bool, codes, true, false, List, Option, None, Some, Result, Ok, MatchBool, is_some, length, option_map, IfSome}
 use Rattle.std.specs.Str.Parse.{digits_value, false_text, signed_digits_value, true_text, without_leading_plus}
-use Rattle.std.proofs.Common.{refl, sym, ap, ◌∙◌}
+use Rattle.std.proofs.Common.{refl, sym, ap, ◌∙◌, arith}
 use Rattle.clap.specs.Values.{bool_text}
-use Rattle.clap.specs.Words.{ReadsOne, Row, is_simple, one_of, one_text, rows_of}
+use Rattle.clap.specs.Words.{ReadsOne, Row, all_of, is_simple, one_of, one_text, rows_of}
 use Rattle.clap.specs.declared.parser.matches.Found.{Found}
-use Rattle.player.specs.Words.{HoldsOptions, replay_app}
+use Rattle.player.specs.Words.{HoldsForm, HoldsNumbers, IsFormOf, is_frames, is_json, replay_app}
+use Rattle.player.specs.declared.form.Form.{Form}
 use Rattle.player.specs.declared.options.Options.{Options}
+use Rattle.player.proofs.Numbers.{Some-injective}
 use Rattle.clap.proofs.WalkLemmas.{one_text-rows}
 
 -- what was read is what the text of the row spells
@@ -50,18 +52,47 @@ unfolding replay_app
 replay_app-simple = refl
 
 -- options with these numbers are those that the rows hold
-pub HoldsOptions-of_parts : (rows : List Row) (made : Option Options) (capacity : ℕ) (window : ℤ) (limit : ℕ)
-    (frames : Bool) → IfSome made (λ options. options.capacity ≡ capacity)
+pub HoldsNumbers-of_parts : (rows : List Row) (made : Option Options) (capacity : ℕ) (window : ℤ) (limit : ℕ)
+    → IfSome made (λ options. options.capacity ≡ capacity)
     → IfSome made (λ options. options.window ≡ window) → IfSome made (λ options. options.limit ≡ limit)
-    → IfSome made (λ options. options.frames ≡ frames)
     → option_map (λ text. digits_value 10 (without_leading_plus text)) (one_of (codes "capacity") rows) ≡ Some capacity
     → option_map (signed_digits_value 10) (one_of (codes "window") rows) ≡ Some window
     → option_map (λ text. digits_value 10 (without_leading_plus text)) (one_of (codes "limit") rows) ≡ Some limit
-    → one_of (codes "frames") rows ≡ Some (bool_text frames) → IfSome made (HoldsOptions rows)
-HoldsOptions-of_parts rows None capacity window limit frames a b c d e f g h = tt
-HoldsOptions-of_parts rows (Some options) capacity window limit frames a b c d e f g h = record {
+    → IfSome made (HoldsNumbers rows)
+HoldsNumbers-of_parts rows None capacity window limit a b c e f g = tt
+HoldsNumbers-of_parts rows (Some options) capacity window limit a b c e f g = record {
   capacity = e ∙ ap (λ (n : ℕ). Some n) (sym a);
   window = f ∙ ap (λ (n : ℤ). Some n) (sym b);
   limit = g ∙ ap (λ (n : ℕ). Some n) (sym c);
-  frames = h ∙ ap (λ (on : Bool). Some (bool_text on)) (sym d);
 }
+
+bool_text_same : (a b : Bool) → bool_text a ≡ bool_text b → a ≡ b
+bool_text_same true true e = refl
+bool_text_same false false e = refl
+bool_text_same true false e = absurd (omega (arith, ap length e))
+bool_text_same false true e = absurd (omega (arith, ap length e))
+
+-- a form with these switches is the one that the rows hold
+pub HoldsForm-of_parts : (rows : List Row) (made : Option Form) (frames json check : Bool)
+    → IfSome made (λ form. IsFormOf form frames json check)
+    → one_of (codes "frames") rows ≡ Some (bool_text frames) → one_of (codes "json") rows ≡ Some (bool_text json)
+    → is_some (all_of (codes "check") rows) ≡ check → IfSome made (HoldsForm rows)
+HoldsForm-of_parts rows None frames json check is a b c = tt
+HoldsForm-of_parts rows (Some form) frames json check is a b c = record {
+  frames = a ∙ ap (λ (on : Bool). Some (bool_text on)) (sym is.0);
+  json = b ∙ ap (λ (on : Bool). Some (bool_text on)) (sym is.1);
+  check = c ∙ sym is.2;
+}
+
+-- the switches of a form that the rows hold
+pub IsFormOf-held : (rows : List Row) (form : Form) (frames json check : Bool)
+    → one_of (codes "frames") rows ≡ Some (bool_text frames) → one_of (codes "json") rows ≡ Some (bool_text json)
+    → is_some (all_of (codes "check") rows) ≡ check → HoldsForm rows form → IsFormOf form frames json check
+IsFormOf-held rows form frames json check a b c holds =
+    let first : bool_text (is_frames form) ≡ bool_text frames = Some-injective (sym holds.frames ∙ a) in
+    let second : bool_text (is_json form) ≡ bool_text json = Some-injective (sym holds.json ∙ b) in
+    (bool_text_same _ _ first, bool_text_same _ _ second, sym holds.check ∙ c)
+
+pub is_some_mapped : {A B : Type 0} (f : A → B) (o : Option A) → is_some (option_map f o) ≡ is_some o
+is_some_mapped f None = refl
+is_some_mapped f (Some a) = refl

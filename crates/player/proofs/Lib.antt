@@ -1,5 +1,3 @@
-pub mod OneOrder
-pub mod Ordered
 pub mod Known
 pub mod Results
 pub mod Numbered
@@ -20,3 +18,5 @@ pub mod Keeping
 pub mod Replaying
 pub mod Programs
 pub mod Openings
+pub mod ReadingReplies
+pub mod KeptReplies

@@ -1,20 +1,22 @@
 -- How the program ends, from what each of its parts says.
-use Rattle.std.specs.Prelude.{◌≡◌, ◌≢◌, ℕ, List, Option, None, Some, string_bytes}
+use Rattle.std.specs.Prelude.{◌≡◌, ◌≢◌, ℕ, false, List, Option, None, Some, string_bytes}
 use Rattle.std.specs.Io.KnownBytes.{Keeps}
 use Rattle.std.proofs.Common.{refl, sym, ◌∙◌, subst, inl, inr}
 use Rattle.player.specs.declared.opening.OpeningError.{OpeningError}
 use Rattle.player.specs.declared.opening.OpeningError.TheVariants as opening
+use Rattle.player.specs.declared.form.Form.{Form}
+use Rattle.player.specs.declared.form.Form.TheVariants.{Words, Frames, Json, Kept}
 use Rattle.player.specs.declared.options.Options.{Options}
 use Rattle.player.specs.declared.refusal.Refusal.{Refusal}
 use Rattle.player.specs.declared.refusal.Refusal.TheVariants as refusal
 use Rattle.player.specs.declared.start.StartError.TheVariants as start
 use Rattle.player.specs.declared.status.Status.{Status}
-use Rattle.player.specs.declared.status.Status.TheVariants.{Done, Failed, Usage}
+use Rattle.player.specs.declared.status.Status.TheVariants.{Done, Failed, Usage, Differs}
 use Rattle.player.specs.Opening.{IsFirstRefused, contents_each, opening_line}
-use Rattle.player.specs.Program.{AsksToReplay, FailsOnFiles, IsDone, IsFailed, Told}
+use Rattle.player.specs.Program.{AsksToCheck, AsksToReplay, ChecksFiles, FailsOnFiles, FailsToCheck, HasDifferences, IsDone, IsFailed, Told}
 use Rattle.player.specs.Replayed.{HasFailed, IsReplayed, Took, Written}
 use Rattle.player.specs.Start.{start_line}
-use Rattle.player.specs.Words.{AsksForText, IsMistaken}
+use Rattle.player.specs.Words.{AsksForText, IsMistaken, is_kept}
 
 keeps_itself : (a : Option (List ℕ)) → Keeps a a
 keeps_itself None = tt
@@ -22,6 +24,12 @@ keeps_itself (Some xs) = refl
 
 pub keeps_same : (a b : Option (List ℕ)) → b ≡ a → Keeps a b
 keeps_same a b same = subst (Keeps a) (sym same) (keeps_itself a)
+
+pub not_kept : (form : Form) → (form ≡ Kept → ⊥) → is_kept form ≡ false
+not_kept Words other = refl
+not_kept Frames other = refl
+not_kept Json other = refl
+not_kept Kept other = absurd (other refl)
 
 module _ (has_opened cannot_open : List ℕ → Type 0) (contents : List ℕ → Option (List ℕ)) (out error : Written) where
   pub fails_on_files : (options : Options) (names : List (List ℕ)) (cause : OpeningError)
@@ -33,6 +41,15 @@ module _ (has_opened cannot_open : List ℕ → Type 0) (contents : List ℕ →
   fails_on_files options names opening.Memory first nothing told =
       inr (inl (record { cause = start.Memory; nothing_printed = nothing; told = told }))
 
+  pub fails_to_open : (options : Options) (names replies : List (List ℕ)) (cause : OpeningError)
+      → ((proxy : ℕ) → cause ≡ opening.CannotOpen proxy → IsFirstRefused has_opened cannot_open names proxy)
+      → out.after ≡ out.before → Told error (opening_line cause)
+      → FailsToCheck has_opened cannot_open contents options names replies out error
+  fails_to_open options names replies (opening.CannotOpen proxy) first nothing told =
+      inl (record { proxy = proxy; first = first proxy refl; nothing_printed = nothing; told = told })
+  fails_to_open options names replies opening.Memory first nothing told =
+      inr (inr (inl (record { cause = start.Memory; nothing_printed = nothing; told = told })))
+
   module _ (words : List (List ℕ)) (status : Status) where
     pub record Ends : Type 0 where
       pub done : status ≡ Done → IsDone contents words out
@@ -41,6 +58,8 @@ module _ (has_opened cannot_open : List ℕ → Type 0) (contents : List ℕ →
       pub mistaken : status ≡ Usage → IsMistaken words
       pub nothing : status ≡ Usage → out.after ≡ out.before
       pub usage : status ≡ Usage → (text : List ℕ) × Told error text
+      pub differs : status ≡ Differs → HasDifferences contents words out
+      pub quiet_too : status ≡ Differs → Keeps error.before error.after
 
     pub ends_shown : (text : List ℕ) → AsksForText words → (status ≡ Done → Took out text)
         → (status ≢ Done → (status ≡ Failed) × HasFailed out) → error.after ≡ error.before → Ends
@@ -53,8 +72,16 @@ module _ (has_opened cannot_open : List ℕ → Type 0) (contents : List ℕ →
       mistaken = λ is. absurd (never is);
       nothing = λ is. absurd (never is);
       usage = λ is. absurd (never is);
+      differs = λ is. absurd (never_differs is);
+      quiet_too = λ is. absurd (never_differs is);
     }
       where
+        never_differs : ¬ (status ≡ Differs)
+        never_differs is =
+            let other : status ≢ Done = λ done. let bad : Differs ≡ Done = sym is ∙ done in cc in
+            let bad : Differs ≡ Failed = sym is ∙ (not_shown other).0 in
+            cc
+
         never : ¬ (status ≡ Usage)
         never is =
             let other : status ≢ Done = λ done. let bad : Usage ≡ Done = sym is ∙ done in cc in
@@ -70,6 +97,8 @@ module _ (has_opened cannot_open : List ℕ → Type 0) (contents : List ℕ →
       mistaken = λ is. mistaken;
       nothing = λ is. nothing;
       usage = λ is. (text, told);
+      differs = λ is. let bad : Usage ≡ Differs = sym usage ∙ is in cc;
+      quiet_too = λ is. let bad : Usage ≡ Differs = sym usage ∙ is in cc;
     }
 
     pub ends_without_memory : status ≡ Failed → out.after ≡ out.before → Told error (start_line start.Memory) → Ends
@@ -80,21 +109,43 @@ module _ (has_opened cannot_open : List ℕ → Type 0) (contents : List ℕ →
       mistaken = λ is. let bad : Failed ≡ Usage = sym failed ∙ is in cc;
       nothing = λ is. nothing;
       usage = λ is. let bad : Failed ≡ Usage = sym failed ∙ is in cc;
+      differs = λ is. let bad : Failed ≡ Differs = sym failed ∙ is in cc;
+      quiet_too = λ is. let bad : Failed ≡ Differs = sym failed ∙ is in cc;
     }
 
     pub ends_replayed : (options : Options) (names : List (List ℕ)) → AsksToReplay words options names
         → (status ≡ Done → IsReplayed options (contents_each contents names) out.before out.after)
         → (status ≡ Done → Keeps error.before error.after)
         → (status ≡ Failed → FailsOnFiles has_opened cannot_open contents options names out error)
-        → status ≢ Usage → Ends
-    ends_replayed options names asked done quiet failed ends = record {
-      done = λ is. inr (record { options = options; names = names; asked = asked; replayed = done is });
+        → status ≢ Usage → status ≢ Differs → Ends
+    ends_replayed options names asked done quiet failed ends same = record {
+      done = λ is. inr (inl (record { options = options; names = names; asked = asked; replayed = done is }));
       quiet = quiet;
       failed = λ is.
-          inr (inr (record { options = options; names = names; asked = asked; failed = failed is }));
+          inr (inr (inl (record { options = options; names = names; asked = asked; failed = failed is })));
       mistaken = λ is. absurd (ends is);
       nothing = λ is. absurd (ends is);
       usage = λ is. absurd (ends is);
+      differs = λ is. absurd (same is);
+      quiet_too = λ is. absurd (same is);
+    }
+
+    pub ends_checked : (options : Options) (names replies : List (List ℕ)) → AsksToCheck words options names replies
+        → (status ≡ Done → ChecksFiles (λ count. count ≡ 0) contents options names replies out.before out.after)
+        → (status ≡ Differs → ChecksFiles (λ count. count ≢ 0) contents options names replies out.before out.after)
+        → (status ≢ Failed → Keeps error.before error.after)
+        → (status ≡ Failed → FailsToCheck has_opened cannot_open contents options names replies out error)
+        → status ≢ Usage → Ends
+    ends_checked options names replies asked done differs quiet failed ends = record {
+      done = λ is. inr (inr (record { options = options; names = names; replies = replies; asked = asked; checked = done is }));
+      quiet = λ is. quiet (λ other. let bad : Done ≡ Failed = sym is ∙ other in cc);
+      failed = λ is.
+          inr (inr (inr (record { options = options; names = names; replies = replies; asked = asked; failed = failed is })));
+      mistaken = λ is. absurd (ends is);
+      nothing = λ is. absurd (ends is);
+      usage = λ is. absurd (ends is);
+      differs = λ is. record { options = options; names = names; replies = replies; asked = asked; checked = differs is };
+      quiet_too = λ is. quiet (λ other. let bad : Differs ≡ Failed = sym is ∙ other in cc);
     }
 
     -- from what was refused, by the clauses of its end

@@ -1,7 +1,7 @@
 -- Which refusal is made of which words.
-use Rattle.std.specs.Prelude.{◌≡◌, ◌⊎◌, ℕ, ◌<◌, true, List, None, Some, codes, length, map}
+use Rattle.std.specs.Prelude.{◌≡◌, ◌⊎◌, ℕ, ◌<◌, true, List, Option, None, Some, IfSome, is_some, codes, length, map}
 use Rattle.std.specs.Borrow.{Bor}
-use Rattle.std.proofs.Common.{refl, sym, ap, ◌∙◌, inl, inr, arith}
+use Rattle.std.proofs.Common.{refl, sym, ap, ◌∙◌, subst, inl, inr, arith}
 use Rattle.std.proofs.lemmas.List.{length-map}
 use Rattle.clap.specs.Words.{IsAmong, Kinds, Row, all_of, is_simple_and_free}
 use Rattle.clap.specs.declared.error.kind.ErrorKind.{ErrorKind}
@@ -9,7 +9,7 @@ use Rattle.clap.specs.declared.error.kind.ErrorKind.TheVariants.{DisplayHelp, Di
 use Rattle.resolver.specs.declared.sequential.TheConstants.{MAX_PROXIES}
 use Rattle.player.specs.declared.refusal.Refusal.{Refusal}
 use Rattle.player.specs.declared.refusal.Refusal.TheVariants.{Memory, Refused, Shown}
-use Rattle.player.specs.Words.{HasFiles, IsRefusalBy, IsRefusalOf, IsRequest, replay_app}
+use Rattle.player.specs.Words.{HasFiles, HasReplies, HasRepliesEach, IsRefusalBy, IsRefusalOf, IsRequest, replay_app}
 use Rattle.player.proofs.Numbers.{Some-injective}
 
 pub replay_app-free : is_simple_and_free replay_app ≡ true
@@ -43,3 +43,20 @@ not_as_many rows files found (inl none) has =
 not_as_many rows files found (inr many) has =
     let same : has.names ≡ map (λ file. file.now) files = Some-injective (sym has.found ∙ found) in
     absurd (omega (arith, has.most, ap length same, length-map files (λ file. file.now), many))
+
+-- no files of replies are found
+pub no_replies : (files : ℕ) (rows : List Row) → all_of (codes "check") rows ≡ None → ¬ (HasReplies files rows)
+no_replies files rows none has = let bad : Some has.names ≡ None = sym has.found ∙ none in cc
+
+-- the files of replies found are another number than there are files
+pub other_replies : (files : ℕ) (rows : List Row) (replies : List (Bor (List ℕ)))
+    → all_of (codes "check") rows ≡ Some (map (λ file. file.now) replies) → (length replies ≡ files → ⊥) → ¬ (HasReplies files rows)
+other_replies files rows replies found other has =
+    let same : has.names ≡ map (λ file. file.now) replies = Some-injective (sym has.found ∙ found) in
+    other (omega (arith, has.as_many, ap length same, length-map replies (λ file. file.now)))
+
+-- no other file of replies a file: the files are these, and replies are to be checked
+pub not_each : (rows : List Row) (names : List (List ℕ)) → all_of (codes "FILE") rows ≡ Some names
+    → is_some (all_of (codes "check") rows) ≡ true → ¬ (HasReplies (length names) rows) → ¬ (HasRepliesEach rows)
+not_each rows names found check none each =
+    none (subst (λ (o : Option (List (List ℕ))). IfSome o (λ files. HasReplies (length files) rows)) found (each check))

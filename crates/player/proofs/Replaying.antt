@@ -1,5 +1,5 @@
 -- What was printed, from what was run and what was reported.
-use Rattle.std.specs.Prelude.{◌≡◌, ◌≢◌, ℕ, zero, suc, ◌+◌, ◌<◌, Bool, true, false, if◌then◌else◌, ◌⊎◌, List, [], ◌∷◌, length, map, Option, Some, None, MatchOption, Result, Ok, Err, OnOk, IsOk, IsErr, slice_get}
+use Rattle.std.specs.Prelude.{◌≡◌, ◌≢◌, ℕ, zero, suc, ◌+◌, ◌<◌, Bool, true, false, if◌then◌else◌, ◌⊎◌, List, [], ◌∷◌, length, map, Option, Some, None, MatchOption, Result, Ok, Err, OnOk, IfOk, IsOk, IsOkAnd, IsErr, slice_get}
 use Rattle.std.specs.List.{All, range_with_len}
 use Rattle.std.proofs.Common.{refl, sym, ap, subst, ◌∙◌, inl, inr, arith}
 use Rattle.std.proofs.lemmas.Bool.{false≢true}
@@ -16,9 +16,8 @@ use Rattle.player.specs.declared.lines.PrintError.TheVariants as print
 use Rattle.player.specs.declared.options.Options.{Options}
 use Rattle.player.specs.Failures.{failure_lines, with_loss, IsClean, NothingFailed}
 use Rattle.player.specs.Line.{answers_of, AreLines}
-use Rattle.player.specs.Lines.{lines}
 use Rattle.player.specs.Run.{IsRun}
-use Rattle.player.specs.Replayed.{IsReplayed, Written, HasFailed, Took, TookBeginning, ending_of, RanAndFailed}
+use Rattle.player.specs.Replayed.{IsReplayedBy, Written, HasFailed, Took, TookBeginning, ending_of, RanAndFailed}
 use Rattle.player.specs.Worker.{TakesFrames}
 use Rattle.player.proofs.SameLanes.{found}
 use Rattle.player.proofs.Runs.{all_at}
@@ -64,18 +63,15 @@ held_ok (Err e) P holds ok = absurd (false≢true ok)
 
 module _ (options : Options) (files : List (Option (List ℕ))) (received : List (List Line)) (failures : List ProxyFailure)
     (complete : Bool) (stop : Option Stop) (run : IsRun options files received failures complete stop) where
-  abbrev text : List ℕ
-  text = lines options.frames (map answers_of received)
-
-  pub are_lines : AreLines options.frames received
+  pub are_lines : AreLines options.form received
   are_lines proxy of_proxy at =
       let bytes = found received files proxy of_proxy (sym run.received_count) at in
       let failure = found received failures proxy of_proxy (run.failures_count ∙ sym run.received_count) at in
       (run.each proxy bytes.0 of_proxy failure.0 bytes.1 at failure.1).lines_told
 
-  pub is_replayed : (out : Written) → NothingFailed failures (ending_of complete stop) → Took out text
-      → IsReplayed options files out.before out.after
-  is_replayed out nothing took =
+  pub is_replayed : (Printed : List (List Answer) → Type 0) → NothingFailed failures (ending_of complete stop)
+      → Printed (map answers_of received) → IsReplayedBy Printed options files
+  is_replayed Printed nothing printed =
       let whole = complete_from complete stop nothing.complete in
       record {
         log = run.log;
@@ -93,8 +89,8 @@ module _ (options : Options) (files : List (Option (List ℕ))) (received : List
             };
         chain = run.chain;
         finish = run.finish (run.no_stop whole);
-        text =
-            subst (λ (a : List (List Answer)). Took out (lines options.frames a))
+        printed =
+            subst Printed
             (same_answers (answers options.window run.log) received 0 (length files) run.received_count
             (λ place ls at.
             let bytes = found received files place ls (sym run.received_count) at in
@@ -102,10 +98,13 @@ module _ (options : Options) (files : List (Option (List ℕ))) (received : List
             let clean = all_at IsClean failures place failure.0 nothing.proxies failure.1 in
             (run.each place bytes.0 ls failure.0 bytes.1 at failure.1).all_received (run.no_stop whole) clean.1
             ∙ ap (answers options.window run.log) (omega arith)))
-            took;
+            printed;
       }
 
-  module _ (out error : Written) (told : List ProxyFailure) where
+  module _ (text_of : List (List Answer) → List ℕ) (out error : Written) (told : List ProxyFailure) where
+    abbrev text : List ℕ
+    text = text_of (map answers_of received)
+
     why_failed : {U F : Type 0} (wrote : Result U F) → (IsErr wrote → HasFailed error)
         → (IsOk wrote → ¬ (NothingFailed told (ending_of complete stop)))
         → HasFailed out ⊎ (HasFailed error ⊎ ¬ (NothingFailed told (ending_of complete stop)))
@@ -126,7 +125,7 @@ module _ (options : Options) (files : List (Option (List ℕ))) (received : List
         → ((proxy : ℕ) → printed ≡ Err (print.Memory proxy) → told ≡ with_loss proxy failures)
         → (((proxy : ℕ) → printed ≢ Err (print.Memory proxy)) → told ≡ failures)
         → ¬ (IsOk printed × IsOk wrote × NothingFailed failures (ending_of complete stop))
-        → RanAndFailed options files out error
+        → RanAndFailed text_of options files out error
     ran_and_failed (Ok u) wrote took inside nothing beginning failed told_lines told_failed loss no_loss not_done =
         let same : told ≡ failures = no_loss (λ proxy is. cc) in
         record {
@@ -175,3 +174,14 @@ module _ (options : Options) (files : List (Option (List ℕ))) (received : List
           lines_of_failures = told_of wrote told_lines told_failed;
           why = inl (failed refl);
         }
+
+pub ok_at : {T E : Type 0} (r : Result T E) (t : T) → r ≡ Ok t → IsOk r
+ok_at {T} {E} r t is = subst (λ (s : Result T E). IsOk s) (sym is) refl
+
+pub held_at : {T E : Type 0} (r : Result T E) (t : T) (P : T → Type 0) → r ≡ Ok t → IfOk r P → P t
+held_at {T} {E} r t P is holds = subst (λ (s : Result T E). IfOk s P) is holds
+
+-- what holds where it succeeded, and of the number that it then is
+pub held_and : {E P : Type 0} (r : Result ℕ E) (m : ℕ) (Q : ℕ → Type 0) → OnOk r P → IfOk r (λ n. n ≡ m) → IsOkAnd r Q → P × Q m
+held_and (Ok n) m Q holds same q = (holds, subst Q same q)
+held_and (Err e) m Q holds same q = absurd q

@@ -16,3 +16,7 @@ at_err_also (Err e) second f same is holds = holds
 pub on_err : {T E Q : Type 0} (r : Result T E) → Q → OnErr r Q
 on_err (Ok x) q = tt
 on_err (Err e) q = q
+
+pub on_err_weaker : {T E P Q : Type 0} (r : Result T E) → (P → Q) → OnErr r P → OnErr r Q
+on_err_weaker (Ok x) weaker holds = tt
+on_err_weaker (Err e) weaker holds = weaker holds

@@ -36,24 +36,24 @@ all_at P xs place x all at =
 module _ {S : Type 0} (remaining : S → Option (List ℕ)) (options : Options) (share : ℕ) (readers : List S) (clients : List Client)
     (finished : List Finished) (outcome : Outcome) (log : List Step) (ended : List Bool) (account : Account)
     (same : length readers ≡ length clients) (new : All (IsNewClient options.capacity) clients)
-    (worked : AllZip (HasWorkedOn remaining) (given_each options.frames share 0 clients readers) finished)
+    (worked : AllZip (HasWorkedOn remaining) (given_each options.form share 0 clients readers) finished)
     (of_finished : IsOutcomeOf finished outcome)
     (settled : Settled options.window log ended (map (λ (f : Finished). f.client) finished) account)
     (whole : account.stop ≡ None → account.complete ≡ true)
     (met : IfSome account.stop (IsStopOf options.limit options.window log)) where
   count : length finished ≡ length (map remaining readers)
-  count = finished_count remaining options.frames share 0 clients readers finished same worked ∙ sym same
+  count = finished_count remaining options.form share 0 clients readers finished same worked ∙ sym same
       ∙ sym (length-map readers remaining)
 
   served_at : (proxy : ℕ) (bytes : Option (List ℕ)) (f : Finished) → slice_get (map remaining readers) proxy ≡ Some bytes
       → slice_get finished proxy ≡ Some f
-      → IsServed options.window options.frames log (is_complete outcome account) account.stop bytes proxy f.lines.items (failure_of f)
+      → IsServed options.window options.form log (is_complete outcome account) account.stop bytes proxy f.lines.items (failure_of f)
   served_at proxy bytes f at there =
-      let given = worked_at remaining options.frames share 0 clients readers finished same worked proxy bytes f at there in
+      let given = worked_at remaining options.form share 0 clients readers finished same worked proxy bytes f at there in
       let client = all_at (IsNewClient options.capacity) clients proxy given.0 new given.1 in
-      let has_worked : HasWorked options.frames proxy bytes given.0 f =
-      subst (λ (p : ℕ). HasWorked options.frames p bytes given.0 f) (omega arith) given.2 in
-      served options.window options.frames log (slice_index_or ended proxy true) account.complete outcome.all_sent account.stop
+      let has_worked : HasWorked options.form proxy bytes given.0 f =
+      subst (λ (p : ℕ). HasWorked options.form p bytes given.0 f) (omega arith) given.2 in
+      served options.window options.form log (slice_index_or ended proxy true) account.complete outcome.all_sent account.stop
       bytes proxy given.0 f (ap (λ p. p.sent) client.requests) (ap (λ i. i.taken) client.replies) has_worked
       (settled.each proxy f.client (mapped_at (λ (f : Finished). f.client) finished proxy f there))
       (λ all. all_at (λ (f : Finished). f.unsent ≡ None) finished proxy f (of_finished.all_sent all) there)
@@ -66,14 +66,14 @@ module _ {S : Type 0} (remaining : S → Option (List ℕ)) (options : Options) 
       let not_sent : outcome.all_sent ≡ false = sym (ap (λ (b : Bool). b && outcome.all_sent) yes) ∙ not_all in
       let back = of_finished.unsent not_sent in
       let bytes = found finished (map remaining readers) back.place back.worker (sym count) back.at in
-      let given = worked_at remaining options.frames share 0 clients readers finished same worked back.place bytes.0 back.worker
+      let given = worked_at remaining options.form share 0 clients readers finished same worked back.place bytes.0 back.worker
       bytes.1 back.at in
       let client = all_at (IsNewClient options.capacity) clients back.place given.0 new given.1 in
-      let has_worked : HasWorked options.frames back.place bytes.0 given.0 back.worker =
-      subst (λ (p : ℕ). HasWorked options.frames p bytes.0 given.0 back.worker) (omega arith) given.2 in
+      let has_worked : HasWorked options.form back.place bytes.0 given.0 back.worker =
+      subst (λ (p : ℕ). HasWorked options.form p bytes.0 given.0 back.worker) (omega arith) given.2 in
       let settled_for = settled.each back.place back.worker.client
       (mapped_at (λ (f : Finished). f.client) finished back.place back.worker back.at) in
-      let left = left_over options.window options.frames log (slice_index_or ended back.place true) bytes.0 back.place
+      let left = left_over options.window options.form log (slice_index_or ended back.place true) bytes.0 back.place
       given.0 back.worker back.batch (ap (λ p. p.sent) client.requests) has_worked
       (subst (λ (b : Bool). SettledFor options.window log (slice_index_or ended back.place true) b back.place back.worker.client)
       yes settled_for) back.unsent in
@@ -105,9 +105,9 @@ module _ {S : Type 0} (remaining : S → Option (List ℕ)) (options : Options) 
         let failure_here : slice_get outcome.failures.items proxy ≡ Some (failure_of f.0) =
         ap (λ l. slice_get l proxy) of_finished.failures ∙ mapped_at failure_of finished proxy f.0 f.1 in
         let here = served_at proxy bytes f.0 at f.1 in
-        subst (λ (failure : ProxyFailure). IsServed options.window options.frames log (is_complete outcome account) account.stop bytes proxy lines failure)
+        subst (λ (failure : ProxyFailure). IsServed options.window options.form log (is_complete outcome account) account.stop bytes proxy lines failure)
         (same_Some (failure_of f.0) failure (sym failure_here ∙ failure_at))
-        (subst (λ (lines : List Line). IsServed options.window options.frames log (is_complete outcome account) account.stop bytes proxy lines (failure_of f.0))
+        (subst (λ (lines : List Line). IsServed options.window options.form log (is_complete outcome account) account.stop bytes proxy lines (failure_of f.0))
         (same_Some f.0.lines.items lines (sym lines_here ∙ lines_at)) here);
     chain = settled.chain;
     finish = λ none. settled.finish (whole none);

@@ -8,6 +8,7 @@ use Rattle.keyspace.specs.Run.{Step, part}
 use Rattle.resolver.specs.declared.client.Client.{Client}
 use Rattle.resolver.specs.declared.stop.Stop.{Stop}
 use Rattle.resolver.specs.Settled.{SettledFor}
+use Rattle.player.specs.declared.form.Form.{Form}
 use Rattle.player.specs.declared.worker.Finished.{Finished}
 use Rattle.player.specs.Line.{answers_of}
 use Rattle.player.specs.Worker.{HasWorked, TakesFrames}
@@ -19,12 +20,12 @@ both true b is = (refl, is)
 both false b is = absurd (false≢true is)
 
 -- the worker was given a client that had sent and taken nothing
-pub served : (window : ℤ) (frames : Bool) (log : List Step) (ended complete all_sent : Bool) (stop : Option Stop) (bytes : Option (List ℕ))
+pub served : (window : ℤ) (form : Form) (log : List Step) (ended complete all_sent : Bool) (stop : Option Stop) (bytes : Option (List ℕ))
     (proxy : ℕ) (given : Client) (finished : Finished) → given.requests.sent ≡ [] → given.replies.taken ≡ []
-    → HasWorked frames proxy bytes given finished → SettledFor window log ended complete proxy finished.client
+    → HasWorked form proxy bytes given finished → SettledFor window log ended complete proxy finished.client
     → (all_sent ≡ true → finished.unsent ≡ None) → (stop ≡ None → complete ≡ true)
-    → IsServed window frames log (complete && all_sent) stop bytes proxy finished.lines.items (failure_of finished)
-served window frames log ended complete all_sent stop bytes proxy given finished none_sent none_taken worked settled none_unsent whole =
+    → IsServed window form log (complete && all_sent) stop bytes proxy finished.lines.items (failure_of finished)
+served window form log ended complete all_sent stop bytes proxy given finished none_sent none_taken worked settled none_unsent whole =
     let sends = worked.sends in
     let keeps = worked.keeps in
     let unsent = option_to_list finished.unsent in
@@ -62,12 +63,12 @@ served window frames log ended complete all_sent stop bytes proxy given finished
     }
 
 -- a worker has a batch left that it read and could not send, though no stop was met
-pub left_over : (window : ℤ) (frames : Bool) (log : List Step) (ended : Bool) (bytes : Option (List ℕ)) (proxy : ℕ)
+pub left_over : (window : ℤ) (form : Form) (log : List Step) (ended : Bool) (bytes : Option (List ℕ)) (proxy : ℕ)
     (given : Client) (finished : Finished) (batch : Batch) → given.requests.sent ≡ []
-    → HasWorked frames proxy bytes given finished → SettledFor window log ended true proxy finished.client
+    → HasWorked form proxy bytes given finished → SettledFor window log ended true proxy finished.client
     → finished.unsent ≡ Some batch
     → (left : Option (List ℕ)) × TakesFrames bytes left (part log proxy ++ batch ∷ [])
-left_over window frames log ended bytes proxy given finished batch none_sent worked settled is =
+left_over window form log ended bytes proxy given finished batch none_sent worked settled is =
     let sends = worked.sends in
     let sent : sends.batches ≡ part log proxy =
     sym (ap (λ (l : List Batch). l ++ sends.batches) none_sent) ∙ sym sends.sent

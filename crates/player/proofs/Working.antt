@@ -10,6 +10,7 @@ use Rattle.keyspace.specs.declared.batch.Batch.{Batch}
 use Rattle.lane.specs.Lane.{HasEnded}
 use Rattle.resolver.specs.declared.client.Client.{Client}
 use Rattle.resolver.specs.Resolver.{IsNewClient, SameClients}
+use Rattle.player.specs.declared.form.Form.{Form}
 use Rattle.player.specs.declared.outcome.Outcome.{Outcome}
 use Rattle.player.specs.declared.worker.Finished.{Finished}
 use Rattle.player.specs.Worker.{HasWorked, ClientGoesOn}
@@ -67,12 +68,12 @@ outcome_also finished old new f of clients lines failures sent sends = record {
   unsent = hands_back_also finished f old.all_sent new.all_sent f.unsent refl of.unsent sends;
 }
 
-pub given_count : {S : Type 0} (frames : Bool) (share first : ℕ) (clients : List Client) (readers : List S)
-    → length readers ≡ length clients → length (given_each frames share first clients readers) ≡ length clients
-given_count frames share first [] readers same = refl
-given_count frames share first (c ∷ clients) [] same = absurd (omega (arith, same))
-given_count frames share first (c ∷ clients) (r ∷ readers) same =
-    let rest = given_count frames share (first + 1) clients readers (omega (arith, same)) in
+pub given_count : {S : Type 0} (form : Form) (share first : ℕ) (clients : List Client) (readers : List S)
+    → length readers ≡ length clients → length (given_each form share first clients readers) ≡ length clients
+given_count form share first [] readers same = refl
+given_count form share first (c ∷ clients) [] same = absurd (omega (arith, same))
+given_count form share first (c ∷ clients) (r ∷ readers) same =
+    let rest = given_count form share (first + 1) clients readers (omega (arith, same)) in
     omega (arith, rest)
 
 at_place : {X : Type 0} (xs : List X) (place : ℕ) → place < length xs → (x : X) × (slice_get xs place ≡ Some x)
@@ -107,27 +108,27 @@ capacities_stay capacity old new same all place d inside =
 
 module _ {S : Type 0} (remaining : S → Option (List ℕ)) where
   -- each client is handed back as the one that was given
-  pub clients_back : (frames : Bool) (share first : ℕ) (clients : List Client) (readers : List S) (finished : List Finished)
+  pub clients_back : (form : Form) (share first : ℕ) (clients : List Client) (readers : List S) (finished : List Finished)
       → length readers ≡ length clients
-      → AllZip (HasWorkedOn remaining) (given_each frames share first clients readers) finished
+      → AllZip (HasWorkedOn remaining) (given_each form share first clients readers) finished
       → AllZip ClientGoesOn clients (map (λ f. f.client) finished)
-  clients_back frames share first [] readers [] same all = tt
-  clients_back frames share first [] readers (f ∷ finished) same all = absurd all
-  clients_back frames share first (c ∷ clients) [] finished same all = absurd (omega (arith, same))
-  clients_back frames share first (c ∷ clients) (r ∷ readers) [] same all = absurd all
-  clients_back frames share first (c ∷ clients) (r ∷ readers) (f ∷ finished) same all =
-      (all.0.client, clients_back frames share (first + 1) clients readers finished (omega (arith, same)) all.1)
+  clients_back form share first [] readers [] same all = tt
+  clients_back form share first [] readers (f ∷ finished) same all = absurd all
+  clients_back form share first (c ∷ clients) [] finished same all = absurd (omega (arith, same))
+  clients_back form share first (c ∷ clients) (r ∷ readers) [] same all = absurd all
+  clients_back form share first (c ∷ clients) (r ∷ readers) (f ∷ finished) same all =
+      (all.0.client, clients_back form share (first + 1) clients readers finished (omega (arith, same)) all.1)
 
-  pub finished_count : (frames : Bool) (share first : ℕ) (clients : List Client) (readers : List S) (finished : List Finished)
+  pub finished_count : (form : Form) (share first : ℕ) (clients : List Client) (readers : List S) (finished : List Finished)
       → length readers ≡ length clients
-      → AllZip (HasWorkedOn remaining) (given_each frames share first clients readers) finished
+      → AllZip (HasWorkedOn remaining) (given_each form share first clients readers) finished
       → length finished ≡ length clients
-  finished_count frames share first [] readers [] same all = refl
-  finished_count frames share first [] readers (f ∷ finished) same all = absurd all
-  finished_count frames share first (c ∷ clients) [] finished same all = absurd (omega (arith, same))
-  finished_count frames share first (c ∷ clients) (r ∷ readers) [] same all = absurd all
-  finished_count frames share first (c ∷ clients) (r ∷ readers) (f ∷ finished) same all =
-      let rest = finished_count frames share (first + 1) clients readers finished (omega (arith, same)) all.1 in
+  finished_count form share first [] readers [] same all = refl
+  finished_count form share first [] readers (f ∷ finished) same all = absurd all
+  finished_count form share first (c ∷ clients) [] finished same all = absurd (omega (arith, same))
+  finished_count form share first (c ∷ clients) (r ∷ readers) [] same all = absurd all
+  finished_count form share first (c ∷ clients) (r ∷ readers) (f ∷ finished) same all =
+      let rest = finished_count form share (first + 1) clients readers finished (omega (arith, same)) all.1 in
       omega (arith, rest)
 
   -- each client has taken its answers to their end
@@ -141,22 +142,22 @@ module _ {S : Type 0} (remaining : S → Option (List ℕ)) where
   clients_ended (one ∷ given) (f ∷ finished) all (suc place) c at = clients_ended given finished all.1 place c at
 
   -- the worker at this place was given the client and the reader at it, and its proxy is the place
-  pub worked_at : (frames : Bool) (share first : ℕ) (clients : List Client) (readers : List S) (finished : List Finished)
+  pub worked_at : (form : Form) (share first : ℕ) (clients : List Client) (readers : List S) (finished : List Finished)
       → length readers ≡ length clients
-      → AllZip (HasWorkedOn remaining) (given_each frames share first clients readers) finished
+      → AllZip (HasWorkedOn remaining) (given_each form share first clients readers) finished
       → (place : ℕ) (bytes : Option (List ℕ)) (f : Finished) → slice_get (map remaining readers) place ≡ Some bytes
       → slice_get finished place ≡ Some f
-      → (c : Client) × (slice_get clients place ≡ Some c) × HasWorked frames (first + place) bytes c f
-  worked_at frames share first clients [] finished same all place bytes f at there = absurd (none-some bytes at)
-  worked_at frames share first [] (r ∷ readers) finished same all place bytes f at there = absurd (omega (arith, same))
-  worked_at frames share first (c ∷ clients) (r ∷ readers) [] same all place bytes f at there = absurd all
-  worked_at frames share first (c ∷ clients) (r ∷ readers) (g ∷ finished) same all zero bytes f at there = (
+      → (c : Client) × (slice_get clients place ≡ Some c) × HasWorked form (first + place) bytes c f
+  worked_at form share first clients [] finished same all place bytes f at there = absurd (none-some bytes at)
+  worked_at form share first [] (r ∷ readers) finished same all place bytes f at there = absurd (omega (arith, same))
+  worked_at form share first (c ∷ clients) (r ∷ readers) [] same all place bytes f at there = absurd all
+  worked_at form share first (c ∷ clients) (r ∷ readers) (g ∷ finished) same all zero bytes f at there = (
     c,
     refl,
-    subst (λ (first : ℕ). HasWorked frames first bytes c f) (omega arith)
-        (subst (λ (bytes : Option (List ℕ)). HasWorked frames first bytes c f) (same_Some (remaining r) bytes at)
-        (subst (λ (f : Finished). HasWorked frames first (remaining r) c f) (same_Some g f there) all.0)),
+    subst (λ (first : ℕ). HasWorked form first bytes c f) (omega arith)
+        (subst (λ (bytes : Option (List ℕ)). HasWorked form first bytes c f) (same_Some (remaining r) bytes at)
+        (subst (λ (f : Finished). HasWorked form first (remaining r) c f) (same_Some g f there) all.0)),
   )
-  worked_at frames share first (c ∷ clients) (r ∷ readers) (g ∷ finished) same all (suc place) bytes f at there =
-      let rest = worked_at frames share (first + 1) clients readers finished (omega (arith, same)) all.1 place bytes f at there in
-      (rest.0, rest.1, subst (λ (proxy : ℕ). HasWorked frames proxy bytes rest.0 f) (omega arith) rest.2)
+  worked_at form share first (c ∷ clients) (r ∷ readers) (g ∷ finished) same all (suc place) bytes f at there =
+      let rest = worked_at form share (first + 1) clients readers finished (omega (arith, same)) all.1 place bytes f at there in
+      (rest.0, rest.1, subst (λ (proxy : ℕ). HasWorked form proxy bytes rest.0 f) (omega arith) rest.2)

@@ -1,8 +1,10 @@
 pub mod Lines
 pub mod Line
+pub mod Checked
 pub mod Failures
 pub mod Start
 pub mod Opening
+pub mod Replies
 pub mod Inbox
 pub mod Worker
 pub mod Watch

@@ -1,14 +1,20 @@
 -- How the program ends, beside the words of its command line and the bytes of its files. This project's own.
-use Rattle.std.specs.Prelude.{◌≡◌, ◌⊎◌, ℕ, ◌≤◌, List, codes, length, Option, Some}
+use Rattle.std.specs.Prelude.{◌≡◌, ◌≢◌, ◌⊎◌, ℕ, ◌≤◌, false, List, codes, length, Option, Some}
+use Rattle.std.specs.List.{AllZip}
 use Rattle.clap.specs.Words.{all_of}
+use Rattle.keyspace.specs.declared.reply.Reply.{Reply}
 use Rattle.resolver.specs.declared.sequential.TheConstants.{MAX_PROXIES}
 use Rattle.player.specs.declared.opening.OpeningError.TheVariants as opening
+use Rattle.player.specs.declared.form.Form.TheVariants.{Kept}
 use Rattle.player.specs.declared.options.Options.{Options}
+use Rattle.player.specs.declared.replies.RepliesError.{RepliesError}
 use Rattle.player.specs.declared.start.StartError.TheVariants as start
 use Rattle.player.specs.Opening.{IsFirstRefused, contents_each, opening_line}
-use Rattle.player.specs.Replayed.{FailsToReplay, HasFailed, IsReplayed, Took, Written}
+use Rattle.player.specs.Checked.{check_lines}
+use Rattle.player.specs.Replayed.{DidNotStart, FailsToPrint, FailsToReplay, HasFailed, IsChecked, IsReplayed, Took, Written}
+use Rattle.player.specs.Replies.{IsCauseOf, IsReplyFile, replies_line}
 use Rattle.player.specs.Start.{start_line}
-use Rattle.player.specs.Words.{AsksForText, HoldsOptions, IsTaken, rows_of_words}
+use Rattle.player.specs.Words.{AsksForText, HoldsOptions, IsTaken, is_kept, rows_of_words}
 
 -- the line was told, or standard error failed
 abbrev pub Told : Written → List ℕ → Type 0
@@ -22,12 +28,39 @@ pub record DidNotOpen (has_opened cannot_open : List ℕ → Type 0) (names : Li
   pub nothing_printed : out.after ≡ out.before
   pub told : Told error (opening_line (opening.CannotOpen proxy))
 
+-- the files of replies were not read: nothing was printed, and the cause was told
+pub record DidNotReadReplies (has_opened cannot_open : List ℕ → Type 0) (contents : List ℕ → Option (List ℕ))
+    (names : List (List ℕ)) (out error : Written) : Type 0 where
+  pub cause : RepliesError
+  pub why : IsCauseOf has_opened cannot_open contents names cause
+  pub nothing_printed : out.after ≡ out.before
+  pub told : Told error (replies_line cause)
+
 -- the files of these names were not replayed, or something failed
 abbrev pub FailsOnFiles : (List ℕ → Type 0) → (List ℕ → Type 0) → (List ℕ → Option (List ℕ)) → Options
     → List (List ℕ) → Written → Written → Type 0
 FailsOnFiles has_opened cannot_open contents options names out error =
     DidNotOpen has_opened cannot_open names out error
     ⊎ FailsToReplay options (contents_each contents names) out error
+
+-- the replies that were read of the files of these names
+abbrev pub AreRecorded : (List ℕ → Option (List ℕ)) → List (List ℕ) → List (List Reply) → Type 0
+AreRecorded contents names recorded = AllZip IsReplyFile (contents_each contents names) recorded
+
+-- the replies were read, and then the program failed
+pub record FailsBeside (contents : List ℕ → Option (List ℕ)) (options : Options) (names replies : List (List ℕ))
+    (out error : Written) : Type 0 where
+  pub recorded : List (List Reply)
+  pub read : AreRecorded contents replies recorded
+  pub failed : FailsToPrint (check_lines recorded) options (contents_each contents names) out error
+
+-- the files of these names were not compared with those of replies, or something failed
+abbrev pub FailsToCheck : (List ℕ → Type 0) → (List ℕ → Type 0) → (List ℕ → Option (List ℕ)) → Options
+    → List (List ℕ) → List (List ℕ) → Written → Written → Type 0
+FailsToCheck has_opened cannot_open contents options names replies out error =
+    DidNotOpen has_opened cannot_open names out error
+    ⊎ (DidNotReadReplies has_opened cannot_open contents replies out error
+    ⊎ (DidNotStart out error ⊎ FailsBeside contents options names replies out error))
 
 -- the words are taken, and ask for a replay of the files of these names with these options
 pub record AsksToReplay (words : List (List ℕ)) (options : Options) (names : List (List ℕ)) : Type 0 where
@@ -36,6 +69,18 @@ pub record AsksToReplay (words : List (List ℕ)) (options : Options) (names : L
   pub holds_names : all_of (codes "FILE") (rows_of_words words) ≡ Some names
   pub least : 1 ≤ length names
   pub most : length names ≤ MAX_PROXIES
+  pub plain : is_kept options.form ≡ false
+
+-- the words are taken, and ask for a check of the files of these names beside those of replies
+pub record AsksToCheck (words : List (List ℕ)) (options : Options) (names replies : List (List ℕ)) : Type 0 where
+  pub taken : IsTaken words
+  pub holds_options : HoldsOptions (rows_of_words words) options
+  pub holds_names : all_of (codes "FILE") (rows_of_words words) ≡ Some names
+  pub holds_replies : all_of (codes "check") (rows_of_words words) ≡ Some replies
+  pub least : 1 ≤ length names
+  pub most : length names ≤ MAX_PROXIES
+  pub as_many : length replies ≡ length names
+  pub kept : options.form ≡ Kept
 
 -- what is told of words that aren't text
 abbrev pub not_text : List ℕ
@@ -56,9 +101,30 @@ pub record HasReplayed (contents : List ℕ → Option (List ℕ)) (words : List
   pub asked : AsksToReplay words options names
   pub replayed : IsReplayed options (contents_each contents names) out.before out.after
 
+-- the files of these names were resolved and compared with those of replies, and there are so many differences
+pub record ChecksFiles (So_many : ℕ → Type 0) (contents : List ℕ → Option (List ℕ)) (options : Options)
+    (names replies : List (List ℕ)) (before after : Option (List ℕ)) : Type 0 where
+  pub recorded : List (List Reply)
+  pub read : AreRecorded contents replies recorded
+  pub checked : IsChecked So_many recorded options (contents_each contents names) before after
+
+-- all that the words ask for was read, resolved and compared, and there are so many differences
+pub record HasChecked (So_many : ℕ → Type 0) (contents : List ℕ → Option (List ℕ)) (words : List (List ℕ)) (out : Written) :
+    Type 0 where
+  pub options : Options
+  pub names : List (List ℕ)
+  pub replies : List (List ℕ)
+  pub asked : AsksToCheck words options names replies
+  pub checked : ChecksFiles So_many contents options names replies out.before out.after
+
+-- there are differences
+abbrev pub HasDifferences : (List ℕ → Option (List ℕ)) → List (List ℕ) → Written → Type 0
+HasDifferences = HasChecked (λ count. count ≢ 0)
+
 -- The program is done.
 abbrev pub IsDone : (List ℕ → Option (List ℕ)) → List (List ℕ) → Written → Type 0
-IsDone contents words out = HasShown words out ⊎ HasReplayed contents words out
+IsDone contents words out =
+    HasShown words out ⊎ (HasReplayed contents words out ⊎ HasChecked (λ count. count ≡ 0) contents words out)
 
 -- what the words ask for failed on the files
 pub record HasFailedOnFiles (has_opened cannot_open : List ℕ → Type 0) (contents : List ℕ → Option (List ℕ))
@@ -67,6 +133,15 @@ pub record HasFailedOnFiles (has_opened cannot_open : List ℕ → Type 0) (cont
   pub names : List (List ℕ)
   pub asked : AsksToReplay words options names
   pub failed : FailsOnFiles has_opened cannot_open contents options names out error
+
+-- what the words ask to be checked failed
+pub record HasFailedToCheck (has_opened cannot_open : List ℕ → Type 0) (contents : List ℕ → Option (List ℕ))
+    (words : List (List ℕ)) (out error : Written) : Type 0 where
+  pub options : Options
+  pub names : List (List ℕ)
+  pub replies : List (List ℕ)
+  pub asked : AsksToCheck words options names replies
+  pub failed : FailsToCheck has_opened cannot_open contents options names replies out error
 
 -- help or the version was asked for, and standard output failed
 abbrev pub HasNotShown : List (List ℕ) → Written → Type 0
@@ -81,4 +156,5 @@ abbrev pub IsFailed : (List ℕ → Type 0) → (List ℕ → Type 0) → (List 
     → Written → Written → Type 0
 IsFailed has_opened cannot_open contents words out error =
     HasNoMemory out error
-    ⊎ (HasNotShown words out ⊎ HasFailedOnFiles has_opened cannot_open contents words out error)
+    ⊎ (HasNotShown words out ⊎ (HasFailedOnFiles has_opened cannot_open contents words out error
+    ⊎ HasFailedToCheck has_opened cannot_open contents words out error))

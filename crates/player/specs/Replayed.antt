@@ -4,6 +4,7 @@ use Rattle.std.specs.List.{range_with_len}
 use Rattle.std.specs.Io.KnownBytes.{IsAtEnd, Appends}
 use Rattle.keyspace.specs.declared.batch.Batch.{Batch}
 use Rattle.keyspace.specs.declared.answer.Answer.{Answer}
+use Rattle.keyspace.specs.declared.reply.Reply.{Reply}
 use Rattle.keyspace.specs.Chain.{IsChain}
 use Rattle.keyspace.specs.Run.{Step, run, answers, part}
 use Rattle.resolver.specs.declared.stop.Stop.{Stop}
@@ -14,6 +15,7 @@ use Rattle.player.specs.declared.failures.ProxyFailure.{ProxyFailure}
 use Rattle.player.specs.declared.line.Line.{Line}
 use Rattle.player.specs.declared.options.Options.{Options}
 use Rattle.player.specs.declared.start.StartError.{StartError}
+use Rattle.player.specs.Checked.{check_lines, differences_of}
 use Rattle.player.specs.Failures.{failure_lines, with_loss, NothingFailed}
 use Rattle.player.specs.Line.{answers_of}
 use Rattle.player.specs.Lines.{lines}
@@ -31,9 +33,9 @@ pub record IsFileOf (bytes : Option (List ℕ)) (batches : List Batch) : Type 0 
 abbrev pub answers_each : ℤ → List Step → ℕ → List (List Answer)
 answers_each window log proxies = map (answers window log) (range_with_len 0 proxies)
 
--- All was read, resolved and printed. There is one log of the reference resolver that holds the batches of each file
--- once, in order, and no others. The text printed is the lines of its answers, all of them.
-pub record IsReplayed (options : Options) (files : List (Option (List ℕ))) (before after : Option (List ℕ)) :
+-- All was read and resolved, and what is to be printed of the answers was. There is one log of the reference resolver that
+-- holds the batches of each file once, in order, and no others. What was printed is of its answers, all of them.
+pub record IsReplayedBy (Printed : List (List Answer) → Type 0) (options : Options) (files : List (Option (List ℕ))) :
     Type 0 where
   pub log : List Step
   pub proxies : TakesOnlyFrom (length files) log
@@ -44,7 +46,19 @@ pub record IsReplayed (options : Options) (files : List (Option (List ℕ))) (be
   pub chain : IsChain options.window (run options.window log).processed
   -- no batch is left unanswered
   pub finish : FinishesLast log
-  pub text : Appends before after (lines options.frames (answers_each options.window log (length files)))
+  pub printed : Printed (answers_each options.window log (length files))
+
+-- all was read, resolved and printed: the text printed is the lines of the answers
+abbrev pub IsReplayed : Options → List (Option (List ℕ)) → Option (List ℕ) → Option (List ℕ) → Type 0
+IsReplayed options files before after =
+    IsReplayedBy (λ answers. Appends before after (lines options.form answers)) options files
+
+-- all was read, resolved and compared: the text printed is the lines of the differences, and there are so many
+abbrev pub IsChecked : (ℕ → Type 0) → List (List Reply) → Options → List (Option (List ℕ)) → Option (List ℕ) → Option (List ℕ)
+    → Type 0
+IsChecked So_many recorded options files before after =
+    IsReplayedBy (λ answers. Appends before after (check_lines recorded answers) × So_many (differences_of recorded answers))
+    options files
 
 -- what became of a writer
 pub record Written : Type 0 where
@@ -90,8 +104,9 @@ abbrev pub IsWithLoss : ℕ → List ProxyFailure → List ProxyFailure → Type
 IsWithLoss proxies failures told = (proxy : ℕ) × (proxy < proxies) × (told ≡ with_loss proxy failures)
 
 -- The files were replayed, and something failed. `told` is what failed, with the loss of a proxy whose lines could not
--- be sorted; then nothing was printed.
-pub record RanAndFailed (options : Options) (files : List (Option (List ℕ))) (out error : Written) : Type 0 where
+-- be sorted, or whose replies could not be compared; then nothing was printed. `text` is what is to be printed of answers.
+pub record RanAndFailed (text : List (List Answer) → List ℕ) (options : Options) (files : List (Option (List ℕ)))
+    (out error : Written) : Type 0 where
   pub received : List (List Line)
   pub failures : List ProxyFailure
   pub complete : Bool
@@ -100,12 +115,16 @@ pub record RanAndFailed (options : Options) (files : List (Option (List ℕ))) (
   pub told : List ProxyFailure
   pub failures_told : (told ≡ failures) ⊎ IsWithLoss (length files) failures told
   pub printed :
-      (HasFailed out × TookBeginning out (lines options.frames (map answers_of received)))
-      ⊎ (((told ≡ failures) × Took out (lines options.frames (map answers_of received)))
+      (HasFailed out × TookBeginning out (text (map answers_of received)))
+      ⊎ (((told ≡ failures) × Took out (text (map answers_of received)))
       ⊎ (IsWithLoss (length files) failures told × (out.after ≡ out.before)))
   pub lines_of_failures : HasFailed error ⊎ Took error (failure_lines told (ending_of complete stop))
   pub why : HasFailed out ⊎ (HasFailed error ⊎ ¬ (NothingFailed told (ending_of complete stop)))
 
+-- the program failed, which was to print this text of the answers
+abbrev pub FailsToPrint : (List (List Answer) → List ℕ) → Options → List (Option (List ℕ)) → Written → Written → Type 0
+FailsToPrint text options files out error = DidNotStart out error ⊎ RanAndFailed text options files out error
+
 -- The program failed.
 abbrev pub FailsToReplay : Options → List (Option (List ℕ)) → Written → Written → Type 0
-FailsToReplay options files out error = DidNotStart out error ⊎ RanAndFailed options files out error
+FailsToReplay options files out error = FailsToPrint (lines options.form) options files out error

@@ -14,6 +14,7 @@ use Rattle.resolver.specs.declared.turn.Account.{Account}
 use Rattle.resolver.specs.Books.{IsBeginning}
 use Rattle.resolver.specs.Resolver.{TakesOnlyFrom, FinishesLast}
 use Rattle.player.specs.declared.failures.ProxyFailure.{ProxyFailure}
+use Rattle.player.specs.declared.form.Form.{Form}
 use Rattle.player.specs.declared.line.Line.{Line}
 use Rattle.player.specs.declared.options.Options.{Options}
 use Rattle.player.specs.declared.outcome.Outcome.{Outcome}
@@ -31,7 +32,7 @@ HasCapacity capacity client = (client.requests.capacity ≡ capacity) × (client
 
 -- What became of one file, whose reader told these bytes, by whether the run is complete and the stop that it met: its
 -- batches and the lines of its proxy, beside those of the reference resolver.
-pub record IsServed (window : ℤ) (frames : Bool) (log : List Step) (complete : Bool) (stop : Option Stop)
+pub record IsServed (window : ℤ) (form : Form) (log : List Step) (complete : Bool) (stop : Option Stop)
     (bytes : Option (List ℕ)) (proxy : ℕ) (lines : List Line) (failure : ProxyFailure) : Type 0 where
   -- these batches were read, from the frames at the front, and these bytes are left
   pub read : List Batch
@@ -46,7 +47,7 @@ pub record IsServed (window : ℤ) (frames : Bool) (log : List Step) (complete :
   -- nothing was lost
   pub received : IsBeginning (answers_of lines) (answers window log proxy)
   pub all_received : stop ≡ None → failure.lost ≡ false → answers_of lines ≡ answers window log proxy
-  pub lines_told : All (IsLineOf frames proxy) lines
+  pub lines_told : All (IsLineOf form proxy) lines
 
 -- Of some file, a batch was read that the log doesn't take: it was the last that was read, and could not be sent.
 pub record LeavesBatch (files : List (Option (List ℕ))) (log : List Step) : Type 0 where
@@ -69,7 +70,7 @@ pub record IsRun (options : Options) (files : List (Option (List ℕ))) (receive
       (proxy : ℕ) (bytes : Option (List ℕ)) (lines : List Line) (failure : ProxyFailure) →
       slice_get files proxy ≡ Some bytes → slice_get received proxy ≡ Some lines →
       slice_get failures proxy ≡ Some failure →
-      IsServed options.window options.frames log complete stop bytes proxy lines failure
+      IsServed options.window options.form log complete stop bytes proxy lines failure
   -- what was processed follows the chain of versions
   pub chain : IsChain options.window (run options.window log).processed
   -- where no stop was met, no batch is left unanswered

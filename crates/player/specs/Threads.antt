@@ -4,6 +4,7 @@ use Rattle.std.specs.List.{All}
 use Rattle.keyspace.specs.declared.batch.Batch.{Batch}
 use Rattle.resolver.specs.declared.client.Client.{Client}
 use Rattle.player.specs.declared.failures.ProxyFailure.{ProxyFailure}
+use Rattle.player.specs.declared.form.Form.{Form}
 use Rattle.player.specs.declared.outcome.Outcome.{Outcome}
 use Rattle.player.specs.declared.worker.Finished.{Finished}
 use Rattle.player.specs.declared.threads.Task.{Task}
@@ -13,7 +14,7 @@ use Rattle.player.specs.Worker.{HasWorked}
 
 -- what a worker is given
 pub record Given (S : Type 0) : Type 0 where
-  pub frames : Bool
+  pub form : Form
   pub share : ℕ
   pub proxy : ℕ
   pub client : Client
@@ -21,17 +22,17 @@ pub record Given (S : Type 0) : Type 0 where
 
 module _ {S : Type 0} where
   -- from this proxy on, each worker is given the client and the reader at its place
-  abbrev pub given_each : Bool → ℕ → ℕ → List Client → List S → List (Given S)
-  given_each frames share proxy (client ∷ clients) (reader ∷ readers) =
-      record { frames = frames; share = share; proxy = proxy; client = client; reader = reader }
-      ∷ given_each frames share (proxy + 1) clients readers
-  given_each frames share proxy (client ∷ clients) [] = []
-  given_each frames share proxy [] readers = []
+  abbrev pub given_each : Form → ℕ → ℕ → List Client → List S → List (Given S)
+  given_each form share proxy (client ∷ clients) (reader ∷ readers) =
+      record { form = form; share = share; proxy = proxy; client = client; reader = reader }
+      ∷ given_each form share (proxy + 1) clients readers
+  given_each form share proxy (client ∷ clients) [] = []
+  given_each form share proxy [] readers = []
 
   -- what the worker of a task is to be given
   abbrev pub given_by : {G : Type 0} → Task S G → Given S
   given_by task = record {
-    frames = task.assignment.frames;
+    form = task.assignment.form;
     share = task.assignment.share;
     proxy = task.assignment.proxy;
     client = task.client;
@@ -41,7 +42,7 @@ module _ {S : Type 0} where
   -- what a worker was given that was promised this work
   abbrev pub given_for : Work S → Given S
   given_for work = record {
-    frames = work.assignment.frames;
+    form = work.assignment.form;
     share = work.assignment.share;
     proxy = work.assignment.proxy;
     client = work.client.value;
@@ -55,7 +56,7 @@ module _ {S : Type 0} where
   -- a worker has worked on what it was given, whose bytes the reader tells
   abbrev pub HasWorkedOn : (S → Option (List ℕ)) → Given S → Finished → Type 0
   HasWorkedOn remaining given finished =
-      HasWorked given.frames given.proxy (remaining given.reader) given.client finished
+      HasWorked given.form given.proxy (remaining given.reader) given.client finished
 
 -- what failed of the proxy
 abbrev pub failure_of : Finished → ProxyFailure

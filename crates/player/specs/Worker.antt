@@ -9,6 +9,7 @@ use Rattle.wire.specs.declared.error.WireError.{WireError}
 use Rattle.wire.specs.declared.error.WireError.TheVariants as wire
 use Rattle.wire.specs.NextFrame.{TakesFrame, IsFaultOf}
 use Rattle.resolver.specs.declared.client.Client.{Client}
+use Rattle.player.specs.declared.form.Form.{Form}
 use Rattle.player.specs.declared.worker.Finished.{Finished}
 use Rattle.player.specs.declared.worker.FileEnd.{FileEnd}
 use Rattle.player.specs.declared.worker.FileEnd.TheVariants.{Reached, Fault, Unsent}
@@ -57,13 +58,13 @@ CannotSend requests replies =
 
 -- What a worker has done that was given this proxy's client, and a reader with these bytes left: what it sent is what it
 -- read, what it took is what its lines tell, and it has closed its lane and taken answers to their end.
-pub record HasWorked (frames : Bool) (proxy : ℕ) (bytes : Option (List ℕ)) (given : Client) (finished : Finished) :
+pub record HasWorked (form : Form) (proxy : ℕ) (bytes : Option (List ℕ)) (given : Client) (finished : Finished) :
     Type 0 where
   pub client : ClientGoesOn given finished.client
   pub sends :
       SendsFrames bytes given.requests.sent finished.client.requests.sent finished.fault finished.unsent
   pub keeps :
-      KeepsLines frames proxy given.replies.taken finished.client.replies.taken finished.lines.items finished.lost
+      KeepsLines form proxy given.replies.taken finished.client.replies.taken finished.lines.items finished.lost
   pub closed : finished.client.requests.closed ≡ true
   pub ended : HasEnded finished.client.replies
 

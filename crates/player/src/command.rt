@@ -2,7 +2,7 @@
 
 ghost use Rattle.std.specs.Prelude.{◌≡◌, IfOk, false};
 ghost use Rattle.clap.specs.Words.{app_of, rule_of};
-ghost use Rattle.player.specs.Words.{capacity_rule, file_rule, frames_rule, limit_rule, number_rule, replay_app, window_rule};
+ghost use Rattle.player.specs.Words.{capacity_rule, check_rule, file_rule, frames_rule, json_rule, limit_rule, number_rule, replay_app, window_rule};
 
 use clap::builder::ValueParser;
 use clap::{Arg, ArgAction, Command};
@@ -27,6 +27,8 @@ pub fn command<'a>(alloc: Global) -> Result<Command<'a>, AllocError>
         .arg(window(alloc))?
         .arg(limit(alloc))?
         .arg(frames(alloc))?
+        .arg(json(alloc))?
+        .arg(check(alloc))?
         .arg(file(alloc))
 }
 
@@ -80,6 +82,27 @@ fn frames<'a>(alloc: Global) -> Arg<'a>
         .long("frames")
         .action(ArgAction::SetTrue)
         .help("Prints each reply as its frame in hexadecimal, in place of words")
+}
+
+fn json<'a>(alloc: Global) -> Arg<'a>
+    ensures rule { rule_of result ≡ json_rule }
+    ensures local { result.global ≡ false }
+{
+    Arg::new(alloc, "json")
+        .long("json")
+        .action(ArgAction::SetTrue)
+        .help("Prints each answer as a line of JSON")
+}
+
+fn check<'a>(alloc: Global) -> Arg<'a>
+    ensures rule { rule_of result ≡ check_rule }
+    ensures local { result.global ≡ false }
+{
+    Arg::new(alloc, "check")
+        .long("check")
+        .value_name("REPLIES")
+        .action(ArgAction::Append)
+        .help("Compares with the reply frames of another resolver; once a FILE, in order")
 }
 
 fn file<'a>(alloc: Global) -> Arg<'a>

@@ -2,7 +2,7 @@
 
 ghost use Rattle.std.specs.Prelude.{◌≡◌, ◌<◌, ◌⊎◌, ℕ, List};
 ghost use Rattle.std.specs.Io.KnownBytes.{Appends, Keeps};
-ghost use Rattle.player.specs.Program.{HasNoMemory, HasReadNoText, IsDone, IsFailed, Told, not_text};
+ghost use Rattle.player.specs.Program.{HasDifferences, HasNoMemory, HasReadNoText, IsDone, IsFailed, Told, not_text};
 ghost use Rattle.player.specs.Replayed.{written};
 ghost use Rattle.player.specs.Start.{start_line};
 ghost use Rattle.player.specs.Words.{IsMistaken};
@@ -40,6 +40,9 @@ pub fn run_in<R: Threads + Wait + Copy + Send + 'static, V: Env, F: Files, O: Si
     ensures done { result ≡ Status.Done → (words : List (List ℕ)) × IsDone (F.contents files.now) words
         (written (O.given out.old) (O.given out.new) (O.failures out.old) (O.failures out.new)) }
     ensures quiet { result ≡ Status.Done → Keeps (E.given error.old) (E.given error.new) }
+    ensures differs { result ≡ Status.Differs → (words : List (List ℕ)) × HasDifferences (F.contents files.now) words
+        (written (O.given out.old) (O.given out.new) (O.failures out.old) (O.failures out.new)) }
+    ensures quiet_too { result ≡ Status.Differs → Keeps (E.given error.old) (E.given error.new) }
     ensures failed { result ≡ Status.Failed → HasNoMemory
         (written (O.given out.old) (O.given out.new) (O.failures out.old) (O.failures out.new))
         (written (E.given error.old) (E.given error.new) (E.failures error.old) (E.failures error.new))

@@ -161,8 +161,8 @@ fn print_stop<W: Sink>(error: &mut W, stop: Stop) -> Result<(), Failed>
     write_all(error, b"\n")
 }
 
-// The number and the name of a fault, as its `Display` prints them. A contract doesn't see what a derived `Display` prints.
-fn fault_text(fault: WireError) -> &'static str
+/// Returns the number and the name of a fault, as its `Display` prints them. A contract doesn't see what a derived `Display` prints.
+pub fn fault_text(fault: WireError) -> &'static str
     ensures name { result.now ≡ fault_name fault }
 {
     match fault {

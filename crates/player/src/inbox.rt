@@ -6,6 +6,7 @@ ghost use Rattle.player.specs.Line.{answer_of, IsLineOf};
 ghost use Rattle.player.specs.Inbox.{Keeps, InboxGoesOn};
 ghost use Rattle.player.specs.declared.line.Line.{Line as LineOfAnswer};
 
+use crate::form::Form;
 use crate::gatekeeper::Gatekeeper;
 use crate::line::Line;
 use crate::pause::pause;
@@ -23,8 +24,8 @@ pub struct Inbox {
     /// The line of an answer could not be kept. Later answers are dropped too.
     pub lost: bool,
     pub proxy: usize,
-    /// Whether replies are told as frames.
-    pub frames: bool,
+    /// How answers are told.
+    pub form: Form,
     alloc: Global,
     // The place of the next answer. It stops at `u64::MAX`, which no lane comes to.
     place: u64,
@@ -32,10 +33,10 @@ pub struct Inbox {
 
 impl Inbox {
     /// Creates an inbox that has kept nothing.
-    pub fn new(alloc: Global, frames: bool, proxy: usize, replies: Intake<Answer>) -> Self
+    pub fn new(alloc: Global, form: Form, proxy: usize, replies: Intake<Answer>) -> Self
         ensures replies { result.replies ≡ replies }
         ensures proxy { result.proxy ≡ proxy }
-        ensures frames { result.frames ≡ frames }
+        ensures form { result.form ≡ form }
         ensures lines { Keeps replies.taken result }
     {
         Inbox {
@@ -43,7 +44,7 @@ impl Inbox {
             lines: Vec::new(alloc),
             lost: false,
             proxy,
-            frames,
+            form,
             alloc,
             place: 0,
         }
@@ -57,7 +58,7 @@ impl Inbox {
         for _ in rt.forever() {
             match self.replies.take() {
                 Taken::Item(answer) => {
-                    self.keep(&answer);
+                    self.keep(answer);
                     gatekeeper.answered(self.proxy, self.place);
                     self.place = self.place.saturating_add(1);
                 }
@@ -83,20 +84,20 @@ impl Inbox {
     }
 
     // Keeps the line of an answer, unless one was lost before.
-    fn keep(&mut self, answer: &Answer)
+    fn keep(&mut self, answer: Answer)
         ensures replies { self.new.replies ≡ self.old.replies }
         ensures proxy { self.new.proxy ≡ self.old.proxy }
-        ensures frames { self.new.frames ≡ self.old.frames }
+        ensures form { self.new.form ≡ self.old.form }
         ensures loss_stays { self.old.lost ≡ true → self.new.lost ≡ true }
         ensures lost { self.new.lost ≡ true → self.new.lines.items ≡ self.old.lines.items }
         ensures kept { self.new.lost ≡ false → (line : LineOfAnswer)
             × (self.new.lines.items ≡ self.old.lines.items ++ line ∷ [])
-            × (answer_of line ≡ answer.now) × IsLineOf self.old.frames self.old.proxy line }
+            × (answer_of line ≡ answer) × IsLineOf self.old.form self.old.proxy line }
     {
         if self.lost {
             return;
         }
-        let Some(line) = Line::new(self.alloc, self.frames, self.proxy, answer) else {
+        let Some(line) = Line::new(self.alloc, self.form, self.proxy, answer) else {
             self.lost = true;
             return;
         };

@@ -9,12 +9,16 @@
 #![tactic(auto)]
 
 mod begin_line;
+mod check;
+mod check_report;
 mod command;
 mod environment;
 mod failures;
 mod files;
+mod form;
 mod gatekeeper;
 mod inbox;
+mod json;
 mod line;
 mod lines;
 mod opening;
@@ -24,6 +28,7 @@ mod pause;
 mod program;
 mod refusal;
 mod replay;
+mod replies;
 mod report;
 mod running;
 mod start;
@@ -33,17 +38,21 @@ mod watch;
 mod words;
 mod worker;
 
+pub use check::check_over;
+pub use check_report::{CheckReport, print_check};
 pub use environment::run_in;
 pub use failures::{Ending, ProxyFailure};
 pub use files::{FileError, Files};
+pub use form::Form;
 pub use gatekeeper::{AlwaysOpen, Gatekeeper};
 pub use line::Line;
 pub use lines::{PrintError, print_answers};
 pub use opening::{OpeningError, fail_to_open, open_files};
 pub use options::Options;
-pub use program::{replay_files, run};
+pub use program::{check_files, replay_files, run};
 pub use refusal::Refusal;
 pub use replay::replay_over;
+pub use replies::{RepliesError, fail_to_read_replies, read_replies};
 pub use report::{Report, print_report};
 pub use start::{StartError, fail_to_start};
 pub use status::Status;

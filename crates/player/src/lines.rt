@@ -1,11 +1,14 @@
 //! The printed text: one line an answer, in order.
 
-ghost use Rattle.std.specs.Prelude.{◌≡◌, ◌<◌, ◌≤◌, ◌↔◌, ℕ, Bool, map, take, length, vec_items, OnOk, OnErr, IfErr, IfSome};
+ghost use Rattle.std.specs.Prelude.{◌≡◌, ◌<◌, ◌≤◌, ◌↔◌, ℕ, map, take, length, vec_items, OnOk, OnErr, IfErr, IfSome};
 ghost use Rattle.std.specs.Io.KnownBytes.{Appends};
 ghost use Rattle.player.specs.Line.{AreLines, answers_of, text_of, texts, version_of_line};
-ghost use Rattle.player.specs.Lines.{in_order_by, lines};
+ghost use Rattle.player.specs.Lines.{lines};
+ghost use Rattle.checking.specs.InOrder.{in_order_by};
+ghost use Rattle.player.specs.declared.form.Form.{Form};
 
 use crate::line::Line;
+use checking::sort_by_version;
 use std::alloc::{AllocError, Global};
 use wire::{Failed, Sink, write_all};
 
@@ -27,13 +30,13 @@ pub fn print_answers<W: Sink>(
     out: &mut W,
     received: &mut [Vec<Line>],
 ) -> Result<(), PrintError>
-    ensures lines { (frames : Bool) → AreLines frames (map vec_items received.old)
-        → OnOk result (Appends (W.given out.old) (W.given out.new) (lines frames (map answers_of (map vec_items received.old)))) }
+    ensures lines { (form : Form) → AreLines form (map vec_items received.old)
+        → OnOk result (Appends (W.given out.old) (W.given out.new) (lines form (map answers_of (map vec_items received.old)))) }
     ensures memory { (proxy : ℕ) → result ≡ Err (PrintError.Memory proxy) → proxy < length received.old }
     ensures nothing { (proxy : ℕ) → result ≡ Err (PrintError.Memory proxy) → W.given out.new ≡ W.given out.old }
-    ensures beginning { (frames : Bool) → AreLines frames (map vec_items received.old) → result ≡ Err PrintError.Write
+    ensures beginning { (form : Form) → AreLines form (map vec_items received.old) → result ≡ Err PrintError.Write
         → IfSome (W.given out.new) (λ _. (n : ℕ)
-        × Appends (W.given out.old) (W.given out.new) (take n (lines frames (map answers_of (map vec_items received.old))))) }
+        × Appends (W.given out.old) (W.given out.new) (take n (lines form (map answers_of (map vec_items received.old))))) }
     ensures write { (result ≡ Err PrintError.Write) ↔ (W.failures out.old < W.failures out.new) }
     ensures least_failures { W.failures out.old ≤ W.failures out.new }
 {
@@ -54,12 +57,6 @@ fn sort_lines(alloc: Global, received: &mut [Vec<Line>]) -> Result<(), usize>
         };
     }
     Ok(())
-}
-
-fn sort_by_version(alloc: Global, lines: &mut [Line]) -> Result<(), AllocError>
-    ensures ok { OnOk result (lines.new ≡ in_order_by version_of_line lines.old) }
-{
-    lines.sort_by_key(alloc, |line| line.version)
 }
 
 fn print_sorted<W: Sink>(out: &mut W, sorted: &[Vec<Line>]) -> Result<(), Failed>

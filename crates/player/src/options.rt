@@ -1,11 +1,13 @@
 //! How a run is set up.
 
-ghost use Rattle.std.specs.Prelude.{◌≡◌, ◌≤◌, ◌≤ℤ◌, ◌↔◌, IfSome, IsSome, false, pos};
+ghost use Rattle.std.specs.Prelude.{◌≡◌, ◌≤◌, ◌≤ℤ◌, ◌↔◌, IfSome, IsSome, pos};
 ghost use Rattle.keyspace.specs.declared.TheConstants.{WINDOW};
 ghost use Rattle.lane.specs.declared.ends.TheConstants.{MAX_CAPACITY};
 ghost use Rattle.conflict.specs.declared.conflict_set.TheConstants.{MAX_WINDOW};
 ghost use Rattle.stepmap.specs.declared.step_map.TheConstants.{MAX_LIMIT};
+ghost use Rattle.player.specs.declared.form.Form.TheVariants.{Words};
 
+use crate::form::Form;
 use conflict::MAX_WINDOW;
 use keyspace::WINDOW;
 use lane::MAX_CAPACITY;
@@ -20,8 +22,8 @@ pub struct Options {
     pub window: i64,
     /// How many boundaries its conflict set keeps at most.
     pub limit: usize,
-    /// Whether replies are printed as frames.
-    pub frames: bool,
+    /// How answers are told.
+    pub form: Form,
     ghost least_capacity: { 1 ≤ capacity },
     ghost most_capacity: { capacity ≤ MAX_CAPACITY },
     ghost least_window: { pos 1 ≤ℤ window },
@@ -32,13 +34,13 @@ pub struct Options {
 
 impl Options {
     /// Returns these options if each number is within its range.
-    pub fn new(capacity: usize, window: i64, limit: usize, frames: bool) -> Option<Self>
+    pub fn new(capacity: usize, window: i64, limit: usize, form: Form) -> Option<Self>
         ensures some { IsSome result ↔ ((1 ≤ capacity) × (capacity ≤ MAX_CAPACITY) × (pos 1 ≤ℤ window)
             × (window ≤ℤ MAX_WINDOW) × (1 ≤ limit) × (limit ≤ MAX_LIMIT)) }
         ensures capacity { IfSome result (λ options. options.capacity ≡ capacity) }
         ensures window { IfSome result (λ options. options.window ≡ window) }
         ensures limit { IfSome result (λ options. options.limit ≡ limit) }
-        ensures frames { IfSome result (λ options. options.frames ≡ frames) }
+        ensures form { IfSome result (λ options. options.form ≡ form) }
     {
         if !(1..=MAX_CAPACITY).contains(&capacity)
             || !(1..=MAX_WINDOW).contains(&window)
@@ -50,20 +52,20 @@ impl Options {
             capacity,
             window,
             limit,
-            frames,
+            form,
         })
     }
 }
 
 impl Default for Options {
-    ghost is_default = { λ options. (options.capacity ≡ 16) × (options.window ≡ WINDOW) × (options.limit ≡ 1000000) × (options.frames ≡ false) };
+    ghost is_default = { λ options. (options.capacity ≡ 16) × (options.window ≡ WINDOW) × (options.limit ≡ 1000000) × (options.form ≡ Words) };
 
     fn default() -> Self {
         Options {
             capacity: 16,
             window: WINDOW,
             limit: 1_000_000,
-            frames: false,
+            form: Form::Words,
         }
     }
 }

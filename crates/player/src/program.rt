@@ -4,13 +4,15 @@ ghost use Rattle.std.specs.Prelude.{◌≡◌, ◌≢◌, ◌≤◌, ℕ, List, 
 ghost use Rattle.std.specs.Io.KnownBytes.{Keeps};
 ghost use Rattle.resolver.specs.declared.sequential.TheConstants.{MAX_PROXIES};
 ghost use Rattle.player.specs.Opening.{contents_each};
-ghost use Rattle.player.specs.Program.{FailsOnFiles, IsDone, IsFailed, Told};
+ghost use Rattle.player.specs.Program.{ChecksFiles, FailsOnFiles, FailsToCheck, HasDifferences, IsDone, IsFailed, Told};
 ghost use Rattle.player.specs.Replayed.{IsReplayed, written};
 ghost use Rattle.player.specs.Words.{IsMistaken};
 
+use crate::check::check_over;
 use crate::files::Files;
 use crate::opening::{fail_to_open, open_files};
 use crate::replay::replay_over;
+use crate::replies::{fail_to_read_replies, read_replies};
 use crate::start::{StartError, fail_to_start};
 use crate::status::Status;
 use crate::words::{CommandLine, read_words};
@@ -33,6 +35,7 @@ pub fn run<R: Threads + Wait + Copy + Send + 'static, F: Files, O: Sink, E: Sink
     ensures done { result ≡ Status.Done → IsDone (F.contents files.now) (map string_bytes words.now)
         (written (O.given out.old) (O.given out.new) (O.failures out.old) (O.failures out.new)) }
     ensures quiet { result ≡ Status.Done → Keeps (E.given error.old) (E.given error.new) }
+    ensures quiet_too { result ≡ Status.Differs → Keeps (E.given error.old) (E.given error.new) }
     ensures failed { result ≡ Status.Failed
         → IsFailed (F.has_opened files.now) (F.cannot_open files.now) (F.contents files.now) (map string_bytes words.now)
         (written (O.given out.old) (O.given out.new) (O.failures out.old) (O.failures out.new))
@@ -41,8 +44,13 @@ pub fn run<R: Threads + Wait + Copy + Send + 'static, F: Files, O: Sink, E: Sink
     ensures nothing { result ≡ Status.Usage → O.given out.new ≡ O.given out.old }
     ensures usage { result ≡ Status.Usage → (text : List ℕ)
         × Told (written (E.given error.old) (E.given error.new) (E.failures error.old) (E.failures error.new)) text }
+    ensures differs { result ≡ Status.Differs → HasDifferences (F.contents files.now) (map string_bytes words.now)
+        (written (O.given out.old) (O.given out.new) (O.failures out.old) (O.failures out.new)) }
 {
     match read_words(alloc, words) {
+        Ok(line) if line.options.form.is_kept() => {
+            check_files(rt, alloc, files, &line, out, error)
+        }
         Ok(line) => replay_files(rt, alloc, files, &line, out, error),
         Err(refusal) => refusal.end(out, error),
     }
@@ -68,6 +76,7 @@ pub fn replay_files<R: Threads + Wait + Copy + Send + 'static, F: Files, O: Sink
         (written (O.given out.old) (O.given out.new) (O.failures out.old) (O.failures out.new))
         (written (E.given error.old) (E.given error.new) (E.failures error.old) (E.failures error.new)) }
     ensures ends { result ≢ Status.Usage }
+    ensures same { result ≢ Status.Differs }
 {
     let readers = match open_files(alloc, files, &line.files) {
         Ok(readers) => readers,
@@ -77,6 +86,57 @@ pub fn replay_files<R: Threads + Wait + Copy + Send + 'static, F: Files, O: Sink
         return fail_to_start(error, StartError::Memory);
     };
     replay_over(rt, alloc, readers, line.options, &gatekeeper, out, error)
+}
+
+/// Opens the files of a command line, reads those of replies, and compares, as [`check_over`] does. Where a file can't be opened, or
+/// one of replies has a fault, nothing is printed to `out`, and the first such file is told to `error`.
+pub fn check_files<R: Threads + Wait + Copy + Send + 'static, F: Files, O: Sink, E: Sink>(
+    rt: &R,
+    alloc: Global,
+    files: &F,
+    line: &CommandLine,
+    out: &mut O,
+    error: &mut E,
+) -> Status
+    requires least_files { 1 ≤ vec_len line.now.files }
+    requires most_files { vec_len line.now.files ≤ MAX_PROXIES }
+    requires as_many { vec_len line.now.replies ≡ vec_len line.now.files }
+    requires kept { line.now.options.form ≡ Form.Kept }
+    ensures done { result ≡ Status.Done → ChecksFiles (λ count. count ≡ 0) (F.contents files.now) line.now.options
+        (map (λ name. name.now) line.now.files.items) (map (λ name. name.now) line.now.replies.items)
+        (O.given out.old) (O.given out.new) }
+    ensures differs { result ≡ Status.Differs → ChecksFiles (λ count. count ≢ 0) (F.contents files.now) line.now.options
+        (map (λ name. name.now) line.now.files.items) (map (λ name. name.now) line.now.replies.items)
+        (O.given out.old) (O.given out.new) }
+    ensures quiet { result ≢ Status.Failed → Keeps (E.given error.old) (E.given error.new) }
+    ensures failed { result ≡ Status.Failed → FailsToCheck (F.has_opened files.now) (F.cannot_open files.now)
+        (F.contents files.now) line.now.options (map (λ name. name.now) line.now.files.items)
+        (map (λ name. name.now) line.now.replies.items)
+        (written (O.given out.old) (O.given out.new) (O.failures out.old) (O.failures out.new))
+        (written (E.given error.old) (E.given error.new) (E.failures error.old) (E.failures error.new)) }
+    ensures ends { result ≢ Status.Usage }
+{
+    let readers = match open_files(alloc, files, &line.files) {
+        Ok(readers) => readers,
+        Err(cause) => return fail_to_open(error, cause),
+    };
+    let recorded = match read_replies(alloc, files, &line.replies) {
+        Ok(recorded) => recorded,
+        Err(cause) => return fail_to_read_replies(error, cause),
+    };
+    let Ok(gatekeeper) = gatekeeper(alloc, readers.len()) else {
+        return fail_to_start(error, StartError::Memory);
+    };
+    check_over(
+        rt,
+        alloc,
+        readers,
+        recorded,
+        line.options,
+        &gatekeeper,
+        out,
+        error,
+    )
 }
 
 // Makes the gatekeeper of so many proxies.

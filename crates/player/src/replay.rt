@@ -51,6 +51,7 @@ pub fn replay_over<
         (written (O.given out.old) (O.given out.new) (O.failures out.old) (O.failures out.new))
         (written (E.given error.old) (E.given error.new) (E.failures error.old) (E.failures error.new)) }
     ensures ends { result ≢ Status.Usage }
+    ensures same { result ≢ Status.Differs }
 {
     let (outcome, account) = match run(rt, alloc, readers, options, gatekeeper) {
         Ok(ended) => ended,

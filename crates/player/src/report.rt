@@ -1,10 +1,11 @@
 //! All that is printed once every file was replayed: the answers, and what failed.
 
-ghost use Rattle.std.specs.Prelude.{◌≡◌, ◌≢◌, ◌↔◌, ◌<◌, ℕ, Bool, map, take, length, vec_items, IfSome, IsErr, IsOk, OnOk};
+ghost use Rattle.std.specs.Prelude.{◌≡◌, ◌≢◌, ◌↔◌, ◌<◌, ℕ, map, take, length, vec_items, IfSome, IsErr, IsOk, OnOk};
 ghost use Rattle.std.specs.Io.KnownBytes.{Appends, Keeps};
 ghost use Rattle.player.specs.Failures.{failure_lines, with_loss, NothingFailed};
 ghost use Rattle.player.specs.Line.{AreLines, answers_of};
 ghost use Rattle.player.specs.Lines.{lines};
+ghost use Rattle.player.specs.declared.form.Form.{Form};
 
 use crate::failures::{Ending, ProxyFailure, note_loss, nothing_failed, print_failures};
 use crate::line::Line;
@@ -37,16 +38,16 @@ pub fn print_report<O: Sink, E: Sink>(
     ending: Ending,
 ) -> Report
     requires proxies { length failures.old ≡ length received.old }
-    ensures lines { (frames : Bool) → AreLines frames (map vec_items received.old)
+    ensures lines { (form : Form) → AreLines form (map vec_items received.old)
         → OnOk result.printed (Appends (O.given out.old) (O.given out.new)
-        (lines frames (map answers_of (map vec_items received.old)))) }
+        (lines form (map answers_of (map vec_items received.old)))) }
     ensures memory { (proxy : ℕ) → result.printed ≡ Err (PrintError.Memory proxy) → proxy < length received.old }
     ensures nothing { (proxy : ℕ) → result.printed ≡ Err (PrintError.Memory proxy)
         → O.given out.new ≡ O.given out.old }
-    ensures beginning { (frames : Bool) → AreLines frames (map vec_items received.old)
+    ensures beginning { (form : Form) → AreLines form (map vec_items received.old)
         → result.printed ≡ Err PrintError.Write → IfSome (O.given out.new) (λ _. (n : ℕ)
         × Appends (O.given out.old) (O.given out.new)
-        (take n (lines frames (map answers_of (map vec_items received.old))))) }
+        (take n (lines form (map answers_of (map vec_items received.old))))) }
     ensures write { (result.printed ≡ Err PrintError.Write) ↔ (O.failures out.old < O.failures out.new) }
     ensures failure_lines { OnOk result.told (Appends (E.given error.old) (E.given error.new)
         (failure_lines failures.new ending)) }
@@ -59,6 +60,7 @@ pub fn print_report<O: Sink, E: Sink>(
         ↔ (IsOk result.printed × IsOk result.told × NothingFailed failures.old ending) }
     ensures quiet { result.status ≡ Status.Done → Keeps (E.given error.old) (E.given error.new) }
     ensures ends { result.status ≢ Status.Usage }
+    ensures same { result.status ≢ Status.Differs }
 {
     let printed = print_and_flush(alloc, out, received);
     if let Err(PrintError::Memory(proxy)) = printed {
@@ -79,14 +81,14 @@ fn print_and_flush<W: Sink>(
     out: &mut W,
     received: &mut [Vec<Line>],
 ) -> Result<(), PrintError>
-    ensures lines { (frames : Bool) → AreLines frames (map vec_items received.old)
+    ensures lines { (form : Form) → AreLines form (map vec_items received.old)
         → OnOk result (Appends (W.given out.old) (W.given out.new)
-        (lines frames (map answers_of (map vec_items received.old)))) }
+        (lines form (map answers_of (map vec_items received.old)))) }
     ensures memory { (proxy : ℕ) → result ≡ Err (PrintError.Memory proxy) → proxy < length received.old }
     ensures nothing { (proxy : ℕ) → result ≡ Err (PrintError.Memory proxy) → W.given out.new ≡ W.given out.old }
-    ensures beginning { (frames : Bool) → AreLines frames (map vec_items received.old) → result ≡ Err PrintError.Write
+    ensures beginning { (form : Form) → AreLines form (map vec_items received.old) → result ≡ Err PrintError.Write
         → IfSome (W.given out.new) (λ _. (n : ℕ) × Appends (W.given out.old) (W.given out.new)
-        (take n (lines frames (map answers_of (map vec_items received.old))))) }
+        (take n (lines form (map answers_of (map vec_items received.old))))) }
     ensures write { (result ≡ Err PrintError.Write) ↔ (W.failures out.old < W.failures out.new) }
 {
     print_answers(alloc, out, received)?;

@@ -7,6 +7,7 @@ ghost use Rattle.player.specs.declared.worker.Finished.{Finished as HandedBack};
 ghost use Rattle.player.specs.Worker.{HasWorked};
 ghost use Rattle.player.specs.Threads.{given_each, given_by, given_to, HasWorkedOn, IsOutcomeOf};
 
+use crate::form::Form;
 use crate::gatekeeper::Gatekeeper;
 use crate::outcome::Outcome;
 use crate::start::StartError;
@@ -29,7 +30,7 @@ struct Work<S> {
 
 impl<S: Source> Promise<Finished> for Work<S> {
     ghost kept_by = { λ work finished.
-        HasWorked work.assignment.frames work.assignment.proxy (S.remaining work.reader.value) work.client.value finished };
+        HasWorked work.assignment.form work.assignment.proxy (S.remaining work.reader.value) work.client.value finished };
 }
 
 /// A worker that was started, and what it was given.
@@ -61,8 +62,8 @@ impl<S: Source + Drop, G: Gatekeeper + Drop> Task<S, G> {
     }
 }
 
-/// Starts a worker for each reader, with the client at the same place, whose number is its proxy's. With `frames` they
-/// make the lines of replies their frames.
+/// Starts a worker for each reader, with the client at the same place, whose number is its proxy's. They
+/// make lines of this form.
 ///
 /// After an error the workers that were started are not joined.
 pub fn start_workers<
@@ -72,7 +73,7 @@ pub fn start_workers<
 >(
     rt: &R,
     alloc: Global,
-    frames: bool,
+    form: Form,
     readers: Vec<S>,
     clients: Vec<Client>,
     gatekeeper: &Arc<G, Global>,
@@ -80,10 +81,10 @@ pub fn start_workers<
     requires some { 1 ≤ vec_len readers }
     requires each { vec_len readers ≡ vec_len clients }
     ensures given { IfOk result (λ workers.
-        map given_to workers.items ≡ given_each frames (share_of (vec_len readers)) 0 clients.items readers.items) }
+        map given_to workers.items ≡ given_each form (share_of (vec_len readers)) 0 clients.items readers.items) }
 {
     let share = share(readers.len());
-    let tasks = make_tasks(alloc, frames, share, readers, clients, gatekeeper)?;
+    let tasks = make_tasks(alloc, form, share, readers, clients, gatekeeper)?;
     let mut workers = Vec::with_capacity(alloc, tasks.len())?;
     for task in tasks {
         workers.push_reserved(start(rt, alloc, task)?);
@@ -94,14 +95,14 @@ pub fn start_workers<
 // Takes all memory that main needs before the first thread is started.
 fn make_tasks<S: Drop, G: Drop>(
     alloc: Global,
-    frames: bool,
+    form: Form,
     share: u64,
     readers: Vec<S>,
     clients: Vec<Client>,
     gatekeeper: &Arc<G, Global>,
 ) -> Result<Vec<Task<S, G>>, AllocError>
     requires each { vec_len readers ≡ vec_len clients }
-    ensures given { IfOk result (λ tasks. map given_by tasks.items ≡ given_each frames share 0 clients.items readers.items) }
+    ensures given { IfOk result (λ tasks. map given_by tasks.items ≡ given_each form share 0 clients.items readers.items) }
 {
     let mut tasks = Vec::with_capacity(alloc, clients.len())?;
     let mut readers = readers.into_iter();
@@ -112,7 +113,7 @@ fn make_tasks<S: Drop, G: Drop>(
         let assignment = Assignment {
             proxy: tasks.len(),
             share,
-            frames,
+            form,
         };
         tasks.push_reserved(Task {
             assignment,

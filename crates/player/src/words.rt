@@ -1,11 +1,13 @@
 //! The words of the command line.
 
-ghost use Rattle.std.specs.Prelude.{◌≡◌, ◌≤◌, IfErr, IfOk, IfSome, OnOk, Some, codes, length, map, string_bytes, vec_len};
+ghost use Rattle.std.specs.Prelude.{◌≡◌, ◌≢◌, ◌≤◌, IfErr, IfOk, IfSome, OnOk, Some, codes, length, map, string_bytes, vec_len};
 ghost use Rattle.clap.specs.Words.{all_of, found_of, rows_of};
-ghost use Rattle.player.specs.Words.{AsksForText, HasFiles, HasNumbers, HoldsOptions, IsMistaken, IsRefusalBy, IsRefusalOf, IsTaken, faults_of, rows_of_words};
+ghost use Rattle.player.specs.Words.{AsksForText, HasFiles, HasForm, HasNumbers, HasReplies, HoldsForm, HoldsNumbers, HoldsOptions, IsFormOf, IsMistaken, IsRefusalBy, IsRefusalOf, IsTaken, faults_of, rows_of_words};
 ghost use Rattle.clap.specs.declared.error.kind.ErrorKind.{ErrorKind};
+ghost use Rattle.player.specs.declared.form.Form.{Form as FormValue};
 
 use crate::command::command;
+use crate::form::Form;
 use crate::options::Options;
 use crate::refusal::Refusal;
 use clap::ArgMatches;
@@ -18,6 +20,8 @@ use std::alloc::{AllocError, Global};
 pub struct CommandLine<'a> {
     /// The names of the files, from 1 to [`MAX_PROXIES`].
     pub files: Vec<&'a str>,
+    /// The names of the files of replies, one a file where replies are kept to be checked, and else none.
+    pub replies: Vec<&'a str>,
     pub options: Options,
 }
 
@@ -31,12 +35,20 @@ pub fn read_words<'a>(alloc: Global, words: &'a [String]) -> Result<CommandLine<
         ≡ Some (map (λ name. name.now) line.files.items)) }
     ensures least { IfOk result (λ line. 1 ≤ vec_len line.files) }
     ensures most { IfOk result (λ line. vec_len line.files ≤ MAX_PROXIES) }
+    ensures replies { IfOk result (λ line. line.options.form ≡ Form.Kept
+        → all_of (codes "check") (rows_of_words (map string_bytes words.entry.now))
+        ≡ Some (map (λ name. name.now) line.replies.items)) }
+    ensures as_many { IfOk result (λ line. line.options.form ≡ Form.Kept → vec_len line.replies ≡ vec_len line.files) }
     ensures taken { OnOk result (IsTaken (map string_bytes words.entry.now)) }
     ensures shown { (text : _) → result ≡ Err (Refusal.Shown text) → AsksForText (map string_bytes words.entry.now) }
     ensures refused { (text : _) → result ≡ Err (Refusal.Refused text) → IsMistaken (map string_bytes words.entry.now) }
 {
     let matches = parse(alloc, words)?;
-    let Some(options) = options_of(&matches) else {
+    let Some(form) = form_of(&matches) else {
+        let message = "at most one of --frames, --json and --check is wanted";
+        return Err(refuse(alloc, ErrorKind::ArgumentConflict, message)?);
+    };
+    let Some(options) = options_of(&matches, form) else {
         let message = "a number is out of its range";
         return Err(refuse(alloc, ErrorKind::ValueValidation, message)?);
     };
@@ -44,8 +56,13 @@ pub fn read_words<'a>(alloc: Global, words: &'a [String]) -> Result<CommandLine<
         let message = "from 1 to 64 files are wanted";
         return Err(refuse(alloc, ErrorKind::TooManyValues, message)?);
     };
+    let replies = replies_of(alloc, &matches, form, files.len())?;
     let files = Vec::from_slice(alloc, files)?;
-    Ok(CommandLine { files, options })
+    Ok(CommandLine {
+        files,
+        replies,
+        options,
+    })
 }
 
 // Refuses words that `clap` has taken.
@@ -83,15 +100,80 @@ fn files_of<'m, 'a>(matches: &'m ArgMatches<'a>) -> Option<&'m [&'a str]>
     Some(files)
 }
 
-// Returns the options, unless a number is out of its range. `clap` refuses such numbers itself.
-fn options_of(matches: &ArgMatches) -> Option<Options>
-    ensures options { IfSome result (HoldsOptions (rows_of (found_of matches.now))) }
+// Returns the files of replies, where replies are kept to be checked, and else none.
+fn replies_of<'a>(
+    alloc: Global,
+    matches: &ArgMatches<'a>,
+    form: Form,
+    files: usize,
+) -> Result<Vec<&'a str>, Refusal>
+    ensures replies { IfOk result (λ replies. form ≡ Form.Kept → all_of (codes "check") (rows_of (found_of matches.now))
+        ≡ Some (map (λ name. name.now) replies.items)) }
+    ensures as_many { IfOk result (λ replies. form ≡ Form.Kept → vec_len replies ≡ files) }
+    ensures shown { (text : _) → result ≢ Err (Refusal.Shown text) }
+    ensures refused { (text : _) → result ≡ Err (Refusal.Refused text)
+        → (form ≡ Form.Kept) × ¬ HasReplies files (rows_of (found_of matches.now)) }
+{
+    if form != Form::Kept {
+        return Ok(Vec::new(alloc));
+    }
+    let Some(names) = named_replies(matches, files) else {
+        let message = "--check REPLIES is wanted once a file";
+        return Err(refuse(alloc, ErrorKind::WrongNumberOfValues, message)?);
+    };
+    Ok(Vec::from_slice(alloc, names)?)
+}
+
+// Returns the files of replies, unless they are another number than there are files.
+fn named_replies<'m, 'a>(matches: &'m ArgMatches<'a>, files: usize) -> Option<&'m [&'a str]>
+    ensures replies { IfSome result (λ replies. all_of (codes "check") (rows_of (found_of matches.entry.now))
+        ≡ Some (map (λ name. name.now) replies.now)) }
+    ensures as_many { IfSome result (λ replies. length replies.now ≡ files) }
+    ensures none { result ≡ None → ¬ HasReplies files (rows_of (found_of matches.entry.now)) }
+{
+    let replies = matches.get_strs("check")?;
+    if replies.len() != files {
+        return None;
+    }
+    Some(replies)
+}
+
+// Returns how answers are to be told, unless two ways are asked for.
+fn form_of(matches: &ArgMatches) -> Option<Form>
+    ensures form { IfSome result (HoldsForm (rows_of (found_of matches.now))) }
+    ensures none { result ≡ None → ¬ HasForm (rows_of (found_of matches.now)) }
+{
+    one_form(
+        matches.get_one("frames")?,
+        matches.get_one("json")?,
+        matches.get_strs("check").is_some(),
+    )
+}
+
+// Returns the form of these switches, of which at most one is on.
+fn one_form(frames: bool, json: bool, check: bool) -> Option<Form>
+    ensures form { IfSome result (λ form. IsFormOf form frames json check) }
+    ensures none { (form : FormValue) → result ≡ None → ¬ IsFormOf form frames json check }
+{
+    match (frames, json, check) {
+        (false, false, false) => Some(Form::Words),
+        (true, false, false) => Some(Form::Frames),
+        (false, true, false) => Some(Form::Json),
+        (false, false, true) => Some(Form::Kept),
+        _ => None,
+    }
+}
+
+// Returns the options with this form, unless a number is out of its range. `clap` refuses such numbers itself.
+fn options_of(matches: &ArgMatches, form: Form) -> Option<Options>
+    ensures numbers { IfSome result (HoldsNumbers (rows_of (found_of matches.now))) }
+    ensures form { IfSome result (λ options. options.form ≡ form) }
     ensures none { result ≡ None → ¬ HasNumbers (rows_of (found_of matches.now)) }
 {
     Options::new(
         matches.get_one("capacity")?,
         matches.get_one("window")?,
         matches.get_one("limit")?,
-        matches.get_one("frames")?,
+        form,
     )
 }

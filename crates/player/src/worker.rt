@@ -8,6 +8,7 @@ ghost use Rattle.wire.specs.Frames.{frames_reader, refusal_of};
 ghost use Rattle.player.specs.Inbox.{Keeps, InboxGoesOn};
 ghost use Rattle.player.specs.Worker.{HasWorked, SendsFrames, CannotSend, IsBelowShare, fault_of, stand_with, unsent_of};
 
+use crate::form::Form;
 use crate::gatekeeper::Gatekeeper;
 use crate::inbox::Inbox;
 use crate::line::Line;
@@ -27,8 +28,8 @@ pub struct Assignment {
     pub proxy: usize,
     /// So many of its batches may be unanswered as long as it sends freely.
     pub share: u64,
-    /// Whether the lines of replies are their frames.
-    pub frames: bool,
+    /// How answers are told.
+    pub form: Form,
 }
 
 /// What a worker hands back.
@@ -81,7 +82,7 @@ pub fn work<S: Source + Drop, G: Gatekeeper, R: Wait>(
     reader: S,
     gatekeeper: &G,
 ) -> Finished
-    ensures worked { HasWorked assignment.frames assignment.proxy (S.remaining reader) client result }
+    ensures worked { HasWorked assignment.form assignment.proxy (S.remaining reader) client result }
 {
     let mut worker = Worker::new(alloc, assignment, client);
     let end = worker.send_frames(rt, gatekeeper, &mut read_frames(alloc, reader));
@@ -96,19 +97,15 @@ impl Worker {
         ensures requests { result.requests ≡ client.requests }
         ensures replies { result.inbox.replies ≡ client.replies }
         ensures proxy { result.inbox.proxy ≡ assignment.proxy }
-        ensures frames { result.inbox.frames ≡ assignment.frames }
+        ensures form { result.inbox.form ≡ assignment.form }
         ensures share { result.share ≡ assignment.share }
         ensures lines { Keeps client.replies.taken result.inbox }
     {
-        let Assignment {
-            proxy,
-            share,
-            frames,
-        } = assignment;
+        let Assignment { proxy, share, form } = assignment;
         let Client { requests, replies } = client;
         Worker {
             requests,
-            inbox: Inbox::new(alloc, frames, proxy, replies),
+            inbox: Inbox::new(alloc, form, proxy, replies),
             proxy,
             share,
             place: 0,

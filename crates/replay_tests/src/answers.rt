@@ -2,8 +2,9 @@
 
 use fixtures::{Unmade, entry, reply};
 use keyspace::{Answer, Entry, Places, Verdict};
-use player::Line;
+use player::{Form, Line};
 use std::alloc::{AllocError, Global};
+use wire::encode_reply;
 
 // The entry of a word, as it is printed: `committed`, `tooold`, `conflict`, or with one of these lists of places.
 fn entry_of(alloc: Global, word: &str) -> Result<Entry, Unmade> {
@@ -48,8 +49,8 @@ pub fn answer_of(alloc: Global, text: &str) -> Result<Answer, Unmade> {
 }
 
 /// Makes the line of an answer to this proxy.
-pub fn line_of(alloc: Global, frames: bool, proxy: usize, answer: &str) -> Result<Line, Unmade> {
-    match Line::new(alloc, frames, proxy, &answer_of(alloc, answer)?) {
+pub fn line_of(alloc: Global, form: Form, proxy: usize, answer: &str) -> Result<Line, Unmade> {
+    match Line::new(alloc, form, proxy, answer_of(alloc, answer)?) {
         Some(line) => Ok(line),
         None => Err(Unmade::Memory),
     }
@@ -60,7 +61,7 @@ pub fn lines_of(alloc: Global, proxy: usize, answers: &str) -> Result<Vec<Line>,
     let mut lines = Vec::new(alloc);
     for answer in answers.split("; ") {
         lines
-            .push(line_of(alloc, false, proxy, answer)?)
+            .push(line_of(alloc, Form::Words, proxy, answer)?)
             .map_err(AllocError::from)?;
     }
     Ok(lines)
@@ -75,4 +76,20 @@ pub fn received_of(alloc: Global, answers: &[&str]) -> Result<Vec<Vec<Line>>, Un
             .map_err(AllocError::from)?;
     }
     Ok(received)
+}
+
+/// Makes the file of the frames of these replies, and then these bytes.
+pub fn replies_of(alloc: Global, replies: &[&str], rest: &[u8]) -> Result<Vec<u8>, Unmade> {
+    let mut file = Vec::new(alloc);
+    for text in replies {
+        let Answer::Reply(reply) = answer_of(alloc, text)? else {
+            return Err(Unmade::Text("reply"));
+        };
+        let Ok(frame) = encode_reply(alloc, &reply) else {
+            return Err(Unmade::Memory);
+        };
+        file.extend_from_slice(&frame)?;
+    }
+    file.extend_from_slice(rest)?;
+    Ok(file)
 }

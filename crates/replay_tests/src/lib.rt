@@ -4,7 +4,7 @@
 //! test of its row's name, and `sharing` those of files that use up their share; `meeting` holds back two proxies that wait for each
 //! other, and `stalling` a reader. `workers` looks at a worker alone, and
 //! the others at the command line and at what is printed. `shell` and `shell_failures` run the program whole, over the words of an
-//! environment and the files of a `shelf`. The tests of `memory` pass whichever one growth is refused; `.ci/refused-memory` refuses
+//! environment and the files of a `shelf`, and `checks` those that compare with the replies of another resolver. The tests of `memory` pass whichever one growth is refused; `.ci/refused-memory` refuses
 //! each in turn.
 //!
 //! The contract of `replay_over` also lets a program through that always stops with `Memory`. Each test that wants a line
@@ -15,6 +15,8 @@
 mod answers;
 #[cfg(test)]
 mod batches;
+#[cfg(test)]
+mod checks;
 #[cfg(test)]
 mod counting;
 #[cfg(test)]

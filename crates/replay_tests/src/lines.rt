@@ -3,7 +3,7 @@
 use crate::answers::{line_of, received_of};
 use crate::failing::Failing;
 use fixtures::Unmade;
-use player::{Line, PrintError, print_answers};
+use player::{Form, Line, PrintError, print_answers};
 use std::alloc::Global;
 use std::test::Fail;
 use wire::StdSink;
@@ -16,8 +16,8 @@ fn text_of(bytes: Vec<u8>) -> Result<String, Unmade> {
 }
 
 // The text of the line of an answer.
-fn printed(alloc: Global, frames: bool, proxy: usize, answer: &str) -> Result<String, Unmade> {
-    let Line { text, .. } = line_of(alloc, frames, proxy, answer)?;
+fn printed(alloc: Global, form: Form, proxy: usize, answer: &str) -> Result<String, Unmade> {
+    let Line { text, .. } = line_of(alloc, form, proxy, answer)?;
     text_of(text)
 }
 
@@ -26,7 +26,7 @@ fn is_printed(alloc: Global, line: &str) -> Result<bool, Unmade> {
     let Some((proxy, answer)) = line.trim_end().split_once(' ') else {
         return Err(Unmade::Text("line"));
     };
-    let text = printed(alloc, false, proxy.parse()?, answer)?;
+    let text = printed(alloc, Form::Words, proxy.parse()?, answer)?;
     Ok(text.as_str() == line)
 }
 
@@ -62,7 +62,34 @@ fn replies_as_frames(rt: HostRuntime) -> Result<(), Fail> {
         ("300 never", "0 300 never\n"),
         ("1000 held", "0 1000 held\n"),
     ] {
-        let made = printed(rt.alloc(), true, 0, answer)?;
+        let made = printed(rt.alloc(), Form::Frames, 0, answer)?;
+        assert_eq!(rt; made.as_str(), text);
+    }
+    Ok(())
+}
+
+#[test]
+fn answers_as_json(rt: HostRuntime) -> Result<(), Fail> {
+    for (answer, text) in [
+        ("0 empty", "{\"proxy\":7,\"version\":0,\"verdicts\":[]}\n"),
+        (
+            "100 committed tooold conflict",
+            "{\"proxy\":7,\"version\":100,\"verdicts\":[\"committed\",\"tooold\",\"conflict\"]}\n",
+        ),
+        (
+            "200 conflict:0,2 conflict:0",
+            "{\"proxy\":7,\"version\":200,\"verdicts\":[{\"conflict\":[0,2]},{\"conflict\":[0]}]}\n",
+        ),
+        (
+            "300 never",
+            "{\"proxy\":7,\"version\":300,\"answer\":\"never\"}\n",
+        ),
+        (
+            "1000 held",
+            "{\"proxy\":7,\"version\":1000,\"answer\":\"held\"}\n",
+        ),
+    ] {
+        let made = printed(rt.alloc(), Form::Json, 7, answer)?;
         assert_eq!(rt; made.as_str(), text);
     }
     Ok(())

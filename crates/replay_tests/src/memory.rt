@@ -158,7 +158,7 @@ fn ends_as_promised<R: Threads + Wait + Copy + Send + 'static>(
         return Err(Unmade::Beyond("number of files"));
     }
     let mut options = Options::default();
-    options.frames = row.frames;
+    options.form = row.form;
     let status = replay_over(
         rt,
         alloc,

@@ -1,11 +1,13 @@
 //! Rows that are also played with memory refused: their files, and their lines where a file is cut, too.
 
+use player::Form;
+
 /// The files of a row and what they give.
 pub struct Row<'a> {
     /// The batches of each file.
     pub files: &'a [&'a [&'a str]],
-    /// Whether replies are printed as frames.
-    pub frames: bool,
+    /// How answers are told.
+    pub form: Form,
     /// The lines with ample memory.
     pub lines: &'a str,
     /// The lines where a file, at its place, ends behind the first 0, 1, .. of its frames.
@@ -14,7 +16,7 @@ pub struct Row<'a> {
 
 pub const SNAPSHOT_AT_WRITE: Row<'static> = Row {
     files: &[&["-1>0", "0>100: W[a,b)", "100>200: R[a,b) @100"]],
-    frames: false,
+    form: Form::Words,
     lines: "0 0 empty\n0 100 committed\n0 200 committed\n",
     cut: &[&[
         "",
@@ -30,7 +32,7 @@ pub const REPORT_HISTORY_HITS: Row<'static> = Row {
         "0>100: W[a,b) W[e,f)",
         "100>200: W[c,d) @100; m R[a,b) R[c,d) R[e,f) @50",
     ]],
-    frames: false,
+    form: Form::Words,
     lines: "0 0 empty\n0 100 committed\n0 200 committed conflict:0,2\n",
     cut: &[&[
         "",
@@ -42,7 +44,7 @@ pub const REPORT_HISTORY_HITS: Row<'static> = Row {
 
 pub const HELD_REPEAT_ANSWERED_TWICE: Row<'static> = Row {
     files: &[&["-1>0", "100>200", "100>200", "0>100"]],
-    frames: false,
+    form: Form::Words,
     lines: "0 0 empty\n0 100 empty\n0 200 empty\n0 200 empty\n",
     cut: &[&[
         "",
@@ -55,7 +57,7 @@ pub const HELD_REPEAT_ANSWERED_TWICE: Row<'static> = Row {
 
 pub const HELD_OVERTAKEN: Row<'static> = Row {
     files: &[&["-1>0", "150>300", "100>200", "0>100"]],
-    frames: false,
+    form: Form::Words,
     lines: "0 0 empty\n0 100 empty\n0 200 empty\n0 300 never\n",
     cut: &[&[
         "",
@@ -68,7 +70,7 @@ pub const HELD_OVERTAKEN: Row<'static> = Row {
 
 pub const SECOND_FILE_CONTINUES_CHAIN: Row<'static> = Row {
     files: &[&["-1>0", "0>100: W[a,b)"], &["100>200: R[a,b) @100"]],
-    frames: false,
+    form: Form::Words,
     lines: "0 0 empty\n0 100 committed\n1 200 committed\n",
     cut: &[
         &[
@@ -86,7 +88,7 @@ pub const SECOND_FILE_CONTINUES_CHAIN: Row<'static> = Row {
 /// The frames of docs/WIRE.md.
 pub const FIRST_RUN_IN_FRAMES: Row<'static> = Row {
     files: &[&["-1>0", "0>100: W[a,b)"]],
-    frames: true,
+    form: Form::Frames,
     lines: "0 0 0000000b0200000000000000000000\n0 100 0000000e0200000000000000640001020000\n",
     cut: &[&[
         "",

@@ -55,6 +55,7 @@ pub fn ended(status: Status, out: Vec<u8>, error: &[u8]) -> Result<String, Unmad
         Status::Done => b"done: ".as_slice(),
         Status::Failed => b"failed: ",
         Status::Usage => b"usage: ",
+        Status::Differs => b"differs: ",
     })?;
     text.extend_from_slice(error)?;
     match String::from_utf8(text) {

@@ -2,6 +2,7 @@
 
 ghost use Rattle.std.specs.Prelude.{None, ⊤};
 
+use crate::answers::replies_of;
 use crate::files::first_run;
 use crate::runs::{ended, file_of, opened};
 use fixtures::Unmade;
@@ -45,6 +46,19 @@ impl Shelf {
             ("conflict", opened(alloc, &conflict, b"")?),
             ("writes", opened(alloc, &writes, b"")?),
             ("cut", opened(alloc, &[], b"\0")?),
+            (
+                "same",
+                replies_of(alloc, &["100 committed", "0 empty"], b"")?,
+            ),
+            ("fewer", replies_of(alloc, &["0 empty"], b"")?),
+            (
+                "others",
+                replies_of(alloc, &["50 empty", "0 tooold", "100 tooold"], b"")?,
+            ),
+            ("empty", replies_of(alloc, &[], b"")?),
+            ("conflicts", replies_of(alloc, &["200 conflict"], b"")?),
+            ("places", replies_of(alloc, &["200 conflict:0,2"], b"")?),
+            ("short", replies_of(alloc, &["0 empty"], b"\0")?),
         ] {
             files.push((name, bytes)).map_err(AllocError::from)?;
         }

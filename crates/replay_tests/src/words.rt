@@ -3,7 +3,7 @@
 use crate::failing::Failing;
 use crate::runs::ended;
 use fixtures::Unmade;
-use player::{Options, Refusal, Status, read_words};
+use player::{CommandLine, Form, Options, Refusal, Status, read_words};
 use std::alloc::{AllocError, Global};
 use std::process::Abort;
 use std::test::Fail;
@@ -43,15 +43,23 @@ fn read(alloc: Global, given: &str) -> Result<String, Unmade> {
         text.push_str(file)?;
         text.push(' ')?;
     }
-    push_options(alloc, &mut text, &line.options)?;
+    push_options(alloc, &mut text, &line)?;
     Ok(text)
 }
 
-fn push_options(alloc: Global, text: &mut String, options: &Options) -> Result<(), Unmade> {
+fn push_options(alloc: Global, text: &mut String, line: &CommandLine) -> Result<(), Unmade> {
+    let options = &line.options;
     let (capacity, window, limit) = (options.capacity, options.window, options.limit);
     text.push_str(&format!(in alloc; "| {capacity} {window} {limit}")?)?;
-    if options.frames {
-        text.push_str(" frames")?;
+    text.push_str(match options.form {
+        Form::Words => "",
+        Form::Frames => " frames",
+        Form::Json => " json",
+        Form::Kept => " check",
+    })?;
+    for replies in &line.replies {
+        text.push(' ')?;
+        text.push_str(replies)?;
     }
     Ok(())
 }
@@ -113,6 +121,13 @@ fn refused_words(rt: HostRuntime) -> Result<(), Fail> {
         "f --limit",
         "--frames=yes f",
         "-x f",
+        "--json --frames f",
+        "--json --check r f",
+        "--frames --check r f",
+        "--json --json f",
+        "--check f",
+        "--check r --check s f",
+        "--check r f g",
     ] {
         refuses(&rt, given)?;
     }
@@ -128,6 +143,11 @@ fn words_and_options(rt: HostRuntime) -> Result<(), Fail> {
         (
             "--capacity 1 --window=1 a --frames b --limit 1",
             "a b | 1 1 1 frames",
+        ),
+        ("--json a", "a | 16 5000000 1000000 json"),
+        (
+            "--check r a b --check=s",
+            "a b | 16 5000000 1000000 check r s",
         ),
         (
             "--capacity=1024 --window 1099511627776 --limit 16777216 a",
@@ -156,7 +176,7 @@ fn defaults(rt: HostRuntime) {
         capacity: 16,
         window: 5_000_000,
         limit: 1_000_000,
-        frames: false,
+        form: Form::Words,
     };
     assert_eq!(rt; Options::default(), wanted);
 }
@@ -176,6 +196,8 @@ fn version_and_help(rt: HostRuntime) -> Result<(), Fail> {
         "--limit <N>",
         "[default: 1000000]",
         "--frames",
+        "--json",
+        "--check <REPLIES>",
         "Example:\n  replay --capacity 1 --frames examples/two_proxies examples/second_proxy\n",
     ] {
         assert!(rt; help.as_str().contains(part), "{part}");

@@ -4,7 +4,7 @@ use crate::runs::{file_of, push_batch, reader};
 use fixtures::Unmade;
 use keyspace::{Answer, Batch};
 use lane::{Intake, Port, Taken, lane};
-use player::{AlwaysOpen, Assignment, Finished, work};
+use player::{AlwaysOpen, Assignment, Finished, Form, work};
 use resolver::Client;
 use std::alloc::Global;
 use std::process::Abort;
@@ -16,7 +16,7 @@ use std::thread;
 const FIRST: Assignment = Assignment {
     proxy: 0,
     share: 4,
-    frames: false,
+    form: Form::Words,
 };
 
 // A client, and the resolver's ends of its lanes.

@@ -62,7 +62,7 @@ same_length front bytes e more =
       ]
     ]
 
-same_body : (front rest : List ℕ) → frame_length front ≤ length front
+pub same_body : (front rest : List ℕ) → frame_length front ≤ length front
     → body_at (front ++ rest) ≡ body_at front
 unfolding body_at
 same_body front rest settled =

@@ -23,3 +23,4 @@ pub mod FrameLengths
 pub mod NextFrames
 pub mod NewFrames
 pub mod Fitting
+pub mod NextReplies

@@ -42,7 +42,7 @@ takes_frame old new held version batch fits joined within read =
     subst (λ (bytes : List ℕ). SpellsBatch (version_told held) bytes batch) whole found.0 in
     (held, spelled, held_consumes old new held joined)
 
-not_nil : (held rest : List ℕ) → held ≢ [] → held ++ rest ≢ []
+pub not_nil : (held rest : List ℕ) → held ≢ [] → held ++ rest ≢ []
 not_nil [] rest some e = some refl
 not_nil (b ∷ held) rest some e = cc
 

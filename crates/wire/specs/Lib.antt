@@ -9,3 +9,4 @@ pub mod NextFrame
 pub mod Frames
 pub mod Sink
 pub mod Upgrade
+pub mod NextReply

@@ -11,8 +11,9 @@
 //!
 //! The layers above use [`decode_batch`] and [`decode_reply`], which decode exactly the frames that spell a value
 //! and name the first fault of any other; [`encode_batch`], [`encode_batch_1`] and [`encode_reply`], which encode
-//! them; [`Frames`], which iterates over the batches of a reader, however it cuts its bytes; [`upgrade`], which
-//! writes batches of either version anew in version 2; and [`write_all`], which gives a [`Sink`] a whole slice.
+//! them; [`Frames`], which iterates over the batches of a reader, however it cuts its bytes; [`read_reply`], which reads
+//! the next reply of a reader; [`upgrade`], which writes batches of either version anew in version 2; and
+//! [`write_all`], which gives a [`Sink`] a whole slice.
 #![tactic(auto)]
 
 mod batch;
@@ -26,6 +27,7 @@ mod length;
 mod put;
 mod range;
 mod reply;
+mod reply_frames;
 mod seal;
 mod single;
 mod sink;
@@ -41,6 +43,7 @@ pub use error::WireError;
 pub use field::MAX_BODY_LENGTH;
 pub use frames::{Frames, read_frames};
 pub use reply::decode_reply;
+pub use reply_frames::read_reply;
 pub use sink::{Sink, StdSink, write_all};
 pub use source::{Failed, Source, StdSource};
 pub use upgrading::upgrade;

@@ -115,8 +115,9 @@ fn reply_of(alloc: Global, bytes: &[u8]) -> Result<(Reply, &[u8]), WireError>
     Ok((Reply::new(version, Sequence::new(entries)), rest))
 }
 
+/// Reads the frame at the front, and returns its reply and its length in bytes.
 #[tactic(auto, unfolding(crate::specs::Reading::read_reply))]
-fn read_frame(alloc: Global, bytes: &[u8]) -> Result<(Reply, usize), WireError>
+pub fn read_frame(alloc: Global, bytes: &[u8]) -> Result<(Reply, usize), WireError>
     ensures reads { Gives (λ x. reply_fields x.0) result (read_reply bytes.now) }
     ensures used { IfOk result (λ x. x.1 ≡ 4 + big_number 4 bytes.now) }
 {

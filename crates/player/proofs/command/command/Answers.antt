@@ -22,8 +22,10 @@ returns c =
     let two = c.in_ok-arg-2.ensures.shape c.window.ensures.local ∙ ap₂ with_rule one c.window.ensures.rule in
     let three = c.in_ok-arg-3.ensures.shape c.limit.ensures.local ∙ ap₂ with_rule two c.limit.ensures.rule in
     let four = c.in_ok-arg-4.ensures.shape c.frames.ensures.local ∙ ap₂ with_rule three c.frames.ensures.rule in
+    let five = c.in_ok-arg-5.ensures.shape c.json.ensures.local ∙ ap₂ with_rule four c.json.ensures.rule in
+    let six = c.in_ok-arg-6.ensures.shape c.check.ensures.local ∙ ap₂ with_rule five c.check.ensures.rule in
     record {
-      app = IfOk-weaker c.arg-5.result _ _
-          (λ command added. added.shape c.file.ensures.local ∙ ap₂ with_rule four c.file.ensures.rule)
-          c.arg-5.ensures;
+      app = IfOk-weaker c.arg-7.result _ _
+          (λ command added. added.shape c.file.ensures.local ∙ ap₂ with_rule six c.file.ensures.rule)
+          c.arg-7.ensures;
     }

@@ -2,7 +2,7 @@ use Rattle.std.proofs.Common.{◌≡◌, length, ◌∙◌, ap, sym, vec_items, 
 use Rattle.std.specs.Vec.{with_items}
 use Rattle.std.proofs.lemmas.List.{with_items_is}
 use Rattle.player.specs.Line.{version_of_line}
-use Rattle.player.specs.Lines.{in_order_by}
+use Rattle.checking.specs.InOrder.{in_order_by}
 use Rattle.player.proofs.Numbered.{changed_to-more}
 use Rattle.player.proofs.lines.sort_lines.Goals as goal
 
@@ -13,10 +13,10 @@ loop-proxy-preserved c =
     let proxy = c.loop-proxy.proxy in
     let lines = c.index-received-proxy.result in
     let slot = get_or now proxy lines in
-    let long : length c.sort_by_version.new.lines ≡ slot.len =
-    c.sort_by_version.auto.lines ∙ ap length c.deref_mut.ensures.value ∙ sym slot.ok.0 in
+    let long : length c.sort_by_version.new.items ≡ slot.len =
+    c.sort_by_version.auto.items ∙ ap length c.deref_mut.ensures.value ∙ sym slot.ok.0 in
     changed_to-more vec_items sorted (map vec_items c.args.received.now) now proxy lines
-    (with_items slot c.sort_by_version.new.lines) (omega arith) c.index-received-proxy.is
-    (with_items_is slot c.sort_by_version.new.lines long ∙ c.in-Ok.ensures.ok
+    (with_items slot c.sort_by_version.new.items) (omega arith) c.index-received-proxy.is
+    (with_items_is slot c.sort_by_version.new.items long ∙ c.in-Ok.ensures.sorted
     ∙ ap sorted (c.deref_mut.ensures.value ∙ ap vec_items (sym c.index-received-proxy.is)))
     c.loop-proxy.invariant

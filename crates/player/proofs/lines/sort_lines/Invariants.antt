@@ -1,7 +1,7 @@
 use Rattle.std.proofs.Common.{◌≡◌, map}
 use Rattle.std.specs.Prelude.{vec_items}
 use Rattle.player.specs.Line.{version_of_line}
-use Rattle.player.specs.Lines.{in_order_by}
+use Rattle.checking.specs.InOrder.{in_order_by}
 use Rattle.player.proofs.Numbered.{changed_to}
 use Rattle.player.proofs.lines.sort_lines.Given as goal
 

@@ -4,6 +4,7 @@ use Rattle.std.proofs.lemmas.List.{length-map}
 use Rattle.player.specs.declared.failures.Ending.{Ending}
 use Rattle.player.specs.declared.failures.ProxyFailure.{ProxyFailure}
 use Rattle.player.specs.declared.line.Line.{Line}
+use Rattle.player.specs.Lines.{lines as lines_of}
 use Rattle.player.specs.Failures.{failure_lines, NothingFailed}
 use Rattle.player.specs.Run.{IsRun, is_complete}
 use Rattle.player.specs.Replayed.{written, Took}
@@ -21,6 +22,7 @@ returns-in-Err g c = record {
     told = c.fail_to_start.ensures.line;
   });
   ends = λ is. cc (c.fail_to_start.ensures.status, is);
+  same = λ is. cc (c.fail_to_start.ensures.status, is);
 }
 
 pub returns : goal.returns
@@ -52,23 +54,23 @@ returns g c =
     let error = written (g.E.Sink.given c.args.error.now) (g.E.Sink.given c.print_report.new.error)
     (g.E.Sink.failures c.args.error.now) (g.E.Sink.failures c.print_report.new.error) in
     let are = are_lines options files received failures complete account.stop run in
-    let lines = report.lines options.frames are in
+    let lines = report.lines options.form are in
     record {
       done = λ is.
           let parts = report.done.0 is in
-          is_replayed options files received failures complete account.stop run out
+          is_replayed options files received failures complete account.stop run (λ answers. Took out (lines_of options.form answers))
           (subst (λ (e : Ending). NothingFailed failures e) ending parts.2)
           (held_ok c.print_report.result.printed _ lines parts.0);
       quiet = report.quiet;
       failed = λ is.
-          inr (ran_and_failed options files received failures complete account.stop run out error told
+          inr (ran_and_failed options files received failures complete account.stop run (lines_of options.form) out error told
           c.print_report.result.printed c.print_report.result.told lines
           (λ proxy memory. omega (
             arith,
             report.memory proxy memory,
             length-map c.deref_mut.result.now (vec_items {X = Line} {Z = Global}),
           ))
-          report.nothing (report.beginning options.frames are) report.write.0
+          report.nothing (report.beginning options.form are) report.write.0
           (subst (λ (e : Ending). OnOk c.print_report.result.told (Took error (failure_lines told e))) ending report.failure_lines)
           report.told.0 report.loss report.no_loss
           (λ all.
@@ -76,4 +78,5 @@ returns g c =
           report.done.1 (all.0, all.1, subst (λ (e : Ending). NothingFailed failures e) (sym ending) all.2) in
           cc (done, is)));
       ends = report.ends;
+      same = report.same;
     }

@@ -49,7 +49,7 @@ join_all-outcome-requires-clause-room g c =
       arith,
       length-map workers given_to,
       ap length c.in_ok-workers.ensures.given,
-      given_count c.args.options.frames share 0 clients readers same,
+      given_count c.args.options.form share 0 clients readers same,
       same,
       c.in_ok-outcome.ensures.room,
       c.len-proxies.ensures,
@@ -69,7 +69,7 @@ settle-account-requires g c =
       clients = subst (λ (clients : List Client). AreClients lanes clients)
           (sym (c.as_mut_slice.ensures.value ∙ worked.2.clients))
           (clients_go_on c.in_ok-resolver.resolver.lanes lanes clients back c.in_ok-resolver.ensures.clients
-          c.turn_to_end.ensures.lanes (clients_back g.S.Source.remaining c.args.options.frames share 0 clients readers worked.0 same handed));
+          c.turn_to_end.ensures.lanes (clients_back g.S.Source.remaining c.args.options.form share 0 clients readers worked.0 same handed));
     }
 
 pub returns : goal.returns
@@ -100,7 +100,7 @@ returns g c =
     let same_clients = subst (λ (l : List Client). SameClients l now) c.as_mut_slice.ensures.value
     c.settle-account.ensures.clients in
     let all_ended = clients_ended g.S.Source.remaining
-    (given_each c.args.options.frames share 0 clients readers) worked.0 handed in
+    (given_each c.args.options.form share 0 clients readers) worked.0 handed in
     let whole : account.stop ≡ None → account.complete ≡ true = λ none.
     c.settle-account.ensures.complete.1 (record {
       no_stop = sym c.settle-account.ensures.stop ∙ none;
@@ -121,5 +121,5 @@ returns g c =
           (capacities_stay c.args.options.capacity outcome.clients.items now same_clients
           (subst (All (HasCapacity c.args.options.capacity)) (sym worked.2.clients)
           (capacities c.args.options.capacity clients back c.in_ok-resolver.ensures.new_clients
-          (clients_back g.S.Source.remaining c.args.options.frames share 0 clients readers worked.0 same handed))));
+          (clients_back g.S.Source.remaining c.args.options.form share 0 clients readers worked.0 same handed))));
     }

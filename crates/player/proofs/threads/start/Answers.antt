@@ -4,6 +4,7 @@ use denote.Param.Send.{IsSend, AllSend, sendable, param_send, struct_send, recor
 use Rattle.player.proofs.threads.start.Lts.{arg-2-3}
 use denote.Struct.Declared.{shape}
 use Rattle.keyspace.proofs.batch.Batch.TheSendSync as batch
+use Rattle.keyspace.proofs.reply.Reply.TheSendSync as reply
 use Rattle.wire.proofs.error.WireError.TheSendSync as fault
 use Rattle.resolver.proofs.client.Client.TheSendSync as client
 use Rattle.player.specs.contracts.line.Line as Line
@@ -11,8 +12,23 @@ use Rattle.player.specs.contracts.worker.Finished as Finished
 use Rattle.player.proofs.threads.start.Goals as goal
 
 -- a line goes to any thread, its snapshot too
+line_fields_send : AllSend (shape Line.the_type).fields
+line_fields_send = (
+  search (sendable, crosses) depth 20,
+  (
+    search sendable,
+    (
+      search (sendable, crosses) depth 20,
+      (search (sendable, crosses, reply.the_send, option.the_field_send) depth 20, tt),
+    ),
+  ),
+)
+
+line_field_send : IsSend (Line.the_field).row
+line_field_send = struct_send (shape Line.the_type) line_fields_send
+
 line_send : IsSend Line.the_row
-line_send = search (sendable, crosses) depth 20
+line_send = search (recorded_send, line_field_send) depth 10
 
 -- the types of the fields of what a worker hands back
 fields_send : AllSend (shape Finished.the_type).fields

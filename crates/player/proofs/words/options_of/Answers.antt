@@ -5,18 +5,15 @@ use Rattle.std.specs.Str.Parse.{
   ExplainsUnsignedError,
   HasSignedDigitsIfOk,
   HasUnsignedDigitsIfOk,
-  ParsesBool,
   ParsesSigned,
   ParsesUnsigned,
   digits_value,
   signed_digits_value,
   without_leading_plus,
 }
-use Rattle.std.specs.declared.str.ParseBoolError.{ParseBoolError}
 use Rattle.std.proofs.lemmas.Int.{to_z-of_z}
 use Rattle.clap.specs.Words.{found_of, one_of, rows_of}
-use Rattle.clap.specs.Values.{bool_text}
-use Rattle.player.proofs.Getters.{HoldsOptions-of_parts, one_read, text_read, text_of_bool}
+use Rattle.player.proofs.Getters.{HoldsNumbers-of_parts, one_read}
 use Rattle.lane.specs.declared.ends.TheConstants.{MAX_CAPACITY}
 use Rattle.conflict.specs.declared.conflict_set.TheConstants.{MAX_WINDOW}
 use Rattle.stepmap.specs.declared.step_map.TheConstants.{MAX_LIMIT}
@@ -24,16 +21,14 @@ use Rattle.player.proofs.Numbers.{
   IsIn,
   IsSignedWithin,
   Some-injective,
-  bool_err,
-  has_read,
   is_not_none,
   signed_read,
   unsigned_read,
 }
 use Rattle.player.proofs.words.options_of.Goals as goal
 
-pub returns-clause-options : goal.returns-clause-options
-returns-clause-options c =
+pub returns-clause-numbers : goal.returns-clause-numbers
+returns-clause-numbers c =
     let found = found_of c.args.matches.now in
     let kept = c.new.ensures in
     let looks_back = c.in_ok-get_one-2.field-0 in
@@ -56,12 +51,8 @@ returns-clause-options c =
     (λ bs r. ParsesUnsigned 64 10 bs r × ExplainsUnsignedError 10 bs r × HasUnsignedDigitsIfOk bs r)
     (λ text. digits_value 10 (without_leading_plus text)) c.in_ok-get_one-3.field-0
     c.in_ok-get_one-3.ensures.none c.in_ok-get_one-3.ensures.value (λ text parses. parses.0.1) in
-    let frames : one_of (codes "frames") (rows_of found) ≡ Some (bool_text c.in_ok-get_one-4.field-0) =
-    text_read {E = ParseBoolError} found (codes "frames") ParsesBool bool_text c.in_ok-get_one-4.field-0
-    c.in_ok-get_one-4.ensures.none c.in_ok-get_one-4.ensures.value
-    (λ text parses. text_of_bool _ text parses) in
-    HoldsOptions-of_parts (rows_of found) c.new.result _ _ _ _ kept.capacity kept.window kept.limit kept.frames
-    capacity (window ∙ ap (λ (n : ℤ). Some n) (sym (to_z-of_z w64 looks_back fits))) limit frames
+    HoldsNumbers-of_parts (rows_of found) c.new.result _ _ _ kept.capacity kept.window kept.limit
+    capacity (window ∙ ap (λ (n : ℤ). Some n) (sym (to_z-of_z w64 looks_back fits))) limit
 
 pub returns-in_err-get_one-clause-none : goal.returns-in_err-get_one-clause-none
 returns-in_err-get_one-clause-none c = λ is has.
@@ -82,14 +73,6 @@ returns-in_err-get_one-3-clause-none c = λ is has.
     let read = unsigned_read (found_of c.args.matches.now) (codes "limit") (ExplainsUnsignedError 10) HasUnsignedDigitsIfOk 1 MAX_LIMIT c.get_one-3.result
     c.get_one-3.ensures.value has.limit in
     let bad : None ≡ Some read.0 = sym c.in_err-get_one-3.was ∙ read.1 in
-    cc
-
-pub returns-in_err-get_one-4-clause-none : goal.returns-in_err-get_one-4-clause-none
-returns-in_err-get_one-4-clause-none c = λ is has.
-    let read = has_read {E = ParseBoolError} (found_of c.args.matches.now) (codes "frames") ParsesBool c.get_one-4.result
-    c.get_one-4.ensures.value (λ text. (on : Bool) × (text ≡ bool_text on)) (λ on. Unit {0}) (λ text on inside parses. tt)
-    (λ text e inside parses. bool_err text e inside parses) has.frames in
-    let bad : None ≡ Some read.0 = sym c.in_err-get_one-4.was ∙ read.1 in
     cc
 
 pub returns-clause-none : goal.returns-clause-none

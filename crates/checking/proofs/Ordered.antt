@@ -21,8 +21,8 @@ use Rattle.std.specs.Ordering.{int_cmp, is_lt}
 use Rattle.std.specs.declared.cmp.Ordering.TheVariants.{Less, Equal, Greater}
 use denote.Param.Members.{Mut}
 use denote.Ref.{Bor}
-use Rattle.player.specs.Lines.{put_in_order, in_order_by}
-use Rattle.player.proofs.OneOrder.{
+use Rattle.checking.specs.InOrder.{put_in_order, in_order_by, NoneBefore, Rise}
+use Rattle.checking.proofs.OneOrder.{
   NoneBelow,
   Rises,
   Rises-from_sorted,
@@ -39,7 +39,7 @@ is_lt-cases false true = refl
 is_lt-cases false false = refl
 
 module _ {X : Type 0} (version : X → ℤ) where
-  abbrev earlier : X → X → Bool
+  abbrev pub earlier : X → X → Bool
   earlier a b = int_lt (version a) (version b)
 
   abbrev by_cmp : X → X → Bool
@@ -50,7 +50,7 @@ module _ {X : Type 0} (version : X → ℤ) where
       λ i a b. is_lt-cases (int_lt (version a) (version b))
       (int_lt (version b) (version a)) i
 
-  order : IsStrictWeakOrder earlier
+  pub order : IsStrictWeakOrder earlier
   order = subst (λ (lt : X → X → Bool). IsStrictWeakOrder lt) by_cmp-earlier
       (ranks_by int_cmp_total version)
 
@@ -156,6 +156,17 @@ module _ {X : Type 0} (version : X → ℤ) where
             ∙ sym (filter-append p (start ++ a ∷ []) received)
             ∙ ap (filter p) (append_assoc start (a ∷ []) received);
       }
+
+  NoneBefore-from : (low : X) (bs : List X) → NoneBelow earlier order low bs → NoneBefore version (version low) bs
+  NoneBefore-from low [] none = tt
+  NoneBefore-from low (b ∷ bs) none = (none.0, NoneBefore-from low bs none.1)
+
+  Rise-from : (bs : List X) → Rises earlier order bs → Rise version bs
+  Rise-from [] rises = tt
+  Rise-from (b ∷ bs) rises = (NoneBefore-from b bs rises.0, Rise-from bs rises.1)
+
+  pub in_order-rises : (received : List X) → Rise version (in_order_by version received)
+  in_order-rises received = Rise-from (in_order_by version received) (put_all [] received tt).rises
 
   pub in_order-from_sort : (received sorted : List X) → IsSortedByKey version int_cmp sorted
       → IsStableByKey version int_cmp received sorted → sorted ≡ in_order_by version received

@@ -1,0 +1,4 @@
+pub mod OneOrder
+pub mod Ordered
+pub mod Matched
+pub mod NoDifference

@@ -1,0 +1,20 @@
+use Rattle.std.proofs.Common.{◌≡◌, ◌+◌, ◌++◌, map, vec_items}
+use Rattle.std.specs.Prelude.{vec_len}
+use Rattle.std.specs.Vec.Iter.{into_iter_items, into_iter_len}
+use Rattle.checking.specs.Check.{count_differences, lines_from}
+use Rattle.checking.proofs.all.check_all.Given as goal
+
+-- what was told so far, and what is to be told of the proxies that are left
+abbrev pub invariant-loop-replies : goal.invariant-loop-replies
+invariant-loop-replies l = record {
+  told :
+      l.checked.text.items
+      ++ lines_from l.proxy (map vec_items (into_iter_items l.replies-iterator)) (map vec_items (into_iter_items l.recorded))
+      ≡ lines_from 0 (map vec_items l.fn.expected.items) (map vec_items l.fn.recorded.items);
+  counted :
+      l.checked.differences
+      + count_differences (map vec_items (into_iter_items l.replies-iterator)) (map vec_items (into_iter_items l.recorded))
+      ≡ count_differences (map vec_items l.fn.expected.items) (map vec_items l.fn.recorded.items);
+  passed : l.proxy + into_iter_len l.replies-iterator ≡ vec_len l.fn.expected;
+  others : into_iter_len l.recorded ≡ into_iter_len l.replies-iterator;
+}

@@ -1,0 +1,87 @@
+-- How the replies that were recorded differ from those that a resolver's answers expect, for one proxy. This project's own.
+--
+-- A row: the answers are replies at version 100 (committed) and 200 (committed, conflict at place 0), and `Held` at 300. Recorded are
+-- replies at 400 (committed) and at 200 (committed, conflict at place 1). Then the reply at 100 is missing, transaction 1 at
+-- 200 differs, by its places, and the reply at 400 is unexpected.
+use Rattle.std.specs.Prelude.{ℕ, ◌+◌, ℤ, Bool, true, false, ◌&&◌, ◌==◌, if◌then◌else◌, List, [], ◌∷◌, ◌++◌, length, map, Option, None, Some}
+use Rattle.std.specs.List.{flat_map}
+use Rattle.std.specs.Ordering.{int_eq}
+use Rattle.std.specs.Str.{bytes_eq}
+use Rattle.keyspace.specs.declared.answer.Answer.{Answer}
+use Rattle.keyspace.specs.declared.answer.Answer.TheVariants as answer
+use Rattle.keyspace.specs.declared.reply.Reply.{Reply}
+use Rattle.keyspace.specs.declared.reply.Entry.{Entry}
+use Rattle.keyspace.specs.declared.reply.Verdict.{Verdict}
+use Rattle.keyspace.specs.declared.reply.Verdict.TheVariants.{Conflict, TooOld, Committed}
+use Rattle.checking.specs.declared.difference.Difference.{Difference}
+use Rattle.checking.specs.declared.difference.DifferenceKind.TheVariants.{Missing, Unexpected, Count, Transaction}
+use Rattle.checking.specs.InOrder.{in_order_by}
+
+-- the reply that an answer expects, if any
+abbrev pub expected_by : Answer → List Reply
+expected_by (answer.Reply reply) = reply ∷ []
+expected_by (answer.Never version) = []
+expected_by (answer.Held version) = []
+
+-- the replies that a proxy's answers expect
+abbrev pub expected : List Answer → List Reply
+expected answers = flat_map expected_by answers
+
+abbrev pub is_same_verdict : Verdict → Verdict → Bool
+is_same_verdict Conflict Conflict = true
+is_same_verdict TooOld TooOld = true
+is_same_verdict Committed Committed = true
+is_same_verdict _ _ = false
+
+-- the same verdict, and the same places
+abbrev pub is_same : Entry → Entry → Bool
+is_same e f = is_same_verdict e.verdict f.verdict && bytes_eq e.places f.places
+
+-- each transaction whose entries aren't the same, by its index, counted from this one
+abbrev pub entry_differences : ℤ → ℕ → List Entry → List Entry → List Difference
+entry_differences version index (e ∷ es) (f ∷ fs) =
+    if is_same e f then entry_differences version (index + 1) es fs
+    else record { version = version; kind = Transaction index e f } ∷ entry_differences version (index + 1) es fs
+entry_differences version index _ _ = []
+
+-- the differences between two replies to one batch: where they have so many verdicts both, those of the transactions
+abbrev pub reply_differences : Reply → Reply → List Difference
+reply_differences e f =
+    if length e.entries == length f.entries then entry_differences e.version 0 e.entries f.entries
+    else record { version = e.version; kind = Count (length e.entries) (length f.entries) } ∷ []
+
+abbrev pub missing : Reply → Difference
+missing reply = record { version = reply.version; kind = Missing }
+
+abbrev pub unexpected : Reply → Difference
+unexpected reply = record { version = reply.version; kind = Unexpected }
+
+-- the same found, with one more among the others
+abbrev pub passed : Reply → Option (Reply × List Reply) → Option (Reply × List Reply)
+passed reply None = None
+passed reply (Some found) = Some (found.0, reply ∷ found.1)
+
+-- the first reply of this version, if there is one, and all others
+abbrev pub first_of : ℤ → List Reply → Option (Reply × List Reply)
+first_of version [] = None
+first_of version (reply ∷ replies) =
+    if int_eq reply.version version then Some (reply, replies) else passed reply (first_of version replies)
+
+-- An expected reply is matched with what is found for it, and the next ones with the others.
+abbrev pub matched_with : Reply → List Reply → (List Reply → List Difference) → Option (Reply × List Reply) → List Difference
+matched_with reply recorded go_on None = missing reply ∷ go_on recorded
+matched_with reply recorded go_on (Some found) = reply_differences reply found.0 ++ go_on found.1
+
+-- Each expected reply, in turn, is matched with the first recorded one of its version that is left. What is left in the end
+-- is unexpected.
+abbrev pub matched : List Reply → List Reply → List Difference
+matched [] recorded = map unexpected recorded
+matched (reply ∷ replies) recorded = matched_with reply recorded (matched replies) (first_of reply.version recorded)
+
+abbrev pub version_of_reply : Reply → ℤ
+version_of_reply reply = reply.version
+
+-- the differences between expected and recorded replies, both taken in order of versions
+abbrev pub differences : List Reply → List Reply → List Difference
+differences expected_ones recorded =
+    matched (in_order_by version_of_reply expected_ones) (in_order_by version_of_reply recorded)

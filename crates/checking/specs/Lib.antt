@@ -1,0 +1,5 @@
+-- In reading order.
+pub mod InOrder
+pub mod Difference
+pub mod Text
+pub mod Check

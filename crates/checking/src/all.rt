@@ -1,0 +1,94 @@
+//! A check of all proxies.
+
+ghost use Rattle.std.specs.Prelude.{◌≡◌, ◌+◌, ◌<◌, ◌≤◌, ◌++◌, IfErr, IfOk, IfSome, length, map, vec_items, vec_len};
+ghost use Rattle.checking.specs.Check.{check_text, count_differences, last_line};
+ghost use Rattle.checking.specs.Difference.{differences};
+ghost use Rattle.checking.specs.Text.{difference_lines};
+
+use crate::matching::compare;
+use crate::text::write_differences;
+use keyspace::Reply;
+use std::alloc::Global;
+use std::io::Write;
+
+/// What a check has found.
+#[derive(Debug, Drop)]
+pub struct Checked {
+    /// A line for each difference, and a last one that counts batches and differences.
+    pub text: Vec<u8>,
+    /// How many differences there are.
+    pub differences: usize,
+}
+
+/// Compares the replies that are expected with those that were recorded, each of the two by proxy, and tells of so many batches.
+///
+/// An error, which says that memory was refused, is the number of the proxy whose differences could not be told.
+pub fn check_all(
+    alloc: Global,
+    batches: usize,
+    expected: Vec<Vec<Reply>>,
+    recorded: Vec<Vec<Reply>>,
+) -> Result<Checked, usize>
+    requires some { 1 ≤ vec_len expected }
+    requires as_many { vec_len expected ≡ vec_len recorded }
+    ensures text { IfOk result (λ checked. checked.text.items
+        ≡ check_text batches (map vec_items expected.items) (map vec_items recorded.items)) }
+    ensures differences { IfOk result (λ checked. checked.differences
+        ≡ count_differences (map vec_items expected.items) (map vec_items recorded.items)) }
+    ensures proxy { IfErr result (λ proxy. proxy < vec_len expected) }
+{
+    let mut checked = Checked {
+        text: Vec::new(alloc),
+        differences: 0,
+    };
+    let mut proxy = 0;
+    let mut recorded = recorded.into_iter();
+    for replies in expected {
+        let Some(others) = recorded.next() else {
+            unreachable!()
+        };
+        checked.add(alloc, proxy, replies, others).ok_or(proxy)?;
+        proxy += 1;
+    }
+    checked.finish(batches).ok_or(0)
+}
+
+impl Checked {
+    // Adds the differences of a proxy.
+    fn add(
+        &mut self,
+        alloc: Global,
+        proxy: usize,
+        expected: Vec<Reply>,
+        recorded: Vec<Reply>,
+    ) -> Option<()>
+        ensures text { IfSome result (λ _. self.new.text.items ≡ self.old.text.items
+            ++ difference_lines proxy (differences expected.items recorded.items)) }
+        ensures differences { IfSome result (λ _. self.new.differences
+            ≡ self.old.differences + length (differences expected.items recorded.items)) }
+    {
+        let (mut expected, mut recorded) = (expected, recorded);
+        let found = compare(alloc, &mut expected, &mut recorded).ok()?;
+        write_differences(&mut self.text, proxy, &found).ok()?;
+        self.differences = self.differences.checked_add(found.len())?;
+        Some(())
+    }
+
+    // Adds the last line.
+    fn finish(self, batches: usize) -> Option<Self>
+        ensures text { IfSome result (λ checked. checked.text.items
+            ≡ self.text.items ++ last_line batches self.differences) }
+        ensures differences { IfSome result (λ checked. checked.differences ≡ self.differences) }
+    {
+        let Checked {
+            mut text,
+            differences,
+        } = self;
+        write!(
+            &mut text,
+            "checked {batches} batches, {differences} differences\n"
+        )
+        .ok()?;
+        Some(Checked { text, differences })
+    }
+}

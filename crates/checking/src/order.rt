@@ -1,0 +1,34 @@
+//! Items in order of their versions.
+
+ghost use Rattle.std.specs.Prelude.{◌≡◌, ℤ, OnOk};
+ghost use Rattle.checking.specs.InOrder.{Rise, in_order_by};
+
+use keyspace::Reply;
+use std::alloc::{AllocError, Global};
+
+/// What has a version.
+pub trait Versioned {
+    // The version of this item.
+    ghost version_told: { Self → ℤ };
+
+    /// Returns the version.
+    fn version(&self) -> i64
+        ensures version { result ≡ version_told self.now };
+}
+
+impl Versioned for Reply {
+    ghost version_told = { λ reply. reply.version };
+
+    fn version(&self) -> i64 {
+        self.version
+    }
+}
+
+/// Sorts items by version, those of one version in the order in which they stand. After an error, which says that memory was
+/// refused, their order is unspecified.
+pub fn sort_by_version<T: Versioned>(alloc: Global, items: &mut [T]) -> Result<(), AllocError>
+    ensures sorted { OnOk result (items.new ≡ in_order_by T.version_told items.old) }
+    ensures rises { OnOk result (Rise T.version_told items.new) }
+{
+    items.sort_by_key(alloc, |item| item.version())
+}

@@ -1,0 +1,25 @@
+-- What is printed of answers that are compared with recorded replies. This project's own.
+use Rattle.std.specs.Prelude.{ℕ, ◌+◌, List, [], ◌∷◌, length, map, option_to_list}
+use Rattle.std.specs.List.{flat_map}
+use Rattle.keyspace.specs.declared.answer.Answer.{Answer}
+use Rattle.keyspace.specs.declared.reply.Reply.{Reply}
+use Rattle.checking.specs.Difference.{expected}
+use Rattle.checking.specs.Check.{check_text, count_differences}
+use Rattle.player.specs.declared.line.Line.{Line}
+
+-- how many items all lists have
+abbrev pub count_lines : {X : Type 0} → List (List X) → ℕ
+count_lines [] = 0
+count_lines (first ∷ rest) = length first + count_lines rest
+
+-- the replies that lines keep
+abbrev pub replies_kept : List Line → List Reply
+replies_kept ls = flat_map (λ (l : Line). option_to_list l.reply) ls
+
+-- the whole text, given the replies that were recorded of each proxy, and its answers
+abbrev pub check_lines : List (List Reply) → List (List Answer) → List ℕ
+check_lines recorded received = check_text (count_lines received) (map expected received) recorded
+
+-- how many differences there are
+abbrev pub differences_of : List (List Reply) → List (List Answer) → ℕ
+differences_of recorded received = count_differences (map expected received) recorded

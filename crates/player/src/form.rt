@@ -1,0 +1,25 @@
+//! How answers are told.
+
+ghost use Rattle.std.specs.Prelude.{◌≡◌, ◌↔◌, IsTrue};
+
+/// How the answers of a run are told.
+#[derive(Clone, Copy, Debug, PartialEq, Eq)]
+pub enum Form {
+    /// By lines of words.
+    Words,
+    /// By lines that have each reply as its frame, in hexadecimal.
+    Frames,
+    /// By lines of JSON.
+    Json,
+    /// By no lines: the replies are kept, to be compared with others.
+    Kept,
+}
+
+impl Form {
+    /// Returns whether the replies are kept, to be compared with others.
+    pub fn is_kept(self) -> bool
+        ensures kept { IsTrue result ↔ (self ≡ Form.Kept) }
+    {
+        matches!(self, Form::Kept)
+    }
+}

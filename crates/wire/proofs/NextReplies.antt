@@ -1,0 +1,48 @@
+-- What is held of the next frame of a reply, as far as it was read, tells what the bytes left say.
+use Rattle.std.proofs.Common.{◌≡◌, ◌≢◌, ℕ, ◌+◌, ◌<◌, ◌≤◌, List, [], ◌++◌, length, take, inl, inr, Option, Some, None, Result, Ok, Err, ap, subst, ◌∙◌, arith}
+use Rattle.std.specs.Prelude.{IfSome}
+use Rattle.std.specs.Io.KnownBytes.{Keeps, IsAtEnd, prepend_known}
+use Rattle.std.proofs.lemmas.List.{append-nil, take_all}
+use Rattle.std.proofs.lemmas.Bool.{cases_lt}
+use Rattle.byteorder.specs.Endian.{big_number}
+use Rattle.keyspace.specs.declared.reply.Reply.{Reply}
+use Rattle.wire.specs.declared.error.WireError.{WireError}
+use Rattle.wire.specs.Fields.{reply_fields}
+use Rattle.wire.specs.Spelling.{SpellsReply}
+use Rattle.wire.specs.FrameLength.{frame_length}
+use Rattle.wire.specs.NextReply.{TakesReply, IsReplyFaultOf}
+use Rattle.wire.specs.Reading.{◌>>=◌, reply_at, all_of, read_reply, refusal}
+use Rattle.wire.proofs.Taken.{AreBytes}
+use Rattle.wire.proofs.Replies.{reply_decoded}
+use Rattle.wire.proofs.FrameLengths.{at_most_whole, same_body}
+use Rattle.wire.proofs.Known.{held_consumes}
+use Rattle.wire.proofs.NextFrames.{not_nil}
+
+same_reply : (front rest : List ℕ) → (length front < frame_length front → rest ≡ [])
+    → read_reply (front ++ rest) ≡ read_reply front
+unfolding read_reply
+same_reply front rest end =
+    elim (cases_lt (length front) (frame_length front)) [
+      | inl lt ↦ ap read_reply (ap (λ (x : List ℕ). front ++ x) (end lt) ∙ append-nil front)
+      | inr le ↦ ap (λ (r : Result (List ℕ) WireError). r
+          >>= λ body. all_of (reply_at body)) (same_body front rest le)
+    ]
+
+pub takes_reply : (old new : Option (List ℕ)) (held : List ℕ) (reply : Reply) (n : ℕ) → AreBytes held
+    → Keeps old (prepend_known held new) → length held ≤ frame_length held
+    → read_reply held ≡ Ok (reply_fields reply) → n ≡ 4 + big_number 4 held → TakesReply old new reply
+takes_reply old new held reply n fits joined within read used =
+    let found = reply_decoded held (Ok (reply, n)) fits read used in
+    let four : 4 ≤ length held = omega (arith, found.1) in
+    let whole : take n held ≡ held = take_all n held (omega (arith, at_most_whole held four)) in
+    (held, subst (λ (bytes : List ℕ). SpellsReply bytes reply) whole found.0, held_consumes old new held joined)
+
+pub is_reply_fault : (e : WireError) (old new : Option (List ℕ)) (held : List ℕ)
+    → Keeps old (prepend_known held new)
+    → held ≢ [] → (length held < frame_length held → IsAtEnd new) → read_reply held ≡ Err e
+    → IfSome old (IsReplyFaultOf e)
+is_reply_fault e None new held joined some end read = tt
+is_reply_fault e (Some xs) None held joined some end read = absurd joined
+is_reply_fault e (Some xs) (Some ys) held joined some end read =
+    let read_again = ap refusal (same_reply held ys end ∙ read) in
+    subst (λ (bytes : List ℕ). IsReplyFaultOf e bytes) joined (not_nil held ys some, read_again)
