@@ -10,6 +10,7 @@ ghost use Rattle.player.specs.Words.{IsMistaken};
 
 use crate::check::check_over;
 use crate::files::Files;
+use crate::form::Form;
 use crate::opening::{fail_to_open, open_files};
 use crate::replay::replay_over;
 use crate::replies::{fail_to_read_replies, read_replies};

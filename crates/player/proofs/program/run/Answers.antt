@@ -70,7 +70,7 @@ pub returns-in-Ok-2 : goal.returns-in-Ok-2
 returns-in-Ok-2 g c =
     let files = c.args.files.now in
     let words : List (List ℕ) = map string_bytes c.args.words.now in
-    let line = c.in-Ok-2.line in
+    let line = c.in-Ok.line in
     let names : List (List ℕ) = map (λ name. name.now) line.files.items in
     let out = written (g.O.Sink.given c.args.out.now) (g.O.Sink.given c.replay_files.new.out)
     (g.O.Sink.failures c.args.out.now) (g.O.Sink.failures c.replay_files.new.out) in
@@ -81,11 +81,11 @@ returns-in-Ok-2 g c =
     let ends = ends_replayed (g.F.Files.has_opened files) (g.F.Files.cannot_open files) (g.F.Files.contents files) out error
     words c.replay_files.result line.options names
     (record {
-      taken = c.in-Ok-2.ensures.taken;
-      holds_options = c.in-Ok-2.ensures.options;
-      holds_names = c.in-Ok-2.ensures.files;
-      least = omega (arith, c.in-Ok-2.ensures.least, length-map line.files.items (λ name. name.now));
-      most = omega (arith, c.in-Ok-2.ensures.most, length-map line.files.items (λ name. name.now));
+      taken = c.in-Ok.ensures.taken;
+      holds_options = c.in-Ok.ensures.options;
+      holds_names = c.in-Ok.ensures.files;
+      least = omega (arith, c.in-Ok.ensures.least, length-map line.files.items (λ name. name.now));
+      most = omega (arith, c.in-Ok.ensures.most, length-map line.files.items (λ name. name.now));
       plain = not_kept line.options.form (λ is. no (c.is_kept.ensures.kept.1 is));
     })
     replayed.done replayed.quiet replayed.failed replayed.ends replayed.same in
