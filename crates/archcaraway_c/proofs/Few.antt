@@ -11,7 +11,7 @@ use Rattle.keyspace.specs.declared.reply.Verdict.TheVariants.{TooOld, Committed}
 use Rattle.keyspace.specs.Writes.{Write, counted}
 use Rattle.keyspace.specs.Judged.{Judged, edge}
 use Rattle.keyspace.specs.Judge.{is_too_old, is_in_conflict, is_hit, meets_earlier, places_from, hits_or_first, report, without_places, in_conflict_at, judge_txn, judge_txns}
-use Rattle.keyspace.proofs.Judging.{only_judge}
+use Rattle.keyspace.proofs.callers.Judging.{only_judge}
 use Rattle.archcaraway_c.specs.Bound.{most_entry_length}
 
 -- the length of an entry

@@ -1,3 +1,4 @@
+pub mod callers
 pub mod Sizes
 pub mod Cells
 pub mod Slots

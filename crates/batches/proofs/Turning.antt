@@ -2,7 +2,7 @@
 use Rattle.std.proofs.Common.{◌≡◌, ℕ, List, [], ◌∷◌, ◌++◌, Option, Some, None, refl, sym, ap, IfSome, subst, ◌∙◌, append_assoc}
 use Rattle.std.proofs.lemmas.List.{append-nil}
 use Rattle.std.specs.Io.KnownBytes.{Consumes, Appends, IsAtEnd}
-use Rattle.wire.proofs.Known.{consumes_none, consumes_then}
+use Rattle.wire.proofs.callers.Known.{consumes_none, consumes_then}
 use Rattle.batches.specs.Turned.{BecomeEach, joined, Turns, TurnsAll}
 
 appends_none : (a : Option (List ℕ)) → Appends a a []

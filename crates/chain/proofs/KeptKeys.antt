@@ -50,7 +50,7 @@ use Rattle.std.proofs.lemmas.Int.{ints}
 use Rattle.std.proofs.lemmas.Map.Lookups.{CmpEqualImpliesEq, exact_pairs, exact_unsigned, exact_signed}
 use Rattle.std.proofs.lemmas.Map.Views.{tells_apart}
 use Rattle.keyspace.specs.declared.reply.Reply.{Reply}
-use Rattle.keys.proofs.Booleans.{and_left, and_right, false_unless, not_both_ways}
+use Rattle.keys.proofs.callers.Booleans.{and_left, and_right, false_unless, not_both_ways}
 use Rattle.chain.specs.Replies.{Kept, key_cmp, is_up_to, IsFiled}
 
 -- keys that compare alike are one

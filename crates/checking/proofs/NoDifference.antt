@@ -9,7 +9,7 @@ use Rattle.keyspace.specs.declared.reply.Reply.{Reply}
 use Rattle.keyspace.specs.declared.reply.Entry.{Entry}
 use Rattle.keyspace.specs.declared.reply.Verdict.{Verdict}
 use Rattle.keyspace.specs.declared.reply.Verdict.TheVariants.{Conflict, TooOld, Committed}
-use Rattle.keyspace.proofs.Judging.{entry_same, reply_same}
+use Rattle.keyspace.proofs.callers.Judging.{entry_same, reply_same}
 use Rattle.checking.specs.declared.difference.Difference.{Difference}
 use Rattle.checking.specs.InOrder.{NoneBefore, Rise, in_order_by}
 use Rattle.checking.specs.Difference.{differences, entry_differences, first_of, is_same, is_same_verdict, matched, matched_with, passed, reply_differences, version_of_reply}

@@ -4,7 +4,7 @@ use Rattle.std.specs.Ordering.{nat_cmp, is_le, is_lt}
 use Rattle.std.specs.Cmp.Lexicographic.{slice_cmp}
 use Rattle.std.specs.declared.cmp.Ordering.{Ordering}
 use Rattle.keys.specs.Key.{is_before, IsBefore, IsAtMost}
-use Rattle.keys.proofs.KeyOrder.{is_le-cmp}
+use Rattle.keys.proofs.callers.KeyOrder.{is_le-cmp}
 
 true_if_not : (b : Bool) → not b ≡ false → b ≡ true
 true_if_not true e = refl

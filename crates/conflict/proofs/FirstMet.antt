@@ -38,7 +38,7 @@ use Rattle.keyspace.specs.declared.reply.Verdict.TheVariants.{Conflict, TooOld, 
 use Rattle.keyspace.specs.declared.reply.Entry.{Entry}
 use Rattle.keyspace.specs.Writes.{counted}
 use Rattle.keyspace.specs.Judge.{meets_earlier, places_from, in_conflict_at}
-use Rattle.keyspace.proofs.Judging.{entry_same}
+use Rattle.keyspace.proofs.callers.Judging.{entry_same}
 use Rattle.conflict.specs.InBatch.{first_met, unless_met, by_verdict, in_batch}
 use Rattle.keys.specs.Ranks.{HaveBegin, run_or_none}
 use Rattle.conflict.specs.Gaps.{SomeMarked}

@@ -49,8 +49,8 @@ use Rattle.keyspace.specs.Places.{ArePlaces}
 use Rattle.keyspace.specs.declared.txn.TheConstants.{MAX_RANGES}
 use Rattle.keyspace.specs.Writes.{Write}
 use Rattle.keyspace.specs.Judge.{is_hit, places_from}
-use Rattle.keys.proofs.Booleans.{false_unless}
-use Rattle.keyspace.proofs.Scans.{range_hit_from_test, test_from_range_hit}
+use Rattle.keys.proofs.callers.Booleans.{false_unless}
+use Rattle.keyspace.proofs.callers.Judging.{range_hit_from_test, test_from_range_hit}
 use Rattle.stepmap.specs.StepMap.{Steps}
 use Rattle.stepmap.specs.Covers.{MapCovers, IsAbove}
 use Rattle.stepmap.specs.Laws.{TellsHits}

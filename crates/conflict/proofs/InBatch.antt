@@ -24,7 +24,7 @@ use Rattle.std.proofs.Common.{
 }
 use Rattle.std.specs.Prelude.{ℤ, ◌≤ℤ◌, int_lt, nat_lt}
 use Rattle.std.proofs.lemmas.Int.{ints}
-use Rattle.keyspace.proofs.Judging.{entry_same}
+use Rattle.keyspace.proofs.callers.Judging.{entry_same}
 use Rattle.std.specs.List.{list_any}
 use Rattle.keys.specs.declared.range.Range.{Range}
 use Rattle.keyspace.specs.declared.txn.Txn.{Txn}

@@ -1,10 +1,10 @@
 -- What names of read ranges ask for.
 use Rattle.std.proofs.Common.{◌≡◌, ℕ, zero, suc, ◌+◌, ◌-◌, ◌<◌, ◌≤◌, ℤ, List, [], ◌∷◌, ◌++◌, length, map, get_or, take, drop, refl, sym, ap, ◌∙◌, arith, append_assoc, length-drop}
 use Rattle.std.specs.Prelude.{Option, Some, None, option_to_list, option_and_then, option_map, slice_get, slice_range, unwrap_or}
-use Rattle.std.proofs.Math.Seq.{take-suc}
-use Rattle.std.proofs.lemmas.List.{map-append, map_push, length-map, get_or-drop, take_all}
-use Rattle.std.proofs.lemmas.Option.{get_or_from_slice_get, slice_get_within, slice_get-map}
+use Rattle.std.proofs.lemmas.List.{map-append, map_push, length-map, take_all}
+use Rattle.std.proofs.lemmas.Option.{slice_get-map}
 use Rattle.keys.specs.declared.range.Range.{Range}
+use Rattle.keys.proofs.callers.Lists.{range_more}
 use Rattle.keyspace.specs.declared.txn.Txn.{Txn}
 use Rattle.conflict.specs.declared.read_name.ReadName.{ReadName}
 use Rattle.conflict.specs.Asking.{asked_at, query_named, queries_named, AreNamed}
@@ -37,18 +37,6 @@ pub some_at : {X : Type 0} (xs : List X) (i : ℕ) → i < length xs → (x : X)
 some_at [] i inside = absurd (omega (arith, inside))
 some_at (x ∷ xs) zero inside = (x, refl)
 some_at (x ∷ xs) (suc i) inside = some_at xs i (omega (arith, inside))
-
--- a range with one element more
-range_more : {X : Type 0} (xs : List X) (from to : ℕ) (x : X) → from ≤ to → slice_get xs to ≡ Some x
-    → slice_range xs from (to + 1) ≡ slice_range xs from to ++ x ∷ []
-range_more xs from to x rises is =
-    let within = slice_get_within xs to x is in
-    let inside : to - from < length (drop from xs) = omega (arith, rises, within, length-drop from xs) in
-    let more : (to + 1) - from ≡ suc (to - from) = omega (arith, rises) in
-    let same : from + (to - from) ≡ to = omega (arith, rises) in
-    ap (λ k. take k (drop from xs)) more ∙ take-suc (drop from xs) (to - from) x inside
-    ∙ ap (λ y. slice_range xs from to ++ y ∷ [])
-    (get_or-drop from xs (to - from) x ∙ ap (λ k. get_or xs k x) same ∙ get_or_from_slice_get xs to x x is)
 
 -- the first of a list, and those from an index on
 pub range_first : {X : Type 0} (xs : List X) (n : ℕ) → slice_range xs 0 n ≡ take n xs

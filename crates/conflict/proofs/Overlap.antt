@@ -6,9 +6,9 @@ use Rattle.keys.specs.Range.{Meets, ranges_meet}
 use Rattle.keys.specs.Ranks.{HaveBegin, run}
 use Rattle.keys.specs.Gaps.{HasGap}
 use Rattle.keys.specs.Laws.{RunsTellMeeting}
-use Rattle.keys.proofs.Meeting.{meets_from_test, test_from_meets}
+use Rattle.keys.proofs.callers.Meeting.{meets_from_test, test_from_meets}
 use Rattle.keyspace.specs.Judge.{meets_earlier}
-use Rattle.keyspace.proofs.Scans.{any_from_test, test_from_any}
+use Rattle.keyspace.proofs.callers.Judging.{any_from_test, test_from_any}
 use Rattle.conflict.specs.Written.{RunsTellOverlap}
 
 module _ (meeting : RunsTellMeeting) where

@@ -33,8 +33,8 @@ use Rattle.keys.specs.Range.{is_filled}
 use Rattle.keys.specs.Ranks.{HaveBegin, run, run_or_none, runs_of}
 use Rattle.keys.specs.Gaps.{HasGap}
 use Rattle.conflict.specs.Written.{AreRunsWithin, TellRuns}
-use Rattle.keys.proofs.Meeting.{before_unless_empty}
-use Rattle.keys.proofs.Runs.{filled_from_gap, runs_are_within}
+use Rattle.keys.proofs.callers.Meeting.{before_unless_empty}
+use Rattle.keys.proofs.callers.Ranks.{filled_from_gap, runs_are_within}
 use Rattle.conflict.proofs.Parts.{all_split}
 
 -- the element at an index, whatever is read past the end

@@ -9,9 +9,9 @@ use Rattle.keys.specs.Key.{IsBefore, IsAtMost}
 use Rattle.keys.specs.Range.{Holds, IsEmpty, is_filled}
 use Rattle.keys.specs.Ranks.{IsBeginIn}
 use Rattle.keys.specs.declared.range.Range.{Range}
-use Rattle.keys.proofs.KeyOrder.{at_most_itself, before_at_most, before_at_most_same, before_or_at_most, at_most_trans, not_both}
-use Rattle.keys.proofs.Meeting.{before_unless_empty}
-use Rattle.keys.proofs.SomeElement.{Any-longer, Any-push_cases}
+use Rattle.keys.proofs.callers.KeyOrder.{at_most_itself, before_at_most, before_at_most_same, before_or_at_most, at_most_trans, not_both}
+use Rattle.keys.proofs.callers.Meeting.{before_unless_empty}
+use Rattle.keys.proofs.callers.SomeElement.{Any-longer, Any-push_cases}
 use Rattle.stepmap.specs.Writing.{AreApart}
 use Rattle.stepmap.specs.Counting.{filled_count}
 use Rattle.stepmap.specs.Uniting.{IsEndIn, Unites}

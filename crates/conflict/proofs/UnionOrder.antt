@@ -13,10 +13,10 @@ use Rattle.keys.specs.Range.{Holds, IsEmpty, is_filled}
 use Rattle.keys.specs.Ranks.{BeginsFirst, filled_from}
 use Rattle.keys.specs.Numbering.{IsFilledAt}
 use Rattle.keys.specs.declared.range.Range.{Range}
-use Rattle.keys.proofs.Filled.{filled_at}
-use Rattle.keys.proofs.KeyOrder.{not_both}
-use Rattle.keys.proofs.Meeting.{before_unless_empty}
-use Rattle.keys.proofs.SomeElement.{Any-cases, Any-first, Any-later, Any-left, Any-none, Any-parts, Any-right}
+use Rattle.keys.proofs.callers.Ranks.{filled_at}
+use Rattle.keys.proofs.callers.KeyOrder.{not_both}
+use Rattle.keys.proofs.callers.Meeting.{before_unless_empty}
+use Rattle.keys.proofs.callers.SomeElement.{Any-cases, Any-first, Any-later, Any-left, Any-none, Any-parts, Any-right}
 use Rattle.stepmap.specs.Counting.{filled_count}
 use Rattle.stepmap.specs.Uniting.{IsEndIn, Unites}
 use Rattle.conflict.specs.Union.{picked}

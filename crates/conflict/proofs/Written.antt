@@ -29,7 +29,7 @@ use Rattle.std.proofs.lemmas.List.{take_more}
 use Rattle.std.proofs.lemmas.List.Quantifiers.{Any-push}
 use Rattle.keys.specs.declared.range.Range.{Range}
 use Rattle.keyspace.specs.Judge.{meets_earlier}
-use Rattle.keys.proofs.SomeElement.{Any-longer, Any-push_cases}
+use Rattle.keys.proofs.callers.SomeElement.{Any-longer, Any-push_cases}
 use Rattle.keys.specs.Ranks.{HaveBegin, run, run_or_none}
 use Rattle.keys.specs.Gaps.{HasGap}
 use Rattle.conflict.specs.Gaps.{IsInRun, IsMarked, SomeMarked}

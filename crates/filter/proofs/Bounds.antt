@@ -1,6 +1,6 @@
 -- What becomes of the bounds of keys where the versions of a filter change.
 use Rattle.std.proofs.Common.{◌≡◌, ℕ, zero, suc, ◌+◌, ◌*◌, ◌/◌, ◌<◌, ◌≤◌, inl, inr, List, [], ◌∷◌, length, get_or, set, replicate, refl, sym, ◌∙◌, ap, subst, arith}
-use Rattle.std.specs.Prelude.{ℤ, negsuc, false, int_lt, ◌≤ℤ◌}
+use Rattle.std.specs.Prelude.{ℤ, negsuc, ◌≤ℤ◌}
 use Rattle.std.specs.Int.{int_max}
 use Rattle.std.proofs.lemmas.Bool.{cases_lt, cases_order}
 use Rattle.std.proofs.lemmas.Int.{ints, clamps}
@@ -187,10 +187,6 @@ set_none_newer versions cell version newest newer within old more is i =
         | inr above ↦ stays (λ e. omega arith)
       ]
     ]
-
--- what isn't less is as much or more
-pub not_less : (x y : ℤ) → int_lt x y ≡ false → y ≤ℤ x
-not_less x y h = grind (arith, ints)
 
 -- Where no cell is newer than the newest range, all bounds are its version.
 pub bound_of_range : (f : FilterState) → ((i : ℕ) → version_at f.versions i ≤ℤ f.newest_key) → f.newest_key ≤ℤ f.newest_range

@@ -22,8 +22,8 @@ use Rattle.keys.specs.Key.{IsBytes, IsKey, is_before}
 use Rattle.keyspace.specs.Fields.{RangeFields, TxnFields, RangeHolds}
 use Rattle.wire.specs.Fields.{BatchFields, EntryFields, ReplyFields}
 use Rattle.wire.specs.Spelling.{single_key, is_single_key, TxnHolds, BatchHolds}
-use Rattle.wire.proofs.Singles.{single_is}
-use Rattle.wire.proofs.Again.{at_least}
+use Rattle.wire.proofs.callers.Singles.{single_is}
+use Rattle.wire.proofs.callers.Numbers.{at_least}
 use Rattle.json_lines.specs.KeyForm.{backslash, is_printable, byte_form, key_form, after_byte, spelled_from, spelled}
 use Rattle.json_lines.specs.Values.{◌>>=◌, whole, is_whole, fits, each, count, list_in, are_among, if_so}
 use Rattle.json_lines.specs.Ranges.{key_within, ends_in, pair_in, range_in, ranges_in}

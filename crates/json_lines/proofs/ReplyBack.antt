@@ -12,8 +12,8 @@ use Rattle.keyspace.specs.declared.reply.Verdict.{Verdict}
 use Rattle.keyspace.specs.declared.reply.Verdict.TheVariants.{Conflict, TooOld, Committed}
 use Rattle.wire.specs.Fields.{EntryFields, ReplyFields}
 use Rattle.wire.specs.Spelling.{EntryHolds, ReplyHolds}
-use Rattle.wire.proofs.Again.{at_least}
-use Rattle.wire.proofs.PlaceLists.{RiseFrom, rise}
+use Rattle.wire.proofs.callers.Numbers.{at_least}
+use Rattle.wire.proofs.callers.Places.{RiseFrom, rise}
 use Rattle.json_lines.specs.Values.{◌>>=◌, are_among, whole}
 use Rattle.json_lines.specs.Replies.{place_from, rising, report_in, entry_in, reply_members, reply_in, reply_of}
 use Rattle.json_lines.specs.Written.{place_json, report_json, entry_with, entry_json, list_json, reply_json, reply_line}

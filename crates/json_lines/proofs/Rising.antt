@@ -6,7 +6,7 @@ use Rattle.json.specs.Json.{Json, Items, no_items, item}
 use Rattle.json.specs.Value.{value_view, items_view}
 use Rattle.json.specs.declared.value.Value.{Value}
 use Rattle.keyspace.specs.Places.{ArePlaces}
-use Rattle.wire.proofs.PlaceLists.{RiseFrom, are_places}
+use Rattle.wire.proofs.callers.Places.{RiseFrom, are_places}
 use Rattle.json_lines.specs.Values.{◌>>=◌, number_in}
 use Rattle.json_lines.specs.Replies.{place_from, place_in, rising}
 use Rattle.json_lines.proofs.Reading.{with_front, goes_on_with, all_read, rest_at}

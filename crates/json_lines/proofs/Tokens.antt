@@ -8,7 +8,7 @@ use Rattle.json.specs.Json.{Json, array, Items, no_items, item}
 use Rattle.json.specs.Token.{Token, begin_array, end_array}
 use Rattle.json.specs.Tree.{json_tokens, items_tokens}
 use Rattle.json.specs.Value.{items_of}
-use Rattle.wire.proofs.Appending.{one_more}
+use Rattle.wire.proofs.callers.Lists.{one_more}
 use Rattle.json_lines.specs.Written.{list_json, all_tokens}
 
 -- the tokens of the first values and of the next

@@ -13,8 +13,8 @@ use Rattle.keys.specs.declared.ranks.sorting.Headed.{Headed}
 use Rattle.keys.specs.Ranks.{filled_from}
 use Rattle.keys.specs.Sorting.{indices_of}
 use Rattle.keys.specs.Numbering.{IsFilledAt}
-use Rattle.keys.proofs.KeyOrder.{not_before_itself}
-use Rattle.keys.proofs.Meeting.{before_unless_empty}
+use Rattle.keys.proofs.callers.KeyOrder.{not_before_itself}
+use Rattle.keys.proofs.callers.Meeting.{before_unless_empty}
 use Rattle.keys.proofs.Values.{contains_value}
 
 none_contained : (i : ℕ) → Contains [] i → ⊥

@@ -8,7 +8,7 @@ use Rattle.keys.specs.Key.{is_before, IsBefore, IsAtMost}
 use Rattle.keys.specs.declared.range.Range.{Range}
 use Rattle.keys.specs.declared.ranks.sorting.Headed.{Headed}
 use Rattle.keys.specs.Sorting.{begin_at, AreInBeginOrder}
-use Rattle.keys.proofs.KeyOrder.{at_most_before, at_most_trans}
+use Rattle.keys.proofs.callers.KeyOrder.{at_most_before, at_most_trans}
 use Rattle.keys.proofs.Sorting.{no_headed}
 use Rattle.keys.proofs.Reaching.{begins_rise, AreSplit}
 

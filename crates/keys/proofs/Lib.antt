@@ -1,8 +1,4 @@
-pub mod Booleans
-pub mod SomeElement
-pub mod KeyOrder
-pub mod Meeting
-pub mod Digests
+pub mod callers
 pub mod Words
 pub mod Values
 pub mod Heads

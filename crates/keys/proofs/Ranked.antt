@@ -14,7 +14,7 @@ use Rattle.keys.specs.declared.ranks.sorting.Headed.{Headed}
 use Rattle.keys.specs.Ranks.{rank, run_or_none, runs_of, filled_from, AreBegins, AreInOrder, HaveBegin, IsBeginIn}
 use Rattle.keys.specs.Sorting.{begin_at, begin_of, indices_of, AreInBeginOrder}
 use Rattle.keys.specs.Numbering.{end_at, end_of, run_at, AreEachOnce, HasRun, IsFilledAt, OthersStay}
-use Rattle.keys.proofs.Meeting.{before_unless_empty, not_empty}
+use Rattle.keys.proofs.callers.Meeting.{before_unless_empty, not_empty}
 use Rattle.keys.proofs.Filled.{filled_at, filled_in}
 use Rattle.keys.proofs.Kept.{not_true}
 use Rattle.keys.proofs.Sorting.{no_headed}

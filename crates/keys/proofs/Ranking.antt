@@ -4,7 +4,7 @@ use Rattle.std.proofs.lemmas.List.Elements.{All-head, All-tail}
 use Rattle.std.proofs.lemmas.List.Sums.{sum_by-cons, sum_by_push}
 use Rattle.keys.specs.Key.{is_before, IsBefore, IsAtMost}
 use Rattle.keys.specs.Ranks.{rank}
-use Rattle.keys.proofs.KeyOrder.{not_before_if}
+use Rattle.keys.proofs.callers.KeyOrder.{not_before_if}
 
 -- what a key adds to the rank of another
 abbrev pub one_if : Bool → ℕ

@@ -12,7 +12,7 @@ use Rattle.keys.specs.declared.ranks.sorting.Headed.{Headed}
 use Rattle.keys.specs.Ranks.{rank}
 use Rattle.keys.specs.Sorting.{begin_at, indices_of, AreInBeginOrder}
 use Rattle.keys.specs.Numbering.{end_at, run_at, AreEachOnce, AreNumbered, HasRun, IsFilledAt, OthersStay}
-use Rattle.keys.proofs.KeyOrder.{at_most_before, before_at_most, not_before_if}
+use Rattle.keys.proofs.callers.KeyOrder.{at_most_before, before_at_most, not_before_if}
 use Rattle.keys.proofs.Sorting.{no_headed}
 use Rattle.keys.proofs.Ranking.{rank_behind, rank_same}
 use Rattle.keys.proofs.Values.{value_of}

@@ -6,9 +6,9 @@ use Rattle.std.proofs.lemmas.List.Sums.{sum_by-le-sum_by, count_by-le-length}
 use Rattle.keys.specs.Key.{is_before, IsBefore, IsAtMost}
 use Rattle.keys.specs.Range.{Meets}
 use Rattle.keys.specs.declared.range.Range.{Range}
-use Rattle.keys.proofs.KeyOrder.{before_or_at_most, before_at_most, before_at_most_same, not_before_itself}
+use Rattle.keys.proofs.callers.KeyOrder.{before_or_at_most, before_at_most, before_at_most_same, not_before_itself}
 use Rattle.keys.proofs.Ranking.{one_if, rank_cons}
-use Rattle.keys.proofs.Meeting.{before_unless_empty, meets_by_ends}
+use Rattle.keys.proofs.callers.Meeting.{before_unless_empty, meets_by_ends}
 use Rattle.keys.specs.Ranks.{rank, run, HaveBegin}
 use Rattle.keys.specs.Gaps.{HasGap, HaveCommonGap}
 use Rattle.keys.specs.Laws.{RunsTellMeeting, RunsAreWithin}

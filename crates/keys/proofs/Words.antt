@@ -28,7 +28,7 @@ use Rattle.std.proofs.lemmas.List.{take_all, length-take-le}
 use Rattle.std.proofs.lemmas.List.Elements.{All-take, All-drop, All-from_get_or}
 use Rattle.keys.specs.Key.{IsBytes}
 use Rattle.keys.specs.Digest.{digest_of}
-use Rattle.keys.proofs.Digests.{digest_same_long}
+use Rattle.keys.proofs.callers.Digests.{digest_same_long}
 
 -- lists that agree at each of the first words begin alike
 words_alike_from : (n : ℕ) (a b : List ℕ)

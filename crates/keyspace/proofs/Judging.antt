@@ -68,7 +68,7 @@ use Rattle.keyspace.specs.Judge.{
   length-judge_txns,
   judge,
 }
-use Rattle.keys.proofs.Booleans.{not_both_ways}
+use Rattle.keys.proofs.callers.Booleans.{not_both_ways}
 use Rattle.keyspace.proofs.Rising.{
   In,
   Rises,

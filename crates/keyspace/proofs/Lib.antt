@@ -1,3 +1,4 @@
+pub mod callers
 pub mod Limits
 pub mod Rising
 pub mod Scans
@@ -5,7 +6,6 @@ pub mod Judging
 pub mod Chaining
 pub mod Waiting
 pub mod Answered
-pub mod SameFields
 pub mod FieldsBack
 pub mod Slices
 pub mod RangesTold

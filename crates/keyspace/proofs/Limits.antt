@@ -21,7 +21,7 @@ use Rattle.std.specs.List.{list_all}
 use Rattle.std.proofs.lemmas.Int.{ints}
 use Rattle.keys.specs.Key.{IsBytes, IsKey, is_before}
 use Rattle.keyspace.specs.Rows.{is_key, Limits}
-use Rattle.keys.proofs.Booleans.{and_left, and_right}
+use Rattle.keys.proofs.callers.Booleans.{and_left, and_right}
 
 bytes_from_test : (key : List ℕ) → list_all (λ byte. nat_lt byte 256) key ≡ true → IsBytes key
 bytes_from_test [] h k d l = absurd (omega arith)

@@ -5,7 +5,7 @@ use Rattle.keys.specs.declared.range.Range.{Range}
 use Rattle.keyspace.specs.declared.span.Span.{Span}
 use Rattle.keyspace.specs.Fields.{range_fields, RangeHolds, ranges_with, length-ranges_with}
 use Rattle.keyspace.specs.Tables.{range_told}
-use Rattle.keyspace.proofs.SameFields.{same_range, same_ranges}
+use Rattle.keyspace.proofs.callers.SameFields.{same_range, same_ranges}
 use Rattle.keyspace.proofs.FieldsBack.{fields_of_ranges}
 use Rattle.keyspace.proofs.Slices.{slice_range-map, All-slice_range, slice_get-shown}
 

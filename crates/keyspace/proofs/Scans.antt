@@ -29,8 +29,8 @@ use Rattle.keys.specs.Range.{Meets, ranges_meet}
 use Rattle.keyspace.specs.Writes.{Write}
 use Rattle.keyspace.specs.Judged.{IsTooOld, IsHit, MeetsEarlier, IsInConflict}
 use Rattle.keyspace.specs.Judge.{is_too_old, is_hit, meets_earlier, is_in_conflict}
-use Rattle.keys.proofs.Booleans.{and_left, and_right, and_both, or_either, or_left, or_right}
-use Rattle.keys.proofs.Meeting.{meets_from_test, test_from_meets}
+use Rattle.keys.proofs.callers.Booleans.{and_left, and_right, and_both, or_either, or_left, or_right}
+use Rattle.keys.proofs.callers.Meeting.{meets_from_test, test_from_meets}
 use Rattle.keyspace.proofs.Rising.{PassesAt}
 
 lt_from_test : (a b : ℤ) → int_lt a b ≡ true → a <ℤ b

@@ -9,7 +9,7 @@ use Rattle.keyspace.specs.declared.row.Row.{Row}
 use Rattle.keyspace.specs.BatchRanges.{ranges_in}
 use Rattle.keyspace.specs.Fields.{RangeFields, TxnFields, range_fields, txn_fields, RangeHolds, TxnLimits, txns_with}
 use Rattle.keyspace.specs.Tables.{range_told, txn_told, txns_told, IsRowOf, AreTables}
-use Rattle.keyspace.proofs.SameFields.{same_ranges}
+use Rattle.keyspace.proofs.callers.SameFields.{same_ranges}
 use Rattle.keyspace.proofs.FieldsBack.{fields_of_txns}
 use Rattle.keyspace.proofs.Slices.{slice_range-join}
 

@@ -6,7 +6,7 @@ use Rattle.keyspace.specs.declared.span.Span.{Span}
 use Rattle.keyspace.specs.declared.row.Row.{Row}
 use Rattle.keyspace.specs.Fields.{TxnFields, range_fields, txn_fields, TxnLimits, txns_with}
 use Rattle.keyspace.specs.Tables.{txn_told, txns_told}
-use Rattle.keyspace.proofs.SameFields.{same_txn}
+use Rattle.keyspace.proofs.callers.SameFields.{same_txn}
 use Rattle.keyspace.proofs.FieldsBack.{fields_of_txns}
 use Rattle.keyspace.proofs.Slices.{slice_get-shown}
 

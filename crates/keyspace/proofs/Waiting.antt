@@ -22,6 +22,7 @@ use Rattle.std.specs.Prelude.{ℤ, ◌<ℤ◌, ◌≤ℤ◌, int_lt, int_le, Opt
 use Rattle.std.specs.List.{AllByRecursion}
 use Rattle.std.proofs.lemmas.Int.{ints}
 use Rattle.std.proofs.lemmas.List.Elements.{All-from_recursion}
+use Rattle.keys.proofs.callers.Numbers.{not_less}
 use Rattle.keyspace.specs.declared.batch.Batch.{Batch}
 use Rattle.keyspace.specs.Processed.{version_of}
 use Rattle.keyspace.specs.Found.{found}
@@ -60,9 +61,6 @@ IsLeast hs (Some l) = (length hs ≡ suc (length l.1)) × AllFrom l.0.1.previous
 all_from_less : (a b : ℤ) (hs : List Held) → a ≤ℤ b → AllFrom b hs → AllFrom a hs
 all_from_less a b [] h k = tt
 all_from_less a b (x ∷ xs) h k = (let p = k.0 in grind (arith, ints), all_from_less a b xs h k.1)
-
-not_less : (a b : ℤ) → int_lt a b ≡ false → b ≤ℤ a
-not_less a b h = grind (arith, ints)
 
 less : (a b : ℤ) → int_lt a b ≡ true → a ≤ℤ b
 less a b h = grind (arith, ints)

@@ -3,7 +3,7 @@ use Rattle.std.specs.Prelude.{◌≡◌, ℕ, zero, suc, ◌<◌, ◌+◌, List,
 use Rattle.std.specs.List.{All, flat_map, enumerate_from}
 use Rattle.std.proofs.Common.{refl, ap, ◌∙◌, arith}
 use Rattle.std.specs.Io.KnownBytes.{Appends, Keeps}
-use Rattle.wire.proofs.Given.{appends_nothing}
+use Rattle.wire.proofs.callers.Given.{appends_nothing}
 use Rattle.player.specs.declared.failures.ProxyFailure.{ProxyFailure}
 use Rattle.player.specs.declared.failures.Ending.{Ending}
 use Rattle.player.specs.Failures.{

@@ -11,7 +11,7 @@ use Rattle.resolver.specs.declared.turn.Turn.TheVariants as turn
 use Rattle.resolver.specs.Books.{Books, Given, GoOn, StopsAtLimit}
 use Rattle.resolver.specs.Lanes.{sent_to}
 use Rattle.resolver.specs.Resolver.{ResolverState, StandsOver, TakesFrom, Finishes, TakesNoStep, StepsBy}
-use Rattle.resolver.proofs.Standing.{AreOf-standing}
+use Rattle.resolver.proofs.callers.Standing.{AreOf-standing}
 use Rattle.player.specs.Stops.{FillsArena, IsStopOf, IsAccountedFor}
 
 pub books_go_on : (a b c : Books) → GoOn a b → GoOn b c → GoOn a c

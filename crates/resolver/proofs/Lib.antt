@@ -1,3 +1,4 @@
+pub mod callers
 pub mod Queues
 pub mod Answered
 pub mod Kept
@@ -26,6 +27,4 @@ pub mod Settling
 pub mod Unchanged
 pub mod Accounts
 pub mod Shares
-pub mod Later
-pub mod TwoProxies
 pub mod NewBooks

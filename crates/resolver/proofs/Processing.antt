@@ -26,7 +26,7 @@ use Rattle.keyspace.specs.Judged.{edge}
 use Rattle.keyspace.specs.Judge.{judge}
 use Rattle.keyspace.specs.Processed.{Processed}
 use Rattle.keyspace.specs.Run.{State, answer, process}
-use Rattle.keyspace.proofs.Chaining.{version_of-more, writes-more}
+use Rattle.keyspace.proofs.callers.Chains.{version_of-more, writes-more}
 use Rattle.chain.specs.Replies.{reply_of}
 use Rattle.conflict.specs.ConflictSet.{Remembers, IsOverLimit}
 use Rattle.resolver.specs.Owed.{owed_also}

@@ -41,8 +41,7 @@ use Rattle.keyspace.specs.Processed.{version_of}
 use Rattle.keyspace.specs.Leaving.{Held, next_due}
 use Rattle.keyspace.specs.Laws.{held_of}
 use Rattle.keyspace.specs.Run.{Step, Take, hold, admit, leave_all, run}
-use Rattle.keyspace.proofs.Answered.{each_is_answered}
-use Rattle.keyspace.proofs.Waiting.{run_quiet, next_due_leaves}
+use Rattle.keyspace.proofs.callers.Chains.{each_is_answered, run_quiet, next_due_leaves}
 use Rattle.lane.specs.Lane.{Lane}
 use Rattle.resolver.specs.declared.client.Client.{Client}
 use Rattle.resolver.specs.Owed.{owed_to}

@@ -8,4 +8,3 @@ pub mod Resolver
 pub mod Share
 pub mod Links
 pub mod Settled
-pub mod Served

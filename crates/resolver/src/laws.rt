@@ -1,16 +1,13 @@
 //! Laws about the definitions of the headline and of shares. Each is the contract of a function with an empty body.
 
 ghost use Rattle.std.specs.Prelude.{◌≡◌, ◌≤◌, ◌↔◌, ℕ, ℤ, Bool, List, [], Some, length, slice_get};
-ghost use Rattle.keyspace.specs.declared.batch.Batch.{Batch};
 ghost use Rattle.keyspace.specs.Run.{Step, part};
 ghost use Rattle.lane.specs.Lane.{Lane};
 ghost use Rattle.resolver.specs.declared.client.Client.{Client};
-ghost use Rattle.resolver.specs.declared.serving.Served.{Served};
 ghost use Rattle.resolver.specs.declared.turn.Account.{Account};
 ghost use Rattle.resolver.specs.Lanes.{Lanes};
 ghost use Rattle.resolver.specs.Resolver.{ResolverState, TakesOnlyFrom, StandsOver};
 ghost use Rattle.resolver.specs.Share.{HasMoreUnanswered, KeepsShare};
-ghost use Rattle.resolver.specs.Served.{AreServed};
 ghost use Rattle.resolver.specs.Settled.{Settled};
 
 /// The logs of the headline hold no batch of a proxy without a client: of no other is a batch taken, judged or answered.
@@ -22,8 +19,6 @@ pub fn no_other_proxy()
     ensures settled { (window : ℤ) (log : List Step) (ended : List Bool) (clients : List Client) (account : Account)
         → Settled window log ended clients account
         → (proxy : ℕ) → length clients ≤ proxy → part log proxy ≡ [] }
-    ensures served { (window : ℤ) (log : List Step) (first second : Batch) (served : Served)
-        → AreServed window log first second served → (proxy : ℕ) → 2 ≤ proxy → part log proxy ≡ [] }
 {}
 
 /// A client that keeps its share is never one that a full gate shows to have more unanswered.

@@ -7,9 +7,6 @@
 //! answers. With all clients back in one hand, [`Resolver::settle`] says what each of them has sent and received, beside the
 //! reference resolver. The definitions are `StandsOver`, in `specs/Resolver.antt`, and `Settled`, in `specs/Settled.antt`.
 //!
-//! [`serve_two`] shows them used: it serves two proxies in one thread, and its contract says in the reference resolver's words
-//! what they received. The definition is `AreServed`, in `specs/Served.antt`.
-//!
 //! [`share`] is the share of each proxy in what the resolver holds. While no client has more batches sent without an answer, no turn
 //! answers `GateFull`. The definitions are in `specs/Share.antt`.
 //!
@@ -26,7 +23,6 @@ mod opening;
 mod over_lanes;
 mod owed;
 mod sequential;
-mod serving;
 mod sharing;
 mod stop;
 mod turn;
@@ -35,7 +31,6 @@ pub use client::Client;
 pub use opening::open;
 pub use over_lanes::Resolver;
 pub use sequential::{Core, MAX_PROXIES};
-pub use serving::{Served, serve_two};
 pub use sharing::share;
 pub use stop::{OpenError, Stop};
 pub use turn::{Account, Turn};

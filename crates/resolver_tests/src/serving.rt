@@ -2,10 +2,11 @@
 
 use fixtures::{Unmade, batch, show_answer};
 use keyspace::Answer;
-use resolver::{OpenError, serve_two};
+use resolver::OpenError;
 use std::alloc::Global;
 use std::process::Abort;
 use std::test::Fail;
+use uses::serve_two;
 
 fn push_answers(alloc: Global, text: &mut String, answers: &[Answer]) -> Result<(), Unmade> {
     for answer in answers {

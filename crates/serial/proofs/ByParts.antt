@@ -33,7 +33,7 @@ use Rattle.keys.specs.Key.{IsBytes, is_before}
 use Rattle.keyspace.specs.Processed.{Processed}
 use Rattle.keyspace.specs.Writes.{writes, earlier}
 use Rattle.keyspace.specs.Chain.{IsChain}
-use Rattle.keys.proofs.Booleans.{and_both, false_unless, true_or_false, not_both_ways}
+use Rattle.keys.proofs.callers.Booleans.{and_both, false_unless, true_or_false, not_both_ways}
 use Rattle.serial.specs.Serial.{
   IsCommitted,
   before,

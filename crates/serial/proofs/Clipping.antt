@@ -41,7 +41,7 @@ use Rattle.keyspace.specs.declared.reply.Entry.{Entry}
 use Rattle.keys.specs.Key.{IsBytes}
 use Rattle.keyspace.specs.Processed.{Processed}
 use Rattle.keyspace.specs.Writes.{at_version, counted, committed, writes, writes_of}
-use Rattle.keys.proofs.Booleans.{and_left, and_right, and_both, or_either, or_left, or_right}
+use Rattle.keys.proofs.callers.Booleans.{and_left, and_right, and_both, or_either, or_left, or_right}
 use Rattle.serial.specs.Serial.{
   holds,
   in_ranges,

@@ -2,8 +2,8 @@
 use Rattle.std.proofs.Common.{◌≡◌, ℕ, zero, suc, true, not, List, [], ◌∷◌, refl, ap, inl, inr}
 use Rattle.std.specs.Prelude.{Option, Some, None, IsTrue, IsSomeAnd, slice_get}
 use Rattle.keys.specs.Key.{is_before, IsBefore, IsAtMost}
-use Rattle.keys.proofs.Booleans.{and_left, and_right, and_both}
-use Rattle.keys.proofs.KeyOrder.{before_at_most, before_or_at_most, not_both, before_at_most_same}
+use Rattle.keys.proofs.callers.Booleans.{and_left, and_right, and_both}
+use Rattle.keys.proofs.callers.KeyOrder.{before_at_most, before_or_at_most, not_both, before_at_most_same}
 use Rattle.serial.specs.Serial.{Part, ends_above, has_key, parts_from, IsRising, IsInOne, OnePartEach}
 
 -- a part stands at this index, and has the key

@@ -38,7 +38,7 @@ use Rattle.keyspace.specs.Processed.{Processed}
 use Rattle.keyspace.specs.Writes.{Write, writes, earlier}
 use Rattle.keyspace.specs.Judged.{IsInConflict, HasVerdict, edge}
 use Rattle.keyspace.specs.Chain.{IsChain}
-use Rattle.keys.proofs.Booleans.{and_left, and_right, false_unless}
+use Rattle.keys.proofs.callers.Booleans.{and_left, and_right, false_unless}
 use Rattle.serial.specs.Serial.{IsCommitted, holds, in_ranges, Current}
 use Rattle.serial.proofs.Holding.{is_above, written_above, current_from_tests}
 

@@ -30,7 +30,7 @@ use Rattle.std.proofs.lemmas.Int.{ints}
 use Rattle.std.proofs.lemmas.Bool.{cases_lt}
 use Rattle.keyspace.specs.Processed.{Processed, version_of}
 use Rattle.keyspace.specs.Chain.{IsChain}
-use Rattle.keyspace.proofs.Chaining.{version_of-more}
+use Rattle.keyspace.proofs.callers.Chains.{version_of-more}
 use Rattle.serial.proofs.Reading.{split_at}
 
 -- the first n elements and one more are the first n, and the one

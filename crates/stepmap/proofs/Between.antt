@@ -48,8 +48,8 @@ use Rattle.tree.specs.Tree.{Items}
 use Rattle.keys.specs.Key.{IsBytes, is_before, IsBefore}
 use Rattle.keys.specs.Range.{Holds, IsEmpty}
 use Rattle.keys.specs.declared.range.Range.{Range}
-use Rattle.keys.proofs.KeyOrder.{at_most_before, before_at_most_same, before_trans}
-use Rattle.keys.proofs.Booleans.{true_or_false}
+use Rattle.keys.proofs.callers.KeyOrder.{at_most_before, before_at_most_same, before_trans}
+use Rattle.keys.proofs.callers.Booleans.{true_or_false}
 use Rattle.stepmap.specs.Boundary.{Boundary, AreBoundaries, AreInOrder, value_at, last_version, below, from_on}
 use Rattle.stepmap.specs.Indexes.{up_to, after}
 use Rattle.stepmap.specs.Cut.{passes_at, slot_passes}
@@ -60,7 +60,7 @@ use Rattle.stepmap.proofs.Parting.{parted}
 use Rattle.stepmap.proofs.Values.{parted_below}
 use Rattle.stepmap.proofs.IndexFound.{up_to_falls, value_up_to}
 use Rattle.stepmap.proofs.WritingValues.{begins_before_end}
-use Rattle.keys.proofs.SomeElement.{Any-map}
+use Rattle.keys.proofs.callers.SomeElement.{Any-map}
 use Rattle.stepmap.proofs.Cutting.{slot_passes_live}
 use Rattle.stepmap.proofs.LastFound.{parted_up_to, some_of_all}
 use Rattle.stepmap.proofs.GreatestFound.{

@@ -6,13 +6,13 @@ use Rattle.std.proofs.lemmas.List.{map-append, length-map, append-nil}
 use Rattle.std.proofs.lemmas.List.Elements.{All-weaker, All-map, All-filter, filter-append, filter_passes}
 use Rattle.arena.specs.Arena.{Arena, Record, IsLive, record_at}
 use Rattle.keys.specs.Key.{is_before, IsBefore}
-use Rattle.keys.proofs.Booleans.{and_left, and_right, false_unless, not_both_ways}
-use Rattle.keys.proofs.KeyOrder.{before_trans}
+use Rattle.keys.proofs.callers.Booleans.{and_left, and_right, false_unless, not_both_ways}
+use Rattle.keys.proofs.callers.KeyOrder.{before_trans}
 use Rattle.tree.specs.declared.entry.Entry.{Entry}
 use Rattle.tree.specs.Item.{Item, item_of}
 use Rattle.tree.specs.Path.{IsCut, passing, behind, between}
 use Rattle.tree.specs.Tree.{Items}
-use Rattle.tree.proofs.Cuts.{All-front, not_true, IsCut-parts}
+use Rattle.tree.proofs.callers.Cuts.{All-front, not_true, IsCut-parts}
 use Rattle.stepmap.specs.Boundary.{Boundary, AreInOrder, RiseFrom, from_on}
 use Rattle.stepmap.specs.Cut.{passes_at, slot_passes}
 use Rattle.stepmap.specs.Stored.{boundary_of, boundaries_of, IsStored}

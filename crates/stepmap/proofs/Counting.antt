@@ -25,8 +25,8 @@ use Rattle.std.proofs.lemmas.List.Elements.{filter-append}
 use Rattle.keys.specs.Key.{is_before, IsBefore}
 use Rattle.keys.specs.Range.{IsEmpty}
 use Rattle.keys.specs.declared.range.Range.{Range}
-use Rattle.keys.proofs.KeyOrder.{before_trans}
-use Rattle.keys.proofs.Booleans.{true_or_false}
+use Rattle.keys.proofs.callers.KeyOrder.{before_trans}
+use Rattle.keys.proofs.callers.Booleans.{true_or_false}
 use Rattle.stepmap.specs.Boundary.{Boundary, value_at, below, from_on}
 use Rattle.stepmap.specs.Writing.{closed_at, written}
 use Rattle.stepmap.proofs.WritingValues.{begins_before_end}

@@ -6,9 +6,9 @@ use Rattle.std.proofs.lemmas.List.Quantifiers.{Any-push}
 use Rattle.keys.specs.Range.{Holds}
 use Rattle.keyspace.specs.Writes.{Write}
 use Rattle.keys.specs.declared.range.Range.{Range}
-use Rattle.keys.proofs.KeyOrder.{before_or_at_most, not_both}
+use Rattle.keys.proofs.callers.KeyOrder.{before_or_at_most, not_both}
 use Rattle.stepmap.specs.Covers.{SameFrom, Covers}
-use Rattle.keys.proofs.SomeElement.{Any-longer, Any-push_cases}
+use Rattle.keys.proofs.callers.SomeElement.{Any-longer, Any-push_cases}
 
 pub covers_same : (f g : List ℕ → ℤ) (ws : List Write) (edge : ℤ) → SameFrom edge f g → Covers f ws edge
     → Covers g ws edge

@@ -9,9 +9,9 @@ use Rattle.arena.specs.Arena.{Arena, Record, IsLive, record_at, key_at}
 use Rattle.tree.specs.Item.{Item}
 use Rattle.tree.specs.Path.{IsCut, passing, behind}
 use Rattle.tree.specs.Tree.{Items}
-use Rattle.tree.proofs.Cuts.{none_pass}
-use Rattle.keys.proofs.KeyOrder.{before_trans, is_le-cmp}
-use Rattle.keys.proofs.Booleans.{true_or_false, false_unless, not_both_ways}
+use Rattle.tree.proofs.callers.Cuts.{none_pass}
+use Rattle.keys.proofs.callers.KeyOrder.{before_trans, is_le-cmp}
+use Rattle.keys.proofs.callers.Booleans.{true_or_false, false_unless, not_both_ways}
 use Rattle.stepmap.specs.Boundary.{Boundary, RiseFrom}
 use Rattle.stepmap.specs.Cut.{passes_at, slot_passes}
 use Rattle.stepmap.specs.Stored.{bytes_at, boundary_of, boundaries_of, IsStored}

@@ -12,7 +12,7 @@ use Rattle.tree.specs.declared.entry.Entry.{Entry}
 use Rattle.tree.specs.Item.{Item, item_of}
 use Rattle.tree.specs.Path.{passing, behind, between}
 use Rattle.tree.specs.Tree.{Items}
-use Rattle.tree.proofs.Times.{times, times_if_contains, once_if_distinct, distinct_if_once, none_or_some}
+use Rattle.tree.proofs.callers.Times.{times, times_if_contains, once_if_distinct, distinct_if_once, none_or_some}
 use Rattle.stepmap.specs.Boundary.{AreInOrder, below, from_on}
 use Rattle.stepmap.specs.Cut.{slot_passes}
 use Rattle.stepmap.specs.Stored.{boundaries_of, IsStored}

@@ -6,8 +6,8 @@ use Rattle.std.proofs.lemmas.Int.{ints}
 use Rattle.std.proofs.lemmas.List.Elements.{All-head, All-tail, All-filter, filter_passes, All-weaker}
 use Rattle.keys.specs.Key.{is_before, IsBefore}
 use Rattle.keyspace.specs.Writes.{Write}
-use Rattle.keys.proofs.KeyOrder.{not_before_itself, at_most_antisym}
-use Rattle.keys.proofs.Booleans.{true_or_false, not_both_ways, or_right, and_both}
+use Rattle.keys.proofs.callers.KeyOrder.{not_before_itself, at_most_antisym}
+use Rattle.keys.proofs.callers.Booleans.{true_or_false, not_both_ways, or_right, and_both}
 use Rattle.stepmap.specs.Boundary.{Boundary, AreBoundaries}
 use Rattle.stepmap.specs.Rooted.{IsEndOf, Ends}
 use Rattle.keys.specs.Range.{is_filled}
@@ -22,7 +22,7 @@ use Rattle.stepmap.proofs.Order.{
 }
 use Rattle.stepmap.proofs.WritingValues.{begins_before_end}
 use Rattle.stepmap.proofs.Rooting.{OneEnd}
-use Rattle.keys.proofs.SomeElement.{Any-cases, Any-none}
+use Rattle.keys.proofs.callers.SomeElement.{Any-cases, Any-none}
 
 -- whether the boundary is at another key
 abbrev is_elsewhere : List ℕ → Boundary → Bool

@@ -1,20 +1,16 @@
 -- What the filter tells, and that it goes on telling where a step map changes.
-use Rattle.std.proofs.Common.{◌≡◌, ℕ, false, List, inl, inr, sym, subst, arith}
-use Rattle.std.specs.Prelude.{ℤ, negsuc, ◌≤ℤ◌, ◌<ℤ◌, int_lt}
+use Rattle.std.proofs.Common.{◌≡◌, ℕ, List, inl, inr, sym, subst, arith}
+use Rattle.std.specs.Prelude.{ℤ, negsuc, ◌≤ℤ◌, ◌<ℤ◌}
 use Rattle.std.proofs.lemmas.Int.{ints}
 use Rattle.filter.specs.Filter.{FilterState, bound}
 use Rattle.keys.specs.Range.{Holds}
 use Rattle.keys.specs.declared.range.Range.{Range}
-use Rattle.keys.proofs.KeyOrder.{not_both, before_or_at_most}
+use Rattle.keys.proofs.callers.KeyOrder.{not_both, before_or_at_most}
 use Rattle.stepmap.specs.Boundary.{value_at}
 use Rattle.stepmap.specs.StepMap.{Steps}
 use Rattle.stepmap.specs.Covers.{SameFrom, IsAbove}
 use Rattle.stepmap.specs.Filtering.{FilterTells, IsSingle}
 use Rattle.stepmap.proofs.SingleKeys.{single_holds}
-
--- what isn't less is as much or more
-pub not_less : (x y : ℤ) → int_lt x y ≡ false → y ≤ℤ x
-not_less x y h = grind (arith, ints)
 
 -- the function isn't above a number at a single key whose bound isn't
 pub not_above : (f : FilterState) (m : Steps) (range : Range) (s : ℤ) → FilterTells f m → m.edge ≤ℤ s

@@ -49,14 +49,14 @@ use Rattle.std.proofs.lemmas.List.Elements.{
 use Rattle.keys.specs.Key.{IsBytes, IsKey, is_before, IsBefore}
 use Rattle.keys.specs.Range.{Holds, IsEmpty}
 use Rattle.keys.specs.declared.range.Range.{Range}
-use Rattle.keys.proofs.KeyOrder.{
+use Rattle.keys.proofs.callers.KeyOrder.{
   at_most_before,
   at_most_trans,
   before_at_most_same,
   at_most_itself,
   not_before_itself,
 }
-use Rattle.keys.proofs.Booleans.{true_or_false}
+use Rattle.keys.proofs.callers.Booleans.{true_or_false}
 use Rattle.stepmap.specs.Boundary.{
   Boundary,
   AreBoundaries,
@@ -68,7 +68,7 @@ use Rattle.stepmap.specs.Boundary.{
   from_on,
 }
 use Rattle.stepmap.specs.Indexes.{up_to, after}
-use Rattle.keys.proofs.KeyOrder.{not_before_if}
+use Rattle.keys.proofs.callers.KeyOrder.{not_before_if}
 use Rattle.stepmap.proofs.Order.{Rising, rising_from, rising_in_order, rising_filter, rise_above}
 use Rattle.stepmap.proofs.Values.{
   FirstAfter,
@@ -79,7 +79,7 @@ use Rattle.stepmap.proofs.Values.{
   value_has,
 }
 use Rattle.stepmap.proofs.WritingValues.{begins_before_end}
-use Rattle.keys.proofs.SomeElement.{Any-first, Any-later}
+use Rattle.keys.proofs.callers.SomeElement.{Any-first, Any-later}
 use Rattle.stepmap.proofs.Replacing.{filter_shorter, index_is}
 
 -- the value at a boundary's own key is its version

@@ -35,10 +35,10 @@ use Rattle.std.specs.List.Sorted.{IsPartitionPoint}
 use Rattle.std.proofs.lemmas.Bool.{ne_eqb}
 use Rattle.std.proofs.lemmas.List.Elements.{filter_passes, All-weaker, All-head}
 use Rattle.keys.specs.Key.{is_before}
-use Rattle.keys.proofs.KeyOrder.{before_at_most, before_at_most_same}
+use Rattle.keys.proofs.callers.KeyOrder.{before_at_most, before_at_most_same}
 use Rattle.stepmap.specs.Boundary.{Boundary, AreInOrder, last_version, value_at}
 use Rattle.stepmap.specs.Indexes.{up_to, after}
-use Rattle.keys.proofs.KeyOrder.{not_before_if}
+use Rattle.keys.proofs.callers.KeyOrder.{not_before_if}
 use Rattle.stepmap.proofs.Order.{not_before_empty}
 use Rattle.stepmap.proofs.Looking.{not_not}
 use Rattle.stepmap.proofs.Parting.{FallsAlongKeys, parted_at}

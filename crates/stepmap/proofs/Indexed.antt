@@ -8,7 +8,7 @@ use Rattle.keys.specs.Key.{IsBytes}
 use Rattle.tree.specs.Hints.{KeyBytes, Hint, IsHinted, AreHinted, IsKnown, Begins, digest_at, digest_behind}
 use Rattle.tree.specs.Item.{Item}
 use Rattle.tree.specs.Tree.{Items, hints_in, KnowItems}
-use Rattle.tree.proofs.Hinted.{all_known, hinted_kept}
+use Rattle.tree.proofs.callers.Hints.{all_known, hinted_kept}
 use Rattle.stepmap.specs.Stored.{AreIndexed}
 use Rattle.stepmap.proofs.Placed.{IsPlaced}
 use Rattle.stepmap.proofs.PlacedKeys.{Placed, ArePlaced, live_apart, live_by_key}

@@ -27,14 +27,14 @@ use Rattle.std.specs.Prelude.{ℤ, All, Any}
 use Rattle.std.proofs.lemmas.List.Elements.{All-head, All-tail, All-cons, All-nil, All-weaker, filter_passes}
 use Rattle.std.proofs.lemmas.Bool.{ne_eqb}
 use Rattle.keys.specs.Key.{is_before, IsBefore}
-use Rattle.keys.proofs.KeyOrder.{before_at_most_same, before_or_same}
-use Rattle.keys.proofs.Booleans.{true_or_false, not_both_ways}
+use Rattle.keys.proofs.callers.KeyOrder.{before_at_most_same, before_or_same}
+use Rattle.keys.proofs.callers.Booleans.{true_or_false, not_both_ways}
 use Rattle.stepmap.specs.Boundary.{Boundary, RiseFrom, AreInOrder, below}
 use Rattle.stepmap.specs.Indexes.{up_to, after}
-use Rattle.keys.proofs.KeyOrder.{not_before_if}
+use Rattle.keys.proofs.callers.KeyOrder.{not_before_if}
 use Rattle.stepmap.proofs.Order.{Rising, rise_above, rising_in_order, rising_filter}
 use Rattle.stepmap.proofs.Looking.{filter_yes, filter_no}
-use Rattle.keys.proofs.SomeElement.{Any-first, Any-later}
+use Rattle.keys.proofs.callers.SomeElement.{Any-first, Any-later}
 use Rattle.stepmap.proofs.WritingOrder.{join_in_order}
 
 -- the boundaries with one at the key that has this version, in place of what stood there

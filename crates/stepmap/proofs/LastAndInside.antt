@@ -7,7 +7,7 @@ use Rattle.arena.specs.Arena.{Arena}
 use Rattle.tree.specs.Item.{Item}
 use Rattle.tree.specs.Path.{passing, between, from_last}
 use Rattle.tree.specs.Tree.{Items, IsLast}
-use Rattle.tree.proofs.FromLast.{last_and_between}
+use Rattle.tree.proofs.callers.Lists.{last_and_between}
 use Rattle.keys.specs.Key.{IsBytes}
 use Rattle.keys.specs.Range.{Holds, IsEmpty}
 use Rattle.keys.specs.declared.range.Range.{Range}
@@ -17,7 +17,7 @@ use Rattle.stepmap.specs.Stored.{boundary_of, boundaries_of, IsStored}
 use Rattle.stepmap.proofs.Between.{nested, between_inside, above_by_begin, above_by_inside, inside_if_above}
 use Rattle.stepmap.proofs.Cutting.{stored_cut}
 use Rattle.stepmap.proofs.LastFound.{some_passes, last_boundary, value_of_last}
-use Rattle.keys.proofs.SomeElement.{Any-first, Any-later, Any-cases, Any-map, Any-unmap}
+use Rattle.keys.proofs.callers.SomeElement.{Any-first, Any-later, Any-cases, Any-map, Any-unmap}
 use Rattle.stepmap.proofs.Thinned.{lt_from_test, le_from_test}
 use Rattle.stepmap.proofs.WritingValues.{begins_before_end}
 

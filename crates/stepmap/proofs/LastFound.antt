@@ -28,20 +28,20 @@ use Rattle.arena.specs.Arena.{Arena, IsLive}
 use Rattle.tree.specs.Item.{Item}
 use Rattle.tree.specs.Path.{passing}
 use Rattle.tree.specs.Tree.{Items, IsLast}
-use Rattle.tree.proofs.Cuts.{All-back}
+use Rattle.tree.proofs.callers.Cuts.{All-back}
 use Rattle.keys.specs.Key.{is_before, IsBefore}
-use Rattle.keys.proofs.KeyOrder.{not_before_itself}
-use Rattle.keys.proofs.Booleans.{not_both_ways}
+use Rattle.keys.proofs.callers.KeyOrder.{not_before_itself}
+use Rattle.keys.proofs.callers.Booleans.{not_both_ways}
 use Rattle.stepmap.specs.Boundary.{Boundary, AreInOrder, value_at, last_version}
 use Rattle.stepmap.specs.Indexes.{up_to, after}
 use Rattle.stepmap.specs.Cut.{passes_at, slot_passes}
 use Rattle.stepmap.specs.Stored.{boundary_of, boundaries_of, IsStored}
-use Rattle.keys.proofs.KeyOrder.{not_before_if}
+use Rattle.keys.proofs.callers.KeyOrder.{not_before_if}
 use Rattle.stepmap.proofs.Order.{Rising, rising_in_order, rise_middle}
 use Rattle.stepmap.proofs.Looking.{not_not}
 use Rattle.stepmap.proofs.Parting.{parted}
 use Rattle.stepmap.proofs.IndexFound.{up_to_empty, up_to_falls, value_up_to}
-use Rattle.keys.proofs.SomeElement.{Any-right, Any-first, Any-parts, Any-push_cases}
+use Rattle.keys.proofs.callers.SomeElement.{Any-right, Any-first, Any-parts, Any-push_cases}
 use Rattle.stepmap.proofs.Cutting.{stored_cut}
 
 -- the version of the last boundary counts

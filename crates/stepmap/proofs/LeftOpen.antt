@@ -2,13 +2,14 @@
 use Rattle.std.proofs.Common.{◌≡◌, ℕ, zero, suc, ◌+◌, ◌<◌, ◌≤◌, ℤ, Bool, true, false, cond, List, [], ◌∷◌, ◌++◌, length, take, drop, refl, sym, ◌∙◌, ap, subst, arith, append-nil, drop_of_length-le, length-append, length-drop, length-take, map}
 use Rattle.std.specs.Prelude.{◌↔◌, IsTrue, IsSomeAnd, Some, count_by, slice_get}
 use Rattle.std.specs.List.{All, AllZip}
-use Rattle.std.proofs.Math.Seq.{take-suc, take-add}
+use Rattle.std.proofs.Math.Seq.{take-add}
 use Rattle.std.proofs.lemmas.List.{take_all, get_or-drop, get_or-take, length-take-le}
 use Rattle.std.proofs.lemmas.List.Sums.{sum_by-cons}
 use Rattle.std.proofs.lemmas.Option.{get_or_from_slice_get, slice_get-get_or, slice_get_within}
 use Rattle.std.proofs.lemmas.Slice.Zip.{AllZip-long, all_zipped_more}
 use Rattle.keys.specs.Range.{IsEmpty}
 use Rattle.keys.specs.declared.range.Range.{Range}
+use Rattle.keys.proofs.callers.Lists.{part_more}
 use Rattle.stepmap.specs.Covers.{IsAbove}
 use Rattle.stepmap.specs.Filtering.{left_of, with_told, AreMarked}
 use Rattle.stepmap.specs.StepMap.{Steps}
@@ -58,16 +59,6 @@ left_of_more (p ∷ queries) [] q mark same = absurd (omega (arith, same))
 left_of_more (p ∷ queries) (false ∷ marks) q mark same = left_of_more queries marks q mark (omega (arith, same))
 left_of_more (p ∷ queries) (true ∷ marks) q mark same =
     ap (λ rest. p ∷ rest) (left_of_more queries marks q mark (omega (arith, same)))
-
--- the query behind so many is the next one of the part
-pub part_more : {X : Type 0} (xs : List X) (from n : ℕ) (x : X) → slice_get xs (from + n) ≡ Some x
-    → take (n + 1) (drop from xs) ≡ take n (drop from xs) ++ x ∷ []
-part_more xs from n x is =
-    let within = slice_get_within xs (from + n) x is in
-    let inside : n < length (drop from xs) = omega (arith, within, length-drop from xs) in
-    let more : n + 1 ≡ suc n = omega arith in
-    ap (λ k. take k (drop from xs)) more ∙ take-suc (drop from xs) n x inside
-    ∙ ap (λ y. take n (drop from xs) ++ y ∷ []) (get_or-drop from xs n x ∙ get_or_from_slice_get xs (from + n) x x is)
 
 module _ (m : Steps) (queries : List (Range × ℤ)) (from : ℕ) where
   -- none is marked yet

@@ -1,3 +1,4 @@
+pub mod callers
 pub mod InTurn
 pub mod Order
 pub mod Parting

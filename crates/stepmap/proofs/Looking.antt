@@ -25,8 +25,8 @@ use Rattle.std.specs.Prelude.{ℤ, All}
 use Rattle.std.proofs.lemmas.List.Elements.{All-head, All-tail, All-cons, All-nil, filter-append}
 use Rattle.keys.specs.Key.{is_before, IsBefore}
 use Rattle.keyspace.specs.Writes.{Write}
-use Rattle.keys.proofs.KeyOrder.{before_trans, at_most_before, before_at_most_same, not_before_itself}
-use Rattle.keys.proofs.Booleans.{
+use Rattle.keys.proofs.callers.KeyOrder.{before_trans, at_most_before, before_at_most_same, not_before_itself}
+use Rattle.keys.proofs.callers.Booleans.{
   true_or_false,
   and_left,
   and_right,
@@ -37,7 +37,7 @@ use Rattle.keys.proofs.Booleans.{
 use Rattle.stepmap.specs.Boundary.{Boundary, RiseFrom, below}
 use Rattle.stepmap.specs.Sweeping.{is_left, left_from, passed_to}
 use Rattle.stepmap.specs.Rooted.{IsEndOf, Ends}
-use Rattle.keys.proofs.KeyOrder.{not_before_if}
+use Rattle.keys.proofs.callers.KeyOrder.{not_before_if}
 use Rattle.stepmap.proofs.Order.{Rising, rise_above, not_before_empty, empty_unless_after}
 use Rattle.stepmap.proofs.Parting.{FallsAlongKeys, parted}
 

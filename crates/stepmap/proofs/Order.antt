@@ -21,8 +21,8 @@ use Rattle.std.proofs.Common.{
 use Rattle.std.specs.Prelude.{All}
 use Rattle.std.proofs.lemmas.List.Elements.{All-head, All-tail, All-cons, All-nil}
 use Rattle.keys.specs.Key.{is_before, IsBefore, IsAtMost}
-use Rattle.keys.proofs.KeyOrder.{before_trans}
-use Rattle.keys.proofs.Booleans.{not_both_ways}
+use Rattle.keys.proofs.callers.KeyOrder.{before_trans}
+use Rattle.keys.proofs.callers.Booleans.{not_both_ways}
 use Rattle.stepmap.specs.Boundary.{Boundary, RiseFrom, AreInOrder}
 
 -- no key comes before the empty one

@@ -27,7 +27,7 @@ use Rattle.std.proofs.Common.{
 }
 use Rattle.std.specs.List.Sorted.{IsPartitionedBy, IsPartitionPoint}
 use Rattle.keys.specs.Key.{IsBefore}
-use Rattle.keys.proofs.Booleans.{true_or_false, false_unless, not_both_ways}
+use Rattle.keys.proofs.callers.Booleans.{true_or_false, false_unless, not_both_ways}
 use Rattle.stepmap.specs.Boundary.{Boundary, RiseFrom}
 use Rattle.stepmap.proofs.Order.{Rising, rising_from, rise_above}
 

@@ -9,7 +9,7 @@ use Rattle.tree.specs.Item.{Item, item_of}
 use Rattle.tree.specs.Path.{IsCut, passing, behind, first_key as first_slot}
 use Rattle.tree.specs.Tree.{Items, IsLast}
 use Rattle.keys.specs.Key.{is_before}
-use Rattle.keys.proofs.Booleans.{true_or_false}
+use Rattle.keys.proofs.callers.Booleans.{true_or_false}
 use Rattle.stepmap.specs.Boundary.{Boundary, AreInOrder, last_version}
 use Rattle.stepmap.specs.Cut.{passes_at, slot_passes}
 use Rattle.stepmap.specs.Stored.{bytes_at, boundary_of, boundaries_of, IsStored, first_key}

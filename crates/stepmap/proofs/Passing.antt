@@ -25,7 +25,7 @@ use Rattle.std.proofs.Common.{
 use Rattle.std.specs.Prelude.{ℤ, All, Option, Some, None, unwrap_or}
 use Rattle.std.proofs.lemmas.List.Elements.{All-head, All-drop, All-weaker, filter_passes}
 use Rattle.keys.specs.Key.{is_before}
-use Rattle.keys.proofs.Booleans.{and_left}
+use Rattle.keys.proofs.callers.Booleans.{and_left}
 use Rattle.stepmap.specs.Boundary.{Boundary}
 use Rattle.stepmap.specs.StepMap.{Round, Steps}
 use Rattle.stepmap.specs.Stored.{first_key}

@@ -54,7 +54,7 @@ use Rattle.arena.specs.Arena.{Arena, Record, IsLive, record_at}
 use Rattle.tree.specs.Item.{Item}
 use Rattle.tree.specs.Path.{passing, behind}
 use Rattle.tree.specs.Tree.{Items}
-use Rattle.tree.proofs.Times.{times, once, once_cases, times-append, once_if_distinct, distinct_if_once}
+use Rattle.tree.proofs.callers.Times.{times, once, once_cases, times-append, once_if_distinct, distinct_if_once}
 use Rattle.keys.specs.Key.{is_before}
 use Rattle.stepmap.specs.Boundary.{Boundary, AreInOrder, below}
 use Rattle.stepmap.specs.Indexes.{up_to, after}

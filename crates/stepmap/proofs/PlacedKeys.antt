@@ -11,7 +11,7 @@ use Rattle.std.proofs.lemmas.List.Elements.{All-head, All-tail, All-cons, All-ni
 use Rattle.arena.specs.Arena.{Arena, Record, IsLive, record_at, key_at, spare_of, size_of, slots_of, wanted_of}
 use Rattle.tree.specs.Item.{Item}
 use Rattle.tree.specs.Tree.{Items}
-use Rattle.tree.proofs.Times.{times, once, once_same, once_cases, times-append, none_or_some}
+use Rattle.tree.proofs.callers.Times.{times, once, once_same, once_cases, times-append, none_or_some}
 use Rattle.stepmap.specs.Boundary.{Boundary, AreInOrder}
 use Rattle.stepmap.specs.Stored.{boundaries_of, IsStored}
 use Rattle.stepmap.proofs.Placed.{IsPlaced, is_placed, SameRecords, boundaries_same, none_is_not_live}

@@ -2,7 +2,7 @@
 use Rattle.std.proofs.Common.{◌≡◌, ℕ, ◌+◌, ◌*◌, ◌≤◌, ◌<◌, true, false, List, length, refl, sym, ◌∙◌, ap, subst, inl, inr, arith, tests}
 use Rattle.std.specs.Prelude.{ℤ, nat_le, None}
 use Rattle.keyspace.specs.Writes.{Write}
-use Rattle.keys.proofs.Booleans.{true_or_false}
+use Rattle.keys.proofs.callers.Booleans.{true_or_false}
 use Rattle.stepmap.specs.Boundary.{AreBoundaries, value_at, AreUpTo}
 use Rattle.stepmap.specs.StepMap.{Steps, AreSteps}
 use Rattle.stepmap.specs.Limit.{HasRoomFor, after_round, made_room}

@@ -8,8 +8,8 @@ use Rattle.std.specs.Cmp.{nat_cmp_total}
 use Rattle.std.proofs.lemmas.Bool.Decides.{eqb_tells}
 use Rattle.std.proofs.lemmas.List.{take_more, length-take-le}
 use Rattle.arena.specs.Arena.{Arena, Record, IsLive, record_at, key_at, spare_of, size_of}
-use Rattle.tree.proofs.Times.{times, once, once_same, times-append, once_if_distinct}
-use Rattle.tree.proofs.Ways.{around_element}
+use Rattle.tree.proofs.callers.Times.{times, once, once_same, times-append, once_if_distinct}
+use Rattle.tree.proofs.callers.Lists.{around_element}
 
 pub same_or_other : (a b : ℕ) → (a ≡ b) ⊎ (a ≢ b)
 same_or_other a b = elim (eqb_tells a b) [ inl same ↦ inl same.1 | inr other ↦ inr other.1 ]

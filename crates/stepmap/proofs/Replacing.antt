@@ -36,11 +36,11 @@ use Rattle.std.proofs.lemmas.List.{take_at, drop_at, drop_more, drop_all, length
 use Rattle.keys.specs.Key.{is_before, IsBefore, IsAtMost}
 use Rattle.keys.specs.Range.{IsEmpty}
 use Rattle.keys.specs.declared.range.Range.{Range}
-use Rattle.keys.proofs.KeyOrder.{before_trans, at_most_itself}
-use Rattle.keys.proofs.Booleans.{true_or_false}
+use Rattle.keys.proofs.callers.KeyOrder.{before_trans, at_most_itself}
+use Rattle.keys.proofs.callers.Booleans.{true_or_false}
 use Rattle.stepmap.specs.Boundary.{Boundary, AreInOrder, value_at, value_from, last_version, below, from_on}
 use Rattle.stepmap.specs.Writing.{closed_at, written}
-use Rattle.keys.proofs.KeyOrder.{not_before_if}
+use Rattle.keys.proofs.callers.KeyOrder.{not_before_if}
 use Rattle.stepmap.proofs.Order.{Rising, not_empty_if_after}
 use Rattle.stepmap.proofs.Values.{value_from_on}
 use Rattle.stepmap.proofs.WritingValues.{begins_before_end}

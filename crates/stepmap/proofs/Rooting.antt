@@ -8,7 +8,7 @@ use Rattle.keys.specs.Range.{IsEmpty}
 use Rattle.keyspace.specs.Writes.{Write}
 use Rattle.stepmap.specs.Boundary.{Boundary, last_version}
 use Rattle.stepmap.specs.Rooted.{IsEndOf, Ends, AreRooted}
-use Rattle.keys.proofs.SomeElement.{Any-weaker, Any-longer}
+use Rattle.keys.proofs.callers.SomeElement.{Any-weaker, Any-longer}
 
 abbrev pub OneEnd : ℤ → List ℕ → Write → Type 0
 OneEnd version key w = ¬ IsEmpty w.range × ((w.range.begin ≡ key) ⊎ (w.range.end ≡ key))

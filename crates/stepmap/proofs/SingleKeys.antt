@@ -8,7 +8,7 @@ use Rattle.std.proofs.lemmas.Bool.{cases_order}
 use Rattle.keys.specs.Key.{is_before, IsBefore, IsAtMost}
 use Rattle.keys.specs.Range.{Holds}
 use Rattle.keys.specs.declared.range.Range.{Range}
-use Rattle.keys.proofs.KeyOrder.{not_both, before_at_most_same}
+use Rattle.keys.proofs.callers.KeyOrder.{not_both, before_at_most_same}
 use Rattle.stepmap.specs.Filtering.{IsSingle}
 
 -- the lesser first byte comes first

@@ -10,7 +10,7 @@ use Rattle.stepmap.specs.Stored.{first_key}
 use Rattle.stepmap.specs.Sweeping.{left_from, passed_to, thinned}
 use Rattle.stepmap.proofs.Order.{rising_in_order, not_empty_if_after}
 use Rattle.stepmap.proofs.Looking.{parted_left, left_middle}
-use Rattle.keys.proofs.SomeElement.{Any-first, Any-right}
+use Rattle.keys.proofs.callers.SomeElement.{Any-first, Any-right}
 use Rattle.stepmap.proofs.Sweeps.{new_of, last_passed, looked, unseen, Stands, stands, swept_has}
 use Rattle.stepmap.proofs.ThinnedRun.{passed_middle}
 

@@ -5,7 +5,7 @@ use Rattle.std.proofs.lemmas.Int.{ints}
 use Rattle.keys.specs.Range.{Holds, Meets}
 use Rattle.stepmap.specs.Boundary.{value_at}
 use Rattle.stepmap.specs.Laws.{TellsHits, GreatestTells}
-use Rattle.keys.proofs.SomeElement.{Any-weaker}
+use Rattle.keys.proofs.callers.SomeElement.{Any-weaker}
 
 pub tells_hits : TellsHits
 tells_hits m ws range s covers le = (

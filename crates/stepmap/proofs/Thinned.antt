@@ -27,7 +27,7 @@ use Rattle.std.proofs.lemmas.Int.{ints, clamps}
 use Rattle.std.proofs.lemmas.List.Elements.{All-head, All-tail, All-cons, All-nil}
 use Rattle.keys.specs.Key.{is_before}
 use Rattle.keyspace.specs.Writes.{Write}
-use Rattle.keys.proofs.Booleans.{true_or_false, and_left, and_right}
+use Rattle.keys.proofs.callers.Booleans.{true_or_false, and_left, and_right}
 use Rattle.stepmap.specs.Boundary.{Boundary, RiseFrom, value_from, last_version}
 use Rattle.stepmap.specs.Sweeping.{thinned}
 use Rattle.stepmap.specs.Rooted.{IsEndOf, Ends, AreRooted}

@@ -7,17 +7,17 @@ use Rattle.std.proofs.lemmas.Bool.{cases_Bool}
 use Rattle.std.proofs.lemmas.List.Elements.{All-head, All-tail, All-cons, All-weaker, filter-append, filter_passes}
 use Rattle.arena.specs.Arena.{Arena, IsLive}
 use Rattle.keys.specs.Key.{is_before, IsBefore}
-use Rattle.keys.proofs.Booleans.{and_right, false_unless, not_both_ways}
-use Rattle.keys.proofs.KeyOrder.{before_at_most_same, not_before_itself}
+use Rattle.keys.proofs.callers.Booleans.{and_right, false_unless, not_both_ways}
+use Rattle.keys.proofs.callers.KeyOrder.{before_at_most_same, not_before_itself}
 use Rattle.tree.specs.Item.{Item}
 use Rattle.tree.specs.Path.{IsCut, passing, behind}
 use Rattle.tree.specs.Tree.{Items, IsLast, thin, gone}
-use Rattle.tree.proofs.Cuts.{All-front, All-back, none_pass, none_fail}
+use Rattle.tree.proofs.callers.Cuts.{All-front, All-back, none_pass, none_fail}
 use Rattle.stepmap.specs.Boundary.{Boundary, AreInOrder, RiseFrom, last_version}
 use Rattle.stepmap.specs.Cut.{slot_passes}
 use Rattle.stepmap.specs.Stored.{bytes_at, boundary_of, boundaries_of, IsStored}
 use Rattle.stepmap.specs.Sweeping.{is_left, left_from, passed_to, thinned}
-use Rattle.keys.proofs.KeyOrder.{not_before_if}
+use Rattle.keys.proofs.callers.KeyOrder.{not_before_if}
 use Rattle.stepmap.proofs.Order.{rise_middle, rise_swap, rise_above}
 use Rattle.stepmap.proofs.Looking.{left_middle, filter_yes, filter_no}
 use Rattle.stepmap.proofs.Thinned.{thinned_rises}

@@ -16,7 +16,7 @@ use Rattle.stepmap.specs.Uniting.{IsEndIn, Unites}
 use Rattle.stepmap.specs.Laws.{UnitingTells, CountedAlong}
 use Rattle.stepmap.proofs.WrittenMap.{if_some_map}
 use Rattle.stepmap.proofs.Rooting.{OneEnd}
-use Rattle.keys.proofs.SomeElement.{Any-weaker, Any-parts, Any-left, Any-right, Any-map, Any-unmap}
+use Rattle.keys.proofs.callers.SomeElement.{Any-weaker, Any-parts, Any-left, Any-right, Any-map, Any-unmap}
 
 abbrev at : ℤ → Range → Write
 at version range = record { range = range; version = version }

@@ -10,7 +10,7 @@ use Rattle.arena.specs.Arena.{Arena, Record, IsLive, record_at}
 use Rattle.tree.specs.declared.entry.Entry.{Entry}
 use Rattle.tree.specs.Item.{Item, item_of}
 use Rattle.tree.specs.Tree.{Items, thin, gone}
-use Rattle.tree.proofs.Times.{times, once_same, once_cases, times-append, times_if_contains, once_if_distinct, distinct_if_once}
+use Rattle.tree.proofs.callers.Times.{times, once_same, once_cases, times-append, times_if_contains, once_if_distinct, distinct_if_once}
 use Rattle.stepmap.specs.Boundary.{AreInOrder}
 use Rattle.stepmap.specs.Stored.{boundary_of, boundaries_of, IsStored}
 

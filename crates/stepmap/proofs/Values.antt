@@ -29,10 +29,10 @@ use Rattle.std.specs.Prelude.{ℤ, All}
 use Rattle.std.specs.List.{AllWithin}
 use Rattle.std.proofs.lemmas.List.Elements.{All-head, All-tail, filter_passes, All-weaker}
 use Rattle.keys.specs.Key.{is_before, IsBefore, IsAtMost}
-use Rattle.keys.proofs.KeyOrder.{before_trans, before_at_most, before_at_most_same}
-use Rattle.keys.proofs.Booleans.{true_or_false, not_both_ways}
+use Rattle.keys.proofs.callers.KeyOrder.{before_trans, before_at_most, before_at_most_same}
+use Rattle.keys.proofs.callers.Booleans.{true_or_false, not_both_ways}
 use Rattle.stepmap.specs.Boundary.{Boundary, RiseFrom, value_from, last_version, below, from_on}
-use Rattle.keys.proofs.KeyOrder.{not_before_if}
+use Rattle.keys.proofs.callers.KeyOrder.{not_before_if}
 use Rattle.stepmap.proofs.Order.{Rising}
 use Rattle.stepmap.proofs.Parting.{parted, FallsAlongKeys}
 

@@ -5,8 +5,8 @@ use Rattle.std.proofs.lemmas.List.{take_all}
 use Rattle.std.proofs.lemmas.Option.{slice_get_within}
 use Rattle.keys.specs.Range.{IsEmpty}
 use Rattle.keys.specs.Key.{IsBefore}
-use Rattle.keys.proofs.KeyOrder.{not_before_itself}
-use Rattle.keys.proofs.Booleans.{not_both_ways}
+use Rattle.keys.proofs.callers.KeyOrder.{not_before_itself}
+use Rattle.keys.proofs.callers.Booleans.{not_both_ways}
 use Rattle.keyspace.specs.Writes.{Write, at_version}
 use Rattle.keys.specs.declared.range.Range.{Range}
 use Rattle.stepmap.specs.Boundary.{AreUpTo}

@@ -5,8 +5,8 @@ use Rattle.std.proofs.lemmas.List.Elements.{All-head}
 use Rattle.keys.specs.Key.{IsKey, is_before, IsBefore, IsAtMost}
 use Rattle.keys.specs.Range.{IsEmpty}
 use Rattle.keys.specs.declared.range.Range.{Range}
-use Rattle.keys.proofs.KeyOrder.{before_at_most}
-use Rattle.keys.proofs.Booleans.{true_or_false}
+use Rattle.keys.proofs.callers.KeyOrder.{before_at_most}
+use Rattle.keys.proofs.callers.Booleans.{true_or_false}
 use Rattle.stepmap.specs.Boundary.{Boundary, AreBoundaries, AreInOrder, RiseFrom, value_at, below, from_on}
 use Rattle.stepmap.specs.Writing.{closed_at, written}
 use Rattle.stepmap.proofs.Order.{

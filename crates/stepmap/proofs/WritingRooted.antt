@@ -9,8 +9,8 @@ use Rattle.keys.specs.Key.{is_before, IsAtMost}
 use Rattle.keys.specs.Range.{IsEmpty}
 use Rattle.keyspace.specs.Writes.{Write}
 use Rattle.keys.specs.declared.range.Range.{Range}
-use Rattle.keys.proofs.KeyOrder.{at_most_antisym, at_most_itself}
-use Rattle.keys.proofs.Booleans.{true_or_false}
+use Rattle.keys.proofs.callers.KeyOrder.{at_most_antisym, at_most_itself}
+use Rattle.keys.proofs.callers.Booleans.{true_or_false}
 use Rattle.stepmap.specs.Boundary.{Boundary, AreUpTo, value_at, value_from, last_version, below, from_on}
 use Rattle.stepmap.specs.Writing.{closed_at, written}
 use Rattle.stepmap.specs.Rooted.{IsEndOf, Ends, AreRooted}

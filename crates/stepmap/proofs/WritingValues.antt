@@ -5,7 +5,7 @@ use Rattle.std.proofs.lemmas.List.Elements.{All-head, All-cons, All-append, All-
 use Rattle.keys.specs.Key.{is_before, IsBefore, IsAtMost}
 use Rattle.keys.specs.Range.{Holds, IsEmpty}
 use Rattle.keys.specs.declared.range.Range.{Range}
-use Rattle.keys.proofs.KeyOrder.{
+use Rattle.keys.proofs.callers.KeyOrder.{
   before_at_most,
   at_most_trans,
   before_at_most_same,
@@ -13,10 +13,10 @@ use Rattle.keys.proofs.KeyOrder.{
   before_or_same,
   at_most_itself,
 }
-use Rattle.keys.proofs.Booleans.{true_or_false}
+use Rattle.keys.proofs.callers.Booleans.{true_or_false}
 use Rattle.stepmap.specs.Boundary.{Boundary, value_from, value_at, last_version, below, from_on}
 use Rattle.stepmap.specs.Writing.{closed_at, written}
-use Rattle.keys.proofs.KeyOrder.{not_before_if}
+use Rattle.keys.proofs.callers.KeyOrder.{not_before_if}
 use Rattle.stepmap.proofs.Order.{Rising, at_most_if}
 use Rattle.stepmap.proofs.Values.{
   FirstAfter,

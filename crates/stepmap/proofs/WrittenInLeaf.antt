@@ -9,8 +9,8 @@ use Rattle.arena.specs.Arena.{Arena, wanted_of, IsLive, record_at, key_at, spare
 use Rattle.keys.specs.Key.{is_before, IsBefore, IsAtMost}
 use Rattle.keys.specs.Range.{IsEmpty}
 use Rattle.keys.specs.declared.range.Range.{Range}
-use Rattle.keys.proofs.Booleans.{true_or_false, and_left, and_right, not_both_ways}
-use Rattle.keys.proofs.KeyOrder.{before_or_same, not_before_itself}
+use Rattle.keys.proofs.callers.Booleans.{true_or_false, and_left, and_right, not_both_ways}
+use Rattle.keys.proofs.callers.KeyOrder.{before_or_same, not_before_itself}
 use Rattle.tree.specs.declared.entry.Entry.{Entry}
 use Rattle.tree.specs.Hints.{AreHinted}
 use Rattle.tree.specs.Item.{Item, item_of}
@@ -29,7 +29,7 @@ use Rattle.stepmap.proofs.Inserted.{up_to_below}
 use Rattle.stepmap.proofs.LastAndInside.{last_of}
 use Rattle.stepmap.proofs.LastFound.{last_boundary, value_of_last}
 use Rattle.stepmap.proofs.PlacedKeys.{Placed, item_at, boundary_at, used, ArePlaced, placed_live, first_released, second_released}
-use Rattle.keys.proofs.SomeElement.{Any-first, Any-later}
+use Rattle.keys.proofs.callers.SomeElement.{Any-first, Any-later}
 use Rattle.stepmap.proofs.WrittenInParts.{none_of, after_empty, closed_before, after_end, written_there}
 use Rattle.stepmap.proofs.WritingOrder.{written_in_order}
 use Rattle.stepmap.proofs.WritingValues.{begins_before_end}

@@ -43,28 +43,28 @@ use Rattle.std.proofs.lemmas.List.Elements.{
 }
 use Rattle.std.proofs.lemmas.List.Filters.{length-filter_both}
 use Rattle.arena.specs.Arena.{size_of, wanted_of}
-use Rattle.arena.proofs.Sizes.{size_fits}
+use Rattle.arena.proofs.callers.Sizes.{size_fits}
 use Rattle.keys.specs.Key.{is_before, IsBefore, IsAtMost}
 use Rattle.keys.specs.Range.{IsEmpty}
 use Rattle.keys.specs.declared.range.Range.{Range}
-use Rattle.keys.proofs.KeyOrder.{
+use Rattle.keys.proofs.callers.KeyOrder.{
   before_trans,
   before_at_most,
   before_at_most_same,
   before_or_same,
   not_before_itself,
 }
-use Rattle.keys.proofs.Booleans.{true_or_false, and_right, and_both, false_unless, not_both_ways}
+use Rattle.keys.proofs.callers.Booleans.{true_or_false, and_right, and_both, false_unless, not_both_ways}
 use Rattle.stepmap.specs.Boundary.{Boundary, AreInOrder, below, from_on, value_at}
 use Rattle.stepmap.specs.Indexes.{after}
 use Rattle.stepmap.specs.Sweeping.{is_left, passed_to}
 use Rattle.stepmap.specs.Writing.{closed_at, written}
 use Rattle.stepmap.proofs.Inserted.{with_boundary, all_apart}
 use Rattle.stepmap.proofs.Looking.{filter_yes, filter_no}
-use Rattle.keys.proofs.KeyOrder.{not_before_if}
+use Rattle.keys.proofs.callers.KeyOrder.{not_before_if}
 use Rattle.stepmap.proofs.Order.{Rising, rising_from, rising_in_order, rise_above, empty_unless_after, not_empty_if_after}
 use Rattle.stepmap.proofs.Replacing.{filter_shorter}
-use Rattle.keys.proofs.SomeElement.{Any-cases, Any-none}
+use Rattle.keys.proofs.callers.SomeElement.{Any-cases, Any-none}
 use Rattle.stepmap.proofs.WritingValues.{begins_before_end}
 
 pub none_of : {X : Type 0} (P : X → Type 0) (xs : List X) → All (λ x. ¬ P x) xs → ¬ Any P xs

@@ -25,7 +25,7 @@ use Rattle.keys.specs.Key.{is_before}
 use Rattle.keys.specs.Range.{IsEmpty}
 use Rattle.keyspace.specs.Writes.{Write}
 use Rattle.keys.specs.declared.range.Range.{Range}
-use Rattle.keys.proofs.Booleans.{true_or_false, not_both_ways}
+use Rattle.keys.proofs.callers.Booleans.{true_or_false, not_both_ways}
 use Rattle.stepmap.specs.Boundary.{Boundary, AreBoundaries, AreUpTo, value_at, below}
 use Rattle.stepmap.specs.StepMap.{Round, Steps, IsRound, AreSteps}
 use Rattle.stepmap.specs.Writing.{written, after_write}

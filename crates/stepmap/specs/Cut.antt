@@ -3,7 +3,7 @@ use Rattle.std.specs.Prelude.{◌≡◌, Some, ℕ, Bool, not, true, false, refl
 use Rattle.arena.specs.Arena.{Arena, key_at}
 use mathlib.Core.Path.{sym, ap, subst}
 use Rattle.keys.specs.Key.{is_before}
-use Rattle.keys.proofs.KeyOrder.{before_at_most_same}
+use Rattle.keys.proofs.callers.KeyOrder.{before_at_most_same}
 use Rattle.tree.specs.Hints.{PassesInOrder}
 
 -- whether a key comes before the cut, which is up to a key or before it

@@ -8,8 +8,8 @@ use mir.Syntax.{w64}
 use mir.Val.{SFits, to_z, of_z}
 use Rattle.tree.specs.declared.entry.Entry.{Entry}
 use Rattle.tree.specs.Item.{Item, Tells, item_of}
-use Rattle.tree.proofs.Cuts.{not_both}
-use Rattle.keys.proofs.SomeElement.{
+use Rattle.tree.proofs.callers.Cuts.{not_both}
+use Rattle.keys.proofs.callers.SomeElement.{
   Any-weaker,
   Any-first,
   Any-later,

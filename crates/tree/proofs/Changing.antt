@@ -8,7 +8,7 @@ use Rattle.std.proofs.lemmas.Bool.Decides.{nat_tests, eqb_tells}
 use Rattle.arena.specs.Arena.{Arena, Record, IsLive, record_at, key_at, spare_of, with_header}
 use Rattle.tree.specs.declared.node.Node.{Node}
 use Rattle.tree.specs.Replace.{Changes, IsKeyless}
-use Rattle.tree.proofs.Times.{times, once, once_same, once_cases, none_or_some, times_if_contains, contains_if_times, times_unless_contains, once_if_distinct, distinct_if_once}
+use Rattle.tree.proofs.callers.Times.{times, once, once_same, once_cases, none_or_some, times_if_contains, contains_if_times, times_unless_contains, once_if_distinct, distinct_if_once}
 use Rattle.tree.proofs.Frames.{Agree}
 
 same_or_other : (a b : ℕ) → (a ≡ b) ⊎ (a ≢ b)

@@ -7,7 +7,7 @@ use Rattle.tree.specs.declared.entry.Entry.{Entry}
 use Rattle.tree.specs.declared.node.Node.{Node}
 use Rattle.tree.specs.Subtree.{entries_at, items_in, slots_in, IsSubtree}
 use Rattle.tree.specs.Replace.{items_of, slots_of, AreChildren}
-use Rattle.tree.proofs.Times.{times, none_or_some, times-append}
+use Rattle.tree.proofs.callers.Times.{times, none_or_some, times-append}
 use Rattle.tree.proofs.Frames.{Agree, IsRight, each_same, items_same, slots_same, children_same, live_of, live_in, below_of}
 use Rattle.tree.proofs.Changing.{Moves, moves_beside, moves_agree}
 

@@ -12,7 +12,7 @@ use Rattle.tree.specs.Node.{entries_of}
 use Rattle.tree.specs.Path.{index_in}
 use Rattle.tree.specs.Subtree.{entries_at, items_in, IsChild, IsSubtree}
 use Rattle.tree.proofs.Found.{IsFound, entries_read}
-use Rattle.keys.proofs.SomeElement.{Any-first}
+use Rattle.keys.proofs.callers.SomeElement.{Any-first}
 
 -- The first of some entries has the first key of the items below them.
 pub first_tells : (under : Entry → List Item) (es : List Entry) (e : Entry) → slice_get es 0 ≡ Some e

@@ -9,7 +9,7 @@ use Rattle.tree.specs.Item.{Item, item_of}
 use Rattle.tree.specs.Node.{entries_of}
 use Rattle.tree.specs.Path.{IsCut, index_in, child_in, leaf_in}
 use Rattle.tree.specs.Subtree.{entries_at, items_in, IsSubtree}
-use Rattle.tree.proofs.Cuts.{Falls, Falls-from_cut, IsCut-from_falls}
+use Rattle.tree.proofs.callers.Cuts.{Falls, Falls-from_cut, IsCut-from_falls}
 use Rattle.tree.proofs.Ways.{IsWay, way}
 
 -- the entries at a slot are those of the header that the code has read

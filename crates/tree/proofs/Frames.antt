@@ -9,7 +9,7 @@ use Rattle.tree.specs.Item.{item_of, Tells}
 use Rattle.tree.specs.Node.{entries_of}
 use Rattle.tree.specs.Subtree.{entries_at, items_in, slots_in, IsChild, IsSubtree}
 use Rattle.tree.specs.Replace.{AreChildren, slots_of}
-use Rattle.tree.proofs.Times.{none_or_some, once_cases, times, once_same, times-append}
+use Rattle.tree.proofs.callers.Times.{none_or_some, once_cases, times, once_same, times-append}
 
 module _ {N : ℕ} where
   abbrev entries_in : Option (Record (Node N)) → List Entry

@@ -12,13 +12,13 @@ use Rattle.tree.specs.Item.{Item, Tells, item_of}
 use Rattle.tree.specs.Path.{IsCut}
 use Rattle.tree.specs.Subtree.{items_in}
 use Rattle.tree.proofs.Above.{IsAbove, not_above_told}
-use Rattle.tree.proofs.Cuts.{Falls, Falls-from_cut, none_pass, length-passing}
+use Rattle.tree.proofs.callers.Cuts.{Falls, Falls-from_cut, none_pass, length-passing}
 use Rattle.tree.proofs.Found.{cut-entries}
 use Rattle.tree.proofs.Keys.{filter-items}
 use Rattle.tree.proofs.Looks.{IsLook, look_ordered, look_items, look_tell, look_one, look_two, from_items, first_inside, child_from, below}
-use Rattle.keys.proofs.SomeElement.{Any-right}
+use Rattle.keys.proofs.callers.SomeElement.{Any-right}
 use Rattle.tree.proofs.Spans.{span, span_from_begin, before_cut}
-use Rattle.tree.proofs.Times.{none_or_some}
+use Rattle.tree.proofs.callers.Times.{none_or_some}
 use Rattle.tree.proofs.Ways.{AllTell, around_element, entries_cut, fail_behind, fail_behind_index}
 
 -- the last of those that pass, alone

@@ -20,7 +20,7 @@ use Rattle.tree.specs.Item.{
   version_of,
   greater_of,
 }
-use Rattle.keys.proofs.SomeElement.{Any-none, Any-cases, Any-left, Any-right, Any-map}
+use Rattle.keys.proofs.callers.SomeElement.{Any-none, Any-cases, Any-left, Any-right, Any-map}
 
 -- this is the greatest version of them, or there are none of them
 abbrev pub IsPeak : {X : Type 0} → (X → ℤ) → Option ℤ → List X → Type 0

@@ -11,7 +11,7 @@ use Rattle.tree.specs.declared.node.Node.{Node}
 use Rattle.tree.specs.Node.{entries_of, hint_of, keys_of}
 use Rattle.tree.specs.Hints.{KeyBytes, Begins, digest_behind, digest_at, Hint, IsHinted, PassesInOrder, TellsCommon, KnowsAt, Agrees, IsDigestFor}
 use Rattle.tree.specs.Path.{IsCut}
-use Rattle.tree.proofs.Cuts.{length-passing, none_fail, not_both}
+use Rattle.tree.proofs.callers.Cuts.{length-passing, none_fail, not_both}
 use Rattle.tree.proofs.HintCounts.{fewer_pass, length-filter_map, passing_before, passing_inside}
 use Rattle.tree.proofs.HintOrder.{empty_digest, empty_before, empty_before_too, tells_empty, told_by_digests, before_too, tells_too, common_by_digests}
 

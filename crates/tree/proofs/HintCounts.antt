@@ -4,7 +4,7 @@ use Rattle.std.proofs.lemmas.Bool.{cases_Bool}
 use Rattle.std.proofs.lemmas.List.Elements.{All-head, All-tail, All-take}
 use Rattle.std.proofs.lemmas.Option.{get_or_from_slice_get, slice_get_within}
 use Rattle.tree.specs.Path.{IsCut}
-use Rattle.tree.proofs.Cuts.{Falls, Falls-from_cut, none_pass, not_both}
+use Rattle.tree.proofs.callers.Cuts.{Falls, Falls-from_cut, none_pass, not_both}
 
 -- a test of what a function gives
 pub length-filter_map : {X Y : Type 0} (p : Y → Bool) (f : X → Y) (xs : List X)

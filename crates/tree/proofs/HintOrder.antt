@@ -6,7 +6,7 @@ use Rattle.std.proofs.lemmas.List.{take-take, take-append-le, take-append-drop, 
 use Rattle.std.proofs.lemmas.List.Elements.{All-drop}
 use Rattle.keys.specs.Key.{IsBytes, IsBefore}
 use Rattle.keys.specs.Digest.{first_eight, digest_of}
-use Rattle.keys.proofs.Digests.{digest_less, digest_of-bytes, behind_common, behind_shorter, behind_differing}
+use Rattle.keys.proofs.callers.Digests.{digest_less, digest_of-bytes, behind_common, behind_shorter, behind_differing}
 use Rattle.tree.specs.Hints.{digest_behind, PassesInOrder, TellsCommon}
 
 abbrev IsByte : ℕ → Type 0

@@ -11,7 +11,7 @@ use Rattle.tree.specs.Subtree.{entries_at}
 use Rattle.std.specs.FinMap as finite
 use Rattle.std.specs.Cmp.{nat_cmp_total}
 use Rattle.tree.proofs.Changing.{same_number}
-use Rattle.tree.proofs.Times.{once_cases}
+use Rattle.tree.proofs.callers.Times.{once_cases}
 
 -- a key that begins with some bytes is known
 pub known_if_begins : (bytes : KeyBytes) (beginning : List ℕ) (key : ℕ) → Begins bytes beginning key → IsKnown bytes key

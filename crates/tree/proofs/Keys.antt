@@ -9,7 +9,7 @@ use Rattle.tree.specs.Item.{Item, Tells, item_of}
 use Rattle.tree.specs.Node.{entries_of}
 use Rattle.tree.specs.Path.{index_in, child_in, behind, behind_leaf, first_key}
 use Rattle.tree.specs.Subtree.{entries_at, items_in}
-use Rattle.tree.proofs.Cuts.{none_pass, none_fail}
+use Rattle.tree.proofs.callers.Cuts.{none_pass, none_fail}
 use Rattle.tree.proofs.Found.{IsFound, entries_read}
 
 pub filter-items : (p : Item → Bool) (es : List Entry)

@@ -19,7 +19,7 @@ use Rattle.tree.specs.Tree.{KnowItems, IsRooted, least_of}
 use Rattle.tree.proofs.Changing.{other_number}
 use Rattle.tree.proofs.Frames.{IsRight, live_in}
 use Rattle.tree.proofs.HintList.{read_list}
-use Rattle.tree.proofs.Times.{times, once, once_same, once_cases, none_or_some, times-append, once_if_distinct}
+use Rattle.tree.proofs.callers.Times.{times, once, once_same, once_cases, none_or_some, times-append, once_if_distinct}
 
 -- The keys of a map that has no others.
 no_other : {X : Type 0} (m : finite.FinMap nat_cmp X) (xs : List ℕ) → ((s : ℕ) → times s xs ≤ 1)

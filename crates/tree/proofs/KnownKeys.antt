@@ -11,7 +11,7 @@ use Rattle.tree.specs.Hints.{KeyBytes, IsKnown, AreHinted, IsHinted}
 use Rattle.tree.specs.Node.{entries_of, keys_of, hint_of, hints_of}
 use Rattle.tree.specs.Replace.{AreChildren, entries_with}
 use Rattle.tree.specs.Subtree.{entries_at}
-use Rattle.tree.proofs.Cuts.{All-front, All-back}
+use Rattle.tree.proofs.callers.Cuts.{All-front, All-back}
 use Rattle.tree.proofs.FirstKeys.{first_key_is}
 use Rattle.tree.proofs.Frames.{IsRight}
 use Rattle.tree.proofs.Hinted.{known_at, hinted_put}

@@ -9,7 +9,7 @@ use Rattle.tree.specs.Path.{passing, behind, first_key}
 use Rattle.tree.specs.Tree.{thin, gone}
 use Rattle.tree.proofs.Leaves.{IsLeaf, passing_is, behind_is}
 use Rattle.tree.proofs.Keys.{first_key-append}
-use Rattle.tree.proofs.Times.{none_or_some}
+use Rattle.tree.proofs.callers.Times.{none_or_some}
 use Rattle.tree.proofs.Thinning.{run, stays, gone_or_kept}
 use Rattle.tree.proofs.Runs.{drop-drop_at}
 

@@ -12,8 +12,8 @@ use Rattle.tree.specs.Item.{Item, item_of}
 use Rattle.tree.specs.Path.{IsCut, index_in, child_in, leaf_in, before_leaf, behind_leaf, passing, behind}
 use Rattle.tree.specs.Subtree.{entries_at, items_in, IsSubtree}
 use Rattle.tree.specs.Tree.{IsLast}
-use Rattle.tree.proofs.Times.{none_or_some}
-use Rattle.tree.proofs.Cuts.{not_both, none_pass, none_passed, none_fail, IsCut-parts, IsCut-from_falls, Falls, Falls-from_cut}
+use Rattle.tree.proofs.callers.Times.{none_or_some}
+use Rattle.tree.proofs.callers.Cuts.{not_both, none_pass, none_passed, none_fail, IsCut-parts, IsCut-from_falls, Falls, Falls-from_cut}
 use Rattle.tree.proofs.Ways.{way}
 
 -- the last of those that pass does

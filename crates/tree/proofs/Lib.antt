@@ -1,9 +1,9 @@
 -- lemmas
+pub mod callers
 pub mod Above
 pub mod Approaches
 pub mod Changing
 pub mod Counting
-pub mod Cuts
 pub mod Entries
 pub mod Families
 pub mod FirstKeys
@@ -45,7 +45,6 @@ pub mod Stepping
 pub mod Storing
 pub mod Telling
 pub mod Thinning
-pub mod Times
 pub mod Told
 pub mod ToldKeys
 pub mod Trees

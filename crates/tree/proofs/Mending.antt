@@ -8,7 +8,7 @@ use Rattle.tree.specs.declared.node.Node.{Node}
 use Rattle.tree.specs.Item.{Tells}
 use Rattle.tree.specs.Subtree.{entries_at, items_in, slots_in, IsSubtree}
 use Rattle.tree.specs.Replace.{child_at, items_of, slots_of, AreChildren, Changes, IsFamily, IsKeyless, IsMended}
-use Rattle.tree.proofs.Times.{none_or_some, times, times-append, once_if_distinct}
+use Rattle.tree.proofs.callers.Times.{none_or_some, times, times-append, once_if_distinct}
 use Rattle.tree.proofs.Frames.{IsRight, live_in, own_slot}
 use Rattle.tree.proofs.Changing.{Moves, moves_if_changes, moves_same}
 use Rattle.tree.proofs.Families.{times-slots_of}

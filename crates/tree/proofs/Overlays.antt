@@ -15,11 +15,11 @@ use Rattle.tree.specs.Path.{IsCut, index_in, passing, behind, between}
 use Rattle.tree.specs.Replace.{entries_at_both, items_with, items_of, TellsWritten}
 use Rattle.tree.specs.Subtree.{entries_at, items_in, IsSubtree}
 use Rattle.tree.specs.Tree.{ended_by}
-use Rattle.tree.proofs.Cuts.{All-front, All-back, none_pass, none_passed, IsCut-parts, rest_fails}
+use Rattle.tree.proofs.callers.Cuts.{All-front, All-back, none_pass, none_passed, IsCut-parts, rest_fails}
 use Rattle.tree.proofs.Inserting.{Ended, ended_some, same_ends}
 use Rattle.tree.proofs.Keys.{behind-parts}
 use Rattle.tree.proofs.Leaves.{entries_of_cut}
-use Rattle.keys.proofs.SomeElement.{Any-first, Any-right}
+use Rattle.keys.proofs.callers.SomeElement.{Any-first, Any-right}
 use Rattle.tree.proofs.Stepping.{IsAt, items_split}
 use Rattle.tree.proofs.Told.{filter_around, none_of_fewer}
 use Rattle.tree.proofs.Ways.{way}

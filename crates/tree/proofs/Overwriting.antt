@@ -8,7 +8,7 @@ use Rattle.tree.specs.declared.entry.Entry.{Entry}
 use Rattle.tree.specs.Item.{Item, item_of}
 use Rattle.tree.specs.Path.{IsCut, passing, behind, between, first_key}
 use Rattle.tree.specs.Tree.{IsLast, ended_by}
-use Rattle.tree.proofs.Cuts.{not_both, none_pass, rest_fails, IsCut-parts}
+use Rattle.tree.proofs.callers.Cuts.{not_both, none_pass, rest_fails, IsCut-parts}
 use Rattle.tree.proofs.Inserting.{same_ends}
 use Rattle.tree.proofs.Leaves.{IsLeaf, passing_is}
 

@@ -12,7 +12,7 @@ use Rattle.tree.specs.Overwrite.{IsOverwritten, entries_of_run, lets_pass_first}
 use Rattle.tree.specs.Node.{entries_of}
 use Rattle.tree.specs.Path.{IsCut, passing, behind, between, first_key}
 use Rattle.tree.specs.Tree.{ended_by}
-use Rattle.tree.proofs.Cuts.{none_pass, none_passed}
+use Rattle.tree.proofs.callers.Cuts.{none_pass, none_passed}
 use Rattle.tree.proofs.Inserting.{ended_some}
 use Rattle.tree.proofs.Overwriting.{told_between}
 use Rattle.tree.proofs.Runs.{some_left}

@@ -7,7 +7,7 @@ use Rattle.tree.specs.declared.node.Node.{Node}
 use Rattle.tree.specs.Node.{entries_of}
 use Rattle.tree.specs.Subtree.{entries_at}
 use Rattle.tree.specs.Replace.{IsKeyless}
-use Rattle.tree.proofs.Times.{times, once_cases}
+use Rattle.tree.proofs.callers.Times.{times, once_cases}
 use Rattle.tree.proofs.Changing.{Moves, moves_beside, moves_header, record_put, record_kept}
 
 one_spare : (spare slots then : ℕ) → 0 < spare → then + 1 ≡ cond (nat_eq spare 0) slots spare → then + 1 ≡ spare

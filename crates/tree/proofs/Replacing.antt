@@ -8,7 +8,7 @@ use Rattle.tree.specs.declared.node.Node.{Node}
 use Rattle.tree.specs.Item.{Item}
 use Rattle.tree.specs.Subtree.{entries_at, items_in, slots_in, IsSubtree}
 use Rattle.tree.specs.Replace.{items_of, slots_of, AreChildren, IsFamily, IsLinked}
-use Rattle.tree.proofs.Times.{times, distinct_if_once}
+use Rattle.tree.proofs.callers.Times.{times, distinct_if_once}
 use Rattle.tree.proofs.Frames.{IsRight, below_of}
 use Rattle.tree.proofs.Changing.{Moves}
 use Rattle.tree.proofs.Families.{times-slots_of, loose, replaced}

@@ -12,7 +12,7 @@ use Rattle.tree.specs.Item.{Item, Tells}
 use Rattle.tree.specs.Subtree.{entries_at, items_in, slots_in, IsSubtree}
 use Rattle.tree.specs.Replace.{AreChildren, items_of, slots_of}
 use Rattle.tree.specs.Tree.{IsRooted, least_of}
-use Rattle.tree.proofs.Times.{once_if_distinct, distinct_if_once}
+use Rattle.tree.proofs.callers.Times.{once_if_distinct, distinct_if_once}
 use Rattle.tree.proofs.Frames.{IsRight, agree_own, items_same, slots_same, subtree_same, live_in}
 use Rattle.tree.proofs.Changing.{Moves, moves_beside, moves_agree}
 use Rattle.tree.proofs.Families.{live_children, holds}

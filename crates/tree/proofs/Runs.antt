@@ -7,7 +7,7 @@ use Rattle.std.proofs.lemmas.List.Elements.{All-head, All-tail, All-map, All-wea
 use Rattle.tree.specs.declared.entry.Entry.{Entry}
 use Rattle.tree.specs.Item.{Item, item_of}
 use Rattle.tree.specs.Path.{IsCut, passing, behind, between}
-use Rattle.tree.proofs.Cuts.{All-front, All-back, not_true, none_pass, none_fail, IsCut-parts}
+use Rattle.tree.proofs.callers.Cuts.{All-front, All-back, not_true, none_pass, none_fail, IsCut-parts}
 use Rattle.tree.proofs.Leaves.{IsLeaf, behind_is, entries_of_cut, All-from_map, filter-items}
 
 inside : (p q : Bool) → p ≡ true → (not p && q) ≡ false

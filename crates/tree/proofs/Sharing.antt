@@ -9,12 +9,12 @@ use Rattle.tree.specs.declared.node.Node.{Node}
 use Rattle.tree.specs.Item.{item_of}
 use Rattle.tree.specs.Subtree.{entries_at, items_in, slots_in, IsSubtree}
 use Rattle.tree.specs.Replace.{child_at, items_of, slots_of, AreChildren, IsFamily, IsMended}
-use Rattle.tree.proofs.Times.{times, once, times-append, once_if_distinct}
+use Rattle.tree.proofs.callers.Times.{times, once, times-append, once_if_distinct}
 use Rattle.tree.proofs.Frames.{Agree, IsRight}
 use Rattle.tree.proofs.Changing.{Moves, moves_beside, moves_agree, changes_if_moves}
 use Rattle.tree.proofs.Families.{items_of-append, times-slots_of, length-slots_of, live_children, replaced, holds}
 use Rattle.tree.proofs.Placing.{live_if_some}
-use Rattle.tree.proofs.Cuts.{All-front, All-back}
+use Rattle.tree.proofs.callers.Cuts.{All-front, All-back}
 
 -- the entries around one, and around two
 pub child_is : (es : List Entry) (i : ℕ) (d : Entry) → i < length es → child_at es i ≡ (get_or es i d).child

@@ -13,7 +13,7 @@ use Rattle.std.proofs.lemmas.List.Elements.{
 }
 use Rattle.tree.specs.declared.entry.Entry.{Entry}
 use Rattle.tree.specs.Path.{IsCut}
-use Rattle.tree.proofs.Cuts.{passed, failed, All-front, All-back}
+use Rattle.tree.proofs.callers.Cuts.{passed, failed, All-front, All-back}
 use Rattle.tree.proofs.Ways.{around_element}
 
 module _ {X : Type 0} where

@@ -6,7 +6,7 @@ use Rattle.std.proofs.lemmas.List.{map-append, length-map, length-take-le, take-
 use Rattle.tree.specs.declared.entry.Entry.{Entry}
 use Rattle.tree.specs.Item.{Item, item_of}
 use Rattle.tree.specs.Path.{IsCut, passing, behind, between}
-use Rattle.tree.proofs.Cuts.{All-front, none_pass, IsCut-parts}
+use Rattle.tree.proofs.callers.Cuts.{All-front, none_pass, IsCut-parts}
 use Rattle.tree.proofs.Leaves.{IsLeaf, passing_is, behind_is, All-from_map}
 use Rattle.tree.proofs.Runs.{IsRun, run_of, run_between}
 

@@ -11,7 +11,7 @@ use Rattle.tree.specs.Node.{entries_of}
 use Rattle.tree.specs.Path.{index_in, child_in, before_leaf, behind_leaf}
 use Rattle.tree.specs.Subtree.{entries_at, items_in, slots_in, IsSubtree}
 use Rattle.tree.specs.Replace.{child_at, entries_at_both, items_with, slots_with, slot_taken, items_of, slots_of, AreChildren, Changes, IsFamily, IsFamilyAt, IsLinked, IsMendedAt}
-use Rattle.tree.proofs.Times.{times, once_same, once_if_distinct, times_if_contains}
+use Rattle.tree.proofs.callers.Times.{times, once_same, once_if_distinct, times_if_contains}
 use Rattle.tree.proofs.Frames.{entries_same, live_same}
 use Rattle.tree.proofs.Changing.{Moves, changes_if_moves, moves_if_changes, moves_trans}
 use Rattle.tree.proofs.Families.{items_of-append, times-slots_of}

@@ -10,12 +10,12 @@ use Rattle.tree.specs.Node.{entries_of}
 use Rattle.tree.specs.Path.{index_in, child_in, before_leaf, behind_leaf}
 use Rattle.tree.specs.Subtree.{entries_at, slots_in, IsSubtree}
 use Rattle.tree.specs.Replace.{entries_at_both, items_with, slots_with, slot_taken, items_of, slots_of, AreChildren, IsFamilyAt, IsMended, IsMendedAt}
-use Rattle.tree.proofs.Times.{times, once, once_same, once_cases, once_if_distinct, times-append, times_unless_contains}
+use Rattle.tree.proofs.callers.Times.{times, once, once_same, once_cases, once_if_distinct, times-append, times_unless_contains}
 use Rattle.tree.proofs.Frames.{Agree, IsRight, live_same}
 use Rattle.tree.proofs.Changing.{Moves, moves_beside, moves_agree, moves_trans, moves_if_changes, changes_if_moves}
 use Rattle.tree.proofs.Families.{items_of-append, times-slots_of, length-slots_of, live_children, holds}
 use Rattle.tree.proofs.Placing.{live_one, put_entries, put_live, put_moves}
-use Rattle.tree.proofs.Cuts.{All-front, All-back}
+use Rattle.tree.proofs.callers.Cuts.{All-front, All-back}
 
 module _ {N : ℕ} where
   pub record IsStored (a w : Arena (Node N)) (least height slot : ℕ) (added : Option ℕ) (items : List Item) : Type 0 where

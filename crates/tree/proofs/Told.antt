@@ -14,7 +14,7 @@ use Rattle.tree.specs.Path.{IsCut, from_last}
 use Rattle.tree.specs.Question.{IsTold}
 use Rattle.tree.specs.Subtree.{items_in}
 use Rattle.tree.proofs.Above.{IsAbove, none_above, part_above, leaf_above}
-use Rattle.tree.proofs.Cuts.{All-front, not_both, none_pass, none_fail, IsCut-parts, rest_fails}
+use Rattle.tree.proofs.callers.Cuts.{All-front, not_both, none_pass, none_fail, IsCut-parts, rest_fails}
 use Rattle.tree.proofs.FromLast.{from_last_of, leaf_from_last, none_told}
 use Rattle.tree.proofs.Keys.{filter-items}
 use Rattle.tree.proofs.Looks.{IsLook, look_items}

@@ -9,7 +9,7 @@ use Rattle.tree.specs.Hints.{KeyBytes, BeginAlike, TellsCommon, KnowsAt}
 use Rattle.tree.specs.Item.{Item, Tells}
 use Rattle.tree.specs.Path.{IsCut}
 use Rattle.tree.specs.Subtree.{entries_at, items_in, IsSubtree}
-use Rattle.tree.proofs.Cuts.{none_pass, rest_fails, length-passing}
+use Rattle.tree.proofs.callers.Cuts.{none_pass, rest_fails, length-passing}
 use Rattle.tree.proofs.FirstKeys.{first_tells, items_under, node_items, node_tells}
 use Rattle.tree.proofs.Spans.{before_cut}
 

@@ -13,7 +13,7 @@ use Rattle.tree.specs.Node.{entries_of}
 use Rattle.tree.specs.Subtree.{entries_at, items_in, slots_in}
 use Rattle.tree.specs.Replace.{IsKeyless}
 use Rattle.tree.specs.Tree.{IsTree, IsRooted, least_of, way}
-use Rattle.tree.proofs.Times.{distinct_if_once}
+use Rattle.tree.proofs.callers.Times.{distinct_if_once}
 use Rattle.tree.proofs.Frames.{Agree, agree_own, items_same, slots_same, subtree_same}
 use Rattle.tree.proofs.Changing.{moves_placed}
 

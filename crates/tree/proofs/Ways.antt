@@ -17,7 +17,7 @@ use Rattle.tree.specs.declared.node.Node.{Node}
 use Rattle.tree.specs.Item.{Item, Tells}
 use Rattle.tree.specs.Path.{IsCut, index_in, child_in}
 use Rattle.tree.specs.Subtree.{entries_at, items_in, IsChild, IsSubtree}
-use Rattle.tree.proofs.Cuts.{none_pass, IsCut-parts, rest_fails, length-passing, All-back}
+use Rattle.tree.proofs.callers.Cuts.{none_pass, IsCut-parts, rest_fails, length-passing, All-back}
 
 -- an element of a list, between those before it and those behind it
 pub around_element : {X : Type 0} (xs : List X) (i : ℕ) (d : X) → i < length xs

@@ -11,14 +11,14 @@ use Rattle.std.proofs.Math.Facts.{Fits-of_z}
 use Rattle.byteorder.specs.Endian.{big_bytes, big_number}
 use Rattle.byteorder.specs.Numbers.{big_number-reads_back, length-bytes_high_first}
 use Rattle.keys.specs.Key.{is_before}
-use Rattle.keys.proofs.Booleans.{and_both}
+use Rattle.keys.proofs.callers.Booleans.{and_both}
 use Rattle.wire.specs.declared.version.WireVersion.{WireVersion}
 use Rattle.wire.specs.declared.version.WireVersion.TheVariants.{One, Two}
 use Rattle.wire.specs.Fields.{RangeFields, TxnFields, BatchFields}
 use Rattle.wire.specs.Spelling.{signed_text, key_text, ends_text, is_single_key, formed_text, range_text, marks_text, txn_text, batch_kind, header_text, batch_body, frame, IsShort, RangeHolds, TxnHolds, BatchHolds}
 use Rattle.wire.specs.Reading.{number_at, signed_at, version_at, count_at, marks_at, kind_at, key_at, ends_at, form_at, formed_at, range_at, many_at, txn_at, batch_kind_at, header_at, fields_at, batch_at, body_at, all_of, read_batch}
 use Rattle.wire.proofs.Loop.{Reading}
-use Rattle.wire.proofs.Singles.{single_is}
+use Rattle.wire.proofs.callers.Singles.{single_is}
 use Rattle.wire.proofs.Parts.{rest_text, versioned_body, VersionedHolds}
 
 pub number_again : (n x : ℕ) (rest : List ℕ) → x < 256 ^ n

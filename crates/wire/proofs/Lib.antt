@@ -1,3 +1,4 @@
+pub mod callers
 pub mod Loop
 pub mod Appending
 pub mod Texts
@@ -5,7 +6,6 @@ pub mod Steps
 pub mod Taken
 pub mod Rests
 pub mod Sealing
-pub mod Singles
 pub mod Parts
 pub mod Heads
 pub mod Batches
@@ -15,10 +15,6 @@ pub mod PlaceLists
 pub mod Replies
 pub mod Fields
 pub mod OneSpelling
-pub mod Held
-pub mod Known
-pub mod Filling
-pub mod Given
 pub mod FrameLengths
 pub mod NextFrames
 pub mod NewFrames

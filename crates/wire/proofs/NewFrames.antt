@@ -13,8 +13,8 @@ use Rattle.wire.specs.Fields.{batch_fields}
 use Rattle.wire.specs.Spelling.{batch_body}
 use Rattle.wire.specs.NextFrame.{IsFrameOf, TakesFrame}
 use Rattle.wire.specs.Upgrade.{new_frame, new_frames, AreFrames, BeginWithFrames, ComesFrom, Upgrades, StopsAt, BreaksOff}
-use Rattle.wire.proofs.Given.{appends_none, appends_then}
-use Rattle.wire.proofs.Known.{consumes_none, consumes_then}
+use Rattle.wire.proofs.callers.Given.{appends_none, appends_then}
+use Rattle.wire.proofs.callers.Known.{consumes_none, consumes_then}
 
 -- a batch that was read and can't be encoded
 pub outgrows : (old new : Option (List ℕ)) (batch : Batch) (e : WireError) → TakesFrame old new batch

@@ -16,7 +16,7 @@ use Rattle.wire.specs.Reading.{read_batch, refusal, version_told}
 use Rattle.wire.proofs.Taken.{AreBytes}
 use Rattle.wire.proofs.Batches.{batch_is_spelled}
 use Rattle.wire.proofs.FrameLengths.{at_most_whole, same_read}
-use Rattle.wire.proofs.Known.{held_consumes}
+use Rattle.wire.proofs.callers.Known.{held_consumes}
 
 -- what is held is no more than its first frame
 pub whole_frame : (held bytes frame : List ℕ) → bytes ≡ held → frame ≡ take (4 + big_number 4 bytes) bytes

@@ -15,7 +15,7 @@ use Rattle.wire.specs.Reading.{◌>>=◌, reply_at, all_of, read_reply, refusal}
 use Rattle.wire.proofs.Taken.{AreBytes}
 use Rattle.wire.proofs.Replies.{reply_decoded}
 use Rattle.wire.proofs.FrameLengths.{at_most_whole, same_body}
-use Rattle.wire.proofs.Known.{held_consumes}
+use Rattle.wire.proofs.callers.Known.{held_consumes}
 use Rattle.wire.proofs.NextFrames.{not_nil}
 
 same_reply : (front rest : List ℕ) → (length front < frame_length front → rest ≡ [])

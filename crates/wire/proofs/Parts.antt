@@ -11,7 +11,7 @@ use Rattle.std.proofs.lemmas.List.Concat.{flat_map-cons}
 use Rattle.std.proofs.lemmas.List.Elements.{All-nil, All-cons, All-append}
 use Rattle.byteorder.specs.Endian.{big_bytes}
 use Rattle.keys.specs.Key.{IsKey, IsBytes, is_before}
-use Rattle.keys.proofs.Booleans.{and_left, and_right}
+use Rattle.keys.proofs.callers.Booleans.{and_left, and_right}
 use Rattle.wire.specs.declared.error.WireError.{WireError}
 use Rattle.wire.specs.declared.error.WireError.TheVariants.{Kind, Marks, Count, KeyLength, Inverted, Cut, Spelling}
 use Rattle.wire.specs.declared.version.WireVersion.{WireVersion}
@@ -20,7 +20,7 @@ use Rattle.wire.specs.Fields.{RangeFields, TxnFields, BatchFields}
 use Rattle.wire.specs.Spelling.{key_text, ends_text, single_key, is_single_key, formed_text, range_text, marks_text, txn_text, batch_kind, header_text, batch_body, RangeHolds, TxnHolds, BatchHolds}
 use Rattle.wire.specs.Reading.{◌>>=◌, number_at, version_at, count_at, marks_at, kind_at, key_at, ends_at, form_at, formed_at, range_at, many_at, txn_at, version_of_kind, batch_kind_at, header_at, fields_at, batch_at}
 use Rattle.wire.proofs.Loop.{Reading}
-use Rattle.wire.proofs.Singles.{single_found, at_most_end}
+use Rattle.wire.proofs.callers.Singles.{single_found, at_most_end}
 use Rattle.wire.proofs.Steps.{bind_ok, passed_over, passed, ok_is}
 use Rattle.wire.proofs.Taken.{AreBytes, AreBytes-take, AreBytes-drop, Takes, Takes-then, back_1, back_2, number_takes, version_takes}
 

@@ -7,7 +7,7 @@ use Rattle.std.proofs.lemmas.List.Concat.{flat_map-cons}
 use Rattle.std.proofs.lemmas.List.Elements.{All-nil, All-cons, All-head, All-tail}
 use Rattle.byteorder.specs.Endian.{big_bytes}
 use Rattle.keyspace.specs.Places.{ArePlaces}
-use Rattle.keys.proofs.Booleans.{and_left, and_right, and_both}
+use Rattle.keys.proofs.callers.Booleans.{and_left, and_right, and_both}
 use Rattle.wire.specs.declared.error.WireError.{WireError}
 use Rattle.wire.specs.declared.error.WireError.TheVariants.{Marks}
 use Rattle.wire.specs.Spelling.{places_text}

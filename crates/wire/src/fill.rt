@@ -15,7 +15,7 @@ use byteorder::{BigEndian, ByteOrder};
 const CHUNK_LENGTH: usize = 65_536;
 
 // Reads once into the memory behind what the buffer holds, at most `most` bytes, and returns how many.
-#[tactic(auto, using(crate::proofs::Known::prepended))]
+#[tactic(auto, using(crate::proofs::callers::Known::prepended))]
 fn read_more<R: Source>(
     reader: &mut R,
     buffer: &mut Vec<u8>,
@@ -44,7 +44,7 @@ fn read_more<R: Source>(
 }
 
 // Reads until the buffer holds `target` bytes or the input ends.
-#[tactic(auto, using(crate::proofs::Known::keeps_same, crate::proofs::Known::keeps_then))]
+#[tactic(auto, using(crate::proofs::callers::Known::keeps_same, crate::proofs::callers::Known::keeps_then))]
 fn fill<R: Source>(reader: &mut R, buffer: &mut Vec<u8>, target: usize) -> Result<(), WireError>
     requires room { vec_len buffer.old ≤ target }
     ensures joined { OnOk result (Keeps (prepend_known buffer.old.items (R.remaining reader.old))
@@ -82,7 +82,7 @@ fn settled_by(front: &[u8]) -> usize
 }
 
 /// Reads the bytes of the next frame into the buffer: as many as settle what it says, or all that are left.
-#[tactic(auto, using(crate::proofs::Known::prepended_none, crate::proofs::Known::keeps_then, crate::proofs::FrameLengths::same_length, crate::proofs::FrameLengths::at_least_four))]
+#[tactic(auto, using(crate::proofs::callers::Known::prepended_none, crate::proofs::callers::Known::keeps_then, crate::proofs::FrameLengths::same_length, crate::proofs::FrameLengths::at_least_four))]
 pub fn fill_frame<R: Source>(reader: &mut R, buffer: &mut Vec<u8>) -> Result<(), WireError>
     ensures joined { OnOk result
         (Keeps (R.remaining reader.old) (prepend_known buffer.new.items (R.remaining reader.new))) }

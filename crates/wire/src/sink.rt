@@ -78,7 +78,7 @@ impl<W> StdSink<W> {
     }
 }
 
-#[tactic(auto, using(crate::proofs::Known::keeps_same, crate::proofs::Known::keeps_then, crate::proofs::Given::told_appends))]
+#[tactic(auto, using(crate::proofs::callers::Known::keeps_same, crate::proofs::callers::Known::keeps_then, crate::proofs::callers::Given::told_appends))]
 impl<W: Write> Sink for StdSink<W> {
     ghost given = { sink_given W.contents };
 

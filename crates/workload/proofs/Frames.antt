@@ -4,7 +4,7 @@ use Rattle.std.specs.Io.KnownBytes.{Appends}
 use Rattle.keyspace.specs.declared.batch.Batch.{Batch}
 use Rattle.wire.specs.declared.version.WireVersion.TheVariants.{One}
 use Rattle.wire.specs.Spelling.{SpellsBatch}
-use Rattle.wire.proofs.Given.{appends_then}
+use Rattle.wire.proofs.callers.Given.{appends_then}
 use Rattle.workload.specs.declared.shape.Shape.{Shape}
 use Rattle.workload.specs.Chain.{IsBatchOf, AreFrames}
 

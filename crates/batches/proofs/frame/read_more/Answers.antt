@@ -1,6 +1,6 @@
 use Rattle.std.proofs.Common.{◌≡◌, ◌+◌, ◌≤◌, ◌++◌, length, take, rules, ◌∙◌}
-use Rattle.wire.proofs.Known.{prepended}
-use Rattle.wire.proofs.Filling.{filled, held_stays}
+use Rattle.wire.proofs.callers.Known.{prepended}
+use Rattle.wire.proofs.callers.Filling.{filled, held_stays}
 use Rattle.batches.proofs.frame.read_more.Goals as goal
 
 pub returns-clause-joined : goal.returns-clause-joined

@@ -2,7 +2,7 @@ use Rattle.std.proofs.Common.{w64, take, ◌∙◌}
 use Rattle.std.specs.Int.RustNames.{FitsSigned}
 use Rattle.std.proofs.lemmas.List.Elements.{All-push}
 use Rattle.wire.specs.Fields.{txn_fields}
-use Rattle.wire.proofs.Appending.{one_more}
+use Rattle.wire.proofs.callers.Lists.{one_more}
 use Rattle.json_lines.specs.Written.{txn_json}
 use Rattle.json_lines.proofs.Tokens.{tokens_put}
 use Rattle.json_lines.proofs.batch_writer.each_txn.Goals as goal

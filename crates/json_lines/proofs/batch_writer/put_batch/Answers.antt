@@ -1,5 +1,5 @@
 use Rattle.std.proofs.Common.{append_assoc, rules}
-use Rattle.wire.proofs.Held.{batch_holds}
+use Rattle.wire.proofs.callers.Held.{batch_holds}
 use Rattle.json_lines.proofs.batch_writer.put_batch.Goals as goal
 
 pub returns-clause-holds : goal.returns-clause-holds

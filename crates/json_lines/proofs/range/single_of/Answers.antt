@@ -1,5 +1,5 @@
 use Rattle.std.proofs.Common.{◌≡◌, ◌++◌, ◌∷◌, [], rules}
-use Rattle.wire.proofs.Singles.{at_most_end}
+use Rattle.wire.proofs.callers.Singles.{at_most_end}
 use Rattle.json_lines.proofs.range.single_of.Goals as goal
 
 pub new-requires-3 : goal.new-requires-3

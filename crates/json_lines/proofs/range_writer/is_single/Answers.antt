@@ -1,5 +1,5 @@
 use Rattle.std.proofs.Common.{◌∙◌}
-use Rattle.wire.proofs.Singles.{empty_not_single, single_if_zero, single_unless_zero}
+use Rattle.wire.proofs.callers.Singles.{empty_not_single, single_if_zero, single_unless_zero}
 use Rattle.json_lines.proofs.range_writer.is_single.Goals as goal
 
 pub returns-in_default : goal.returns-in_default

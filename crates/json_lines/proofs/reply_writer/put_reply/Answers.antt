@@ -2,7 +2,7 @@ use Rattle.std.proofs.Common.{List, subst, rules}
 use Rattle.std.specs.List.{All}
 use Rattle.keyspace.specs.Places.{ArePlaces}
 use Rattle.keyspace.specs.declared.reply.Entry.{Entry}
-use Rattle.wire.proofs.Held.{reply_holds}
+use Rattle.wire.proofs.callers.Held.{reply_holds}
 use Rattle.json_lines.proofs.reply_writer.put_reply.Goals as goal
 
 pub returns-clause-holds : goal.returns-clause-holds

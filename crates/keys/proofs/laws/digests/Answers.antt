@@ -1,4 +1,4 @@
-use Rattle.keys.proofs.Digests.{digest_less, digest_at_most, digest_same, digest_same_long}
+use Rattle.keys.proofs.callers.Digests.{digest_less, digest_at_most, digest_same, digest_same_long}
 use Rattle.keys.proofs.laws.digests.Goals as goal
 
 pub returns : goal.returns

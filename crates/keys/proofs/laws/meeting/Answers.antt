@@ -1,4 +1,4 @@
-use Rattle.keys.proofs.Meeting.{meets_by_ends}
+use Rattle.keys.proofs.callers.Meeting.{meets_by_ends}
 use Rattle.keys.proofs.laws.meeting.Goals as goal
 
 pub returns : goal.returns

@@ -1,7 +1,7 @@
 use Rattle.std.proofs.Common.{ap, ◌∙◌, ◌++◌, drop, replicate}
 use Rattle.std.specs.Int.{w64, from_be_bytes}
 use Rattle.keys.specs.Digest.{digest_of}
-use Rattle.keys.proofs.Digests.{filled_up}
+use Rattle.keys.proofs.callers.Digests.{filled_up}
 use Rattle.keys.proofs.prefix.short_digest.Goals as goal
 
 pub returns : goal.returns

@@ -1,7 +1,7 @@
 use Rattle.std.proofs.Common.{◌++◌, codes, List, ℕ, subst, ◌∙◌}
 use Rattle.std.proofs.lemmas.Result.{on_ok_weaker}
 use Rattle.std.specs.Io.KnownBytes.{Appends}
-use Rattle.wire.proofs.Given.{appends_then}
+use Rattle.wire.proofs.callers.Given.{appends_then}
 use Rattle.player.proofs.begin_line.begin_line.Goals as goal
 
 pub returns-clause-text : goal.returns-clause-text

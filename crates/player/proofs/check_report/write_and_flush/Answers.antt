@@ -2,7 +2,7 @@ use Rattle.std.proofs.Common.{length, sym, subst}
 use Rattle.std.proofs.Math.Seq.{take-length}
 use Rattle.std.specs.Prelude.{OnErr}
 use Rattle.std.specs.Io.KnownBytes.{Appends}
-use Rattle.wire.proofs.Given.{beginning}
+use Rattle.wire.proofs.callers.Given.{beginning}
 use Rattle.player.proofs.Results.{on_err_weaker}
 use Rattle.player.proofs.check_report.write_and_flush.Goals as goal
 

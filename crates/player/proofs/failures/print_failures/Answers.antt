@@ -1,6 +1,6 @@
 use Rattle.std.proofs.lemmas.Result.{on_ok_weaker}
 use Rattle.player.specs.Failures.{proxy_lines, ending_line}
-use Rattle.wire.proofs.Given.{appends_then}
+use Rattle.wire.proofs.callers.Given.{appends_then}
 use Rattle.player.proofs.Clean.{Keeps-from_clean}
 use Rattle.player.proofs.failures.print_failures.Goals as goal
 

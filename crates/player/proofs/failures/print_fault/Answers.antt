@@ -2,7 +2,7 @@ use Rattle.std.proofs.Common.{Option, sym, subst, ◌∙◌}
 use Rattle.std.proofs.lemmas.Result.{on_ok_weaker}
 use Rattle.std.specs.Io.KnownBytes.{Appends}
 use Rattle.wire.specs.declared.error.WireError.{WireError}
-use Rattle.wire.proofs.Given.{appends_then}
+use Rattle.wire.proofs.callers.Given.{appends_then}
 use Rattle.player.specs.Failures.{fault_line}
 use Rattle.player.proofs.failures.print_fault.Goals as goal
 

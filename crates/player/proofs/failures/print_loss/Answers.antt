@@ -1,7 +1,7 @@
 use Rattle.std.proofs.Common.{◌≡◌, Bool, true, rules, sym, subst}
 use Rattle.std.proofs.lemmas.Result.{on_ok_weaker}
 use Rattle.std.specs.Io.KnownBytes.{Appends}
-use Rattle.wire.proofs.Given.{appends_then}
+use Rattle.wire.proofs.callers.Given.{appends_then}
 use Rattle.player.specs.Failures.{loss_line}
 use Rattle.player.proofs.failures.print_loss.Goals as goal
 

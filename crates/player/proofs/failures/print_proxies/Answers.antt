@@ -1,6 +1,6 @@
 use Rattle.std.proofs.Common.{rules, sym, subst, ◌∙◌, arith}
 use Rattle.std.specs.Io.KnownBytes.{Appends}
-use Rattle.wire.proofs.Given.{appends_then}
+use Rattle.wire.proofs.callers.Given.{appends_then}
 use Rattle.player.specs.Failures.{lines_of_failure}
 use Rattle.player.proofs.Numbered.{numbered-more}
 use Rattle.player.proofs.failures.print_proxies.Goals as goal

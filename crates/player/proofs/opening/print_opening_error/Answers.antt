@@ -1,7 +1,7 @@
 use Rattle.std.proofs.Common.{sym, subst}
 use Rattle.std.proofs.lemmas.Result.{on_ok_weaker}
 use Rattle.std.specs.Io.KnownBytes.{Appends}
-use Rattle.wire.proofs.Given.{appends_then}
+use Rattle.wire.proofs.callers.Given.{appends_then}
 use Rattle.player.specs.declared.opening.OpeningError.{OpeningError}
 use Rattle.player.specs.Opening.{opening_line}
 use Rattle.player.proofs.opening.print_opening_error.Goals as goal

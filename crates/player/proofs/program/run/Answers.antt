@@ -1,6 +1,6 @@
 use Rattle.std.proofs.Common.{◌∙◌, List, ℕ, Err, ap, map, arith}
 use Rattle.std.specs.Prelude.{string_bytes, IsTrue}
-use Rattle.stepmap.proofs.LeftOpen.{is_false}
+use Rattle.stepmap.proofs.callers.Booleans.{is_false}
 use Rattle.std.proofs.lemmas.List.{length-map}
 use Rattle.player.specs.Replayed.{written}
 use Rattle.player.proofs.Programs.{ends_by, ends_checked, ends_replayed, not_kept}

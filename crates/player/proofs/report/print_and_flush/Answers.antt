@@ -1,7 +1,7 @@
 use Rattle.std.proofs.Common.{vec_items, map, length, sym, subst}
 use Rattle.std.proofs.Math.Seq.{take-length}
 use Rattle.std.specs.Io.KnownBytes.{Appends}
-use Rattle.wire.proofs.Given.{beginning}
+use Rattle.wire.proofs.callers.Given.{beginning}
 use Rattle.player.specs.Line.{answers_of}
 use Rattle.player.specs.Lines.{lines}
 use Rattle.player.proofs.Results.{at_err_also}

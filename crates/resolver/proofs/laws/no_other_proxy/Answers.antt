@@ -11,6 +11,3 @@ returns-clause-stands c = λ r log stands. none_of_others (length r.lanes) log (
 pub returns-clause-settled : goal.returns-clause-settled
 returns-clause-settled c = λ window log ended clients account settled.
     none_of_others (length clients) log settled.proxies
-
-pub returns-clause-served : goal.returns-clause-served
-returns-clause-served c = λ window log first second served are. none_of_others 2 log are.proxies

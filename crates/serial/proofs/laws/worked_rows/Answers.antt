@@ -1,5 +1,5 @@
 use Rattle.std.proofs.Common.{refl}
-use Rattle.keyspace.proofs.Limits.{limits}
+use Rattle.keyspace.proofs.callers.Chains.{limits}
 use Rattle.serial.proofs.Examples.{are_effects, values_differ}
 use Rattle.serial.proofs.laws.worked_rows.Goals as goal
 

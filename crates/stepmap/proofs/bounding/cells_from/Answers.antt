@@ -3,7 +3,7 @@ use Rattle.std.proofs.lemmas.List.{map-append}
 use Rattle.std.proofs.lemmas.List.Elements.{All-append, All-cons, All-nil}
 use Rattle.filter.specs.Filter.{cell_of}
 use Rattle.keys.specs.declared.range.Range.{Range}
-use Rattle.stepmap.proofs.LeftOpen.{part_more}
+use Rattle.keys.proofs.callers.Lists.{part_more}
 use Rattle.stepmap.proofs.bounding.cells_from.Goals as goal
 
 pub loop-index-preserved : goal.loop-index-preserved

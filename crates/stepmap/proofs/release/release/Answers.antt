@@ -2,7 +2,7 @@ use Rattle.std.proofs.Common.{◌≡◌, ℕ, List, ◌<◌, length, map, get_or
 use Rattle.std.proofs.lemmas.List.{get_or-map, length-map, take_all}
 use Rattle.arena.specs.Arena.{IsLive}
 use Rattle.tree.specs.declared.entry.Entry.{Entry}
-use Rattle.tree.proofs.Times.{times_unless_contains}
+use Rattle.tree.proofs.callers.Times.{times_unless_contains}
 use Rattle.stepmap.proofs.Releasing.{AreReleased, none_released, next_live, next_released, spare_released}
 use Rattle.stepmap.proofs.release.release.Goals as goal
 use Rattle.stepmap.proofs.release.release.Goals.{After-entry-item, After-release, After-loop-entry}

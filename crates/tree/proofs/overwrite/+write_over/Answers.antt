@@ -10,7 +10,7 @@ use Rattle.tree.specs.Path.{index_in}
 use Rattle.tree.specs.Subtree.{entries_at, items_in, slots_in, IsSubtree}
 use Rattle.tree.specs.Tree.{least_of}
 use Rattle.tree.specs.Replace.{child_at, items_with, items_of, slots_with, Changes}
-use Rattle.tree.proofs.Times.{distinct_if_once}
+use Rattle.tree.proofs.callers.Times.{distinct_if_once}
 use Rattle.tree.proofs.Changing.{moves_if_changes}
 use Rattle.tree.proofs.FirstKeys.{known_below}
 use Rattle.tree.proofs.Hinted.{hinted_at}

@@ -15,7 +15,7 @@ use Rattle.tree.specs.Path.{IsCut}
 use Rattle.tree.specs.Subtree.{entries_at, items_in, IsChild, IsSubtree}
 use Rattle.tree.specs.Tree.{least_of}
 use Rattle.tree.proofs.Above.{at_most_tested}
-use Rattle.tree.proofs.Cuts.{not_true}
+use Rattle.tree.proofs.callers.Cuts.{not_true}
 use Rattle.tree.proofs.Found.{entries_read}
 use Rattle.tree.proofs.Hinted.{hint_kept, hinted_at}
 use Rattle.tree.proofs.NearCuts.{agrees_too}

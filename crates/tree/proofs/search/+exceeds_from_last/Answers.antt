@@ -9,7 +9,7 @@ use Rattle.tree.specs.Item.{Item, Tells}
 use Rattle.tree.specs.Path.{to_cut}
 use Rattle.tree.specs.Subtree.{items_in}
 use Rattle.tree.specs.Tree.{least_of}
-use Rattle.tree.proofs.Cuts.{not_both}
+use Rattle.tree.proofs.callers.Cuts.{not_both}
 use Rattle.tree.proofs.Spans.{span}
 use Rattle.tree.proofs.Looks.{IsLook, look_of, look_cut, to_asked, ask_to, look_ordered, look_apart, look_tell, child_subtree, child_tells, child_from, child_to, last_inside}
 use Rattle.tree.proofs.Above.{IsAbove, not_above_tested, not_above_told, children_above, above_of_children, part_above, leaf_above, none_above, found_above, above_left, above_middle, last_above}

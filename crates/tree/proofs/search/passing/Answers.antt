@@ -1,7 +1,7 @@
 use Rattle.std.proofs.Common.{length, sym, ◌∙◌, ap, length-take-le, rules}
 use Rattle.std.proofs.lemmas.List.Sorted.{IsPartitionPoint-from_clause}
 use Rattle.tree.specs.declared.entry.Entry.{Entry}
-use Rattle.tree.proofs.Cuts.{partitioned, parted_at}
+use Rattle.tree.proofs.callers.Cuts.{partitioned, parted_at}
 use Rattle.tree.proofs.search.passing.Goals as goal
 
 pub returns : goal.returns

@@ -1,6 +1,6 @@
 use Rattle.std.proofs.Common.{◌≡◌, pos, negsuc, int_le, int_lt, ◌&&◌, true, refl, arith, rules, SFits, w64}
 use Rattle.std.proofs.lemmas.Int.{ints, to_z-of_z}
-use Rattle.keys.proofs.Booleans.{and_both}
+use Rattle.keys.proofs.callers.Booleans.{and_both}
 use Rattle.wire.specs.Reading.{header_at}
 use Rattle.wire.proofs.Steps.{version_taken}
 use Rattle.wire.proofs.batch.header_of.Goals as goal

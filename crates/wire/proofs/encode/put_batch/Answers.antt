@@ -2,7 +2,7 @@ use Rattle.std.proofs.Common.{append_assoc, rules, SFits, w64}
 use Rattle.std.proofs.lemmas.Int.{to_z-of_z}
 use Rattle.std.proofs.lemmas.List.{length-map}
 use Rattle.wire.specs.Spelling.{batch_body}
-use Rattle.wire.proofs.Held.{batch_holds}
+use Rattle.wire.proofs.callers.Held.{batch_holds}
 use Rattle.wire.proofs.encode.put_batch.Goals as goal
 
 pub returns-clause-text : goal.returns-clause-text

@@ -5,7 +5,7 @@ use Rattle.std.proofs.lemmas.List.{length-map}
 use Rattle.keyspace.specs.Places.{ArePlaces}
 use Rattle.keyspace.specs.declared.reply.Entry.{Entry}
 use Rattle.wire.specs.Spelling.{reply_body}
-use Rattle.wire.proofs.Held.{reply_holds}
+use Rattle.wire.proofs.callers.Held.{reply_holds}
 use Rattle.wire.proofs.encode.put_reply.Goals as goal
 
 pub returns-clause-text : goal.returns-clause-text

@@ -8,7 +8,7 @@ use Rattle.wire.specs.Lying.{AreApart, batch_told}
 use Rattle.wire.specs.FrameLength.{frame_length}
 use Rattle.wire.specs.Reading.{read_batch}
 use Rattle.wire.proofs.FrameLengths.{at_least_four}
-use Rattle.wire.proofs.Known.{held_end}
+use Rattle.wire.proofs.callers.Known.{held_end}
 use Rattle.wire.proofs.NextFrames.{takes_frame, whole_frame, is_fault, each_byte}
 use Rattle.wire.proofs.frames.read_next.Goals as goal
 

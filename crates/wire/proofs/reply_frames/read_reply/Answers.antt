@@ -6,7 +6,7 @@ use Rattle.byteorder.specs.Endian.{big_number}
 use Rattle.wire.specs.FrameLength.{frame_length}
 use Rattle.wire.specs.Reading.{read_reply}
 use Rattle.wire.proofs.FrameLengths.{at_least_four}
-use Rattle.wire.proofs.Known.{held_end}
+use Rattle.wire.proofs.callers.Known.{held_end}
 use Rattle.wire.proofs.NextFrames.{each_byte}
 use Rattle.wire.proofs.NextReplies.{takes_reply, is_reply_fault}
 use Rattle.wire.proofs.reply_frames.read_reply.Goals as goal

@@ -1,7 +1,7 @@
 use Rattle.std.proofs.Common.{◌≡◌, ◌≤◌, ◌+◌, ◌-◌, ℕ, List, length, take, drop, subst, ◌∙◌, arith}
 use Rattle.std.specs.Io.KnownBytes.{Appends}
 use Rattle.std.proofs.lemmas.List.{length-drop, take_all}
-use Rattle.wire.proofs.Given.{written_more}
+use Rattle.wire.proofs.callers.Given.{written_more}
 use Rattle.wire.proofs.sink.write_all.Goals as goal
 
 pub loop-written-preserved : goal.loop-written-preserved

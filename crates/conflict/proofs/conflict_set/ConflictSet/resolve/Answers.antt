@@ -5,7 +5,7 @@ use Rattle.keyspace.specs.declared.reply.Reply.{Reply}
 use Rattle.keyspace.specs.Judged.{edge, Judged}
 use Rattle.keyspace.specs.Judge.{judge, judge_txns}
 use Rattle.keyspace.specs.Writes.{writes_of, committed}
-use Rattle.keyspace.proofs.Judging.{reply_same}
+use Rattle.keyspace.proofs.callers.Judging.{reply_same}
 use Rattle.stepmap.specs.Covers.{MapCovers}
 use Rattle.stepmap.specs.Rooted.{Rooted}
 use Rattle.stepmap.specs.StepMap.{Steps}

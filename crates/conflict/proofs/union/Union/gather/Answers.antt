@@ -2,7 +2,7 @@ use Rattle.std.proofs.Common.{◌≡◌, ◌<◌, length, get_or, take, ◌+◌,
 use Rattle.std.proofs.lemmas.List.{get_or_default, take_all}
 use Rattle.keys.specs.Range.{IsEmpty, is_filled}
 use Rattle.keys.specs.declared.range.Range.{Range}
-use Rattle.keys.proofs.Filled.{empty_if}
+use Rattle.keys.proofs.callers.Ranks.{empty_if}
 use Rattle.conflict.specs.Union.{AreUnited}
 use Rattle.conflict.proofs.UnionAdded.{united_none}
 use Rattle.conflict.proofs.UnionOrder.{listed, listed_before, marked_next, unmarked_next, order_filled, order_within, unites_picked}

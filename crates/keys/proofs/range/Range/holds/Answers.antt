@@ -1,4 +1,4 @@
-use Rattle.keys.proofs.KeyOrder.{is_le-cmp}
+use Rattle.keys.proofs.callers.KeyOrder.{is_le-cmp}
 use Rattle.keys.proofs.range.Range.holds.Goals as goal
 
 pub returns-then-is_le : goal.returns-then-is_le

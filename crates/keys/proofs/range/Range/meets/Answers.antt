@@ -1,6 +1,6 @@
 use Rattle.std.proofs.Common.{◌≡◌, ◌∙◌, sym, rules}
 use Rattle.keys.specs.Range.{ranges_meet}
-use Rattle.keys.proofs.Meeting.{meets_from_test, test_from_meets}
+use Rattle.keys.proofs.callers.Meeting.{meets_from_test, test_from_meets}
 use Rattle.keys.proofs.range.Range.meets.Goals as goal
 
 pub returns-then-lt-3-clause-meets : goal.returns-then-lt-3-clause-meets

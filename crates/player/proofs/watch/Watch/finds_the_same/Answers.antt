@@ -3,7 +3,7 @@ use Rattle.std.specs.Prelude.{slice_get, slice_index}
 use borrow.Author.Count.{below_more}
 use Rattle.flow.specs.declared.told.Told.{Told}
 use Rattle.resolver.specs.Lanes.{sent_to}
-use Rattle.resolver.proofs.Settling.{slice_get-set_other}
+use Rattle.resolver.proofs.callers.Lists.{slice_get-set_other}
 use Rattle.player.specs.Watch.{Look}
 use Rattle.player.proofs.Watching.{same_after}
 use Rattle.player.proofs.watch.Watch.finds_the_same.Goals as goal

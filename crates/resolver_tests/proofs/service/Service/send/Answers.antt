@@ -1,6 +1,6 @@
 use Rattle.std.proofs.Common.{arith}
 use Rattle.std.proofs.lemmas.Option.{slice_get_read}
-use Rattle.resolver.proofs.Later.{intake_same, clients_set, lanes_same, AreClients-later}
+use Rattle.resolver.proofs.callers.Later.{intake_same, clients_set, lanes_same, AreClients-later}
 use Rattle.resolver_tests.proofs.service.Service.send.Goals as goal
 
 pub invariant_of-self : goal.invariant_of-self

@@ -2,8 +2,8 @@ use Rattle.std.proofs.Common.{List, sym, subst}
 use Rattle.resolver.specs.declared.client.Client.{Client}
 use Rattle.resolver.specs.Lanes.{Lanes, Each, LanesGoOn, AreSameLists}
 use Rattle.resolver.specs.Resolver.{AreClients, SameClients}
-use Rattle.resolver.proofs.Settling.{written_back}
-use Rattle.resolver.proofs.Later.{ClientsGoOn, AreClients-later}
+use Rattle.resolver.proofs.callers.Lists.{written_back}
+use Rattle.resolver.proofs.callers.Later.{ClientsGoOn, AreClients-later}
 use Rattle.resolver_tests.proofs.service.Service.settle.Goals as goal
 
 clients_settle : (old new : List Client) → SameClients old new → ClientsGoOn old new

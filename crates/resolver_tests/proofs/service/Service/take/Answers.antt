@@ -1,6 +1,6 @@
 use Rattle.std.proofs.Common.{arith}
 use Rattle.std.proofs.lemmas.Option.{slice_get_read}
-use Rattle.resolver.proofs.Later.{port_same, clients_set, lanes_same, AreClients-later}
+use Rattle.resolver.proofs.callers.Later.{port_same, clients_set, lanes_same, AreClients-later}
 use Rattle.resolver_tests.proofs.service.Service.take.Goals as goal
 
 pub invariant_of-self : goal.invariant_of-self

@@ -1,4 +1,4 @@
-use Rattle.resolver.proofs.Later.{clients_same, AreClients-later}
+use Rattle.resolver.proofs.callers.Later.{clients_same, AreClients-later}
 use Rattle.resolver_tests.proofs.service.Service.turn.Goals as goal
 
 pub invariant_of-self : goal.invariant_of-self

@@ -24,7 +24,7 @@ use Rattle.std.specs.Prelude.{◌↔◌}
 use Rattle.std.proofs.lemmas.Bool.{not-true, not-false}
 use Rattle.std.proofs.lemmas.Int.{to_z-of_z}
 use Rattle.arena.specs.Arena.{size_of, wanted_of}
-use Rattle.keys.proofs.Booleans.{not_both_ways}
+use Rattle.keys.proofs.callers.Booleans.{not_both_ways}
 use Rattle.stepmap.specs.Boundary.{Boundary, value_at}
 use Rattle.stepmap.specs.Stored.{spare_in}
 use Rattle.stepmap.proofs.WrittenInParts.{

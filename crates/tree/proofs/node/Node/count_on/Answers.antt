@@ -3,7 +3,7 @@ use Rattle.tree.specs.declared.entry.Entry.{Entry}
 use Rattle.tree.specs.Hints.{IsDigestFor}
 use Rattle.tree.specs.Node.{entries_of, hint_of}
 use Rattle.tree.specs.Path.{IsCut}
-use Rattle.tree.proofs.Cuts.{IsCut-range, length-passing}
+use Rattle.tree.proofs.callers.Cuts.{IsCut-range, length-passing}
 use Rattle.tree.proofs.HintAt.{few_pass, many_pass}
 use Rattle.tree.proofs.HintCounts.{count_range}
 use Rattle.tree.proofs.node.Node.count_on.Goals as goal

@@ -1,0 +1,9 @@
+-- lemmas that proofs of the crates above may cite
+pub mod Booleans
+pub mod Numbers
+pub mod Lists
+pub mod SomeElement
+pub mod KeyOrder
+pub mod Meeting
+pub mod Digests
+pub mod Ranks

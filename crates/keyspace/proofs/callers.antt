@@ -1,0 +1,4 @@
+-- lemmas that proofs of the crates above may cite
+pub mod Judging
+pub mod Chains
+pub mod SameFields

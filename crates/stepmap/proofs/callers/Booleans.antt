@@ -1,0 +1,2 @@
+-- Lemmas for callers: what tests tell.
+pub use Rattle.stepmap.proofs.LeftOpen.{is_false}

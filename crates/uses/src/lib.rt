@@ -1,0 +1,19 @@
+//! How the crates are called: one short function for each, whose contract shows the clauses of the crate used.
+//!
+//! [`keep_two`] places records in an arena, [`there_and_back`] encodes a batch and decodes it again, [`through`] sends
+//! an item along a lane, [`judge_two`] resolves two batches with a conflict set, and [`serve_two`] has a resolver serve two
+//! proxies. Nothing stands on this crate.
+#![tactic(auto)]
+
+mod arena_use;
+mod conflict_use;
+mod lane_use;
+pub mod laws;
+mod serving;
+mod wire_use;
+
+pub use arena_use::keep_two;
+pub use conflict_use::judge_two;
+pub use lane_use::through;
+pub use serving::{Served, serve_two};
+pub use wire_use::there_and_back;
