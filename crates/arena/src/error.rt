@@ -7,7 +7,7 @@ use thiserror::Error;
 /// Why an arena refuses a call. Its records are then as before, and no spare slot is lost.
 #[derive(Clone, Copy, Debug, PartialEq, Eq, Hash, Error)]
 pub enum ArenaError {
-    /// A growth was refused in that call.
+    /// A growth was refused in that call, or it would make more than 8,388,608 chunks.
     #[error("1 Memory")]
     Memory = 1,
     /// A length is above `MAX_LENGTH`.

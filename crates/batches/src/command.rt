@@ -9,7 +9,7 @@ const EXAMPLE: &str =
 /// Returns the command of the program.
 pub fn command<'a>(alloc: Global) -> Result<Command<'a>, AllocError> {
     let command = Command::new(alloc, "batches")
-        .version("0.1.0")
+        .version("0.2.0")
         .about("Turns lines of JSON into frames of batches or replies, and back")
         .after_long_help(EXAMPLE)
         .subcommand_required(true)

@@ -14,7 +14,7 @@ pub enum LimitError {
     /// ranges.
     #[error("too many transactions or ranges")]
     Count,
-    /// Memory was refused.
+    /// Memory was refused, or the keys of the transactions have more than 4 GiB.
     #[error("memory was refused")]
     Memory,
 }

@@ -11,6 +11,9 @@ use lane::MAX_CAPACITY;
 use std::alloc::{AllocError, Global};
 use stepmap::MAX_LIMIT;
 
+/// The version, and the toolchain and the logic that prove it, as `rt version` prints them.
+const VERSION: &str = "0.2.0 (rattle-kit-13f logic dac8208d650f15bf)";
+
 const EXAMPLE: &str =
     "Example:\n  replay --capacity 1 --frames examples/two_proxies examples/second_proxy";
 
@@ -19,7 +22,7 @@ pub fn command<'a>(alloc: Global) -> Result<Command<'a>, AllocError>
     ensures app { IfOk result (λ command. app_of command ≡ replay_app) }
 {
     let command = Command::new(alloc, "replay")
-        .version("0.1.0")
+        .version(VERSION)
         .about("Resolves recorded batches of transactions and prints the verdicts")
         .after_long_help(EXAMPLE);
     command

@@ -184,7 +184,8 @@ fn defaults(rt: HostRuntime) {
 #[test]
 fn version_and_help(rt: HostRuntime) -> Result<(), Fail> {
     let version = end_of(rt.alloc(), "--version")?;
-    assert_eq!(rt; version.as_str(), "replay 0.1.0\ndone: ");
+    assert!(rt; version.as_str().starts_with("replay 0.2.0 ("));
+    assert!(rt; version.as_str().ends_with(")\ndone: "));
     let help = end_of(rt.alloc(), "--help")?;
     assert!(rt; help.as_str().ends_with("done: "));
     for part in [

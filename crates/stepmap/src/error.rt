@@ -7,7 +7,7 @@ use thiserror::Error;
 /// Why a step map refuses a call.
 #[derive(Clone, Copy, Debug, PartialEq, Eq, Hash, Error)]
 pub enum StepError {
-    /// A growth was refused in that call.
+    /// A growth was refused in that call, or an arena would have more than 8,388,608 chunks.
     #[error("1 Memory")]
     Memory = 1,
     /// The ranges don't fit within the limit on boundaries, although a whole round was swept in that call.

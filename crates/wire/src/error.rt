@@ -39,7 +39,7 @@ pub enum WireError {
     /// The body ends inside a field.
     #[error("10 Cut")]
     Cut = 10,
-    /// A growth of memory was refused in this call.
+    /// A growth of memory was refused in this call, or [`upgrade`](crate::upgrade) has written 2^64 - 1 frames.
     #[error("11 Memory")]
     Memory = 11,
     /// The reader failed in this call.

@@ -2,5 +2,6 @@ pub mod Versions
 pub mod Txns
 pub mod Chain
 pub mod Words
+pub mod Command
 pub mod Fault
 pub mod Run

@@ -141,6 +141,9 @@ fn all_is_passed_on(rt: HostRuntime) -> Result<(), Fail> {
         ("workload skiplisttest 1 1", 115, 1, 0),
         ("workload circles 1 1", 1_000, 2, 0),
         ("workload", 10, 1, 0),
+        ("workload --version", 1_000, 0, 15),
+        ("workload --version", 14, 1, 0),
+        ("workload points --help 1", 10, 1, 0),
     ] {
         assert_eq!(rt;
             run_with(rt.alloc(), text, room)?,

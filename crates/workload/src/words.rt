@@ -1,11 +1,16 @@
 //! The words of the command line.
 
-ghost use Rattle.std.specs.Prelude.{ℕ, IfSome, IfNone, map, string_bytes};
+ghost use Rattle.std.specs.Prelude.{ℕ, IfOk, IfSome, IfNone, map, string_bytes};
+ghost use Rattle.workload.specs.Command.{AsksForText};
 ghost use Rattle.workload.specs.declared.plan.Plan.{Plan as PlanValue};
 ghost use Rattle.workload.specs.Words.{AskFor, IsNumberTo};
 
+use crate::command::command;
+use crate::fault::Fault;
 use crate::plan::{MAX_BATCHES, MAX_TRANSACTIONS, Plan};
 use crate::shape::Shape;
+use clap::error::ErrorKind;
+use std::alloc::Global;
 
 /// What is printed where no words are given.
 pub const USAGE: &str = "usage: workload SHAPE BATCHES TRANSACTIONS
@@ -47,4 +52,18 @@ fn read_number(text: &str, most: u64) -> Option<u64>
         return None;
     }
     Some(number)
+}
+
+/// Returns the text of help or of the version, where `clap` finds that the words ask for it.
+pub fn asked_text(alloc: Global, words: &[String]) -> Result<Option<String>, Fault>
+    ensures asked { IfOk result (λ text. IfSome text (λ _. AsksForText (map string_bytes words.entry.now))) }
+{
+    let Err(error) = command(alloc)?.try_get_matches_from(words) else {
+        return Ok(None);
+    };
+    match error.kind() {
+        ErrorKind::DisplayHelp | ErrorKind::DisplayVersion => Ok(Some(error.to_string(alloc)?)),
+        ErrorKind::OutOfMemory => Err(Fault::Memory),
+        _ => Ok(None),
+    }
 }
