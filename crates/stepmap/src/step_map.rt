@@ -169,7 +169,8 @@ impl StepMap {
     /// sweeps a whole round from the front first.
     ///
     /// Returns `Full` where they still exceed it, before any memory is taken, and `Memory` where a growth is refused
-    /// or an arena would have more than 8,388,608 chunks. After either no range is ready; the function says the same as before at and above the edge.
+    /// or an arena would have more than 8,388,608 chunks. After either no range is ready; the function says the same as
+    /// before at and above the edge.
     pub fn prepare(&mut self, lengths: &[KeyLengths]) -> Result<(), StepError>
         ensures ok { OnOk result (self.new ≡ prepared lengths.now self.old) }
         ensures err { OnErr result (self.new ≡ record (prepared lengths.now self.old) { ready = [] }) }

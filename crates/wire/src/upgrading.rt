@@ -54,8 +54,8 @@ fn upgrade_next<R: Source, W: Sink>(
 /// returns how many there were. Takes memory for one frame at a time.
 ///
 /// Is refused as [`Frames::next`](crate::Frames::next) and [`encode_batch`] are, and returns `Write` only
-/// where the writer failed in this call. `Memory` also says that 2^64 - 1 frames are written. After any other refusal the frames of the batches before it are
-/// written whole. After `Write` a beginning of the new frames is.
+/// where the writer failed in this call. `Memory` also says that 2^64 - 1 frames are written. After any other refusal than
+/// `Write` the frames of the batches before it are written whole. After `Write` a beginning of the new frames is.
 pub fn upgrade<R: Source, W: Sink>(
     alloc: Global,
     reader: &mut R,
