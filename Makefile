@@ -1,4 +1,4 @@
-.PHONY: demo replay batches test refused-memory json-examples stalled-pipes readme-runs library install library-test plant bench
+.PHONY: demo replay batches test refused-memory json-examples stalled-pipes readme-runs manual-page library install library-test plant bench
 
 # Runs the program on the recorded files of examples/, unproved. A file NAME.args names the further files of a run.
 demo: SHELL := bash
@@ -58,6 +58,10 @@ stalled-pipes:
 # Behind `make test` or `make bench`, runs the commands of the documents that name a built program, and compares what they print.
 readme-runs:
 	.ci/readme-runs
+
+# Behind `make test` or `make replay`, compares the manual page with what the program prints of its options and version.
+manual-page:
+	.ci/manual-page
 
 # Tries wrong bodies on a copy of each crate, and lists those that its contracts let through.
 plant:
