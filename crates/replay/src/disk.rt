@@ -35,7 +35,7 @@ mod tests {
     use super::*;
     use std::fmt::Write as _;
     use std::test::Fail;
-    use wire::Source;
+    use wire::{Failed, Source};
 
     #[test]
     fn opens_what_is_there(rt: HostRuntime) {
@@ -46,6 +46,9 @@ mod tests {
         );
         assert!(rt; disk.open("/dev/null").is_ok());
         // A folder opens, and fails when it is read.
-        assert!(rt; disk.open(".").is_ok());
+        let folder = disk.open(".");
+        assert!(rt; folder.is_ok());
+        let read = folder.map(|mut reader| reader.read(&mut [0; 1]));
+        assert_eq!(rt; read, Ok(Err(Failed)));
     }
 }

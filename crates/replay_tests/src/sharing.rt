@@ -37,8 +37,8 @@ const DONE: Row<'static> = Row {
     ending: "done: ",
 };
 
-// The file of these batches.
-fn file_of(alloc: Global, batches: &[Batches]) -> Result<Vec<u8>, Unmade> {
+/// Makes the file of these batches.
+pub fn file_of(alloc: Global, batches: &[Batches]) -> Result<Vec<u8>, Unmade> {
     let mut file = Vec::new(alloc);
     for &(first, end) in batches {
         for version in first..end {

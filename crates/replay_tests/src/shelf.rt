@@ -5,6 +5,7 @@ ghost use Rattle.std.specs.Prelude.{None, ⊤};
 use crate::answers::replies_of;
 use crate::files::first_run;
 use crate::runs::{ended, file_of, opened};
+use crate::sharing;
 use fixtures::Unmade;
 use player::{FileError, Files, Status, run_in};
 use std::alloc::{AllocError, Global};
@@ -46,6 +47,8 @@ impl Shelf {
             ("conflict", opened(alloc, &conflict, b"")?),
             ("writes", opened(alloc, &writes, b"")?),
             ("cut", opened(alloc, &[], b"\0")?),
+            // the first batch of the chain, behind 16 others
+            ("late", sharing::file_of(alloc, &[(20, 36), (0, 1)])?),
             (
                 "same",
                 replies_of(alloc, &["100 committed", "0 empty"], b"")?,

@@ -1,6 +1,7 @@
 //! The program whole: the words of its command line, and what comes of them.
 
 use crate::shelf::shell;
+use resolver::MAX_PROXIES;
 use std::process::Abort;
 use std::sync::Wait;
 use std::test::Fail;
@@ -76,6 +77,21 @@ fn options_away_from_their_defaults(rt: HostRuntime) -> Result<(), Fail> {
             ),
         ],
     )
+}
+
+// The first of 64 files has its share of batches before the one that is due, which is let through since all other files have ended.
+#[test]
+fn due_behind_a_share(rt: HostRuntime) -> Result<(), Fail> {
+    let mut words = vec![in rt.alloc(); "replay", "late"]?;
+    words.resize(1 + MAX_PROXIES, "empty")?;
+    let found = shell(&rt, rt.alloc(), &words)?;
+    let mut expected = String::from_str(rt.alloc(), "0 0 empty\n")?;
+    for version in 20..36_u32 {
+        expected.push_str(&format!(in rt.alloc(); "0 {version} held\n")?)?;
+    }
+    expected.push_str("done: ")?;
+    assert_eq!(rt; found.as_str(), expected.as_str());
+    Ok(())
 }
 
 // The first file that can't be opened is told, and nothing is printed.

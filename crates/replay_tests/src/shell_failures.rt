@@ -22,8 +22,9 @@ fn ends_on<R: Threads + Wait + Copy + Send + 'static>(
     ended(status, Vec::new(alloc), &error.into_inner())
 }
 
-const ROWS: [&[&str]; 3] = [
+const ROWS: [&[&str]; 4] = [
     &["replay", "first"],
+    &["replay", "first", "--check", "same"],
     &["replay", "--help"],
     &["replay", "--version"],
 ];

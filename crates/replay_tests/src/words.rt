@@ -134,6 +134,27 @@ fn refused_words(rt: HostRuntime) -> Result<(), Fail> {
     refuses(&rt, files(rt.alloc(), 65)?.as_str())
 }
 
+// The program's own refusals say why.
+#[test]
+fn reasons_of_refusals(rt: HostRuntime) -> Result<(), Fail> {
+    let many = files(rt.alloc(), 65)?;
+    for (given, reason) in [
+        (
+            "--json --frames f",
+            "error: at most one of --frames, --json and --check is wanted\n",
+        ),
+        (
+            "--check r f g",
+            "error: --check REPLIES is wanted once a file\n",
+        ),
+        (many.as_str(), "error: from 1 to 64 files are wanted\n"),
+    ] {
+        let end = end_of(rt.alloc(), given)?;
+        assert!(rt; end.as_str().contains(reason), "{given}: {end}");
+    }
+    Ok(())
+}
+
 #[test]
 fn words_and_options(rt: HostRuntime) -> Result<(), Fail> {
     for (given, expected) in [
@@ -189,16 +210,14 @@ fn version_and_help(rt: HostRuntime) -> Result<(), Fail> {
     let help = end_of(rt.alloc(), "--help")?;
     assert!(rt; help.as_str().ends_with("done: "));
     for part in [
-        "Usage: replay [OPTIONS] <FILE>...",
-        "--capacity <N>",
-        "[default: 16]",
-        "--window <N>",
-        "[default: 5000000]",
-        "--limit <N>",
-        "[default: 1000000]",
-        "--frames",
-        "--json",
-        "--check <REPLIES>",
+        "Usage: replay [OPTIONS] <FILE>...\n",
+        "  <FILE>...\n          Files of batch frames, from 1 to 64; the file at place p is proxy p\n",
+        "      --capacity <N>\n          Batches, or answers, that a lane holds at most, from 1 to 1024\n",
+        "          [default: 16]\n\n      --window <N>\n          Versions that the resolver looks back, from 1 to 1099511627776\n",
+        "          [default: 5000000]\n\n      --limit <N>\n          Boundaries that the conflict set keeps at most, from 1 to 16777216\n",
+        "          [default: 1000000]\n\n      --frames\n          Prints each reply as its frame in hexadecimal, in place of words\n",
+        "      --json\n          Prints each answer as a line of JSON\n",
+        "      --check <REPLIES>\n          Compares with the reply frames of another resolver; once a FILE, in order\n",
         "Example:\n  replay --capacity 1 --frames examples/two_proxies examples/second_proxy\n",
     ] {
         assert!(rt; help.as_str().contains(part), "{part}");

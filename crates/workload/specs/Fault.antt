@@ -1,5 +1,9 @@
--- The lines of standard error.
+-- The lines of standard error, and the faults that they tell.
 use Rattle.std.specs.Prelude.{ℕ, List, codes}
+use Rattle.keyspace.specs.declared.error.LimitError.{LimitError}
+use Rattle.keyspace.specs.declared.error.LimitError.TheVariants as refused
+use Rattle.wire.specs.declared.error.WireError.{WireError}
+use Rattle.wire.specs.declared.error.WireError.TheVariants as wire
 use Rattle.workload.specs.declared.fault.Fault.{Fault}
 use Rattle.workload.specs.declared.fault.Fault.TheVariants.{Memory, Limit, Write}
 
@@ -13,3 +17,14 @@ line_of Write = codes "workload: a write failed\n"
 abbrev pub expected_line : List ℕ
 expected_line =
     codes "workload: SHAPE (skiplisttest or points), BATCHES (1 to 65536) and TRANSACTIONS (1 to 2500) are expected\n"
+
+-- the fault where a batch is refused
+abbrev pub of_limit : LimitError → Fault
+of_limit refused.Memory = Memory
+of_limit refused.Version = Limit
+of_limit refused.Count = Limit
+
+-- the fault where a frame is refused
+abbrev pub of_frame : WireError → Fault
+of_frame wire.Memory = Memory
+of_frame other = Limit

@@ -1,8 +1,8 @@
 //! Why a file could not be written whole.
 
 ghost use Rattle.std.specs.Prelude.{◌≡◌};
-ghost use Rattle.workload.specs.Fault.{line_of};
-ghost use Rattle.workload.specs.declared.fault.Fault.TheVariants.{Write};
+ghost use Rattle.workload.specs.Fault.{line_of, of_frame, of_limit};
+ghost use Rattle.workload.specs.declared.fault.Fault.TheVariants.{Limit, Memory, Write};
 
 use keyspace::{KeyError, LimitError};
 use std::alloc::{AllocError, AllocFailed};
@@ -33,24 +33,32 @@ impl Fault {
 }
 
 impl From<AllocError> for Fault {
+    ghost from_gives = { λ _ fault. fault ≡ Memory };
+
     fn from(_refused: AllocError) -> Fault {
         Fault::Memory
     }
 }
 
 impl<T: Drop> From<AllocFailed<T>> for Fault {
+    ghost from_gives = { λ _ fault. fault ≡ Memory };
+
     fn from(_refused: AllocFailed<T>) -> Fault {
         Fault::Memory
     }
 }
 
 impl From<KeyError> for Fault {
+    ghost from_gives = { λ _ fault. fault ≡ Limit };
+
     fn from(_beyond: KeyError) -> Fault {
         Fault::Limit
     }
 }
 
 impl From<LimitError> for Fault {
+    ghost from_gives = { λ refused fault. fault ≡ of_limit refused };
+
     fn from(refused: LimitError) -> Fault {
         match refused {
             LimitError::Memory => Fault::Memory,
@@ -60,6 +68,8 @@ impl From<LimitError> for Fault {
 }
 
 impl From<WireError> for Fault {
+    ghost from_gives = { λ refused fault. fault ≡ of_frame refused };
+
     fn from(refused: WireError) -> Fault {
         match refused {
             WireError::Memory => Fault::Memory,

@@ -83,6 +83,19 @@ fn ranges_vary(rt: HostRuntime) -> Result<(), Fail> {
     Ok(())
 }
 
+// Each batch draws its own ranges, which are the last 72 bytes of a frame of one transaction.
+#[test]
+fn batches_vary(rt: HostRuntime) -> Result<(), Fail> {
+    let words = words(rt.alloc(), "workload skiplisttest 2 1")?;
+    let mut out = StdSink::new(Vec::new(rt.alloc()));
+    let mut error = StdSink::new(Vec::new(rt.alloc()));
+    assert_eq!(rt; run(rt.alloc(), &words, &mut out, &mut error), 0);
+    let file = out.into_inner();
+    assert_eq!(rt; file.len(), 232);
+    assert_ne!(rt; &file[44..116], &file[160..232]);
+    Ok(())
+}
+
 // A writer that holds back the bytes that it is given until it is flushed, and has no more room after so many.
 #[derive(Drop)]
 struct HoldsBack {
