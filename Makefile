@@ -1,4 +1,4 @@
-.PHONY: demo replay batches test refused-memory json-examples stalled-pipes readme-runs manual-page library install library-test plant bench
+.PHONY: demo replay batches test refused-memory json-examples stalled-pipes readme-runs manual-page library install library-test plant bench profile
 
 # Runs the program on the recorded files of examples/, unproved. A file NAME.args names the further files of a run.
 demo: SHELL := bash
@@ -78,3 +78,9 @@ bench:
 		TIMEFORMAT="$$words: %R seconds"; \
 		time crates/replay/out/replay "$$folder/batches" > /dev/null; \
 	done
+
+# Times the libraries without their clauses, unproved, on a file of batch frames: make profile FILE=batches. The program stays in out/profile.
+profile:
+	profile/strip.py . out/profile
+	cd out/profile && RUSTFLAGS=-Awarnings cargo build --quiet --release --offline
+	out/profile/target/release/detect '$(FILE)'
