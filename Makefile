@@ -43,7 +43,7 @@ batches:
 json-examples:
 	.ci/json-examples
 
-# The full check: every proof from nothing, the must-fail edits, the tests and the programs.
+# The first part of the full check (.ci/run): every proof from nothing, the must-fail edits, the tests and the programs.
 test:
 	rt ci
 
