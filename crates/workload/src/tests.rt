@@ -83,6 +83,37 @@ fn ranges_vary(rt: HostRuntime) -> Result<(), Fail> {
     Ok(())
 }
 
+// Ranges have each width from 1 to 10, and snapshots lie each number from 1 to 8 of batches back.
+#[test]
+fn widths_and_snapshots_vary(rt: HostRuntime) -> Result<(), Fail> {
+    let mut random = Random::new(1);
+    let mut widths = BTreeSet::new(rt.alloc());
+    let mut backs = BTreeSet::new(rt.alloc());
+    for _ in 0..200_u32 {
+        let range = draw_range(rt.alloc(), &mut random, Shape::SkipListTest)?;
+        let begin = range.begin.as_bytes().last().copied().unwrap_or(0);
+        let end = range.end.as_bytes().last().copied().unwrap_or(0);
+        widths.insert(end.wrapping_sub(begin))?;
+        backs.insert(Shape::Points.look_back(&mut random))?;
+    }
+    assert_eq!(rt; widths.len(), 10);
+    assert_eq!(rt; backs.len(), 8);
+    Ok(())
+}
+
+// Of a million keys about 850 of 1,000 that are drawn lie in the lower half.
+#[test]
+fn small_keys_are_likelier(rt: HostRuntime) {
+    let mut random = Random::new(1);
+    let mut small: u32 = 0;
+    for _ in 0..1_000_u32 {
+        if Shape::Points.draw(&mut random) < 500_000 {
+            small = small.saturating_add(1);
+        }
+    }
+    assert!(rt; small > 750, "{small}");
+}
+
 // Each batch draws its own ranges, which are the last 72 bytes of a frame of one transaction.
 #[test]
 fn batches_vary(rt: HostRuntime) -> Result<(), Fail> {
