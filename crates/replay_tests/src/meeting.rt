@@ -24,6 +24,9 @@ struct Meeting {
     // how many of the first answers of proxies 0 and 1 were taken
     answered: [AtomicU64; 2],
     refused: AtomicU64,
+    // the places of a batch and of an answer of proxy 0 that were told last
+    batch: AtomicU64,
+    answer: AtomicU64,
 }
 
 impl Meeting {
@@ -31,6 +34,8 @@ impl Meeting {
         Meeting {
             answered: [AtomicU64::new(0), AtomicU64::new(0)],
             refused: AtomicU64::new(0),
+            batch: AtomicU64::new(0),
+            answer: AtomicU64::new(0),
         }
     }
 
@@ -41,9 +46,11 @@ impl Meeting {
         answered.load(Ordering::SeqCst) > 0
     }
 
-    // Whether no batch had to pass for want of patience.
+    // Whether no batch had to pass for want of patience, and the places of proxy 0 were counted up to its second batch and answer.
     fn has_met(&self) -> bool {
         self.refused.load(Ordering::SeqCst) <= MAX_REFUSED
+            && self.batch.load(Ordering::SeqCst) == 1
+            && self.answer.load(Ordering::SeqCst) == 1
     }
 }
 
@@ -53,6 +60,9 @@ impl Gatekeeper for Meeting {
     ghost lets_through = { λ _ _ _. ⊤ };
 
     fn may_send(&self, proxy: usize, place: u64) -> bool {
+        if proxy == 0 {
+            self.batch.store(place, Ordering::SeqCst);
+        }
         let is_open = match (proxy, place) {
             (1, 0) => self.has_answered(0),
             (0, 1) => self.has_answered(1),
@@ -62,6 +72,9 @@ impl Gatekeeper for Meeting {
     }
 
     fn answered(&self, proxy: usize, place: u64) {
+        if proxy == 0 {
+            self.answer.store(place, Ordering::SeqCst);
+        }
         if let (Some(answered), 0) = (self.answered.get(proxy), place) {
             answered.store(1, Ordering::SeqCst);
         }
