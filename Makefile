@@ -82,5 +82,5 @@ bench:
 # Times the libraries without their clauses, unproved, on a file of batch frames: make profile FILE=batches. The program stays in out/profile.
 profile:
 	profile/strip.py . out/profile
-	cd out/profile && RUSTFLAGS=-Awarnings cargo build --quiet --release --offline
+	cd out/profile && RUSTFLAGS="-Awarnings -Ctarget-cpu=x86-64-v2" cargo build --quiet --release --offline
 	out/profile/target/release/detect '$(FILE)'
