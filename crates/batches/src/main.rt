@@ -1,25 +1,9 @@
 //! The program `batches` turns lines of JSON into frames of batches or replies and back, and shows frames as a table.
 //!
-//! `words` reads the command line, `run` does what it asks for, and `failure` tells what went wrong. `encode`, `decode` and
-//! `show` work over any streams.
+//! The library `converter` does all of it. Here it is given the words, the files and the streams of the process.
 #![tactic(auto)]
 
-mod command;
-mod decode;
-mod encode;
-mod failure;
-mod frame;
-mod kind;
-mod progress;
-mod run;
-mod show;
-mod status;
-mod table;
-mod words;
-
-use failure::{Failure, fail};
-use run::run;
-use status::Status;
+use converter::{Failure, Status, fail, run};
 use std::io::{BufWriter, IsTerminal};
 use wire::StdSink;
 
@@ -31,6 +15,3 @@ fn main(rt: HostRuntime) -> Status {
         Err(_) => fail(&mut error, rt.alloc(), &Failure::Memory),
     }
 }
-
-#[cfg(test)]
-mod tests;

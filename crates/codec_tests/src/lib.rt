@@ -1,6 +1,7 @@
 //! Tests of the data and of its wire form, by the public calls of `keys`, `keyspace` and `wire` alone: worked frames and
 //! the fault that each other one is refused for, readers and writers that give out anywhere, keys, ranges, their limits, and
-//! the ranks of ranges, of a batch and wherever they lie.
+//! the ranks of ranges, of a batch and wherever they lie. `workload` has the tests of the program of that name, by the public calls of
+//! `generator`.
 #![tactic(auto)]
 
 #[cfg(test)]
@@ -33,3 +34,5 @@ mod second_version;
 mod texts;
 #[cfg(test)]
 mod upgrades;
+#[cfg(test)]
+mod workload;

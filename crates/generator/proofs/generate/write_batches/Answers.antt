@@ -1,0 +1,26 @@
+use Rattle.std.proofs.Common.{List, ℕ, subst, ◌∙◌}
+use Rattle.std.specs.Io.KnownBytes.{Appends}
+use Rattle.generator.specs.Chain.{IsBatchOf}
+use Rattle.generator.proofs.Frames.{one_more}
+use Rattle.generator.proofs.generate.write_batches.Goals as goal
+
+pub loop-number-preserved : goal.loop-number-preserved
+loop-number-preserved g c =
+    let batch = c.in_ok-batch.batch in
+    let before = g.W.Sink.given c.args.out.now in
+    let between = g.W.Sink.given c.loop-number.out in
+    let after = g.W.Sink.given c.write_all.new.writer in
+    let is_batch : IsBatchOf c.args.plan.shape c.args.plan.transactions c.loop-number.number batch = record {
+      version = c.in_ok-batch.ensures.version;
+      previous = c.in_ok-batch.ensures.previous;
+      counted = c.in_ok-batch.ensures.count;
+      txns = c.in_ok-batch.ensures.txns;
+      received_none = c.in_ok-batch.ensures.received_none;
+      received = c.in_ok-batch.ensures.received;
+    } in
+    let grown = subst (λ (bytes : List ℕ). Appends between after bytes)
+    c.deref.ensures.value c.in_ok-write_all.ensures.whole in (
+      one_more c.args.plan.shape c.args.plan.transactions c.loop-number.number batch c.in_ok-frame.frame.items
+          before between after c.loop-number.invariant.0 is_batch c.in_ok-frame.ensures.spelled grown,
+      c.in_ok-write_all.ensures.ok ∙ c.loop-number.invariant.1,
+    )

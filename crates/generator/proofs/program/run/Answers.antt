@@ -1,0 +1,15 @@
+use Rattle.std.proofs.Common.{inl, inr}
+use Rattle.generator.specs.declared.fault.Fault.TheVariants.{Memory, Write}
+use Rattle.generator.proofs.program.run.Goals as goal
+
+pub returns-in-Ok-false-clause-written : goal.returns-in-Ok-false-clause-written
+returns-in-Ok-false-clause-written g c = λ done long.
+    let is = c.in-Ok-false.is in
+    let refused = c.in-Ok-false.field-0-test in
+    inr (c.write_asked.ensures.nothing cc, c.answer.ensures.shown done)
+
+pub returns-in-Ok-false-clause-told : goal.returns-in-Ok-false-clause-told
+returns-in-Ok-false-clause-told g c = λ one. elim (c.answer.ensures.memory one) [
+  | inl failed ↦ (Write, (c.answer.ensures.failed failed).1)
+  | inr told ↦ (Memory, told)
+]
