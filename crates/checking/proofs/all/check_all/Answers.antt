@@ -1,7 +1,7 @@
 use Rattle.std.proofs.Common.{length, map, vec_items, rules, arith}
 use Rattle.std.proofs.lemmas.Grind.{common_steps}
 use Rattle.std.specs.Vec.Iter.{into_iter_items}
-use Rattle.checking.proofs.Left.{count_at_left, left_behind, takes_at}
+use Rattle.checking.proofs.callers.Left.{count_at_left, left_behind, takes_at}
 use Rattle.checking.proofs.all.check_all.Goals as goal
 
 pub returns-in_default-add-clause-takes : goal.returns-in_default-add-clause-takes
