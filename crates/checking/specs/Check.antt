@@ -1,5 +1,5 @@
 -- What a check of all proxies tells. This project's own.
-use Rattle.std.specs.Prelude.{ℕ, ◌+◌, List, [], ◌∷◌, ◌++◌, codes, length}
+use Rattle.std.specs.Prelude.{◌≡◌, ℕ, ◌+◌, ◌≤◌, ◌⊎◌, List, [], ◌∷◌, ◌++◌, codes, length, slice_index_or}
 use Rattle.std.specs.Fmt.{decimal}
 use Rattle.keyspace.specs.declared.reply.Reply.{Reply}
 use Rattle.checking.specs.Difference.{differences}
@@ -20,6 +20,16 @@ count_differences _ _ = 0
 abbrev pub last_line : ℕ → ℕ → List ℕ
 last_line batches found =
     codes "checked " ++ decimal batches ++ codes " batches, " ++ decimal found ++ codes " differences\n"
+
+-- how many items the list at this place has
+abbrev pub count_at : {X : Type 0} → List (List X) → ℕ → ℕ
+count_at lists place = length (slice_index_or lists place [])
+
+-- Memory is taken for the proxy of this number: a reply to it is expected or recorded, or it is the last one, behind which the last
+-- line is told.
+abbrev pub TakesMemory : List (List Reply) → List (List Reply) → ℕ → Type 0
+TakesMemory expected recorded proxy =
+    (1 ≤ count_at expected proxy) ⊎ ((1 ≤ count_at recorded proxy) ⊎ (proxy + 1 ≡ length expected))
 
 -- the whole text
 abbrev pub check_text : ℕ → List (List Reply) → List (List Reply) → List ℕ

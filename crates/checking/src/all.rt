@@ -1,7 +1,7 @@
 //! A check of all proxies.
 
-ghost use Rattle.std.specs.Prelude.{◌≡◌, ◌+◌, ◌<◌, ◌≤◌, ◌++◌, IfErr, IfOk, IfSome, length, map, vec_items, vec_len};
-ghost use Rattle.checking.specs.Check.{check_text, count_differences, last_line};
+ghost use Rattle.std.specs.Prelude.{◌≡◌, ◌+◌, ◌<◌, ◌≤◌, ◌++◌, IfErr, IfOk, IfSome, IsSome, length, map, vec_items, vec_len};
+ghost use Rattle.checking.specs.Check.{TakesMemory, check_text, count_differences, last_line};
 ghost use Rattle.checking.specs.Difference.{differences};
 ghost use Rattle.checking.specs.Text.{difference_lines};
 
@@ -22,7 +22,8 @@ pub struct Checked {
 
 /// Compares the replies that are expected with those that were recorded, each of the two by proxy, and tells of so many batches.
 ///
-/// An error, which says that memory was refused, is the number of the proxy whose differences could not be told.
+/// An error, which says that memory was refused, is the number of the proxy whose differences could not be told, or that of the last
+/// proxy where it is the last line.
 pub fn check_all(
     alloc: Global,
     batches: usize,
@@ -36,7 +37,9 @@ pub fn check_all(
     ensures differences { IfOk result (λ checked. checked.differences
         ≡ count_differences (map vec_items expected.items) (map vec_items recorded.items)) }
     ensures proxy { IfErr result (λ proxy. proxy < vec_len expected) }
+    ensures takes { IfErr result (TakesMemory (map vec_items expected.items) (map vec_items recorded.items)) }
 {
+    let last = expected.len() - 1;
     let mut checked = Checked {
         text: Vec::new(alloc),
         differences: 0,
@@ -47,10 +50,12 @@ pub fn check_all(
         let Some(others) = recorded.next() else {
             unreachable!()
         };
-        checked.add(alloc, proxy, replies, others).ok_or(proxy)?;
+        let Some(()) = checked.add(alloc, proxy, replies, others) else {
+            return Err(proxy);
+        };
         proxy += 1;
     }
-    checked.finish(batches).ok_or(0)
+    checked.finish(batches).ok_or(last)
 }
 
 impl Checked {
@@ -66,6 +71,7 @@ impl Checked {
             ++ difference_lines proxy (differences expected.items recorded.items)) }
         ensures differences { IfSome result (λ _. self.new.differences
             ≡ self.old.differences + length (differences expected.items recorded.items)) }
+        ensures none { vec_len expected ≡ 0 → vec_len recorded ≡ 0 → IsSome result }
     {
         let (mut expected, mut recorded) = (expected, recorded);
         let found = compare(alloc, &mut expected, &mut recorded).ok()?;

@@ -1,6 +1,6 @@
 //! Which recorded reply an expected one is matched with.
 
-ghost use Rattle.std.specs.Prelude.{◌≡◌, ◌++◌, List, int_lt, length, map, IfOk, OnOk};
+ghost use Rattle.std.specs.Prelude.{◌≡◌, ◌++◌, List, int_lt, length, map, IfOk, IsOk, OnOk};
 ghost use Rattle.std.specs.List.{take_while};
 ghost use Rattle.checking.specs.InOrder.{NoneBefore, Rise};
 ghost use Rattle.checking.specs.Difference.{differences, first_of, matched, matched_with, unexpected, version_of_reply};
@@ -16,13 +16,14 @@ use std::alloc::{AllocError, Global};
 /// Returns the differences between the replies that are expected and those that were recorded, in order of versions, what is
 /// unexpected last. Each of the two is sorted by version.
 ///
-/// Takes time of the order of a sort.
+/// Takes time of the order of a sort, and no memory where there are no replies.
 pub fn compare(
     alloc: Global,
     expected: &mut [Reply],
     recorded: &mut [Reply],
 ) -> Result<Vec<Difference>, AllocError>
     ensures differences { IfOk result (λ found. found.items ≡ differences expected.old recorded.old) }
+    ensures none { length expected.old ≡ 0 → length recorded.old ≡ 0 → IsOk result }
 {
     sort_by_version(alloc, expected)?;
     sort_by_version(alloc, recorded)?;
@@ -38,6 +39,7 @@ fn match_sorted(
     requires expected { Rise version_of_reply expected.now }
     requires recorded { Rise version_of_reply recorded.now }
     ensures differences { IfOk result (λ found. found.items ≡ matched expected.now recorded.now) }
+    ensures none { length expected.now ≡ 0 → length recorded.now ≡ 0 → IsOk result }
 {
     let mut differences = Vec::new(alloc);
     let mut unexpected = Vec::new(alloc);
@@ -94,6 +96,7 @@ fn push_unexpected(
     unexpected_ones: &mut Vec<Difference>,
 ) -> Result<(), AllocError>
     ensures pushed { OnOk result (unexpected_ones.new.items ≡ unexpected_ones.old.items ++ map unexpected replies.now) }
+    ensures none { length replies.now ≡ 0 → IsOk result }
 {
     for reply in replies {
         unexpected_ones.push(Difference::unexpected(reply))?;

@@ -1,6 +1,6 @@
 //! Items in order of their versions.
 
-ghost use Rattle.std.specs.Prelude.{◌≡◌, ℤ, OnOk};
+ghost use Rattle.std.specs.Prelude.{◌≡◌, ◌≤◌, ℤ, IsOk, OnOk, length};
 ghost use Rattle.checking.specs.InOrder.{Rise, in_order_by};
 
 use keyspace::Reply;
@@ -24,11 +24,13 @@ impl Versioned for Reply {
     }
 }
 
-/// Sorts items by version, those of one version in the order in which they stand. After an error, which says that memory was
-/// refused, their order is unspecified.
+/// Sorts items by version, those of one version in the order in which they stand. Takes no memory for up to 20 items. After an
+/// error, which says that memory was refused, their order is unspecified.
 pub fn sort_by_version<T: Versioned>(alloc: Global, items: &mut [T]) -> Result<(), AllocError>
     ensures sorted { OnOk result (items.new ≡ in_order_by T.version_told items.old) }
     ensures rises { OnOk result (Rise T.version_told items.new) }
+    ensures count { length items.new ≡ length items.old }
+    ensures few { length items.old ≤ 20 → IsOk result }
 {
     items.sort_by_key(alloc, |item| item.version())
 }

@@ -1,6 +1,6 @@
 //! The lines of differences.
 
-ghost use Rattle.std.specs.Prelude.{◌≡◌, OnOk, codes};
+ghost use Rattle.std.specs.Prelude.{◌≡◌, IsOk, OnOk, codes, length};
 ghost use Rattle.std.specs.Io.KnownBytes.{Appends};
 ghost use Rattle.checking.specs.Text.{difference_line, difference_lines, entry_text, kind_text, place_names, places_text, verdict_name, verdicts_text};
 
@@ -18,6 +18,7 @@ pub fn write_differences<W: Write>(
 ) -> io::Result<()>
     ensures text { OnOk result (Appends (W.contents out.old) (W.contents out.new)
         (difference_lines proxy differences.now)) }
+    ensures none { length differences.now ≡ 0 → IsOk result }
 {
     for difference in differences {
         write_difference(out, proxy, difference)?;

@@ -1,18 +1,18 @@
 -- The replies that lines keep are those that their answers expect.
-use Rattle.std.specs.Prelude.{◌≡◌, ℕ, zero, suc, ◌+◌, List, [], ◌∷◌, ◌++◌, length, map, option_to_list, Some, slice_get}
+use Rattle.std.specs.Prelude.{◌≡◌, ℕ, zero, suc, ◌+◌, ◌≤◌, List, [], ◌∷◌, ◌++◌, length, map, option_to_list, Some, slice_get}
 use Rattle.std.specs.List.{All}
-use Rattle.std.proofs.Common.{refl, sym, ap, ap₂, ◌∙◌}
-use Rattle.std.proofs.lemmas.List.{length-map}
+use Rattle.std.proofs.Common.{refl, sym, ap, ap₂, subst, ◌∙◌, inl, inr, arith}
+use Rattle.std.proofs.lemmas.List.{get_or_past, length-map}
 use Rattle.std.proofs.lemmas.List.Elements.{All-head, All-tail}
 use Rattle.keyspace.specs.declared.answer.Answer.{Answer}
 use Rattle.keyspace.specs.declared.answer.Answer.TheVariants as answer
 use Rattle.keyspace.specs.declared.reply.Reply.{Reply}
-use Rattle.checking.specs.Check.{check_text, count_differences}
+use Rattle.checking.specs.Check.{TakesMemory, check_text, count_at, count_differences}
 use Rattle.checking.specs.Difference.{expected, expected_by}
 use Rattle.player.specs.declared.form.Form.TheVariants.{Kept}
 use Rattle.player.specs.declared.line.Line.{Line}
 use Rattle.player.specs.Line.{AreLines, IsLineOf, answer_of, answers_of, kept_of}
-use Rattle.player.specs.Checked.{check_lines, count_lines, differences_of, replies_kept}
+use Rattle.player.specs.Checked.{TakesToCompare, check_lines, count_lines, differences_of, replies_kept}
 
 kept_is_expected : (a : Answer) → option_to_list (kept_of Kept a) ≡ expected_by a
 kept_is_expected (answer.Reply reply) = refl
@@ -55,3 +55,27 @@ check_of_lines received batches kept recorded are count is =
       ap₂ (λ (n : ℕ) (l : List (List Reply)). check_text n l recorded) (count ∙ as_many_answers received) expected_is,
       ap (λ (l : List (List Reply)). count_differences l recorded) expected_is,
     )
+
+some_line : (ls : List Line) → 1 ≤ length (replies_kept ls) → 1 ≤ length ls
+some_line [] some = some
+some_line (l ∷ ls) some = omega arith
+
+-- where a reply is kept there is a line
+count_kept : (received : List (List Line)) (proxy : ℕ) → 1 ≤ count_at (map replies_kept received) proxy → 1 ≤ count_at received proxy
+count_kept [] proxy some =
+    let none : List Reply = [] in
+    absurd (omega (arith, some, ap length (get_or_past [] proxy none (omega arith))))
+count_kept (ls ∷ received) zero some = some_line ls some
+count_kept (ls ∷ received) (suc proxy) some = count_kept received proxy some
+
+-- memory that is taken to compare what lines keep is taken for their proxy
+pub takes_to_compare : (received : List (List Line)) (kept recorded : List (List Reply)) (proxy : ℕ) → kept ≡ map replies_kept received
+    → TakesMemory kept recorded proxy → TakesToCompare recorded received proxy
+takes_to_compare received kept recorded proxy is takes =
+    elim takes [
+      | inl some ↦ inl (count_kept received proxy (subst (λ (l : List (List Reply)). 1 ≤ count_at l proxy) is some))
+      | inr other ↦ elim other [
+          | inl some ↦ inr (inl some)
+          | inr last ↦ inr (inr (last ∙ ap length is ∙ length-map received replies_kept))
+        ]
+    ]

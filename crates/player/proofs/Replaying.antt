@@ -101,7 +101,8 @@ module _ (options : Options) (files : List (Option (List ℕ))) (received : List
             printed;
       }
 
-  module _ (text_of : List (List Answer) → List ℕ) (out error : Written) (told : List ProxyFailure) where
+  module _ (text_of : List (List Answer) → List ℕ) (Takes : List (List Line) → ℕ → Type 0) (out error : Written)
+    (told : List ProxyFailure) where
     abbrev text : List ℕ
     text = text_of (map answers_of received)
 
@@ -119,14 +120,15 @@ module _ (options : Options) (files : List (Option (List ℕ))) (received : List
 
     pub ran_and_failed : {T U F : Type 0} (printed : Result T PrintError) (wrote : Result U F) → OnOk printed (Took out text)
         → ((proxy : ℕ) → printed ≡ Err (print.Memory proxy) → proxy < length received)
+        → ((proxy : ℕ) → printed ≡ Err (print.Memory proxy) → Takes received proxy)
         → ((proxy : ℕ) → printed ≡ Err (print.Memory proxy) → out.after ≡ out.before)
         → (printed ≡ Err print.Write → TookBeginning out text) → (printed ≡ Err print.Write → HasFailed out)
         → OnOk wrote (Took error (failure_lines told (ending_of complete stop))) → (IsErr wrote → HasFailed error)
         → ((proxy : ℕ) → printed ≡ Err (print.Memory proxy) → told ≡ with_loss proxy failures)
         → (((proxy : ℕ) → printed ≢ Err (print.Memory proxy)) → told ≡ failures)
         → ¬ (IsOk printed × IsOk wrote × NothingFailed failures (ending_of complete stop))
-        → RanAndFailed text_of options files out error
-    ran_and_failed (Ok u) wrote took inside nothing beginning failed told_lines told_failed loss no_loss not_done =
+        → RanAndFailed text_of Takes options files out error
+    ran_and_failed (Ok u) wrote took inside takes nothing beginning failed told_lines told_failed loss no_loss not_done =
         let same : told ≡ failures = no_loss (λ proxy is. cc) in
         record {
           received = received;
@@ -141,12 +143,12 @@ module _ (options : Options) (files : List (Option (List ℕ))) (received : List
           why = why_failed wrote told_failed
               (λ ok none. not_done (refl, ok, subst (λ (f : List ProxyFailure). NothingFailed f (ending_of complete stop)) same none));
         }
-    ran_and_failed (Err (print.Memory proxy)) wrote took inside nothing beginning failed told_lines told_failed loss no_loss not_done =
+    ran_and_failed (Err (print.Memory proxy)) wrote took inside takes nothing beginning failed told_lines told_failed loss no_loss not_done =
         let is = loss proxy refl in
         let known : proxy < length failures =
         omega (arith, inside proxy refl, run.received_count, run.failures_count) in
-        let with : (proxy : ℕ) × (proxy < length files) × (told ≡ with_loss proxy failures) =
-        (proxy, omega (arith, known, run.failures_count), is) in
+        let with : (proxy : ℕ) × (proxy < length files) × Takes received proxy × (told ≡ with_loss proxy failures) =
+        (proxy, omega (arith, known, run.failures_count), takes proxy refl, is) in
         record {
           received = received;
           failures = failures;
@@ -160,7 +162,7 @@ module _ (options : Options) (files : List (Option (List ℕ))) (received : List
           why = inr (inr (λ none.
               loss_is_no_clean proxy failures known (subst (λ (f : List ProxyFailure). All IsClean f) is none.proxies)));
         }
-    ran_and_failed (Err print.Write) wrote took inside nothing beginning failed told_lines told_failed loss no_loss not_done =
+    ran_and_failed (Err print.Write) wrote took inside takes nothing beginning failed told_lines told_failed loss no_loss not_done =
         let same : told ≡ failures = no_loss (λ proxy is. cc) in
         record {
           received = received;

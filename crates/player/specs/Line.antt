@@ -1,10 +1,11 @@
 -- Lines that are ready to be printed. This project's own.
-use Rattle.std.specs.Prelude.{◌≡◌, ℕ, ℤ, List, map, Option, None, Some, slice_get}
+use Rattle.std.specs.Prelude.{◌≡◌, ◌<◌, ℕ, ℤ, List, map, Option, None, Some, slice_get}
 use Rattle.std.specs.List.{All, flat_map}
 use Rattle.keyspace.specs.declared.answer.Answer.{Answer}
 use Rattle.keyspace.specs.declared.answer.Answer.TheVariants as answer
 use Rattle.keyspace.specs.declared.reply.Reply.{Reply}
 use Rattle.keyspace.specs.Answer.{version_of_answer}
+use Rattle.checking.specs.Check.{count_at}
 use Rattle.player.specs.declared.form.Form.{Form}
 use Rattle.player.specs.declared.form.Form.TheVariants.{Words, Frames, Json, Kept}
 use Rattle.player.specs.declared.line.Line.{Line}
@@ -41,6 +42,10 @@ pub record IsLineOf (form : Form) (proxy : ℕ) (l : Line) : Type 0 where
 abbrev pub AreLines : Form → List (List Line) → Type 0
 AreLines form ls =
     (proxy : ℕ) (of_proxy : List Line) → slice_get ls proxy ≡ Some of_proxy → All (IsLineOf form proxy) of_proxy
+
+-- memory is taken to sort the lines of the proxy of this number: they are more than 20
+abbrev pub TakesToSort : List (List Line) → ℕ → Type 0
+TakesToSort ls proxy = 20 < count_at ls proxy
 
 -- the text of lines as they stand
 abbrev pub text_of : List Line → List ℕ

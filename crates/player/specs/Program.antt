@@ -10,7 +10,7 @@ use Rattle.player.specs.declared.options.Options.{Options}
 use Rattle.player.specs.declared.replies.RepliesError.{RepliesError}
 use Rattle.player.specs.declared.start.StartError.TheVariants as start
 use Rattle.player.specs.Opening.{IsFirstRefused, contents_each, opening_line}
-use Rattle.player.specs.Checked.{check_lines}
+use Rattle.player.specs.Checked.{TakesToCompare, check_lines}
 use Rattle.player.specs.Replayed.{DidNotStart, FailsToPrint, FailsToReplay, HasFailed, IsChecked, IsReplayed, Took, Written}
 use Rattle.player.specs.Replies.{IsCauseOf, IsReplyFile, replies_line}
 use Rattle.player.specs.Start.{start_line}
@@ -52,7 +52,7 @@ pub record FailsBeside (contents : List ℕ → Option (List ℕ)) (options : Op
     (out error : Written) : Type 0 where
   pub recorded : List (List Reply)
   pub read : AreRecorded contents replies recorded
-  pub failed : FailsToPrint (check_lines recorded) options (contents_each contents names) out error
+  pub failed : FailsToPrint (check_lines recorded) (TakesToCompare recorded) options (contents_each contents names) out error
 
 -- the files of these names were not compared with those of replies, or something failed
 abbrev pub FailsToCheck : (List ℕ → Type 0) → (List ℕ → Type 0) → (List ℕ → Option (List ℕ)) → Options

@@ -17,7 +17,7 @@ use Rattle.player.specs.declared.options.Options.{Options}
 use Rattle.player.specs.declared.start.StartError.{StartError}
 use Rattle.player.specs.Checked.{check_lines, differences_of}
 use Rattle.player.specs.Failures.{failure_lines, with_loss, NothingFailed}
-use Rattle.player.specs.Line.{answers_of}
+use Rattle.player.specs.Line.{TakesToSort, answers_of}
 use Rattle.player.specs.Lines.{lines}
 use Rattle.player.specs.Run.{IsRun}
 use Rattle.player.specs.Start.{start_line}
@@ -99,32 +99,36 @@ pub record DidNotStart (out error : Written) : Type 0 where
   pub nothing_printed : out.after ≡ out.before
   pub told : HasFailed error ⊎ Took error (start_line cause)
 
--- the same failures, with the loss of one proxy
-abbrev pub IsWithLoss : ℕ → List ProxyFailure → List ProxyFailure → Type 0
-IsWithLoss proxies failures told = (proxy : ℕ) × (proxy < proxies) × (told ≡ with_loss proxy failures)
+-- the same failures, with the loss of one of so many proxies, for which memory is taken
+abbrev pub IsWithLoss : ℕ → (ℕ → Type 0) → List ProxyFailure → List ProxyFailure → Type 0
+IsWithLoss proxies Takes failures told =
+    (proxy : ℕ) × (proxy < proxies) × Takes proxy × (told ≡ with_loss proxy failures)
 
 -- The files were replayed, and something failed. `told` is what failed, with the loss of a proxy whose lines could not
--- be sorted, or whose replies could not be compared; then nothing was printed. `text` is what is to be printed of answers.
-pub record RanAndFailed (text : List (List Answer) → List ℕ) (options : Options) (files : List (Option (List ℕ)))
-    (out error : Written) : Type 0 where
+-- be sorted, or whose replies could not be compared; then nothing was printed. `text` is what is to be printed of answers, and
+-- `Takes` says of which proxies' lines memory is taken for it.
+pub record RanAndFailed (text : List (List Answer) → List ℕ) (Takes : List (List Line) → ℕ → Type 0) (options : Options)
+    (files : List (Option (List ℕ))) (out error : Written) : Type 0 where
   pub received : List (List Line)
   pub failures : List ProxyFailure
   pub complete : Bool
   pub stop : Option Stop
   pub run : IsRun options files received failures complete stop
   pub told : List ProxyFailure
-  pub failures_told : (told ≡ failures) ⊎ IsWithLoss (length files) failures told
+  pub failures_told : (told ≡ failures) ⊎ IsWithLoss (length files) (Takes received) failures told
   pub printed :
       (HasFailed out × TookBeginning out (text (map answers_of received)))
       ⊎ (((told ≡ failures) × Took out (text (map answers_of received)))
-      ⊎ (IsWithLoss (length files) failures told × (out.after ≡ out.before)))
+      ⊎ (IsWithLoss (length files) (Takes received) failures told × (out.after ≡ out.before)))
   pub lines_of_failures : HasFailed error ⊎ Took error (failure_lines told (ending_of complete stop))
   pub why : HasFailed out ⊎ (HasFailed error ⊎ ¬ (NothingFailed told (ending_of complete stop)))
 
--- the program failed, which was to print this text of the answers
-abbrev pub FailsToPrint : (List (List Answer) → List ℕ) → Options → List (Option (List ℕ)) → Written → Written → Type 0
-FailsToPrint text options files out error = DidNotStart out error ⊎ RanAndFailed text options files out error
+-- the program failed, which was to print this text of the answers, and takes memory for it where `Takes` says so
+abbrev pub FailsToPrint : (List (List Answer) → List ℕ) → (List (List Line) → ℕ → Type 0) → Options
+    → List (Option (List ℕ)) → Written → Written → Type 0
+FailsToPrint text Takes options files out error =
+    DidNotStart out error ⊎ RanAndFailed text Takes options files out error
 
 -- The program failed.
 abbrev pub FailsToReplay : Options → List (Option (List ℕ)) → Written → Written → Type 0
-FailsToReplay options files out error = FailsToPrint (lines options.form) options files out error
+FailsToReplay options files out error = FailsToPrint (lines options.form) TakesToSort options files out error

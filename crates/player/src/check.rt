@@ -3,7 +3,7 @@
 ghost use Rattle.std.specs.Prelude.{◌≡◌, ◌≢◌, ◌≤◌, map, vec_items, vec_len};
 ghost use Rattle.std.specs.Io.KnownBytes.{Keeps};
 ghost use Rattle.player.specs.Replayed.{FailsToPrint, IsChecked, written};
-ghost use Rattle.player.specs.Checked.{check_lines};
+ghost use Rattle.player.specs.Checked.{TakesToCompare, check_lines};
 ghost use Rattle.player.specs.declared.form.Form.TheVariants.{Kept};
 
 use crate::check_report::print_check;
@@ -52,7 +52,8 @@ pub fn check_over<
 
     // Something failed, and its lines were written, or the writer failed.
     ensures failed { result ≡ Status.Failed
-        → FailsToPrint (check_lines (map vec_items recorded.items)) options (map S.remaining readers.items)
+        → FailsToPrint (check_lines (map vec_items recorded.items)) (TakesToCompare (map vec_items recorded.items))
+        options (map S.remaining readers.items)
         (written (O.given out.old) (O.given out.new) (O.failures out.old) (O.failures out.new))
         (written (E.given error.old) (E.given error.new) (E.failures error.old) (E.failures error.new)) }
     ensures ends { result ≢ Status.Usage }

@@ -1,8 +1,9 @@
 //! All that is printed once every file was replayed to be checked: the differences, and what failed.
 
-ghost use Rattle.std.specs.Prelude.{◌≡◌, ◌≢◌, ◌↔◌, ◌<◌, ◌≤◌, ℕ, map, take, length, vec_items, vec_len, IfErr, IfOk, IfSome, IsErr, IsOk, IsOkAnd, IsTrue, OnErr, OnOk};
+ghost use Rattle.std.specs.Prelude.{◌≡◌, ◌≢◌, ◌↔◌, ◌<◌, ◌≤◌, ◌+◌, ◌⊎◌, ℕ, map, take, length, vec_items, vec_len, IfErr, IfOk, IfSome, IsErr, IsOk, IsOkAnd, IsTrue, OnErr, OnOk};
 ghost use Rattle.std.specs.Io.KnownBytes.{Appends, Keeps};
-ghost use Rattle.player.specs.Checked.{check_lines, count_lines, differences_of, replies_kept};
+ghost use Rattle.checking.specs.Check.{count_at};
+ghost use Rattle.player.specs.Checked.{TakesToCompare, check_lines, count_lines, differences_of, replies_kept};
 ghost use Rattle.player.specs.Failures.{failure_lines, with_loss, NothingFailed};
 ghost use Rattle.player.specs.Line.{AreLines, answers_of};
 ghost use Rattle.player.specs.declared.form.Form.{Form};
@@ -31,7 +32,7 @@ pub struct CheckReport {
 /// what is of each proxy at its number.
 ///
 /// Where memory is refused while the replies of a proxy are compared, nothing is printed to `out`, and that proxy has a loss from
-/// then on.
+/// then on. The last proxy has it where memory is refused for all of them, or for the last line.
 pub fn print_check<O: Sink, E: Sink>(
     alloc: Global,
     out: &mut O,
@@ -49,6 +50,8 @@ pub fn print_check<O: Sink, E: Sink>(
     ensures count { AreLines Form.Kept (map vec_items received.items) → IfOk result.printed (λ count.
         count ≡ differences_of (map vec_items recorded.items) (map answers_of (map vec_items received.items))) }
     ensures memory { (proxy : ℕ) → result.printed ≡ Err (PrintError.Memory proxy) → proxy < vec_len received }
+    ensures takes { (proxy : ℕ) → result.printed ≡ Err (PrintError.Memory proxy)
+        → TakesToCompare (map vec_items recorded.items) (map vec_items received.items) proxy }
     ensures nothing { (proxy : ℕ) → result.printed ≡ Err (PrintError.Memory proxy)
         → O.given out.new ≡ O.given out.old }
     ensures beginning { AreLines Form.Kept (map vec_items received.items)
@@ -111,6 +114,8 @@ fn print_differences<W: Sink>(
     ensures count { AreLines Form.Kept (map vec_items received.items) → IfOk result (λ count.
         count ≡ differences_of (map vec_items recorded.items) (map answers_of (map vec_items received.items))) }
     ensures memory { (proxy : ℕ) → result ≡ Err (PrintError.Memory proxy) → proxy < vec_len received }
+    ensures takes { (proxy : ℕ) → result ≡ Err (PrintError.Memory proxy)
+        → TakesToCompare (map vec_items recorded.items) (map vec_items received.items) proxy }
     ensures nothing { (proxy : ℕ) → result ≡ Err (PrintError.Memory proxy) → W.given out.new ≡ W.given out.old }
     ensures beginning { AreLines Form.Kept (map vec_items received.items) → result ≡ Err PrintError.Write
         → IfSome (W.given out.new) (λ _. (n : ℕ) × Appends (W.given out.old) (W.given out.new)
@@ -152,9 +157,10 @@ fn check_received(
     ensures differences { AreLines Form.Kept (map vec_items received.items) → IfOk result (λ checked.
         checked.differences ≡ differences_of (map vec_items recorded.items) (map answers_of (map vec_items received.items))) }
     ensures proxy { IfErr result (λ proxy. proxy < vec_len received) }
+    ensures takes { IfErr result (TakesToCompare (map vec_items recorded.items) (map vec_items received.items)) }
 {
     let Some(batches) = count_lines(&received) else {
-        return Err(0);
+        return Err(received.len() - 1);
     };
     let kept = kept_each(alloc, received)?;
     check_all(alloc, batches, kept, recorded)
@@ -171,17 +177,25 @@ fn count_lines(received: &[Vec<Line>]) -> Option<usize>
     Some(count)
 }
 
-// Returns the kept replies of each proxy. An error is the proxy for which memory was refused.
+// Returns the kept replies of each proxy. An error is the proxy for which memory was refused, or the last one where it was for all.
 fn kept_each(alloc: Global, received: Vec<Vec<Line>>) -> Result<Vec<Vec<Reply>>, usize>
+    requires some { 1 ≤ vec_len received }
     ensures kept { IfOk result (λ kept. map vec_items kept.items ≡ map replies_kept (map vec_items received.items)) }
     ensures count { IfOk result (λ kept. vec_len kept ≡ vec_len received) }
     ensures proxy { IfErr result (λ proxy. proxy < vec_len received) }
+    ensures takes { IfErr result (λ proxy. (1 ≤ count_at (map vec_items received.items) proxy)
+        ⊎ (proxy + 1 ≡ vec_len received)) }
 {
-    let mut kept = Vec::new(alloc);
+    let last = received.len() - 1;
+    let Ok(mut kept) = Vec::with_capacity(alloc, received.len()) else {
+        return Err(last);
+    };
     for lines in received {
         let proxy = kept.len();
-        let replies = kept_of(alloc, lines).map_err(|_| proxy)?;
-        kept.push(replies).map_err(|_| proxy)?;
+        let Ok(replies) = kept_of(alloc, lines) else {
+            return Err(proxy);
+        };
+        kept.push_reserved(replies);
     }
     Ok(kept)
 }
@@ -189,6 +203,7 @@ fn kept_each(alloc: Global, received: Vec<Vec<Line>>) -> Result<Vec<Vec<Reply>>,
 // Returns the replies that these lines keep.
 fn kept_of(alloc: Global, lines: Vec<Line>) -> Result<Vec<Reply>, AllocError>
     ensures kept { IfOk result (λ kept. kept.items ≡ replies_kept lines.items) }
+    ensures none { vec_len lines ≡ 0 → IsOk result }
 {
     let mut kept = Vec::new(alloc);
     for line in lines {

@@ -2,7 +2,7 @@
 
 ghost use Rattle.std.specs.Prelude.{◌≡◌, ◌<◌, ◌≤◌, ◌↔◌, ℕ, map, take, length, vec_items, OnOk, OnErr, IfErr, IfSome};
 ghost use Rattle.std.specs.Io.KnownBytes.{Appends};
-ghost use Rattle.player.specs.Line.{AreLines, answers_of, text_of, texts, version_of_line};
+ghost use Rattle.player.specs.Line.{AreLines, TakesToSort, answers_of, text_of, texts, version_of_line};
 ghost use Rattle.player.specs.Lines.{lines};
 ghost use Rattle.checking.specs.InOrder.{in_order_by};
 ghost use Rattle.player.specs.declared.form.Form.{Form};
@@ -15,7 +15,7 @@ use wire::{Failed, Sink, write_all};
 /// Why the answers could not be printed.
 #[derive(Debug, Drop)]
 pub enum PrintError {
-    /// Memory was refused while the lines of this proxy were sorted.
+    /// Memory was refused while the lines of this proxy were sorted, or its replies compared.
     Memory(usize),
     /// The writer failed.
     Write,
@@ -33,6 +33,7 @@ pub fn print_answers<W: Sink>(
     ensures lines { (form : Form) → AreLines form (map vec_items received.old)
         → OnOk result (Appends (W.given out.old) (W.given out.new) (lines form (map answers_of (map vec_items received.old)))) }
     ensures memory { (proxy : ℕ) → result ≡ Err (PrintError.Memory proxy) → proxy < length received.old }
+    ensures takes { (proxy : ℕ) → result ≡ Err (PrintError.Memory proxy) → TakesToSort (map vec_items received.old) proxy }
     ensures nothing { (proxy : ℕ) → result ≡ Err (PrintError.Memory proxy) → W.given out.new ≡ W.given out.old }
     ensures beginning { (form : Form) → AreLines form (map vec_items received.old) → result ≡ Err PrintError.Write
         → IfSome (W.given out.new) (λ _. (n : ℕ)
@@ -50,6 +51,7 @@ pub fn print_answers<W: Sink>(
 fn sort_lines(alloc: Global, received: &mut [Vec<Line>]) -> Result<(), usize>
     ensures ok { OnOk result (map vec_items received.new ≡ map (in_order_by version_of_line) (map vec_items received.old)) }
     ensures inside { IfErr result (λ proxy. proxy < length received.old) }
+    ensures takes { IfErr result (TakesToSort (map vec_items received.old)) }
 {
     for (proxy, lines) in received.iter_mut().enumerate() {
         let Ok(()) = sort_by_version(alloc, lines) else {

@@ -1,6 +1,6 @@
 //! The program, over any words, files and streams.
 
-ghost use Rattle.std.specs.Prelude.{◌≡◌, ◌≢◌, ◌≤◌, ℕ, List, map, string_bytes, vec_len};
+ghost use Rattle.std.specs.Prelude.{◌≡◌, ◌≢◌, ◌≤◌, ℕ, List, IfOk, length, map, string_bytes, vec_len};
 ghost use Rattle.std.specs.Io.KnownBytes.{Keeps};
 ghost use Rattle.resolver.specs.declared.sequential.TheConstants.{MAX_PROXIES};
 ghost use Rattle.player.specs.Opening.{contents_each};
@@ -83,7 +83,7 @@ pub fn replay_files<R: Threads + Wait + Copy + Send + 'static, F: Files, O: Sink
         Ok(readers) => readers,
         Err(cause) => return fail_to_open(error, cause),
     };
-    let Ok(gatekeeper) = gatekeeper(alloc, readers.len()) else {
+    let Ok(gatekeeper) = gatekeeper(alloc, &readers) else {
         return fail_to_start(error, StartError::Memory);
     };
     replay_over(rt, alloc, readers, line.options, &gatekeeper, out, error)
@@ -125,7 +125,7 @@ pub fn check_files<R: Threads + Wait + Copy + Send + 'static, F: Files, O: Sink,
         Ok(recorded) => recorded,
         Err(cause) => return fail_to_read_replies(error, cause),
     };
-    let Ok(gatekeeper) = gatekeeper(alloc, readers.len()) else {
+    let Ok(gatekeeper) = gatekeeper(alloc, &readers) else {
         return fail_to_start(error, StartError::Memory);
     };
     check_over(
@@ -140,7 +140,9 @@ pub fn check_files<R: Threads + Wait + Copy + Send + 'static, F: Files, O: Sink,
     )
 }
 
-// Makes the gatekeeper of so many proxies.
-fn gatekeeper(alloc: Global, proxies: usize) -> Result<Arc<WaitingRoom, Global>, AllocError> {
-    Ok(Arc::new(alloc, WaitingRoom::new(alloc, proxies)?)?)
+// Makes the gatekeeper of the proxies that have these readers: a room with a place for each.
+fn gatekeeper<S>(alloc: Global, readers: &[S]) -> Result<Arc<WaitingRoom, Global>, AllocError>
+    ensures places { IfOk result (λ room. room.value ≡ length readers.now) }
+{
+    Ok(Arc::new(alloc, WaitingRoom::new(alloc, readers.len())?)?)
 }

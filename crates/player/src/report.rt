@@ -3,7 +3,7 @@
 ghost use Rattle.std.specs.Prelude.{◌≡◌, ◌≢◌, ◌↔◌, ◌<◌, ℕ, map, take, length, vec_items, IfSome, IsErr, IsOk, OnOk};
 ghost use Rattle.std.specs.Io.KnownBytes.{Appends, Keeps};
 ghost use Rattle.player.specs.Failures.{failure_lines, with_loss, NothingFailed};
-ghost use Rattle.player.specs.Line.{AreLines, answers_of};
+ghost use Rattle.player.specs.Line.{AreLines, TakesToSort, answers_of};
 ghost use Rattle.player.specs.Lines.{lines};
 ghost use Rattle.player.specs.declared.form.Form.{Form};
 
@@ -27,8 +27,8 @@ pub struct Report {
 /// Prints the lines of the answers to `out`, as [`print_answers`] does, and flushes it. Then prints what failed to `error`,
 /// as [`print_failures`] does. `received` and `failures` hold those of each proxy at its number.
 ///
-/// Where memory is refused while the lines of a proxy are sorted, that proxy has a loss from then on. A write or a flush that
-/// fails has no line of its own.
+/// Where memory is refused while the lines of a proxy are sorted, that proxy has a loss from then on. No memory is taken to sort up to
+/// 20 lines. A write or a flush that fails has no line of its own.
 pub fn print_report<O: Sink, E: Sink>(
     alloc: Global,
     out: &mut O,
@@ -42,6 +42,8 @@ pub fn print_report<O: Sink, E: Sink>(
         → OnOk result.printed (Appends (O.given out.old) (O.given out.new)
         (lines form (map answers_of (map vec_items received.old)))) }
     ensures memory { (proxy : ℕ) → result.printed ≡ Err (PrintError.Memory proxy) → proxy < length received.old }
+    ensures takes { (proxy : ℕ) → result.printed ≡ Err (PrintError.Memory proxy)
+        → TakesToSort (map vec_items received.old) proxy }
     ensures nothing { (proxy : ℕ) → result.printed ≡ Err (PrintError.Memory proxy)
         → O.given out.new ≡ O.given out.old }
     ensures beginning { (form : Form) → AreLines form (map vec_items received.old)
@@ -85,6 +87,7 @@ fn print_and_flush<W: Sink>(
         → OnOk result (Appends (W.given out.old) (W.given out.new)
         (lines form (map answers_of (map vec_items received.old)))) }
     ensures memory { (proxy : ℕ) → result ≡ Err (PrintError.Memory proxy) → proxy < length received.old }
+    ensures takes { (proxy : ℕ) → result ≡ Err (PrintError.Memory proxy) → TakesToSort (map vec_items received.old) proxy }
     ensures nothing { (proxy : ℕ) → result ≡ Err (PrintError.Memory proxy) → W.given out.new ≡ W.given out.old }
     ensures beginning { (form : Form) → AreLines form (map vec_items received.old) → result ≡ Err PrintError.Write
         → IfSome (W.given out.new) (λ _. (n : ℕ) × Appends (W.given out.old) (W.given out.new)

@@ -2,7 +2,7 @@
 //!
 //! `verdicts`, `reports`, `batches`, `options`, `proxies` and `files` are the worked rows, played over memory by `runs`, each a
 //! test of its row's name, and `sharing` those of files that use up their share; `meeting` holds back two proxies that wait for each
-//! other, and `stalling` a reader. `workers` looks at a worker alone, and
+//! other, `watching` when one is let through, and `stalling` a reader. `workers` looks at a worker alone, and
 //! the others at the command line and at what is printed. `shell` and `shell_failures` run the program whole, over the words of an
 //! environment and the files of a `shelf`, and `checks` those that compare with the replies of another resolver. The tests of `memory` pass whichever one growth is refused; `.ci/refused-memory` refuses
 //! each in turn.
@@ -55,6 +55,8 @@ mod shell_failures;
 mod stalling;
 #[cfg(test)]
 mod verdicts;
+#[cfg(test)]
+mod watching;
 #[cfg(test)]
 mod words;
 #[cfg(test)]

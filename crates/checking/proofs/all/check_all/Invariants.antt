@@ -1,4 +1,4 @@
-use Rattle.std.proofs.Common.{◌≡◌, ◌+◌, ◌++◌, map, vec_items}
+use Rattle.std.proofs.Common.{◌≡◌, ◌+◌, ◌++◌, drop, map, vec_items}
 use Rattle.std.specs.Prelude.{vec_len}
 use Rattle.std.specs.Vec.Iter.{into_iter_items, into_iter_len}
 use Rattle.checking.specs.Check.{count_differences, lines_from}
@@ -17,4 +17,6 @@ invariant-loop-replies l = record {
       ≡ count_differences (map vec_items l.fn.expected.items) (map vec_items l.fn.recorded.items);
   passed : l.proxy + into_iter_len l.replies-iterator ≡ vec_len l.fn.expected;
   others : into_iter_len l.recorded ≡ into_iter_len l.replies-iterator;
+  expected_left : into_iter_items l.replies-iterator ≡ drop l.proxy l.fn.expected.items;
+  recorded_left : into_iter_items l.recorded ≡ drop l.proxy l.fn.recorded.items;
 }

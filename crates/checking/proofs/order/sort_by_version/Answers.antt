@@ -13,4 +13,6 @@ returns g c =
     record {
       sorted = ok;
       rises = on_ok_weaker c.sort_by_key.result (λ e. subst (Rise version) (sym e) (in_order-rises version c.args.items.now)) ok;
+      count = c.sort_by_key.ensures.len;
+      few = c.sort_by_key.ensures.succeeds;
     }

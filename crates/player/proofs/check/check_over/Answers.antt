@@ -6,7 +6,7 @@ use Rattle.player.specs.declared.failures.Ending.{Ending}
 use Rattle.player.specs.declared.failures.ProxyFailure.{ProxyFailure}
 use Rattle.player.specs.declared.form.Form.{Form}
 use Rattle.player.specs.declared.line.Line.{Line}
-use Rattle.player.specs.Checked.{check_lines, differences_of}
+use Rattle.player.specs.Checked.{TakesToCompare, check_lines, differences_of}
 use Rattle.player.specs.Failures.{failure_lines, NothingFailed}
 use Rattle.player.specs.Line.{AreLines}
 use Rattle.player.specs.Run.{IsRun, is_complete}
@@ -74,13 +74,14 @@ returns g c =
           (held_and c.print_check.result.printed _ _ lines (report.count are) parts.0);
       quiet = report.quiet;
       failed = λ is.
-          inr (ran_and_failed options files received failures complete account.stop run (check_lines recorded) out error told
+          inr (ran_and_failed options files received failures complete account.stop run (check_lines recorded) (TakesToCompare recorded) out error told
           c.print_check.result.printed c.print_check.result.told lines
           (λ proxy memory. omega (
             arith,
             report.memory proxy memory,
             length-map outcome.lines.items (vec_items {X = Line} {Z = Global}),
           ))
+          report.takes
           report.nothing (report.beginning are) report.write.0
           (subst (λ (e : Ending). OnOk c.print_check.result.told (Took error (failure_lines told e))) ending report.failure_lines)
           report.told.0 report.loss report.no_loss

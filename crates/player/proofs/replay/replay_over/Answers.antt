@@ -4,6 +4,7 @@ use Rattle.std.proofs.lemmas.List.{length-map}
 use Rattle.player.specs.declared.failures.Ending.{Ending}
 use Rattle.player.specs.declared.failures.ProxyFailure.{ProxyFailure}
 use Rattle.player.specs.declared.line.Line.{Line}
+use Rattle.player.specs.Line.{TakesToSort}
 use Rattle.player.specs.Lines.{lines as lines_of}
 use Rattle.player.specs.Failures.{failure_lines, NothingFailed}
 use Rattle.player.specs.Run.{IsRun, is_complete}
@@ -63,13 +64,14 @@ returns g c =
           (held_ok c.print_report.result.printed _ lines parts.0);
       quiet = report.quiet;
       failed = λ is.
-          inr (ran_and_failed options files received failures complete account.stop run (lines_of options.form) out error told
+          inr (ran_and_failed options files received failures complete account.stop run (lines_of options.form) TakesToSort out error told
           c.print_report.result.printed c.print_report.result.told lines
           (λ proxy memory. omega (
             arith,
             report.memory proxy memory,
             length-map c.deref_mut.result.now (vec_items {X = Line} {Z = Global}),
           ))
+          report.takes
           report.nothing (report.beginning options.form are) report.write.0
           (subst (λ (e : Ending). OnOk c.print_report.result.told (Took error (failure_lines told e))) ending report.failure_lines)
           report.told.0 report.loss report.no_loss
