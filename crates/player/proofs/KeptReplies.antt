@@ -75,7 +75,7 @@ takes_to_compare received kept recorded proxy is takes =
     elim takes [
       | inl some ↦ inl (count_kept received proxy (subst (λ (l : List (List Reply)). 1 ≤ count_at l proxy) is some))
       | inr other ↦ elim other [
-          | inl some ↦ inr (inl some)
-          | inr last ↦ inr (inr (last ∙ ap length is ∙ length-map received replies_kept))
-        ]
+        | inl some ↦ inr (inl some)
+        | inr last ↦ inr (inr (last ∙ ap length is ∙ length-map received replies_kept))
+      ]
     ]

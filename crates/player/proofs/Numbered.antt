@@ -55,7 +55,7 @@ module _ {X Y : Type 0} (view : X → Y) (change : Y → Y) where
       let inside_whole : i < length whole = omega arith in (
         inside_whole,
         ap view is ∙ sym (get_or-map view xs i x (view x) inside)
-        ∙ ap (λ l. get_or l i (view x)) so_far ∙ get-changed_to change whole i (view x) inside_whole,
+            ∙ ap (λ l. get_or l i (view x)) so_far ∙ get-changed_to change whole i (view x) inside_whole,
       )
 
   -- the next piece is changed

@@ -102,7 +102,7 @@ module _ (options : Options) (files : List (Option (List ℕ))) (received : List
       }
 
   module _ (text_of : List (List Answer) → List ℕ) (Takes : List (List Line) → ℕ → Type 0) (out error : Written)
-    (told : List ProxyFailure) where
+      (told : List ProxyFailure) where
     abbrev text : List ℕ
     text = text_of (map answers_of received)
 

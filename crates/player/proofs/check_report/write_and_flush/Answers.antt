@@ -1,6 +1,5 @@
 use Rattle.std.proofs.Common.{length, sym, subst}
 use Rattle.std.proofs.Math.Seq.{take-length}
-use Rattle.std.specs.Prelude.{OnErr}
 use Rattle.std.specs.Io.KnownBytes.{Appends}
 use Rattle.wire.proofs.callers.Given.{beginning}
 use Rattle.player.proofs.Results.{on_err_weaker}
