@@ -96,7 +96,7 @@ impl Gatekeeper for Watched {
 
 // Replays two batches that are held, and returns what comes of it, and how many looks there were before a batch was let through and
 // before one was again.
-fn watched<R: Threads + Wait + Copy + Send + 'static>(
+fn replay_watched<R: Threads + Wait + Copy + Send + 'static>(
     rt: &R,
     alloc: Global,
 ) -> Result<(String, u64, u64), Unmade> {
@@ -111,7 +111,7 @@ fn watched<R: Threads + Wait + Copy + Send + 'static>(
 
 #[test]
 fn two_looks_alike_let_a_batch_through(rt: HostRuntime) -> Result<(), Fail> {
-    let (text, first, again) = watched(&rt, rt.alloc())?;
+    let (text, first, again) = replay_watched(&rt, rt.alloc())?;
     assert_eq!(rt; text.as_str(), "0 200 held\n0 300 held\ndone: ");
     // The first look is forgotten when the batch is taken, and the third when one is let through.
     assert_eq!(rt; (first, again), (3, 5));
