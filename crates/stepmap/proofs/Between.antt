@@ -40,7 +40,7 @@ use Rattle.std.proofs.Math.Seq.{take-append_seam, drop-append_seam}
 use Rattle.std.proofs.lemmas.Int.{ints, clamps, fold-int_max_bounds, fold-int_max_reached}
 use Rattle.std.proofs.lemmas.List.{drop-take}
 use Rattle.std.proofs.lemmas.Simd.{map-map}
-use Rattle.std.proofs.lemmas.List.Elements.{All-head, All-tail, All-map, All-weaker, filter_agree}
+use Rattle.std.proofs.lemmas.List.Elements.{All-map, All-weaker, filter_agree}
 use Rattle.arena.specs.Arena.{Arena, IsLive, key_at}
 use Rattle.tree.specs.Item.{Item, IsGreatest}
 use Rattle.tree.specs.Path.{between}
@@ -61,7 +61,7 @@ use Rattle.stepmap.proofs.Values.{parted_below}
 use Rattle.stepmap.proofs.IndexFound.{up_to_falls, value_up_to}
 use Rattle.stepmap.proofs.WritingValues.{begins_before_end}
 use Rattle.keys.proofs.callers.SomeElement.{Any-map}
-use Rattle.stepmap.proofs.Cutting.{slot_passes_live}
+use Rattle.stepmap.proofs.Cutting.{filtered, slot_passes_live}
 use Rattle.stepmap.proofs.LastFound.{parted_up_to, some_of_all}
 use Rattle.stepmap.proofs.GreatestFound.{
   IsInside,
@@ -104,20 +104,8 @@ module _ {H : Type 0} (keys : Arena H) where
       of_key None h = h
       of_key (Some k) h = before_at_most_same k key h
 
-  -- the boundaries of items picked by a test are picked by the same test
-  picked : (p : Item → Bool) (q : Boundary → Bool) (xs : List Item) → All (λ x. p x ≡ q (boundary_of keys x)) xs
-      → boundaries_of keys (filter p xs) ≡ filter q (boundaries_of keys xs)
-  picked p q [] a = refl
-  picked p q (x ∷ xs) a =
-      let e = All-head (λ x. p x ≡ q (boundary_of keys x)) x xs a in
-      let i = picked p q xs (All-tail (λ x. p x ≡ q (boundary_of keys x)) x xs a) in
-      elim (true_or_false (q (boundary_of keys x))) [
-        | inl t ↦ let t' : p x ≡ true = e ∙ t in rw (t', t) (ap (λ ys. boundary_of keys x ∷ ys) i)
-        | inr n ↦ let n' : p x ≡ false = e ∙ n in rw (n', n) i
-      ]
-
   -- the items between two cuts have the boundaries between them
-  pub between_cuts : (tree : Items) → IsStored keys tree → (from_up_to to_up_to : Bool) (begin end : List ℕ)
+  between_cuts : (tree : Items) → IsStored keys tree → (from_up_to to_up_to : Bool) (begin end : List ℕ)
       → boundaries_of keys
       (between (Some (slot_passes keys from_up_to begin)) (Some (slot_passes keys to_up_to end)) tree.items)
       ≡ filter (λ b. not (passes_at from_up_to begin b.key) && passes_at to_up_to end b.key)
@@ -125,7 +113,7 @@ module _ {H : Type 0} (keys : Arena H) where
   between_cuts tree s u v begin end =
       let p = λ (x : Item). not (slot_passes keys u begin x.key) && slot_passes keys v end x.key in
       let q = λ (b : Boundary). not (passes_at u begin b.key) && passes_at v end b.key in
-      picked p q tree.items
+      filtered (boundary_of keys) p q tree.items
       (All-weaker (λ x. IsLive keys x.key) (λ x. p x ≡ q (boundary_of keys x))
       (λ x l. rw (slot_passes_live keys u begin x.key l, slot_passes_live keys v end x.key l) refl) tree.items s.live)
 

@@ -21,7 +21,7 @@ use Rattle.stepmap.proofs.Parting.{FallsAlongKeys}
 
 module _ (f : Item → Boundary) (p : Item → Bool) (q : Boundary → Bool) where
   -- those that pass are the boundaries that pass
-  filtered : (xs : List Item) → All (λ x. p x ≡ q (f x)) xs → map f (filter p xs) ≡ filter q (map f xs)
+  pub filtered : (xs : List Item) → All (λ x. p x ≡ q (f x)) xs → map f (filter p xs) ≡ filter q (map f xs)
   filtered [] a = refl
   filtered (x ∷ xs) a =
       let e = All-head (λ x. p x ≡ q (f x)) x xs a in

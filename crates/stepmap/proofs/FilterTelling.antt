@@ -1,6 +1,6 @@
 -- What the filter tells, and that it goes on telling where a step map changes.
 use Rattle.std.proofs.Common.{◌≡◌, ℕ, List, inl, inr, sym, subst, arith}
-use Rattle.std.specs.Prelude.{ℤ, negsuc, ◌≤ℤ◌, ◌<ℤ◌}
+use Rattle.std.specs.Prelude.{ℤ, ◌≤ℤ◌, ◌<ℤ◌}
 use Rattle.std.proofs.lemmas.Int.{ints}
 use Rattle.filter.specs.Filter.{FilterState, bound}
 use Rattle.keys.specs.Range.{Holds}
@@ -29,12 +29,6 @@ module _ (f : FilterState) (old new : Steps) (tells : FilterTells f old) where
   tells_same edge same key bytes s from above =
       let from : old.edge ≤ℤ s = omega (arith, ints, edge, from) in
       tells key bytes s from ((same key bytes s from).1 above)
-
-  -- where the edge rises
-  pub tells_raised : old.edge ≤ℤ new.edge → new.boundaries ≡ old.boundaries → FilterTells f new
-  tells_raised later same key bytes s from above =
-      let from : old.edge ≤ℤ s = omega (arith, ints, later, from) in
-      tells key bytes s from (subst (λ bs. s <ℤ value_at bs key) same above)
 
   -- where bounds rise, and those of keys that are written to the version at least
   pub tells_written : (g : FilterState) (range : Range) (version : ℤ) → new.edge ≡ old.edge
@@ -65,8 +59,3 @@ module _ (f : FilterState) (old new : Steps) (tells : FilterTells f old) where
       let from : old.edge ≤ℤ s = omega (arith, ints, edge, from) in
       let before : s <ℤ bound f key = tells key bytes s from (subst (λ bs. s <ℤ value_at bs key) same above) in
       subst (λ (x : ℤ). s <ℤ x) (sym (alike key)) before
-
--- where nothing is written
-pub tells_none : (f : FilterState) (m : Steps) → ((key : List ℕ) → bound f key ≡ negsuc 0)
-    → ((key : List ℕ) → value_at m.boundaries key ≡ negsuc 0) → FilterTells f m
-tells_none f m low none key bytes s from above = omega (arith, ints, above, low key, none key)

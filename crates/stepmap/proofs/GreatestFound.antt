@@ -34,7 +34,7 @@ use Rattle.std.proofs.Common.{
 use Rattle.std.specs.Prelude.{ℤ, negsuc, ◌≤ℤ◌, ◌<ℤ◌, All, Any, slice_range}
 use Rattle.std.specs.Int.{int_max}
 use Rattle.std.proofs.lemmas.Int.{ints, fold-int_max_bounds, fold-int_max_reached}
-use Rattle.std.proofs.lemmas.List.{drop-take, get_or-map, length-map}
+use Rattle.std.proofs.lemmas.List.{drop-take, get_or-map, length-map, length-take-le}
 use Rattle.std.proofs.lemmas.List.Folds.{drop_split}
 use Rattle.std.proofs.lemmas.List.Elements.{
   All-head,
@@ -80,7 +80,10 @@ use Rattle.stepmap.proofs.Values.{
 }
 use Rattle.stepmap.proofs.WritingValues.{begins_before_end}
 use Rattle.keys.proofs.callers.SomeElement.{Any-first, Any-later}
-use Rattle.stepmap.proofs.Replacing.{filter_shorter, index_is}
+use Rattle.stepmap.proofs.Looking.{filter_shorter}
+
+index_is : (xs ys : List Boundary) (i : ℕ) → i ≤ length xs → take i xs ≡ ys → i ≡ length ys
+index_is xs ys i le e = sym (length-take-le i xs le) ∙ ap length e
 
 -- the value at a boundary's own key is its version
 pub value_own : (v : ℤ) (bs : List Boundary) (k : ℕ) (d : Boundary) → Rising bs → k < length bs

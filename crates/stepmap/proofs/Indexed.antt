@@ -3,14 +3,12 @@ use Rattle.std.proofs.Common.{◌≡◌, ℕ, List, [], ◌∷◌, Option, Some,
 use Rattle.std.specs.Prelude.{IfSome}
 use Rattle.std.specs.List.{All, Contains}
 use Rattle.std.proofs.lemmas.List.Elements.{All-contains, All-map, All-head, All-tail, All-cons, All-nil, All-weaker}
-use Rattle.arena.specs.Arena.{Arena, Records, record_at, key_at}
-use Rattle.keys.specs.Key.{IsBytes}
+use Rattle.arena.specs.Arena.{Arena, Records, key_at}
 use Rattle.tree.specs.Hints.{KeyBytes, Hint, IsHinted, AreHinted, IsKnown, Begins, digest_at, digest_behind}
 use Rattle.tree.specs.Item.{Item}
 use Rattle.tree.specs.Tree.{Items, hints_in, KnowItems}
 use Rattle.tree.proofs.callers.Hints.{all_known, hinted_kept}
 use Rattle.stepmap.specs.Stored.{AreIndexed}
-use Rattle.stepmap.proofs.Placed.{IsPlaced}
 use Rattle.stepmap.proofs.PlacedKeys.{Placed, ArePlaced, live_apart, live_by_key}
 
 -- the bytes of a key stay known
@@ -51,34 +49,18 @@ hint_left a b hint stay h =
 
 module _ {H : Type 0} where
   -- All keys stay.
-  pub hinted_more : (old new : Arena H) (tree : Items)
+  hinted_more : (old new : Arena H) (tree : Items)
       → ((slot : ℕ) (text : List ℕ) → key_at old slot ≡ Some text → key_at new slot ≡ Some text)
       → AreHinted (key_at old) (hints_in tree) → AreHinted (key_at new) (hints_in tree)
   hinted_more old new tree stay hinted = hinted_kept (key_at old) (key_at new) stay (hints_in tree) hinted
 
-  -- a slot with a key isn't without a record
-  has_record : (a : Arena H) (slot : ℕ) (text : List ℕ) → record_at a slot ≡ None → key_at a slot ≡ Some text → ⊥
-  has_record a slot text none is = let e : None ≡ Some text = sym (ap (option_map (λ r. r.key)) none) ∙ is in cc
-
-  -- another key is placed
-  module _ (old new : Arena H) (slot : ℕ) (header : H) (key : List ℕ) (placed : IsPlaced old new slot header key) where
-    pub hinted_placed : (tree : Items) → AreHinted (key_at old) (hints_in tree) → AreHinted (key_at new) (hints_in tree)
-    hinted_placed tree =
-        hinted_more old new tree
-        (λ s text is. ap (option_map (λ r. r.key))
-        (placed.others s (λ same. has_record old s text (ap (record_at old) same ∙ placed.was_free) is)) ∙ is)
-
-    pub known_placed : IsBytes key → IsKnown (key_at new) slot
-    known_placed bytes =
-        record { text = key; known = ap (option_map (λ r. r.key)) placed.is; are_bytes = bytes }
-
-  -- some are
-  pub hinted_with : (old now : Arena H) (ps : List Placed) → ArePlaced old now ps → (tree : Items)
+  -- Keys are placed.
+  pub hinted_with : (old now : Arena H) (ps : List Placed) → ArePlaced old now [] ps → (tree : Items)
       → AreHinted (key_at old) (hints_in tree) → AreHinted (key_at now) (hints_in tree)
   hinted_with old now ps placed tree =
       hinted_more old now tree
       (λ s text is. ap (option_map (λ r. r.key))
-      (placed.others s (live_apart old ps placed.free s (live_by_key old old s text is))) ∙ is)
+      (placed.others s refl (live_apart old ps placed.free s (live_by_key old old s text is))) ∙ is)
 
   -- The keys of the items stay, and nodes know of no others.
   pub hinted_keys : (old new : Arena H) (tree : Items) → KnowItems tree
@@ -102,15 +84,6 @@ module _ {H : Type 0} where
           hint_left (key_at old) (key_at new) hint
           (All-weaker (Contains slots) (Stays (key_at old) (key_at new))
           (λ key c. All-contains (Stays (key_at old) (key_at new)) slots key stay c) hint.keys k) h
-
-  -- Their records stay.
-  pub hinted_left : (old new : Arena H) (tree : Items) → KnowItems tree
-      → All (λ x. record_at new x.key ≡ record_at old x.key) tree.items
-      → AreHinted (key_at old) (hints_in tree) → AreHinted (key_at new) (hints_in tree)
-  hinted_left old new tree know same =
-      hinted_keys old new tree know
-      (All-weaker (λ (x : Item). record_at new x.key ≡ record_at old x.key)
-      (λ x. key_at new x.key ≡ key_at old x.key) (λ x e. ap (option_map (λ r. r.key)) e) tree.items same)
 
   -- Memory was taken, and nothing else has changed.
   pub indexed_still : (old new : Arena H) (tree next : Items) → new.records ≡ old.records → next.items ≡ tree.items

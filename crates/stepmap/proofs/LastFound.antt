@@ -23,8 +23,8 @@ use Rattle.std.proofs.Common.{
 }
 use Rattle.std.specs.Prelude.{ℤ, negsuc, All, Any}
 use Rattle.std.proofs.lemmas.List.{map-append}
-use Rattle.std.proofs.lemmas.List.Elements.{All-filter, All-nil, All-cons, All-head, filter_passes}
-use Rattle.arena.specs.Arena.{Arena, IsLive}
+use Rattle.std.proofs.lemmas.List.Elements.{All-nil, All-cons, All-head, filter_passes}
+use Rattle.arena.specs.Arena.{Arena}
 use Rattle.tree.specs.Item.{Item}
 use Rattle.tree.specs.Path.{passing}
 use Rattle.tree.specs.Tree.{Items, IsLast}
@@ -41,7 +41,7 @@ use Rattle.stepmap.proofs.Order.{Rising, rising_in_order, rise_middle}
 use Rattle.stepmap.proofs.Looking.{not_not}
 use Rattle.stepmap.proofs.Parting.{parted}
 use Rattle.stepmap.proofs.IndexFound.{up_to_empty, up_to_falls, value_up_to}
-use Rattle.keys.proofs.callers.SomeElement.{Any-right, Any-first, Any-parts, Any-push_cases}
+use Rattle.keys.proofs.callers.SomeElement.{Any-parts, Any-push_cases}
 use Rattle.stepmap.proofs.Cutting.{stored_cut}
 
 -- the version of the last boundary counts
@@ -85,13 +85,6 @@ module _ (key : List ℕ) (bs : List Boundary) (o : AreInOrder bs) where
         value_up_to bs key parted_up_to ∙ ap (last_version (negsuc 0)) last.1
         ∙ last_version_last (negsuc 0) last.0 b
 
-    -- the last one stands at the key, or none does
-    pub there_if_last : b.key ≡ key → Any (λ c. c.key ≡ key) bs
-    there_if_last e =
-        subst (Any (λ c. c.key ≡ key)) (sym around)
-        (Any-right (λ c. c.key ≡ key) last.0 (b ∷ after key bs)
-        (Any-first (λ c. c.key ≡ key) b (after key bs) e))
-
     not_after : is_before key b.key ≡ false
     not_after =
         let all = filter_passes (λ c. not (is_before key c.key)) bs in
@@ -100,6 +93,7 @@ module _ (key : List ℕ) (bs : List Boundary) (o : AreInOrder bs) where
         (All-head (λ c. not (is_before key c.key) ≡ true) b []
         (All-back (λ c. not (is_before key c.key) ≡ true) last.0 (b ∷ []) own))
 
+    -- where one stands at the key, it is the last one
     pub last_if_there : Any (λ c. c.key ≡ key) bs → b.key ≡ key
     last_if_there a =
         let At = λ (c : Boundary). c.key ≡ key in
@@ -137,11 +131,3 @@ module _ {H : Type 0} (keys : Arena H) (tree : Items) (s : IsStored keys tree) w
       sym (stored_cut keys tree s up_to key).before ∙ ap (boundaries_of keys) last.1
           ∙ map-append (boundary_of keys) last.0 (x ∷ []),
     )
-
-    pub last_live : IsLive keys x.key
-    last_live =
-        let passes = λ (y : Item). slot_passes keys up_to key y.key in
-        let Live = λ (y : Item). IsLive keys y.key in
-        All-head Live x []
-        (All-back Live last.0 (x ∷ [])
-        (subst (All Live) last.1 (All-filter passes Live tree.items s.live)))

@@ -41,13 +41,6 @@ length-left_of (q ∷ queries) (false ∷ marks) le = length-left_of queries mar
 length-left_of (q ∷ queries) (true ∷ marks) le =
     omega (arith, length-left_of queries marks (omega (arith, le)), sum_by-cons (λ (mark : Bool). cond mark 1 0) true marks)
 
--- no more are left than there are marks
-pub left_of_few : (queries : List (Range × ℤ)) (marks : List Bool) → length (left_of queries marks) ≤ length marks
-left_of_few [] marks = omega arith
-left_of_few (q ∷ queries) [] = omega arith
-left_of_few (q ∷ queries) (false ∷ marks) = omega (arith, left_of_few queries marks)
-left_of_few (q ∷ queries) (true ∷ marks) = omega (arith, left_of_few queries marks)
-
 -- one more is marked
 left_of_more : (queries : List (Range × ℤ)) (marks : List Bool) (q : Range × ℤ) (mark : Bool)
     → length queries ≡ length marks
@@ -61,20 +54,12 @@ left_of_more (p ∷ queries) (true ∷ marks) q mark same =
     ap (λ rest. p ∷ rest) (left_of_more queries marks q mark (omega (arith, same)))
 
 module _ (m : Steps) (queries : List (Range × ℤ)) (from : ℕ) where
-  -- none is marked yet
-  pub none_marked : from ≤ length queries → AreMarked m queries from [] []
-  none_marked within = record { within = omega (arith, within); others = tt; left = tt }
-
   module _ (marks : List Bool) (places : List ℕ) (are : AreMarked m queries from marks places) where
     abbrev part : List (Range × ℤ)
     part = take (length marks) (drop from queries)
 
     long : length part ≡ length marks
     long = length-take-le (length marks) (drop from queries) (omega (arith, are.within, length-drop from queries))
-
-    -- there are no more places than marks
-    pub places_few : length places ≤ length marks
-    places_few = omega (arith, AllZip-long _ (left_of part marks) places are.left, left_of_few part marks)
 
     module _ (q : Range × ℤ) (is : slice_get queries (from + length marks) ≡ Some q) where
       more : (mark : Bool) → length (marks ++ mark ∷ []) ≡ length marks + 1

@@ -15,7 +15,6 @@ pub mod Sweeps
 pub mod SweptMap
 pub mod WrittenMap
 pub mod IndexFound
-pub mod Replacing
 pub mod GreatestFound
 pub mod Changes
 pub mod Rounds
@@ -35,14 +34,15 @@ pub mod Clearing
 pub mod ThinnedRun
 pub mod SweepingOn
 pub mod Indexed
-pub mod Inserted
 pub mod Placed
-pub mod WrittenInParts
+pub mod SpareKeys
+pub mod Closing
 pub mod LastAndInside
 pub mod Asking
 pub mod PlacedKeys
 pub mod Exchanged
-pub mod WrittenInLeaf
+pub mod Overwritten
+pub mod WritingOn
 pub mod NextReady
 pub mod NoneReady
 pub mod SingleKeys

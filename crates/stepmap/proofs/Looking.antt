@@ -3,6 +3,7 @@ use Rattle.std.proofs.Common.{
   ◌≡◌,
   ◌≢◌,
   ℕ,
+  ◌≤◌,
   Bool,
   true,
   false,
@@ -12,6 +13,7 @@ use Rattle.std.proofs.Common.{
   [],
   ◌∷◌,
   ◌++◌,
+  length,
   filter,
   refl,
   sym,
@@ -20,6 +22,7 @@ use Rattle.std.proofs.Common.{
   subst,
   inl,
   inr,
+  arith,
 }
 use Rattle.std.specs.Prelude.{ℤ, All}
 use Rattle.std.proofs.lemmas.List.Elements.{All-head, All-tail, All-cons, All-nil, filter-append}
@@ -80,6 +83,17 @@ pub filter_no : (p : Boundary → Bool) (bs : List Boundary) → All (λ b. p b 
 filter_no p [] a = refl
 filter_no p (b ∷ bs) a = let f = All-head (λ b. p b ≡ false) b bs a in
     rw f (filter_no p bs (All-tail (λ b. p b ≡ false) b bs a))
+
+-- a test that asks for more keeps fewer
+pub filter_shorter : (p q : Boundary → Bool) → ((b : Boundary) → p b ≡ true → q b ≡ true)
+    → (bs : List Boundary) → length (filter p bs) ≤ length (filter q bs)
+filter_shorter p q f [] = omega arith
+filter_shorter p q f (b ∷ bs) =
+    let ih = filter_shorter p q f bs in
+    elim (true_or_false (p b)) [
+      | inl t ↦ rw (t, f b t) (omega arith)
+      | inr n ↦ elim (true_or_false (q b)) [ inl t ↦ rw (n, t) (omega arith) | inr m ↦ rw (n, m) ih ]
+    ]
 
 map_all : (P Q : Boundary → Type 0) → ((b : Boundary) → P b → Q b) → (bs : List Boundary) → All P bs
     → All Q bs

@@ -1,22 +1,20 @@
--- Keys that were placed in slots of an arena, for boundaries that are no items yet.
-use Rattle.std.proofs.Common.{◌≡◌, ◌≢◌, ℕ, zero, suc, ◌+◌, ◌<◌, ◌≤◌, ◌==◌, if◌then◌else◌, cond, List, [], ◌∷◌, ◌++◌, length, length-append, get_or, Option, None, Some, is_some, option_map, unwrap_or, map, refl, sym, ◌∙◌, ap, ap₂, subst, inl, inr, arith}
-use Rattle.std.specs.Prelude.{IsSome, IfSome, IfOk, nat_eq, ℤ, Result, Ok, OnOk}
-use Rattle.std.specs.List.{All}
+-- Keys that were placed in slots of an arena, for boundaries that are no items yet, while others are released.
+use Rattle.std.proofs.Common.{◌≡◌, ◌≢◌, ℕ, ◌+◌, ◌≤◌, ◌==◌, if◌then◌else◌, cond, List, [], ◌∷◌, ◌++◌, length, length-append, get_or, Option, None, Some, is_some, option_map, unwrap_or, map, refl, sym, ◌∙◌, ap, ap₂, subst, inl, inr, arith}
+use Rattle.std.specs.Prelude.{IsSome, IfSome, IfOk, ℤ, Result, Ok, OnOk}
+use Rattle.std.specs.List.{All, Contains}
 use Rattle.std.specs.FinMap as finite
 use Rattle.std.specs.Cmp.{nat_cmp_total, eq_by_cmp_equiv}
-use Rattle.std.proofs.lemmas.List.{map-append}
-use Rattle.std.proofs.lemmas.Result.{IfOk-at_ok}
-use Rattle.std.proofs.lemmas.Bool.{ne_eqb}
+use Rattle.std.proofs.lemmas.List.{map-append, length-map}
 use Rattle.std.proofs.lemmas.List.Elements.{All-head, All-tail, All-cons, All-nil, All-append, All-weaker}
-use Rattle.arena.specs.Arena.{Arena, Record, IsLive, record_at, key_at, spare_of, size_of, slots_of, wanted_of}
+use Rattle.arena.specs.Arena.{Arena, Record, IsLive, record_at, key_at, spare_of, size_of, slots_of as slots_for}
 use Rattle.tree.specs.Item.{Item}
-use Rattle.tree.specs.Tree.{Items}
-use Rattle.tree.proofs.callers.Times.{times, once, once_same, once_cases, times-append, none_or_some}
-use Rattle.stepmap.specs.Boundary.{Boundary, AreInOrder}
-use Rattle.stepmap.specs.Stored.{boundaries_of, IsStored}
-use Rattle.stepmap.proofs.Placed.{IsPlaced, is_placed, SameRecords, boundaries_same, none_is_not_live}
-use Rattle.stepmap.proofs.Releasing.{len_released, same_or_other}
-use Rattle.stepmap.proofs.WrittenInParts.{wanted_own}
+use Rattle.tree.proofs.callers.Times.{times, once, once_same, once_cases, times-append, times_if_contains, none_or_some}
+use Rattle.stepmap.specs.Boundary.{Boundary}
+use Rattle.stepmap.specs.Stored.{boundaries_of}
+use Rattle.stepmap.proofs.Placed.{IsPlaced, is_placed, SameRecords, none_is_not_live}
+use Rattle.stepmap.proofs.Releasing.{len_released}
+use Rattle.stepmap.proofs.SpareKeys.{takes, taken_by_place, given_back}
+use Rattle.stepmap.proofs.Unlinked.{slots_of, slot_live, value_of_one}
 
 -- a key in a slot, for a boundary of this version
 pub record Placed : Type 0 where
@@ -33,10 +31,6 @@ boundary_at p = record { key = p.key; version = p.version }
 abbrev pub placed_slots : List Placed → List ℕ
 placed_slots ps = map (λ p. p.slot) ps
 
--- how many slots of the size a key takes
-abbrev pub takes : List ℕ → ℕ → ℕ
-takes key size = wanted_of (length key ∷ []) size
-
 -- how many they all take
 abbrev pub used : List Placed → ℕ → ℕ
 used [] size = 0
@@ -46,86 +40,24 @@ used-append : (ps : List Placed) (p : Placed) (size : ℕ) → used (ps ++ p ∷
 used-append [] p size = omega arith
 used-append (q ∷ ps) p size = omega (arith, used-append ps p size)
 
--- a value at an element is among the values
-pub value_of_one : {X : Type 0} (f : X → ℕ) (xs : List X) (i : ℕ) (d : X) → i < length xs
-    → 1 ≤ times (f (get_or xs i d)) (map f xs)
-value_of_one f [] i d lt = absurd (omega arith)
-value_of_one f (x ∷ xs) zero d lt = omega (arith, once_same (f x))
-value_of_one f (x ∷ xs) (suc i) d lt = omega (arith, value_of_one f xs i d (omega arith))
-
--- a key takes one slot, of its own size
-takes_own : (key : List ℕ) → takes key (size_of (length key)) ≡ 1
-takes_own key = wanted_own (length key)
-
-takes_no_other : (key : List ℕ) (size : ℕ) → size ≢ size_of (length key) → takes key size ≡ 0
-takes_no_other key size other = none (size_of (length key)) other
-  where
-    none : (own : ℕ) → size ≢ own → 0 + cond (nat_eq own size) 1 0 ≡ 0
-    none own other = elim (once_cases size own) [
-      | inl same ↦ absurd (other (sym same.0))
-      | inr n ↦ omega (arith, n.1)
-    ]
-
-module _ {H : Type 0} (a b : Arena H) (key : List ℕ) where
-  -- a key was placed: one slot of its size fewer is spare
-  pub taken_by_place : {E : Type 0} (r : Result ℕ E) (slot : ℕ) → r ≡ Ok slot
-      → OnOk r (let size = size_of (length key) in spare_of b size + 1
-      ≡ (if spare_of a size == 0 then slots_of size else spare_of a size))
-      → OnOk r ((size : ℕ) → size ≢ size_of (length key) → spare_of b size ≡ spare_of a size)
-      → (size : ℕ) → spare_of a size ≤ spare_of b size + takes key size
-  taken_by_place r slot e more others size =
-      elim (same_or_other size (size_of (length key))) [
-        | inl same ↦
-            let spare = OnOk-at_ok _ e more in
-            subst (λ n. spare_of a n ≤ spare_of b n + takes key n) (sym same)
-            (omega (arith, takes_own key, one_less (spare_of a (size_of (length key))) _ _ spare))
-        | inr other ↦ omega (arith, (OnOk-at_ok _ e others) size other)
-      ]
-    where
-      one_less : (n m slots : ℕ) → m + 1 ≡ (if n == 0 then slots else n) → n ≤ m + 1
-      one_less zero m slots h = omega arith
-      one_less (suc n) m slots h =
-          let e : m + 1 ≡ suc n = h ∙ ap (λ t. if t then slots else suc n) (ne_eqb (suc n) 0 (omega arith)) in omega arith
-
-      OnOk-at_ok : {T E : Type 0} {r : Result T E} {x : T} (P : Type 0) → r ≡ Ok x → OnOk r P → P
-      OnOk-at_ok P e h = IfOk-at_ok (λ _. P) e h
-
-  -- one was released: one more is spare
-  pub given_back : (slot : ℕ) → key_at a slot ≡ Some key
-      → IfSome (key_at a slot) (λ key. spare_of b (size_of (length key)) ≡ spare_of a (size_of (length key)) + 1)
-      → IfSome (key_at a slot) (λ key. (size : ℕ) → size ≢ size_of (length key) → spare_of b size ≡ spare_of a size)
-      → (size : ℕ) → spare_of a size + takes key size ≤ spare_of b size
-  given_back slot is more others size =
-      let spare = held (λ key. spare_of b (size_of (length key)) ≡ spare_of a (size_of (length key)) + 1) (key_at a slot) is more in
-      elim (same_or_other size (size_of (length key))) [
-        | inl same ↦
-            subst (λ n. spare_of a n + takes key n ≤ spare_of b n) (sym same) (omega (arith, takes_own key, spare))
-        | inr other ↦
-            let e = held (λ key. (size : ℕ) → size ≢ size_of (length key) → spare_of b size ≡ spare_of a size)
-            (key_at a slot) is others size other in
-            omega (arith, e, takes_no_other key size other)
-      ]
-    where
-      held : (P : List ℕ → Type 0) (o : Option (List ℕ)) → o ≡ Some key → IfSome o P → P key
-      held P o e h = subst (λ o. IfSome o P) e h
-
 module _ {H : Type 0} (old : Arena H) where
-  -- The keys were placed in slots that weren't live, each in one of its own, and no other record was touched.
-  pub record ArePlaced (now : Arena H) (ps : List Placed) : Type 0 where
+  -- The keys were placed in slots that weren't live, each in one of its own, slots that were are released, and no other
+  -- record was touched.
+  pub record ArePlaced (now : Arena H) (out : List ℕ) (ps : List Placed) : Type 0 where
     pub free : All (λ p. record_at old p.slot ≡ None) ps
     pub keys : All (λ p. key_at now p.slot ≡ Some p.key) ps
     pub distinct : (s : ℕ) → times s (placed_slots ps) ≤ 1
-    pub others : (s : ℕ) → times s (placed_slots ps) ≡ 0 → record_at now s ≡ record_at old s
-    pub counted : finite.len now.records ≡ finite.len old.records + length ps
+    pub others : (s : ℕ) → times s out ≡ 0 → times s (placed_slots ps) ≡ 0 → record_at now s ≡ record_at old s
+    pub counted : finite.len now.records + length out ≡ finite.len old.records + length ps
     pub spare : (size : ℕ) → spare_of old size ≤ spare_of now size + used ps size
 
   -- none was placed at first
-  pub none_placed : ArePlaced old []
+  pub none_placed : ArePlaced old [] []
   none_placed = record {
     free = All-nil (λ p. record_at old p.slot ≡ None);
     keys = All-nil (λ p. key_at old p.slot ≡ Some p.key);
     distinct = λ s. omega arith;
-    others = λ s none. refl;
+    others = λ s apart none. refl;
     counted = omega arith;
     spare = λ size. omega arith;
   }
@@ -151,16 +83,11 @@ module _ {H : Type 0} (old : Arena H) where
       of_record None e = absurd (cc)
       of_record (Some r) e = refl
 
-  module _ (now : Arena H) (ps : List Placed) (h : ArePlaced now ps) where
+  module _ (now : Arena H) (out : List ℕ) (ps : List Placed) (h : ArePlaced now out ps) where
     pub placed_live : All (λ p. IsLive now p.slot) ps
     placed_live =
         All-weaker (λ p. key_at now p.slot ≡ Some p.key) (λ p. IsLive now p.slot)
         (λ p e. live_by_key now p.slot p.key e) ps h.keys
-
-    -- items that were live have the same records
-    pub live_same : (xs : List Item) → All (λ x. IsLive old x.key) xs → SameRecords old now xs
-    live_same xs live = λ k d lt.
-        let s = (get_or xs k d).key in h.others s (live_apart ps h.free s (live k d lt))
 
     -- the boundaries of their items
     pub placed_are : boundaries_of now (map item_at ps) ≡ map boundary_at ps
@@ -174,11 +101,17 @@ module _ {H : Type 0} (old : Arena H) where
             let e : unwrap_or (key_at now p.slot) [] ≡ p.key = ap (λ o. unwrap_or o []) (All-head Keeps p ps a) in
             ap₂ (λ k bs. record { key = k; version = p.version } ∷ bs) e (each ps (All-tail Keeps p ps a))
 
+  -- where none was released, items that were live have the same records
+  pub live_same : (now : Arena H) (ps : List Placed) → ArePlaced now [] ps → (xs : List Item)
+      → All (λ x. IsLive old x.key) xs → SameRecords old now xs
+  live_same now ps h xs live = λ k d lt.
+      let s = (get_or xs k d).key in h.others s refl (live_apart ps h.free s (live k d lt))
+
   -- one more is placed
-  pub one_more : (mid now : Arena H) (ps : List Placed) (p : Placed) (header : H) → ArePlaced mid ps
+  pub one_more : (mid now : Arena H) (ps : List Placed) (p : Placed) (header : H) → ArePlaced mid [] ps
       → IsPlaced mid now p.slot header p.key
       → ((size : ℕ) → spare_of mid size ≤ spare_of now size + takes p.key size)
-      → ArePlaced now (ps ++ p ∷ [])
+      → ArePlaced now [] (ps ++ p ∷ [])
   one_more mid now ps p header h placed spare =
       let Free = λ (p : Placed). record_at old p.slot ≡ None in
       let Keeps = λ (p : Placed). key_at now p.slot ≡ Some p.key in
@@ -187,7 +120,7 @@ module _ {H : Type 0} (old : Arena H) where
       elim (none_or_some (times p.slot slots)) [
         | inl none ↦ none
         | inr some ↦ absurd (none_is_not_live (record_at mid p.slot) placed.was_free
-            (live_if_placed ps (placed_live mid ps h) p.slot some))
+            (live_if_placed ps (placed_live mid [] ps h) p.slot some))
       ] in
       let all : (s : ℕ) → times s (placed_slots (ps ++ p ∷ [])) ≡ times s slots + once s p.slot = λ s.
       omega (
@@ -198,7 +131,7 @@ module _ {H : Type 0} (old : Arena H) where
       record {
         free =
             All-append Free ps (p ∷ []) h.free
-            (All-cons Free p [] (sym (h.others p.slot fresh) ∙ placed.was_free) (All-nil Free));
+            (All-cons Free p [] (sym (h.others p.slot refl fresh) ∙ placed.was_free) (All-nil Free));
         keys =
             All-append Keeps ps (p ∷ [])
             (λ k d lt.
@@ -214,11 +147,11 @@ module _ {H : Type 0} (old : Arena H) where
               omega (arith, all s, same.1, none)
           | inr other ↦ omega (arith, all s, other.1, h.distinct s)
         ];
-        others = λ s none.
+        others = λ s apart none.
             let other : s ≢ p.slot = λ same.
             let own : once s p.slot ≡ 1 = ap (once s) (sym same) ∙ once_same s in
             omega (arith, own, all s, none) in
-            placed.others s other ∙ h.others s (omega (arith, all s, none));
+            placed.others s other ∙ h.others s refl (omega (arith, all s, none));
         counted =
             omega (
               arith,
@@ -247,15 +180,15 @@ module _ {H : Type 0} (old : Arena H) where
 
   -- the same, by what the arena says of a call that places it
   pub one_more_by : {E : Type 0} (mid now : Arena H) (ps : List Placed) (p : Placed) (header : H) (key : List ℕ)
-      (r : Result ℕ E) → ArePlaced mid ps → key ≡ p.key → r ≡ Ok p.slot
+      (r : Result ℕ E) → ArePlaced mid [] ps → key ≡ p.key → r ≡ Ok p.slot
       → IfOk r (λ slot. record_at mid slot ≡ None)
       → IfOk r (λ slot. now.records ≡ finite.insert mid.records slot (record { header = header; key = key }))
       → IfOk r (λ slot. record_at now slot ≡ Some (record { header = header; key = key }))
       → IfOk r (λ slot. (other : ℕ) → other ≢ slot → record_at now other ≡ record_at mid other)
       → OnOk r (let size = size_of (length key) in spare_of now size + 1
-      ≡ (if spare_of mid size == 0 then slots_of size else spare_of mid size))
+      ≡ (if spare_of mid size == 0 then slots_for size else spare_of mid size))
       → OnOk r ((size : ℕ) → size ≢ size_of (length key) → spare_of now size ≡ spare_of mid size)
-      → ArePlaced now (ps ++ p ∷ [])
+      → ArePlaced now [] (ps ++ p ∷ [])
   one_more_by mid now ps p header key r h is e free placed there others spare other_sizes =
       one_more mid now ps p header h
       (subst (λ k. IsPlaced mid now p.slot header k) is
@@ -264,17 +197,16 @@ module _ {H : Type 0} (old : Arena H) where
       (taken_by_place mid now key r p.slot e spare other_sizes))
 
   -- the first of them is released
-  pub first_released : (mid now : Arena H) (p : Placed) (ps : List Placed) → ArePlaced mid (p ∷ ps)
+  pub first_released : (mid now : Arena H) (out : List ℕ) (p : Placed) (ps : List Placed) → ArePlaced mid out (p ∷ ps)
       → now.records ≡ finite.remove mid.records p.slot
       → ((s : ℕ) → s ≢ p.slot → record_at now s ≡ record_at mid s)
       → IfSome (key_at mid p.slot) (λ key. spare_of now (size_of (length key)) ≡ spare_of mid (size_of (length key)) + 1)
       → IfSome (key_at mid p.slot)
       (λ key. (size : ℕ) → size ≢ size_of (length key) → spare_of now size ≡ spare_of mid size)
-      → ArePlaced now ps
-  first_released mid now p ps h removed others more same =
+      → ArePlaced now out ps
+  first_released mid now out p ps h removed others more same =
       let Free = λ (p : Placed). record_at old p.slot ≡ None in
       let Keeps = λ (p : Placed). key_at mid p.slot ≡ Some p.key in
-      let slots = placed_slots ps in
       let own : IsLive mid p.slot = live_by_key mid p.slot p.key (All-head Keeps p ps h.keys) in
       let later : All Keeps ps = All-tail Keeps p ps h.keys in
       let gone : record_at now p.slot ≡ None =
@@ -289,10 +221,10 @@ module _ {H : Type 0} (old : Arena H) where
             omega (arith, first, h.distinct q.slot, value_of_one (λ (p : Placed). p.slot) ps k d lt) in
             ap (option_map (λ r. r.key)) (others q.slot other) ∙ later k d lt;
         distinct = λ s. omega (arith, h.distinct s);
-        others = λ s none. elim (once_cases s p.slot) [
+        others = λ s apart none. elim (once_cases s p.slot) [
           | inl same ↦
               ap (record_at now) (sym same.0) ∙ gone ∙ sym (All-head Free p ps h.free) ∙ ap (record_at old) same.0
-          | inr apart ↦ others s (λ e. apart.0 (sym e)) ∙ h.others s (omega (arith, apart.1, none))
+          | inr other ↦ others s (λ e. other.0 (sym e)) ∙ h.others s apart (omega (arith, other.1, none))
         ];
         counted = omega (arith, len_released mid now p.slot own removed, h.counted);
         spare = λ size. omega (
@@ -302,43 +234,50 @@ module _ {H : Type 0} (old : Arena H) where
         );
       }
 
-  -- two of them, in the other order
-  swapped : (now : Arena H) (p q : Placed) → ArePlaced now (p ∷ q ∷ []) → ArePlaced now (q ∷ p ∷ [])
-  swapped now p q h = record {
-    free = swap (λ p. record_at old p.slot ≡ None) h.free;
-    keys = swap (λ p. key_at now p.slot ≡ Some p.key) h.keys;
-    distinct = λ s. omega (arith, h.distinct s);
-    others = λ s none. h.others s (omega (arith, none));
-    counted = h.counted;
-    spare = λ size. omega (arith, h.spare size);
-  }
-    where
-      swap : (P : Placed → Type 0) → All P (p ∷ q ∷ []) → All P (q ∷ p ∷ [])
-      swap P a =
-          All-cons P q (p ∷ []) (All-head P q [] (All-tail P p (q ∷ []) a))
-          (All-cons P p [] (All-head P p (q ∷ []) a) (All-nil P))
-
-  -- the second of two is released
-  pub second_released : (mid now : Arena H) (p q : Placed) → ArePlaced mid (p ∷ q ∷ [])
+  -- the second of two is
+  pub second_released : (mid now : Arena H) (out : List ℕ) (p q : Placed) → ArePlaced mid out (p ∷ q ∷ [])
       → now.records ≡ finite.remove mid.records q.slot
       → ((s : ℕ) → s ≢ q.slot → record_at now s ≡ record_at mid s)
       → IfSome (key_at mid q.slot)
       (λ key. spare_of now (size_of (length key)) ≡ spare_of mid (size_of (length key)) + 1)
       → IfSome (key_at mid q.slot)
       (λ key. (size : ℕ) → size ≢ size_of (length key) → spare_of now size ≡ spare_of mid size)
-      → ArePlaced now (p ∷ [])
-  second_released mid now p q h = first_released mid now q (p ∷ []) (swapped mid p q h)
+      → ArePlaced now out (p ∷ [])
+  second_released mid now out p q h = first_released mid now out q (p ∷ []) (record {
+    free = swap (λ p. record_at old p.slot ≡ None) h.free;
+    keys = swap (λ p. key_at mid p.slot ≡ Some p.key) h.keys;
+    distinct = λ s. omega (arith, h.distinct s);
+    others = λ s apart none. h.others s apart (omega (arith, none));
+    counted = h.counted;
+    spare = λ size. omega (arith, h.spare size);
+  })
+    where
+      swap : (P : Placed → Type 0) → All P (p ∷ q ∷ []) → All P (q ∷ p ∷ [])
+      swap P a =
+          All-cons P q (p ∷ []) (All-head P q [] (All-tail P p (q ∷ []) a))
+          (All-cons P p [] (All-head P p (q ∷ []) a) (All-nil P))
 
-  module _ (tree : Items) (stored : IsStored old tree) (now : Arena H) (h : ArePlaced now []) where
-    -- where all of them were released, the boundaries are as they were
-    pub still_boundaries : boundaries_of now tree.items ≡ boundaries_of old tree.items
-    still_boundaries = boundaries_same old now tree.items (live_same now [] h tree.items stored.live)
-
-    pub still_stored : IsStored now tree
-    still_stored = record {
-      in_order = subst AreInOrder (sym still_boundaries) stored.in_order;
-      live = λ k d lt.
-          ap is_some (live_same now [] h tree.items stored.live k d lt) ∙ stored.live k d lt;
-      distinct = stored.distinct;
-      counted = omega (arith, h.counted, stored.counted);
-    }
+  -- items that were live are released beside them
+  pub run_released : (mid now : Arena H) (ps : List Placed) (xs : List Item) → ArePlaced mid [] ps
+      → All (λ x. IsLive old x.key) xs
+      → ((s : ℕ) → ¬ Contains (slots_of xs) s → record_at now s ≡ record_at mid s)
+      → finite.len now.records + length xs ≡ finite.len mid.records
+      → ((size : ℕ) → spare_of mid size ≤ spare_of now size) → ArePlaced now (slots_of xs) ps
+  run_released mid now ps xs h live others counted spare = record {
+    free = h.free;
+    keys = λ k d lt.
+        let p = get_or ps k d in
+        let none : times p.slot (slots_of xs) ≡ 0 =
+        elim (none_or_some (times p.slot (slots_of xs))) [
+          | inl none ↦ none
+          | inr some ↦ absurd (none_is_not_live (record_at old p.slot) (h.free k d lt) (slot_live old xs live p.slot some))
+        ] in
+        ap (option_map (λ r. r.key)) (unreleased p.slot none) ∙ h.keys k d lt;
+    distinct = h.distinct;
+    others = λ s apart none. unreleased s apart ∙ h.others s refl none;
+    counted = omega (arith, counted, h.counted, length-map xs (λ (x : Item). x.key));
+    spare = λ size. omega (arith, h.spare size, spare size);
+  }
+    where
+      unreleased : (s : ℕ) → times s (slots_of xs) ≡ 0 → record_at now s ≡ record_at mid s
+      unreleased s none = others s (λ has. omega (arith, none, times_if_contains s (slots_of xs) has))

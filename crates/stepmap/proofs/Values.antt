@@ -1,36 +1,9 @@
 -- The step function of a list in parts.
-use Rattle.std.proofs.Common.{
-  ◌≡◌,
-  ℕ,
-  zero,
-  suc,
-  ◌<◌,
-  ◌≤◌,
-  Bool,
-  true,
-  false,
-  not,
-  cond,
-  List,
-  [],
-  ◌∷◌,
-  ◌++◌,
-  get_or,
-  length,
-  refl,
-  sym,
-  ◌∙◌,
-  ap,
-  inl,
-  inr,
-  arith,
-}
+use Rattle.std.proofs.Common.{◌≡◌, ℕ, Bool, true, false, not, cond, List, [], ◌∷◌, ◌++◌, refl, ◌∙◌, ap}
 use Rattle.std.specs.Prelude.{ℤ, All}
-use Rattle.std.specs.List.{AllWithin}
 use Rattle.std.proofs.lemmas.List.Elements.{All-head, All-tail, filter_passes, All-weaker}
 use Rattle.keys.specs.Key.{is_before, IsBefore, IsAtMost}
 use Rattle.keys.proofs.callers.KeyOrder.{before_trans, before_at_most, before_at_most_same}
-use Rattle.keys.proofs.callers.Booleans.{true_or_false, not_both_ways}
 use Rattle.stepmap.specs.Boundary.{Boundary, RiseFrom, value_from, last_version, below, from_on}
 use Rattle.keys.proofs.callers.KeyOrder.{not_before_if}
 use Rattle.stepmap.proofs.Order.{Rising}
@@ -121,34 +94,3 @@ pub last_has : (P : ℤ → Type 0) (v : ℤ) (bs : List Boundary) → P v → A
 last_has P v [] h a = h
 last_has P v (b ∷ bs) h a =
     last_has P b.version bs (All-head (λ b. P b.version) b bs a) (All-tail (λ b. P b.version) b bs a)
-
--- the version of the one before an index, or the one given
-abbrev pub version_before : ℤ → List Boundary → ℕ → ℤ
-version_before v bs zero = v
-version_before v [] (suc n) = v
-version_before v (b ∷ bs) (suc n) = version_before b.version bs n
-
--- the value at a key is the version before the index of the first that comes after it
-pub value_at_index : (v : ℤ) (bs : List Boundary) (key : List ℕ) (n : ℕ) → n ≤ length bs
-    → AllWithin (λ b. not (is_before key b.key) ≡ true) bs 0 n
-    → AllWithin (λ b. not (is_before key b.key) ≡ false) bs n (length bs)
-    → value_from v bs key ≡ version_before v bs n
-value_at_index v [] key zero le a f = refl
-value_at_index v [] key (suc n) le a f = refl
-value_at_index v (b ∷ bs) key zero le a f =
-    value_after v (b ∷ bs) key
-    (elim (true_or_false (is_before key b.key)) [
-      | inl t ↦ t
-      | inr e ↦ absurd
-          (not_both_ways (not (is_before key b.key)) (ap not e) (f 0 b (omega arith) (omega arith)))
-    ])
-value_at_index v (b ∷ bs) key (suc n) le a f =
-    let e = not_before_if b.key key (a 0 b (omega arith) (omega arith)) in
-    rw e (value_at_index b.version bs key n (omega arith) (λ k d x y. a (suc k) d (omega arith) (omega arith))
-    (λ k d x y. f (suc k) d (omega arith) (omega arith)))
-
-pub version_before-get : (v : ℤ) (bs : List Boundary) (n : ℕ) (b : Boundary) → n < length bs
-    → b ≡ get_or bs n b → version_before v bs (suc n) ≡ b.version
-version_before-get v [] n b lt e = absurd (omega arith)
-version_before-get v (c ∷ bs) zero b lt e = ap (λ (x : Boundary). x.version) (sym e)
-version_before-get v (c ∷ bs) (suc n) b lt e = version_before-get c.version bs n b (omega arith) e

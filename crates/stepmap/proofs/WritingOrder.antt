@@ -8,7 +8,7 @@ use Rattle.keys.specs.declared.range.Range.{Range}
 use Rattle.keys.proofs.callers.KeyOrder.{before_at_most}
 use Rattle.keys.proofs.callers.Booleans.{true_or_false}
 use Rattle.stepmap.specs.Boundary.{Boundary, AreBoundaries, AreInOrder, RiseFrom, value_at, below, from_on}
-use Rattle.stepmap.specs.Writing.{closed_at, written}
+use Rattle.stepmap.specs.Writing.{closed_at, written, written_to}
 use Rattle.stepmap.proofs.Order.{
   Rising,
   rising_in_order,
@@ -51,20 +51,18 @@ join_in_order (b ∷ bs) y ys o r =
           rw (f, none) (e, r)
     ]
 
-pub written_in_order : (range : Range) → ¬ IsEmpty range → (v : ℤ) (bs : List Boundary) → AreInOrder bs
-    → AreInOrder (written range v bs)
-written_in_order range filled v bs o =
+pub written_in_order : (range : Range) → ¬ IsEmpty range → (v w : ℤ) (bs : List Boundary) → AreInOrder bs
+    → AreInOrder (written_to range v w bs)
+written_in_order range filled v w bs o =
     let rest = from_on range.end bs in
-    join_in_order bs (record { key = range.begin; version = v })
-    (closed_at range.end (value_at bs range.end) rest) o
-    (closed_rises range.begin range.end (value_at bs range.end) rest (begins_before_end range filled)
-    (from_all range.end bs)
+    join_in_order bs (record { key = range.begin; version = v }) (closed_at range.end w rest) o
+    (closed_rises range.begin range.end w rest (begins_before_end range filled) (from_all range.end bs)
     (rising_filter (λ b. not (is_before b.key range.end)) bs (rising_in_order bs o)))
 
 pub written_boundaries : (range : Range) → ¬ IsEmpty range → (v : ℤ) (bs : List Boundary) → negsuc 0 ≤ℤ v
     → AreBoundaries bs → AreBoundaries (written range v bs)
 written_boundaries range filled v bs low h = record {
-  in_order = written_in_order range filled v bs h.in_order;
+  in_order = written_in_order range filled v (value_at bs range.end) bs h.in_order;
   keys = written_has (λ b. IsKey b.key) range v bs range.begin_is_key range.end_is_key h.keys;
   versions =
       written_has (λ b. negsuc 0 ≤ℤ b.version) range v bs low

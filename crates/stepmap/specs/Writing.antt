@@ -19,15 +19,14 @@ closed_at key version (b ∷ bs) =
     if is_before key b.key then record { key = key; version = version } ∷ b ∷ bs
     else b ∷ bs
 
+-- the boundaries after the range was written at the version, where the version at its end is given
+abbrev pub written_to : Range → ℤ → ℤ → List Boundary → List Boundary
+written_to range version at_end bs =
+    below range.begin bs ++ record { key = range.begin; version = version } ∷ closed_at range.end at_end (from_on range.end bs)
+
 -- the boundaries after the range was written at the version
 abbrev pub written : Range → ℤ → List Boundary → List Boundary
-written range version bs =
-    below range.begin bs
-    ++ record {
-      key = range.begin;
-      version =
-          version;
-    } ∷ closed_at range.end (value_at bs range.end) (from_on range.end bs)
+written range version bs = written_to range version (value_at bs range.end) bs
 
 -- the step map after that; one pair of lengths is used up
 abbrev pub after_write : Range → ℤ → Steps → Steps

@@ -1,23 +1,21 @@
 //! The boundaries of a step function: their versions in a tree, and their keys in an arena.
 ghost use Rattle.std.specs.Prelude.{◌≡◌, ℕ, ◌+◌, ◌*◌, ◌<◌, ◌≤◌, ◌<ℤ◌, ◌≤ℤ◌, negsuc, ◌↔◌};
-ghost use Rattle.std.specs.Prelude.{List, [], ◌∷◌, ◌++◌, length, slice_get, Any, IsTrue, IfOk, IsSomeAnd, OnOk, IsOkUnless};
+ghost use Rattle.std.specs.Prelude.{List, [], ◌∷◌, ◌++◌, length, slice_get, IsTrue, IfOk, IfSome, IsSomeAnd, None, OnOk, IsOkUnless, unwrap_or};
 ghost use Rattle.std.specs.List.{All, AllZip};
-ghost use Rattle.arena.specs.Arena.{size_of, wanted_of};
+ghost use Rattle.arena.specs.Arena.{wanted_of};
 ghost use Rattle.keys.specs.Key.{IsBytes};
 ghost use Rattle.keys.specs.Range.{Holds, IsEmpty};
 ghost use Rattle.stepmap.specs.Asking.{Exceeds};
-ghost use Rattle.stepmap.specs.Boundary.{AreBoundaries, value_at, below, from_on};
-ghost use Rattle.stepmap.specs.Indexes.{after};
+ghost use Rattle.stepmap.specs.Boundary.{AreBoundaries, value_at};
 ghost use Rattle.stepmap.specs.Stored.{spare_in, each_length};
-ghost use Rattle.stepmap.specs.Sweeping.{passed_to};
-ghost use Rattle.stepmap.specs.Writing.{written};
+ghost use Rattle.stepmap.specs.Writing.{written, written_to};
 ghost use Rattle.tree.specs.declared.question.TheConstants.{SIDE};
 
 use crate::cut::Cut;
 use crate::key_lengths::{KeyLengths, put_each_length};
 use crate::query::QueryList;
 use crate::questions::{CutQuestion, no_question, put_questions};
-use crate::release::release;
+use crate::release::release_run;
 use crate::step_map::MAX_LIMIT;
 use arena::{Arena, ArenaError};
 use arrayvec::ArrayVec;
@@ -25,7 +23,7 @@ use keys::{Range, RangeRef, common};
 use std::alloc::{AllocError, Global};
 use std::array;
 use std::marker::Model;
-use tree::{Overwrite, SIDE, Tree, item};
+use tree::{Overwrite, SIDE, Tree, Written, item};
 
 // The boundaries of a step function, in the order of their keys, the empty key first. Contracts see them, and for how
 // many more there is memory.
@@ -51,15 +49,6 @@ impl<const N: usize> Model for Boundaries<N> {
     } };
 
     ghost invariant = { λ b. AreIndexed b.keys b.tree };
-}
-
-// What is found where a key is looked up.
-#[derive(Drop)]
-pub struct Found {
-    // The version at the key.
-    pub version: i64,
-    // Whether a boundary stands at the key.
-    pub is_there: bool,
 }
 
 impl<const N: usize> Boundaries<N> {
@@ -93,24 +82,12 @@ impl<const N: usize> Boundaries<N> {
     pub fn version_at(&self, key: &[u8]) -> i64
         ensures value { result ≡ value_at self.now.boundaries key.now }
     {
-        self.look_up(key).version
-    }
-
-    // Returns the version at the key, and whether a boundary stands there.
-    pub fn look_up(&self, key: &[u8]) -> Found
-        ensures version { result.version ≡ value_at self.now.boundaries key.now }
-        ensures is_there { IsTrue result.is_there ↔ Any (λ b. b.key ≡ key.now) self.now.boundaries }
-    {
         let cut = Cut {
             keys: &self.keys,
             key,
             up_to: true,
         };
-        let last = self.tree.last(&cut).unwrap();
-        Found {
-            version: last.version,
-            is_there: self.keys.key(last.key) == key,
-        }
+        self.tree.last(&cut).unwrap().version
     }
 
     // Returns the greatest version at a key of the range, which isn't empty.
@@ -136,27 +113,6 @@ impl<const N: usize> Boundaries<N> {
             Some(inside) => inside.max(at_begin),
             None => at_begin,
         }
-    }
-
-    // Returns whether the version at some key of the range, which isn't empty, is above this one.
-    pub fn is_above(&self, range: &Range, version: i64) -> bool
-        requires boundaries { AreBoundaries self.now.boundaries }
-        requires filled { ¬ IsEmpty range.now }
-        ensures above { IsTrue result ↔ ((key : List ℕ) × IsBytes key × Holds range.now key
-            × (version <ℤ value_at self.now.boundaries key)) }
-    {
-        let begin = Cut {
-            keys: &self.keys,
-            key: range.begin.as_bytes(),
-            up_to: true,
-        };
-        let end = Cut {
-            keys: &self.keys,
-            key: range.end.as_bytes(),
-            up_to: false,
-        };
-        let shared = common(range.begin.as_bytes(), range.end.as_bytes());
-        self.tree.exceeds_from_last(&begin, &end, shared, version)
     }
 
     // Answers for each of the queries at these places, in order, whether the version at some key of its range is above its own.
@@ -204,35 +160,37 @@ impl<const N: usize> Boundaries<N> {
             ≤ spare_in self.new size + wanted_of (length range.now.begin ∷ length range.now.end ∷ []) size }
         ensures room { self.new.room ≡ self.old.room }
     {
-        if self.write_in_leaf(range, version) {
-            return;
-        }
-        let end = self.look_up(range.end());
-        self.clear(range);
-        self.begin_with(range.begin(), version);
-        if !end.is_there {
-            self.insert(range.end(), end.version);
+        let mut at_end = self.write_or_clear(range, version, None);
+        while at_end.is_some() {
+            at_end = self.write_or_clear(range, version, at_end);
         }
     }
 
-    // Writes the version on the range, if one leaf of the tree has the boundaries of the range and the one before them.
-    // Returns whether it did; else nothing has changed.
-    pub fn write_in_leaf(&mut self, range: &RangeRef<'_>, version: i64) -> bool
+    // Writes the version on the range, if one leaf of the tree has the boundaries of the range and the one before them. The
+    // version at the range's end is the one given, or that which is there. Else it takes some of the boundaries of the range
+    // out, not the first of all, and returns the version at the range's end.
+    fn write_or_clear(
+        &mut self,
+        range: &RangeRef<'_>,
+        version: i64,
+        at_end: Option<i64>,
+    ) -> Option<i64>
         requires boundaries { AreBoundaries self.old.boundaries }
         requires filled { ¬ IsEmpty range.now }
         requires keys { (size : ℕ) → size < 10
             → wanted_of (length range.now.begin ∷ length range.now.end ∷ []) size ≤ spare_in self.old size }
         requires nodes { length self.old.boundaries + 2 ≤ self.old.room }
-        ensures written { IsTrue result → self.new.boundaries ≡ written range.now version self.old.boundaries }
-        ensures spare { (size : ℕ) → spare_in self.old size
+        ensures written { result ≡ None → self.new.boundaries
+            ≡ written_to range.now version (unwrap_or at_end (value_at self.old.boundaries range.now.end)) self.old.boundaries }
+        ensures used { result ≡ None → (size : ℕ) → spare_in self.old size
             ≤ spare_in self.new size + wanted_of (length range.now.begin ∷ length range.now.end ∷ []) size }
-        ensures unchanged { ¬ IsTrue result → self.new.boundaries ≡ self.old.boundaries }
-        ensures none_used { ¬ IsTrue result → (size : ℕ) → spare_in self.old size ≤ spare_in self.new size }
+        ensures cleared { IfSome result (λ given. written_to range.now version given self.new.boundaries
+            ≡ written_to range.now version (unwrap_or at_end (value_at self.old.boundaries range.now.end)) self.old.boundaries) }
+        ensures boundaries { IfSome result (λ _. AreBoundaries self.new.boundaries) }
+        ensures fewer { IfSome result (λ _. length self.new.boundaries < length self.old.boundaries) }
+        ensures none_used { IfSome result (λ _. (size : ℕ) → spare_in self.old size ≤ spare_in self.new size) }
         ensures room { self.new.room ≡ self.old.room }
     {
-        if range.begin().is_empty() {
-            return false;
-        }
         let begin_key = self.keys.place((), range.begin()).unwrap();
         let end_key = self.keys.place((), range.end()).unwrap();
         let to = range.end();
@@ -258,102 +216,23 @@ impl<const N: usize> Boundaries<N> {
             shared: common(range.begin(), to),
             first: item(begin_key, version),
             second: end_key,
+            last: at_end,
         };
-        let mut run = None;
-        let Some(done) = self.tree.overwrite(&new, &mut run) else {
-            self.keys.release(begin_key);
-            self.keys.release(end_key);
-            return false;
-        };
-        if done.ended {
-            self.keys.release(end_key);
+        let mut taken = None;
+        let written = self.tree.overwrite(&new, &mut taken);
+        release_run(&mut self.keys, &taken);
+        match written {
+            Written::Whole { ended } => {
+                if ended {
+                    self.keys.release(end_key);
+                }
+                None
+            }
+            Written::Partly { last } => {
+                self.keys.release(begin_key);
+                self.keys.release(end_key);
+                Some(at_end.unwrap_or(last))
+            }
         }
-        if let Some(run) = &run {
-            release(&mut self.keys, run.entries());
-        }
-        true
-    }
-
-    // Takes the boundaries of the range out, but for that at the empty key.
-    pub fn clear(&mut self, range: &RangeRef<'_>)
-        requires filled { ¬ IsEmpty range.now }
-        ensures boundaries { self.new.boundaries
-            ≡ passed_to range.now.begin self.old.boundaries ++ from_on range.now.end self.old.boundaries }
-        ensures spare { (size : ℕ) → spare_in self.old size ≤ spare_in self.new size }
-        ensures room { self.new.room ≡ self.old.room }
-    {
-        while self.clear_run(range) {}
-    }
-
-    // Takes some of the boundaries of the range out, but for that at the empty key. Returns whether there were any.
-    pub fn clear_run(&mut self, range: &RangeRef<'_>) -> bool
-        requires filled { ¬ IsEmpty range.now }
-        ensures some { IsTrue result → length self.new.boundaries < length self.old.boundaries }
-        ensures none { ¬ IsTrue result → self.new.boundaries
-            ≡ passed_to range.now.begin self.old.boundaries ++ from_on range.now.end self.old.boundaries }
-        ensures before { passed_to range.now.begin self.new.boundaries ≡ passed_to range.now.begin self.old.boundaries }
-        ensures behind { from_on range.now.end self.new.boundaries ≡ from_on range.now.end self.old.boundaries }
-        ensures spare { (size : ℕ) → spare_in self.old size ≤ spare_in self.new size }
-        ensures room { self.new.room ≡ self.old.room }
-    {
-        let begin = Cut {
-            keys: &self.keys,
-            key: range.begin(),
-            up_to: range.begin().is_empty(),
-        };
-        let end = Cut {
-            keys: &self.keys,
-            key: range.end(),
-            up_to: false,
-        };
-        let Some(run) = self.tree.take_run(&begin, &end) else {
-            return false;
-        };
-        release(&mut self.keys, run.entries());
-        true
-    }
-
-    // Sets the version at the key, where no boundary but that of the empty key stands.
-    pub fn begin_with(&mut self, key: &[u8], version: i64)
-        requires gap { ¬ (key.now ≡ []) → ¬ Any (λ b. b.key ≡ key.now) self.old.boundaries }
-        requires short { length key.now ≤ 16384 }
-        requires spare { 0 < spare_in self.old (size_of (length key.now)) }
-        requires room { length self.old.boundaries < self.old.room }
-        ensures boundaries { self.new.boundaries ≡ below key.now self.old.boundaries
-            ++ (record { key = key.now; version = version }) ∷ after key.now self.old.boundaries }
-        ensures spare { (size : ℕ) → spare_in self.old size
-            ≤ spare_in self.new size + wanted_of (length key.now ∷ []) size }
-        ensures room { self.new.room ≡ self.old.room }
-    {
-        if !key.is_empty() {
-            return self.insert(key, version);
-        }
-        let first = Cut {
-            keys: &self.keys,
-            key,
-            up_to: true,
-        };
-        self.tree.set_last(&first, version);
-    }
-
-    // Inserts a boundary at a key where none stands.
-    pub fn insert(&mut self, key: &[u8], version: i64)
-        requires gap { ¬ Any (λ b. b.key ≡ key.now) self.old.boundaries }
-        requires short { length key.now ≤ 16384 }
-        requires spare { 0 < spare_in self.old (size_of (length key.now)) }
-        requires room { length self.old.boundaries < self.old.room }
-        ensures boundaries { self.new.boundaries ≡ below key.now self.old.boundaries
-            ++ (record { key = key.now; version = version }) ∷ after key.now self.old.boundaries }
-        ensures spare { (size : ℕ) → spare_in self.old size
-            ≤ spare_in self.new size + wanted_of (length key.now ∷ []) size }
-        ensures room { self.new.room ≡ self.old.room }
-    {
-        let slot = self.keys.place((), key).unwrap();
-        let cut = Cut {
-            keys: &self.keys,
-            key,
-            up_to: true,
-        };
-        self.tree.insert(&cut, slot, version);
     }
 }

@@ -1,8 +1,8 @@
 //! What a step map is asked.
-ghost use Rattle.std.specs.Prelude.{◌≡◌, ◌<◌, ℤ, List, length, Some, slice_get};
-ghost use Rattle.keys.specs.declared.range.Range.{Range};
+ghost use Rattle.std.specs.Prelude.{◌≡◌, ◌<◌, ℤ, List, length, [], ◌∷◌, Some, slice_get};
+ghost use Rattle.keys.specs.declared.range.Range.{Range as RangeValue};
 
-use keys::RangeRef;
+use keys::{Range, RangeRef};
 
 /// A range that is asked for, with borrowed keys, and the version that the function is compared with at its keys.
 #[derive(Debug, Drop)]
@@ -14,7 +14,7 @@ pub struct RangeQuery<'a> {
 /// Queries that are lent by their index, wherever their keys lie.
 pub trait QueryList {
     // The ranges and their versions, in the order of their indices.
-    ghost queries: { Self → List (Range × ℤ) };
+    ghost queries: { Self → List (RangeValue × ℤ) };
 
     /// Returns the number of queries.
     fn len(&self) -> usize
@@ -24,4 +24,26 @@ pub trait QueryList {
     fn query(&self, index: usize) -> RangeQuery<'_>
         requires within { index < length (queries self.now) }
         ensures query { slice_get (queries self.now) index ≡ Some (result.range, result.version) };
+}
+
+// One query alone.
+#[derive(Drop)]
+pub struct OneQuery<'a> {
+    pub range: &'a Range,
+    pub version: i64,
+}
+
+impl<'a> QueryList for OneQuery<'a> {
+    ghost queries = { λ q. (q.range.now, q.version) ∷ [] };
+
+    fn len(&self) -> usize {
+        1
+    }
+
+    fn query(&self, _index: usize) -> RangeQuery<'_> {
+        RangeQuery {
+            range: self.range.as_ref(),
+            version: self.version,
+        }
+    }
 }

@@ -24,7 +24,7 @@ use crate::bounding::{bounds_at, cells_from, repeated};
 use crate::error::StepError;
 use crate::key_lengths::{KeyLengths, keep};
 use crate::left::put_told;
-use crate::query::{QueryList, RangeQuery};
+use crate::query::{OneQuery, QueryList, RangeQuery};
 use crate::single::{is_single, note};
 use arrayvec::ArrayVec;
 use filter::Filter;
@@ -133,7 +133,8 @@ impl StepMap {
     pub fn exceeds(&self, range: &Range, version: i64) -> bool
         ensures above { IsTrue result ↔ IsAbove self.now range.now version }
     {
-        !range.is_empty() && self.boundaries.is_above(range, version)
+        let query = OneQuery { range, version };
+        !range.is_empty() && self.boundaries.are_above(&query, &[0])[0]
     }
 
     /// Answers for each query, in order, what `exceeds` returns for its range and its version. The answers replace those that

@@ -10,7 +10,7 @@ ghost use Rattle.stepmap.specs.Sweeping.{left_from, passed_to, swept, thinned};
 
 use crate::boundaries::Boundaries;
 use crate::cut::Cut;
-use crate::release::release;
+use crate::release::release_run;
 use arena::{Arena, Slot};
 
 // What was looked at of boundaries.
@@ -92,11 +92,10 @@ impl<const N: usize> Boundaries<N> {
             key: cursor,
             up_to: true,
         };
-        let thinned = self.tree.thin_run(&from, count, edge, before);
+        let mut taken = None;
+        let thinned = self.tree.thin_run(&from, count, edge, before, &mut taken);
         move_to(&self.keys, cursor, thinned.next);
-        if let Some(run) = &thinned.removed {
-            release(&mut self.keys, run.entries());
-        }
+        release_run(&mut self.keys, &taken);
         Looked {
             count: thinned.looked_at,
             last: thinned.last,

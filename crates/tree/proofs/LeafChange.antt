@@ -1,11 +1,11 @@
--- The leaf that a probe finds, as it is read, and the keys that it has once it is changed.
-use Rattle.std.proofs.Common.{rules, option_map, unwrap_or, ◌≢◌, ◌≡◌, inl, ℕ, zero, suc, ◌≤◌, Bool, true, false, not, List, [], ◌∷◌, ◌++◌, Some, length, get_or, set, take, drop, filter, map, All, refl, sym, ◌∙◌, ap, subst, arith}
+-- How many entries of a leaf pass, and the keys that it has once it is changed.
+use Rattle.std.proofs.Common.{rules, option_map, unwrap_or, ◌≢◌, ◌≡◌, inl, ℕ, zero, suc, ◌≤◌, Bool, not, List, [], ◌∷◌, ◌++◌, Some, length, get_or, set, take, drop, filter, All, refl, sym, ◌∙◌, ap, subst, arith}
 use Rattle.std.specs.Prelude.{IfSome}
 use Rattle.std.proofs.lemmas.List.{take_at, drop_at, length-map}
 use Rattle.std.proofs.lemmas.List.Elements.{All-nil, All-cons, All-head, All-tail}
 use Rattle.std.specs.FinMap as finite
 use Rattle.std.specs.Ordering.{nat_cmp}
-use Rattle.arena.specs.Arena.{Arena, Record, record_at, header_at}
+use Rattle.arena.specs.Arena.{Arena, Record, record_at}
 use Rattle.keys.specs.Digest.{digest_of}
 use Rattle.keys.specs.Key.{IsBytes}
 use Rattle.tree.specs.declared.entry.Entry.{Entry}
@@ -13,12 +13,10 @@ use Rattle.tree.specs.declared.node.Node.{Node}
 use Rattle.tree.specs.Hints.{KeyBytes, Begins, Hint, IsHinted, AreHinted, digest_behind}
 use Rattle.tree.specs.Item.{item_of}
 use Rattle.tree.specs.Node.{entries_of, hint_of, hints_of, keys_of}
-use Rattle.tree.specs.Path.{IsCut, before_leaf, behind_leaf}
+use Rattle.tree.specs.Path.{IsCut}
 use Rattle.tree.specs.Subtree.{entries_at, items_in, IsSubtree}
 use Rattle.tree.specs.Tree.{IsTree}
 use Rattle.tree.proofs.Hinted.{hinted_put}
-use Rattle.tree.proofs.Leaves.{IsLeaf}
-use Rattle.tree.proofs.Placing.{entries_from_header}
 
 -- so many entries pass, and the others stand behind them
 pub parted : (p : ℕ → Bool) (es : List Entry) (n : ℕ) → IsCut (λ e. p e.key) es → n ≡ length (filter (λ e. p e.key) es)
@@ -29,22 +27,6 @@ parted p es n cut count =
     (ap (take n) cut ∙ take_at front rest n (sym count), ap (drop n) cut ∙ drop_at front rest n (sym count))
 
 module _ {N : ℕ} where
-  -- the leaf that a probe finds
-  pub leaf_read : (nodes : Arena (Node N)) (height root slot : ℕ) (passes : ℕ → Bool) (node : Node N)
-      → header_at nodes slot ≡ Some node
-      → items_in nodes height root
-      ≡ before_leaf nodes height root passes ++ (map item_of (entries_at nodes slot) ++ behind_leaf nodes height root passes)
-      → All (λ x. passes x.key ≡ true) (before_leaf nodes height root passes)
-      → All (λ x. passes x.key ≡ false) (behind_leaf nodes height root passes)
-      → (filter (λ e. passes e.key) (entries_at nodes slot) ≡ [] → before_leaf nodes height root passes ≡ [])
-      → IsLeaf passes (items_in nodes height root) (before_leaf nodes height root passes) (behind_leaf nodes height root passes)
-      (entries_of node)
-  leaf_read nodes height root slot passes node is items pass fail none =
-      subst
-      (IsLeaf passes (items_in nodes height root) (before_leaf nodes height root passes) (behind_leaf nodes height root passes))
-      (entries_from_header nodes slot node is)
-      (record { items_are = items; pass = pass; fail = fail; none = none })
-
   -- a root of items has an entry
   some_at_root : (nodes : Arena (Node N)) (least height slot : ℕ) → IsSubtree nodes least height slot
       → 1 ≤ length (items_in nodes height slot) → 1 ≤ length (entries_at nodes slot)

@@ -17,7 +17,7 @@ use Rattle.tree.proofs.callers.Cuts.{not_both, none_pass, none_passed, none_fail
 use Rattle.tree.proofs.Ways.{way}
 
 -- the last of those that pass does
-index_passes : {X : Type 0} (p : X → Bool) (xs : List X) (x : X) → IsCut p xs → 1 ≤ length (filter p xs)
+pub index_passes : {X : Type 0} (p : X → Bool) (xs : List X) (x : X) → IsCut p xs → 1 ≤ length (filter p xs)
     → slice_get xs (length (filter p xs) - 1) ≡ Some x → p x ≡ true
 index_passes p xs x cut some is =
     let front = filter p xs in

@@ -2,6 +2,7 @@
 pub mod callers
 pub mod Above
 pub mod Approaches
+pub mod ChangedLeaf
 pub mod Changing
 pub mod Counting
 pub mod Entries
@@ -30,14 +31,15 @@ pub mod Looks
 pub mod Halves
 pub mod Mending
 pub mod NearCuts
-pub mod Overlays
+pub mod Neighbours
 pub mod Overwriting
 pub mod OverwrittenItems
+pub mod PartThinned
+pub mod PartWritten
 pub mod Placing
 pub mod Reaching
 pub mod Replacing
 pub mod Rooting
-pub mod Runs
 pub mod Sharing
 pub mod Spans
 pub mod Splicing
@@ -48,6 +50,8 @@ pub mod Thinning
 pub mod Told
 pub mod ToldKeys
 pub mod Trees
+pub mod Walked
+pub mod Walking
 pub mod Ways
 pub mod WrittenLeaf
 pub mod SameBytes

@@ -1,16 +1,13 @@
 -- What is put in place of a run: one entry, and a second one unless the run is ended.
-use Rattle.std.proofs.Common.{◌≡◌, ◌≢◌, ℕ, ◌+◌, ◌-◌, ◌≤◌, inl, inr, Bool, true, false, not, ◌&&◌, if◌then◌else◌, List}
-use Rattle.std.proofs.Common.{[], ◌∷◌, ◌++◌, Option, Some, None, MatchOption, IsTrue, length, get_or, take, filter}
-use Rattle.std.proofs.Common.{map, refl, sym, ◌∙◌, ap, subst, arith, append_assoc}
+use Rattle.std.proofs.Common.{◌≡◌, ◌≢◌, ℕ, ◌≤◌, inl, inr, Bool, true, false, not, ◌&&◌, if◌then◌else◌, List}
+use Rattle.std.proofs.Common.{[], ◌∷◌, ◌++◌, Option, Some, None, MatchOption, IsTrue, length, filter}
+use Rattle.std.proofs.Common.{map, refl, sym, ◌∙◌, ap, subst, arith}
 use Rattle.std.proofs.lemmas.Bool.{cases_Bool}
-use Rattle.std.proofs.lemmas.List.{map-append, take_more}
 use Rattle.tree.specs.declared.entry.Entry.{Entry}
 use Rattle.tree.specs.Item.{Item, item_of}
 use Rattle.tree.specs.Path.{IsCut, passing, behind, between, first_key}
-use Rattle.tree.specs.Tree.{IsLast, ended_by}
+use Rattle.tree.specs.Tree.{ended_by}
 use Rattle.tree.proofs.callers.Cuts.{not_both, none_pass, rest_fails, IsCut-parts}
-use Rattle.tree.proofs.Inserting.{same_ends}
-use Rattle.tree.proofs.Leaves.{IsLeaf, passing_is}
 
 -- the entries that are put in
 abbrev pub entries_put : Bool → Entry → Entry → List Entry
@@ -26,7 +23,7 @@ items_put true first second x others is = refl
 items_put false first second x others is = ap (λ y. item_of first ∷ (y ∷ others)) is
 
 -- those that pass the second cut, of those that don't pass the first
-between_is : (q r : ℕ → Bool) (items : List Item)
+pub between_is : (q r : ℕ → Bool) (items : List Item)
     → filter (λ (x : Item). not (q x.key) && r x.key) items ≡ passing r (behind q items)
 between_is q r [] = refl
 between_is q r (x ∷ items) =
@@ -70,23 +67,3 @@ told_between q r items key post result first second is tested says =
     let told = first_tells r (behind q items) key post result parts.1 is tested says in
     let same = between_is q r items in
     (λ ok none. told.0 ok (sym same ∙ none), λ some. told.1 (λ none. some (same ∙ none)))
-
--- the last item that passes is that of the last entry that does
-pub last_version : (q : ℕ → Bool) (items before after : List Item) (es read : List Entry) (end : ℕ) (d : Entry)
-    (last : Item)
-    → IsLeaf q items before after es → take end es ≡ filter (λ e. q e.key) es → read ≡ es → 1 ≤ end → end ≤ length es
-    → IsLast last (passing q items) → (get_or read (end - 1) d).version ≡ last.version
-last_version q items before after es read end d last leaf first same some most ends =
-    let n = end - 1 in
-    let e = get_or es n d in
-    let next : n + 1 ≡ end = omega (arith, some) in
-    let within : n + 1 ≤ length es = omega (arith, some, most) in
-    let split : filter (λ (e : Entry). q e.key) es ≡ take n es ++ e ∷ [] =
-    sym first ∙ ap (λ k. take k es) (sym next) ∙ take_more es n d (omega (arith, within)) in
-    let f = map item_of (take n es) in
-    let all : passing q items ≡ (before ++ f) ++ item_of e ∷ [] =
-    passing_is q items before after es leaf ∙ ap (λ xs. before ++ map item_of xs) split
-    ∙ ap (λ xs. before ++ xs) (map-append item_of (take n es) (e ∷ []))
-    ∙ sym (append_assoc before f (item_of e ∷ [])) in
-    let is = (same_ends (before ++ f) ends.0 (item_of e) last (sym all ∙ ends.1)).1 in
-    ap (λ xs. (get_or xs n d).version) same ∙ ap (λ (x : Item). x.version) is

@@ -1,46 +1,48 @@
 -- How many items there are once a run is written over, and what tells whether the run was ended.
-use Rattle.std.proofs.Common.{◌≡◌, ◌≢◌, ℕ, ◌+◌, ◌<◌, ◌≤◌, inl, inr, Bool, true, false, if◌then◌else◌, List}
-use Rattle.std.proofs.Common.{[], ◌∷◌, ◌++◌, Option, Some, None, IsTrue, MatchOption, length, map, refl}
-use Rattle.std.proofs.Common.{Bor, ◌∙◌, ap, arith, length-append}
+use Rattle.std.proofs.Common.{◌≡◌, ◌≢◌, ℕ, ℤ, ◌+◌, ◌≤◌, inl, inr, Bool, true, false, List}
+use Rattle.std.proofs.Common.{[], ◌∷◌, ◌++◌, Option, Some, None, IsTrue, MatchOption, length, refl, unwrap_or}
+use Rattle.std.proofs.Common.{Bor, ◌∙◌, ap, sym, arith, length-append}
 use Rattle.std.proofs.lemmas.Bool.{cases_Bool}
 use Rattle.std.proofs.lemmas.List.{length-map}
 use Rattle.std.specs.Prelude.{option_copied}
-use Rattle.tree.specs.declared.entry.Entry.{Entry}
 use Rattle.tree.specs.declared.node.Node.{Node}
+use Rattle.tree.specs.declared.overwrite.Written.{Written}
+use Rattle.tree.specs.declared.overwrite.Written.TheVariants.{Partly, Whole}
 use Rattle.tree.specs.Item.{Item, item_of}
-use Rattle.tree.specs.Overwrite.{IsOverwritten, entries_of_run, lets_pass_first}
-use Rattle.tree.specs.Node.{entries_of}
+use Rattle.tree.specs.Node.{entries_of, items_of_run}
+use Rattle.tree.specs.Overwrite.{Overwrites, lets_pass_first, put_of}
 use Rattle.tree.specs.Path.{IsCut, passing, behind, between, first_key}
 use Rattle.tree.specs.Tree.{ended_by}
-use Rattle.tree.proofs.callers.Cuts.{none_pass, none_passed}
 use Rattle.tree.proofs.Inserting.{ended_some}
 use Rattle.tree.proofs.Overwriting.{told_between}
-use Rattle.tree.proofs.Runs.{some_left}
-use Rattle.tree.proofs.Told.{none_of_fewer}
-
--- how many items come in place of the run
-abbrev pub put_of : Bool → ℕ
-put_of ended = if ended then 1 else 2
 
 -- two at most
-pub put_most : (ended : Bool) → put_of ended ≤ 2
-put_most true = omega arith
-put_most false = omega arith
+pub put_most : (written : Written) → put_of written ≤ 2
+put_most (Partly last) = omega arith
+put_most (Whole true) = omega arith
+put_most (Whole false) = omega arith
 
 -- one is put in place of the run, and one that ends it
-length-put : (ended : Bool) (x : Item) → 1 + length (ended_by ended x) ≡ put_of ended
+length-put : (ended : Bool) (x : Item) → 1 + length (ended_by ended x) ≡ put_of (Whole ended)
 length-put true x = refl
 length-put false x = refl
 
-module _ (p q : ℕ → Bool) (nested : (key : ℕ) → p key ≡ true → q key ≡ true) where
-  -- Where an item passes the first cut, one passes the second.
-  passes_second : (items : List Item) → passing p items ≢ [] → passing q items ≢ []
-  passes_second items some none =
-      let here = λ (x : Item). p x.key in
-      let there = λ (x : Item). q x.key in
-      let fail = none_of_fewer here there (λ x. nested x.key) items (none_passed there items none) in
-      some (none_pass here items fail).0
+some_left : (xs : List Item) → xs ≢ [] → 1 ≤ length xs
+some_left [] some = absurd (some refl)
+some_left (x ∷ xs) some = omega arith
 
+-- how many entries a lent run has, if it is there
+pub length-lent : {N : ℕ} (lent : Option (Bor (Node N))) (run : Option (Node N)) (post : Bor (Node N) → Type 0)
+    (taken : ℕ) → option_copied lent ≡ run → MatchOption lent (taken ≡ 0) post
+    → ((n : Bor (Node N)) → post n → taken ≡ length (entries_of n.now)) → taken ≡ length (items_of_run run)
+length-lent None None post taken is none says = none
+length-lent None (Some r) post taken is none says = absurd (cc)
+length-lent (Some n) None post taken is some says = absurd (cc)
+length-lent (Some n) (Some r) post taken is some says =
+    let there : n.now ≡ r = cc in
+    says n some ∙ ap (λ r. length (entries_of r)) there ∙ sym (length-map (entries_of r) item_of)
+
+module _ (p q r : ℕ → Bool) (nested : (key : ℕ) → p key ≡ true → q key ≡ true) where
   -- Each item passes the first cut, or stands between the two, or fails the second.
   length-between : (items : List Item)
       → length (passing p items) + (length (between (Some p) (Some q) items) + length (behind q items)) ≡ length items
@@ -56,41 +58,34 @@ module _ (p q : ℕ → Bool) (nested : (key : ℕ) → p key ≡ true → q key
             ]
       ]
 
-  -- as many more are there as were put in place of the run
-  pub length-overwritten : (first : Item) (second : ℕ) (ended : Bool) (was now : List Item) (run : List Entry)
-      → IsOverwritten p q first second ended was now → passing p was ≢ []
-      → between (Some p) (Some q) was ≡ map item_of run
-      → (length now + length run ≡ length was + put_of ended) × (length run < length was)
-  length-overwritten first second ended was now run written some between_is =
-      let e = ended_some (passing q was) (passes_second was some) in
-      let last = e.last in
-      let x : Item = record { key = second; version = last.version } in
-      let now_is = written last (e.front, e.is) in
+  -- as many more are there as were put in place of the run, and one at least
+  pub length-overwritten : (first : Item) (second : ℕ) (given : Option ℤ) (written : Written) (run was now : List Item)
+      → passing q was ≢ [] → Overwrites p q r first second given written run was now
+      → (length now + length run ≡ length was + put_of written) × (1 ≤ length now)
+  length-overwritten first second given (Whole ended) run was now some h =
+      let end = ended_some (passing q was) some in
+      let x : Item = record { key = second; version = unwrap_or given end.last.version } in
+      let now_is = ap length (h.written end.last (end.front, end.is)) in
       let sizes = length-between was in
-      let taken : length (between (Some p) (Some q) was) ≡ length run =
-      ap length between_is ∙ length-map run item_of in (
+      let all = length-append (passing p was) (first ∷ ended_by ended x ++ behind q was) in
+      let new = length-append (ended_by ended x) (behind q was) in (
+        omega (arith, sizes, ap length h.run_is, now_is, all, new, length-put ended x),
+        omega (arith, now_is, all),
+      )
+  length-overwritten first second given (Partly last) run was now some h =
+      let now_is = ap length h.now_is in
+      let all = length-append (passing p was) (h.kept ++ behind q was) in
+      let rest = length-append h.kept (behind q was) in (
+        omega (arith, length-between was, ap length h.run_is, now_is, all, rest, length-append h.kept run),
         omega (
           arith,
-          sizes,
-          taken,
-          ap length now_is,
-          length-append (passing p was) (first ∷ ended_by ended x ++ behind q was),
-          length-append (ended_by ended x) (behind q was),
-          length-put ended x,
+          now_is,
+          all,
+          rest,
+          length-append (passing p was) h.kept,
+          some_left (passing p was ++ h.kept) h.first,
         ),
-        omega (arith, sizes, taken, some_left (passing p was) some),
       )
-
--- how many entries a lent run has, if it is there
-pub length-lent : {N : ℕ} (lent : Option (Bor (Node N))) (run : Option (Node N)) (post : Bor (Node N) → Type 0)
-    (taken : ℕ) → option_copied lent ≡ run → MatchOption lent (taken ≡ 0) post
-    → ((n : Bor (Node N)) → post n → taken ≡ length (entries_of n.now)) → taken ≡ length (entries_of_run run)
-length-lent None None post taken is none says = none
-length-lent None (Some r) post taken is none says = absurd (cc)
-length-lent (Some n) None post taken is some says = absurd (cc)
-length-lent (Some n) (Some r) post taken is some says =
-    let there : n.now ≡ r = cc in
-    says n some ∙ ap (λ r. length (entries_of r)) there
 
 -- Whether the first key behind a cut passes another tells whether an item stands between the two.
 pub told_by_first : (q r : ℕ → Bool) (items : List Item) (ended : Bool) → IsCut (λ x. q x.key) items

@@ -1,4 +1,4 @@
--- A replacement at a node above the leaves: what is known of the node, and what holds of it afterwards.
+-- A change at a node above the leaves: what is known of the node, and what holds of it afterwards.
 use Rattle.std.proofs.Common.{◌≡◌, ℕ, suc, ◌+◌, ◌*◌, ◌<◌, ◌≤◌, Bool, List, [], ◌∷◌, ◌++◌, length, length-append, append-nil, get_or, take, drop, Option, Some, None, refl, sym, ap, subst, ◌∙◌, arith}
 use Rattle.std.specs.Prelude.{IfSome, nat_eq}
 use Rattle.std.specs.List.{Contains, IsDistinct}
@@ -8,7 +8,7 @@ use Rattle.tree.specs.declared.entry.Entry.{Entry}
 use Rattle.tree.specs.declared.node.Node.{Node}
 use Rattle.tree.specs.Item.{Item}
 use Rattle.tree.specs.Node.{entries_of}
-use Rattle.tree.specs.Path.{index_in, child_in, before_leaf, behind_leaf}
+use Rattle.tree.specs.Path.{index_in, child_in}
 use Rattle.tree.specs.Subtree.{entries_at, items_in, slots_in, IsSubtree}
 use Rattle.tree.specs.Replace.{child_at, entries_at_both, items_with, slots_with, slot_taken, items_of, slots_of, AreChildren, Changes, IsFamily, IsFamilyAt, IsLinked, IsMendedAt}
 use Rattle.tree.proofs.callers.Times.{times, once_same, once_if_distinct, times_if_contains}
@@ -18,7 +18,7 @@ use Rattle.tree.proofs.Families.{items_of-append, times-slots_of}
 use Rattle.tree.proofs.Placing.{entries_from_header}
 use Rattle.tree.proofs.Sharing.{child_is, around_one}
 use Rattle.tree.proofs.Replacing.{family_loose, step_linked}
-use Rattle.tree.proofs.Storing.{IsStored, moves_own, stored, above}
+use Rattle.tree.proofs.Storing.{IsStored, moves_own, stored}
 
 module _ {N : ℕ} where
   -- the node at a slot, and the child at an index, at which a probe goes on
@@ -105,14 +105,7 @@ module _ {N : ℕ} where
   read_beside a b least height slot passes es i x d now at moves =
       entries_same a b slot (kept_beside a b least height slot passes es i x d now at moves) ∙ at.read
 
-  -- what holds afterwards
-  pub record IsDone (a w : Arena (Node N)) (least height slot : ℕ) (passes : ℕ → Bool) (leaf : List Item) (added : Option ℕ) : Type 0 where
-    pub items : items_with w height slot added ≡ before_leaf a height slot passes ++ (leaf ++ behind_leaf a height slot passes)
-    pub subtree : IsSubtree w least height slot
-    pub neighbour : IfSome added (λ s. IsSubtree w least height s)
-    pub changes : Changes a w (slots_in a height slot) (slots_with w height slot added)
-
-  -- The same where the items of the child are others, which stand among those of its neighbours.
+  -- What holds afterwards. The items of the child are others, and stand among those of its neighbours.
   pub record IsStepped (a w : Arena (Node N)) (least height lower slot : ℕ) (es : List Entry) (i : ℕ) (middle : List Item)
       (added : Option ℕ) : Type 0 where
     pub items : items_with w height slot added
@@ -133,21 +126,6 @@ module _ {N : ℕ} where
         neighbour = stored.neighbour;
         changes = changes_if_moves a w (slots_in a (suc lower) slot) (slots_with w (suc lower) slot added) stored.moves;
       })
-
-  done : (a w : Arena (Node N)) (least height lower slot : ℕ) (passes : ℕ → Bool) (es : List Entry) (i x : ℕ) (d : Entry)
-      (middle leaf : List Item) (added : Option ℕ) → suc lower ≡ height → IsAt a least lower slot passes es i x d
-      → IsStepped a w least height lower slot es i middle added
-      → middle ≡ before_leaf a lower x passes ++ (leaf ++ behind_leaf a lower x passes)
-      → IsDone a w least height slot passes leaf added
-  done a w least height lower slot passes es i x d middle leaf added next at step middle_is = record {
-    items = step.items
-        ∙ ap (λ l. items_of a lower (take i l) ++ (middle ++ items_of a lower (drop (i + 1) l))) (sym at.read)
-        ∙ above a lower slot passes i x middle leaf at.index at.child middle_is
-        ∙ ap (λ n. before_leaf a n slot passes ++ (leaf ++ behind_leaf a n slot passes)) next;
-    subtree = step.subtree;
-    neighbour = step.neighbour;
-    changes = step.changes;
-  }
 
   -- the two parts of a node that was split have entries, and so has one that wasn't
   pub some_left : (w : Arena (Node N)) (slot : ℕ) (added : Option ℕ) (p q : List Entry) (t u : Entry) → 4 ≤ N
@@ -170,7 +148,7 @@ module _ {N : ℕ} where
   one_more w slot (Some s) es i t u within is none = absurd (cc)
 
   module _ (a b w : Arena (Node N)) (least height lower slot : ℕ) (passes : ℕ → Bool) (es : List Entry) (i x : ℕ)
-      (d : Entry) (leaf : List Item) (next : suc lower ≡ height) (at : IsAt a least lower slot passes es i x d)
+      (d : Entry) (next : suc lower ≡ height) (at : IsAt a least lower slot passes es i x d)
       (below : IsSubtree b least lower x) where
     -- the child was split, and the node linked to both parts
     module _ (s : ℕ) (added : Option ℕ)
@@ -203,16 +181,6 @@ module _ {N : ℕ} where
           (stored a b w least lower slot es at.slots_are at.few at.live now step.moves step.children added refl some
           (some_right w added four right) live live_added
           (moves_if_changes b w (slot ∷ []) (slot ∷ slot_taken added) changes))
-
-      pub done_linked : IsSubtree b least lower s → least ≤ length (entries_at b x) → least ≤ length (entries_at b s)
-          → IfSome added (λ _. N ≤ 2 * length (entries_at w slot)) → IfSome added (λ s. N ≤ 2 * length (entries_at w s))
-          → IsLive w slot → IfSome added (λ s. IsLive w s) → Changes b w (slot ∷ []) (slot ∷ slot_taken added)
-          → items_in b lower x ++ items_in b lower s
-          ≡ before_leaf a lower x passes ++ (leaf ++ behind_leaf a lower x passes)
-          → IsDone a w least height slot passes leaf added
-      done_linked below_added filled_x filled_added left right live live_added changes middle_is =
-          done a w least height lower slot passes es i x d (items_in b lower x ++ items_in b lower s) leaf added next at
-          (stepped_linked below_added filled_x filled_added left right live live_added changes) middle_is
 
     -- the child was changed
     module _ (moves : Moves a b (slots_in a lower x) (slots_in b lower x)) where
@@ -250,10 +218,3 @@ module _ {N : ℕ} where
                 (subst (λ l. Moves a b l (slot ∷ slots_of b lower es)) (sym at.slots_are) own))
                 (moves_if_changes b w (slots_in b (suc lower) slot) (slots_in w (suc lower) slot) mended.changes);
           })
-
-      pub done_mended : IsMendedAt b w least lower slot
-          → items_in b lower x ≡ before_leaf a lower x passes ++ (leaf ++ behind_leaf a lower x passes)
-          → IsDone a w least height slot passes leaf None
-      done_mended mended middle_is =
-          done a w least height lower slot passes es i x d (items_in b lower x) leaf None next at (stepped_mended mended)
-          middle_is

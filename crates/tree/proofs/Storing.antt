@@ -1,5 +1,5 @@
--- A node above a replaced leaf, once it is stored.
-use Rattle.std.proofs.Common.{◌≡◌, inl, inr, ℕ, suc, ◌+◌, ◌≤◌, Bool, List, [], ◌∷◌, ◌++◌, length, length-append, take, drop, Option, Some, None, refl, sym, ap, ap₂, subst, ◌∙◌, arith, append_assoc}
+-- A node above a changed leaf, once it is stored.
+use Rattle.std.proofs.Common.{◌≡◌, inl, inr, ℕ, suc, ◌+◌, ◌≤◌, List, [], ◌∷◌, ◌++◌, length, length-append, Option, Some, None, refl, sym, ap, ap₂, subst, ◌∙◌, arith}
 use Rattle.std.specs.Prelude.{IfSome}
 use Rattle.std.specs.List.{Contains}
 use Rattle.arena.specs.Arena.{Arena, IsLive, with_header}
@@ -7,7 +7,6 @@ use Rattle.tree.specs.declared.entry.Entry.{Entry}
 use Rattle.tree.specs.declared.node.Node.{Node}
 use Rattle.tree.specs.Item.{Item}
 use Rattle.tree.specs.Node.{entries_of}
-use Rattle.tree.specs.Path.{index_in, child_in, before_leaf, behind_leaf}
 use Rattle.tree.specs.Subtree.{entries_at, slots_in, IsSubtree}
 use Rattle.tree.specs.Replace.{entries_at_both, items_with, slots_with, slot_taken, items_of, slots_of, AreChildren, IsFamilyAt, IsMended, IsMendedAt}
 use Rattle.tree.proofs.callers.Times.{times, once, once_same, once_cases, once_if_distinct, times-append, times_unless_contains}
@@ -124,22 +123,3 @@ module _ {N : ℕ} where
         items = s.items_are ∙ mended.items;
         changes = changes_if_moves a w (slots_in a (suc height) slot) (slots_in w (suc height) slot) s.moves;
       }
-
--- the items before the leaf, of the leaf and behind it, one level up
-pub above : {N : ℕ} (a : Arena (Node N)) (height slot : ℕ) (passes : ℕ → Bool) (i x : ℕ) (middle leaf : List Item)
-    → i ≡ index_in passes (entries_at a slot) → x ≡ child_in passes (entries_at a slot)
-    → middle ≡ before_leaf a height x passes ++ (leaf ++ behind_leaf a height x passes)
-    → items_of a height (take i (entries_at a slot)) ++ (middle ++ items_of a height (drop (i + 1) (entries_at a slot)))
-    ≡ before_leaf a (suc height) slot passes ++ (leaf ++ behind_leaf a (suc height) slot passes)
-above a height slot passes i x middle leaf i_is x_is middle_is =
-    let es = entries_at a slot in
-    let j = index_in passes es in
-    let y = child_in passes es in
-    let front = items_of a height (take j es) in
-    let back = items_of a height (drop (j + 1) es) in
-    ap (λ n. items_of a height (take n es) ++ (middle ++ items_of a height (drop (n + 1) es))) i_is
-    ∙ ap (λ m. front ++ (m ++ back)) (middle_is ∙ ap (λ z. before_leaf a height z passes ++ (leaf ++ behind_leaf a height z passes)) x_is)
-    ∙ regroup front (before_leaf a height y passes) leaf (behind_leaf a height y passes) back
-  where
-    regroup : (p b m h r : List Item) → p ++ ((b ++ (m ++ h)) ++ r) ≡ (p ++ b) ++ (m ++ (h ++ r))
-    regroup p b m h r = simp append_assoc

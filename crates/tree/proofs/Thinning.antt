@@ -71,14 +71,14 @@ one_not_below true b f = f
 one_not_below false b f = refl
 
 -- the entries of a node that is thinned, up to an index: those that stay, those that go, and those ahead
-pub record IsThinned (edge before last : ℤ) (es now out : List Entry) (from to index kept : ℕ) : Type 0 where
+pub record IsThinned (edge before last : ℤ) (es now : List Entry) (out : List Item) (from to index kept : ℕ) : Type 0 where
   pub counted : kept + length out ≡ index
   pub same_length : length now ≡ length es
   pub ahead : drop index now ≡ drop index es
   pub last_is : last_version last (run es index to) ≡ last_version before (run es from to)
   pub stayed : map item_of (take kept now) ++ thin edge last (map item_of (run es index to))
       ≡ map item_of (take from es) ++ thin edge before (map item_of (run es from to))
-  pub went : map item_of out ++ gone edge last (map item_of (run es index to)) ≡ gone edge before (map item_of (run es from to))
+  pub went : out ++ gone edge last (map item_of (run es index to)) ≡ gone edge before (map item_of (run es from to))
 
 -- the next entry
 next_of : (es now : List Entry) (index to : ℕ) (e : Entry) → index < to → to ≤ length es → length now ≡ length es
@@ -100,7 +100,7 @@ next_of es now index to e lt within same ahead is =
       ap (λ n. drop n now) one ∙ tail ∙ ap (λ n. drop n es) (sym one),
     )
 
-module _ (edge before last : ℤ) (es now out : List Entry) (from to index kept : ℕ) (e : Entry) (t : IsThinned edge before last es now out from to index kept)
+module _ (edge before last : ℤ) (es now : List Entry) (out : List Item) (from to index kept : ℕ) (e : Entry) (t : IsThinned edge before last es now out from to index kept)
     (lt : index < to) (within : to ≤ length es) (is : e ≡ get_or now index e) where
   -- an entry stays
   pub one_stays : (int_lt last edge && int_lt e.version edge) ≡ false
@@ -121,12 +121,12 @@ module _ (edge before last : ℤ) (es now out : List Entry) (from to index kept 
         stayed = ap (λ l. l ++ thin edge e.version (map item_of rest)) taken
             ∙ append_assoc front (item_of e ∷ []) (thin edge e.version (map item_of rest))
             ∙ ap (λ l. front ++ l) (sym s.0) ∙ ap (λ l. front ++ thin edge last (map item_of l)) (sym n.0) ∙ t.stayed;
-        went = ap (λ l. map item_of out ++ l) (sym s.1) ∙ ap (λ l. map item_of out ++ gone edge last (map item_of l)) (sym n.0) ∙ t.went;
+        went = ap (λ l. out ++ l) (sym s.1) ∙ ap (λ l. out ++ gone edge last (map item_of l)) (sym n.0) ∙ t.went;
       }
 
   -- an entry goes
   pub one_goes : (int_lt last edge && int_lt e.version edge) ≡ true
-      → IsThinned edge before e.version es now (out ++ e ∷ []) from to (index + 1) kept
+      → IsThinned edge before e.version es now (out ++ item_of e ∷ []) from to (index + 1) kept
   one_goes g =
       let n = next_of es now index to e lt within t.same_length t.ahead is in
       let rest = run es (index + 1) to in
@@ -134,16 +134,16 @@ module _ (edge before last : ℤ) (es now out : List Entry) (from to index kept 
       let front = map item_of (take kept now) in
       let more = gone edge e.version (map item_of rest) in
       record {
-        counted = omega (arith, t.counted, length-append out (e ∷ []));
+        counted = omega (arith, t.counted, length-append out (item_of e ∷ []));
         same_length = t.same_length;
         ahead = n.1;
         last_is = ap (last_version last) (sym n.0) ∙ t.last_is;
         stayed = ap (λ l. front ++ l) (sym s.0) ∙ ap (λ l. front ++ thin edge last (map item_of l)) (sym n.0) ∙ t.stayed;
-        went = ap (λ l. l ++ more) (map-append item_of out (e ∷ [])) ∙ append_assoc (map item_of out) (item_of e ∷ []) more
-            ∙ ap (λ l. map item_of out ++ l) (sym s.1) ∙ ap (λ l. map item_of out ++ gone edge last (map item_of l)) (sym n.0) ∙ t.went;
+        went = append_assoc out (item_of e ∷ []) more ∙ ap (λ l. out ++ l) (sym s.1)
+            ∙ ap (λ l. out ++ gone edge last (map item_of l)) (sym n.0) ∙ t.went;
       }
 
-module _ (edge before last : ℤ) (es now out : List Entry) (from to index kept : ℕ) (t : IsThinned edge before last es now out from to index kept)
+module _ (edge before last : ℤ) (es now : List Entry) (out : List Item) (from to index kept : ℕ) (t : IsThinned edge before last es now out from to index kept)
     (end : index ≡ to) (within : to ≤ length es) where
   none_ahead : run es index to ≡ []
   none_ahead = let none : to - index ≡ 0 = omega arith in ap (λ n. take n (drop index es)) none
@@ -165,3 +165,7 @@ module _ (edge before last : ℤ) (es now out : List Entry) (from to index kept 
       ap (map item_of) is ∙ map-append item_of (take kept now) (drop to now)
       ∙ ap (λ l. l ++ map item_of (drop to now)) first ∙ ap (λ l. (map item_of (take from es) ++ thin edge before (map item_of (run es from to))) ++ map item_of l) behind
       ∙ append_assoc (map item_of (take from es)) (thin edge before (map item_of (run es from to))) (map item_of (drop to es))
+
+  -- Those that went are all that go.
+  pub all_gone : out ≡ gone edge before (map item_of (run es from to))
+  all_gone = sym (append-nil out) ∙ ap (λ l. out ++ gone edge last (map item_of l)) (sym none_ahead) ∙ t.went

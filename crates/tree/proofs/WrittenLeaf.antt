@@ -1,28 +1,23 @@
--- A leaf of which a run is written over: its items, where it is stored, and what tells whether the run is ended.
-use Rattle.std.proofs.Common.{◌≡◌, ◌≢◌, ℕ, ◌-◌, ◌<◌, ◌≤◌, Bool, true, false, not, List, [], ◌∷◌, ◌++◌, Option}
-use Rattle.std.proofs.Common.{Some, None, MatchOption, length, get_or, slice_get, take, drop, filter, map, refl, sym}
+-- The items of a leaf of which a run is written over, and what tells whether the run is ended.
+use Rattle.std.proofs.Common.{◌≡◌, ◌≢◌, ◌⊎◌, inl, inr, ℕ, ℤ, ◌+◌, ◌-◌, ◌<◌, ◌≤◌, Bool, true, false, not, List, [], ◌∷◌, ◌++◌, Option}
+use Rattle.std.proofs.Common.{Bor, Some, None, MatchOption, length, get_or, slice_get, take, drop, filter, map, All, Any, refl, sym}
 use Rattle.std.proofs.Common.{◌∙◌, ap, ap₂, subst, arith}
-use Rattle.std.proofs.lemmas.List.{append-nil, map-append, length-map, at_drop_more, at_drop_all}
-use Rattle.std.proofs.lemmas.List.Elements.{All-nil}
+use Rattle.std.proofs.lemmas.List.{append-nil, map-append, length-map, length-take-le, take-append-drop, drop_at, at_drop_more, at_drop_all}
+use Rattle.std.proofs.lemmas.List.Elements.{All-nil, All-cons, All-tail, All-append, All-filter, All-weaker, Contains-get_or, filter-append, filter_passes}
 use Rattle.std.proofs.lemmas.Option.{slice_get-get_or}
-use Rattle.std.specs.Prelude.{IfSome}
-use Rattle.arena.specs.Arena.{Arena, IsLive, with_header}
+use Rattle.std.specs.Prelude.{option_copied}
+use Rattle.keys.proofs.callers.SomeElement.{Any-first, Any-right}
 use Rattle.tree.specs.declared.entry.Entry.{Entry}
-use Rattle.tree.specs.declared.node.Node.{Node}
-use Rattle.tree.specs.Hints.{KeyBytes, AreHinted, IsHinted}
 use Rattle.tree.specs.Item.{Item, item_of}
-use Rattle.tree.specs.Node.{entries_of, hint_of, hints_of}
-use Rattle.tree.specs.Overwrite.{lets_pass_first}
-use Rattle.tree.specs.Path.{IsCut, passing, behind, first_key}
-use Rattle.tree.specs.Replace.{entries_at_both, slot_taken, Changes, IsKeyless}
-use Rattle.tree.specs.Subtree.{entries_at}
-use Rattle.tree.specs.Tree.{least_of}
-use Rattle.tree.proofs.Changing.{changes_if_moves}
-use Rattle.tree.proofs.KnownKeys.{hinted_header}
+use Rattle.tree.specs.Overwrite.{IsOverwritten, IsPartOfCut, lets_pass_first}
+use Rattle.tree.specs.Path.{IsCut, passing, behind, between, first_key}
+use Rattle.tree.specs.Tree.{IsLast, ended_by}
+use Rattle.tree.specs.Walk.{IsRaised}
+use Rattle.tree.proofs.callers.Cuts.{none_fail, IsCut-parts}
+use Rattle.tree.proofs.Inserting.{ended_some, same_ends}
 use Rattle.tree.proofs.LeafChange.{parted}
-use Rattle.tree.proofs.Leaves.{IsLeaf, filter-items}
-use Rattle.tree.proofs.Placing.{put_entries, put_live, put_moves}
-use Rattle.tree.proofs.Splicing.{IsReplaced, replaced}
+use Rattle.tree.proofs.Leaves.{IsLeaf, filter-items, last_passing}
+use Rattle.tree.proofs.Overwriting.{between_is}
 
 -- The items of a leaf stand alone.
 pub leaf_alone : (p : ℕ → Bool) (es : List Entry) → IsLeaf p (map item_of es) [] [] es
@@ -33,13 +28,11 @@ leaf_alone p es = record {
   none = λ _. refl;
 }
 
--- items whose entries are cut are cut
-pub items_cut : (p : ℕ → Bool) (es : List Entry) → IsCut (λ e. p e.key) es → IsCut (λ x. p x.key) (map item_of es)
-items_cut p es cut =
-    let front = filter (λ (e : Entry). p e.key) es in
-    let rest = filter (λ (e : Entry). not (p e.key)) es in
-    ap (map item_of) cut ∙ map-append item_of front rest
-    ∙ sym (ap₂ (λ xs ys. xs ++ ys) (filter-items p es) (filter-items (λ key. not (p key)) es))
+-- A part of items that are cut is cut.
+pub part_cut : (p : ℕ → Bool) (items : List Item) → IsPartOfCut p items → IsCut (λ x. p x.key) items
+part_cut p items part =
+    let here = λ (x : Item). p x.key in
+    (IsCut-parts here items part.1 (IsCut-parts here part.0 (items ++ part.1) part.2).1).0
 
 -- Where so many entries pass, some item does.
 pub some_item : (p : ℕ → Bool) (es : List Entry) (n : ℕ) → 1 ≤ n → n ≡ length (filter (λ e. p e.key) es)
@@ -48,18 +41,118 @@ some_item p es n some count none =
     let front = filter (λ (e : Entry). p e.key) es in
     omega (arith, some, count, ap length (filter-items p es), length-map front item_of, ap length none)
 
--- what becomes of the items where the run between two cuts is written over
-pub written : (p q : ℕ → Bool) → ((key : ℕ) → p key ≡ true → q key ≡ true) → (es : List Entry) (begin end : ℕ)
-    → IsCut (λ e. p e.key) es → IsCut (λ e. q e.key) es → 1 ≤ begin → begin ≤ end → end ≤ length es
-    → begin ≡ length (filter (λ e. p e.key) es) → end ≡ length (filter (λ e. q e.key) es) → (run new now : List Entry)
-    → run ≡ drop begin (take end es) → now ≡ take begin es ++ (new ++ drop end es)
-    → IsReplaced p q (map item_of es) (map item_of now) run new (end - begin)
-written p q nested es begin end first last some ordered most begins ends run new now run_is now_is =
-    let from = parted p es begin first begins in
-    let to = parted q es end last ends in
-    subst (λ xs. IsReplaced p q (map item_of es) xs run new (end - begin)) (append-nil (map item_of now))
-    (replaced p q nested (map item_of es) [] [] es (leaf_alone q es) (items_cut p es first) begin end es es run new now
-    refl refl some ordered begins from.0 from.1 most to.0 to.1 run_is now_is)
+-- so many entries pass, and the items that do are theirs
+pub items_parted : (p : ℕ → Bool) (es : List Entry) (n : ℕ) → IsCut (λ e. p e.key) es
+    → n ≡ length (filter (λ e. p e.key) es)
+    → (passing p (map item_of es) ≡ map item_of (take n es)) × (behind p (map item_of es) ≡ map item_of (drop n es))
+items_parted p es n cut count =
+    let parts = parted p es n cut count in (
+      filter-items p es ∙ ap (map item_of) (sym parts.0),
+      filter-items (λ key. not (p key)) es ∙ ap (map item_of) (sym parts.1),
+    )
+
+module _ (p q : ℕ → Bool) (nested : (key : ℕ) → p key ≡ true → q key ≡ true) (es : List Entry) (begin end : ℕ)
+    (first_cut : IsCut (λ e. p e.key) es) (second_cut : IsCut (λ e. q e.key) es) (within : begin ≤ length es)
+    (begins : begin ≡ length (filter (λ e. p e.key) es)) (ends : end ≡ length (filter (λ e. q e.key) es)) where
+  -- the entries between two cuts
+  run_here : filter (λ e. q e.key) (drop begin es) ≡ drop begin (take end es)
+  run_here =
+      let there = λ (e : Entry). q e.key in
+      let front = take begin es in
+      let rest = drop begin es in
+      let from = (parted p es begin first_cut begins).0 in
+      let to = (parted q es end second_cut ends).0 in
+      let pass : All (λ (e : Entry). q e.key ≡ true) front =
+      subst (All (λ (e : Entry). q e.key ≡ true)) (sym from)
+      (All-weaker (λ (e : Entry). p e.key ≡ true) (λ (e : Entry). q e.key ≡ true) (λ e. nested e.key)
+      (filter (λ (e : Entry). p e.key) es) (filter_passes (λ (e : Entry). p e.key) es)) in
+      let all : take end es ≡ front ++ filter there rest =
+      to ∙ ap (filter there) (sym (take-append-drop begin es)) ∙ filter-append there front rest
+      ∙ ap (λ xs. xs ++ filter there rest) (none_fail there front pass).0 in
+      sym (ap (drop begin) all ∙ drop_at front (filter there rest) begin (length-take-le begin es within))
+
+  -- and the items
+  pub between_entries : between (Some p) (Some q) (map item_of es) ≡ map item_of (drop begin (take end es))
+  between_entries =
+      between_is p q (map item_of es) ∙ ap (passing q) (items_parted p es begin first_cut begins).1
+      ∙ filter-items q (drop begin es) ∙ ap (map item_of) run_here
+
+  -- what becomes of the items where entries are put in place of those between the cuts
+  pub replaced : (new now : List Entry) → now ≡ take begin es ++ (new ++ drop end es)
+      → map item_of now ≡ passing p (map item_of es) ++ (map item_of new ++ behind q (map item_of es))
+  replaced new now now_is =
+      ap (map item_of) now_is ∙ map-append item_of (take begin es) (new ++ drop end es)
+      ∙ ap (λ xs. map item_of (take begin es) ++ xs) (map-append item_of new (drop end es))
+      ∙ ap₂ (λ xs ys. xs ++ (map item_of new ++ ys)) (sym (items_parted p es begin first_cut begins).0)
+      (sym (items_parted q es end second_cut ends).1)
+
+no_last : (xs : List Item) (x : Item) → xs ++ x ∷ [] ≢ []
+no_last [] x e = cc
+no_last (y ∷ xs) x e = cc
+
+-- The last entry that passes, where it is lent, has the version of the last item that does.
+pub last_version : (q : ℕ → Bool) (es passed : List Entry) (lent : Option (Bor Entry)) (version otherwise : ℤ)
+    (post : Bor Entry → Type 0) → passed ≡ filter (λ e. q e.key) es
+    → option_copied lent ≡ slice_get passed (length passed - 1) → MatchOption lent (version ≡ otherwise) post
+    → ((e : Bor Entry) → post e → version ≡ e.now.version) → (x : Item) → IsLast x (passing q (map item_of es))
+    → version ≡ x.version
+last_version q es passed lent version otherwise post same is told says x ends =
+    by_last lent told (last_passing q (map item_of es) [] [] es passed (option_copied lent) (leaf_alone q es) same is)
+  where
+    by_last : (lent : Option (Bor Entry)) → MatchOption lent (version ≡ otherwise) post
+        → MatchOption (option_copied lent) (passing q (map item_of es) ≡ [])
+        (λ e. IsLast (item_of e) (passing q (map item_of es))) → version ≡ x.version
+    by_last None told none = absurd (no_last ends.0 x (sym ends.1 ∙ none))
+    by_last (Some e) told there =
+        says e told
+        ∙ ap (λ (x : Item). x.version) (same_ends there.0 ends.0 (item_of e.now) x (sym there.1 ∙ ends.1)).1
+
+-- the first key is that of the items in front
+first_of_front : (xs ys zs : List Item) → xs ≢ [] → first_key None (xs ++ ys) ≡ first_key None (xs ++ zs)
+first_of_front [] ys zs some = absurd (some refl)
+first_of_front (x ∷ xs) ys zs some = refl
+
+-- each item has a version that is there
+own_version : (items : List Item) → All (λ (x : Item). Any (λ (w : Item). x.version ≡ w.version) items) items
+own_version items k d within =
+    let c = Contains-get_or items k d within in (c.0, get_or items k d, c.1, c.2, refl)
+
+-- Where a run is written over that has an item before it, the first key stays, and the version of the first new item comes in.
+pub raised : (p q : ℕ → Bool) → ((key : ℕ) → p key ≡ true → q key ≡ true) → (first : Item) (second : ℕ) (ended : Bool)
+    (was now : List Item) → IsCut (λ x. p x.key) was → passing p was ≢ [] → passing q was ≢ []
+    → IsOverwritten p q first second None ended was now → IsRaised first.version was now
+raised p q nested first second ended was now cut some some_second written =
+    let end = ended_some (passing q was) some_second in
+    let x : Item = record { key = second; version = end.last.version } in
+    let rest = first ∷ ended_by ended x ++ behind q was in
+    let now_is : now ≡ passing p was ++ rest = written end.last (end.front, end.is) in
+    let Known : Item → Type 0 = λ x. Any (λ (w : Item). x.version ≡ w.version) was in
+    let P : Item → Type 0 = λ x. (x.version ≡ first.version) ⊎ Known x in
+    let own : All P was = All-weaker Known P (λ x k. inr k) was (own_version was) in
+    let last : Known end.last =
+    All-last Known end.front end.last
+    (subst (All Known) end.is (All-filter (λ (x : Item). q x.key) Known was (own_version was))) in
+    record {
+      first = ap (first_key None) now_is ∙ first_of_front (passing p was) rest (behind p was) some
+          ∙ ap (first_key None) (sym cut);
+      there = subst (Any (λ (x : Item). x.version ≡ first.version)) (sym now_is)
+          (Any-right (λ (x : Item). x.version ≡ first.version) (passing p was) rest
+          (Any-first (λ (x : Item). x.version ≡ first.version) first (ended_by ended x ++ behind q was) refl));
+      others = subst (All P) (sym now_is)
+          (All-append P (passing p was) rest (All-filter (λ (x : Item). p x.key) P was own)
+          (All-cons P first (ended_by ended x ++ behind q was) (inl refl)
+          (All-append P (ended_by ended x) (behind q was) (All-ended_by P ended x (inr last))
+          (All-filter (λ (x : Item). not (q x.key)) P was own))));
+    }
+  where
+    All-last : (P : Item → Type 0) (xs : List Item) (x : Item) → All P (xs ++ x ∷ []) → P x
+    All-last P [] x all = all 0 x (omega arith)
+    All-last P (y ∷ xs) x all = All-last P xs x (All-tail P y (xs ++ x ∷ []) all)
+
+    -- what holds of an item holds of one that ends a run, if there is one
+    All-ended_by : (P : Item → Type 0) (is_ended : Bool) (x : Item) → P x → All P (ended_by is_ended x)
+    All-ended_by P true x holds = All-nil P
+    All-ended_by P false x holds = All-cons P x [] holds (All-nil P)
 
 module _ (q r : ℕ → Bool) (es : List Entry) (end : ℕ) (others : drop end es ≡ filter (λ e. not (q e.key)) es)
     (otherwise : Option ℕ) (ended : Bool) where
@@ -93,25 +186,3 @@ module _ (q r : ℕ → Bool) (es : List Entry) (end : ℕ) (others : drop end e
       by_key : (key : Option ℕ) → MatchOption key (ended ≡ false) post → ended ≡ lets_pass_first r key
       by_key None none = none
       by_key (Some key) there = says key there
-
-module _ {N : ℕ} (bytes : KeyBytes) (old : Arena (Node N)) (slot : ℕ) where
-  -- The leaf and its right neighbour, if any, have these entries, and nothing else is changed.
-  pub record IsStored (new : Arena (Node N)) (added : Option ℕ) (es : List Entry) : Type 0 where
-    pub entries : entries_at_both new slot added ≡ es
-    pub live : IsLive new slot
-    pub filled : IfSome added (λ other. (least_of N ≤ length (entries_at new slot))
-        × (least_of N ≤ length (entries_at new other)))
-    pub changes : Changes old new (slot ∷ []) (slot ∷ slot_taken added)
-    pub hinted : AreHinted bytes (hints_of new)
-
-  -- A leaf that has room is stored where it lay.
-  pub stored_here : (new : Arena (Node N)) (node : Node N) (entries : List Entry) → new ≡ with_header old slot node
-      → IsLive old slot → IsKeyless old → AreHinted bytes (hints_of old) → IsHinted bytes (hint_of node)
-      → entries_of node ≡ entries → IsStored new None entries
-  stored_here new node entries put live keyless all hinted is = record {
-    entries = put_entries old new slot node put ∙ is;
-    live = put_live old new slot node put;
-    filled = tt;
-    changes = changes_if_moves old new (slot ∷ []) (slot ∷ []) (put_moves old new slot node put live keyless);
-    hinted = hinted_header bytes old new slot node put all hinted;
-  }

@@ -7,4 +7,6 @@ pub mod Path
 pub mod Question
 pub mod Tree
 pub mod Replace
+pub mod Walk
 pub mod Overwrite
+pub mod Thin

@@ -1,25 +1,89 @@
 -- What is written over a run of items. This project's own.
-use Rattle.std.specs.Prelude.{◌≡◌, ℕ, Bool, false, List, [], ◌∷◌, ◌++◌, Option, None, Some}
-use Rattle.tree.specs.declared.entry.Entry.{Entry}
-use Rattle.tree.specs.declared.node.Node.{Node}
+use Rattle.std.specs.Prelude.{◌≡◌, ◌≢◌, ◌⊎◌, ◌↔◌, ℕ, ℤ, Bool, true, false, List, [], ◌∷◌, ◌++◌, Option, None, Some, unwrap_or, IsTrue}
+use Rattle.std.proofs.Common.{ap, sym, subst, ◌∙◌, append_assoc}
+use Rattle.tree.specs.declared.overwrite.Written.{Written}
+use Rattle.tree.specs.declared.overwrite.Written.TheVariants.{Partly, Whole}
 use Rattle.tree.specs.Item.{Item}
-use Rattle.tree.specs.Node.{entries_of}
-use Rattle.tree.specs.Path.{passing, behind}
+use Rattle.tree.specs.Path.{IsCut, passing, behind, between, first_key}
 use Rattle.tree.specs.Tree.{IsLast, ended_by}
 
--- the entries of a run, none where it is missing
-abbrev pub entries_of_run : {N : ℕ} → Option (Node N) → List Entry
-entries_of_run None = []
-entries_of_run (Some run) = entries_of run
-
 -- Items once written over: the first of the new ones comes in place of those from one cut to another. A second one has the version
--- of the last item before the other cut, unless the run is ended already.
-abbrev pub IsOverwritten : (ℕ → Bool) → (ℕ → Bool) → Item → ℕ → Bool → List Item → List Item → Type 0
-IsOverwritten from to first second ended was now =
+-- given, or that of the last item before the other cut, unless the run is ended already.
+abbrev pub IsOverwritten : (ℕ → Bool) → (ℕ → Bool) → Item → ℕ → Option ℤ → Bool → List Item → List Item → Type 0
+IsOverwritten from to first second given ended was now =
     (last : Item) → IsLast last (passing to was)
-    → now ≡ passing from was ++ (first ∷ ended_by ended (record { key = second; version = last.version }) ++ behind to was)
+    → now ≡ passing from was
+    ++ (first ∷ ended_by ended (record { key = second; version = unwrap_or given last.version }) ++ behind to was)
+
+-- how many items come in place of the run
+abbrev pub put_of : Written → ℕ
+put_of (Partly last) = 0
+put_of (Whole true) = 1
+put_of (Whole false) = 2
+
+-- Items that are a part of others, which are cut.
+abbrev pub IsPartOfCut : (ℕ → Bool) → List Item → Type 0
+IsPartOfCut passes part = (front back : List Item) × IsCut (λ x. passes x.key) (front ++ (part ++ back))
+
+-- A part of such items is one too.
+pub part_of_part : (passes : ℕ → Bool) (before items behind : List Item) → IsPartOfCut passes (before ++ (items ++ behind))
+    → IsPartOfCut passes items
+part_of_part passes before items behind part =
+    let front = part.0 in
+    let back = part.1 in
+    let regrouped : front ++ ((before ++ (items ++ behind)) ++ back) ≡ (front ++ before) ++ (items ++ (behind ++ back)) =
+    ap (λ xs. front ++ xs) (append_assoc before (items ++ behind) back)
+    ∙ ap (λ xs. front ++ (before ++ xs)) (append_assoc items behind back)
+    ∙ sym (append_assoc front before (items ++ (behind ++ back))) in
+    (front ++ before, behind ++ back, subst (IsCut (λ x. passes x.key)) regrouped part.2)
 
 -- there is such a key, and it passes
 abbrev pub lets_pass_first : (ℕ → Bool) → Option ℕ → Bool
 lets_pass_first passes None = false
 lets_pass_first passes (Some key) = passes key
+
+-- The items of a leaf, of which the run is written over: the item before the run is there, or none stands before the leaf's.
+pub record GivesWhole (from to past : ℕ → Bool) (first : Item) (second : ℕ) (given : Option ℤ) (ended : Bool) (run : List Item) (is_first : Bool)
+    (next : Option ℕ) (was now : List Item) : Type 0 where
+  pub there : (passing from was ≢ []) ⊎ IsTrue is_first
+  pub some : passing to was ≢ []
+  pub run_is : run ≡ between (Some from) (Some to) was
+  pub ended_is : ended ≡ lets_pass_first past (first_key next (behind to was))
+  pub written : IsOverwritten from to first second given ended was now
+
+-- The items of a leaf, of which the run's are taken out: no item before the run is among them.
+pub record GivesPart (from to : ℕ → Bool) (last : ℤ) (run : List Item) (is_first : Bool) (was now : List Item) : Type 0 where
+  pub none : passing from was ≡ []
+  pub run_is : run ≡ passing to was
+  pub rest : now ≡ behind to was
+  pub last_is : (x : Item) → IsLast x run → last ≡ x.version
+  pub some : IsTrue is_first → passing to was ≡ []
+
+-- either of them
+abbrev pub GivesWritten : (ℕ → Bool) → (ℕ → Bool) → (ℕ → Bool) → Item → ℕ → Option ℤ → Written → List Item → Bool → Option ℕ
+    → List Item → List Item → Type 0
+GivesWritten from to past first second given (Whole ended) run is_first next was now =
+    GivesWhole from to past first second given ended run is_first next was now
+GivesWritten from to past first second given (Partly last) run is_first next was now = GivesPart from to last run is_first was now
+
+-- Items of which a run is written over. A second item was put in unless one had its key.
+pub record OverwritesWhole (from to past : ℕ → Bool) (first : Item) (second : ℕ) (given : Option ℤ) (ended : Bool) (run was now : List Item)
+    : Type 0 where
+  pub run_is : run ≡ between (Some from) (Some to) was
+  pub ended_is : IsTrue ended ↔ (between (Some to) (Some past) was ≢ [])
+  pub written : IsOverwritten from to first second given ended was now
+
+-- Items of which the last of a run are taken out, one at least. The first of all stays.
+pub record OverwritesPart (from to : ℕ → Bool) (last : ℤ) (run was now : List Item) : Type 0 where
+  pub kept : List Item
+  pub some : run ≢ []
+  pub run_is : between (Some from) (Some to) was ≡ kept ++ run
+  pub last_is : (x : Item) → IsLast x run → last ≡ x.version
+  pub now_is : now ≡ passing from was ++ (kept ++ behind to was)
+  pub first : passing from was ++ kept ≢ []
+
+-- either of them
+abbrev pub Overwrites : (ℕ → Bool) → (ℕ → Bool) → (ℕ → Bool) → Item → ℕ → Option ℤ → Written → List Item → List Item → List Item → Type 0
+Overwrites from to past first second given (Whole ended) run was now =
+    OverwritesWhole from to past first second given ended run was now
+Overwrites from to past first second given (Partly last) run was now = OverwritesPart from to last run was now

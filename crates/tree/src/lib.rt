@@ -19,11 +19,12 @@ mod search;
 mod span;
 mod thin;
 mod tree;
+mod walk;
 
 pub use entry::Entry;
 pub use node::Node;
-pub use overwrite::Overwrite;
+pub use overwrite::{Overwrite, Written};
 pub use probe::Probe;
 pub use question::{Question, SIDE};
 pub use thin::Thinned;
-pub use tree::{Overwritten, Tree, item};
+pub use tree::{Tree, item};

@@ -1,80 +1,20 @@
-//! The replacement of a leaf.
+//! A node above a changed child, mended.
 
-ghost use Rattle.std.specs.Prelude.{◌≡◌, ◌≢◌, ◌≤◌, ◌<◌, ◌+◌, ◌*◌, ◌++◌, ◌∷◌, ◌⊎◌, ℕ, [], length, take, drop, map, option_map, nat_eq, MatchOption, IfSome, IsSome, IsSomeAnd, None, Some};
-ghost use Rattle.std.specs.List.{All, Contains, IsDistinct};
+ghost use Rattle.std.specs.Prelude.{◌≡◌, ◌≤◌, ◌<◌, ◌+◌, ◌*◌, ◌∷◌, ℕ, [], length, take, drop, MatchOption, IfSome, IsSome, IsSomeAnd, None, Some};
+ghost use Rattle.std.specs.List.{All};
 ghost use Rattle.std.specs.FinMap as map_of;
-ghost use Rattle.arena.specs.Arena.{IsLive, record_at, spare_of};
-ghost use Rattle.tree.specs.Item.{item_of};
-ghost use Rattle.tree.specs.Hints.{AreHinted, IsHinted, IsKnown, KeyBytes, KnowsAt};
+ghost use Rattle.arena.specs.Arena.{IsLive, spare_of};
+ghost use Rattle.tree.specs.Hints.{AreHinted, IsHinted, IsKnown, KeyBytes};
 ghost use Rattle.tree.specs.Node.{entries_of, hint_of, hints_of, keys_of};
-ghost use Rattle.tree.specs.Subtree.{entries_at, items_in, slots_in, IsSubtree};
-ghost use Rattle.tree.specs.Path.{IsCut, before_leaf, behind_leaf};
+ghost use Rattle.tree.specs.Subtree.{entries_at};
 ghost use Rattle.tree.specs.Tree.{least_of};
-ghost use Rattle.tree.specs.Replace.{child_at, entries_at_both, entries_with, items_with, slot_taken, slots_with, Changes, IsFamilyAt, IsKeyless, IsLinked, IsMendedAt, TellsWritten};
+ghost use Rattle.tree.specs.Replace.{child_at, entries_at_both, entries_with, slot_taken, Changes, IsFamilyAt, IsKeyless, IsLinked, IsMendedAt, TellsWritten};
 
 use crate::entry::Entry;
 use crate::mend::{least, mend, summary};
 use crate::node::Node;
 use crate::probe::Probe;
 use arena::{Arena, Slot};
-
-/// Puts nodes in place of the leaf that [`find`](crate::descent::find) finds, and mends the nodes above it. Returns the
-/// slot of the right neighbour where the subtree is split in two. Takes at most one slot at each height. `known` is how
-/// many bytes the first key of the subtree and what is looked for begin with in common, or none if that key doesn't
-/// pass.
-pub fn replace_leaf<P: Probe, const N: usize>(
-    nodes: &mut Arena<Node<N>>,
-    slot: Slot,
-    height: usize,
-    probe: &P,
-    known: Option<usize>,
-    left: &Node<N>,
-    right: Option<&Node<N>>,
-) -> Option<Slot>
-    requires fan_out { 4 ≤ N }
-    requires subtree { IsSubtree nodes.old (least_of N) height slot }
-    requires branches { 1 ≤ height → 2 ≤ length (entries_at nodes.old slot) }
-    requires distinct { IsDistinct nat_eq (slots_in nodes.old height slot) }
-    requires keyless { IsKeyless nodes.old }
-    requires cut { IsCut (λ x. P.lets_pass probe.now x.key) (items_in nodes.old height slot) }
-    requires room { height < spare_of nodes.old 0 }
-    requires filled { IfSome right (λ r. (least_of N ≤ length (entries_of left.now)) × (least_of N ≤ length (entries_of r.now))) }
-    requires some { 1 ≤ length (entries_at nodes.old slot) }
-    requires known { KnowsAt (P.bytes probe.now) (P.lets_pass probe.now) (P.sought probe.now) known (entries_at nodes.old slot) 0 }
-    requires hinted { AreHinted (P.bytes probe.now) (hints_of nodes.old) }
-    requires left { IsHinted (P.bytes probe.now) (hint_of left.now) }
-    requires right { IfSome right (λ r. All (IsKnown (P.bytes probe.now)) (keys_of (entries_of r.now))) }
-
-    // What the subtree holds afterwards, with its right neighbour.
-    ensures items { items_with nodes.new height slot result ≡ before_leaf nodes.old height slot (P.lets_pass probe.now)
-        ++ (map item_of (entries_with left.now (option_map (λ r. r.now) right.entry))
-        ++ behind_leaf nodes.old height slot (P.lets_pass probe.now)) }
-    ensures subtree { IsSubtree nodes.new (least_of N) height slot }
-    ensures neighbour { IfSome result (λ added. IsSubtree nodes.new (least_of N) height added) }
-    ensures filled { IfSome result (λ added. (least_of N ≤ length (entries_at nodes.new slot))
-        × (least_of N ≤ length (entries_at nodes.new added))) }
-    ensures leaf { height ≡ 0 → entries_at nodes.new slot ≡ entries_of left.now }
-    ensures few_less { 1 ≤ height → result ≡ None → length (entries_at nodes.old slot) ≤ length (entries_at nodes.new slot) + 1 }
-
-    // Which slots it uses, and what stays.
-    ensures changes { Changes nodes.old nodes.new (slots_in nodes.old height slot) (slots_with nodes.new height slot result) }
-    ensures taken { spare_of nodes.old 0 ≤ spare_of nodes.new 0 + (height + 1) }
-    ensures hinted { AreHinted (P.bytes probe.now) (hints_of nodes.new) }
-{
-    if height == 0 {
-        return store(nodes, slot, left, right, probe);
-    }
-    let node = nodes.header_ref(slot);
-    let step = node.step(probe, known);
-    let child = node.entries()[step.index].child;
-    match replace_leaf(nodes, child, height - 1, probe, step.known, left, right) {
-        Some(added) => link_child(nodes, slot, step.index, added, probe),
-        None => {
-            mend_child(nodes, slot, step.index, probe);
-            None
-        }
-    }
-}
 
 /// Makes the entry at an index right in the node at a slot, whose child was split, and puts one for the child's right
 /// neighbour behind it. Returns the slot of the node's own right neighbour where it is split, too.
@@ -109,9 +49,9 @@ pub fn link_child<P: Probe, const N: usize>(
     store(nodes, slot, &node, right.as_ref(), probe)
 }
 
-// Makes the entry at an index right in the node at a slot, whose child has changed: where the node lies, unless the
-// child has too few entries.
-fn mend_child<P: Probe, const N: usize>(
+/// Makes the entry at an index right in the node at a slot, whose child has changed: where the node lies, unless the
+/// child has too few entries.
+pub fn mend_child<P: Probe, const N: usize>(
     nodes: &mut Arena<Node<N>>,
     slot: Slot,
     index: usize,

@@ -1,24 +1,24 @@
 //! The root of a tree, and what becomes of it where a leaf changes.
 
-ghost use Rattle.std.specs.Prelude.{◌≡◌, ◌≢◌, ◌≤◌, ◌<◌, ◌+◌, ◌++◌, true, false, [], filter, length, map, option_map, nat_eq, IfSome, None, Some};
+ghost use Rattle.std.specs.Prelude.{◌≡◌, ◌≤◌, ◌<◌, ◌+◌, ◌++◌, true, false, [], filter, length, map, nat_eq, None, Some};
 ghost use Rattle.std.specs.List.{All, IsDistinct};
 ghost use Rattle.std.specs.FinMap as map_of;
 ghost use Rattle.arena.specs.Arena.{IsLive, spare_of};
 ghost use Rattle.tree.specs.Item.{item_of};
-ghost use Rattle.tree.specs.Hints.{AreHinted, IsHinted, IsKnown, KeyBytes, KnowsAt};
-ghost use Rattle.tree.specs.Node.{entries_of, hint_of, hints_of, keys_of};
+ghost use Rattle.tree.specs.Hints.{AreHinted, KeyBytes, KnowsAt};
+ghost use Rattle.tree.specs.Node.{hints_of, items_of_run};
 ghost use Rattle.tree.specs.Subtree.{entries_at, items_in, slots_in, IsSubtree};
-ghost use Rattle.tree.specs.Overwrite.{IsOverwritten, entries_of_run, lets_pass_first};
-ghost use Rattle.tree.specs.Path.{IsCut, passing, before_leaf, behind, behind_leaf, between, first_key};
-ghost use Rattle.tree.specs.Replace.{entries_with, items_with, slots_with, IsKeyless};
+ghost use Rattle.tree.specs.Path.{IsCut, before_leaf, behind_leaf, first_key};
+ghost use Rattle.tree.specs.Replace.{items_with, slots_with, IsKeyless};
 ghost use Rattle.tree.specs.Tree.{least_of, IsRooted};
+ghost use Rattle.tree.specs.Walk.{CanChangeTree, IsChangedWithin};
 
 use crate::descent::{Reached, find, known_at};
 use crate::mend::summary;
 use crate::node::Node;
-use crate::overwrite::{Done, Overwrite, write_over};
 use crate::probe::Probe;
-use crate::replace::{place, replace_leaf};
+use crate::replace::place;
+use crate::walk::{LeafChange, Place, change_leaf};
 use arena::{Arena, Slot};
 
 /// Where a tree begins.
@@ -54,83 +54,35 @@ pub fn reach<P: Probe, const N: usize>(nodes: &Arena<Node<N>>, root: Root, probe
     find(nodes, root.slot, root.height, probe, known, None)
 }
 
-/// Puts nodes in place of that leaf. Returns the root of the tree as it is then: a full one is split and gets one above
+/// Changes a leaf of a tree, and puts the entries that are taken out into `taken`. A root that is split gets one above
 /// it, and one with a single child gives its place to the child.
-pub fn put<P: Probe, const N: usize>(
-    nodes: &mut Arena<Node<N>>,
-    root: Root,
-    probe: &P,
-    left: &Node<N>,
-    right: Option<&Node<N>>,
-) -> Root
-    requires fan_out { 4 ≤ N }
-    requires few { N ≤ 65536 }
-    requires low { root.height < 63 }
-    requires rooted { IsRooted nodes.old root.slot root.height }
-    requires cut { IsCut (λ x. P.lets_pass probe.now x.key) (items_in nodes.old root.height root.slot) }
-    requires room { root.height + 1 < spare_of nodes.old 0 }
-    requires filled { IfSome right (λ r. (least_of N ≤ length (entries_of left.now)) × (least_of N ≤ length (entries_of r.now))) }
-    requires some { 1 ≤ length (entries_at nodes.old root.slot) }
-    requires hinted { AreHinted (P.bytes probe.now) (hints_of nodes.old) }
-    requires left { IsHinted (P.bytes probe.now) (hint_of left.now) }
-    requires right { IfSome right (λ r. All (IsKnown (P.bytes probe.now)) (keys_of (entries_of r.now))) }
-    ensures items { items_in nodes.new result.height result.slot ≡ before_leaf nodes.old root.height root.slot (P.lets_pass probe.now)
-        ++ (map item_of (entries_with left.now (option_map (λ r. r.now) right.entry))
-        ++ behind_leaf nodes.old root.height root.slot (P.lets_pass probe.now)) }
-    ensures rooted { IsRooted nodes.new result.slot result.height }
-    ensures spare { spare_of nodes.new 0 + map_of.len nodes.new.records ≡ spare_of nodes.old 0 + map_of.len nodes.old.records }
-    ensures hinted { AreHinted (P.bytes probe.now) (hints_of nodes.new) }
-{
-    let known = known_at(nodes, root.slot, probe);
-    match replace_leaf(nodes, root.slot, root.height, probe, known, left, right) {
-        Some(added) => grow(nodes, root, added, probe),
-        None => shrink(nodes, root),
-    }
-}
-
-/// Writes over a run of items, and puts what was there into `run`. Does nothing and returns none unless one leaf has
-/// the run and the item before it. A root that is split gets one above it, and one with a single child gives its place
-/// to the child.
-pub fn overwrite<P: Probe, Q: Probe, R: Probe, const N: usize>(
+pub fn change<C: LeafChange<N>, const N: usize>(
     nodes: &mut Arena<Node<N>>,
     root: &mut Root,
-    new: &Overwrite<'_, P, Q, R>,
-    run: &mut Option<Node<N>>,
-) -> Option<Done>
-    requires fan_out { 4 ≤ N }
-    requires few { N ≤ 65536 }
-    requires low { root.old.height < 63 }
-    requires rooted { IsRooted nodes.old root.old.slot root.old.height }
-    requires from { IsCut (λ x. P.lets_pass new.now.from.now x.key) (items_in nodes.old root.old.height root.old.slot) }
-    requires to { IsCut (λ x. Q.lets_pass new.now.to.now x.key) (items_in nodes.old root.old.height root.old.slot) }
-    requires past { IsCut (λ x. R.lets_pass new.now.past.now x.key) (items_in nodes.old root.old.height root.old.slot) }
-    requires room { root.old.height + 1 < spare_of nodes.old 0 }
-    requires some { 1 ≤ length (entries_at nodes.old root.old.slot) }
-    requires hinted { AreHinted (Q.bytes new.now.to.now) (hints_of nodes.old) }
-    requires run { run.old ≡ None }
-    ensures none { result ≡ None → nodes.new ≡ nodes.old }
-    ensures root { result ≡ None → root.new ≡ root.old }
-    ensures before { IfSome result (λ _. passing (P.lets_pass new.now.from.now)
-        (items_in nodes.old root.old.height root.old.slot) ≢ []) }
-    ensures run { IfSome result (λ _. between (Some (P.lets_pass new.now.from.now)) (Some (Q.lets_pass new.now.to.now))
-        (items_in nodes.old root.old.height root.old.slot) ≡ map item_of (entries_of_run run.new)) }
-    ensures ended { IfSome result (λ done. done.ended ≡ lets_pass_first (R.lets_pass new.now.past.now)
-        (first_key None (behind (Q.lets_pass new.now.to.now) (items_in nodes.old root.old.height root.old.slot)))) }
-    ensures items { IfSome result (λ done. IsOverwritten (P.lets_pass new.now.from.now) (Q.lets_pass new.now.to.now)
-        (item_of new.now.first) new.now.second done.ended (items_in nodes.old root.old.height root.old.slot)
-        (items_in nodes.new root.new.height root.new.slot)) }
-    ensures rooted { IfSome result (λ _. IsRooted nodes.new root.new.slot root.new.height) }
-    ensures spare { IfSome result (λ _. spare_of nodes.new 0 + map_of.len nodes.new.records
-        ≡ spare_of nodes.old 0 + map_of.len nodes.old.records) }
-    ensures hinted { IfSome result (λ _. AreHinted (Q.bytes new.now.to.now) (hints_of nodes.new)) }
+    change: &mut C,
+    taken: &mut Option<Node<N>>,
+)
+    requires changeable { CanChangeTree nodes.old root.old.slot root.old.height }
+    requires cut { IsCut (λ x. C.Target.lets_pass (C.target_of change.old) x.key) (items_in nodes.old root.old.height root.old.slot) }
+    requires hinted { AreHinted (C.Target.bytes (C.target_of change.old)) (hints_of nodes.old) }
+    requires wanted { C.wants change.old (items_in nodes.old root.old.height root.old.slot) }
+    requires none_taken { taken.old ≡ None }
+    ensures items { IsChangedWithin (C.Target.lets_pass (C.target_of change.old)) (C.gives change.old change.new (items_of_run taken.new))
+        true None
+        (items_in nodes.old root.old.height root.old.slot) (items_in nodes.new root.new.height root.new.slot) }
+    ensures rooted { IsRooted nodes.new root.new.slot root.new.height }
+    ensures spare { spare_of nodes.new 0 + map_of.len nodes.new.records ≡ spare_of nodes.old 0 + map_of.len nodes.old.records }
+    ensures hinted { AreHinted (C.Target.bytes (C.target_of change.old)) (hints_of nodes.new) }
 {
-    let known = known_at(nodes, root.slot, new.to);
-    let done = write_over(nodes, root.slot, root.height, new, known, None, run)?;
-    *root = match done.added {
-        Some(added) => grow(nodes, *root, added, new.to),
-        None => shrink(nodes, *root),
+    let place = Place {
+        known: known_at(nodes, root.slot, change.target()),
+        behind: None,
+        is_first: true,
     };
-    Some(done)
+    match change_leaf(nodes, root.slot, root.height, change, place, taken).added() {
+        Some(added) => *root = grow(nodes, *root, added, change.target()),
+        None => *root = shrink(nodes, *root),
+    }
 }
 
 // Puts a new root over the old one and its right neighbour.

@@ -1,42 +1,99 @@
-//! How a run of a node is thinned.
+//! A run of items thinned: those that tell nothing any more are taken out.
 
 ghost use Rattle.std.specs.Prelude.{◌≡◌, ◌-◌, ◌≤◌, ◌<◌, ◌++◌, ◌∷◌, [], take, drop, length, map, IsSomeAnd, MatchOption};
 ghost use Rattle.tree.specs.Item.{item_of, version_of};
 ghost use Rattle.tree.specs.Hints.{IsHinted, KeyBytes};
-ghost use Rattle.tree.specs.Node.{entries_of, hint_of};
-ghost use Rattle.tree.specs.Overwrite.{entries_of_run};
+ghost use Rattle.tree.specs.Node.{entries_of, hint_of, items_of_run};
 ghost use Rattle.tree.specs.Path.{first_key};
+ghost use Rattle.tree.specs.Thin.{GivesThinned};
 ghost use Rattle.tree.specs.Tree.{IsLast, thin as thin_of, gone};
 
 use crate::entry::Entry;
 use crate::node::Node;
+use crate::probe::Probe;
 use crate::search::key_at;
-use arena::Slot;
+use crate::walk::{LeafChange, Outcome, Place};
+use arena::{Arena, Slot};
 
 /// How the thinning of a run ended.
-#[derive(Debug, Drop)]
-pub struct Thinned<const N: usize> {
+#[derive(Clone, Copy, Debug)]
+pub struct Thinned {
     /// How many items were looked at.
     pub looked_at: usize,
     /// The version of the last of them.
     pub last: i64,
-    /// The items that were taken out.
-    pub removed: Option<Node<N>>,
     /// The key of the item behind those that were looked at, if there is one.
     pub next: Option<Slot>,
 }
 
+/// A run of a leaf's items that begins with the last one that passes, to be thinned.
+#[derive(Debug, Drop)]
+pub struct Thinning<'a, P: Probe> {
+    pub probe: &'a P,
+    /// How many items are looked at, at most: at least one.
+    pub count: usize,
+    pub edge: i64,
+    /// The version of the item before the run.
+    pub before: i64,
+    /// How it ended.
+    pub thinned: Thinned,
+    ghost some: { 1 ≤ count },
+}
+
+impl<'a, P: Probe, const N: usize> LeafChange<N> for Thinning<'a, P> {
+    type Target = P;
+
+    ghost target_of = { λ t. t.probe.now };
+
+    ghost wants = { λ t items. Unit {0} };
+
+    ghost gives = { λ t done run is_first next was now.
+        GivesThinned (P.lets_pass t.probe.now) t.count t.edge t.before done.thinned run next was now };
+
+    fn target(&self) -> &P {
+        self.probe
+    }
+
+    fn change(
+        &mut self,
+        nodes: &mut Arena<Node<N>>,
+        slot: Slot,
+        place: Place,
+        taken: &mut Option<Node<N>>,
+    ) -> Outcome {
+        let mut leaf = nodes.header(slot);
+        let passing = leaf.count(self.probe, place.known);
+        if passing == 0 {
+            return Outcome::Same;
+        }
+        let begin = passing - 1;
+        let end = begin + self.count.min(leaf.len() - begin);
+        let Thinning { edge, before, .. } = *self;
+        self.thinned = thin(&mut leaf, begin, end, edge, before, place.behind, taken);
+        if taken.is_none() {
+            return Outcome::Same;
+        }
+        leaf.sharpen(self.probe);
+        nodes.set_header(slot, leaf);
+        Outcome::Changed
+    }
+
+    ghost part = { λ t before items behind wanted. wanted };
+}
+
 /// Looks at the entries of a leaf from one index up to another, and takes out each whose version and predecessor's
-/// version are below `edge`. `before` is the version of the entry before the first of them, and `behind` the key of the
-/// item behind the leaf.
-pub fn thin<const N: usize>(
+/// version are below `edge`, into `taken`. `before` is the version of the entry before the first of them, and `behind` the key
+/// of the item behind the leaf.
+fn thin<const N: usize>(
     node: &mut Node<N>,
     from: usize,
     to: usize,
     edge: i64,
     before: i64,
     behind: Option<Slot>,
-) -> Thinned<N>
+    taken: &mut Option<Node<N>>,
+) -> Thinned
+    requires none_taken { taken.old ≡ None }
     requires some { from < to }
     requires within { to ≤ length (entries_of node.old) }
     ensures looked_at { result.looked_at ≡ to - from }
@@ -44,15 +101,12 @@ pub fn thin<const N: usize>(
     ensures kept { map item_of (entries_of node.new) ≡ map item_of (take from (entries_of node.old))
         ++ (thin_of edge before (map item_of (take (to - from) (drop from (entries_of node.old))))
         ++ map item_of (drop to (entries_of node.old))) }
-    ensures removed { MatchOption result.removed
-        (gone edge before (map item_of (take (to - from) (drop from (entries_of node.old)))) ≡ [])
-        (λ run. map item_of (entries_of run) ≡ gone edge before (map item_of (take (to - from) (drop from (entries_of node.old))))) }
+    ensures taken { items_of_run taken.new ≡ gone edge before (map item_of (take (to - from) (drop from (entries_of node.old)))) }
     ensures next { result.next ≡ first_key behind (map item_of (drop to (entries_of node.old))) }
     ensures hinted { (bytes : KeyBytes) → IsHinted bytes (hint_of node.old) → IsHinted bytes (hint_of node.new) }
 {
     let mut last = before;
     let mut kept = from;
-    let mut removed: Option<Node<N>> = None;
     for index in from..to {
         let entry = node.entries()[index];
         let version = entry.version;
@@ -60,7 +114,7 @@ pub fn thin<const N: usize>(
             node.copy(index, kept);
             kept += 1;
         } else {
-            put_aside(&mut removed, entry);
+            put_aside(taken, entry);
         }
         last = version;
     }
@@ -69,7 +123,6 @@ pub fn thin<const N: usize>(
     Thinned {
         looked_at: to - from,
         last,
-        removed,
         next,
     }
 }
@@ -77,7 +130,7 @@ pub fn thin<const N: usize>(
 // Puts an entry behind those of a node, or into a new one where there is none.
 fn put_aside<const N: usize>(node: &mut Option<Node<N>>, entry: Entry)
     requires room { MatchOption node.old (1 ≤ N) (λ n. length (entries_of n) < N) }
-    ensures entries { IsSomeAnd node.new (λ n. entries_of n ≡ entries_of_run node.old ++ entry ∷ []) }
+    ensures items { items_of_run node.new ≡ items_of_run node.old ++ item_of entry ∷ [] }
 {
     match node {
         Some(node) => {

@@ -4,22 +4,23 @@ ghost use Rattle.std.specs.Prelude.{◌≡◌, ◌≢◌, ◌<◌, ◌≤◌, �
 ghost use Rattle.std.specs.List.{All, AllZip, Any};
 ghost use Rattle.tree.specs.Item.{Item, item_of, IsGreatest};
 ghost use Rattle.tree.specs.Hints.{AreHinted, IsHinted, IsKnown, KeyBytes};
-ghost use Rattle.tree.specs.Node.{entries_of, hint_of};
-ghost use Rattle.tree.specs.Overwrite.{IsOverwritten, entries_of_run};
+ghost use Rattle.tree.specs.Node.{hint_of, items_of_run};
+ghost use Rattle.tree.specs.Overwrite.{Overwrites};
+ghost use Rattle.tree.specs.Thin.{IsThinned};
 ghost use Rattle.tree.specs.Path.{IsCut, passing as passing_of, behind, first_key, between, from_last};
 ghost use Rattle.tree.specs.declared.question.TheConstants.{SIDE};
-ghost use Rattle.tree.specs.Tree.{IsLast, ended_by, thin as thin_of, gone, hints_in, KnowItems};
+ghost use Rattle.tree.specs.Tree.{IsLast, hints_in, KnowItems};
 
 use crate::entry::Entry;
 use crate::mend::least;
 use crate::node::Node;
-use crate::overwrite::{Done, Overwrite};
+use crate::overwrite::{Overwrite, Overwriting, Written};
 use crate::probe::Probe;
 use crate::question::{Question, SIDE};
 use crate::questions::{answer, answer_each, descend_each, descend_from, look_at, look_at_each};
-use crate::root::{Root, overwrite, put, reach};
-use crate::search::{exceeds, greatest, key_behind, passing};
-use crate::thin::{Thinned, thin};
+use crate::root::{Root, change, reach};
+use crate::search::{exceeds, greatest, key_behind};
+use crate::thin::{Thinned, Thinning};
 use arena::{Arena, ArenaError, Slot};
 use arrayvec::ArrayVec;
 use std::alloc::Global;
@@ -54,13 +55,6 @@ impl<const N: usize> Model for Tree<N> {
     } };
 
     ghost invariant = { λ t. IsTree t.nodes t.root.slot t.root.height t.len t.room };
-}
-
-/// What [`Tree::overwrite`] did.
-#[derive(Clone, Copy, Debug)]
-pub struct Overwritten {
-    /// Whether an item had the key of the second new one, which was not put in.
-    pub ended: bool,
 }
 
 /// Returns the entry of an item.
@@ -225,168 +219,76 @@ impl<const N: usize> Tree<N> {
         )
     }
 
-    /// Inserts an item behind those that pass.
-    pub fn insert<P: Probe>(&mut self, probe: &P, key: Slot, version: i64)
-        requires cut { IsCut (λ x. P.lets_pass probe.now x.key) self.old.items }
-        requires room { length self.old.items < self.old.room }
-        requires hinted { AreHinted (P.bytes probe.now) (hints_in self.old) }
-        requires known { IsKnown (P.bytes probe.now) key }
-        ensures items { self.new.items ≡ passing_of (P.lets_pass probe.now) self.old.items
-            ++ ((record { key = key; version = version }) ∷ behind (P.lets_pass probe.now) self.old.items) }
-        ensures room { self.new.room ≡ self.old.room }
-        ensures hinted { AreHinted (P.bytes probe.now) (hints_in self.new) }
-    {
-        let reached = reach(&self.nodes, self.root, probe);
-        let old = self.nodes.header(reached.leaf);
-        let index = old.count(probe, reached.known);
-        let mut leaf = old;
-        let right = leaf.insert_or_split(index, item(key, version));
-        leaf.take_hints(&old, probe);
-        self.root = put(&mut self.nodes, self.root, probe, &leaf, right.as_ref());
-        self.len += 1;
-    }
-
-    /// Gives the last item that passes this version.
-    pub fn set_last<P: Probe>(&mut self, probe: &P, version: i64)
-        requires cut { IsCut (λ x. P.lets_pass probe.now x.key) self.old.items }
-        requires some { passing_of (P.lets_pass probe.now) self.old.items ≢ [] }
-        requires hinted { AreHinted (P.bytes probe.now) (hints_in self.old) }
-        ensures items { (before : List Item) → (last : Item)
-            → passing_of (P.lets_pass probe.now) self.old.items ≡ before ++ last ∷ []
-            → self.new.items ≡ before ++ ((record { key = last.key; version = version }) ∷ behind (P.lets_pass probe.now) self.old.items) }
-        ensures room { self.new.room ≡ self.old.room }
-        ensures hinted { AreHinted (P.bytes probe.now) (hints_in self.new) }
-    {
-        let reached = reach(&self.nodes, self.root, probe);
-        let mut leaf = self.nodes.header(reached.leaf);
-        set_passing(&mut leaf, probe, version);
-        self.root = put(&mut self.nodes, self.root, probe, &leaf, None);
-    }
-
-    /// Takes some of the items from one cut to another out, the last of these among them, and returns them. Returns
-    /// none where there is none.
-    pub fn take_run<P: Probe, Q: Probe>(&mut self, from: &P, to: &Q) -> Option<Node<N>>
-        requires from { IsCut (λ x. P.lets_pass from.now x.key) self.old.items }
-        requires to { IsCut (λ x. Q.lets_pass to.now x.key) self.old.items }
-        requires nested { (key : ℕ) → P.lets_pass from.now key ≡ true → Q.lets_pass to.now key ≡ true }
-        requires some { passing_of (P.lets_pass from.now) self.old.items ≢ [] }
-        requires hinted { AreHinted (Q.bytes to.now) (hints_in self.old) }
-        ensures run { MatchOption result
-            ((between (Some (P.lets_pass from.now)) (Some (Q.lets_pass to.now)) self.old.items ≡ []) × (self.new ≡ self.old))
-            (λ run. (kept : List Item) × (between (Some (P.lets_pass from.now)) (Some (Q.lets_pass to.now)) self.old.items
-            ≡ kept ++ map item_of (entries_of run)) × (entries_of run ≢ [])
-            × (self.new.items ≡ passing_of (P.lets_pass from.now) self.old.items
-            ++ (kept ++ behind (Q.lets_pass to.now) self.old.items))) }
-        ensures room { self.new.room ≡ self.old.room }
-        ensures hinted { AreHinted (Q.bytes to.now) (hints_in self.new) }
-        ensures known { KnowItems self.new }
-    {
-        let reached = reach(&self.nodes, self.root, to);
-        let mut leaf = self.nodes.header(reached.leaf);
-        let end = leaf.count(to, reached.known);
-        let begin = passing(leaf.entries(), from);
-        if begin >= end {
-            return None;
-        }
-        let mut run = leaf;
-        run.remove(end, leaf.len());
-        run.remove(0, begin);
-        leaf.splice_hinted(begin, end, &[], to, true);
-        self.root = put(&mut self.nodes, self.root, to, &leaf, None);
-        self.len -= end - begin;
-        Some(run)
-    }
-
-    /// Puts an item in place of those from one cut to another, and puts those into `run`. Puts a second one behind it,
-    /// with the version of the last item before the other cut, unless an item stands between that cut and a third one.
-    /// Does nothing and returns none unless one leaf has those items and the one before them.
+    /// Puts an item in place of those from one cut to another. Puts a second one behind it, with the version of the last item
+    /// before the other cut where none is given, unless an item stands between that cut and a third one. Where more than one
+    /// leaf has those items and the one before them, it only takes out those that the last of these leaves has.
+    /// Puts the entries that are taken out into `taken`.
     pub fn overwrite<P: Probe, Q: Probe, R: Probe>(
         &mut self,
         new: &Overwrite<'_, P, Q, R>,
-        run: &mut Option<Node<N>>,
-    ) -> Option<Overwritten>
+        taken: &mut Option<Node<N>>,
+    ) -> Written
         requires from { IsCut (λ x. P.lets_pass new.now.from.now x.key) self.old.items }
         requires to { IsCut (λ x. Q.lets_pass new.now.to.now x.key) self.old.items }
         requires past { IsCut (λ x. R.lets_pass new.now.past.now x.key) self.old.items }
+        requires some { passing_of (Q.lets_pass new.now.to.now) self.old.items ≢ [] }
         requires room { length self.old.items + 2 ≤ self.old.room }
         requires hinted { AreHinted (Q.bytes new.now.to.now) (hints_in self.old) }
-        requires run { run.old ≡ None }
-        ensures run { MatchOption result (self.new ≡ self.old)
-            (λ _. between (Some (P.lets_pass new.now.from.now)) (Some (Q.lets_pass new.now.to.now)) self.old.items
-            ≡ map item_of (entries_of_run run.new)) }
-        ensures ended { IfSome result (λ done. IsTrue done.ended
-            ↔ (between (Some (Q.lets_pass new.now.to.now)) (Some (R.lets_pass new.now.past.now)) self.old.items ≢ [])) }
-        ensures items { IfSome result (λ done. IsOverwritten (P.lets_pass new.now.from.now) (Q.lets_pass new.now.to.now)
-            (item_of new.now.first) new.now.second done.ended self.old.items self.new.items) }
+        requires none_taken { taken.old ≡ None }
+        ensures items { Overwrites (P.lets_pass new.now.from.now) (Q.lets_pass new.now.to.now) (R.lets_pass new.now.past.now)
+            (item_of new.now.first) new.now.second new.now.last result (items_of_run taken.new) self.old.items self.new.items }
         ensures room { self.new.room ≡ self.old.room }
         ensures hinted { AreHinted (Q.bytes new.now.to.now) (hints_in self.new) }
         ensures known { KnowItems self.new }
     {
-        let Done { ended, .. } = overwrite(&mut self.nodes, &mut self.root, new, run)?;
-        let taken = run.as_ref().map_or(0, Node::len);
-        let put = if ended { 1 } else { 2 };
-        self.len = self.len - taken + put;
-        Some(Overwritten { ended })
+        let mut overwriting = Overwriting {
+            new,
+            written: Written::Partly { last: 0 },
+        };
+        change(&mut self.nodes, &mut self.root, &mut overwriting, taken);
+        let written = overwriting.written;
+        self.len = self.len + written.put() - taken.as_ref().map_or(0, Node::len);
+        written
     }
 
-    /// Looks at a run of items that begins with the last one that passes, at most `count` of them, and takes out each
-    /// whose version and predecessor's version are below `edge`. `before` is the version of the item before the run.
+    /// Looks at a run of items that begins with the last one that passes, at most `count` of them, and takes out each whose
+    /// version and predecessor's version are below `edge`, into `taken`. `before` is the version of the item before the run.
     pub fn thin_run<P: Probe>(
         &mut self,
         probe: &P,
         count: usize,
         edge: i64,
         before: i64,
-    ) -> Thinned<N>
+        taken: &mut Option<Node<N>>,
+    ) -> Thinned
         requires cut { IsCut (λ x. P.lets_pass probe.now x.key) self.old.items }
         requires some { passing_of (P.lets_pass probe.now) self.old.items ≢ [] }
         requires count { 1 ≤ count }
         requires hinted { AreHinted (P.bytes probe.now) (hints_in self.old) }
         // The first item of all stays.
         requires first { length (passing_of (P.lets_pass probe.now) self.old.items) ≡ 1 → edge ≤ℤ before }
-        ensures looked_at { (1 ≤ result.looked_at) × (result.looked_at ≤ count) }
-        ensures thinned { (front : List Item) → (first : Item)
-            → passing_of (P.lets_pass probe.now) self.old.items ≡ front ++ first ∷ []
-            → (looked rest : List Item) × (first ∷ behind (P.lets_pass probe.now) self.old.items ≡ looked ++ rest)
-            × (length looked ≡ result.looked_at)
-            × (self.new.items ≡ front ++ (thin_of edge before looked ++ rest))
-            × MatchOption result.removed (gone edge before looked ≡ []) (λ run. map item_of (entries_of run) ≡ gone edge before looked)
-            × IsLast result.last (map (λ x. x.version) looked) }
-        ensures next { result.next
-            ≡ first_key None (drop (result.looked_at - 1) (behind (P.lets_pass probe.now) self.old.items)) }
+        requires none_taken { taken.old ≡ None }
+        ensures thinned { IsThinned (P.lets_pass probe.now) count edge before result (items_of_run taken.new) None
+            self.old.items self.new.items }
         ensures room { self.new.room ≡ self.old.room }
         ensures hinted { AreHinted (P.bytes probe.now) (hints_in self.new) }
         ensures known { KnowItems self.new }
     {
-        let reached = reach(&self.nodes, self.root, probe);
-        let old = self.nodes.header(reached.leaf);
-        let begin = old.count(probe, reached.known) - 1;
-        let end = begin + count.min(old.len() - begin);
-        let mut leaf = old;
-        let thinned = thin(&mut leaf, begin, end, edge, before, reached.behind);
-        if let Some(run) = &thinned.removed {
-            leaf.sharpen(probe);
-            self.root = put(&mut self.nodes, self.root, probe, &leaf, None);
-            self.len -= run.len();
-        }
-        thinned
+        let mut thinning = Thinning {
+            probe,
+            count,
+            edge,
+            before,
+            thinned: Thinned {
+                looked_at: 0,
+                last: before,
+                next: None,
+            },
+        };
+        change(&mut self.nodes, &mut self.root, &mut thinning, taken);
+        self.len -= taken.as_ref().map_or(0, Node::len);
+        thinning.thinned
     }
-}
-
-// Gives the last entry that passes this version.
-fn set_passing<P: Probe, const N: usize>(leaf: &mut Node<N>, probe: &P, version: i64)
-    requires cut { IsCut (λ e. P.lets_pass probe.now e.key) (entries_of leaf.old) }
-    requires some { filter (λ e. P.lets_pass probe.now e.key) (entries_of leaf.old) ≢ [] }
-    requires hinted { IsHinted (P.bytes probe.now) (hint_of leaf.old) }
-    ensures items { (before : List Entry) → (last : Entry)
-        → filter (λ e. P.lets_pass probe.now e.key) (entries_of leaf.old) ≡ before ++ last ∷ []
-        → map item_of (entries_of leaf.new) ≡ map item_of before ++ ((record { key = last.key; version = version })
-        ∷ map item_of (filter (λ e. not (P.lets_pass probe.now e.key)) (entries_of leaf.old))) }
-    ensures hinted { IsHinted (P.bytes probe.now) (hint_of leaf.new) }
-{
-    let index = passing(leaf.entries(), probe) - 1;
-    let key = leaf.entries()[index].key;
-    leaf.set(index, item(key, version));
 }
 
 impl<const N: usize> fmt::Debug for Tree<N> {

@@ -5,7 +5,7 @@ use Rattle.tree.specs.declared.entry.Entry.{Entry}
 use Rattle.tree.proofs.callers.Times.{times_unless_contains}
 use Rattle.stepmap.proofs.Releasing.{AreReleased, none_released, next_live, next_released, spare_released}
 use Rattle.stepmap.proofs.release.release.Goals as goal
-use Rattle.stepmap.proofs.release.release.Goals.{After-entry-item, After-release, After-loop-entry}
+use Rattle.stepmap.proofs.release.release.Goals.{After-loop-entry}
 
 pub loop-entry-init : goal.loop-entry-init
 loop-entry-init c = none_released c.args.keys.now

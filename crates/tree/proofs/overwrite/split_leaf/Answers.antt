@@ -1,10 +1,13 @@
-use Rattle.std.proofs.Common.{rules, ◌++◌, List, sym, subst, take, drop}
+use Rattle.std.proofs.Common.{rules, ◌≡◌, ◌++◌, length, List, sym, ap, ap₂, subst, take, drop, ◌∙◌, arith}
 use Rattle.std.specs.List.{All}
 use Rattle.tree.specs.declared.entry.Entry.{Entry}
 use Rattle.tree.specs.Hints.{IsKnown}
 use Rattle.tree.specs.Node.{entries_of, keys_of}
+use Rattle.tree.specs.Subtree.{entries_at}
 use Rattle.tree.proofs.Hinted.{hinted_at}
-use Rattle.tree.proofs.KnownKeys.{keys_at_back, keys_dropped, keys_in_front, keys_of_both, keys_taken, known_in}
+use Rattle.tree.proofs.KnownKeys.{hinted_header, keys_at_back, keys_dropped, keys_in_front, keys_of_both, keys_taken, known_in}
+use Rattle.tree.proofs.Neighbours.{left_entries, left_live, both_changes}
+use Rattle.tree.proofs.Placing.{entries_from_header, put_moves}
 use Rattle.tree.proofs.overwrite.split_leaf.Goals.{After-splice_apart-right}
 use Rattle.tree.proofs.overwrite.split_leaf.Given as given
 use Rattle.tree.proofs.overwrite.split_leaf.Goals as goal
@@ -39,26 +42,67 @@ take_hints-requires g c =
       ),
     )
 
-pub store-requires : goal.store-requires
-store-requires g c =
+pub take_hints-requires-2 : goal.take_hints-requires-2
+take_hints-requires-2 g c =
     let bytes = g.P.Probe.bytes c.args.probe.now in
-    let at = (goal.at.store-requires g c).After-splice_apart-right in (
+    let at = (goal.at.take_hints-requires-2 g c).After-splice_apart-right in (
       search rules,
       (
-        c.requires.live,
-        (
-          c.requires.keyless,
-          (
-            λ _. c.requires.room,
-            (
-              c.requires.hinted,
-              (
-                c.take_hints.ensures.hinted,
-                keys_at_back (IsKnown bytes) (entries_of c.splice_apart-right.new.self)
-                    (entries_of c.splice_apart-right.result) (both_known g at),
-              ),
-            ),
-          ),
-        ),
+        hinted_at bytes c.args.nodes.now c.args.slot c.header_ref-2.result.now c.requires.hinted
+            c.header_ref-2.ensures.header,
+        keys_at_back (IsKnown bytes) (entries_of c.splice_apart-right.new.self)
+            (entries_of c.splice_apart-right.result) (both_known g at),
       ),
     )
+
+pub place-requires : goal.place-requires
+place-requires g c =
+    let a = c.args.nodes.now in
+    let b = c.set_header.new.self in
+    let put = put_moves a b c.args.slot c.take_hints.new.self c.set_header.ensures.replaced c.requires.live
+    c.requires.keyless in
+    (search rules, (put.keyless, omega (arith, c.requires.room, put.live, put.spare)))
+
+pub returns-clause-entries : goal.returns-clause-entries
+returns-clause-entries g c =
+    let here =
+    left_entries c.args.nodes.now c.set_header.new.self c.place.new.nodes c.args.slot c.place.result
+    c.take_hints.new.self c.set_header.ensures.replaced c.place.ensures.changes in
+    ap₂ (λ xs ys. xs ++ ys) (here ∙ c.take_hints.ensures.entries)
+    (c.place.ensures.entries ∙ c.take_hints-2.ensures.entries)
+    ∙ c.splice_apart-right.ensures.entries
+    ∙ ap (λ es. take c.args.from es ++ (c.args.new.now ++ drop c.args.to es))
+    (sym (entries_from_header c.args.nodes.now c.args.slot c.header-left.result c.header-left.ensures.header))
+
+pub returns-clause-filled : goal.returns-clause-filled
+returns-clause-filled g c =
+    let split = c.splice_apart-right in
+    let a = c.args.nodes.now in
+    let z = c.place.new.nodes in
+    let slot = c.args.slot in
+    let here : length (entries_at z slot) ≡ length (entries_of split.new.self) =
+    ap (λ (es : List Entry). length es)
+    (left_entries a c.set_header.new.self z slot c.place.result c.take_hints.new.self c.set_header.ensures.replaced
+    c.place.ensures.changes ∙ c.take_hints.ensures.entries) in
+    let there : length (entries_at z c.place.result) ≡ length (entries_of split.result) =
+    ap (λ (es : List Entry). length es) (c.place.ensures.entries ∙ c.take_hints-2.ensures.entries) in (
+      omega (arith, here, split.ensures.left, c.requires.fan_out),
+      omega (arith, there, split.ensures.right, c.requires.fan_out),
+    )
+
+pub returns-clause-live : goal.returns-clause-live
+returns-clause-live g c =
+    left_live c.args.nodes.now c.set_header.new.self c.place.new.nodes c.args.slot c.place.result c.take_hints.new.self
+    c.set_header.ensures.replaced c.place.ensures.changes
+
+pub returns-clause-changes : goal.returns-clause-changes
+returns-clause-changes g c =
+    both_changes c.args.nodes.now c.set_header.new.self c.place.new.nodes c.args.slot c.place.result
+    c.take_hints.new.self c.set_header.ensures.replaced c.place.ensures.changes c.requires.live c.requires.keyless
+
+pub returns-clause-hinted : goal.returns-clause-hinted
+returns-clause-hinted g c =
+    let bytes = g.P.Probe.bytes c.args.probe.now in
+    c.place.ensures.hinted bytes c.take_hints-2.ensures.hinted
+    (hinted_header bytes c.args.nodes.now c.set_header.new.self c.args.slot c.take_hints.new.self
+    c.set_header.ensures.replaced c.requires.hinted c.take_hints.ensures.hinted)

@@ -1,161 +1,169 @@
-use Rattle.std.proofs.Common.{rules, ◌≡◌, ◌≢◌, ◌<◌, ◌≤◌, ◌+◌, ◌-◌, ◌∙◌, ℕ, Bool, Some, length, ap, sym, subst, arith}
-use Rattle.std.proofs.Common.{IsTrue, List, []}
+use Rattle.std.proofs.Common.{rules, ◌≡◌, ◌≢◌, ◌≤◌, ◌+◌, ◌-◌, ◌∙◌, ℕ, Bool, length, ap, sym, subst, arith}
+use Rattle.std.proofs.Common.{List, [], Fits, w64}
+use Rattle.std.proofs.lemmas.List.{append-nil}
 use Rattle.tree.specs.Hints.{AreHinted}
-use Rattle.tree.specs.declared.root.Root.{Root}
 use Rattle.tree.specs.Item.{Item, item_of}
-use Rattle.tree.specs.Node.{hints_of}
-use Rattle.tree.specs.Overwrite.{entries_of_run}
-use Rattle.tree.specs.Path.{IsCut, between}
+use Rattle.tree.specs.Node.{items_of_run}
+use Rattle.tree.specs.Overwrite.{Overwrites, put_of}
+use Rattle.tree.specs.Path.{IsCut, passing}
 use Rattle.tree.specs.Subtree.{items_in}
-use Rattle.tree.specs.Tree.{Items, IsRooted, hints_in}
+use Rattle.tree.specs.Tree.{Items, hints_in}
 use Rattle.tree.proofs.Counting.{low, enough_spare}
 use Rattle.tree.proofs.HintList.{hinted_from_list, hinted_in_list}
 use Rattle.tree.proofs.Inserting.{tree_put}
 use Rattle.tree.proofs.KnownItems.{know_items}
 use Rattle.tree.proofs.LeafChange.{root_some}
-use Rattle.tree.proofs.OverwrittenItems.{length-overwritten, length-lent, put_of, put_most, told_by_first}
+use Rattle.tree.proofs.OverwrittenItems.{length-overwritten, length-lent, put_most}
+use Rattle.tree.proofs.PartWritten.{overwritten}
 use Rattle.tree.proofs.tree.Tree.overwrite.Given as given
 use Rattle.tree.proofs.tree.Tree.overwrite.Goals as goal
-use Rattle.tree.proofs.tree.Tree.overwrite.Goals.{Joined-ended, then-ended, else-ended}
+use Rattle.tree.proofs.tree.Tree.overwrite.Goals.{After-change, After-map_or}
 
-pub overwrite-requires : goal.overwrite-requires
-overwrite-requires g c =
+pub change-requires : goal.change-requires
+change-requires g c =
     let t = c.self.inside in
-    let bytes = g.Q.Probe.bytes c.args.new.now.to.now in
+    let new = c.args.new.now in
+    let bytes = g.Q.Probe.bytes new.to.now in
     let Cut : (ℕ → Bool) → List Item → Type 0 = λ passes items. IsCut (λ (x : Item). passes x.key) items in
+    let items = items_in t.nodes t.root.height t.root.slot in
     let items_are = sym (ap (λ v. v.items) c.self.view_is) in
     let height = low t.nodes t.root.slot t.root.height t.len t.room c.self.invariant (omega arith) in
-    let spare = enough_spare t.nodes t.root.slot t.root.height t.len t.room c.self.invariant in (
+    let spare = enough_spare t.nodes t.root.slot t.root.height t.len t.room c.self.invariant in
+    let from = g.P.Probe.lets_pass new.from.now in (
       omega (arith, c.self.invariant.few),
       (
-        c.self.invariant.fan_out,
+        record {
+          fan_out = c.self.invariant.fan_out;
+          few = c.self.invariant.few;
+          low = height;
+          rooted = c.self.invariant.rooted;
+          some = root_some t.nodes t.root.slot t.root.height t.len t.room c.self.invariant;
+          room = omega (arith, height, spare);
+        },
         (
-          c.self.invariant.few,
+          subst (Cut (g.Q.Probe.lets_pass new.to.now)) items_are c.requires.to,
           (
-            height,
+            hinted_from_list bytes t.nodes
+                (subst (λ (v : Items). AreHinted bytes (hints_in v)) (sym c.self.view_is) c.requires.hinted),
             (
-              c.self.invariant.rooted,
-              (
-                subst (Cut (g.P.Probe.lets_pass c.args.new.now.from.now)) items_are c.requires.from,
-                (
-                  subst (Cut (g.Q.Probe.lets_pass c.args.new.now.to.now)) items_are c.requires.to,
-                  (
-                    subst (Cut (g.R.Probe.lets_pass c.args.new.now.past.now)) items_are c.requires.past,
-                    (
-                      omega (arith, height, spare),
-                      (
-                        root_some t.nodes t.root.slot t.root.height t.len t.room c.self.invariant,
-                        (
-                          hinted_from_list bytes t.nodes
-                              (subst (λ (v : Items). AreHinted bytes (hints_in v)) (sym c.self.view_is)
-                              c.requires.hinted),
-                          c.requires.run,
-                        ),
-                      ),
-                    ),
-                  ),
-                ),
-              ),
+              ([], [], subst (Cut from) (sym (append-nil items)) (subst (Cut from) items_are c.requires.from)),
+              c.requires.none_taken,
             ),
           ),
         ),
       ),
     )
 
-pub returns-in_err-ended-clause-hinted : goal.returns-in_err-ended-clause-hinted
-returns-in_err-ended-clause-hinted g c =
+-- what became of the items
+abbrev Done : (g : given.Over) → After-change g → Type 0
+Done g c =
     let t = c.self.inside in
-    let bytes = g.Q.Probe.bytes c.args.new.now.to.now in
-    let same = c.overwrite.ensures.none c.in_err-ended.was in
-    let known = hinted_from_list bytes t.nodes
-    (subst (λ (v : Items). AreHinted bytes (hints_in v)) (sym c.self.view_is) c.requires.hinted) in
-    hinted_in_list bytes c.overwrite.new.nodes (subst (λ nodes. AreHinted bytes (hints_of nodes)) (sym same) known)
-
-pub returns-in_err-ended-clause-known : goal.returns-in_err-ended-clause-known
-returns-in_err-ended-clause-known g c =
-    let t = c.self.inside in
-    let n = c.overwrite.new in
-    let nodes = c.overwrite.ensures.none c.in_err-ended.was in
-    let root = c.overwrite.ensures.root c.in_err-ended.was in
-    let rooted = subst (λ nodes. IsRooted nodes t.root.slot t.root.height) (sym nodes) c.self.invariant.rooted in
-    know_items n.nodes n.root.slot n.root.height t.room
-    (subst (λ (root : Root). IsRooted n.nodes root.slot root.height) (sym root) rooted)
-
--- how many items were taken out
-taken_is : (g : given.Over) (c : Joined-ended g)
-    → c.map_or-taken.result ≡ length (entries_of_run c.overwrite.new.run)
-taken_is g c =
-    length-lent c.as_ref.result c.overwrite.new.run _ c.map_or-taken.result c.as_ref.ensures.value
-    c.map_or-taken.ensures (λ n h. search rules)
-
--- how many items there are once the run is written over
-abbrev Counted : (g : given.Over) → Joined-ended g → Type 0
-Counted g c =
-    let t = c.self.inside in
-    let n = c.overwrite.new in
-    (length (items_in n.nodes n.root.height n.root.slot) + length (entries_of_run n.run)
-    ≡ length (items_in t.nodes t.root.height t.root.slot) + put_of c.in_ok-ended.field-0.ended)
-    × (length (entries_of_run n.run) < length (items_in t.nodes t.root.height t.root.slot))
-
-counted : (g : given.Over) (c : Joined-ended g) → Counted g c
-counted g c =
-    let t = c.self.inside in
-    let n = c.overwrite.new in
-    let done = c.in_ok-ended.field-0 in
+    let n = c.change.new in
     let new = c.args.new.now in
-    let found = c.in_ok-ended.ensures in
-    length-overwritten (g.P.Probe.lets_pass new.from.now) (g.Q.Probe.lets_pass new.to.now) new.nested
-    (item_of new.first) new.second done.ended (items_in t.nodes t.root.height t.root.slot)
-    (items_in n.nodes n.root.height n.root.slot) (entries_of_run n.run) found.items found.before found.run
+    Overwrites (g.P.Probe.lets_pass new.from.now) (g.Q.Probe.lets_pass new.to.now) (g.R.Probe.lets_pass new.past.now)
+    (item_of new.first) new.second new.last n.change.written (items_of_run n.taken)
+    (items_in t.nodes t.root.height t.root.slot) (items_in n.nodes n.root.height n.root.slot)
 
-put_is : (g : given.Over) (c : Joined-ended g) → c.if-ended.put ≡ put_of c.in_ok-ended.field-0.ended
-put_is g c = elim c.if-ended.branch [
-  | then-ended w ↦ w.put-is ∙ ap put_of (sym w.if-ended.true)
-  | else-ended w ↦ w.put-is ∙ ap put_of (sym w.if-ended.false)
-]
+some_pass : (g : given.Over) (c : After-change g)
+    → passing (g.Q.Probe.lets_pass c.args.new.now.to.now)
+    (items_in c.self.inside.nodes c.self.inside.root.height c.self.inside.root.slot) ≢ []
+some_pass g c none =
+    c.requires.some
+    (ap (λ (v : Items). passing (g.Q.Probe.lets_pass c.args.new.now.to.now) v.items) (sym c.self.view_is) ∙ none)
 
-pub overflow_sub-self : goal.overflow_sub-self
-overflow_sub-self g c = omega (arith, taken_is g c, (counted g c).1, c.self.invariant.counted)
-
-pub invariant_of-self-2 : goal.invariant_of-self-2
-invariant_of-self-2 g c =
-    let j = (goal.at.invariant_of-self-2 g c).Joined-ended in
+done : (g : given.Over) (c : After-change g) → Done g c
+done g c =
     let t = c.self.inside in
-    let n = c.overwrite.new in
-    let items = items_in t.nodes t.root.height t.root.slot in
-    let count = counted g j in
-    let taken = taken_is g j in
-    let put = put_is g j in
-    let room : length items + 2 ≤ t.room = subst (λ (v : Items). length v.items + 2 ≤ v.room) (sym c.self.view_is)
-    c.requires.room in
-    let most = put_most c.in_ok-ended.field-0.ended in
-    tree_put t.nodes n.nodes t.root.slot t.root.height n.root.slot n.root.height t.len
-    (t.len - c.map_or-taken.result + c.if-ended.put) t.room c.self.invariant c.in_ok-ended.ensures.rooted
-    c.in_ok-ended.ensures.spare (omega (arith, count, taken, put, c.self.invariant.counted))
-    (omega (arith, count.1, taken, c.self.invariant.counted))
-    (omega (arith, room, taken, put, most, c.self.invariant.counted))
-
-pub returns-clause-ended : goal.returns-clause-ended
-returns-clause-ended g c =
-    let t = c.self.inside in
+    let n = c.change.new in
     let new = c.args.new.now in
+    let p = g.P.Probe.lets_pass new.from.now in
     let q = g.Q.Probe.lets_pass new.to.now in
     let past = g.R.Probe.lets_pass new.past.now in
-    let ended = c.in_ok-ended.field-0.ended in
     let Cut : (ℕ → Bool) → List Item → Type 0 = λ passes items. IsCut (λ (x : Item). passes x.key) items in
     let items_are = sym (ap (λ v. v.items) c.self.view_is) in
-    let Told : List Item → Type 0 = λ items.
-    (IsTrue ended → between (Some q) (Some past) items ≢ [])
-    × (between (Some q) (Some past) items ≢ [] → IsTrue ended) in
-    subst (λ (v : Items). Told v.items) c.self.view_is
-    (told_by_first q past (items_in t.nodes t.root.height t.root.slot) ended (subst (Cut q) items_are c.requires.to)
-    (subst (Cut past) items_are c.requires.past) c.in_ok-ended.ensures.ended)
+    overwritten p q past new.nested (item_of new.first) new.second new.last n.change.written (items_of_run n.taken)
+    (items_in t.nodes t.root.height t.root.slot) (items_in n.nodes n.root.height n.root.slot) c.change.ensures.items
+    (subst (Cut p) items_are c.requires.from) (subst (Cut q) items_are c.requires.to)
+    (subst (Cut past) items_are c.requires.past) (some_pass g c)
+
+-- how many items there are
+abbrev Counted : (g : given.Over) → After-change g → Type 0
+Counted g c =
+    let t = c.self.inside in
+    let n = c.change.new in
+    (length (items_in n.nodes n.root.height n.root.slot) + length (items_of_run n.taken)
+    ≡ length (items_in t.nodes t.root.height t.root.slot) + put_of n.change.written)
+    × (1 ≤ length (items_in n.nodes n.root.height n.root.slot))
+
+counted : (g : given.Over) (c : After-change g) → Counted g c
+counted g c =
+    let t = c.self.inside in
+    let n = c.change.new in
+    let new = c.args.new.now in
+    length-overwritten (g.P.Probe.lets_pass new.from.now) (g.Q.Probe.lets_pass new.to.now)
+    (g.R.Probe.lets_pass new.past.now) new.nested (item_of new.first) new.second new.last n.change.written
+    (items_of_run n.taken) (items_in t.nodes t.root.height t.root.slot) (items_in n.nodes n.root.height n.root.slot)
+    (some_pass g c) (done g c)
+
+taken_is : (g : given.Over) (c : After-map_or g) → c.map_or.result ≡ length (items_of_run c.change.new.taken)
+taken_is g c =
+    length-lent c.as_ref.result c.change.new.taken _ c.map_or.result c.as_ref.ensures.value c.map_or.ensures
+    (λ n h. search rules)
+
+-- there is room for one or two more
+room_left : (g : given.Over) (c : After-map_or g)
+    → length (items_in c.self.inside.nodes c.self.inside.root.height c.self.inside.root.slot) + 2 ≤ c.self.inside.room
+room_left g c = subst (λ (v : Items). length v.items + 2 ≤ v.room) (sym c.self.view_is) c.requires.room
+
+pub overflow_add-self : goal.overflow_add-self
+overflow_add-self g c =
+    let t = c.self.inside in
+    let fits : Fits w64 t.room = search rules in
+    let room : length (items_in t.nodes t.root.height t.root.slot) + 2 ≤ t.room =
+    subst (λ (v : Items). length v.items + 2 ≤ v.room) (sym c.self.view_is) c.requires.room in
+    omega (arith, fits, room, c.put.ensures, put_most c.change.new.change.written, c.self.invariant.counted)
+
+pub overflow_sub-self : goal.overflow_sub-self
+overflow_sub-self g c =
+    let at = goal.at.overflow_sub-self g c in
+    omega (
+      arith,
+      taken_is g at.After-map_or,
+      c.put.ensures,
+      (counted g at.After-change).0,
+      c.self.invariant.counted,
+    )
+
+pub invariant_of-self : goal.invariant_of-self
+invariant_of-self g c =
+    let at = goal.at.invariant_of-self g c in
+    let t = c.self.inside in
+    let n = c.change.new in
+    let count = counted g at.After-change in
+    let taken = taken_is g at.After-map_or in
+    let put = c.put.ensures in
+    let room = room_left g at.After-map_or in
+    let most = put_most n.change.written in
+    tree_put t.nodes n.nodes t.root.slot t.root.height n.root.slot n.root.height t.len
+    (t.len + c.put.result - c.map_or.result) t.room c.self.invariant c.change.ensures.rooted
+    c.change.ensures.spare (omega (arith, count.0, taken, put, c.self.invariant.counted))
+    (omega (arith, count.0, count.1, taken, put, c.self.invariant.counted))
+    (omega (arith, room, count.0, taken, put, most, c.self.invariant.counted))
+
+pub returns-clause-items : goal.returns-clause-items
+returns-clause-items g c =
+    let at = (goal.at.returns-clause-items g c).After-change in
+    let n = c.change.new in
+    let new = c.args.new.now in
+    subst (λ (v : Items). Overwrites (g.P.Probe.lets_pass new.from.now) (g.Q.Probe.lets_pass new.to.now)
+    (g.R.Probe.lets_pass new.past.now) (item_of new.first) new.second new.last n.change.written
+    (items_of_run n.taken) v.items (items_in n.nodes n.root.height n.root.slot)) c.self.view_is (done g at)
 
 pub returns-clause-hinted : goal.returns-clause-hinted
 returns-clause-hinted g c =
-    hinted_in_list (g.Q.Probe.bytes c.args.new.now.to.now) c.overwrite.new.nodes c.in_ok-ended.ensures.hinted
+    hinted_in_list (g.Q.Probe.bytes c.args.new.now.to.now) c.change.new.nodes c.change.ensures.hinted
 
 pub returns-clause-known : goal.returns-clause-known
 returns-clause-known g c =
-    know_items c.overwrite.new.nodes c.overwrite.new.root.slot c.overwrite.new.root.height c.self.inside.room
-    c.in_ok-ended.ensures.rooted
+    know_items c.change.new.nodes c.change.new.root.slot c.change.new.root.height c.self.inside.room
+    c.change.ensures.rooted

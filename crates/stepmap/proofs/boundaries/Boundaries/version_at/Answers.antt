@@ -1,0 +1,41 @@
+use Rattle.std.proofs.Common.{arith, rules, true, ◌∙◌, ap, sym, w64}
+use Rattle.std.specs.Prelude.{FitsSigned}
+use Rattle.std.proofs.lemmas.Bool.{some_since}
+use Rattle.std.proofs.lemmas.Int.{to_z-of_z}
+use Rattle.std.proofs.lemmas.Option.{MatchOption-at_some}
+use Rattle.tree.specs.Item.{item_of}
+use Rattle.tree.specs.Path.{passing}
+use Rattle.tree.specs.Tree.{IsLast}
+use Rattle.stepmap.specs.Boundary.{value_at}
+use Rattle.stepmap.specs.Cut.{slot_passes}
+use Rattle.stepmap.specs.Stored.{Stored, boundaries_of}
+use Rattle.stepmap.proofs.Cutting.{stored_cut}
+use Rattle.stepmap.proofs.LastFound.{some_passes, last_boundary, value_of_last}
+use Rattle.stepmap.proofs.boundaries.Boundaries.version_at.Goals as goal
+
+pub last-requires : goal.last-requires
+last-requires g c =
+    let b = c.self.inside in (
+      omega arith,
+      ((stored_cut b.keys b.tree c.self.invariant.stored true c.args.key.now).cut, c.self.invariant.hinted),
+    )
+
+pub unwrap-requires : goal.unwrap-requires
+unwrap-requires g c =
+    some_since c.last.result _ _ c.last.ensures.last
+    (some_passes c.self.inside.keys c.self.inside.tree c.self.invariant.stored c.args.key.now)
+
+pub returns : goal.returns
+returns g c =
+    let b = c.self.inside in
+    let key = c.args.key.now in
+    let x = item_of c.unwrap.result in
+    let last : IsLast x (passing (slot_passes b.keys true key) b.tree.items) =
+    MatchOption-at_some _ _ c.unwrap.result c.unwrap.ensures c.last.ensures.last in
+    let found = last_boundary b.keys b.tree c.self.invariant.stored true key x last in
+    let fits : FitsSigned w64 x.version = search rules in
+    record {
+      value = to_z-of_z w64 x.version fits
+          ∙ sym (value_of_last key (boundaries_of b.keys b.tree.items) c.self.invariant.stored.in_order _ found)
+          ∙ ap (λ (v : Stored). value_at v.boundaries key) c.self.view_is;
+    }

@@ -1,0 +1,42 @@
+use Rattle.std.proofs.Common.{◌≡◌, ◌∙◌, ℕ, List, [], ◌∷◌, map, ap, sym, subst}
+use Rattle.std.specs.Prelude.{nat_eq}
+use Rattle.std.specs.List.{All, Contains, IsDistinct}
+use Rattle.std.proofs.lemmas.List.Elements.{All-nil, All-cons, All-head, All-tail}
+use Rattle.std.proofs.lemmas.Simd.{map-map}
+use Rattle.arena.specs.Arena.{Arena, IsLive}
+use Rattle.tree.specs.declared.entry.Entry.{Entry}
+use Rattle.tree.specs.Item.{Item, item_of}
+use Rattle.tree.specs.Node.{items_of_run}
+use Rattle.stepmap.proofs.release.release_run.Goals as goal
+
+-- entries whose items are live are live
+entries_live : {H : Type 0} (keys : Arena H) (es : List Entry) → All (λ x. IsLive keys x.key) (map item_of es)
+    → All (λ e. IsLive keys e.key) es
+entries_live keys [] a = All-nil (λ e. IsLive keys e.key)
+entries_live keys (e ∷ es) a =
+    let Live = λ (x : Item). IsLive keys x.key in
+    All-cons (λ e. IsLive keys e.key) e es (All-head Live (item_of e) (map item_of es) a)
+    (entries_live keys es (All-tail Live (item_of e) (map item_of es) a))
+
+-- they have the slots of their items
+slots_are : (items : List Item) (es : List Entry) → items ≡ map item_of es
+    → map (λ (x : Item). x.key) items ≡ map (λ (e : Entry). e.key) es
+slots_are items es is = ap (map (λ (x : Item). x.key)) is ∙ map-map (λ (x : Item). x.key) item_of es
+
+pub release-requires-clause-live : goal.release-requires-clause-live
+release-requires-clause-live g c =
+    let is = ap items_of_run c.in-Some.is ∙ ap (map item_of) (sym c.entries.ensures.entries) in
+    entries_live c.args.keys.now c.entries.result.now
+    (subst (All (λ (x : Item). IsLive c.args.keys.now x.key)) is c.requires.live)
+
+pub release-requires-clause-distinct : goal.release-requires-clause-distinct
+release-requires-clause-distinct g c =
+    let is = ap items_of_run c.in-Some.is ∙ ap (map item_of) (sym c.entries.ensures.entries) in
+    subst (IsDistinct nat_eq) (slots_are (items_of_run c.args.taken.now) c.entries.result.now is) c.requires.distinct
+
+pub returns-in-Some-clause-others : goal.returns-in-Some-clause-others
+returns-in-Some-clause-others g c = λ slot without.
+    let is = ap items_of_run c.in-Some.is ∙ ap (map item_of) (sym c.entries.ensures.entries) in
+    c.release.ensures.others slot
+    (λ has. without (subst (λ (xs : List ℕ). Contains xs slot)
+    (sym (slots_are (items_of_run c.args.taken.now) c.entries.result.now is)) has))

@@ -1,0 +1,280 @@
+-- A change of one leaf, as the subtree above the leaf sees it.
+use Rattle.std.proofs.Common.{◌≡◌, ◌⊎◌, ◌↔◌, inl, inr, ℕ, zero, suc, ◌+◌, ◌<◌, Bool, true, false, List, [], ◌∷◌, ◌++◌, Option, Some, None, IsTrue, length, get_or, slice_get, map, take, drop, filter, All, Any, refl, sym, ◌∙◌, ap, ap₂, subst, arith, append_assoc}
+use Rattle.std.specs.Prelude.{ℤ, ◌≤ℤ◌}
+use Rattle.std.proofs.lemmas.Bool.{cases_Bool}
+use Rattle.std.proofs.lemmas.Int.{ints}
+use Rattle.std.proofs.lemmas.List.Elements.{All-nil, All-cons, All-head, All-append, All-drop, All-weaker}
+use Rattle.std.proofs.lemmas.Option.{get_or_from_slice_get}
+use Rattle.arena.specs.Arena.{Arena}
+use Rattle.keys.proofs.callers.SomeElement.{Any-first, Any-later, Any-left, Any-none, Any-parts, Any-right}
+use Rattle.tree.specs.declared.entry.Entry.{Entry}
+use Rattle.tree.specs.declared.node.Node.{Node}
+use Rattle.tree.specs.Item.{Item, Tells, item_of}
+use Rattle.tree.specs.Path.{IsCut, index_in, first_key}
+use Rattle.tree.specs.Replace.{items_of, AreChildren, TellsWritten}
+use Rattle.tree.specs.Subtree.{entries_at, items_in, IsSubtree}
+use Rattle.tree.specs.Walk.{IsChangedWithin, IsFoundAmong, IsRaised}
+use Rattle.tree.proofs.callers.Cuts.{not_both}
+use Rattle.tree.proofs.callers.Times.{none_or_some}
+use Rattle.tree.proofs.Frames.{IsRight}
+use Rattle.tree.proofs.Keys.{first_key-append, first_key-children}
+use Rattle.tree.proofs.Leaves.{index_passes}
+use Rattle.tree.proofs.Stepping.{IsAt, items_split}
+use Rattle.tree.proofs.Ways.{way}
+
+no_front : {X : Type 0} (xs ys : List X) → xs ++ ys ≡ [] → xs ≡ []
+no_front [] ys e = refl
+no_front (x ∷ xs) ys e = absurd (cc)
+
+no_back : {X : Type 0} (xs ys : List X) → xs ++ ys ≡ [] → ys ≡ []
+no_back [] ys e = e
+no_back (x ∷ xs) ys e = absurd (cc)
+
+-- None that passes stands among those that fail.
+none_among : (passes : ℕ → Bool) (xs : List Item) → All (λ x. passes x.key ≡ false) xs
+    → Any (λ x. passes x.key ≡ true) xs → ⊥
+none_among passes xs fail any =
+    not_both (passes any.1.key) any.4 (subst (λ (x : Item). passes x.key ≡ false) any.3 (fail any.0 any.1 any.2))
+
+-- Each version of items is that of one of them.
+each_there : (xs : List Item) → All (λ x. Any (λ w. x.version ≡ w.version) xs) xs
+each_there [] = All-nil (λ (x : Item). Any (λ (w : Item). x.version ≡ w.version) [])
+each_there (y ∷ ys) =
+    All-cons (λ (x : Item). Any (λ (w : Item). x.version ≡ w.version) (y ∷ ys)) y ys
+    (Any-first (λ (w : Item). y.version ≡ w.version) y ys refl)
+    (All-weaker (λ (x : Item). Any (λ (w : Item). x.version ≡ w.version) ys)
+    (λ (x : Item). Any (λ (w : Item). x.version ≡ w.version) (y ∷ ys))
+    (λ x h. Any-later (λ (w : Item). x.version ≡ w.version) y ys h) ys (each_there ys))
+
+same_first : (key : Option ℕ) (xs ys : List Item) → first_key None xs ≡ first_key None ys
+    → first_key key xs ≡ first_key key ys
+same_first key [] [] e = refl
+same_first key [] (y ∷ ys) e = absurd (cc)
+same_first key (x ∷ xs) [] e = absurd (cc)
+same_first key (x ∷ xs) (y ∷ ys) e = e
+
+-- No item stands before the child's where none stands before the node's and the child is the first one.
+pub first_if : (below is_first : Bool) (i : ℕ) → (below ≡ true → (is_first ≡ true) × (i ≡ 0))
+    → (below ≡ false → ((is_first ≡ true) × (i ≡ 0 → ⊥)) ⊎ (is_first ≡ false))
+    → IsTrue below ↔ (IsTrue is_first × (i ≡ 0))
+first_if below is_first i both one = (
+  both,
+  λ h. elim (cases_Bool below) [
+    | inl t ↦ t
+    | inr f ↦ elim (one f) [
+      | inl some ↦ absurd (some.1 h.1)
+      | inr behind ↦ absurd (not_both is_first h.0 behind)
+    ]
+  ],
+)
+
+-- A part of items in which a search goes on: those before it pass, and those behind it don't.
+pub record IsAround (passes : ℕ → Bool) (front part back : List Item) : Type 0 where
+  pub pass : All (λ x. passes x.key ≡ true) front
+  pub fail : All (λ x. passes x.key ≡ false) back
+  pub found : IsFoundAmong passes front part
+
+module _ (front part back now : List Item) where
+  -- A leaf of the part is changed.
+  pub within_around : (passes : ℕ → Bool) (Gives : Bool → Option ℕ → List Item → List Item → Type 0)
+      (is_first below_first : Bool) (next below_next : Option ℕ) → IsAround passes front part back
+      → (IsTrue below_first ↔ (IsTrue is_first × (front ≡ []))) → below_next ≡ first_key next back
+      → IsChangedWithin passes Gives below_first below_next part now
+      → IsChangedWithin passes Gives is_first next (front ++ (part ++ back)) (front ++ (now ++ back))
+  within_around passes Gives is_first below_first next below_next around first_is next_is c =
+      let P = λ (x : Item). passes x.key ≡ true in
+      record {
+        before = front ++ c.before;
+        leaf = c.leaf;
+        changed = c.changed;
+        behind = c.behind ++ back;
+        was_is = ap (λ xs. front ++ (xs ++ back)) c.was_is ∙ regroup front c.before c.leaf c.behind back;
+        now_is = ap (λ xs. front ++ (xs ++ back)) c.now_is ∙ regroup front c.before c.changed c.behind back;
+        passing = All-append P front c.before around.pass c.passing;
+        failing = All-append (λ (x : Item). passes x.key ≡ false) c.behind back c.failing around.fail;
+        found = elim c.found [
+          | inl none ↦ elim around.found [
+            | inl first ↦ inl (ap₂ (λ xs ys. xs ++ ys) first none)
+            | inr there ↦ inr (in_leaf passes c.before c.leaf c.behind none c.was_is c.failing there)
+          ]
+          | inr there ↦ inr there
+        ];
+        first = c.first;
+        first_is = (
+          λ h. (let b = c.first_is.0 h in let f = first_is.0 b.0 in (f.0, ap₂ (λ xs ys. xs ++ ys) f.1 b.1)),
+          λ h. c.first_is.1 (first_is.1 (h.0, no_front front c.before h.1), no_back front c.before h.1),
+        );
+        gives = subst (λ k. Gives c.first k c.leaf c.changed)
+            (ap (λ k. first_key k c.behind) next_is ∙ sym (first_key-append next c.behind back)) c.gives;
+      }
+    where
+      regroup : (a b m h r : List Item) → a ++ ((b ++ (m ++ h)) ++ r) ≡ (a ++ b) ++ (m ++ (h ++ r))
+      regroup a b m h r = simp append_assoc
+
+      in_leaf : (passes : ℕ → Bool) (before leaf behind : List Item) → before ≡ [] → part ≡ before ++ (leaf ++ behind)
+          → All (λ x. passes x.key ≡ false) behind → Any (λ x. passes x.key ≡ true) part
+          → Any (λ x. passes x.key ≡ true) leaf
+      in_leaf passes before leaf behind none is fail there =
+          let all : part ≡ leaf ++ behind = is ∙ ap (λ xs. xs ++ (leaf ++ behind)) none in
+          elim (Any-parts (λ (x : Item). passes x.key ≡ true) leaf behind (subst (Any (λ (x : Item). passes x.key ≡ true)) all there)) [
+            | inl here ↦ here
+            | inr later ↦ absurd (none_among passes behind fail later)
+          ]
+
+  -- An item of this version came into the part.
+  pub raised_around : (version : ℤ) → IsRaised version part now
+      → IsRaised version (front ++ (part ++ back)) (front ++ (now ++ back))
+  raised_around version r =
+      let all = front ++ (part ++ back) in
+      let There = λ (x : Item). Any (λ (w : Item). x.version ≡ w.version) all in
+      let Is = λ (x : Item). (x.version ≡ version) ⊎ There x in
+      let in_front : All Is front =
+      All-weaker (λ (x : Item). Any (λ (w : Item). x.version ≡ w.version) front) Is
+      (λ x h. inr (Any-left (λ (w : Item). x.version ≡ w.version) front (part ++ back) h)) front (each_there front) in
+      let behind : All Is back =
+      All-weaker (λ (x : Item). Any (λ (w : Item). x.version ≡ w.version) back) Is
+      (λ x h. inr (Any-right (λ (w : Item). x.version ≡ w.version) front (part ++ back)
+      (Any-right (λ (w : Item). x.version ≡ w.version) part back h))) back (each_there back) in
+      let inside : All Is now =
+      All-weaker (λ (x : Item). (x.version ≡ version) ⊎ Any (λ (w : Item). x.version ≡ w.version) part) Is
+      (λ x h. elim h [
+        | inl same ↦ inl same
+        | inr there ↦
+            inr (Any-right (λ (w : Item). x.version ≡ w.version) front (part ++ back)
+            (Any-left (λ (w : Item). x.version ≡ w.version) part back there))
+      ]) now r.others in
+      record {
+        first = first_key-append None front (now ++ back)
+            ∙ ap (λ k. first_key k front)
+                (first_key-append None now back ∙ same_first (first_key None back) now part r.first
+                ∙ sym (first_key-append None part back))
+            ∙ sym (first_key-append None front (part ++ back));
+        there = Any-right (λ (x : Item). x.version ≡ version) front (now ++ back)
+            (Any-left (λ (x : Item). x.version ≡ version) now back r.there);
+        others = All-append Is front (now ++ back) in_front (All-append Is now back inside behind);
+      }
+
+-- The entry that told the items tells what they are now, once it has the version of what came in, unless it has a greater one.
+tells_raised : (e : Entry) (version : ℤ) (was now : List Item) → Tells e was → IsRaised version was now
+    → e.version ≤ℤ version → Tells (record e { version = version }) now
+tells_raised e version was now tells raised le = by_items now refl
+  where
+    bound : All (λ x. x.version ≤ℤ version) now
+    bound =
+        All-weaker (λ (x : Item). (x.version ≡ version) ⊎ Any (λ (w : Item). x.version ≡ w.version) was)
+        (λ (x : Item). x.version ≤ℤ version)
+        (λ x h. elim h [
+          | inl same ↦ omega (arith, ints, same)
+          | inr there ↦
+              let least = subst (λ (w : Item). w.version ≤ℤ e.version) there.3
+              (tells.greatest.bound there.0 there.1 there.2) in
+              omega (arith, ints, there.4, least, le)
+        ]) now raised.others
+
+    by_items : (xs : List Item) → now ≡ xs → Tells (record e { version = version }) now
+    by_items [] none =
+        absurd (Any-none (λ (x : Item). x.version ≡ version)
+        (subst (Any (λ (x : Item). x.version ≡ version)) none raised.there))
+    by_items (x ∷ xs) is =
+        let same : Some x.key ≡ Some tells.first.key =
+        ap (first_key None) (sym is) ∙ raised.first ∙ ap (first_key None) tells.items_are in
+        let key : tells.first.key ≡ x.key = cc in
+        record {
+          first = x;
+          others = xs;
+          items_are = is;
+          key = tells.key ∙ key;
+          greatest = record { bound = bound; reached = raised.there };
+        }
+
+-- No item stands before those of a child if it is the first one.
+none_at : {N : ℕ} (a : Arena (Node N)) (least lower : ℕ) (es : List Entry) (i : ℕ) → AreChildren a least lower es
+    → i < length es → items_of a lower (take i es) ≡ [] → i ≡ 0
+none_at a least lower [] i right within none = absurd (omega (arith, within))
+none_at a least lower (e ∷ es) zero right within none = refl
+none_at a least lower (e ∷ es) (suc i) right within none =
+    let t = (All-head (IsRight a least lower) e es right).tells in
+    let both : t.first ∷ t.others ++ items_of a lower (take i es) ≡ [] =
+    sym (ap (λ xs. xs ++ items_of a lower (take i es)) t.items_are) ∙ none in
+    absurd (cc)
+
+module _ {N : ℕ} (a : Arena (Node N)) (least height lower slot : ℕ) (passes : ℕ → Bool) (es : List Entry) (i x : ℕ)
+    (d : Entry) (next : suc lower ≡ height) (at : IsAt a least lower slot passes es i x d) where
+  -- The child is the part of the items of the node in which the search goes on.
+  around_at : IsSubtree a least height slot → IsCut (λ x. passes x.key) (items_in a height slot)
+      → IsAround passes (items_of a lower (take i es)) (items_in a lower x) (items_of a lower (drop (i + 1) es))
+  around_at subtree cut =
+      let all = entries_at a slot in
+      let w = way a least lower slot passes (subst (λ n. IsSubtree a least n slot) (sym next) subtree)
+      (subst (λ n. IsCut (λ (x : Item). passes x.key) (items_in a n slot)) (sym next) cut) in
+      let Pass = λ (es : List Entry). All (λ (x : Item). passes x.key ≡ true) (items_of a lower es) in
+      let Fail = λ (es : List Entry). All (λ (x : Item). passes x.key ≡ false) (items_of a lower es) in
+      record {
+        pass = subst (λ l. Pass (take i l)) at.read (subst (λ n. Pass (take n all)) (sym at.index) w.before);
+        fail = subst (λ l. Fail (drop (i + 1) l)) at.read (subst (λ n. Fail (drop (n + 1) all)) (sym at.index) w.behind);
+        found = elim (none_or_some (length (filter (λ (e : Entry). passes e.key) all))) [
+          | inl none ↦
+              let zero_is : index_in passes all ≡ 0 = omega arith in
+              inl (ap (λ n. items_of a lower (take n es)) (at.index ∙ zero_is))
+          | inr some ↦
+              let passed = index_passes (λ (e : Entry). passes e.key) all w.entry w.entries some w.is in
+              let t = w.kept.tells in
+              let first : passes t.first.key ≡ true = subst (λ k. passes k ≡ true) t.key passed in
+              let there : Any (λ (x : Item). passes x.key ≡ true) (items_in a lower w.entry.child) =
+              subst (Any (λ (x : Item). passes x.key ≡ true)) (sym t.items_are)
+              (Any-first (λ (x : Item). passes x.key ≡ true) t.first t.others first) in
+              let same : w.entry.child ≡ x = w.child ∙ sym at.child in
+              inr (subst (λ s. Any (λ (x : Item). passes x.key ≡ true) (items_in a lower s)) same there)
+        ];
+      }
+
+  -- A leaf of the child is changed.
+  pub within_at : (Gives : Bool → Option ℕ → List Item → List Item → Type 0) (is_first below_first : Bool)
+      (key below_key : Option ℕ) (now all : List Item) → IsSubtree a least height slot
+      → IsCut (λ x. passes x.key) (items_in a height slot) → (IsTrue below_first ↔ (IsTrue is_first × (i ≡ 0)))
+      → below_key ≡ first_key key (map item_of (drop (i + 1) es))
+      → all ≡ items_of a lower (take i es) ++ (now ++ items_of a lower (drop (i + 1) es))
+      → IsChangedWithin passes Gives below_first below_key (items_in a lower x) now
+      → IsChangedWithin passes Gives is_first key (items_in a height slot) all
+  within_at Gives is_first below_first key below_key now all subtree cut first_is key_is all_is c =
+      let front = items_of a lower (take i es) in
+      let back = items_of a lower (drop (i + 1) es) in
+      let part = items_in a lower x in
+      let tell : All (λ e. Tells e (items_in a lower e.child)) (drop (i + 1) es) =
+      All-drop (λ (e : Entry). Tells e (items_in a lower e.child)) (i + 1) es
+      (All-weaker (IsRight a least lower) (λ (e : Entry). Tells e (items_in a lower e.child)) (λ e k. k.tells) es at.right) in
+      let below_is : below_key ≡ first_key key back =
+      key_is ∙ first_key-children (λ (e : Entry). items_in a lower e.child) key (drop (i + 1) es) tell in
+      let first : IsTrue below_first ↔ (IsTrue is_first × (front ≡ [])) = (
+        λ h. (let b = first_is.0 h in (b.0, ap (λ n. items_of a lower (take n es)) b.1)),
+        λ h. first_is.1 (h.0, none_at a least lower es i at.right at.within h.1),
+      ) in
+      subst (λ xs. IsChangedWithin passes Gives is_first key xs all)
+      (sym (items_split a least height lower slot passes es i x d next at))
+      (subst (IsChangedWithin passes Gives is_first key (front ++ (part ++ back))) (sym all_is)
+      (within_around front part back now passes Gives is_first below_first key below_key (around_at subtree cut) first
+      below_is c))
+
+  -- An item of this version came into the child.
+  pub raised_above : (version : ℤ) (now all : List Item)
+      → all ≡ items_of a lower (take i es) ++ (now ++ items_of a lower (drop (i + 1) es))
+      → IsRaised version (items_in a lower x) now → IsRaised version (items_in a height slot) all
+  raised_above version now all all_is raised =
+      let front = items_of a lower (take i es) in
+      let back = items_of a lower (drop (i + 1) es) in
+      let part = items_in a lower x in
+      subst (λ xs. IsRaised version xs all) (sym (items_split a least height lower slot passes es i x d next at))
+      (subst (IsRaised version (front ++ (part ++ back))) (sym all_is) (raised_around front part back now version raised))
+
+  -- The child's entry would be right with that version, unless it has a greater one.
+  pub raised_at : (b : Arena (Node N)) (version : ℤ) → entries_at b slot ≡ es
+      → IsRaised version (items_in a lower x) (items_in b lower x) → TellsWritten b lower slot i version
+  raised_at b version read raised e here le =
+      let there : slice_get es i ≡ Some e = subst (λ l. slice_get l i ≡ Some e) read here in
+      let same : get_or es i d ≡ e = get_or_from_slice_get es i e d there in
+      let child : x ≡ e.child = at.x_is ∙ ap (λ (e : Entry). e.child) same in
+      let right : Tells e (items_in a lower e.child) =
+      subst (λ e. Tells e (items_in a lower e.child)) same (at.right i d at.within).tells in
+      let tells : Tells e (items_in a lower x) = subst (λ s. Tells e (items_in a lower s)) (sym child) right in
+      subst (λ s. Tells (record e { version = version }) (items_in b lower s)) child
+      (tells_raised e version (items_in a lower x) (items_in b lower x) tells raised le)

@@ -1,0 +1,162 @@
+use Rattle.std.proofs.Common.{rules, Option, Some, false, not, is_some, ℕ, ℤ, ◌≡◌, ◌≢◌, ◌≤◌, ◌<◌, ◌+◌, ◌-◌, ◌∙◌, ◌++◌, ap, sym, subst, refl, List, [], None, length, take, drop, map, arith, to_z, of_z, w64}
+use Rattle.std.proofs.lemmas.Int.{to_z-of_z}
+use Rattle.tree.specs.declared.entry.Entry.{Entry}
+use Rattle.tree.specs.declared.node.Node.{Node}
+use Rattle.tree.specs.declared.walk.Outcome.TheVariants.{Changed}
+use Rattle.tree.specs.Hints.{KnowsAt}
+use Rattle.tree.specs.Item.{Item, item_of}
+use Rattle.tree.specs.Node.{entries_of, items_of_run}
+use Rattle.tree.specs.Path.{IsCut, passing}
+use Rattle.tree.specs.Subtree.{entries_at}
+use Rattle.tree.specs.Thin.{IsThinned}
+use Rattle.tree.specs.Tree.{thin, gone}
+use Rattle.tree.proofs.ChangedLeaf.{leaf_put}
+use Rattle.tree.proofs.Hinted.{hinted_at}
+use Rattle.tree.proofs.LastRun.{leaf_thinned, unthinned}
+use Rattle.tree.proofs.Leaves.{entries_of_cut}
+use Rattle.tree.proofs.Placing.{entries_from_header, put_entries}
+use Rattle.tree.proofs.Thinning.{run}
+use Rattle.tree.proofs.WrittenLeaf.{items_parted, some_item}
+use Rattle.tree.proofs.thin.ThinningLeafChange.change.Given as given
+use Rattle.tree.proofs.thin.ThinningLeafChange.change.Goals as goal
+use Rattle.tree.proofs.thin.ThinningLeafChange.change.Goals.{After-header-leaf, After-thin-self}
+
+-- the entries of the leaf
+entries_are : (g : given.Over) (c : After-header-leaf g)
+    → entries_at c.args.nodes.now c.args.slot ≡ entries_of c.header-leaf.result
+entries_are g c =
+    entries_from_header c.args.nodes.now c.args.slot c.header-leaf.result c.header-leaf.ensures.header
+
+cut_is : (g : given.Over) (c : After-header-leaf g)
+    → IsCut (λ (e : Entry). g.P.Probe.lets_pass c.args.self.now.probe.now e.key) (entries_of c.header-leaf.result)
+cut_is g c =
+    let p = g.P.Probe.lets_pass c.args.self.now.probe.now in
+    subst (λ es. IsCut (λ (e : Entry). p e.key) es) (entries_are g c)
+    (entries_of_cut p (entries_at c.args.nodes.now c.args.slot) c.requires.searched.cut)
+
+pub count-passing-requires : goal.count-passing-requires
+count-passing-requires g c =
+    let h = (goal.at.count-passing-requires g c).After-header-leaf in
+    let probe = c.args.self.now.probe.now in
+    let es = entries_of c.header-leaf.result in
+    let some : 0 < length es =
+    omega (arith, ap (λ (es : List Entry). length es) (entries_are g h), c.requires.changeable.some) in
+    let known =
+    subst (λ es. KnowsAt (g.P.Probe.bytes probe) (g.P.Probe.lets_pass probe) (g.P.Probe.sought probe)
+    c.args.place.known es 0) (entries_are g h) c.requires.searched.known in (
+      omega (arith, c.requires.changeable.few),
+      (
+        hinted_at (g.P.Probe.bytes probe) c.args.nodes.now c.args.slot c.header-leaf.result c.requires.searched.hinted
+            c.header-leaf.ensures.header,
+        (cut_is g h, (some, known)),
+      ),
+    )
+
+-- Where no entry passes, no item does.
+pub returns-then-passing-eq0-clause-items : goal.returns-then-passing-eq0-clause-items
+returns-then-passing-eq0-clause-items g c =
+    let h = (goal.at.returns-then-passing-eq0-clause-items g c).After-header-leaf in
+    let p = g.P.Probe.lets_pass c.args.self.now.probe.now in
+    let es = entries_of c.header-leaf.result in
+    let none : passing p (map item_of es) ≡ [] =
+    (items_parted p es 0 (cut_is g h) (omega (arith, c.count-passing.ensures.count, c.if-passing-eq0.true))).0 in (
+      λ _. (refl, ap items_of_run c.requires.none_taken),
+      λ some. absurd (some (ap (λ es. passing p (map item_of es)) (entries_are g h) ∙ none)),
+    )
+
+-- Where there is no node of those that went, none went.
+no_run : {N : ℕ} (run : Option (Node N)) → is_some run ≡ false → items_of_run run ≡ []
+no_run None none = refl
+no_run (Some n) none = absurd (cc)
+
+-- where the run stands that is looked at
+module _ (g : given.Over) (c : After-thin-self g) where
+  abbrev es : List Entry
+  es = entries_of c.header-leaf.result
+
+  abbrev begin : ℕ
+  begin = c.count-passing.result - 1
+
+  abbrev end : ℕ
+  end = c.count-passing.result - 1 + c.min.result
+
+  abbrev looked : List Item
+  looked = map item_of (run es begin end)
+
+  abbrev edge : ℤ
+  edge = to_z w64 (of_z w64 c.args.self.now.edge)
+
+  abbrev before : ℤ
+  before = to_z w64 (of_z w64 c.args.self.now.before)
+
+  edge_is : edge ≡ c.args.self.now.edge
+  edge_is = to_z-of_z w64 c.args.self.now.edge (search rules)
+
+  before_is : before ≡ c.args.self.now.before
+  before_is = to_z-of_z w64 c.args.self.now.before (search rules)
+
+  some_looked : begin < end
+  some_looked = omega (arith, c.min.ensures, c.args.self.now.some, c.len.ensures.len, c.count-passing.ensures.within, c.if-passing-eq0.false)
+
+  within : end ≤ length es
+  within = omega (arith, c.min.ensures, c.len.ensures.len, c.count-passing.ensures.within)
+
+  -- what becomes of the items of the leaf
+  thinned_items : (cut : IsCut (λ (e : Entry). g.P.Probe.lets_pass c.args.self.now.probe.now e.key) es)
+      → entries_at c.args.nodes.now c.args.slot ≡ es → (now : List Item)
+      → now ≡ map item_of (take begin es) ++ (thin edge before looked ++ map item_of (drop end es))
+      → IsThinned (g.P.Probe.lets_pass c.args.self.now.probe.now) c.args.self.now.count c.args.self.now.edge
+      c.args.self.now.before c.thin-self.result (items_of_run c.thin-self.new.taken) c.args.place.behind
+      (map item_of (entries_at c.args.nodes.now c.args.slot)) now
+  thinned_items cut read now now_is =
+      let t = c.args.self.now in
+      let p = g.P.Probe.lets_pass t.probe.now in
+      let told = c.thin-self.ensures in
+      let Thinned : ℤ → ℤ → List Entry → Type 0 = λ edge before es.
+      IsThinned p t.count edge before c.thin-self.result (items_of_run c.thin-self.new.taken) c.args.place.behind
+      (map item_of es) now in
+      subst (Thinned t.edge t.before) (sym read)
+      (subst (λ b. Thinned t.edge b es) before_is
+      (subst (λ e. Thinned e before es) edge_is
+      (leaf_thinned es begin end some_looked within p cut
+      (omega (arith, c.count-passing.ensures.count, c.if-passing-eq0.false)) t.count edge before c.thin-self.result
+      (items_of_run c.thin-self.new.taken) c.args.place.behind now (omega (arith, c.min.ensures)) told.looked_at told.last
+      now_is told.taken told.next)))
+
+-- Where none goes, all stay.
+pub returns-then-is_none-clause-items : goal.returns-then-is_none-clause-items
+returns-then-is_none-clause-items g c =
+    let at = goal.at.returns-then-is_none-clause-items g c in
+    let t = at.After-thin-self in
+    let h = at.After-header-leaf in
+    let out = no_run c.thin-self.new.taken (c.is_none.ensures ∙ ap not c.if-is_none.true) in
+    let gone_is : gone (edge g t) (before g t) (looked g t) ≡ [] = sym c.thin-self.ensures.taken ∙ out in
+    let same = ap (map item_of) (entries_are g h)
+    ∙ unthinned (es g t) (begin g t) (end g t) (some_looked g t) (within g t) (edge g t) (before g t) gone_is in
+    (λ none. (refl, out), λ some. thinned_items g t (cut_is g h) (entries_are g h) (map item_of (entries_at c.args.nodes.now c.args.slot)) same)
+
+pub returns-clause-changed : goal.returns-clause-changed
+returns-clause-changed g c =
+    let bytes = g.P.Probe.bytes c.args.self.now.probe.now in
+    leaf_put bytes c.args.nodes.now c.set_header.new.self c.args.slot c.sharpen.new.self Changed
+    c.set_header.ensures.replaced c.requires.changeable c.requires.searched.hinted c.sharpen.ensures.hinted refl
+    (λ e. absurd (cc)) (λ version e. absurd (cc))
+
+pub returns-clause-items : goal.returns-clause-items
+returns-clause-items g c =
+    let at = goal.at.returns-clause-items g c in
+    let t = at.After-thin-self in
+    let h = at.After-header-leaf in
+    let p = g.P.Probe.lets_pass c.args.self.now.probe.now in
+    let slot = c.args.slot in
+    let b = c.set_header.new.self in
+    let after : entries_at b slot ≡ entries_of c.sharpen.new.self =
+    put_entries c.args.nodes.now b slot c.sharpen.new.self c.set_header.ensures.replaced in
+    let some : passing p (map item_of (es g t)) ≢ [] =
+    some_item p (es g t) c.count-passing.result (omega (arith, c.if-passing-eq0.false)) c.count-passing.ensures.count in (
+      λ none.
+          absurd (some (ap (λ es. passing p (map item_of es)) (sym (entries_are g h)) ∙ none)),
+      λ _.
+          thinned_items g t (cut_is g h) (entries_are g h) (map item_of (entries_at b slot))
+          (ap (map item_of) (after ∙ c.sharpen.ensures.entries) ∙ c.thin-self.ensures.kept),
+    )

@@ -1,0 +1,480 @@
+use Rattle.std.proofs.Common.{◌≡◌, ◌≤◌, ◌<◌, ◌+◌, ◌-◌, ◌⊎◌, ℕ, suc, Bool, true, false, List, ◌++◌, Option, None, Some, SFits, w64, length, get_or, map, take, drop, refl, sym, ap, subst, ◌∙◌, arith, rules}
+use Rattle.std.proofs.lemmas.Int.{to_z-of_z}
+use Rattle.tree.specs.Item.{Item, item_of}
+use Rattle.tree.specs.Hints.{AreHinted, KnowsAt}
+use Rattle.tree.specs.Node.{entries_of, hints_of, items_of_run}
+use Rattle.tree.specs.Path.{index_in, first_key}
+use Rattle.tree.specs.Subtree.{entries_at, items_in, slots_in}
+use Rattle.tree.specs.Tree.{least_of}
+use Rattle.tree.specs.Replace.{child_at, items_of, items_with, IsMendedAt}
+use Rattle.tree.specs.Walk.{CanChange, CanSearch, IsChanged, IsChangedWithin, added_by}
+use Rattle.tree.proofs.callers.Times.{distinct_if_once}
+use Rattle.tree.proofs.Changing.{moves_if_changes}
+use Rattle.tree.proofs.FirstKeys.{known_below}
+use Rattle.tree.proofs.Hinted.{hinted_at}
+use Rattle.tree.proofs.Placing.{entries_from_header}
+use Rattle.tree.proofs.Found.{read_cut, found, found_subtree, found_cut}
+use Rattle.tree.proofs.Replacing.{child_right, child_few}
+use Rattle.tree.proofs.Stepping.{IsAt, is_at, items_split, live_beside, read_beside, family_at, stepped_mended, stepped_linked}
+use Rattle.tree.proofs.Walking.{first_if, within_at, raised_at}
+use Rattle.tree.proofs.Walked.{within_leaf, same_above, changed_above, raised_too, linked_above}
+use Rattle.tree.proofs.walk.+change_leaf.Given.{Over}
+use Rattle.tree.proofs.walk.+change_leaf.Goals as goal
+use Rattle.tree.proofs.walk.+change_leaf.Goals.{After-index-entries-step, After-mend_written, After-mend_child}
+
+pub change-requires : goal.change-requires
+change-requires g t c =
+    let a = c.args.nodes.now in
+    let slot = c.args.slot in
+    let change = c.args.change.now in
+    let target = g.C.LeafChange.target_of change in
+    let lowest = c.if-height-eq0.true in (
+      search rules,
+      (
+        subst (λ n. CanChange a n slot) lowest c.requires.changeable,
+        (
+          subst (λ n. CanSearch (g.C.Target.Probe.bytes target) (g.C.Target.Probe.lets_pass target)
+          (g.C.Target.Probe.sought target) a n slot c.args.place.known) lowest c.requires.searched,
+          (
+            subst (λ n. g.C.LeafChange.wants change (items_in a n slot)) lowest c.requires.wanted,
+            c.requires.none_taken,
+          ),
+        ),
+      ),
+    )
+
+pub returns-then-height-eq0-clause-changed : goal.returns-then-height-eq0-clause-changed
+returns-then-height-eq0-clause-changed g t c =
+    subst (λ n. IsChanged (g.C.Target.Probe.bytes (g.C.LeafChange.target_of c.args.change.now)) c.args.nodes.now
+    c.change.new.nodes n c.args.slot c.change.result) (sym c.if-height-eq0.true) c.change.ensures.changed
+
+pub returns-then-height-eq0-clause-items : goal.returns-then-height-eq0-clause-items
+returns-then-height-eq0-clause-items g t c =
+    let change = c.args.change.now in
+    within_leaf (g.C.Target.Probe.lets_pass (g.C.LeafChange.target_of change))
+    (g.C.LeafChange.gives change c.change.new.self (items_of_run c.change.new.taken)) c.args.place.is_first
+    c.args.place.behind (items_in c.args.nodes.now c.args.height c.args.slot)
+    (items_with c.change.new.nodes c.args.height c.args.slot (added_by c.change.result))
+    (subst (λ n. g.C.LeafChange.gives change c.change.new.self (items_of_run c.change.new.taken) c.args.place.is_first
+    c.args.place.behind (items_in c.args.nodes.now n c.args.slot)
+    (items_with c.change.new.nodes n c.args.slot (added_by c.change.result)))
+    (sym c.if-height-eq0.true) c.change.ensures.items)
+
+pub step-step-requires : goal.step-step-requires
+step-step-requires g t c =
+    let a = c.args.nodes.now in
+    let slot = c.args.slot in
+    let target = g.C.LeafChange.target_of c.args.change.now in
+    let bytes = g.C.Target.Probe.bytes target in
+    let passes = g.C.Target.Probe.lets_pass target in
+    let sought = g.C.Target.Probe.sought target in
+    let node = c.header_ref-node.result.now in
+    let header = c.header_ref-node.ensures.header in
+    let read = entries_from_header a slot node header in
+    rw c.target.ensures.target (
+      search rules,
+      (
+        hinted_at bytes a slot node c.requires.searched.hinted header,
+        (
+          read_cut a (least_of g.row.N) c.args.height slot passes node (entries_of node) c.if-height-eq0.false
+              c.requires.changeable.subtree c.requires.searched.cut header refl,
+          (
+            omega (arith, ap length read, c.requires.changeable.some),
+            subst (λ l. KnowsAt bytes passes sought c.args.place.known l 0) read c.requires.searched.known,
+          ),
+        ),
+      ),
+    )
+
+one_up : (n : ℕ) → ¬ (n ≡ 0) → suc (n - 1) ≡ n
+one_up n some = omega (arith, some)
+
+-- the node at the slot, and the child at which the walk goes on
+at_child : (g : Over) (t : ℕ) (c : After-index-entries-step g t)
+    → IsAt c.args.nodes.now (least_of g.row.N) (c.args.height - 1) c.args.slot
+    (g.C.Target.Probe.lets_pass (g.C.LeafChange.target_of c.args.change.now))
+    (entries_of c.header_ref-node.result.now) c.step-step.result.index
+    (get_or c.entries-entries.result.now c.step-step.result.index c.index-entries-step.result).child
+    c.index-entries-step.result
+at_child g t c =
+    let passes = g.C.Target.Probe.lets_pass (g.C.LeafChange.target_of c.args.change.now) in
+    let es = entries_of c.header_ref-node.result.now in
+    is_at c.args.nodes.now (least_of g.row.N) c.args.height (c.args.height - 1) c.args.slot passes
+    c.header_ref-node.result.now es c.entries-entries.result.now c.step-step.result.index c.index-entries-step.result
+    (one_up c.args.height c.if-height-eq0.false) c.requires.changeable.subtree c.requires.changeable.distinct
+    c.header_ref-node.ensures.header refl c.entries-entries.ensures.entries
+    (subst (λ p. c.step-step.result.index ≡ index_in (g.C.Target.Probe.lets_pass p) es) c.target.ensures.target
+    c.step-step.ensures.index)
+    c.step-step.ensures.within
+
+pub change_leaf-requires : goal.change_leaf-requires
+change_leaf-requires g t c κs within =
+    let at = at_child g t (goal.at.change_leaf-requires g t c).After-index-entries-step in
+    let a = c.args.nodes.now in
+    let L = least_of g.row.N in
+    let n = c.args.height in
+    let h = n - 1 in
+    let slot = c.args.slot in
+    let target = g.C.LeafChange.target_of c.args.change.now in
+    let bytes = g.C.Target.Probe.bytes target in
+    let passes = g.C.Target.Probe.lets_pass target in
+    let sought = g.C.Target.Probe.sought target in
+    let node = c.header_ref-node.result.now in
+    let es = entries_of node in
+    let i = c.step-step.result.index in
+    let d = c.index-entries-step.result in
+    let vs = c.entries-entries.result.now in
+    let x = (get_or vs i d).child in
+    let step = subst (λ p. (i ≡ index_in (g.C.Target.Probe.lets_pass p) es)
+    × KnowsAt (g.C.Target.Probe.bytes p) (g.C.Target.Probe.lets_pass p) (g.C.Target.Probe.sought p) c.step-step.result.known es i)
+    c.target.ensures.target (c.step-step.ensures.index, c.step-step.ensures.known) in
+    let f = found a L n slot passes node vs i d c.if-height-eq0.false c.requires.changeable.subtree
+    c.requires.searched.cut c.header_ref-node.ensures.header c.entries-entries.ensures.entries
+    (step.0 ∙ ap (index_in passes) (sym c.entries-entries.ensures.entries)) in
+    let right = child_right a a L h es i x d at.within at.x_is at.few_below at.right in
+    let filled : L ≤ length (entries_at a x) = subst (λ z. L ≤ length (entries_at a z)) (sym at.x_is) right.filled in
+    let can : CanChange a h x = record {
+      fan_out = c.requires.changeable.fan_out;
+      few = c.requires.changeable.few;
+      subtree = found_subtree a L n slot passes x f;
+      some = omega (arith, filled);
+      branches = λ _. omega (arith, filled);
+      distinct = distinct_if_once (slots_in a h x) (child_few a a L h es i x d at.within at.x_is at.few_below at.right);
+      keyless = c.requires.changeable.keyless;
+      room = omega (arith, c.requires.changeable.room);
+    } in
+    let search_on : CanSearch bytes passes sought a h x c.step-step.result.known = record {
+      cut = found_cut a L n slot passes x f;
+      hinted = c.requires.searched.hinted;
+      known = known_below a L n slot passes x f bytes sought c.step-step.result.known node i
+          c.header_ref-node.ensures.header step.0 step.1;
+    } in
+    let split = items_split a L n h slot passes es i x d (one_up n c.if-height-eq0.false) at in
+    let wanted = g.met.C.LeafChange.part c.args.change.now (items_of a h (take i es)) (items_in a h x)
+    (items_of a h (drop (i + 1) es)) (subst (g.C.LeafChange.wants c.args.change.now) split c.requires.wanted) in
+    (
+      search rules,
+      (search rules, (search rules, (search rules, (search rules, (can, (search_on, (wanted, c.requires.none_taken))))))),
+    )
+
+pub mend_written-requires : goal.mend_written-requires
+mend_written-requires g t c =
+    let at = at_child g t (goal.at.mend_written-requires g t c).After-index-entries-step in
+    let a = c.args.nodes.now in
+    let b = c.change_leaf.new.nodes in
+    let L = least_of g.row.N in
+    let n = c.args.height in
+    let h = n - 1 in
+    let slot = c.args.slot in
+    let passes = g.C.Target.Probe.lets_pass (g.C.LeafChange.target_of c.args.change.now) in
+    let es = entries_of c.header_ref-node.result.now in
+    let i = c.step-step.result.index in
+    let d = c.index-entries-step.result in
+    let x = (get_or c.entries-entries.result.now i d).child in
+    let put = c.in-Raised.ensures.changed in
+    let moves = moves_if_changes a b (slots_in a h x) (slots_in b h x) put.changes in
+    let read = read_beside a b L h slot passes es i x d (slots_in b h x) at moves in
+    let several : 2 ≤ length (entries_at b slot) =
+    subst (λ l. 2 ≤ length l) (at.read ∙ sym read)
+    (c.requires.changeable.branches (omega (arith, c.if-height-eq0.false))) in (
+      search rules,
+      (
+        c.requires.changeable.fan_out,
+        (
+          live_beside a b L h slot passes es i x d (slots_in b h x) at moves,
+          (
+            subst (λ l. i < length l) (sym read) at.within,
+            (
+              several,
+              (
+                moves.keyless,
+                (
+                  (
+                    h,
+                    family_at a b b L n h slot passes es i x d (one_up n c.if-height-eq0.false) at put.subtree moves,
+                  ),
+                  subst (λ p. AreHinted (g.C.Target.Probe.bytes p) (hints_of b))
+                      (sym (c.target-in-Raised.ensures.target ∙ c.in-Raised.ensures.target)) put.hinted,
+                ),
+              ),
+            ),
+          ),
+        ),
+      ),
+    )
+
+pub mend_child-requires : goal.mend_child-requires
+mend_child-requires g t c =
+    let at = at_child g t (goal.at.mend_child-requires g t c).After-index-entries-step in
+    let a = c.args.nodes.now in
+    let b = c.change_leaf.new.nodes in
+    let L = least_of g.row.N in
+    let n = c.args.height in
+    let h = n - 1 in
+    let slot = c.args.slot in
+    let passes = g.C.Target.Probe.lets_pass (g.C.LeafChange.target_of c.args.change.now) in
+    let es = entries_of c.header_ref-node.result.now in
+    let i = c.step-step.result.index in
+    let d = c.index-entries-step.result in
+    let x = (get_or c.entries-entries.result.now i d).child in
+    let put = c.in-Changed.ensures.changed in
+    let moves = moves_if_changes a b (slots_in a h x) (slots_in b h x) put.changes in
+    let read = read_beside a b L h slot passes es i x d (slots_in b h x) at moves in
+    let several : 2 ≤ length (entries_at b slot) =
+    subst (λ l. 2 ≤ length l) (at.read ∙ sym read)
+    (c.requires.changeable.branches (omega (arith, c.if-height-eq0.false))) in (
+      search rules,
+      (
+        c.requires.changeable.fan_out,
+        (
+          live_beside a b L h slot passes es i x d (slots_in b h x) at moves,
+          (
+            subst (λ l. i < length l) (sym read) at.within,
+            (
+              several,
+              (
+                moves.keyless,
+                (
+                  (
+                    h,
+                    family_at a b b L n h slot passes es i x d (one_up n c.if-height-eq0.false) at put.subtree moves,
+                  ),
+                  subst (λ p. AreHinted (g.C.Target.Probe.bytes p) (hints_of b))
+                      (sym (c.target-in-Changed.ensures.target ∙ c.in-Changed.ensures.target)) put.hinted,
+                ),
+              ),
+            ),
+          ),
+        ),
+      ),
+    )
+
+pub link_child-requires : goal.link_child-requires
+link_child-requires g t c =
+    let at = at_child g t (goal.at.link_child-requires g t c).After-index-entries-step in
+    let a = c.args.nodes.now in
+    let b = c.change_leaf.new.nodes in
+    let L = least_of g.row.N in
+    let h = c.args.height - 1 in
+    let slot = c.args.slot in
+    let passes = g.C.Target.Probe.lets_pass (g.C.LeafChange.target_of c.args.change.now) in
+    let es = entries_of c.header_ref-node.result.now in
+    let i = c.step-step.result.index in
+    let d = c.index-entries-step.result in
+    let x = (get_or c.entries-entries.result.now i d).child in
+    let s = c.in-Split.added in
+    let put = c.in-Split.ensures.changed in
+    let now = slots_in b h x ++ slots_in b h s in
+    let moves = moves_if_changes a b (slots_in a h x) now put.changes in
+    let read = read_beside a b L h slot passes es i x d now at moves in
+    let child : x ≡ child_at (entries_at b slot) i = at.x_at ∙ ap (λ l. child_at l i) (sym read) in
+    let filled : L ≤ length (entries_at b (child_at (entries_at b slot) i)) =
+    subst (λ z. L ≤ length (entries_at b z)) child put.filled.0 in
+    let filled_added : L ≤ length (entries_at b s) = put.filled.1 in (
+      search rules,
+      (
+        c.requires.changeable.fan_out,
+        (
+          live_beside a b L h slot passes es i x d now at moves,
+          (
+            subst (λ l. i < length l) (sym read) at.within,
+            (
+              omega (arith, filled),
+              (
+                omega (arith, filled_added),
+                (
+                  moves.keyless,
+                  (
+                    omega (arith, put.taken, c.requires.changeable.room, c.if-height-eq0.false),
+                    subst (λ p. AreHinted (g.C.Target.Probe.bytes p) (hints_of b))
+                        (sym (c.target-in-Split.ensures.target ∙ c.in-Split.ensures.target)) put.hinted,
+                  ),
+                ),
+              ),
+            ),
+          ),
+        ),
+      ),
+    )
+
+-- A leaf of the child is changed.
+within : (g : Over) (t : ℕ) (c : After-index-entries-step g t) (below : Bool) (key : Option ℕ)
+    (Gives : Bool → Option ℕ → List Item → List Item → Type 0) (now all : List Item)
+    → (below ≡ true → (c.args.place.is_first ≡ true) × (c.step-step.result.index ≡ 0))
+    → (below ≡ false → ((c.args.place.is_first ≡ true) × (c.step-step.result.index ≡ 0 → ⊥)) ⊎ (c.args.place.is_first ≡ false))
+    → key ≡ first_key c.args.place.behind (map item_of (drop (c.step-step.result.index + 1) c.entries-entries.result.now))
+    → all ≡ items_of c.args.nodes.now (c.args.height - 1)
+    (take c.step-step.result.index (entries_of c.header_ref-node.result.now))
+    ++ (now ++ items_of c.args.nodes.now (c.args.height - 1)
+    (drop (c.step-step.result.index + 1) (entries_of c.header_ref-node.result.now)))
+    → IsChangedWithin (g.C.Target.Probe.lets_pass (g.C.LeafChange.target_of c.args.change.now)) Gives below key
+    (items_in c.args.nodes.now (c.args.height - 1)
+    (get_or c.entries-entries.result.now c.step-step.result.index c.index-entries-step.result).child) now
+    → IsChangedWithin (g.C.Target.Probe.lets_pass (g.C.LeafChange.target_of c.args.change.now)) Gives
+    c.args.place.is_first c.args.place.behind (items_in c.args.nodes.now c.args.height c.args.slot) all
+within g t c below key Gives now all both one key_is all_is changed =
+    let i = c.step-step.result.index in
+    within_at c.args.nodes.now (least_of g.row.N) c.args.height (c.args.height - 1) c.args.slot
+    (g.C.Target.Probe.lets_pass (g.C.LeafChange.target_of c.args.change.now))
+    (entries_of c.header_ref-node.result.now) i
+    (get_or c.entries-entries.result.now i c.index-entries-step.result).child
+    c.index-entries-step.result (one_up c.args.height c.if-height-eq0.false) (at_child g t c) Gives
+    c.args.place.is_first below c.args.place.behind key now all c.requires.changeable.subtree
+    c.requires.searched.cut (first_if below c.args.place.is_first i both one)
+    (key_is ∙ ap (λ l. first_key c.args.place.behind (map item_of (drop (i + 1) l))) c.entries-entries.ensures.entries)
+    all_is changed
+
+pub returns-in-Same-clause-changed : goal.returns-in-Same-clause-changed
+returns-in-Same-clause-changed g t c =
+    let at = at_child g t (goal.at.returns-in-Same-clause-changed g t c).After-index-entries-step in
+    same_above _ _ _ _ _ _ _ _ _ _ _ (one_up c.args.height c.if-height-eq0.false) at c.requires.changeable
+    c.in-Same.ensures.changed
+
+pub returns-in-Same-clause-items : goal.returns-in-Same-clause-items
+returns-in-Same-clause-items g t c =
+    let here = goal.at.returns-in-Same-clause-items g t c in
+    let at = at_child g t here.After-index-entries-step in
+    let a = c.args.nodes.now in
+    let n = c.args.height in
+    let h = n - 1 in
+    let slot = c.args.slot in
+    let es = entries_of c.header_ref-node.result.now in
+    let i = c.step-step.result.index in
+    let x = (get_or c.entries-entries.result.now i c.index-entries-step.result).child in
+    let split = items_split a (least_of g.row.N) n h slot _ es i x _ (one_up n c.if-height-eq0.false) at in
+    within g t here.After-index-entries-step _ _ _ _ _ c.if-place.below-true c.if-place.below-false c.key_at.ensures.key
+    (subst (λ b. items_in b n slot ≡ items_of a h (take i es) ++ (items_in b h x ++ items_of a h (drop (i + 1) es)))
+    (sym (c.in-Same.ensures.changed.same refl)) split) c.in-Same.ensures.items
+
+-- the node mended where an item of one version came in
+mended_written : (g : Over) (t : ℕ) (c : After-mend_written g t)
+    → IsAt c.args.nodes.now (least_of g.row.N) (c.args.height - 1) c.args.slot
+    (g.C.Target.Probe.lets_pass (g.C.LeafChange.target_of c.args.change.now))
+    (entries_of c.header_ref-node.result.now) c.step-step.result.index
+    (get_or c.entries-entries.result.now c.step-step.result.index c.index-entries-step.result).child
+    c.index-entries-step.result
+    → IsMendedAt c.change_leaf.new.nodes c.mend_written.new.nodes (least_of g.row.N) (c.args.height - 1) c.args.slot
+mended_written g t c at =
+    let a = c.args.nodes.now in
+    let b = c.change_leaf.new.nodes in
+    let L = least_of g.row.N in
+    let n = c.args.height in
+    let h = n - 1 in
+    let slot = c.args.slot in
+    let passes = g.C.Target.Probe.lets_pass (g.C.LeafChange.target_of c.args.change.now) in
+    let es = entries_of c.header_ref-node.result.now in
+    let i = c.step-step.result.index in
+    let d = c.index-entries-step.result in
+    let x = (get_or c.entries-entries.result.now i d).child in
+    let next = one_up n c.if-height-eq0.false in
+    let version = c.in-Raised.version in
+    let put = c.in-Raised.ensures.changed in
+    let moves = moves_if_changes a b (slots_in a h x) (slots_in b h x) put.changes in
+    let read = read_beside a b L h slot passes es i x d (slots_in b h x) at moves in
+    let family = family_at a b b L n h slot passes es i x d next at put.subtree moves in
+    let fits : SFits w64 version = search rules in
+    let mended = rw (to_z-of_z w64 version fits) at c.mend_written.ensures.mended in
+    mended h family (raised_at a L n h slot passes es i x d next at b version read (put.raised version refl))
+
+pub returns-in-Raised-clause-changed : goal.returns-in-Raised-clause-changed
+returns-in-Raised-clause-changed g t c =
+    let here = goal.at.returns-in-Raised-clause-changed g t c in
+    let at = at_child g t here.After-index-entries-step in
+    let put = c.in-Raised.ensures.changed in
+    let fits : SFits w64 c.in-Raised.version = search rules in
+    rw (to_z-of_z w64 c.in-Raised.version fits) (raised_too _ _ _ _ _ _ _ _ _ _ _ (one_up c.args.height c.if-height-eq0.false) at c.requires.changeable
+    c.mend_written.new.nodes
+    (subst (λ p. AreHinted (g.C.Target.Probe.bytes p) (hints_of c.mend_written.new.nodes))
+    (c.target-in-Raised.ensures.target ∙ c.in-Raised.ensures.target) c.mend_written.ensures.hinted)
+    put.subtree put.changes put.taken (mended_written g t here.After-mend_written at) c.mend_written.ensures.few_less
+    c.mend_written.ensures.spare c.in-Raised.version put)
+
+pub returns-in-Raised-clause-items : goal.returns-in-Raised-clause-items
+returns-in-Raised-clause-items g t c =
+    let here = goal.at.returns-in-Raised-clause-items g t c in
+    let at = at_child g t here.After-index-entries-step in
+    let put = c.in-Raised.ensures.changed in
+    let moves = moves_if_changes _ _ _ _ put.changes in
+    let step = stepped_mended _ _ _ _ _ _ _ _ _ _ _ _ (one_up c.args.height c.if-height-eq0.false) at put.subtree
+    moves (mended_written g t here.After-mend_written at) in
+    within g t here.After-index-entries-step _ _ _ _ _ c.if-place.below-true c.if-place.below-false c.key_at.ensures.key step.items c.in-Raised.ensures.items
+
+-- the node mended where the child has other items
+mended : (g : Over) (t : ℕ) (c : After-mend_child g t)
+    → IsAt c.args.nodes.now (least_of g.row.N) (c.args.height - 1) c.args.slot
+    (g.C.Target.Probe.lets_pass (g.C.LeafChange.target_of c.args.change.now))
+    (entries_of c.header_ref-node.result.now) c.step-step.result.index
+    (get_or c.entries-entries.result.now c.step-step.result.index c.index-entries-step.result).child
+    c.index-entries-step.result
+    → IsMendedAt c.change_leaf.new.nodes c.mend_child.new.nodes (least_of g.row.N) (c.args.height - 1) c.args.slot
+mended g t c at =
+    let put = c.in-Changed.ensures.changed in
+    c.mend_child.ensures.mended (c.args.height - 1)
+    (family_at _ _ c.mend_child.new.nodes _ _ _ _ _ _ _ _ _ (one_up c.args.height c.if-height-eq0.false) at put.subtree
+    (moves_if_changes _ _ _ _ put.changes))
+
+pub returns-in-Changed-clause-changed : goal.returns-in-Changed-clause-changed
+returns-in-Changed-clause-changed g t c =
+    let here = goal.at.returns-in-Changed-clause-changed g t c in
+    let at = at_child g t here.After-index-entries-step in
+    let put = c.in-Changed.ensures.changed in
+    changed_above _ _ _ _ _ _ _ _ _ _ _ (one_up c.args.height c.if-height-eq0.false) at c.requires.changeable
+    c.mend_child.new.nodes
+    (subst (λ p. AreHinted (g.C.Target.Probe.bytes p) (hints_of c.mend_child.new.nodes))
+    (c.target-in-Changed.ensures.target ∙ c.in-Changed.ensures.target) c.mend_child.ensures.hinted)
+    put.subtree put.changes put.taken (mended g t here.After-mend_child at) c.mend_child.ensures.few_less
+    c.mend_child.ensures.spare
+
+pub returns-in-Changed-clause-items : goal.returns-in-Changed-clause-items
+returns-in-Changed-clause-items g t c =
+    let here = goal.at.returns-in-Changed-clause-items g t c in
+    let at = at_child g t here.After-index-entries-step in
+    let put = c.in-Changed.ensures.changed in
+    let moves = moves_if_changes _ _ _ _ put.changes in
+    let step = stepped_mended _ _ _ _ _ _ _ _ _ _ _ _ (one_up c.args.height c.if-height-eq0.false) at put.subtree
+    moves (mended g t here.After-mend_child at) in
+    within g t here.After-index-entries-step _ _ _ _ _ c.if-place.below-true c.if-place.below-false c.key_at.ensures.key step.items c.in-Changed.ensures.items
+
+pub returns-in-Some-clause-changed : goal.returns-in-Some-clause-changed
+returns-in-Some-clause-changed g t c =
+    let at = at_child g t (goal.at.returns-in-Some-clause-changed g t c).After-index-entries-step in
+    let put = c.in-Some.ensures in
+    linked_above _ _ _ _ _ _ _ _ _ _ _ (one_up c.args.height c.if-height-eq0.false) at c.requires.changeable
+    c.link_child.new.nodes
+    (subst (λ p. AreHinted (g.C.Target.Probe.bytes p) (hints_of c.link_child.new.nodes))
+    (c.target-in-Split.ensures.target ∙ c.in-Split.ensures.target) put.hinted)
+    c.in-Split.added c.in-Split.ensures.changed put.taken (Some c.in-Some.added) put.linked put.left put.right put.live
+    put.right_live put.changes
+
+pub returns-in-Some-clause-items : goal.returns-in-Some-clause-items
+returns-in-Some-clause-items g t c =
+    let here = goal.at.returns-in-Some-clause-items g t c in
+    let at = at_child g t here.After-index-entries-step in
+    let put = c.in-Some.ensures in
+    let split = c.in-Split.ensures.changed in
+    let step = stepped_linked _ _ _ _ _ _ _ _ _ _ _ _ (one_up c.args.height c.if-height-eq0.false) at split.subtree
+    c.in-Split.added (Some c.in-Some.added) (moves_if_changes _ _ _ _ split.changes) c.requires.changeable.fan_out put.linked
+    split.neighbour split.filled.0 split.filled.1 put.left put.right put.live put.right_live put.changes in
+    within g t here.After-index-entries-step _ _ _ _ _ c.if-place.below-true c.if-place.below-false c.key_at.ensures.key step.items c.in-Split.ensures.items
+
+pub returns-in-None-clause-changed : goal.returns-in-None-clause-changed
+returns-in-None-clause-changed g t c =
+    let at = at_child g t (goal.at.returns-in-None-clause-changed g t c).After-index-entries-step in
+    let put = c.in-None.ensures in
+    linked_above _ _ _ _ _ _ _ _ _ _ _ (one_up c.args.height c.if-height-eq0.false) at c.requires.changeable
+    c.link_child.new.nodes
+    (subst (λ p. AreHinted (g.C.Target.Probe.bytes p) (hints_of c.link_child.new.nodes))
+    (c.target-in-Split.ensures.target ∙ c.in-Split.ensures.target) put.hinted)
+    c.in-Split.added c.in-Split.ensures.changed put.taken None put.linked put.left put.right put.live put.right_live
+    put.changes
+
+pub returns-in-None-clause-items : goal.returns-in-None-clause-items
+returns-in-None-clause-items g t c =
+    let here = goal.at.returns-in-None-clause-items g t c in
+    let at = at_child g t here.After-index-entries-step in
+    let put = c.in-None.ensures in
+    let split = c.in-Split.ensures.changed in
+    let step = stepped_linked _ _ _ _ _ _ _ _ _ _ _ _ (one_up c.args.height c.if-height-eq0.false) at split.subtree
+    c.in-Split.added None (moves_if_changes _ _ _ _ split.changes) c.requires.changeable.fan_out put.linked split.neighbour
+    split.filled.0 split.filled.1 put.left put.right put.live put.right_live put.changes in
+    within g t here.After-index-entries-step _ _ _ _ _ c.if-place.below-true c.if-place.below-false c.key_at.ensures.key step.items c.in-Split.ensures.items

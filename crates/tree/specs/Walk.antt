@@ -1,0 +1,92 @@
+-- A walk to a leaf, what it changes there, and what it gives. This project's own.
+use Rattle.std.specs.Prelude.{◌≡◌, ◌≤◌, ◌<◌, ◌+◌, ◌⊎◌, ◌↔◌, ◌++◌, ℕ, ℤ, Bool, true, false, List, [], length, nat_eq, Option, None, Some, IfSome, IsTrue}
+use Rattle.std.specs.List.{All, Any, IsDistinct}
+use Rattle.arena.specs.Arena.{Arena, spare_of}
+use Rattle.tree.specs.declared.node.Node.{Node}
+use Rattle.tree.specs.declared.walk.Outcome.{Outcome}
+use Rattle.tree.specs.declared.walk.Outcome.TheVariants.{Same, Raised, Changed, Split}
+use Rattle.tree.specs.Hints.{KeyBytes, AreHinted, KnowsAt}
+use Rattle.tree.specs.Item.{Item}
+use Rattle.tree.specs.Node.{hints_of}
+use Rattle.tree.specs.Path.{IsCut, first_key}
+use Rattle.tree.specs.Replace.{slots_with, Changes, IsKeyless}
+use Rattle.tree.specs.Subtree.{entries_at, items_in, slots_in, IsSubtree}
+use Rattle.tree.specs.Tree.{least_of, IsRooted}
+
+-- The slot of the right neighbour that a subtree was split from, if it was.
+abbrev pub added_by : Outcome → Option ℕ
+added_by Same = None
+added_by (Raised version) = None
+added_by Changed = None
+added_by (Split slot) = Some slot
+
+-- The first key stays. An item of this version is there, and the versions of all others were there before.
+pub record IsRaised (version : ℤ) (was now : List Item) : Type 0 where
+  pub first : first_key None now ≡ first_key None was
+  pub there : Any (λ x. x.version ≡ version) now
+  pub others : All (λ x. (x.version ≡ version) ⊎ Any (λ w. x.version ≡ w.version) was) now
+
+-- An item that passes stands among them, or none stands before them.
+abbrev pub IsFoundAmong : (ℕ → Bool) → List Item → List Item → Type 0
+IsFoundAmong passes before items = (before ≡ []) ⊎ Any (λ x. passes x.key ≡ true) items
+
+-- Items of which those of one leaf were changed: the leaf that has the last item that passes, or else the first one. What is
+-- given of the leaf's is a relation of four: whether no item stands before them, the key of the first item behind them, what
+-- they were, and what they are.
+pub record IsChangedWithin (passes : ℕ → Bool) (Gives : Bool → Option ℕ → List Item → List Item → Type 0) (is_first : Bool)
+    (next : Option ℕ) (was now : List Item) : Type 0 where
+  pub before : List Item
+  pub leaf : List Item
+  pub changed : List Item
+  pub behind : List Item
+  pub was_is : was ≡ before ++ (leaf ++ behind)
+  pub now_is : now ≡ before ++ (changed ++ behind)
+  pub passing : All (λ x. passes x.key ≡ true) before
+  pub failing : All (λ x. passes x.key ≡ false) behind
+  pub found : IsFoundAmong passes before leaf
+  -- whether no item stands before the leaf's
+  pub first : Bool
+  pub first_is : IsTrue first ↔ (IsTrue is_first × (before ≡ []))
+  pub gives : Gives first (first_key next behind) leaf changed
+
+module _ {N : ℕ} where
+  -- A subtree that may be changed: it is right, and there are as many spare slots as a change takes.
+  pub record CanChange (nodes : Arena (Node N)) (height slot : ℕ) : Type 0 where
+    pub fan_out : 4 ≤ N
+    pub few : N ≤ 65536
+    pub subtree : IsSubtree nodes (least_of N) height slot
+    pub some : 1 ≤ length (entries_at nodes slot)
+    pub branches : 1 ≤ height → 2 ≤ length (entries_at nodes slot)
+    pub distinct : IsDistinct nat_eq (slots_in nodes height slot)
+    pub keyless : IsKeyless nodes
+    pub room : height < spare_of nodes 0
+
+  -- What is known of the way to a subtree, where something is looked for.
+  pub record CanSearch (bytes : KeyBytes) (passes : ℕ → Bool) (sought : List ℕ) (nodes : Arena (Node N)) (height slot : ℕ)
+      (shared : Option ℕ) : Type 0 where
+    pub cut : IsCut (λ x. passes x.key) (items_in nodes height slot)
+    pub hinted : AreHinted bytes (hints_of nodes)
+    pub known : KnowsAt bytes passes sought shared (entries_at nodes slot) 0
+
+  -- A subtree once it was changed, and the right neighbour that it was split from, if it was.
+  pub record IsChanged (bytes : KeyBytes) (old new : Arena (Node N)) (height slot : ℕ) (outcome : Outcome) : Type 0 where
+    pub same : outcome ≡ Same → new ≡ old
+    pub raised : (version : ℤ) → outcome ≡ Raised version
+        → IsRaised version (items_in old height slot) (items_in new height slot)
+    pub subtree : IsSubtree new (least_of N) height slot
+    pub neighbour : IfSome (added_by outcome) (λ added. IsSubtree new (least_of N) height added)
+    pub filled : IfSome (added_by outcome) (λ added. (least_of N ≤ length (entries_at new slot))
+        × (least_of N ≤ length (entries_at new added)))
+    pub few_less : 1 ≤ height → added_by outcome ≡ None → length (entries_at old slot) ≤ length (entries_at new slot) + 1
+    pub changes : Changes old new (slots_in old height slot) (slots_with new height slot (added_by outcome))
+    pub taken : spare_of old 0 ≤ spare_of new 0 + (height + 1)
+    pub hinted : AreHinted bytes (hints_of new)
+
+  -- A tree that may be changed.
+  pub record CanChangeTree (nodes : Arena (Node N)) (root height : ℕ) : Type 0 where
+    pub fan_out : 4 ≤ N
+    pub few : N ≤ 65536
+    pub low : height < 63
+    pub rooted : IsRooted nodes root height
+    pub some : 1 ≤ length (entries_at nodes root)
+    pub room : height + 1 < spare_of nodes 0

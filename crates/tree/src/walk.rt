@@ -1,0 +1,143 @@
+//! The one way into a tree: a walk to a leaf, a change of the leaf where it lies, and the mending of the nodes above it.
+
+ghost use Rattle.std.specs.Prelude.{◌≡◌, ◌++◌, ℕ, Bool, List, Option, None};
+ghost use Rattle.tree.specs.Item.{Item};
+ghost use Rattle.tree.specs.Node.{items_of_run};
+ghost use Rattle.tree.specs.Replace.{items_with};
+ghost use Rattle.tree.specs.Subtree.{items_in};
+ghost use Rattle.tree.specs.Walk.{added_by, CanChange, CanSearch, IsChanged, IsChangedWithin};
+
+use crate::node::Node;
+use crate::probe::Probe;
+use crate::replace::{link_child, mend_child, mend_written};
+use crate::search::key_at;
+use arena::{Arena, Slot};
+
+/// What a walk knows of the subtree that it has come to.
+#[derive(Clone, Copy, Debug)]
+pub struct Place {
+    /// How many bytes its first key and the target begin with in common, or none if that key doesn't pass.
+    pub known: Option<usize>,
+    /// The key of the first item behind it.
+    pub behind: Option<Slot>,
+    /// Whether no item stands before it.
+    pub is_first: bool,
+}
+
+/// What a change made of a subtree.
+#[derive(Clone, Copy, Debug)]
+pub enum Outcome {
+    /// It is as it was.
+    Same,
+    /// Its first key is as it was, an item of this version came in, and no other version.
+    Raised(i64),
+    /// Its items are others.
+    Changed,
+    /// It was split: this is the slot of its right neighbour.
+    Split(Slot),
+}
+
+impl Outcome {
+    /// Returns the slot of the right neighbour that the subtree was split from, if it was.
+    pub fn added(self) -> Option<Slot>
+        ensures { result ≡ added_by self }
+    {
+        match self {
+            Outcome::Split(slot) => Some(slot),
+            Outcome::Same | Outcome::Raised(_) | Outcome::Changed => None,
+        }
+    }
+}
+
+/// A change of one leaf: the one that has the last item that passes a target, or else the first leaf.
+pub trait LeafChange<const N: usize> {
+    /// By what the leaf is found.
+    type Target: Probe;
+
+    // the target
+    ghost target_of: { Self → Self.Target };
+
+    // What is wanted of the items of the leaf.
+    ghost wants: { Self → List Item → Type 0 };
+
+    // What the change makes of them: itself before and after, the items that it takes out, whether no item stands before the
+    // leaf's, the key of the first item behind them, what they were, and what they are.
+    ghost gives: { Self → Self → List Item → Bool → Option ℕ → List Item → List Item → Type 0 };
+
+    /// Returns the target.
+    fn target(&self) -> &Self::Target
+        ensures target { result.now ≡ target_of self.now };
+
+    /// Changes the leaf where it lies, and puts the entries that it takes out into `taken`.
+    fn change(
+        &mut self,
+        nodes: &mut Arena<Node<N>>,
+        slot: Slot,
+        place: Place,
+        taken: &mut Option<Node<N>>,
+    ) -> Outcome
+        requires changeable { CanChange nodes.old 0 slot }
+        requires searched { CanSearch (Self.Target.bytes (target_of self.old)) (Self.Target.lets_pass (target_of self.old))
+            (Self.Target.sought (target_of self.old)) nodes.old 0 slot place.known }
+        requires wanted { wants self.old (items_in nodes.old 0 slot) }
+        requires none_taken { taken.old ≡ None }
+        ensures changed { IsChanged (Self.Target.bytes (target_of self.old)) nodes.old nodes.new 0 slot result }
+        ensures items { gives self.old self.new (items_of_run taken.new) place.is_first place.behind (items_in nodes.old 0 slot)
+            (items_with nodes.new 0 slot (added_by result)) }
+        ensures target { target_of self.new ≡ target_of self.old };
+
+    // What is wanted of items is wanted of a part of them.
+    ghost part: { (change : Self) (before items behind : List Item) → wants change (before ++ (items ++ behind))
+        → wants change items };
+}
+
+/// Changes a leaf of a subtree, puts the entries that are taken out into `taken`, and mends the nodes above it. Takes at
+/// most one slot at each height.
+pub fn change_leaf<C: LeafChange<N>, const N: usize>(
+    nodes: &mut Arena<Node<N>>,
+    slot: Slot,
+    height: usize,
+    change: &mut C,
+    place: Place,
+    taken: &mut Option<Node<N>>,
+) -> Outcome
+    requires changeable { CanChange nodes.old height slot }
+    requires searched { CanSearch (C.Target.bytes (C.target_of change.old)) (C.Target.lets_pass (C.target_of change.old))
+        (C.Target.sought (C.target_of change.old)) nodes.old height slot place.known }
+    requires wanted { C.wants change.old (items_in nodes.old height slot) }
+    requires none_taken { taken.old ≡ None }
+    ensures changed { IsChanged (C.Target.bytes (C.target_of change.old)) nodes.old nodes.new height slot result }
+    ensures items { IsChangedWithin (C.Target.lets_pass (C.target_of change.old)) (C.gives change.old change.new (items_of_run taken.new))
+        place.is_first place.behind (items_in nodes.old height slot) (items_with nodes.new height slot (added_by result)) }
+    ensures target { C.target_of change.new ≡ C.target_of change.old }
+{
+    if height == 0 {
+        return change.change(nodes, slot, place, taken);
+    }
+    let node = nodes.header_ref(slot);
+    let step = node.step(change.target(), place.known);
+    let entries = node.entries();
+    let child = entries[step.index].child;
+    let below = Place {
+        known: step.known,
+        behind: key_at(entries, step.index + 1, place.behind),
+        is_first: place.is_first && step.index == 0,
+    };
+    match change_leaf(nodes, child, height - 1, change, below, taken) {
+        Outcome::Same => Outcome::Same,
+        Outcome::Raised(version) => {
+            mend_written(nodes, slot, step.index, version, change.target());
+            Outcome::Raised(version)
+        }
+        Outcome::Changed => {
+            mend_child(nodes, slot, step.index, change.target());
+            Outcome::Changed
+        }
+        Outcome::Split(added) => {
+            match link_child(nodes, slot, step.index, added, change.target()) {
+                Some(added) => Outcome::Split(added),
+                None => Outcome::Changed,
+            }
+        }
+    }
+}
