@@ -104,11 +104,11 @@ module _ {N : ℕ} (bytes : KeyBytes) (a b : Arena (Node N)) (height lower slot 
       raised_too version was = record {
         same = λ is. absurd (cc);
         raised = λ other is. (
-          let same : version ≡ other = cc in
-          subst (λ v. IsRaised v (items_in a height slot) (items_in w height slot)) same
-          (raised_above a (least_of N) height lower slot passes es i x d next at version (items_in b lower x)
-          (items_in w height slot) step_mended.items (was.raised version refl))
-        );
+            let same : version ≡ other = cc in
+            subst (λ v. IsRaised v (items_in a height slot) (items_in w height slot)) same
+            (raised_above a (least_of N) height lower slot passes es i x d next at version (items_in b lower x)
+            (items_in w height slot) step_mended.items (was.raised version refl))
+            );
         subtree = step_mended.subtree;
         neighbour = tt;
         filled = tt;

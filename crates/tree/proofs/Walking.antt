@@ -146,8 +146,8 @@ module _ (front part back now : List Item) where
       record {
         first = first_key-append None front (now ++ back)
             ∙ ap (λ k. first_key k front)
-                (first_key-append None now back ∙ same_first (first_key None back) now part r.first
-                ∙ sym (first_key-append None part back))
+            (first_key-append None now back ∙ same_first (first_key None back) now part r.first
+            ∙ sym (first_key-append None part back))
             ∙ sym (first_key-append None front (part ++ back));
         there = Any-right (λ (x : Item). x.version ≡ version) front (now ++ back)
             (Any-left (λ (x : Item). x.version ≡ version) now back r.there);

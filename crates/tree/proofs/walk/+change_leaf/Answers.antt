@@ -34,7 +34,7 @@ change-requires g t c =
         subst (λ n. CanChange a n slot) lowest c.requires.changeable,
         (
           subst (λ n. CanSearch (g.C.Target.Probe.bytes target) (g.C.Target.Probe.lets_pass target)
-          (g.C.Target.Probe.sought target) a n slot c.args.place.known) lowest c.requires.searched,
+              (g.C.Target.Probe.sought target) a n slot c.args.place.known) lowest c.requires.searched,
           (
             subst (λ n. g.C.LeafChange.wants change (items_in a n slot)) lowest c.requires.wanted,
             c.requires.none_taken,
@@ -151,8 +151,7 @@ change_leaf-requires g t c κs within =
     } in
     let split = items_split a L n h slot passes es i x d (one_up n c.if-height-eq0.false) at in
     let wanted = g.met.C.LeafChange.part c.args.change.now (items_of a h (take i es)) (items_in a h x)
-    (items_of a h (drop (i + 1) es)) (subst (g.C.LeafChange.wants c.args.change.now) split c.requires.wanted) in
-    (
+    (items_of a h (drop (i + 1) es)) (subst (g.C.LeafChange.wants c.args.change.now) split c.requires.wanted) in (
       search rules,
       (search rules, (search rules, (search rules, (search rules, (can, (search_on, (wanted, c.requires.none_taken))))))),
     )
