@@ -32,7 +32,7 @@ pub enum Written {
 impl Written {
     /// Returns how many items come in place of the run.
     pub fn put(self) -> usize
-        ensures { result ≡ put_of self }
+        ensures put { result ≡ put_of self }
     {
         match self {
             Written::Partly { .. } => 0,

@@ -40,7 +40,7 @@ pub enum Outcome {
 impl Outcome {
     /// Returns the slot of the right neighbour that the subtree was split from, if it was.
     pub fn added(self) -> Option<Slot>
-        ensures { result ≡ added_by self }
+        ensures added { result ≡ added_by self }
     {
         match self {
             Outcome::Split(slot) => Some(slot),

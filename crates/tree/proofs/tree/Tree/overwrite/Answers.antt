@@ -121,7 +121,7 @@ overflow_add-self g c =
     let fits : Fits w64 t.room = search rules in
     let room : length (items_in t.nodes t.root.height t.root.slot) + 2 ≤ t.room =
     subst (λ (v : Items). length v.items + 2 ≤ v.room) (sym c.self.view_is) c.requires.room in
-    omega (arith, fits, room, c.put.ensures, put_most c.change.new.change.written, c.self.invariant.counted)
+    omega (arith, fits, room, c.put.ensures.put, put_most c.change.new.change.written, c.self.invariant.counted)
 
 pub overflow_sub-self : goal.overflow_sub-self
 overflow_sub-self g c =
@@ -129,7 +129,7 @@ overflow_sub-self g c =
     omega (
       arith,
       taken_is g at.After-map_or,
-      c.put.ensures,
+      c.put.ensures.put,
       (counted g at.After-change).0,
       c.self.invariant.counted,
     )
@@ -141,7 +141,7 @@ invariant_of-self g c =
     let n = c.change.new in
     let count = counted g at.After-change in
     let taken = taken_is g at.After-map_or in
-    let put = c.put.ensures in
+    let put = c.put.ensures.put in
     let room = room_left g at.After-map_or in
     let most = put_most n.change.written in
     tree_put t.nodes n.nodes t.root.slot t.root.height n.root.slot n.root.height t.len
