@@ -1,5 +1,5 @@
 -- The items of a tree, in the order of their keys. A key is the slot of its bytes. This project's own.
-use Rattle.std.specs.Prelude.{◌≡◌, ℕ, ℤ, ◌≤ℤ◌, List, ◌∷◌, Option, Some, None}
+use Rattle.std.specs.Prelude.{◌≡◌, ◌⊎◌, ℕ, ℤ, ◌≤ℤ◌, List, [], ◌∷◌, Option, Some, None, IfSome, MatchOption}
 use Rattle.std.specs.Int.{int_max}
 use Rattle.std.specs.List.{All, Any}
 use Rattle.tree.specs.declared.entry.Entry.{Entry}
@@ -19,6 +19,16 @@ version_of e = e.version
 pub record IsGreatest {X : Type 0} (version_at : X → ℤ) (version : ℤ) (xs : List X) : Type 0 where
   pub bound : All (λ x. version_at x ≤ℤ version) xs
   pub reached : Any (λ x. version_at x ≡ version) xs
+
+-- the greatest of a version, which may be missing, and those of items
+pub record IsMost (least : Option ℤ) (items : List Item) (version : ℤ) : Type 0 where
+  pub bound : All (λ x. x.version ≤ℤ version) items
+  pub least_bound : IfSome least (λ l. l ≤ℤ version)
+  pub reached : (least ≡ Some version) ⊎ Any (λ x. x.version ≡ version) items
+
+-- that, or none where there is neither
+abbrev pub IsGreatestWith : Option ℤ → List Item → Option ℤ → Type 0
+IsGreatestWith least items result = MatchOption result ((least ≡ None) × (items ≡ [])) (IsMost least items)
 
 -- the greater of two versions, of which either may be missing
 abbrev pub greater_of : Option ℤ → Option ℤ → Option ℤ

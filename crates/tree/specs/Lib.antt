@@ -4,6 +4,8 @@ pub mod Hints
 pub mod Node
 pub mod Subtree
 pub mod Path
+pub mod Finding
+pub mod Reached
 pub mod Question
 pub mod Tree
 pub mod Replace

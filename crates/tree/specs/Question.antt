@@ -1,16 +1,23 @@
 -- What answers a question: the leaf to which its way leads, or else the keys. This project's own.
-use Rattle.std.specs.Prelude.{◌≡◌, ◌≢◌, ◌≤◌, ◌<◌, ◌<ℤ◌, ◌↔◌, ◌++◌, ℕ, ℤ, Bool, false, List, length, get_or, Option, None, Some, IfSome, IsTrue}
+use Rattle.std.specs.Prelude.{◌≡◌, ◌≢◌, ◌≤◌, ◌<◌, ◌<ℤ◌, ◌↔◌, ◌++◌, ◌-◌, ℕ, ℤ, Bool, false, List, filter, length, get_or, slice_get, Option, None, Some, IfSome, IsTrue}
 use Rattle.std.specs.List.{All, Any}
 use Rattle.arena.specs.Arena.{Arena, IsLive}
 use Rattle.tree.specs.declared.node.Node.{Node}
 use Rattle.tree.specs.declared.questions.Approach.{Approach}
 use Rattle.tree.specs.declared.questions.Approach.TheVariants.{Leaf, Clear, Open}
 use Rattle.tree.specs.declared.questions.Near.{Near}
+use Rattle.tree.specs.Finding.{IsOwn}
 use Rattle.tree.specs.Hints.{Hint, KeyBytes, IsDigestFor, KnowsAt}
 use Rattle.tree.specs.Item.{Item}
 use Rattle.tree.specs.Node.{hints_of}
 use Rattle.tree.specs.Path.{IsCut, from_last}
+use Rattle.tree.specs.Reached.{CanReach}
 use Rattle.tree.specs.Subtree.{entries_at, items_in}
+
+-- a subtree that a question can be asked of: both cuts go through its items
+pub record IsAsked {N : ℕ} (nodes : Arena (Node N)) (least height slot : ℕ) (bytes : KeyBytes) (p q : ℕ → Bool) : Type 0 where
+  pub can_reach : CanReach bytes p nodes least height slot
+  pub to : IsCut (λ x. q x.key) (items_in nodes height slot)
 
 -- What is told of some items, if anything is: whether a version of those before the second cut, of those before the first
 -- one the last alone, is above this one. That holds whatever stands before them, and behind them. Where `clear` holds, what
@@ -49,12 +56,7 @@ IsLeading nodes bytes p sought (Leaf near) = IsNear nodes bytes p sought near
 IsLeading nodes bytes p sought Clear = Unit {0}
 IsLeading nodes bytes p sought Open = Unit {0}
 
--- the digest of what is looked for in a node, if it is known to begin as all keys of the node do
-pub record IsOwn (bytes : KeyBytes) (sought : List ℕ) (known : ℕ) (own : Option ℕ) (hint : Hint) : Type 0 where
-  pub digest : IfSome own (λ d. IsDigestFor bytes hint sought d)
-  pub none : own ≡ None → get_or hint.digests 0 0 ≢ 0 → known < hint.skip
-
--- that in the leaf to which a way leads
+-- what the first look gives at the leaf to which a way leads
 abbrev pub IsLooked : {N : ℕ} → Arena (Node N) → KeyBytes → List ℕ → Approach → Option ℕ → Type 0
 IsLooked nodes bytes sought (Leaf near) own = IfSome (hints_of nodes near.leaf) (IsOwn bytes sought near.known own)
 IsLooked nodes bytes sought Clear own = Unit {0}

@@ -2,11 +2,11 @@
 
 ghost use Rattle.std.specs.Prelude.{◌≡◌, ◌≤◌, length};
 ghost use Rattle.arena.specs.Arena.{IsLive};
-ghost use Rattle.tree.specs.Hints.{AreHinted, KnowsAt};
-ghost use Rattle.tree.specs.Node.{hints_of};
-ghost use Rattle.tree.specs.Subtree.{entries_at, items_in, IsSubtree};
+ghost use Rattle.tree.specs.Hints.{KnowsAt};
+ghost use Rattle.tree.specs.Reached.{CanReach};
+ghost use Rattle.tree.specs.Subtree.{entries_at};
 ghost use Rattle.tree.specs.Tree.{least_of};
-ghost use Rattle.tree.specs.Path.{IsCut, leaf_in, behind_leaf, first_key};
+ghost use Rattle.tree.specs.Path.{leaf_in, behind_leaf, first_key};
 
 use crate::node::Node;
 use crate::probe::Probe;
@@ -53,10 +53,7 @@ pub fn find<P: Probe, const N: usize>(
     known: Option<usize>,
     behind: Option<Slot>,
 ) -> Reached
-    requires subtree { IsSubtree nodes.now (least_of N) height slot }
-    requires some { 1 ≤ length (entries_at nodes.now slot) }
-    requires cut { IsCut (λ x. P.lets_pass probe.now x.key) (items_in nodes.now height slot) }
-    requires hinted { AreHinted (P.bytes probe.now) (hints_of nodes.now) }
+    requires can_reach { CanReach (P.bytes probe.now) (P.lets_pass probe.now) nodes.now (least_of N) height slot }
     requires known { KnowsAt (P.bytes probe.now) (P.lets_pass probe.now) (P.sought probe.now) known (entries_at nodes.now slot) 0 }
     ensures leaf { result.leaf ≡ leaf_in nodes.now height slot (P.lets_pass probe.now) }
     ensures known { KnowsAt (P.bytes probe.now) (P.lets_pass probe.now) (P.sought probe.now) result.known

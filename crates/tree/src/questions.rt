@@ -1,13 +1,14 @@
 //! How questions are answered side by side. The way of each is gone down to its leaf, then each leaf is looked at for the
 //! first time, and then each question is answered. So the memory of the leaves is waited for at once.
 
-ghost use Rattle.std.specs.Prelude.{◌≡◌, ◌≢◌, ◌≤◌, ◌<ℤ◌, ◌↔◌, ℕ, true, length, map, take, Some, [], IfSome, IsTrue};
+ghost use Rattle.std.specs.Prelude.{◌≡◌, ◌≢◌, ◌≤◌, ◌<ℤ◌, ◌↔◌, length, map, Some, [], IfSome, IsTrue};
 ghost use Rattle.std.specs.List.{All, AllZip, Any};
+ghost use Rattle.tree.specs.Finding.{IsOwn};
 ghost use Rattle.tree.specs.Hints.{AreHinted, KnowsAt};
 ghost use Rattle.tree.specs.Node.{hints_of};
-ghost use Rattle.tree.specs.Path.{IsCut, from_last, passing as passing_of};
-ghost use Rattle.tree.specs.Question.{IsApproach, IsLeading, IsLooked, IsNear, IsOwn, IsTold};
-ghost use Rattle.tree.specs.Subtree.{entries_at, items_in, IsSubtree};
+ghost use Rattle.tree.specs.Path.{from_last, passing as passing_of};
+ghost use Rattle.tree.specs.Question.{IsApproach, IsAsked, IsLeading, IsLooked, IsNear, IsTold};
+ghost use Rattle.tree.specs.Subtree.{entries_at, items_in};
 ghost use Rattle.tree.specs.Tree.{least_of};
 ghost use Rattle.tree.specs.declared.question.TheConstants.{SIDE};
 
@@ -15,8 +16,8 @@ use crate::descent::known_at;
 use crate::node::Node;
 use crate::probe::Probe;
 use crate::question::{Question, SIDE};
-use crate::root::Root;
-use crate::search::exceeds_from_last;
+use crate::root::{Root, last};
+use crate::search::greatest;
 use crate::span::any_above;
 use arena::{Arena, Slot};
 use arrayvec::ArrayVec;
@@ -51,32 +52,23 @@ pub struct Look {
     pub own: Option<u64>,
 }
 
-/// Goes down a subtree to the leaf that tells whether a version of the items before a cut, of those before another cut the
-/// last alone, is above this one. `known` is how many bytes the first key of the subtree and what the first cut looks for
-/// begin with in common, and `shared` how many what the two cuts look for do. `clear` tells that the items behind the
-/// subtree don't come before the second cut.
+/// Goes down a subtree to the leaf that answers a question. `known` is how many bytes the first key of the subtree and what
+/// the first cut looks for begin with in common. `clear` tells that the items behind the subtree don't come before the second
+/// cut.
 pub fn descend<P: Probe, Q: Probe, const N: usize>(
     nodes: &Arena<Node<N>>,
     slot: Slot,
     height: usize,
-    from: &P,
-    to: &Q,
-    version: i64,
+    question: &Question<P, Q>,
     known: usize,
-    shared: usize,
     clear: bool,
 ) -> Approach
-    requires subtree { IsSubtree nodes.now (least_of N) height slot }
-    requires some { 1 ≤ length (entries_at nodes.now slot) }
-    requires from { IsCut (λ x. P.lets_pass from.now x.key) (items_in nodes.now height slot) }
-    requires to { IsCut (λ x. Q.lets_pass to.now x.key) (items_in nodes.now height slot) }
-    requires nested { (key : ℕ) → P.lets_pass from.now key ≡ true → Q.lets_pass to.now key ≡ true }
-    requires hinted { AreHinted (P.bytes from.now) (hints_of nodes.now) }
-    requires known { KnowsAt (P.bytes from.now) (P.lets_pass from.now) (P.sought from.now) (Some known) (entries_at nodes.now slot) 0 }
-    requires shared { take shared (P.sought from.now) ≡ take shared (Q.sought to.now) }
-    requires bytes { (key : ℕ) → P.bytes from.now key ≡ Q.bytes to.now key }
-    ensures approach { IsApproach nodes.now height slot (P.bytes from.now) (P.lets_pass from.now) (Q.lets_pass to.now)
-        (P.sought from.now) version clear result }
+    requires asked { IsAsked nodes.now (least_of N) height slot (P.bytes question.now.from) (P.lets_pass question.now.from)
+        (Q.lets_pass question.now.to) }
+    requires known { KnowsAt (P.bytes question.now.from) (P.lets_pass question.now.from) (P.sought question.now.from) (Some known)
+        (entries_at nodes.now slot) 0 }
+    ensures approach { IsApproach nodes.now height slot (P.bytes question.now.from) (P.lets_pass question.now.from)
+        (Q.lets_pass question.now.to) (P.sought question.now.from) question.now.version clear result }
 {
     if height == 0 {
         return Approach::Leaf(Near {
@@ -85,20 +77,21 @@ pub fn descend<P: Probe, Q: Probe, const N: usize>(
             clear,
         });
     }
+    let shared = question.shared;
     let node = nodes.header_ref(slot);
     let entries = node.entries();
-    let own = node.digest_for(from, known);
+    let own = node.digest_for(&question.from, known);
     let agrees = own.is_some() && node.skip() <= shared;
-    let digest = node.digest_given(agrees, to, known.min(shared));
-    let step = node.step_by(from, known, own);
+    let digest = node.digest_given(agrees, &question.to, known.min(shared));
+    let step = node.step_by(&question.from, known, own);
     let next = step.index + 1;
     let clear = if next < entries.len() {
-        !node.passes_at(next, to, digest)
+        !node.passes_at(next, &question.to, digest)
     } else {
         clear
     };
     let entry = entries[step.index];
-    if entry.version <= version {
+    if entry.version <= question.version {
         return if clear {
             Approach::Clear
         } else {
@@ -108,44 +101,24 @@ pub fn descend<P: Probe, Q: Probe, const N: usize>(
     let Some(known) = step.known else {
         return Approach::Open;
     };
-    let child = entry.child;
-    descend(
-        nodes,
-        child,
-        height - 1,
-        from,
-        to,
-        version,
-        known,
-        shared,
-        clear,
-    )
+    descend(nodes, entry.child, height - 1, question, known, clear)
 }
 
 /// Goes down a tree so.
 pub fn descend_from<P: Probe, Q: Probe, const N: usize>(
     nodes: &Arena<Node<N>>,
     root: Root,
-    from: &P,
-    to: &Q,
-    version: i64,
-    shared: usize,
+    question: &Question<P, Q>,
 ) -> Approach
-    requires subtree { IsSubtree nodes.now (least_of N) root.height root.slot }
-    requires some { 1 ≤ length (entries_at nodes.now root.slot) }
-    requires from { IsCut (λ x. P.lets_pass from.now x.key) (items_in nodes.now root.height root.slot) }
-    requires to { IsCut (λ x. Q.lets_pass to.now x.key) (items_in nodes.now root.height root.slot) }
-    requires nested { (key : ℕ) → P.lets_pass from.now key ≡ true → Q.lets_pass to.now key ≡ true }
-    requires passing { passing_of (P.lets_pass from.now) (items_in nodes.now root.height root.slot) ≢ [] }
-    requires hinted { AreHinted (P.bytes from.now) (hints_of nodes.now) }
-    requires shared { take shared (P.sought from.now) ≡ take shared (Q.sought to.now) }
-    requires bytes { (key : ℕ) → P.bytes from.now key ≡ Q.bytes to.now key }
-    ensures approach { IsApproach nodes.now root.height root.slot (P.bytes from.now) (P.lets_pass from.now)
-        (Q.lets_pass to.now) (P.sought from.now) version true result }
+    requires asked { IsAsked nodes.now (least_of N) root.height root.slot (P.bytes question.now.from)
+        (P.lets_pass question.now.from) (Q.lets_pass question.now.to) }
+    requires passing { passing_of (P.lets_pass question.now.from) (items_in nodes.now root.height root.slot) ≢ [] }
+    ensures approach { IsApproach nodes.now root.height root.slot (P.bytes question.now.from) (P.lets_pass question.now.from)
+        (Q.lets_pass question.now.to) (P.sought question.now.from) question.now.version true result }
 {
     let Root { slot, height } = root;
-    let known = known_at(nodes, slot, from).unwrap_or(0);
-    descend(nodes, slot, height, from, to, version, known, shared, true)
+    let known = known_at(nodes, slot, &question.from).unwrap_or(0);
+    descend(nodes, slot, height, question, known, true)
 }
 
 /// Looks at the leaf to which a way leads, for the first time.
@@ -168,74 +141,81 @@ pub fn look_at<P: Probe, const N: usize>(nodes: &Arena<Node<N>>, way: &Approach,
     }
 }
 
-// Returns whether a version of the items before a cut, of those before another cut the last alone, is above this one, if
-// the leaf tells so. `own` is what the first look at it gave.
+// Answers a question if the leaf tells the answer. `own` is what the first look at the leaf gave.
 fn leaf_told<P: Probe, Q: Probe, const N: usize>(
     nodes: &Arena<Node<N>>,
     near: Near,
-    from: &P,
-    to: &Q,
-    version: i64,
-    shared: usize,
+    question: &Question<P, Q>,
     own: Option<u64>,
 ) -> Option<bool>
-    requires near { IsNear nodes.now (P.bytes from.now) (P.lets_pass from.now) (P.sought from.now) near }
-    requires from { IsCut (λ x. P.lets_pass from.now x.key) (items_in nodes.now 0 near.leaf) }
-    requires to { IsCut (λ x. Q.lets_pass to.now x.key) (items_in nodes.now 0 near.leaf) }
-    requires nested { (key : ℕ) → P.lets_pass from.now key ≡ true → Q.lets_pass to.now key ≡ true }
-    requires hinted { AreHinted (P.bytes from.now) (hints_of nodes.now) }
-    requires shared { take shared (P.sought from.now) ≡ take shared (Q.sought to.now) }
-    requires bytes { (key : ℕ) → P.bytes from.now key ≡ Q.bytes to.now key }
-    requires own { IfSome (hints_of nodes.now near.leaf) (IsOwn (P.bytes from.now) (P.sought from.now) near.known own) }
-    ensures told { IsTold (P.lets_pass from.now) (Q.lets_pass to.now) version near.clear (items_in nodes.now 0 near.leaf) result }
+    requires asked { IsAsked nodes.now (least_of N) 0 near.leaf (P.bytes question.now.from) (P.lets_pass question.now.from)
+        (Q.lets_pass question.now.to) }
+    requires near { IsNear nodes.now (P.bytes question.now.from) (P.lets_pass question.now.from) (P.sought question.now.from) near }
+    requires own { IfSome (hints_of nodes.now near.leaf) (IsOwn (P.bytes question.now.from) (P.sought question.now.from)
+        near.known own) }
+    ensures told { IsTold (P.lets_pass question.now.from) (Q.lets_pass question.now.to) question.now.version near.clear
+        (items_in nodes.now 0 near.leaf) result }
 {
+    let shared = question.shared;
     let node = nodes.header_ref(near.leaf);
     let entries = node.entries();
-    let begin = node.count_by(from, own);
+    let begin = node.count_by(&question.from, own);
     let agrees = own.is_some() && node.skip() <= shared;
-    let digest = node.digest_given(agrees, to, near.known.min(shared));
-    let end = node.count_on(begin, to, digest);
+    let digest = node.digest_given(agrees, &question.to, near.known.min(shared));
+    let end = node.count_on(begin, &question.to, digest);
     if end == entries.len() && !near.clear {
         return None;
     }
-    Some(any_above(&entries[begin - 1..end], version))
+    Some(any_above(&entries[begin - 1..end], question.version))
 }
 
-/// Returns whether a version of the items before a cut, of those before another cut the last alone, is above this one.
-/// `look` is what the first look at the leaf gave.
-pub fn answer<'a, P: Probe, Q: Probe, const N: usize>(
+/// Answers a question. `look` is what the first look at the leaf gave to which its way leads.
+pub fn answer<P: Probe, Q: Probe, const N: usize>(
     nodes: &Arena<Node<N>>,
     root: Root,
-    from: &'a P,
-    to: &'a Q,
-    version: i64,
-    shared: usize,
+    question: &Question<P, Q>,
     look: Look,
 ) -> bool
-    requires subtree { IsSubtree nodes.now (least_of N) root.height root.slot }
-    requires from { IsCut (λ x. P.lets_pass from.now x.key) (items_in nodes.now root.height root.slot) }
-    requires to { IsCut (λ x. Q.lets_pass to.now x.key) (items_in nodes.now root.height root.slot) }
-    requires nested { (key : ℕ) → P.lets_pass from.now key ≡ true → Q.lets_pass to.now key ≡ true }
-    requires passing { passing_of (P.lets_pass from.now) (items_in nodes.now root.height root.slot) ≢ [] }
-    requires hinted { AreHinted (P.bytes from.now) (hints_of nodes.now) }
-    requires shared { take shared (P.sought from.now) ≡ take shared (Q.sought to.now) }
-    requires bytes { (key : ℕ) → P.bytes from.now key ≡ Q.bytes to.now key }
-    requires approach { IsApproach nodes.now root.height root.slot (P.bytes from.now) (P.lets_pass from.now)
-        (Q.lets_pass to.now) (P.sought from.now) version true look.way }
-    requires looked { IsLooked nodes.now (P.bytes from.now) (P.sought from.now) look.way look.own }
-    ensures above { IsTrue result ↔ Any (λ x. version <ℤ x.version)
-        (from_last (P.lets_pass from.now) (Some (Q.lets_pass to.now)) (items_in nodes.now root.height root.slot)) }
+    requires asked { IsAsked nodes.now (least_of N) root.height root.slot (P.bytes question.now.from)
+        (P.lets_pass question.now.from) (Q.lets_pass question.now.to) }
+    requires passing { passing_of (P.lets_pass question.now.from) (items_in nodes.now root.height root.slot) ≢ [] }
+    requires approach { IsApproach nodes.now root.height root.slot (P.bytes question.now.from) (P.lets_pass question.now.from)
+        (Q.lets_pass question.now.to) (P.sought question.now.from) question.now.version true look.way }
+    requires looked { IsLooked nodes.now (P.bytes question.now.from) (P.sought question.now.from) look.way look.own }
+    ensures above { IsTrue result ↔ Any (λ x. question.now.version <ℤ x.version)
+        (from_last (P.lets_pass question.now.from) (Some (Q.lets_pass question.now.to)) (items_in nodes.now root.height root.slot)) }
 {
-    let Root { slot, height } = root;
     let Look { way, own } = look;
     match way {
-        Approach::Leaf(near) => match leaf_told(nodes, near, from, to, version, shared, own) {
+        Approach::Leaf(near) => match leaf_told(nodes, near, question, own) {
             Some(above) => above,
-            None => exceeds_from_last(nodes, slot, height, from, Some(to), version),
+            None => exceeds(nodes, root, question),
         },
         Approach::Clear => false,
-        Approach::Open => exceeds_from_last(nodes, slot, height, from, Some(to), version),
+        Approach::Open => exceeds(nodes, root, question),
     }
+}
+
+// Answers a question by a way down the tree along each of its cuts.
+fn exceeds<P: Probe, Q: Probe, const N: usize>(
+    nodes: &Arena<Node<N>>,
+    root: Root,
+    question: &Question<P, Q>,
+) -> bool
+    requires asked { IsAsked nodes.now (least_of N) root.height root.slot (P.bytes question.now.from)
+        (P.lets_pass question.now.from) (Q.lets_pass question.now.to) }
+    requires passing { passing_of (P.lets_pass question.now.from) (items_in nodes.now root.height root.slot) ≢ [] }
+    ensures above { IsTrue result ↔ Any (λ x. question.now.version <ℤ x.version)
+        (from_last (P.lets_pass question.now.from) (Some (Q.lets_pass question.now.to)) (items_in nodes.now root.height root.slot)) }
+{
+    let version = question.version;
+    let from = &question.from;
+    if last(nodes, root, from).unwrap().version > version {
+        return true;
+    }
+    let Root { slot, height } = root;
+    let to = &question.to;
+    greatest(nodes, slot, height, Some(from), Some(to), Some(version)).unwrap() > version
 }
 
 /// Goes down a tree for each question. There are at most [`SIDE`].
@@ -245,24 +225,15 @@ pub fn descend_each<P: Probe, Q: Probe, const N: usize>(
     questions: &[Question<P, Q>],
 ) -> ArrayVec<Approach, SIDE>
     requires few { length questions.now ≤ SIDE }
-    requires subtree { IsSubtree nodes.now (least_of N) root.now.height root.now.slot }
-    requires some { 1 ≤ length (entries_at nodes.now root.now.slot) }
-    requires from { All (λ q. IsCut (λ x. P.lets_pass q.from x.key) (items_in nodes.now root.now.height root.now.slot)) questions.now }
-    requires to { All (λ q. IsCut (λ x. Q.lets_pass q.to x.key) (items_in nodes.now root.now.height root.now.slot)) questions.now }
+    requires asked { All (λ q. IsAsked nodes.now (least_of N) root.now.height root.now.slot (P.bytes q.from) (P.lets_pass q.from)
+        (Q.lets_pass q.to)) questions.now }
     requires passing { All (λ q. passing_of (P.lets_pass q.from) (items_in nodes.now root.now.height root.now.slot) ≢ []) questions.now }
-    requires hinted { All (λ q. AreHinted (P.bytes q.from) (hints_of nodes.now)) questions.now }
     ensures ways { AllZip (λ q way. IsApproach nodes.now root.now.height root.now.slot (P.bytes q.from)
         (P.lets_pass q.from) (Q.lets_pass q.to) (P.sought q.from) q.version true way) questions.now result.items }
 {
     let mut ways = ArrayVec::new();
     for question in questions {
-        let Question {
-            from,
-            to,
-            shared,
-            version,
-        } = question;
-        ways.push(descend_from(nodes, *root, from, to, *version, *shared));
+        ways.push(descend_from(nodes, *root, question));
     }
     ways
 }
@@ -296,11 +267,9 @@ pub fn answer_each<P: Probe, Q: Probe, const N: usize>(
     looks: &[Look],
 ) -> ArrayVec<bool, SIDE>
     requires few { length questions.now ≤ SIDE }
-    requires subtree { IsSubtree nodes.now (least_of N) root.now.height root.now.slot }
-    requires from { All (λ q. IsCut (λ x. P.lets_pass q.from x.key) (items_in nodes.now root.now.height root.now.slot)) questions.now }
-    requires to { All (λ q. IsCut (λ x. Q.lets_pass q.to x.key) (items_in nodes.now root.now.height root.now.slot)) questions.now }
+    requires asked { All (λ q. IsAsked nodes.now (least_of N) root.now.height root.now.slot (P.bytes q.from) (P.lets_pass q.from)
+        (Q.lets_pass q.to)) questions.now }
     requires passing { All (λ q. passing_of (P.lets_pass q.from) (items_in nodes.now root.now.height root.now.slot) ≢ []) questions.now }
-    requires hinted { All (λ q. AreHinted (P.bytes q.from) (hints_of nodes.now)) questions.now }
     requires approach { AllZip (λ q l. IsApproach nodes.now root.now.height root.now.slot (P.bytes q.from)
         (P.lets_pass q.from) (Q.lets_pass q.to) (P.sought q.from) q.version true l.way) questions.now looks.now }
     requires looked { AllZip (λ q l. IsLooked nodes.now (P.bytes q.from) (P.sought q.from) l.way l.own) questions.now looks.now }
@@ -310,13 +279,7 @@ pub fn answer_each<P: Probe, Q: Probe, const N: usize>(
 {
     let mut answers = ArrayVec::new();
     for (question, look) in questions.iter().zip(looks) {
-        let Question {
-            from,
-            to,
-            shared,
-            version,
-        } = question;
-        answers.push(answer(nodes, *root, from, to, *version, *shared, *look));
+        answers.push(answer(nodes, *root, question, *look));
     }
     answers
 }

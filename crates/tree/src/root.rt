@@ -1,19 +1,21 @@
 //! The root of a tree, and what becomes of it where a leaf changes.
 
-ghost use Rattle.std.specs.Prelude.{◌≡◌, ◌≤◌, ◌<◌, ◌+◌, ◌++◌, true, false, [], filter, length, map, nat_eq, None, Some};
+ghost use Rattle.std.specs.Prelude.{◌≡◌, ◌≤◌, ◌<◌, ◌+◌, ◌++◌, [], length, nat_eq, None, MatchOption, Some};
 ghost use Rattle.std.specs.List.{All, IsDistinct};
 ghost use Rattle.std.specs.FinMap as map_of;
 ghost use Rattle.arena.specs.Arena.{IsLive, spare_of};
 ghost use Rattle.tree.specs.Item.{item_of};
-ghost use Rattle.tree.specs.Hints.{AreHinted, KeyBytes, KnowsAt};
+ghost use Rattle.tree.specs.Hints.{AreHinted, KeyBytes};
 ghost use Rattle.tree.specs.Node.{hints_of, items_of_run};
 ghost use Rattle.tree.specs.Subtree.{entries_at, items_in, slots_in, IsSubtree};
-ghost use Rattle.tree.specs.Path.{IsCut, before_leaf, behind_leaf, first_key};
+ghost use Rattle.tree.specs.Path.{passing as passing_of};
+ghost use Rattle.tree.specs.Reached.{CanReach, IsReached};
 ghost use Rattle.tree.specs.Replace.{items_with, slots_with, IsKeyless};
-ghost use Rattle.tree.specs.Tree.{least_of, IsRooted};
+ghost use Rattle.tree.specs.Tree.{least_of, IsLast, IsRooted};
 ghost use Rattle.tree.specs.Walk.{CanChangeTree, IsChangedWithin};
 
 use crate::descent::{Reached, find, known_at};
+use crate::entry::Entry;
 use crate::mend::summary;
 use crate::node::Node;
 use crate::probe::Probe;
@@ -31,27 +33,23 @@ pub struct Root {
 
 /// Finds the leaf that has the last item that passes, or else the first leaf.
 pub fn reach<P: Probe, const N: usize>(nodes: &Arena<Node<N>>, root: Root, probe: &P) -> Reached
-    requires subtree { IsSubtree nodes.now (least_of N) root.height root.slot }
-    requires some { 1 ≤ length (entries_at nodes.now root.slot) }
-    requires cut { IsCut (λ x. P.lets_pass probe.now x.key) (items_in nodes.now root.height root.slot) }
-    requires hinted { AreHinted (P.bytes probe.now) (hints_of nodes.now) }
-    ensures live { IsLive nodes.now result.leaf }
-    ensures items { items_in nodes.now root.height root.slot ≡ before_leaf nodes.now root.height root.slot (P.lets_pass probe.now)
-        ++ (map item_of (entries_at nodes.now result.leaf) ++ behind_leaf nodes.now root.height root.slot (P.lets_pass probe.now)) }
-    ensures before { All (λ x. P.lets_pass probe.now x.key ≡ true)
-        (before_leaf nodes.now root.height root.slot (P.lets_pass probe.now)) }
-    ensures behind { All (λ x. P.lets_pass probe.now x.key ≡ false)
-        (behind_leaf nodes.now root.height root.slot (P.lets_pass probe.now)) }
-    ensures none { filter (λ e. P.lets_pass probe.now e.key) (entries_at nodes.now result.leaf) ≡ []
-        → before_leaf nodes.now root.height root.slot (P.lets_pass probe.now) ≡ [] }
-    ensures cut { IsCut (λ e. P.lets_pass probe.now e.key) (entries_at nodes.now result.leaf) }
-    ensures some { 1 ≤ length (entries_at nodes.now result.leaf) }
-    ensures known { KnowsAt (P.bytes probe.now) (P.lets_pass probe.now) (P.sought probe.now) result.known
-        (entries_at nodes.now result.leaf) 0 }
-    ensures next { result.behind ≡ first_key None (behind_leaf nodes.now root.height root.slot (P.lets_pass probe.now)) }
+    requires can_reach { CanReach (P.bytes probe.now) (P.lets_pass probe.now) nodes.now (least_of N) root.height root.slot }
+    ensures reached { IsReached (P.bytes probe.now) (P.lets_pass probe.now) (P.sought probe.now) nodes.now root.height root.slot result }
 {
     let known = known_at(nodes, root.slot, probe);
     find(nodes, root.slot, root.height, probe, known, None)
+}
+
+/// Returns the last item that passes.
+pub fn last<P: Probe, const N: usize>(nodes: &Arena<Node<N>>, root: Root, probe: &P) -> Option<Entry>
+    requires can_reach { CanReach (P.bytes probe.now) (P.lets_pass probe.now) nodes.now (least_of N) root.height root.slot }
+    ensures last { MatchOption result (passing_of (P.lets_pass probe.now) (items_in nodes.now root.height root.slot) ≡ [])
+        (λ e. IsLast (item_of e) (passing_of (P.lets_pass probe.now) (items_in nodes.now root.height root.slot))) }
+{
+    let reached = reach(nodes, root, probe);
+    let leaf = nodes.header_ref(reached.leaf);
+    let count = leaf.count(probe, reached.known);
+    leaf.entries()[..count].last().copied()
 }
 
 /// Changes a leaf of a tree, and puts the entries that are taken out into `taken`. A root that is split gets one above

@@ -1,16 +1,16 @@
 //! The way down a tree.
 
-ghost use Rattle.std.specs.Prelude.{◌≡◌, ◌≢◌, ◌<◌, ◌≤◌, ◌<ℤ◌, ◌↔◌, ◌++◌, ℕ, Bool, true, false, not, List, length, take, drop, filter, map, option_map, [], IfSome, IsTrue, MatchOption};
+ghost use Rattle.std.specs.Prelude.{◌≡◌, ◌≢◌, ◌<◌, ◌≤◌, ℕ, true, not, length, take, drop, filter, map, option_map, IfSome};
 ghost use Rattle.std.specs.List.{All, Any};
-ghost use Rattle.tree.specs.Item.{item_of, IsGreatest};
+ghost use Rattle.tree.specs.Item.{item_of, IsGreatestWith};
 ghost use Rattle.tree.specs.Subtree.{entries_at, items_in, IsSubtree};
 ghost use Rattle.tree.specs.Tree.{least_of};
-ghost use Rattle.tree.specs.Path.{IsCut, passing as passing_cut, behind as behind_cut, from_last, index_in, first_key, between};
+ghost use Rattle.tree.specs.Path.{IsCut, behind as behind_cut, index_in, first_key, between};
 
 use crate::entry::Entry;
 use crate::node::Node;
 use crate::probe::Probe;
-use crate::span::{any_above, begin_of, end_of, greater, greatest_of};
+use crate::span::{begin_of, end_of, greater, greatest_of, is_above};
 use arena::{Arena, Slot};
 
 /// Returns how many of the entries pass, which come first.
@@ -65,112 +65,46 @@ pub fn key_at(entries: &[Entry], index: usize, behind: Option<Slot>) -> Option<S
     }
 }
 
-/// Returns whether a version of the items from one cut to another is above this one.
-pub fn exceeds<'a, P: Probe, Q: Probe, const N: usize>(
-    nodes: &Arena<Node<N>>,
-    slot: Slot,
-    height: usize,
-    from: Option<&'a P>,
-    to: Option<&'a Q>,
-    version: i64,
-) -> bool
-    requires subtree { IsSubtree nodes.now (least_of N) height slot }
-    requires from { IfSome from (λ p. IsCut (λ x. P.lets_pass p.now x.key) (items_in nodes.now height slot)) }
-    requires to { IfSome to (λ q. IsCut (λ x. Q.lets_pass q.now x.key) (items_in nodes.now height slot)) }
-    requires nested { IfSome from (λ p. IfSome to (λ q. (key : ℕ) → P.lets_pass p.now key ≡ true → Q.lets_pass q.now key ≡ true)) }
-    ensures above { IsTrue result ↔ Any (λ x. version <ℤ x.version)
-        (between (option_map (λ p. P.lets_pass p.now) from.entry) (option_map (λ q. Q.lets_pass q.now) to.entry)
-        (items_in nodes.now height slot)) }
-{
-    let entries = nodes.header_ref(slot).entries();
-    let begin = begin_of(entries, from);
-    let end = end_of(entries, to);
-    if height == 0 {
-        return any_above(&entries[begin..end], version);
-    }
-    let first = begin.saturating_sub(1);
-    let last = end.saturating_sub(1);
-    let (left, right) = (entries[first], entries[last]);
-    if first == last {
-        return left.version > version && exceeds(nodes, left.child, height - 1, from, to, version);
-    }
-    let none: Option<&'a Q> = None;
-    let without: Option<&'a P> = None;
-    any_above(&entries[first + 1..last], version)
-        || left.version > version && exceeds(nodes, left.child, height - 1, from, none, version)
-        || right.version > version && exceeds(nodes, right.child, height - 1, without, to, version)
-}
-
-/// Returns whether a version of the items before a cut, of those before another cut the last alone, is above this one.
-pub fn exceeds_from_last<'a, P: Probe, Q: Probe, const N: usize>(
-    nodes: &Arena<Node<N>>,
-    slot: Slot,
-    height: usize,
-    from: &'a P,
-    to: Option<&'a Q>,
-    version: i64,
-) -> bool
-    requires subtree { IsSubtree nodes.now (least_of N) height slot }
-    requires from { IsCut (λ x. P.lets_pass from.now x.key) (items_in nodes.now height slot) }
-    requires to { IfSome to (λ q. IsCut (λ x. Q.lets_pass q.now x.key) (items_in nodes.now height slot)) }
-    requires nested { IfSome to (λ q. (key : ℕ) → P.lets_pass from.now key ≡ true → Q.lets_pass q.now key ≡ true) }
-    requires some { passing_cut (P.lets_pass from.now) (items_in nodes.now height slot) ≢ [] }
-    ensures above { IsTrue result ↔ Any (λ x. version <ℤ x.version)
-        (from_last (P.lets_pass from.now) (option_map (λ q. Q.lets_pass q.now) to.entry)
-        (items_in nodes.now height slot)) }
-{
-    let entries = nodes.header_ref(slot).entries();
-    let first = index_of(entries, from);
-    let end = end_of(entries, to);
-    if height == 0 {
-        return any_above(&entries[first..end], version);
-    }
-    let last = end.saturating_sub(1);
-    let (left, right) = (entries[first], entries[last]);
-    if first == last {
-        return left.version > version
-            && exceeds_from_last(nodes, left.child, height - 1, from, to, version);
-    }
-    let none: Option<&'a Q> = None;
-    let without: Option<&'a P> = None;
-    any_above(&entries[first + 1..last], version)
-        || left.version > version
-            && exceeds_from_last(nodes, left.child, height - 1, from, none, version)
-        || right.version > version && exceeds(nodes, right.child, height - 1, without, to, version)
-}
-
-/// Returns the greatest version of the items from one cut to another, or none if there is no item.
+/// Returns the greatest of a version, which may be missing, and those of the items from one cut to another. Subtrees that have
+/// none above it are passed over.
 pub fn greatest<'a, P: Probe, Q: Probe, const N: usize>(
     nodes: &Arena<Node<N>>,
     slot: Slot,
     height: usize,
     from: Option<&'a P>,
     to: Option<&'a Q>,
+    least: Option<i64>,
 ) -> Option<i64>
     requires subtree { IsSubtree nodes.now (least_of N) height slot }
     requires from { IfSome from (λ p. IsCut (λ x. P.lets_pass p.now x.key) (items_in nodes.now height slot)) }
     requires to { IfSome to (λ q. IsCut (λ x. Q.lets_pass q.now x.key) (items_in nodes.now height slot)) }
     requires nested { IfSome from (λ p. IfSome to (λ q. (key : ℕ) → P.lets_pass p.now key ≡ true → Q.lets_pass q.now key ≡ true)) }
-    ensures greatest { let items = between (option_map (λ p. P.lets_pass p.now) from.entry) (option_map (λ q. Q.lets_pass q.now) to.entry)
-        (items_in nodes.now height slot) in
-        MatchOption result (items ≡ []) (λ version. IsGreatest (λ x. x.version) version items) }
+    ensures greatest { IsGreatestWith least (between (option_map (λ p. P.lets_pass p.now) from.entry)
+        (option_map (λ q. Q.lets_pass q.now) to.entry) (items_in nodes.now height slot)) result }
 {
     let entries = nodes.header_ref(slot).entries();
     let begin = begin_of(entries, from);
     let end = end_of(entries, to);
     if height == 0 {
-        return greatest_of(&entries[begin..end]);
+        return greater(least, greatest_of(&entries[begin..end]));
     }
     let first = begin.saturating_sub(1);
     let last = end.saturating_sub(1);
     let (left, right) = (entries[first], entries[last]);
     if first == last {
-        return greatest(nodes, left.child, height - 1, from, to);
+        if !is_above(left.version, least) {
+            return least;
+        }
+        return greatest(nodes, left.child, height - 1, from, to, least);
     }
     let none: Option<&'a Q> = None;
     let without: Option<&'a P> = None;
-    let sooner = greatest(nodes, left.child, height - 1, from, none);
-    let inner = greatest_of(&entries[first + 1..last]);
-    let later = greatest(nodes, right.child, height - 1, without, to);
-    greater(sooner, greater(inner, later))
+    let mut most = greater(least, greatest_of(&entries[first + 1..last]));
+    if is_above(left.version, most) {
+        most = greatest(nodes, left.child, height - 1, from, none, most);
+    }
+    if is_above(right.version, most) {
+        most = greatest(nodes, right.child, height - 1, without, to, most);
+    }
+    most
 }

@@ -1,6 +1,6 @@
 //! The entries from one cut to another.
 
-ghost use Rattle.std.specs.Prelude.{◌≡◌, ◌≤◌, ◌<ℤ◌, ◌↔◌, [], length, filter, option_map, IsTrue, MatchOption};
+ghost use Rattle.std.specs.Prelude.{◌≡◌, ◌≤◌, ◌<ℤ◌, ◌↔◌, [], length, filter, option_map, IfSome, IsTrue, MatchOption};
 ghost use Rattle.std.specs.List.{Any};
 ghost use Rattle.tree.specs.Item.{IsGreatest, version_of, greater_of};
 ghost use Rattle.tree.specs.Path.{IsCut, from_cut, to_cut};
@@ -55,5 +55,15 @@ pub fn greater(one: Option<i64>, other: Option<i64>) -> Option<i64>
         (Some(a), Some(b)) => Some(a.max(b)),
         (Some(_), None) => one,
         (None, _) => other,
+    }
+}
+
+/// Returns whether a version is above another one, which may be missing.
+pub fn is_above(version: i64, least: Option<i64>) -> bool
+    ensures above { IsTrue result ↔ IfSome least (λ least. least <ℤ version) }
+{
+    match least {
+        Some(least) => version > least,
+        None => true,
     }
 }

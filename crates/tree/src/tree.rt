@@ -17,9 +17,9 @@ use crate::node::Node;
 use crate::overwrite::{Overwrite, Overwriting, Written};
 use crate::probe::Probe;
 use crate::question::{Question, SIDE};
-use crate::questions::{answer, answer_each, descend_each, descend_from, look_at, look_at_each};
-use crate::root::{Root, change, reach};
-use crate::search::{exceeds, greatest, key_behind};
+use crate::questions::{answer_each, descend_each, look_at_each};
+use crate::root::{Root, change, last};
+use crate::search::{greatest, key_behind};
 use crate::thin::{Thinned, Thinning};
 use arena::{Arena, ArenaError, Slot};
 use arrayvec::ArrayVec;
@@ -127,10 +127,7 @@ impl<const N: usize> Tree<N> {
         ensures last { MatchOption result (passing_of (P.lets_pass probe.now) self.now.items ≡ [])
             (λ e. IsLast (item_of e) (passing_of (P.lets_pass probe.now) self.now.items)) }
     {
-        let reached = reach(&self.nodes, self.root, probe);
-        let leaf = self.nodes.header_ref(reached.leaf);
-        let count = leaf.count(probe, reached.known);
-        leaf.entries()[..count].last().copied()
+        last(&self.nodes, self.root, probe)
     }
 
     /// Returns the key of the first item that doesn't pass.
@@ -141,50 +138,8 @@ impl<const N: usize> Tree<N> {
         key_behind(&self.nodes, self.root.slot, self.root.height, probe, None)
     }
 
-    /// Returns whether a version of the items from one cut to another is above this one.
-    pub fn exceeds<'a, P: Probe, Q: Probe>(&self, from: &'a P, to: &'a Q, version: i64) -> bool
-        requires from { IsCut (λ x. P.lets_pass from.now x.key) self.now.items }
-        requires to { IsCut (λ x. Q.lets_pass to.now x.key) self.now.items }
-        requires nested { (key : ℕ) → P.lets_pass from.now key ≡ true → Q.lets_pass to.now key ≡ true }
-        ensures above { IsTrue result ↔ Any (λ x. version <ℤ x.version)
-            (between (Some (P.lets_pass from.now)) (Some (Q.lets_pass to.now)) self.now.items) }
-    {
-        exceeds(
-            &self.nodes,
-            self.root.slot,
-            self.root.height,
-            Some(from),
-            Some(to),
-            version,
-        )
-    }
-
-    /// Returns whether a version of the items before the second cut, of those before the first one the last alone, is
-    /// above this one. What the cuts look for begins with `shared` bytes in common, at least.
-    pub fn exceeds_from_last<'a, P: Probe, Q: Probe>(
-        &self,
-        from: &'a P,
-        to: &'a Q,
-        shared: usize,
-        version: i64,
-    ) -> bool
-        requires from { IsCut (λ x. P.lets_pass from.now x.key) self.now.items }
-        requires to { IsCut (λ x. Q.lets_pass to.now x.key) self.now.items }
-        requires nested { (key : ℕ) → P.lets_pass from.now key ≡ true → Q.lets_pass to.now key ≡ true }
-        requires some { passing_of (P.lets_pass from.now) self.now.items ≢ [] }
-        requires hinted { AreHinted (P.bytes from.now) (hints_in self.now) }
-        requires bytes { (key : ℕ) → P.bytes from.now key ≡ Q.bytes to.now key }
-        requires shared { take shared (P.sought from.now) ≡ take shared (Q.sought to.now) }
-        ensures above { IsTrue result ↔ Any (λ x. version <ℤ x.version)
-            (from_last (P.lets_pass from.now) (Some (Q.lets_pass to.now)) self.now.items) }
-    {
-        let way = descend_from(&self.nodes, self.root, from, to, version, shared);
-        let look = look_at(&self.nodes, &way, from);
-        answer(&self.nodes, self.root, from, to, version, shared, look)
-    }
-
-    /// Answers each question as `exceeds_from_last` does, in their order. There are at most [`SIDE`], and they are answered
-    /// side by side. It takes no memory.
+    /// Returns for each question, in their order, whether a version of the items before its second cut, of those before its first
+    /// one the last alone, is above its own. There are at most [`SIDE`], and they are answered side by side. It takes no memory.
     pub fn exceeds_each<P: Probe, Q: Probe>(
         &self,
         questions: &[Question<P, Q>],
@@ -216,6 +171,7 @@ impl<const N: usize> Tree<N> {
             self.root.height,
             Some(from),
             Some(to),
+            None,
         )
     }
 

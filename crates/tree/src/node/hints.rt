@@ -3,6 +3,7 @@
 ghost use Rattle.std.specs.Prelude.{◌≡◌, ◌≢◌, ◌<◌, ◌≤◌, ◌+◌, ◌-◌, ◌++◌, ◌⊎◌, ℕ, List, [], length, filter, map, take, drop, nat_lt, get_or, slice_get, slice_index, slice_set, None, Some, IfSome, IsTrue};
 ghost use Rattle.std.specs.Int.{w64, to_be_bytes};
 ghost use Rattle.std.specs.List.{All, Contains};
+ghost use Rattle.tree.specs.Finding.{AreTied, CanFind, HasDigest, IsCount, IsOwn, IsStep};
 ghost use Rattle.tree.specs.Hints.{Agrees, BeginAlike, IsDigestFor, IsHinted, IsKnown, KnowsAt, Begins, digest_at};
 ghost use Rattle.tree.specs.Node.{entries_of, hint_of, keys_of};
 ghost use Rattle.tree.specs.Path.{IsCut, index_in};
@@ -37,14 +38,9 @@ impl<const N: usize> Node<N> {
     /// Finds the last entry that passes, or else the first one. `known` is how many bytes the first key and what is
     /// looked for begin with in common, or none if that key doesn't pass.
     pub fn step<P: Probe>(&self, probe: &P, known: Option<usize>) -> Step
-        requires hinted { IsHinted (P.bytes probe.now) (hint_of self.now) }
-        requires cut { IsCut (λ e. P.lets_pass probe.now e.key) (entries_of self.now) }
-        requires some { 0 < length (entries_of self.now) }
+        requires can_find { CanFind (P.bytes probe.now) (P.lets_pass probe.now) self.now }
         requires known { KnowsAt (P.bytes probe.now) (P.lets_pass probe.now) (P.sought probe.now) known (entries_of self.now) 0 }
-        ensures index { result.index ≡ index_in (P.lets_pass probe.now) (entries_of self.now) }
-        ensures within { result.index < length (entries_of self.now) }
-        ensures known { KnowsAt (P.bytes probe.now) (P.lets_pass probe.now) (P.sought probe.now) result.known
-            (entries_of self.now) result.index }
+        ensures step { IsStep (P.bytes probe.now) (P.lets_pass probe.now) (P.sought probe.now) self.now result }
     {
         let Some(shared) = known else {
             return Step {
@@ -58,17 +54,11 @@ impl<const N: usize> Node<N> {
     /// Finds the last entry that passes, where the first one does. `shared` is how many bytes the first key and what is
     /// looked for begin with in common. `digest` is what `digest_for` returns for it.
     pub fn step_by<P: Probe>(&self, probe: &P, shared: usize, digest: Option<u64>) -> Step
-        requires hinted { IsHinted (P.bytes probe.now) (hint_of self.now) }
-        requires cut { IsCut (λ e. P.lets_pass probe.now e.key) (entries_of self.now) }
-        requires some { 0 < length (entries_of self.now) }
+        requires can_find { CanFind (P.bytes probe.now) (P.lets_pass probe.now) self.now }
         requires known { KnowsAt (P.bytes probe.now) (P.lets_pass probe.now) (P.sought probe.now) (Some shared)
             (entries_of self.now) 0 }
-        requires digest { IfSome digest (λ d. IsDigestFor (P.bytes probe.now) (hint_of self.now) (P.sought probe.now) d) }
-        requires none { digest ≡ None → get_or (hint_of self.now).digests 0 0 ≢ 0 → shared < (hint_of self.now).skip }
-        ensures index { result.index ≡ index_in (P.lets_pass probe.now) (entries_of self.now) }
-        ensures within { result.index < length (entries_of self.now) }
-        ensures known { KnowsAt (P.bytes probe.now) (P.lets_pass probe.now) (P.sought probe.now) result.known
-            (entries_of self.now) result.index }
+        requires digest { IsOwn (P.bytes probe.now) (P.sought probe.now) shared digest (hint_of self.now) }
+        ensures step { IsStep (P.bytes probe.now) (P.lets_pass probe.now) (P.sought probe.now) self.now result }
     {
         let index = self.count_by(probe, digest).saturating_sub(1);
         let shared = self.shared_at(index, probe, shared, digest);
@@ -81,12 +71,9 @@ impl<const N: usize> Node<N> {
     /// Returns how many of the entries pass. `known` is how many bytes the first key and what is looked for begin with
     /// in common, or none if that key doesn't pass.
     pub fn count<P: Probe>(&self, probe: &P, known: Option<usize>) -> usize
-        requires hinted { IsHinted (P.bytes probe.now) (hint_of self.now) }
-        requires cut { IsCut (λ e. P.lets_pass probe.now e.key) (entries_of self.now) }
-        requires some { 0 < length (entries_of self.now) }
+        requires can_find { CanFind (P.bytes probe.now) (P.lets_pass probe.now) self.now }
         requires known { KnowsAt (P.bytes probe.now) (P.lets_pass probe.now) (P.sought probe.now) known (entries_of self.now) 0 }
-        ensures within { result ≤ length (entries_of self.now) }
-        ensures count { result ≡ length (filter (λ e. P.lets_pass probe.now e.key) (entries_of self.now)) }
+        ensures count { IsCount (P.lets_pass probe.now) self.now result }
     {
         let Some(shared) = known else {
             return 0;
@@ -96,14 +83,11 @@ impl<const N: usize> Node<N> {
 
     /// Returns how many of the entries pass. `digest` is that of what is looked for, if it begins as all keys do.
     pub fn count_by<P: Probe>(&self, probe: &P, digest: Option<u64>) -> usize
-        requires hinted { IsHinted (P.bytes probe.now) (hint_of self.now) }
-        requires cut { IsCut (λ e. P.lets_pass probe.now e.key) (entries_of self.now) }
-        requires some { 0 < length (entries_of self.now) }
-        requires digest { IfSome digest (λ d. IsDigestFor (P.bytes probe.now) (hint_of self.now) (P.sought probe.now) d) }
+        requires can_find { CanFind (P.bytes probe.now) (P.lets_pass probe.now) self.now }
+        requires digest { HasDigest (P.bytes probe.now) (P.sought probe.now) digest (hint_of self.now) }
         requires none { digest ≡ None → get_or (hint_of self.now).digests 0 0 ≢ 0
             → length (filter (λ e. P.lets_pass probe.now e.key) (entries_of self.now)) ≡ length (entries_of self.now) }
-        ensures within { result ≤ length (entries_of self.now) }
-        ensures count { result ≡ length (filter (λ e. P.lets_pass probe.now e.key) (entries_of self.now)) }
+        ensures count { IsCount (P.lets_pass probe.now) self.now result }
     {
         let Some(digest) = digest else {
             return self.count_without(probe);
@@ -114,13 +98,10 @@ impl<const N: usize> Node<N> {
 
     // Returns how many of the entries pass, where the first one does and what is looked for doesn't begin as all keys do.
     fn count_without<P: Probe>(&self, probe: &P) -> usize
-        requires hinted { IsHinted (P.bytes probe.now) (hint_of self.now) }
-        requires cut { IsCut (λ e. P.lets_pass probe.now e.key) (entries_of self.now) }
+        requires can_find { CanFind (P.bytes probe.now) (P.lets_pass probe.now) self.now }
         requires all { get_or (hint_of self.now).digests 0 0 ≢ 0
             → length (filter (λ e. P.lets_pass probe.now e.key) (entries_of self.now)) ≡ length (entries_of self.now) }
-        requires some { 0 < length (entries_of self.now) }
-        ensures within { result ≤ length (entries_of self.now) }
-        ensures count { result ≡ length (filter (λ e. P.lets_pass probe.now e.key) (entries_of self.now)) }
+        ensures count { IsCount (P.lets_pass probe.now) self.now result }
     {
         if self.digests[0] == 0 {
             return self.count_on(0, probe, None);
@@ -142,8 +123,7 @@ impl<const N: usize> Node<N> {
         requires known { KnowsAt (P.bytes probe.now) (P.lets_pass probe.now) (P.sought probe.now) (Some shared)
             (entries_of self.now) 0 }
         requires passes { (e : Entry) → slice_get (entries_of self.now) index ≡ Some e → IsTrue (P.lets_pass probe.now e.key) }
-        requires digest { IfSome digest (λ d. IsDigestFor (P.bytes probe.now) (hint_of self.now) (P.sought probe.now) d) }
-        requires none { digest ≡ None → get_or (hint_of self.now).digests 0 0 ≢ 0 → shared < (hint_of self.now).skip }
+        requires digest { IsOwn (P.bytes probe.now) (P.sought probe.now) shared digest (hint_of self.now) }
         ensures known { KnowsAt (P.bytes probe.now) (P.lets_pass probe.now) (P.sought probe.now) (Some result)
             (entries_of self.now) index }
     {
@@ -170,8 +150,7 @@ impl<const N: usize> Node<N> {
         requires some { 0 < length (entries_of self.now) }
         requires shared { (e : Entry) (text : List ℕ) → slice_get (entries_of self.now) 0 ≡ Some e
             → P.bytes probe.now e.key ≡ Some text → BeginAlike shared text (P.sought probe.now) }
-        ensures digest { IfSome result (λ digest. IsDigestFor (P.bytes probe.now) (hint_of self.now) (P.sought probe.now) digest) }
-        ensures none { result ≡ None → get_or (hint_of self.now).digests 0 0 ≢ 0 → shared < (hint_of self.now).skip }
+        ensures digest { IsOwn (P.bytes probe.now) (P.sought probe.now) shared result (hint_of self.now) }
     {
         let alike = if self.digests[0] == 0 && self.skip > 0 {
             self.agrees_with_last(probe)
@@ -192,7 +171,7 @@ impl<const N: usize> Node<N> {
         requires agrees { IsTrue agrees → Agrees (P.bytes probe.now) (hint_of self.now) (P.sought probe.now) }
         requires shared { (e : Entry) (text : List ℕ) → slice_get (entries_of self.now) 0 ≡ Some e
             → P.bytes probe.now e.key ≡ Some text → BeginAlike shared text (P.sought probe.now) }
-        ensures digest { IfSome result (λ digest. IsDigestFor (P.bytes probe.now) (hint_of self.now) (P.sought probe.now) digest) }
+        ensures digest { HasDigest (P.bytes probe.now) (P.sought probe.now) result (hint_of self.now) }
     {
         if agrees {
             return Some(probe.digest(self.skip()));
@@ -216,7 +195,7 @@ impl<const N: usize> Node<N> {
     pub fn passes_at<P: Probe>(&self, index: usize, probe: &P, digest: Option<u64>) -> bool
         requires hinted { IsHinted (P.bytes probe.now) (hint_of self.now) }
         requires within { index < length (entries_of self.now) }
-        requires digest { IfSome digest (λ d. IsDigestFor (P.bytes probe.now) (hint_of self.now) (P.sought probe.now) d) }
+        requires digest { HasDigest (P.bytes probe.now) (P.sought probe.now) digest (hint_of self.now) }
         ensures passes { (e : Entry) → slice_get (entries_of self.now) index ≡ Some e → result ≡ P.lets_pass probe.now e.key }
     {
         let own = self.digests[index];
@@ -228,12 +207,10 @@ impl<const N: usize> Node<N> {
 
     /// Returns how many of the entries pass, of which at least so many do.
     pub fn count_on<P: Probe>(&self, from: usize, probe: &P, digest: Option<u64>) -> usize
-        requires hinted { IsHinted (P.bytes probe.now) (hint_of self.now) }
-        requires cut { IsCut (λ e. P.lets_pass probe.now e.key) (entries_of self.now) }
-        requires digest { IfSome digest (λ d. IsDigestFor (P.bytes probe.now) (hint_of self.now) (P.sought probe.now) d) }
+        requires can_find { CanFind (P.bytes probe.now) (P.lets_pass probe.now) self.now }
+        requires digest { HasDigest (P.bytes probe.now) (P.sought probe.now) digest (hint_of self.now) }
         requires least { from ≤ length (filter (λ e. P.lets_pass probe.now e.key) (entries_of self.now)) }
-        ensures within { result ≤ length (entries_of self.now) }
-        ensures count { result ≡ length (filter (λ e. P.lets_pass probe.now e.key) (entries_of self.now)) }
+        ensures count { IsCount (P.lets_pass probe.now) self.now result }
     {
         let (from, to) = match digest {
             Some(digest) => self.tied(from, digest),
@@ -249,11 +226,7 @@ impl<const N: usize> Node<N> {
     // first one behind it whose digest is above it. So the entries that have this digest stand between these two.
     fn tied(&self, from: usize, digest: u64) -> (usize, usize)
         requires from { from ≤ length (entries_of self.now) }
-        ensures first { from ≤ result.0 }
-        ensures ordered { result.0 ≤ result.1 }
-        ensures within { result.1 ≤ length (entries_of self.now) }
-        ensures below { (index : ℕ) → from ≤ index → index < result.0 → get_or (hint_of self.now).digests index 0 < digest }
-        ensures above { result.1 < length (entries_of self.now) → digest < get_or (hint_of self.now).digests result.1 0 }
+        ensures tied { AreTied self.now digest from result.0 result.1 }
     {
         let len = self.len();
         let mut first = from;
@@ -270,12 +243,11 @@ impl<const N: usize> Node<N> {
     /// Returns how many of the entries pass, of which at most so many do. It looks at these one by one, from the last
     /// one on.
     pub fn count_back<P: Probe>(&self, to: usize, probe: &P, digest: Option<u64>) -> usize
-        requires hinted { IsHinted (P.bytes probe.now) (hint_of self.now) }
-        requires cut { IsCut (λ e. P.lets_pass probe.now e.key) (entries_of self.now) }
-        requires digest { IfSome digest (λ d. IsDigestFor (P.bytes probe.now) (hint_of self.now) (P.sought probe.now) d) }
+        requires can_find { CanFind (P.bytes probe.now) (P.lets_pass probe.now) self.now }
+        requires digest { HasDigest (P.bytes probe.now) (P.sought probe.now) digest (hint_of self.now) }
         requires within { to ≤ length (entries_of self.now) }
         requires most { length (filter (λ e. P.lets_pass probe.now e.key) (entries_of self.now)) ≤ to }
-        ensures count { result ≡ length (filter (λ e. P.lets_pass probe.now e.key) (entries_of self.now)) }
+        ensures count { IsCount (P.lets_pass probe.now) self.now result }
     {
         let mut count = to;
         while count > 0 && !self.passes_at(count - 1, probe, digest) {

@@ -6,7 +6,7 @@ use Rattle.tree.specs.declared.entry.Entry.{Entry}
 use Rattle.tree.specs.Hints.{IsHinted, KnowsAt, BeginAlike, Agrees}
 use Rattle.tree.specs.Node.{entries_of, hint_of}
 use Rattle.tree.specs.Path.{IsCut}
-use Rattle.tree.specs.Question.{IsOwn}
+use Rattle.tree.specs.Finding.{IsOwn}
 use Rattle.tree.specs.Subtree.{entries_at}
 use Rattle.tree.specs.Tree.{least_of}
 use Rattle.tree.proofs.Found.{entries_read}

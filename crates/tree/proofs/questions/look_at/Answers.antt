@@ -2,7 +2,8 @@ use Rattle.std.proofs.Common.{rules, ◌≤◌, List, length, Some, IfSome, refl
 use Rattle.tree.specs.declared.entry.Entry.{Entry}
 use Rattle.tree.specs.Hints.{KnowsAt}
 use Rattle.tree.specs.Node.{entries_of, hint_of, hints_of}
-use Rattle.tree.specs.Question.{IsLeading, IsLooked, IsNear, IsOwn}
+use Rattle.tree.specs.Finding.{IsOwn}
+use Rattle.tree.specs.Question.{IsLeading, IsLooked, IsNear}
 use Rattle.tree.proofs.Found.{entries_read}
 use Rattle.tree.proofs.Hinted.{hinted_at}
 use Rattle.tree.proofs.questions.look_at.Goals as goal
