@@ -8,15 +8,15 @@ use Rattle.tree.proofs.node.Node.count.Goals.{In-Some}
 use Rattle.tree.proofs.node.Node.count.Given as given
 use Rattle.tree.proofs.node.Node.count.Goals as goal
 
-pub returns-in_default-clause-count : goal.returns-in_default-clause-count
-returns-in_default-clause-count g c =
+pub returns-in_default : goal.returns-in_default
+returns-in_default g c =
     let es = entries_of c.args.self.now in
     let probe = c.args.probe.now in
-    let e = entry_at es 0 c.requires.some in
+    let e = entry_at es 0 c.requires.can_find.some in
     let fails = subst (λ o. Knows (g.P.Probe.bytes probe) (g.P.Probe.lets_pass probe) (g.P.Probe.sought probe) o e.0.key)
     c.in_default.is (c.requires.known e.0 e.1) in
-    let none = passing_before (λ (e : Entry). g.P.Probe.lets_pass probe e.key) es 0 e.0 c.requires.cut e.1 fails in
-    omega (arith, none)
+    let none = passing_before (λ (e : Entry). g.P.Probe.lets_pass probe e.key) es 0 e.0 c.requires.can_find.cut e.1 fails in
+    record { count = record { within = omega (arith); count_is = omega (arith, none) } }
 
 -- what is known of the first key
 knows : (g : given.Over) (c : In-Some g)
@@ -31,9 +31,9 @@ pub digest_for-requires : goal.digest_for-requires
 digest_for-requires g c = (
   search rules,
   (
-    c.requires.hinted,
+    c.requires.can_find.hinted,
     (
-      c.requires.some,
+      c.requires.can_find.some,
       (λ e text there known count inside le.
           ((knows g (goal.at.digest_for-requires g c).In-Some e there).1 text known count inside).0 le),
     ),
@@ -46,18 +46,12 @@ count_by-requires g c =
     let known = knows g (goal.at.count_by-requires g c).In-Some in (
       search rules,
       (
-        c.requires.hinted,
+        c.requires.can_find,
         (
-          c.requires.cut,
-          (
-            c.requires.some,
-            (
-              c.digest_for.ensures.digest,
-              (λ none. all_known
-                  (g.P.Probe.bytes probe) c.args.self.now c.requires.hinted (g.P.Probe.sought probe) (g.P.Probe.lets_pass probe)
-                  (g.met.P.Probe.order probe) c.in-Some.shared c.requires.some known (c.digest_for.ensures.none none)),
-            ),
-          ),
+          c.digest_for.ensures.digest.digest,
+          (λ none. all_known
+              (g.P.Probe.bytes probe) c.args.self.now c.requires.can_find.hinted (g.P.Probe.sought probe) (g.P.Probe.lets_pass probe)
+              (g.met.P.Probe.order probe) c.in-Some.shared c.requires.can_find.some known (c.digest_for.ensures.digest.none none)),
         ),
       ),
     )

@@ -11,7 +11,7 @@ loop-count-preserved g c =
     let i = c.loop-count.count - 1 in
     let inside : i < length es = omega (arith, c.loop-count-test.true, c.loop-count.invariant.0) in
     let e = entry_at es i inside in
-    let most = passing_before (λ (e : Entry). g.P.Probe.lets_pass c.args.probe.now e.key) es i e.0 c.requires.cut e.1
+    let most = passing_before (λ (e : Entry). g.P.Probe.lets_pass c.args.probe.now e.key) es i e.0 c.requires.can_find.cut e.1
     (sym (c.passes_at.ensures.passes e.0 e.1) ∙ c.if-not-passes_at.true) in
     (omega (arith, c.loop-count.invariant.0), most)
 
@@ -21,6 +21,6 @@ returns-else-not-passes_at g c =
     let i = c.loop-count.count - 1 in
     let inside : i < length es = omega (arith, c.loop-count-test.true, c.loop-count.invariant.0) in
     let e = entry_at es i inside in
-    let more = passing_inside (λ (e : Entry). g.P.Probe.lets_pass c.args.probe.now e.key) es i e.0 c.requires.cut e.1
+    let more = passing_inside (λ (e : Entry). g.P.Probe.lets_pass c.args.probe.now e.key) es i e.0 c.requires.can_find.cut e.1
     (sym (c.passes_at.ensures.passes e.0 e.1) ∙ c.if-not-passes_at.false) in
-    record { count = omega (arith, more, c.loop-count.invariant.1) }
+    record { count = record { within = c.loop-count.invariant.0; count_is = omega (arith, more, c.loop-count.invariant.1) } }

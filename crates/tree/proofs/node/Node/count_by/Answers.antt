@@ -6,7 +6,7 @@ use Rattle.tree.proofs.node.Node.count_by.Goals as goal
 
 pub count_without-requires : goal.count_without-requires
 count_without-requires g c =
-    (search rules, (c.requires.hinted, (c.requires.cut, (c.requires.none c.in_default.is, c.requires.some))))
+    (search rules, (c.requires.can_find, c.requires.none c.in_default.is))
 
 pub count_on-requires : goal.count_on-requires
 count_on-requires g c =
@@ -14,6 +14,6 @@ count_on-requires g c =
     let probe = c.args.probe.now in
     let is = subst (λ o. IfSome o (IsDigestFor (g.P.Probe.bytes probe) (hint_of node) (g.P.Probe.sought probe)))
     c.in-Some.is c.requires.digest in
-    let least = few_below (g.P.Probe.bytes probe) node c.requires.hinted (g.P.Probe.sought probe)
+    let least = few_below (g.P.Probe.bytes probe) node c.requires.can_find.hinted (g.P.Probe.sought probe)
     (g.P.Probe.lets_pass probe) (g.met.P.Probe.order probe) c.in-Some.digest is in
-    (search rules, (c.requires.hinted, (c.requires.cut, (is, omega (arith, c.count_below-below.ensures.count, least)))))
+    (search rules, (c.requires.can_find, (is, omega (arith, c.count_below-below.ensures.count, least))))

@@ -1,5 +1,7 @@
-use Rattle.std.proofs.Common.{◌≡◌, ◌≤◌, ◌+◌, ◌-◌, ◌∙◌, List, ap, filter, length, sym, subst, take, drop, arith, IfSome}
+use Rattle.std.proofs.Common.{◌≡◌, ◌≤◌, ℕ, Bool, ◌+◌, ◌-◌, ◌∙◌, List, ap, filter, length, sym, subst, take, drop, arith, IfSome}
 use Rattle.tree.specs.declared.entry.Entry.{Entry}
+use Rattle.tree.specs.declared.node.Node.{Node}
+use Rattle.tree.specs.Finding.{IsCount}
 use Rattle.tree.specs.Hints.{IsDigestFor}
 use Rattle.tree.specs.Node.{entries_of, hint_of}
 use Rattle.tree.specs.Path.{IsCut}
@@ -14,7 +16,7 @@ pub passing-requires : goal.passing-requires
 passing-requires g c =
     let p = λ (e : Entry). g.P.Probe.lets_pass c.args.probe.now e.key in
     let range = c.match-digest.from in
-    let cut = subst (IsCut p) (sym c.entries.ensures.entries) c.requires.cut in
+    let cut = subst (IsCut p) (sym c.entries.ensures.entries) c.requires.can_find.cut in
     record { cut = IsCut-range p c.entries.result.now range.0 (range.1 - range.0) cut }
 
 -- those that pass are the first ones and those of the part that is looked at
@@ -29,16 +31,16 @@ parts g c =
     let passes = g.P.Probe.lets_pass probe in
     let p = λ (e : Entry). passes e.key in
     let range = c.match-digest.from in
-    let sum = count_range p es range.0 range.1 c.requires.cut in
+    let sum = count_range p es range.0 range.1 c.requires.can_find.cut in
     elim c.match-digest.branch [
       | in-Some w ↦
           let bytes = g.P.Probe.bytes probe in
           let sought = g.P.Probe.sought probe in
           let order = g.met.P.Probe.order probe in
-          let hinted = c.requires.hinted in
-          let cut = c.requires.cut in
+          let hinted = c.requires.can_find.hinted in
+          let cut = c.requires.can_find.cut in
           let digest = w.in-Some.digest in
-          let found = w.tied.ensures in
+          let found = w.tied.ensures.tied in
           let is : IsDigestFor bytes (hint_of node) sought digest =
           subst (λ o. IfSome o (IsDigestFor bytes (hint_of node) sought)) w.in-Some.is c.requires.digest in
           let least = many_pass bytes node hinted sought passes order digest is cut c.args.from w.tied.result.0
@@ -52,15 +54,26 @@ parts g c =
           (omega (arith, most, len, ap (λ r. r.1) w.from-is))
     ]
 
-pub returns-then-from-to-clause-count : goal.returns-then-from-to-clause-count
-returns-then-from-to-clause-count g c =
+-- what is counted lies within the entries
+counted : {N : ℕ} (passes : ℕ → Bool) (node : Node N) (n : ℕ) → n ≡ length (filter (λ e. passes e.key) (entries_of node))
+    → record { count : IsCount passes node n }
+counted passes node n is = record {
+  count = record {
+    within = omega (arith, is, length-passing (λ (e : Entry). passes e.key) (entries_of node));
+    count_is = is;
+  };
+}
+
+pub returns-then-from-to : goal.returns-then-from-to
+returns-then-from-to g c =
     let es = entries_of c.args.self.now in
     let p = λ (e : Entry). g.P.Probe.lets_pass c.args.probe.now e.key in
     let range = c.match-digest.from in
     let empty : range.1 - range.0 ≡ 0 = omega (arith, c.if-from-to.true) in
     let none : length (filter p (take (range.1 - range.0) (drop range.0 es))) ≡ 0 =
     ap (λ n. length (filter p (take n (drop range.0 es)))) empty in
-    omega (arith, none, parts g (goal.at.returns-then-from-to-clause-count g c).Joined-digest)
+    counted (g.P.Probe.lets_pass c.args.probe.now) c.args.self.now c.match-digest.from.0
+    (omega (arith, none, parts g (goal.at.returns-then-from-to g c).Joined-digest))
 
 -- the part lies within the entries
 bounds : (g : given.Over) (c : Joined-digest g)
@@ -70,7 +83,7 @@ bounds g c =
     let most = length-passing (λ (e : Entry). g.P.Probe.lets_pass c.args.probe.now e.key) (entries_of node) in
     elim c.match-digest.branch [
       | in-Some w ↦
-          let found = w.tied.ensures in (
+          let found = w.tied.ensures.tied in (
             omega (arith, found.ordered, ap (λ r. r.0) w.from-is, ap (λ r. r.1) w.from-is),
             omega (arith, found.within, ap (λ r. r.1) w.from-is),
           )
@@ -85,16 +98,12 @@ slice_bounds-passing-end g c =
     let b = bounds g (goal.at.slice_bounds-passing-end g c).Joined-digest in
     omega (arith, b.0, b.1, ap length c.entries.ensures.entries)
 
-pub returns-clause-count : goal.returns-clause-count
-returns-clause-count g c =
+pub returns : goal.returns
+returns g c =
     let p = λ (e : Entry). g.P.Probe.lets_pass c.args.probe.now e.key in
     let range = c.match-digest.from in
     let part = λ (xs : List Entry). length (filter p (take (range.1 - range.0) (drop range.0 xs))) in
-    let counted : c.passing.result ≡ part (entries_of c.args.self.now) =
+    let found : c.passing.result ≡ part (entries_of c.args.self.now) =
     c.passing.ensures.count ∙ ap part c.entries.ensures.entries in
-    omega (arith, counted, parts g (goal.at.returns-clause-count g c).Joined-digest)
-
-pub returns-clause-within : goal.returns-clause-within
-returns-clause-within g c =
-    let p = λ (e : Entry). g.P.Probe.lets_pass c.args.probe.now e.key in
-    omega (arith, returns-clause-count g c, length-passing p (entries_of c.args.self.now))
+    counted (g.P.Probe.lets_pass c.args.probe.now) c.args.self.now (c.match-digest.from.0 + c.passing.result)
+    (omega (arith, found, parts g (goal.at.returns g c).Joined-digest))

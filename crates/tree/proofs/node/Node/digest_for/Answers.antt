@@ -11,8 +11,8 @@ use Rattle.tree.proofs.node.Node.digest_for.Goals.{
 }
 use Rattle.tree.proofs.node.Node.digest_for.Goals as goal
 
-pub returns-clause-digest : goal.returns-clause-digest
-returns-clause-digest g c =
+pub returns : goal.returns
+returns g c =
     let node = c.args.self.now in
     let probe = c.args.probe.now in
     let es = entries_of node in
@@ -38,7 +38,12 @@ returns-clause-digest g c =
           c.requires.shared first.0 text first.1 known node.skip long (omega (arith, enough, w.skip.ensures.skip)))
     ] in
     record {
-      agrees = agrees;
-      digest_is = c.digest.ensures.digest ∙ ap (λ n. digest_behind n sought) c.skip-2.ensures.skip;
-      are_bytes = c.digest.ensures.are_bytes;
+      digest = record {
+        digest = record {
+          agrees = agrees;
+          digest_is = c.digest.ensures.digest ∙ ap (λ n. digest_behind n sought) c.skip-2.ensures.skip;
+          are_bytes = c.digest.ensures.are_bytes;
+        };
+        none = λ none. absurd cc;
+      };
     }

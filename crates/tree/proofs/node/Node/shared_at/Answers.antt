@@ -25,7 +25,7 @@ returns-else-self-eq0 g c = record {
         c.requires.passes e there,
         differs_too (g.P.Probe.bytes probe) (hint_of node) c.requires.hinted (g.P.Probe.sought probe)
             (g.P.Probe.lets_pass probe) (g.met.P.Probe.order probe) c.args.shared first.0.key (key_there es 0 first.0 first.1)
-            filled (c.requires.none c.in_default.is filled) known.0 known.1 c.args.index e.key
+            filled (c.requires.digest.none c.in_default.is filled) known.0 known.1 c.args.index e.key
             (key_there es c.args.index e there),
       );
 }
@@ -50,7 +50,7 @@ returns g c = record {
       let sought = g.P.Probe.sought probe in
       let hint = hint_of node in
       let is : IsDigestFor bytes hint sought c.in-Some.digest =
-      subst (λ o. IfSome o (IsDigestFor bytes hint sought)) c.in-Some.is c.requires.digest in
+      subst (λ o. IfSome o (IsDigestFor bytes hint sought)) c.in-Some.is c.requires.digest.digest in
       let inside : c.args.index < node.len = omega (arith, c.requires.within, length-take node.len node.entries) in
       let own : get_or hint.digests c.args.index 0 ≡ slice_index node.digests c.args.index =
       get_or-take node.len node.digests c.args.index 0 inside in

@@ -8,15 +8,22 @@ use Rattle.tree.proofs.node.Node.step.Goals.{In-Some}
 use Rattle.tree.proofs.node.Node.step.Given as given
 use Rattle.tree.proofs.node.Node.step.Goals as goal
 
-pub returns-in_default-clause-index : goal.returns-in_default-clause-index
-returns-in_default-clause-index g c =
+pub returns-in_default : goal.returns-in_default
+returns-in_default g c =
     let es = entries_of c.args.self.now in
     let probe = c.args.probe.now in
-    let e = entry_at es 0 c.requires.some in
+    let e = entry_at es 0 c.requires.can_find.some in
     let fails = subst (λ o. Knows (g.P.Probe.bytes probe) (g.P.Probe.lets_pass probe) (g.P.Probe.sought probe) o e.0.key)
     c.in_default.is (c.requires.known e.0 e.1) in
-    let none = passing_before (λ (e : Entry). g.P.Probe.lets_pass probe e.key) es 0 e.0 c.requires.cut e.1 fails in
-    omega (arith, none)
+    let none = passing_before (λ (e : Entry). g.P.Probe.lets_pass probe e.key) es 0 e.0 c.requires.can_find.cut e.1 fails in
+    record {
+      step = record {
+        index_is = omega (arith, none);
+        within = c.requires.can_find.some;
+        knows = subst (λ o. KnowsAt (g.P.Probe.bytes probe) (g.P.Probe.lets_pass probe) (g.P.Probe.sought probe) o es 0) c.in_default.is
+            c.requires.known;
+      };
+    }
 
 -- what is known of the first key
 knows : (g : given.Over) (c : In-Some g)
@@ -31,9 +38,9 @@ pub digest_for-requires : goal.digest_for-requires
 digest_for-requires g c = (
   search rules,
   (
-    c.requires.hinted,
+    c.requires.can_find.hinted,
     (
-      c.requires.some,
+      c.requires.can_find.some,
       (λ e text there known count inside le.
           ((knows g (goal.at.digest_for-requires g c).In-Some e there).1 text known count inside).0 le),
     ),
@@ -45,7 +52,7 @@ step_by-requires g c =
     let known = knows g (goal.at.step_by-requires g c).In-Some in (
       search rules,
       (
-        c.requires.hinted,
-        (c.requires.cut, (c.requires.some, (known, (c.digest_for.ensures.digest, c.digest_for.ensures.none)))),
+        c.requires.can_find,
+        (known, c.digest_for.ensures.digest),
       ),
     )

@@ -10,18 +10,12 @@ count_by-requires g c =
     let probe = c.args.probe.now in (
       search rules,
       (
-        c.requires.hinted,
+        c.requires.can_find,
         (
-          c.requires.cut,
-          (
-            c.requires.some,
-            (
-              c.requires.digest,
-              (λ none. all_known
-                  (g.P.Probe.bytes probe) c.args.self.now c.requires.hinted (g.P.Probe.sought probe) (g.P.Probe.lets_pass probe)
-                  (g.met.P.Probe.order probe) c.args.shared c.requires.some c.requires.known (c.requires.none none)),
-            ),
-          ),
+          c.requires.digest.digest,
+          (λ none. all_known
+              (g.P.Probe.bytes probe) c.args.self.now c.requires.can_find.hinted (g.P.Probe.sought probe) (g.P.Probe.lets_pass probe)
+              (g.met.P.Probe.order probe) c.args.shared c.requires.can_find.some c.requires.known (c.requires.digest.none none)),
         ),
       ),
     )
@@ -31,23 +25,23 @@ shared_at-shared-requires g c =
     let es = entries_of c.args.self.now in
     let probe = c.args.probe.now in
     let passes = g.P.Probe.lets_pass probe in
-    let first = entry_at es 0 c.requires.some in
-    let some = passing_inside (λ (e : Entry). passes e.key) es 0 first.0 c.requires.cut first.1
+    let first = entry_at es 0 c.requires.can_find.some in
+    let some = passing_inside (λ (e : Entry). passes e.key) es 0 first.0 c.requires.can_find.cut first.1
     (c.requires.known first.0 first.1).0 in
     let i = c.saturating_sub-index.result in
     let less : i < length (filter (λ (e : Entry). passes e.key) es) =
-    omega (arith, some, c.saturating_sub-index.ensures, c.count_by.ensures.count) in
-    let inside : i < length es = omega (arith, less, c.count_by.ensures.count, c.count_by.ensures.within) in (
+    omega (arith, some, c.saturating_sub-index.ensures, c.count_by.ensures.count.count_is) in
+    let inside : i < length es = omega (arith, less, c.count_by.ensures.count.count_is, c.count_by.ensures.count.within) in (
       search rules,
       (
-        c.requires.hinted,
+        c.requires.can_find.hinted,
         (
           inside,
           (
             c.requires.known,
             (
-              (λ e there. passing_at (λ (e : Entry). passes e.key) es i e c.requires.cut there less),
-              (c.requires.digest, c.requires.none),
+              (λ e there. passing_at (λ (e : Entry). passes e.key) es i e c.requires.can_find.cut there less),
+              c.requires.digest,
             ),
           ),
         ),
