@@ -74,15 +74,13 @@ step-step-requires g t c =
     rw c.target.ensures.target (
       search rules,
       (
-        hinted_at bytes a slot node c.requires.searched.hinted header,
-        (
-          read_cut a (least_of g.row.N) c.args.height slot passes node (entries_of node) c.if-height-eq0.false
-              c.requires.changeable.subtree c.requires.searched.cut header refl,
-          (
-            omega (arith, ap length read, c.requires.changeable.some),
-            subst (λ l. KnowsAt bytes passes sought c.args.place.known l 0) read c.requires.searched.known,
-          ),
-        ),
+        record {
+          hinted = hinted_at bytes a slot node c.requires.searched.hinted header;
+          cut = read_cut a (least_of g.row.N) c.args.height slot passes node (entries_of node) c.if-height-eq0.false
+              c.requires.changeable.subtree c.requires.searched.cut header refl;
+          some = omega (arith, ap length read, c.requires.changeable.some);
+        },
+        subst (λ l. KnowsAt bytes passes sought c.args.place.known l 0) read c.requires.searched.known,
       ),
     )
 
@@ -104,8 +102,8 @@ at_child g t c =
     (one_up c.args.height c.if-height-eq0.false) c.requires.changeable.subtree c.requires.changeable.distinct
     c.header_ref-node.ensures.header refl c.entries-entries.ensures.entries
     (subst (λ p. c.step-step.result.index ≡ index_in (g.C.Target.Probe.lets_pass p) es) c.target.ensures.target
-    c.step-step.ensures.index)
-    c.step-step.ensures.within
+    c.step-step.ensures.step.index_is)
+    c.step-step.ensures.step.within
 
 pub change_leaf-requires : goal.change_leaf-requires
 change_leaf-requires g t c κs within =
@@ -127,7 +125,7 @@ change_leaf-requires g t c κs within =
     let x = (get_or vs i d).child in
     let step = subst (λ p. (i ≡ index_in (g.C.Target.Probe.lets_pass p) es)
     × KnowsAt (g.C.Target.Probe.bytes p) (g.C.Target.Probe.lets_pass p) (g.C.Target.Probe.sought p) c.step-step.result.known es i)
-    c.target.ensures.target (c.step-step.ensures.index, c.step-step.ensures.known) in
+    c.target.ensures.target (c.step-step.ensures.step.index_is, c.step-step.ensures.step.knows) in
     let f = found a L n slot passes node vs i d c.if-height-eq0.false c.requires.changeable.subtree
     c.requires.searched.cut c.header_ref-node.ensures.header c.entries-entries.ensures.entries
     (step.0 ∙ ap (index_in passes) (sym c.entries-entries.ensures.entries)) in

@@ -96,7 +96,7 @@ to_cut g c =
 pub count-end-requires : goal.count-end-requires
 count-end-requires g c =
     let h = (goal.at.count-end-requires g c).After-header_ref-leaf in
-    (omega (arith, c.requires.changeable.few), (leaf_hinted g h, (to_cut g h, (some_entry g h, first_known g h))))
+    (omega (arith, c.requires.changeable.few), (record { hinted = leaf_hinted g h; cut = to_cut g h; some = some_entry g h }, first_known g h))
 
 pub digest_for-digest-requires : goal.digest_for-digest-requires
 digest_for-digest-requires g c =
@@ -125,18 +125,15 @@ count_back-begin-requires g c =
     let q = g.Q.Probe.lets_pass new.to.now in (
       omega (arith, c.requires.changeable.few),
       (
-        from_hinted g h,
+        record { hinted = from_hinted g h; cut = from_cut g h; some = some_entry g h },
         (
-          from_cut g h,
+          c.digest_for-digest.ensures.digest.digest,
           (
-            c.digest_for-digest.ensures.digest,
-            (
-              c.count-end.ensures.within,
-              omega (
-                arith,
-                c.count-end.ensures.count,
-                no_more p q new.nested (entries_of c.header_ref-leaf.result.now),
-              ),
+            c.count-end.ensures.count.within,
+            omega (
+              arith,
+              c.count-end.ensures.count.count_is,
+              no_more p q new.nested (entries_of c.header_ref-leaf.result.now),
             ),
           ),
         ),
@@ -149,8 +146,8 @@ ordered g c =
     let new = c.args.self.now.new.now in
     omega (
       arith,
-      c.count_back-begin.ensures.count,
-      c.count-end.ensures.count,
+      c.count_back-begin.ensures.count.count_is,
+      c.count-end.ensures.count.count_is,
       no_more (g.P.Probe.lets_pass new.from.now) (g.Q.Probe.lets_pass new.to.now) new.nested
           (entries_of c.header_ref-leaf.result.now),
     )
@@ -185,7 +182,7 @@ taken_out g c =
     elim c.if-begin-end.branch [
       | then-begin-end w ↦ ap items_of_run w.taken-is ∙ w.hand_out.ensures.taken
       | else-begin-end w ↦
-          let size : length (take end es) ≡ end = length-take-le end es c.count-end.ensures.within in
+          let size : length (take end es) ≡ end = length-take-le end es c.count-end.ensures.count.within in
           let none : drop begin (take end es) ≡ [] =
           drop_all begin (take end es) (omega (arith, size, w.if-begin-end.false)) in
           ap items_of_run (w.taken-is ∙ c.requires.none_taken) ∙ sym (ap (map item_of) none)
@@ -252,7 +249,7 @@ overflow_add-begin g c =
       few_new g at.Joined-ended,
       c.requires.changeable.few,
       ordered g at.After-count_back-begin,
-      c.count-end.ensures.within,
+      c.count-end.ensures.count.within,
       c.len.ensures.len,
       c.len.ensures.most,
     )
@@ -277,7 +274,7 @@ split_leaf-requires g c =
               (
                 ordered g at.After-count_back-begin,
                 (
-                  omega (arith, same, c.count-end.ensures.within),
+                  omega (arith, same, c.count-end.ensures.count.within),
                   (
                     omega (arith, few_new g j, can.fan_out),
                     (
@@ -285,7 +282,7 @@ split_leaf-requires g c =
                         arith,
                         same,
                         c.if-begin-entries.true,
-                        c.count-end.ensures.within,
+                        c.count-end.ensures.count.within,
                         c.len-2.ensures.len,
                         c.len-2.ensures.most,
                       ),
@@ -337,7 +334,7 @@ splice_hinted-requires g c =
       (
         ordered g at.After-count_back-begin,
         (
-          omega (arith, size, c.count-end.ensures.within),
+          omega (arith, size, c.count-end.ensures.count.within),
           (
             omega (
               arith,
@@ -345,7 +342,7 @@ splice_hinted-requires g c =
               c.if-begin-entries.false,
               c.len-2.ensures.len,
               c.len-2.ensures.most,
-              c.count-end.ensures.within,
+              c.count-end.ensures.count.within,
             ),
             (
               subst (λ (node : Node g.row.N). IsHinted bytes (hint_of node)) same (leaf_hinted g h),
@@ -357,9 +354,9 @@ splice_hinted-requires g c =
                     → Agrees bytes (hint_of node) text) (keys_of c.if-ended.entries.now)) same
                     (subst (λ es. All Agree (keys_of es)) (sym (new_is g j))
                     (both_put Agree ended new.first c.item.result
-                    (agree bytes near (hint_of read) from from new.shared d.result new.bytes d.ensures.digest t.0 refl
+                    (agree bytes near (hint_of read) from from new.shared d.result new.bytes d.ensures.digest.digest t.0 refl
                     t.1 new.first.key new.first_is)
-                    (agree bytes near (hint_of read) to from new.shared d.result new.bytes d.ensures.digest t.0
+                    (agree bytes near (hint_of read) to from new.shared d.result new.bytes d.ensures.digest.digest t.0
                     new.begin_alike t.1 c.item.result.key second_is))),
               ),
             ),
@@ -439,9 +436,9 @@ whole g c first_cut second_cut ordered taken entered last_is put now now_is =
     let new = c.args.self.now.new.now in
     let begin = c.count_back-begin.result in
     let end = c.count-end.result in
-    let begins = c.count_back-begin.ensures.count in
-    let ends = c.count-end.ensures.count in
-    let within : begin ≤ length (es g c) = omega (arith, ordered, c.count-end.ensures.within) in
+    let begins = c.count_back-begin.ensures.count.count_is in
+    let ends = c.count-end.ensures.count.count_is in
+    let within : begin ≤ length (es g c) = omega (arith, ordered, c.count-end.ensures.count.within) in
     let some : 1 ≤ end = elim entered [ inl some ↦ omega (arith, some, ordered) | inr first ↦ first.1 ] in
     let ended = c.if-end-len.ended in
     let items = map item_of (es g c) in
@@ -497,8 +494,8 @@ returns-then-not-place-clause-items g c =
     let fits : SFits w64 version = search rules in
     let kept : to_z w64 (of_z w64 version) ≡ version = to_z-of_z w64 version fits in
     let none =
-    (items_parted p es 0 (from_cut g h) (omega (arith, c.count_back-begin.ensures.count, c.if-begin-eq0.true))).0 in
-    let parts = items_parted q es end (to_cut g h) c.count-end.ensures.count in
+    (items_parted p es 0 (from_cut g h) (omega (arith, c.count_back-begin.ensures.count.count_is, c.if-begin-eq0.true))).0 in
+    let parts = items_parted q es end (to_cut g h) c.count-end.ensures.count.count_is in
     let there : entries_of c.header_mut.result.now ≡ es =
     sym (entries_from_header old slot c.header_mut.result.now c.header_mut.ensures.header) ∙ read in
     let left : entries_at (with_header old slot node) slot ≡ drop end es =
@@ -516,7 +513,7 @@ returns-then-not-place-clause-items g c =
       rest = ap (map item_of) left ∙ sym parts.1 ∙ sym behind_is;
       last_is = λ x last.
           let told : version ≡ x.version =
-          last_told g at.After-map_or-last x (parted q es end (to_cut g h) c.count-end.ensures.count).0
+          last_told g at.After-map_or-last x (parted q es end (to_cut g h) c.count-end.ensures.count.count_is).0
           (subst (IsLast x) run_is last) in
           cc;
       some = λ is_first.
@@ -565,7 +562,7 @@ returns-then-begin-entries-clause-items g c =
     (subst (GivenLeaf g j (map item_of (es g j))) (map-append item_of (entries_at b slot) (entries_at b added))
     (whole g j (from_cut g h) (to_cut g h) (ordered g at.After-count_back-begin) (taken_out g at.Joined-begin-end)
     (entered g at.Joined-else-begin-eq0) (λ x last. last_told g at.After-map_or-last x
-    (parted (q g j) (es g j) end (to_cut g h) c.count-end.ensures.count).0 last) (new_is g j) now now_is))
+    (parted (q g j) (es g j) end (to_cut g h) c.count-end.ensures.count.count_is).0 last) (new_is g j) now now_is))
 
 pub returns-then-begin-entries-clause-target : goal.returns-then-begin-entries-clause-target
 returns-then-begin-entries-clause-target g c = refl
@@ -599,7 +596,7 @@ returns-then-begin-eq0-2-clause-items g c =
     subst (λ xs. GivenLeaf g j (map item_of xs) (map item_of now)) (sym read)
     (whole g j (from_cut g h) (to_cut g h) (ordered g at.After-count_back-begin) (taken_out g at.Joined-begin-end)
     (entered g at.Joined-else-begin-eq0) (λ x last. last_told g at.After-map_or-last x
-    (parted (q g j) (es g j) end (to_cut g h) c.count-end.ensures.count).0 last) (new_is g j) now now_is)
+    (parted (q g j) (es g j) end (to_cut g h) c.count-end.ensures.count.count_is).0 last) (new_is g j) now now_is)
 
 none_if : (o : Option ℤ) → is_some o ≡ false → o ≡ None
 none_if None f = refl
@@ -625,7 +622,7 @@ returns-clause-items g c =
     subst (λ xs. GivenLeaf g j (map item_of xs) (map item_of now)) (sym read)
     (whole g j (from_cut g h) (to_cut g h) (ordered g at.After-count_back-begin) (taken_out g at.Joined-begin-end)
     (inl (omega (arith, c.if-begin-eq0-2.false))) (λ x last. last_told g at.After-map_or-last x
-    (parted (q g j) (es g j) end (to_cut g h) c.count-end.ensures.count).0 last) (new_is g j) now now_is)
+    (parted (q g j) (es g j) end (to_cut g h) c.count-end.ensures.count.count_is).0 last) (new_is g j) now now_is)
 
 -- Where the leaf has an item before the run, and no version is given, the first key stays.
 pub returns-clause-changed : goal.returns-clause-changed
@@ -644,7 +641,7 @@ returns-clause-changed g c =
     let some : passing (p g j) was ≢ [] =
     subst (λ xs. passing (p g j) (map item_of xs) ≢ []) (sym (entries_are g h))
     (some_item (p g j) (es g j) c.count_back-begin.result (omega (arith, c.if-begin-eq0-2.false))
-    c.count_back-begin.ensures.count) in
+    c.count_back-begin.ensures.count.count_is) in
     let first_stays : IsRaised new.first.version was now =
     raised (p g j) (q g j) new.nested (item_of new.first) new.second c.if-end-len.ended was now
     (part_cut (p g j) was c.requires.wanted) some gives.some

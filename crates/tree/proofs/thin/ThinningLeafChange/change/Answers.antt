@@ -46,9 +46,13 @@ count-passing-requires g c =
     c.args.place.known es 0) (entries_are g h) c.requires.searched.known in (
       omega (arith, c.requires.changeable.few),
       (
-        hinted_at (g.P.Probe.bytes probe) c.args.nodes.now c.args.slot c.header-leaf.result c.requires.searched.hinted
-            c.header-leaf.ensures.header,
-        (cut_is g h, (some, known)),
+        record {
+          hinted = hinted_at (g.P.Probe.bytes probe) c.args.nodes.now c.args.slot c.header-leaf.result c.requires.searched.hinted
+              c.header-leaf.ensures.header;
+          cut = cut_is g h;
+          some = some;
+        },
+        known,
       ),
     )
 
@@ -59,7 +63,7 @@ returns-then-passing-eq0-clause-items g c =
     let p = g.P.Probe.lets_pass c.args.self.now.probe.now in
     let es = entries_of c.header-leaf.result in
     let none : passing p (map item_of es) ≡ [] =
-    (items_parted p es 0 (cut_is g h) (omega (arith, c.count-passing.ensures.count, c.if-passing-eq0.true))).0 in (
+    (items_parted p es 0 (cut_is g h) (omega (arith, c.count-passing.ensures.count.count_is, c.if-passing-eq0.true))).0 in (
       λ _. (refl, ap items_of_run c.requires.none_taken),
       λ some. absurd (some (ap (λ es. passing p (map item_of es)) (entries_are g h) ∙ none)),
     )
@@ -96,10 +100,10 @@ module _ (g : given.Over) (c : After-thin-self g) where
   before_is = to_z-of_z w64 c.args.self.now.before (search rules)
 
   some_looked : begin < end
-  some_looked = omega (arith, c.min.ensures, c.args.self.now.some, c.len.ensures.len, c.count-passing.ensures.within, c.if-passing-eq0.false)
+  some_looked = omega (arith, c.min.ensures, c.args.self.now.some, c.len.ensures.len, c.count-passing.ensures.count.within, c.if-passing-eq0.false)
 
   within : end ≤ length es
-  within = omega (arith, c.min.ensures, c.len.ensures.len, c.count-passing.ensures.within)
+  within = omega (arith, c.min.ensures, c.len.ensures.len, c.count-passing.ensures.count.within)
 
   -- what becomes of the items of the leaf
   thinned_items : (cut : IsCut (λ (e : Entry). g.P.Probe.lets_pass c.args.self.now.probe.now e.key) es)
@@ -119,7 +123,7 @@ module _ (g : given.Over) (c : After-thin-self g) where
       (subst (λ b. Thinned t.edge b es) before_is
       (subst (λ e. Thinned e before es) edge_is
       (leaf_thinned es begin end some_looked within p cut
-      (omega (arith, c.count-passing.ensures.count, c.if-passing-eq0.false)) t.count edge before c.thin-self.result
+      (omega (arith, c.count-passing.ensures.count.count_is, c.if-passing-eq0.false)) t.count edge before c.thin-self.result
       (items_of_run c.thin-self.new.taken) c.args.place.behind now (omega (arith, c.min.ensures)) told.looked_at told.last
       now_is told.taken told.next)))
 
@@ -153,7 +157,7 @@ returns-clause-items g c =
     let after : entries_at b slot ≡ entries_of c.sharpen.new.self =
     put_entries c.args.nodes.now b slot c.sharpen.new.self c.set_header.ensures.replaced in
     let some : passing p (map item_of (es g t)) ≢ [] =
-    some_item p (es g t) c.count-passing.result (omega (arith, c.if-passing-eq0.false)) c.count-passing.ensures.count in (
+    some_item p (es g t) c.count-passing.result (omega (arith, c.if-passing-eq0.false)) c.count-passing.ensures.count.count_is in (
       λ none.
           absurd (some (ap (λ es. passing p (map item_of es)) (sym (entries_are g h)) ∙ none)),
       λ _.
