@@ -4,6 +4,7 @@ ghost use Rattle.std.specs.Prelude.{◌≡◌, ◌≢◌, ◌≤◌, ◌<◌, �
 ghost use Rattle.arena.specs.Arena.{IsLive, spare_of};
 ghost use Rattle.tree.specs.Item.{Tells};
 ghost use Rattle.tree.specs.Hints.{AreHinted, IsKnown, KeyBytes};
+ghost use Rattle.tree.specs.Mending.{AreTwo, CanMendIn, CanShare};
 ghost use Rattle.tree.specs.Node.{entries_of, hints_of};
 ghost use Rattle.tree.specs.Subtree.{entries_at, items_in, IsSubtree};
 ghost use Rattle.tree.specs.Tree.{least_of};
@@ -45,12 +46,7 @@ pub fn mend<P: Probe, const N: usize>(
     index: usize,
     probe: &P,
 )
-    requires fan_out { 4 ≤ N }
-    requires within { index < length (entries_of node.old) }
-    requires several { 2 ≤ length (entries_of node.old) }
-    requires keyless { IsKeyless nodes.old }
-    requires family { (height : ℕ) × IsFamily nodes.old (least_of N) height (entries_of node.old) index (index + 1) }
-    requires hinted { AreHinted (P.bytes probe.now) (hints_of nodes.old) }
+    requires can_mend { CanMendIn (P.bytes probe.now) nodes.old (entries_of node.old) index }
     ensures mended { (height : ℕ) → IsFamily nodes.old (least_of N) height (entries_of node.old) index (index + 1)
         → IsMended nodes.old nodes.new (least_of N) height (entries_of node.old) (entries_of node.new) }
     ensures few_less { length (entries_of node.old) ≤ length (entries_of node.new) + 1 }
@@ -72,13 +68,7 @@ fn share<P: Probe, const N: usize>(
     index: usize,
     probe: &P,
 )
-    requires fan_out { 4 ≤ N }
-    requires within { index + 1 < length (entries_of node.old) }
-    requires filled { least_of N ≤ length (entries_at nodes.old (child_at (entries_of node.old) index))
-        + length (entries_at nodes.old (child_at (entries_of node.old) (index + 1))) }
-    requires keyless { IsKeyless nodes.old }
-    requires family { (height : ℕ) × IsFamily nodes.old (least_of N) height (entries_of node.old) index (index + 2) }
-    requires hinted { AreHinted (P.bytes probe.now) (hints_of nodes.old) }
+    requires can_share { CanShare (P.bytes probe.now) nodes.old (entries_of node.old) index }
     ensures mended { (height : ℕ) → IsFamily nodes.old (least_of N) height (entries_of node.old) index (index + 2)
         → IsMended nodes.old nodes.new (least_of N) height (entries_of node.old) (entries_of node.new) }
     ensures few_less { length (entries_of node.old) ≤ length (entries_of node.new) + 1 }
@@ -101,12 +91,8 @@ fn share<P: Probe, const N: usize>(
 
 // Puts the entries of the second node behind those of the first one, and releases the second.
 fn join<P: Probe, const N: usize>(nodes: &mut Arena<Node<N>>, first: Slot, second: Slot, probe: &P)
-    requires first { IsLive nodes.old first }
-    requires second { IsLive nodes.old second }
-    requires apart { first ≢ second }
+    requires two { AreTwo (P.bytes probe.now) nodes.old first second }
     requires room { length (entries_at nodes.old first) + length (entries_at nodes.old second) ≤ N }
-    requires keyless { IsKeyless nodes.old }
-    requires hinted { AreHinted (P.bytes probe.now) (hints_of nodes.old) }
     ensures entries { entries_at nodes.new first ≡ entries_at nodes.old first ++ entries_at nodes.old second }
     ensures changes { Changes nodes.old nodes.new (first ∷ second ∷ []) (first ∷ []) }
     ensures hinted { AreHinted (P.bytes probe.now) (hints_of nodes.new) }
@@ -125,12 +111,8 @@ fn even_out<P: Probe, const N: usize>(
     second: Slot,
     probe: &P,
 )
-    requires first { IsLive nodes.old first }
-    requires second { IsLive nodes.old second }
-    requires apart { first ≢ second }
+    requires two { AreTwo (P.bytes probe.now) nodes.old first second }
     requires many { N < length (entries_at nodes.old first) + length (entries_at nodes.old second) }
-    requires keyless { IsKeyless nodes.old }
-    requires hinted { AreHinted (P.bytes probe.now) (hints_of nodes.old) }
     ensures entries { entries_at nodes.new first ++ entries_at nodes.new second
         ≡ entries_at nodes.old first ++ entries_at nodes.old second }
     ensures left { N ≤ 2 * length (entries_at nodes.new first) }

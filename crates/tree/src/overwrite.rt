@@ -6,6 +6,7 @@ ghost use Rattle.arena.specs.Arena.{IsLive, spare_of};
 ghost use Rattle.keys.specs.Key.{IsBytes};
 ghost use Rattle.tree.specs.Hints.{AreHinted, IsKnown};
 ghost use Rattle.tree.specs.Item.{item_of};
+ghost use Rattle.tree.specs.Mending.{CanSplit};
 ghost use Rattle.tree.specs.Node.{entries_of, hints_of, items_of_run, keys_of};
 ghost use Rattle.tree.specs.Overwrite.{GivesWritten, IsPartOfCut, part_of_part, put_of};
 ghost use Rattle.tree.specs.Replace.{entries_at_both, Changes, IsKeyless};
@@ -159,16 +160,7 @@ fn split_leaf<P: Probe, const N: usize>(
     new: &[Entry],
     probe: &P,
 ) -> Slot
-    requires fan_out { 4 ≤ N }
-    requires live { IsLive nodes.old slot }
-    requires keyless { IsKeyless nodes.old }
-    requires room { 0 < spare_of nodes.old 0 }
-    requires ordered { from ≤ to }
-    requires within { to ≤ length (entries_at nodes.old slot) }
-    requires few_new { 2 * length new.now ≤ N }
-    requires many { N < from + length new.now + (length (entries_at nodes.old slot) - to) }
-    requires hinted { AreHinted (P.bytes probe.now) (hints_of nodes.old) }
-    requires known { All (IsKnown (P.bytes probe.now)) (keys_of new.now) }
+    requires can_split { CanSplit (P.bytes probe.now) nodes.old slot from to new.now }
     ensures entries { entries_at_both nodes.new slot (Some result)
         ≡ take from (entries_at nodes.old slot) ++ (new.now ++ drop to (entries_at nodes.old slot)) }
     ensures live { IsLive nodes.new slot }

@@ -5,6 +5,7 @@ ghost use Rattle.std.specs.List.{All};
 ghost use Rattle.std.specs.FinMap as map_of;
 ghost use Rattle.arena.specs.Arena.{IsLive, spare_of};
 ghost use Rattle.tree.specs.Hints.{AreHinted, IsHinted, IsKnown, KeyBytes};
+ghost use Rattle.tree.specs.Mending.{CanLink, CanLinkIn, CanMend};
 ghost use Rattle.tree.specs.Node.{entries_of, hint_of, hints_of, keys_of};
 ghost use Rattle.tree.specs.Subtree.{entries_at};
 ghost use Rattle.tree.specs.Tree.{least_of};
@@ -25,14 +26,7 @@ pub fn link_child<P: Probe, const N: usize>(
     added: Slot,
     probe: &P,
 ) -> Option<Slot>
-    requires fan_out { 4 ≤ N }
-    requires live { IsLive nodes.old slot }
-    requires within { index < length (entries_at nodes.old slot) }
-    requires some { 0 < length (entries_at nodes.old (child_at (entries_at nodes.old slot) index)) }
-    requires some_added { 0 < length (entries_at nodes.old added) }
-    requires keyless { IsKeyless nodes.old }
-    requires room { 0 < spare_of nodes.old 0 }
-    requires hinted { AreHinted (P.bytes probe.now) (hints_of nodes.old) }
+    requires can_link { CanLink (P.bytes probe.now) nodes.old slot index added }
     ensures linked { IsLinked nodes.old (child_at (entries_at nodes.old slot) index) added (take index (entries_at nodes.old slot))
         (drop (index + 1) (entries_at nodes.old slot)) (entries_at_both nodes.new slot result) }
     ensures left { IfSome result (λ _. N ≤ 2 * length (entries_at nodes.new slot)) }
@@ -57,13 +51,7 @@ pub fn mend_child<P: Probe, const N: usize>(
     index: usize,
     probe: &P,
 )
-    requires fan_out { 4 ≤ N }
-    requires live { IsLive nodes.old slot }
-    requires within { index < length (entries_at nodes.old slot) }
-    requires several { 2 ≤ length (entries_at nodes.old slot) }
-    requires keyless { IsKeyless nodes.old }
-    requires family { (height : ℕ) × IsFamilyAt nodes.old (least_of N) height slot index }
-    requires hinted { AreHinted (P.bytes probe.now) (hints_of nodes.old) }
+    requires can_mend { CanMend (P.bytes probe.now) nodes.old slot index }
     ensures mended { (height : ℕ) → IsFamilyAt nodes.old (least_of N) height slot index
         → IsMendedAt nodes.old nodes.new (least_of N) height slot }
     ensures few_less { length (entries_at nodes.old slot) ≤ length (entries_at nodes.new slot) + 1 }
@@ -91,13 +79,7 @@ pub fn mend_written<P: Probe, const N: usize>(
     version: i64,
     probe: &P,
 )
-    requires fan_out { 4 ≤ N }
-    requires live { IsLive nodes.old slot }
-    requires within { index < length (entries_at nodes.old slot) }
-    requires several { 2 ≤ length (entries_at nodes.old slot) }
-    requires keyless { IsKeyless nodes.old }
-    requires family { (height : ℕ) × IsFamilyAt nodes.old (least_of N) height slot index }
-    requires hinted { AreHinted (P.bytes probe.now) (hints_of nodes.old) }
+    requires can_mend { CanMend (P.bytes probe.now) nodes.old slot index }
     ensures mended { (height : ℕ) → IsFamilyAt nodes.old (least_of N) height slot index
         → TellsWritten nodes.old height slot index version → IsMendedAt nodes.old nodes.new (least_of N) height slot }
     ensures few_less { length (entries_at nodes.old slot) ≤ length (entries_at nodes.new slot) + 1 }
@@ -121,12 +103,7 @@ fn link<const N: usize>(
     index: usize,
     added: Slot,
 ) -> Option<Node<N>>
-    requires fan_out { 4 ≤ N }
-    requires within { index < length (entries_of node.old) }
-    requires child { IsLive nodes.now (child_at (entries_of node.old) index) }
-    requires some { 0 < length (entries_at nodes.now (child_at (entries_of node.old) index)) }
-    requires added { IsLive nodes.now added }
-    requires some_added { 0 < length (entries_at nodes.now added) }
+    requires can_link { CanLinkIn nodes.now (entries_of node.old) index added }
     ensures linked { IsLinked nodes.now (child_at (entries_of node.old) index) added (take index (entries_of node.old))
         (drop (index + 1) (entries_of node.old)) (entries_with node.new result) }
     ensures left { IfSome result (λ _. N ≤ 2 * length (entries_of node.new)) }

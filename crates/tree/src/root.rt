@@ -1,14 +1,15 @@
 //! The root of a tree, and what becomes of it where a leaf changes.
 
-ghost use Rattle.std.specs.Prelude.{◌≡◌, ◌≤◌, ◌<◌, ◌+◌, ◌++◌, [], length, nat_eq, None, MatchOption, Some};
+ghost use Rattle.std.specs.Prelude.{◌≡◌, ◌+◌, [], None, MatchOption, Some, true};
 ghost use Rattle.std.specs.List.{All, IsDistinct};
 ghost use Rattle.std.specs.FinMap as map_of;
 ghost use Rattle.arena.specs.Arena.{IsLive, spare_of};
 ghost use Rattle.tree.specs.Item.{item_of};
 ghost use Rattle.tree.specs.Hints.{AreHinted, KeyBytes};
+ghost use Rattle.tree.specs.Mending.{CanGrow, CanShrink};
 ghost use Rattle.tree.specs.Node.{hints_of, items_of_run};
 ghost use Rattle.tree.specs.Subtree.{entries_at, items_in, slots_in, IsSubtree};
-ghost use Rattle.tree.specs.Path.{passing as passing_of};
+ghost use Rattle.tree.specs.Path.{IsCut, passing as passing_of};
 ghost use Rattle.tree.specs.Reached.{CanReach, IsReached};
 ghost use Rattle.tree.specs.Replace.{items_with, slots_with, IsKeyless};
 ghost use Rattle.tree.specs.Tree.{least_of, IsLast, IsRooted};
@@ -94,17 +95,7 @@ fn grow<P: Probe, const N: usize>(
     added: Slot,
     probe: &P,
 ) -> Root
-    requires fan_out { 4 ≤ N }
-    requires few { N ≤ 65536 }
-    requires low { root.height < 63 }
-    requires first { IsSubtree nodes.old (least_of N) root.height root.slot }
-    requires second { IsSubtree nodes.old (least_of N) root.height added }
-    requires filled { (least_of N ≤ length (entries_at nodes.old root.slot)) × (least_of N ≤ length (entries_at nodes.old added)) }
-    requires distinct { IsDistinct nat_eq (slots_with nodes.old root.height root.slot (Some added)) }
-    requires linked { map_of.len nodes.old.records ≡ length (slots_with nodes.old root.height root.slot (Some added)) }
-    requires keyless { IsKeyless nodes.old }
-    requires room { 0 < spare_of nodes.old 0 }
-    requires hinted { AreHinted (P.bytes probe.now) (hints_of nodes.old) }
+    requires can_grow { CanGrow (P.bytes probe.now) nodes.old root.height root.slot added }
     ensures items { items_in nodes.new result.height result.slot ≡ items_with nodes.old root.height root.slot (Some added) }
     ensures rooted { IsRooted nodes.new result.slot result.height }
     ensures spare { spare_of nodes.new 0 + map_of.len nodes.new.records ≡ spare_of nodes.old 0 + map_of.len nodes.old.records }
@@ -121,10 +112,7 @@ fn grow<P: Probe, const N: usize>(
 
 // Makes the only child of a root the root.
 fn shrink<const N: usize>(nodes: &mut Arena<Node<N>>, root: Root) -> Root
-    requires subtree { IsSubtree nodes.old (least_of N) root.height root.slot }
-    requires distinct { IsDistinct nat_eq (slots_in nodes.old root.height root.slot) }
-    requires linked { map_of.len nodes.old.records ≡ length (slots_in nodes.old root.height root.slot) }
-    requires keyless { IsKeyless nodes.old }
+    requires can_shrink { CanShrink nodes.old root.height root.slot }
     ensures items { items_in nodes.new result.height result.slot ≡ items_in nodes.old root.height root.slot }
     ensures rooted { IsRooted nodes.new result.slot result.height }
     ensures spare { spare_of nodes.new 0 + map_of.len nodes.new.records ≡ spare_of nodes.old 0 + map_of.len nodes.old.records }

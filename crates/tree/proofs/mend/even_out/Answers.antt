@@ -16,8 +16,8 @@ set_header-requires-2 g c =
     let b = c.set_header.new.self in
     record {
       live = live_same a b c.args.second
-          (put_others a b c.args.first left c.set_header.ensures.replaced c.args.second (λ same. c.requires.apart (sym same)))
-          c.requires.second;
+          (put_others a b c.args.first left c.set_header.ensures.replaced c.args.second (λ same. c.requires.two.apart (sym same)))
+          c.requires.two.live_second;
     }
 
 pub returns-clause-entries : goal.returns-clause-entries
@@ -28,7 +28,7 @@ returns-clause-entries g c =
     let b = c.set_header.new.self in
     let d = c.set_header-2.new.self in
     ap₂ (λ xs ys. xs ++ ys)
-    (entries_same b d c.args.first (put_others b d c.args.second right c.set_header-2.ensures.replaced c.args.first c.requires.apart)
+    (entries_same b d c.args.first (put_others b d c.args.second right c.set_header-2.ensures.replaced c.args.first c.requires.two.apart)
     ∙ put_entries a b c.args.first left c.set_header.ensures.replaced
     ∙ c.take_hints.ensures.entries)
     (put_entries b d c.args.second right c.set_header-2.ensures.replaced
@@ -45,7 +45,7 @@ returns-clause-left g c =
     let b = c.set_header.new.self in
     let d = c.set_header-2.new.self in
     subst (λ xs. g.row.N ≤ 2 * length xs)
-    (sym (entries_same b d c.args.first (put_others b d c.args.second right c.set_header-2.ensures.replaced c.args.first c.requires.apart)
+    (sym (entries_same b d c.args.first (put_others b d c.args.second right c.set_header-2.ensures.replaced c.args.first c.requires.two.apart)
     ∙ put_entries a b c.args.first left c.set_header.ensures.replaced
     ∙ c.take_hints.ensures.entries))
     c.even_out.ensures.left
@@ -68,15 +68,15 @@ returns-clause-changes g c =
     let d = c.set_header-2.new.self in
     let x = c.args.first in
     let y = c.args.second in
-    let put = put_moves a b x left c.set_header.ensures.replaced c.requires.first c.requires.keyless in
+    let put = put_moves a b x left c.set_header.ensures.replaced c.requires.two.live_first c.requires.two.keyless in
     let live_x = put_live a b x left c.set_header.ensures.replaced in
     let live_y =
-    live_same a b y (put_others a b x left c.set_header.ensures.replaced y (λ same. c.requires.apart (sym same)))
-    c.requires.second in
+    live_same a b y (put_others a b x left c.set_header.ensures.replaced y (λ same. c.requires.two.apart (sym same)))
+    c.requires.two.live_second in
     let then = put_moves b d y right c.set_header-2.ensures.replaced live_y put.keyless in
     changes_if_moves a d (x ∷ y ∷ []) (x ∷ y ∷ [])
-    (moves_trans a b d (x ∷ y ∷ []) (x ∷ y ∷ []) (x ∷ y ∷ []) (moves_first a b x y c.requires.apart c.requires.second put)
-    (moves_second b d x y (y ∷ []) c.requires.apart live_x then))
+    (moves_trans a b d (x ∷ y ∷ []) (x ∷ y ∷ []) (x ∷ y ∷ []) (moves_first a b x y c.requires.two.apart c.requires.two.live_second put)
+    (moves_second b d x y (y ∷ []) c.requires.two.apart live_x then))
 
 pub take_hints-requires : goal.take_hints-requires
 take_hints-requires g c =
@@ -86,12 +86,12 @@ take_hints-requires g c =
     let other = c.header-right.result in (
       search rules,
       (
-        hinted_at bytes a c.args.first c.header_ref.result.now c.requires.hinted c.header_ref.ensures.header,
+        hinted_at bytes a c.args.first c.header_ref.result.now c.requires.two.hinted c.header_ref.ensures.header,
         keys_in_front (IsKnown bytes) (entries_of c.even_out.new.self) (entries_of c.even_out.new.right)
             (subst (λ l. All (IsKnown bytes) (keys_of l)) (sym c.even_out.ensures.entries)
             (keys_of_both (IsKnown bytes) (entries_of one) (entries_of other)
-            (known_in bytes a c.args.first one c.requires.hinted c.header-left.ensures.header)
-            (known_in bytes a c.args.second other c.requires.hinted c.header-right.ensures.header))),
+            (known_in bytes a c.args.first one c.requires.two.hinted c.header-left.ensures.header)
+            (known_in bytes a c.args.second other c.requires.two.hinted c.header-right.ensures.header))),
       ),
     )
 
@@ -103,12 +103,12 @@ take_hints-requires-2 g c =
     let other = c.header-right.result in (
       search rules,
       (
-        hinted_at bytes a c.args.second c.header_ref-2.result.now c.requires.hinted c.header_ref-2.ensures.header,
+        hinted_at bytes a c.args.second c.header_ref-2.result.now c.requires.two.hinted c.header_ref-2.ensures.header,
         keys_at_back (IsKnown bytes) (entries_of c.even_out.new.self) (entries_of c.even_out.new.right)
             (subst (λ l. All (IsKnown bytes) (keys_of l)) (sym c.even_out.ensures.entries)
             (keys_of_both (IsKnown bytes) (entries_of one) (entries_of other)
-            (known_in bytes a c.args.first one c.requires.hinted c.header-left.ensures.header)
-            (known_in bytes a c.args.second other c.requires.hinted c.header-right.ensures.header))),
+            (known_in bytes a c.args.first one c.requires.two.hinted c.header-left.ensures.header)
+            (known_in bytes a c.args.second other c.requires.two.hinted c.header-right.ensures.header))),
       ),
     )
 
@@ -118,5 +118,5 @@ returns-clause-hinted g c =
     let a = c.args.nodes.now in
     let b = c.set_header.new.self in
     hinted_header bytes b c.set_header-2.new.self c.args.second c.take_hints-2.new.self c.set_header-2.ensures.replaced
-    (hinted_header bytes a b c.args.first c.take_hints.new.self c.set_header.ensures.replaced c.requires.hinted c.take_hints.ensures.hinted)
+    (hinted_header bytes a b c.args.first c.take_hints.new.self c.set_header.ensures.replaced c.requires.two.hinted c.take_hints.ensures.hinted)
     c.take_hints-2.ensures.hinted

@@ -16,8 +16,8 @@ release-requires g c =
     let b = c.set_header.new.self in
     record {
       live = live_same a b c.args.second
-          (put_others a b c.args.first joined c.set_header.ensures.replaced c.args.second (λ same. c.requires.apart (sym same)))
-          c.requires.second;
+          (put_others a b c.args.first joined c.set_header.ensures.replaced c.args.second (λ same. c.requires.two.apart (sym same)))
+          c.requires.two.live_second;
     }
 
 pub returns-clause-entries : goal.returns-clause-entries
@@ -25,7 +25,7 @@ returns-clause-entries g c =
     let joined = c.take_hints.new.self in
     let a = c.args.nodes.now in
     let b = c.set_header.new.self in
-    entries_same b c.release.new.self c.args.first (c.release.ensures.others c.args.first c.requires.apart)
+    entries_same b c.release.new.self c.args.first (c.release.ensures.others c.args.first c.requires.two.apart)
     ∙ put_entries a b c.args.first joined c.set_header.ensures.replaced
     ∙ c.take_hints.ensures.entries
     ∙ c.append.ensures.entries
@@ -40,16 +40,16 @@ returns-clause-changes g c =
     let d = c.release.new.self in
     let x = c.args.first in
     let y = c.args.second in
-    let put = put_moves a b x joined c.set_header.ensures.replaced c.requires.first c.requires.keyless in
+    let put = put_moves a b x joined c.set_header.ensures.replaced c.requires.two.live_first c.requires.two.keyless in
     let live_x = put_live a b x joined c.set_header.ensures.replaced in
     let live_y =
-    live_same a b y (put_others a b x joined c.set_header.ensures.replaced y (λ same. c.requires.apart (sym same)))
-    c.requires.second in
+    live_same a b y (put_others a b x joined c.set_header.ensures.replaced y (λ same. c.requires.two.apart (sym same)))
+    c.requires.two.live_second in
     let gone = moves_released b d y put.keyless live_y c.release.ensures.released c.release.ensures.others
     (released_spare b d y live_y put.keyless c.release.ensures.spare) in
     changes_if_moves a d (x ∷ y ∷ []) (x ∷ [])
-    (moves_trans a b d (x ∷ y ∷ []) (x ∷ y ∷ []) (x ∷ []) (moves_first a b x y c.requires.apart c.requires.second put)
-    (moves_second b d x y [] c.requires.apart live_x gone))
+    (moves_trans a b d (x ∷ y ∷ []) (x ∷ y ∷ []) (x ∷ []) (moves_first a b x y c.requires.two.apart c.requires.two.live_second put)
+    (moves_second b d x y [] c.requires.two.apart live_x gone))
 
 pub take_hints-requires : goal.take_hints-requires
 take_hints-requires g c =
@@ -59,11 +59,11 @@ take_hints-requires g c =
     let other = c.header_ref.result.now in (
       search rules,
       (
-        hinted_at bytes a c.args.first c.header_ref-2.result.now c.requires.hinted c.header_ref-2.ensures.header,
+        hinted_at bytes a c.args.first c.header_ref-2.result.now c.requires.two.hinted c.header_ref-2.ensures.header,
         subst (λ l. All (IsKnown bytes) (keys_of l)) (sym c.append.ensures.entries)
             (keys_of_both (IsKnown bytes) (entries_of one) (entries_of other)
-            (known_in bytes a c.args.first one c.requires.hinted c.header-joined.ensures.header)
-            (known_in bytes a c.args.second other c.requires.hinted c.header_ref.ensures.header)),
+            (known_in bytes a c.args.first one c.requires.two.hinted c.header-joined.ensures.header)
+            (known_in bytes a c.args.second other c.requires.two.hinted c.header_ref.ensures.header)),
       ),
     )
 
@@ -74,5 +74,5 @@ returns-clause-hinted g c =
     let a = c.args.nodes.now in
     let b = c.set_header.new.self in
     hinted_released bytes b c.release.new.self c.args.second
-    (hinted_header bytes a b c.args.first joined c.set_header.ensures.replaced c.requires.hinted c.take_hints.ensures.hinted)
+    (hinted_header bytes a b c.args.first joined c.set_header.ensures.replaced c.requires.two.hinted c.take_hints.ensures.hinted)
     c.release.ensures.released c.release.ensures.others

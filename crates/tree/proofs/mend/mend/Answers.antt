@@ -16,10 +16,10 @@ header_ref-requires g c =
     let d = c.index-entries-index.result in
     let x = (get_or c.entries.result.now i d).child in
     let x_is : x ≡ (get_or es i d).child = ap (λ (l : List Entry). (get_or l i d).child) c.entries.ensures.entries in
-    let f = c.requires.family in
+    let f = c.requires.can_mend.family in
     record {
       live = live_subtree a (least_of g.row.N) f.0 x
-          (subst (IsSubtree a (least_of g.row.N) f.0) (sym x_is) (f.1.below i d c.requires.within));
+          (subst (IsSubtree a (least_of g.row.N) f.0) (sym x_is) (f.1.below i d c.requires.can_mend.within));
     }
 
 pub returns-then-len-least-clause-mended : goal.returns-then-len-least-clause-mended
@@ -30,15 +30,15 @@ returns-then-len-least-clause-mended g c height family =
     let d = c.index-entries-index.result in
     let x = (get_or c.entries.result.now i d).child in
     let x_is : x ≡ (get_or es i d).child = ap (λ (l : List Entry). (get_or l i d).child) c.entries.ensures.entries in
-    let f = c.requires.family in
+    let f = c.requires.can_mend.family in
     let t = c.summary.result in
     let len : length (entries_at a x) ≡ c.len.result =
     ap length (entries_from_header a x c.header_ref.result.now c.header_ref.ensures.header) ∙ sym c.len.ensures.len in
     let filled : least_of g.row.N ≤ length (entries_at a x) =
     subst (λ n. n ≤ length (entries_at a x)) c.least.ensures.least (omega (arith, len, c.if-len-least.true)) in
-    mended_by_summary a (least_of g.row.N) height es (entries_of c.set.new.self) i x d t c.requires.within x_is family c.requires.keyless
+    mended_by_summary a (least_of g.row.N) height es (entries_of c.set.new.self) i x d t c.requires.can_mend.within x_is family c.requires.can_mend.keyless
     c.summary.ensures.child (c.summary.ensures.tells height (least_of g.row.N)) filled
-    (c.set.ensures.entries ∙ set_one es i t c.requires.within)
+    (c.set.ensures.entries ∙ set_one es i t c.requires.can_mend.within)
 
 pub share-requires : goal.share-requires
 share-requires g c =
@@ -48,27 +48,22 @@ share-requires g c =
     let d = c.index-entries-index.result in
     let x = (get_or c.entries.result.now i d).child in
     let x_is : x ≡ (get_or es i d).child = ap (λ (l : List Entry). (get_or l i d).child) c.entries.ensures.entries in
-    let f = c.requires.family in
+    let f = c.requires.can_mend.family in
     let j = c.saturating_sub.result in
     let j_is : j ≡ i - 1 = c.saturating_sub.ensures in (
       search rules,
-      (
-        c.requires.fan_out,
-        (
-          omega (arith, c.requires.within, c.requires.several, j_is),
-          (
-            filled_pair a (least_of g.row.N) f.0 es i j d c.requires.within c.requires.several j_is f.1,
-            (
-              c.requires.keyless,
-              ((f.0, widened a (least_of g.row.N) f.0 es i j c.requires.within c.requires.several j_is f.1), c.requires.hinted),
-            ),
-          ),
-        ),
-      ),
+      record {
+        fan_out = c.requires.can_mend.fan_out;
+        within = omega (arith, c.requires.can_mend.within, c.requires.can_mend.several, j_is);
+        filled = filled_pair a (least_of g.row.N) f.0 es i j d c.requires.can_mend.within c.requires.can_mend.several j_is f.1;
+        keyless = c.requires.can_mend.keyless;
+        family = (f.0, widened a (least_of g.row.N) f.0 es i j c.requires.can_mend.within c.requires.can_mend.several j_is f.1);
+        hinted = c.requires.can_mend.hinted;
+      },
     )
 
 pub returns-clause-mended : goal.returns-clause-mended
 returns-clause-mended g c height family =
     c.share.ensures.mended height
     (widened c.args.nodes.now (least_of g.row.N) height (entries_of c.args.node.now) c.args.index c.saturating_sub.result
-    c.requires.within c.requires.several c.saturating_sub.ensures family)
+    c.requires.can_mend.within c.requires.can_mend.several c.saturating_sub.ensures family)

@@ -23,11 +23,11 @@ both_known g c =
     let new = c.args.new.now in
     let from = c.args.from in
     let to = c.args.to in
-    let old : All P (keys_of es) = known_in bytes c.args.nodes.now c.args.slot c.header-left.result c.requires.hinted
+    let old : All P (keys_of es) = known_in bytes c.args.nodes.now c.args.slot c.header-left.result c.requires.can_split.hinted
     c.header-left.ensures.header in
     subst (λ (xs : List Entry). All P (keys_of xs)) (sym c.splice_apart-right.ensures.entries)
     (keys_of_both P (take from es) (new ++ drop to es) (keys_taken P es from old)
-    (keys_of_both P new (drop to es) c.requires.known (keys_dropped P es to old)))
+    (keys_of_both P new (drop to es) c.requires.can_split.known (keys_dropped P es to old)))
 
 pub take_hints-requires : goal.take_hints-requires
 take_hints-requires g c =
@@ -35,7 +35,7 @@ take_hints-requires g c =
     let at = (goal.at.take_hints-requires g c).After-splice_apart-right in (
       search rules,
       (
-        hinted_at bytes c.args.nodes.now c.args.slot c.header_ref.result.now c.requires.hinted
+        hinted_at bytes c.args.nodes.now c.args.slot c.header_ref.result.now c.requires.can_split.hinted
             c.header_ref.ensures.header,
         keys_in_front (IsKnown bytes) (entries_of c.splice_apart-right.new.self)
             (entries_of c.splice_apart-right.result) (both_known g at),
@@ -48,7 +48,7 @@ take_hints-requires-2 g c =
     let at = (goal.at.take_hints-requires-2 g c).After-splice_apart-right in (
       search rules,
       (
-        hinted_at bytes c.args.nodes.now c.args.slot c.header_ref-2.result.now c.requires.hinted
+        hinted_at bytes c.args.nodes.now c.args.slot c.header_ref-2.result.now c.requires.can_split.hinted
             c.header_ref-2.ensures.header,
         keys_at_back (IsKnown bytes) (entries_of c.splice_apart-right.new.self)
             (entries_of c.splice_apart-right.result) (both_known g at),
@@ -59,9 +59,9 @@ pub place-requires : goal.place-requires
 place-requires g c =
     let a = c.args.nodes.now in
     let b = c.set_header.new.self in
-    let put = put_moves a b c.args.slot c.take_hints.new.self c.set_header.ensures.replaced c.requires.live
-    c.requires.keyless in
-    (search rules, (put.keyless, omega (arith, c.requires.room, put.live, put.spare)))
+    let put = put_moves a b c.args.slot c.take_hints.new.self c.set_header.ensures.replaced c.requires.can_split.live
+    c.requires.can_split.keyless in
+    (search rules, (put.keyless, omega (arith, c.requires.can_split.room, put.live, put.spare)))
 
 pub returns-clause-entries : goal.returns-clause-entries
 returns-clause-entries g c =
@@ -86,8 +86,8 @@ returns-clause-filled g c =
     c.place.ensures.changes ∙ c.take_hints.ensures.entries) in
     let there : length (entries_at z c.place.result) ≡ length (entries_of split.result) =
     ap (λ (es : List Entry). length es) (c.place.ensures.entries ∙ c.take_hints-2.ensures.entries) in (
-      omega (arith, here, split.ensures.left, c.requires.fan_out),
-      omega (arith, there, split.ensures.right, c.requires.fan_out),
+      omega (arith, here, split.ensures.left, c.requires.can_split.fan_out),
+      omega (arith, there, split.ensures.right, c.requires.can_split.fan_out),
     )
 
 pub returns-clause-live : goal.returns-clause-live
@@ -98,11 +98,11 @@ returns-clause-live g c =
 pub returns-clause-changes : goal.returns-clause-changes
 returns-clause-changes g c =
     both_changes c.args.nodes.now c.set_header.new.self c.place.new.nodes c.args.slot c.place.result
-    c.take_hints.new.self c.set_header.ensures.replaced c.place.ensures.changes c.requires.live c.requires.keyless
+    c.take_hints.new.self c.set_header.ensures.replaced c.place.ensures.changes c.requires.can_split.live c.requires.can_split.keyless
 
 pub returns-clause-hinted : goal.returns-clause-hinted
 returns-clause-hinted g c =
     let bytes = g.P.Probe.bytes c.args.probe.now in
     c.place.ensures.hinted bytes c.take_hints-2.ensures.hinted
     (hinted_header bytes c.args.nodes.now c.set_header.new.self c.args.slot c.take_hints.new.self
-    c.set_header.ensures.replaced c.requires.hinted c.take_hints.ensures.hinted)
+    c.set_header.ensures.replaced c.requires.can_split.hinted c.take_hints.ensures.hinted)

@@ -25,7 +25,7 @@ returns-clause-linked g c =
     let d = c.index-entries-index.result in
     let x = (get_or c.entries.result.now i d).child in
     let x_is : x ≡ child_at es i =
-    ap (λ (l : List Entry). (get_or l i d).child) c.entries.ensures.entries ∙ sym (child_is es i d c.requires.within) in
+    ap (λ (l : List Entry). (get_or l i d).child) c.entries.ensures.entries ∙ sym (child_is es i d c.requires.can_link.within) in
     let t = c.summary.result in
     let u = c.summary-2.result in
     let new = c.insert_or_split.new.self in
@@ -35,7 +35,7 @@ returns-clause-linked g c =
       entries = with_is new c.insert_or_split.result _
           (subst (λ (l : List Entry). MatchOption c.insert_or_split.result (entries_of new ≡ take (i + 1) l ++ u ∷ drop (i + 1) l)
           (λ right. entries_of new ++ entries_of right ≡ take (i + 1) l ++ u ∷ drop (i + 1) l)) c.set.ensures.entries
-          c.insert_or_split.ensures.entries) ∙ set_inserted es i t u c.requires.within;
+          c.insert_or_split.ensures.entries) ∙ set_inserted es i t u c.requires.can_link.within;
       first_child = c.summary.ensures.child ∙ x_is;
       first_tells = subst (λ z. (height least : ℕ) → IsSubtree a least height z → Tells t (items_in a height z)) x_is c.summary.ensures.tells;
       second_child = c.summary-2.ensures.child;

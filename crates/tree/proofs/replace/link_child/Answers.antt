@@ -15,8 +15,8 @@ both_known : (g : Over) (c : After-link-right g)
 both_known g c =
     let bytes = g.P.Probe.bytes c.args.probe.now in
     let node = c.header-node.result in
-    let hinted = hinted_at bytes c.args.nodes.now c.args.slot node c.requires.hinted c.header-node.ensures.header in
-    c.link-right.ensures.known bytes c.requires.hinted (all_known bytes (hint_of node) hinted)
+    let hinted = hinted_at bytes c.args.nodes.now c.args.slot node c.requires.can_link.hinted c.header-node.ensures.header in
+    c.link-right.ensures.known bytes c.requires.can_link.hinted (all_known bytes (hint_of node) hinted)
 
 pub take_hints-requires : goal.take_hints-requires
 take_hints-requires g c =
@@ -24,7 +24,7 @@ take_hints-requires g c =
     let at = (goal.at.take_hints-requires g c).After-link-right in (
       search rules,
       (
-        hinted_at bytes c.args.nodes.now c.args.slot c.header_ref.result.now c.requires.hinted c.header_ref.ensures.header,
+        hinted_at bytes c.args.nodes.now c.args.slot c.header_ref.result.now c.requires.can_link.hinted c.header_ref.ensures.header,
         left_keys (IsKnown bytes) c.link-right.new.node c.link-right.result (entries_with c.link-right.new.node c.link-right.result)
             (halves c.link-right.new.node c.link-right.result) (both_known g at),
       ),
@@ -38,13 +38,13 @@ store-requires g c =
     let right = c.link-right.result in (
       search rules,
       (
-        c.requires.live,
+        c.requires.can_link.live,
         (
-          c.requires.keyless,
+          c.requires.can_link.keyless,
           (
-            (λ _. c.requires.room),
+            (λ _. c.requires.can_link.room),
             (
-              c.requires.hinted,
+              c.requires.can_link.hinted,
               (
                 c.take_hints.ensures.hinted,
                 right_keys (IsKnown bytes) left right c.as_ref.result (entries_with left right) c.as_ref.ensures.value

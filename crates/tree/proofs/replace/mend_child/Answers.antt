@@ -24,10 +24,10 @@ header_ref-requires-2 g c =
     let read = entries_from_header a c.args.slot c.header_ref.result.now c.header_ref.ensures.header in
     let x_is : x ≡ (get_or es i d).child =
     ap (λ (l : List Entry). (get_or l i d).child) (c.entries.ensures.entries ∙ sym read) in
-    let f = c.requires.family in
+    let f = c.requires.can_mend.family in
     record {
       live = live_subtree a (least_of g.row.N) f.0 x
-          (subst (IsSubtree a (least_of g.row.N) f.0) (sym x_is) (f.1.family.below i d c.requires.within));
+          (subst (IsSubtree a (least_of g.row.N) f.0) (sym x_is) (f.1.family.below i d c.requires.can_mend.within));
     }
 
 pub returns-then-len-least-clause-mended : goal.returns-then-len-least-clause-mended
@@ -52,13 +52,13 @@ returns-then-len-least-clause-mended g c height family =
     let here = entries_from_header a slot c.header_mut.result.now c.header_mut.ensures.header in
     let now_is : entries_of node ≡ slice_set es i t =
     c.set_hinted.ensures.entries ∙ ap (λ (l : List Entry). slice_set l i t) (sym here) in
-    let parts = now_is ∙ set_one es i t c.requires.within in
+    let parts = now_is ∙ set_one es i t c.requires.can_mend.within in
     let mended =
-    mended_by_summary a L height es (entries_of node) i x d t c.requires.within x_is family.family c.requires.keyless
+    mended_by_summary a L height es (entries_of node) i x d t c.requires.can_mend.within x_is family.family c.requires.can_mend.keyless
     c.summary-entry.ensures.child (c.summary-entry.ensures.tells height L) filled parts in
     let some : 1 ≤ length (entries_of node) =
     omega (arith, ap length parts, length-append (take i es) (t ∷ drop (i + 1) es)) in
-    mended_at a a (with_header a slot node) L height slot i node (entries_of node) c.requires.live family mended some
+    mended_at a a (with_header a slot node) L height slot i node (entries_of node) c.requires.can_mend.live family mended some
     refl refl
 
 pub returns-then-len-least-clause-few_less : goal.returns-then-len-least-clause-few_less
@@ -74,13 +74,13 @@ returns-then-len-least-clause-few_less g c =
     c.set_hinted.ensures.entries ∙ ap (λ (l : List Entry). slice_set l i t) (sym here) in
     let after : entries_at (with_header a slot node) slot ≡ entries_of node =
     put_entries a (with_header a slot node) slot node refl in
-    let parts = after ∙ now_is ∙ set_one es i t c.requires.within in
+    let parts = after ∙ now_is ∙ set_one es i t c.requires.can_mend.within in
     omega (
       arith,
-      c.requires.within,
+      c.requires.can_mend.within,
       ap length parts,
       length-append (take i es) (t ∷ drop (i + 1) es),
-      length-take-le i es (omega (arith, c.requires.within)),
+      length-take-le i es (omega (arith, c.requires.can_mend.within)),
       length-drop (i + 1) es,
     )
 
@@ -97,8 +97,8 @@ returns-clause-mended g c height family =
     subst (λ l. IsMended a c.mend.new.nodes L height l (entries_of c.mend.new.node)) (sym read)
     (c.mend.ensures.mended height loose) in
     mended_at a c.mend.new.nodes c.set_header.new.self L height slot c.args.index c.take_hints.new.self
-    (entries_of c.mend.new.node) c.requires.live family mended
-    (omega (arith, c.mend.ensures.few_less, c.requires.several, same)) c.take_hints.ensures.entries c.set_header.ensures.replaced
+    (entries_of c.mend.new.node) c.requires.can_mend.live family mended
+    (omega (arith, c.mend.ensures.few_less, c.requires.can_mend.several, same)) c.take_hints.ensures.entries c.set_header.ensures.replaced
 
 pub returns-clause-few_less : goal.returns-clause-few_less
 returns-clause-few_less g c =
@@ -115,7 +115,7 @@ returns-then-len-least-clause-hinted g c =
     let slot = c.args.slot in
     let node = c.set_hinted.new.self in
     let b = with_header a slot node in
-    hinted_put (g.P.Probe.bytes c.args.probe.now) a b slot node c.requires.hinted
+    hinted_put (g.P.Probe.bytes c.args.probe.now) a b slot node c.requires.can_mend.hinted
     (ap (option_map (λ r. r.header)) (put_record_is a b slot node refl)) c.set_hinted.ensures.hinted (put_others a b slot node refl)
 
 pub take_hints-requires : goal.take_hints-requires
@@ -125,7 +125,7 @@ take_hints-requires g c =
     let slot = c.args.slot in
     let bytes = g.P.Probe.bytes c.args.probe.now in
     let L = least_of g.row.N in
-    let f = c.requires.family in
+    let f = c.requires.can_mend.family in
     let read = entries_from_header a slot c.header-node.result c.header-node.ensures.header in
     let loose = subst (λ l. IsFamily a L f.0 l c.args.index (c.args.index + 1)) read f.1.family in
     let mended = c.mend.ensures.mended f.0 loose in (

@@ -51,43 +51,24 @@ grow-requires g c =
     let root = c.args.root.now in
     let can = c.requires.changeable in
     let put = c.change_leaf.ensures.changed in
-    let is = sym c.in-Some.ensures in
+    let is = sym c.in-Some.ensures.added in
     let changes = subst (λ o. Changes a b (slots_in a root.height root.slot) (slots_with b root.height root.slot o)) is
     put.changes in (
       search rules,
-      (
-        can.fan_out,
-        (
-          can.few,
-          (
-            can.low,
-            (
-              put.subtree,
-              (
-                subst (λ o. IfSome o (λ s. IsSubtree b L root.height s)) is put.neighbour,
-                (
-                  subst (λ o. IfSome o (λ s. (L ≤ length (entries_at b root.slot)) × (L ≤ length (entries_at b s)))) is
-                      put.filled,
-                  (
-                    changes.distinct,
-                    (
-                      omega (arith, changes.live, can.rooted.linked),
-                      (
-                        changes.keyless,
-                        (
-                          omega (arith, put.taken, can.room),
-                          subst (λ p. AreHinted (g.C.Target.Probe.bytes p) (hints_of b))
-                              (sym (c.target-in-Some.ensures.target ∙ c.change_leaf.ensures.target)) put.hinted,
-                        ),
-                      ),
-                    ),
-                  ),
-                ),
-              ),
-            ),
-          ),
-        ),
-      ),
+      record {
+        fan_out = can.fan_out;
+        few = can.few;
+        low = can.low;
+        first = put.subtree;
+        second = subst (λ o. IfSome o (λ s. IsSubtree b L root.height s)) is put.neighbour;
+        filled = subst (λ o. IfSome o (λ s. (L ≤ length (entries_at b root.slot)) × (L ≤ length (entries_at b s)))) is put.filled;
+        distinct = changes.distinct;
+        linked = omega (arith, changes.live, can.rooted.linked);
+        keyless = changes.keyless;
+        room = omega (arith, put.taken, can.room);
+        hinted = subst (λ p. AreHinted (g.C.Target.Probe.bytes p) (hints_of b))
+            (sym (c.target-in-Some.ensures.target ∙ c.change_leaf.ensures.target)) put.hinted;
+      },
     )
 
 pub shrink-requires : goal.shrink-requires
@@ -97,15 +78,14 @@ shrink-requires g c =
     let root = c.args.root.now in
     let put = c.change_leaf.ensures.changed in
     let changes = subst (λ o. Changes a b (slots_in a root.height root.slot) (slots_with b root.height root.slot o))
-    (sym c.in-None.ensures) put.changes in (
+    (sym c.in-None.ensures.added) put.changes in (
       search rules,
-      (
-        put.subtree,
-        (
-          changes.distinct,
-          (omega (arith, changes.live, c.requires.changeable.rooted.linked), changes.keyless),
-        ),
-      ),
+      record {
+        subtree = put.subtree;
+        distinct = changes.distinct;
+        linked = omega (arith, changes.live, c.requires.changeable.rooted.linked);
+        keyless = changes.keyless;
+      },
     )
 
 pub returns-in-Some-clause-items : goal.returns-in-Some-clause-items
@@ -115,7 +95,7 @@ returns-in-Some-clause-items g c =
     subst (IsChangedWithin (g.C.Target.Probe.lets_pass (g.C.LeafChange.target_of change))
     (g.C.LeafChange.gives change c.change_leaf.new.change (items_of_run c.change_leaf.new.taken)) true None
     (items_in c.args.nodes.now root.height root.slot))
-    (ap (items_with c.change_leaf.new.nodes root.height root.slot) (sym c.in-Some.ensures) ∙ sym c.grow.ensures.items)
+    (ap (items_with c.change_leaf.new.nodes root.height root.slot) (sym c.in-Some.ensures.added) ∙ sym c.grow.ensures.items)
     c.change_leaf.ensures.items
 
 pub returns-in-Some-clause-spare : goal.returns-in-Some-clause-spare
@@ -133,7 +113,7 @@ returns-in-None-clause-items g c =
     subst (IsChangedWithin (g.C.Target.Probe.lets_pass (g.C.LeafChange.target_of change))
     (g.C.LeafChange.gives change c.change_leaf.new.change (items_of_run c.change_leaf.new.taken)) true None
     (items_in c.args.nodes.now root.height root.slot))
-    (ap (items_with c.change_leaf.new.nodes root.height root.slot) (sym c.in-None.ensures) ∙ sym c.shrink.ensures.items)
+    (ap (items_with c.change_leaf.new.nodes root.height root.slot) (sym c.in-None.ensures.added) ∙ sym c.shrink.ensures.items)
     c.change_leaf.ensures.items
 
 pub returns-in-None-clause-spare : goal.returns-in-None-clause-spare

@@ -23,8 +23,8 @@ renew_hints-requires g c =
     let node : entries_of c.insert.new.self ≡ es =
     c.insert.ensures.entries ∙ ap (λ l. take 1 l ++ second ∷ drop 1 l) c.of-node.ensures.entries in
     let known : All (IsKnown bytes) (keys_of es) =
-    All-cons (IsKnown bytes) first.key (second.key ∷ []) (c.summary.ensures.known bytes c.requires.hinted)
-    (All-cons (IsKnown bytes) second.key [] (c.summary-2.ensures.known bytes c.requires.hinted) (All-nil (IsKnown bytes))) in (search rules, subst (λ l. All (IsKnown bytes) (keys_of l)) (sym node) known)
+    All-cons (IsKnown bytes) first.key (second.key ∷ []) (c.summary.ensures.known bytes c.requires.can_grow.hinted)
+    (All-cons (IsKnown bytes) second.key [] (c.summary-2.ensures.known bytes c.requires.can_grow.hinted) (All-nil (IsKnown bytes))) in (search rules, subst (λ l. All (IsKnown bytes) (keys_of l)) (sym node) known)
 
 pub returns-clause-items : goal.returns-clause-items
 returns-clause-items g c =
@@ -39,11 +39,11 @@ returns-clause-items g c =
     c.renew_hints.ensures.entries ∙ c.insert.ensures.entries ∙ ap (λ l. take 1 l ++ second ∷ drop 1 l) c.of-node.ensures.entries in
     let right : AreChildren a least h es =
     All-cons (IsRight a least h) first (second ∷ [])
-    (right_entry a least h c.args.root.slot first c.summary.ensures.child c.requires.first c.requires.filled.0
-    (c.summary.ensures.tells h least c.requires.first))
+    (right_entry a least h c.args.root.slot first c.summary.ensures.child c.requires.can_grow.first c.requires.can_grow.filled.0
+    (c.summary.ensures.tells h least c.requires.can_grow.first))
     (All-cons (IsRight a least h) second []
-    (right_entry a least h c.args.added second c.summary-2.ensures.child c.requires.second c.requires.filled.1
-    (c.summary-2.ensures.tells h least c.requires.second))
+    (right_entry a least h c.args.added second c.summary-2.ensures.child c.requires.can_grow.second c.requires.can_grow.filled.1
+    (c.summary-2.ensures.tells h least c.requires.can_grow.second))
     (All-nil (IsRight a least h))) in
     let slots : slots_of a h es ≡ slots_in a h c.args.root.slot ++ slots_in a h c.args.added =
     ap₂ (λ x y. slots_in a h x ++ (slots_in a h y ++ [])) c.summary.ensures.child c.summary-2.ensures.child
@@ -54,7 +54,7 @@ returns-clause-items g c =
     let moves = moves_if_changes a b [] (c.place.result ∷ []) c.place.ensures.changes in
     let new =
     grown a b h c.place.result es moves c.place.ensures.live (c.place.ensures.entries ∙ node) (omega arith) right
-    (subst (IsDistinct nat_eq) (sym slots) c.requires.distinct) (c.requires.linked ∙ ap length (sym slots)) in
+    (subst (IsDistinct nat_eq) (sym slots) c.requires.can_grow.distinct) (c.requires.can_grow.linked ∙ ap length (sym slots)) in
     let one : suc h ≡ h + 1 = omega arith in
     ap (λ n. items_in b n c.place.result) (sym one) ∙ new.items_are ∙ items
 
@@ -71,11 +71,11 @@ returns-clause-rooted g c =
     c.renew_hints.ensures.entries ∙ c.insert.ensures.entries ∙ ap (λ l. take 1 l ++ second ∷ drop 1 l) c.of-node.ensures.entries in
     let right : AreChildren a least h es =
     All-cons (IsRight a least h) first (second ∷ [])
-    (right_entry a least h c.args.root.slot first c.summary.ensures.child c.requires.first c.requires.filled.0
-    (c.summary.ensures.tells h least c.requires.first))
+    (right_entry a least h c.args.root.slot first c.summary.ensures.child c.requires.can_grow.first c.requires.can_grow.filled.0
+    (c.summary.ensures.tells h least c.requires.can_grow.first))
     (All-cons (IsRight a least h) second []
-    (right_entry a least h c.args.added second c.summary-2.ensures.child c.requires.second c.requires.filled.1
-    (c.summary-2.ensures.tells h least c.requires.second))
+    (right_entry a least h c.args.added second c.summary-2.ensures.child c.requires.can_grow.second c.requires.can_grow.filled.1
+    (c.summary-2.ensures.tells h least c.requires.can_grow.second))
     (All-nil (IsRight a least h))) in
     let slots : slots_of a h es ≡ slots_in a h c.args.root.slot ++ slots_in a h c.args.added =
     ap₂ (λ x y. slots_in a h x ++ (slots_in a h y ++ [])) c.summary.ensures.child c.summary-2.ensures.child
@@ -86,10 +86,10 @@ returns-clause-rooted g c =
     let moves = moves_if_changes a b [] (c.place.result ∷ []) c.place.ensures.changes in
     let new =
     grown a b h c.place.result es moves c.place.ensures.live (c.place.ensures.entries ∙ node) (omega arith) right
-    (subst (IsDistinct nat_eq) (sym slots) c.requires.distinct) (c.requires.linked ∙ ap length (sym slots)) in
+    (subst (IsDistinct nat_eq) (sym slots) c.requires.can_grow.distinct) (c.requires.can_grow.linked ∙ ap length (sym slots)) in
     let one : suc h ≡ h + 1 = omega arith in
     subst (λ n. IsRooted b c.place.result n) one new.rooted
 
 pub returns-clause-hinted : goal.returns-clause-hinted
 returns-clause-hinted g c =
-    c.place.ensures.hinted (g.P.Probe.bytes c.args.probe.now) c.renew_hints.ensures.hinted c.requires.hinted
+    c.place.ensures.hinted (g.P.Probe.bytes c.args.probe.now) c.renew_hints.ensures.hinted c.requires.can_grow.hinted

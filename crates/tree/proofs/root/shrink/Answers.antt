@@ -22,15 +22,15 @@ returns-clause-items g c =
     let least = least_of g.row.N in
     let one : suc h ≡ c.args.root.height = omega (arith, c.if-root-eq0.false) in
     let read = entries_read a slot c.header_ref.result.now es c.header_ref.ensures.header c.entries-entries.ensures.entries in
-    let subtree = subst (λ n. IsSubtree a least n slot) (sym one) c.requires.subtree in
+    let subtree = subst (λ n. IsSubtree a least n slot) (sym one) c.requires.can_shrink.subtree in
     let count : length es ≡ 1 = omega (arith, c.if-entries-gt1.false, subtree.1, ap length read) in
-    let spare = released_spare a b slot subtree.0 c.requires.keyless c.release.ensures.spare in
+    let spare = released_spare a b slot subtree.0 c.requires.can_shrink.keyless c.release.ensures.spare in
     let moves =
-    moves_released a b slot c.requires.keyless subtree.0 c.release.ensures.released c.release.ensures.others spare in
+    moves_released a b slot c.requires.can_shrink.keyless subtree.0 c.release.ensures.released c.release.ensures.others spare in
     let new =
     shrunk a b h slot e subtree (read ∙ only_one es default count)
-    (subst (λ n. IsDistinct nat_eq (slots_in a n slot)) (sym one) c.requires.distinct)
-    (c.requires.linked ∙ ap (λ n. length (slots_in a n slot)) (sym one)) moves in
+    (subst (λ n. IsDistinct nat_eq (slots_in a n slot)) (sym one) c.requires.can_shrink.distinct)
+    (c.requires.can_shrink.linked ∙ ap (λ n. length (slots_in a n slot)) (sym one)) moves in
     new.items_are ∙ ap (λ n. items_in a n slot) one
 
 pub returns-clause-rooted : goal.returns-clause-rooted
@@ -45,15 +45,15 @@ returns-clause-rooted g c =
     let least = least_of g.row.N in
     let one : suc h ≡ c.args.root.height = omega (arith, c.if-root-eq0.false) in
     let read = entries_read a slot c.header_ref.result.now es c.header_ref.ensures.header c.entries-entries.ensures.entries in
-    let subtree = subst (λ n. IsSubtree a least n slot) (sym one) c.requires.subtree in
+    let subtree = subst (λ n. IsSubtree a least n slot) (sym one) c.requires.can_shrink.subtree in
     let count : length es ≡ 1 = omega (arith, c.if-entries-gt1.false, subtree.1, ap length read) in
-    let spare = released_spare a b slot subtree.0 c.requires.keyless c.release.ensures.spare in
+    let spare = released_spare a b slot subtree.0 c.requires.can_shrink.keyless c.release.ensures.spare in
     let moves =
-    moves_released a b slot c.requires.keyless subtree.0 c.release.ensures.released c.release.ensures.others spare in
+    moves_released a b slot c.requires.can_shrink.keyless subtree.0 c.release.ensures.released c.release.ensures.others spare in
     let new =
     shrunk a b h slot e subtree (read ∙ only_one es default count)
-    (subst (λ n. IsDistinct nat_eq (slots_in a n slot)) (sym one) c.requires.distinct)
-    (c.requires.linked ∙ ap (λ n. length (slots_in a n slot)) (sym one)) moves in
+    (subst (λ n. IsDistinct nat_eq (slots_in a n slot)) (sym one) c.requires.can_shrink.distinct)
+    (c.requires.can_shrink.linked ∙ ap (λ n. length (slots_in a n slot)) (sym one)) moves in
     new.rooted
 
 pub returns-clause-spare : goal.returns-clause-spare
@@ -68,11 +68,11 @@ returns-clause-spare g c =
     let least = least_of g.row.N in
     let one : suc h ≡ c.args.root.height = omega (arith, c.if-root-eq0.false) in
     let read = entries_read a slot c.header_ref.result.now es c.header_ref.ensures.header c.entries-entries.ensures.entries in
-    let subtree = subst (λ n. IsSubtree a least n slot) (sym one) c.requires.subtree in
+    let subtree = subst (λ n. IsSubtree a least n slot) (sym one) c.requires.can_shrink.subtree in
     let count : length es ≡ 1 = omega (arith, c.if-entries-gt1.false, subtree.1, ap length read) in
-    let spare = released_spare a b slot subtree.0 c.requires.keyless c.release.ensures.spare in
+    let spare = released_spare a b slot subtree.0 c.requires.can_shrink.keyless c.release.ensures.spare in
     let moves =
-    moves_released a b slot c.requires.keyless subtree.0 c.release.ensures.released c.release.ensures.others spare in
+    moves_released a b slot c.requires.can_shrink.keyless subtree.0 c.release.ensures.released c.release.ensures.others spare in
     omega (arith, moves.live, moves.spare)
 
 pub returns-clause-hinted : goal.returns-clause-hinted

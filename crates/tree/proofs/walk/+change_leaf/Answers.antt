@@ -175,29 +175,16 @@ mend_written-requires g t c =
     subst (λ l. 2 ≤ length l) (at.read ∙ sym read)
     (c.requires.changeable.branches (omega (arith, c.if-height-eq0.false))) in (
       search rules,
-      (
-        c.requires.changeable.fan_out,
-        (
-          live_beside a b L h slot passes es i x d (slots_in b h x) at moves,
-          (
-            subst (λ l. i < length l) (sym read) at.within,
-            (
-              several,
-              (
-                moves.keyless,
-                (
-                  (
-                    h,
-                    family_at a b b L n h slot passes es i x d (one_up n c.if-height-eq0.false) at put.subtree moves,
-                  ),
-                  subst (λ p. AreHinted (g.C.Target.Probe.bytes p) (hints_of b))
-                      (sym (c.target-in-Raised.ensures.target ∙ c.in-Raised.ensures.target)) put.hinted,
-                ),
-              ),
-            ),
-          ),
-        ),
-      ),
+      record {
+        fan_out = c.requires.changeable.fan_out;
+        live = live_beside a b L h slot passes es i x d (slots_in b h x) at moves;
+        within = subst (λ l. i < length l) (sym read) at.within;
+        several = several;
+        keyless = moves.keyless;
+        family = (h, family_at a b b L n h slot passes es i x d (one_up n c.if-height-eq0.false) at put.subtree moves);
+        hinted = subst (λ p. AreHinted (g.C.Target.Probe.bytes p) (hints_of b))
+            (sym (c.target-in-Raised.ensures.target ∙ c.in-Raised.ensures.target)) put.hinted;
+      },
     )
 
 pub mend_child-requires : goal.mend_child-requires
@@ -221,29 +208,16 @@ mend_child-requires g t c =
     subst (λ l. 2 ≤ length l) (at.read ∙ sym read)
     (c.requires.changeable.branches (omega (arith, c.if-height-eq0.false))) in (
       search rules,
-      (
-        c.requires.changeable.fan_out,
-        (
-          live_beside a b L h slot passes es i x d (slots_in b h x) at moves,
-          (
-            subst (λ l. i < length l) (sym read) at.within,
-            (
-              several,
-              (
-                moves.keyless,
-                (
-                  (
-                    h,
-                    family_at a b b L n h slot passes es i x d (one_up n c.if-height-eq0.false) at put.subtree moves,
-                  ),
-                  subst (λ p. AreHinted (g.C.Target.Probe.bytes p) (hints_of b))
-                      (sym (c.target-in-Changed.ensures.target ∙ c.in-Changed.ensures.target)) put.hinted,
-                ),
-              ),
-            ),
-          ),
-        ),
-      ),
+      record {
+        fan_out = c.requires.changeable.fan_out;
+        live = live_beside a b L h slot passes es i x d (slots_in b h x) at moves;
+        within = subst (λ l. i < length l) (sym read) at.within;
+        several = several;
+        keyless = moves.keyless;
+        family = (h, family_at a b b L n h slot passes es i x d (one_up n c.if-height-eq0.false) at put.subtree moves);
+        hinted = subst (λ p. AreHinted (g.C.Target.Probe.bytes p) (hints_of b))
+            (sym (c.target-in-Changed.ensures.target ∙ c.in-Changed.ensures.target)) put.hinted;
+      },
     )
 
 pub link_child-requires : goal.link_child-requires
@@ -269,29 +243,17 @@ link_child-requires g t c =
     subst (λ z. L ≤ length (entries_at b z)) child put.filled.0 in
     let filled_added : L ≤ length (entries_at b s) = put.filled.1 in (
       search rules,
-      (
-        c.requires.changeable.fan_out,
-        (
-          live_beside a b L h slot passes es i x d now at moves,
-          (
-            subst (λ l. i < length l) (sym read) at.within,
-            (
-              omega (arith, filled),
-              (
-                omega (arith, filled_added),
-                (
-                  moves.keyless,
-                  (
-                    omega (arith, put.taken, c.requires.changeable.room, c.if-height-eq0.false),
-                    subst (λ p. AreHinted (g.C.Target.Probe.bytes p) (hints_of b))
-                        (sym (c.target-in-Split.ensures.target ∙ c.in-Split.ensures.target)) put.hinted,
-                  ),
-                ),
-              ),
-            ),
-          ),
-        ),
-      ),
+      record {
+        fan_out = c.requires.changeable.fan_out;
+        live = live_beside a b L h slot passes es i x d now at moves;
+        within = subst (λ l. i < length l) (sym read) at.within;
+        some = omega (arith, filled);
+        some_added = omega (arith, filled_added);
+        keyless = moves.keyless;
+        room = omega (arith, put.taken, c.requires.changeable.room, c.if-height-eq0.false);
+        hinted = subst (λ p. AreHinted (g.C.Target.Probe.bytes p) (hints_of b))
+            (sym (c.target-in-Split.ensures.target ∙ c.in-Split.ensures.target)) put.hinted;
+      },
     )
 
 -- A leaf of the child is changed.

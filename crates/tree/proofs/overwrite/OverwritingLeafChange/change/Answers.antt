@@ -263,38 +263,25 @@ split_leaf-requires g c =
     let same : length (entries_at c.args.nodes.now c.args.slot) ≡ length (entries_of c.header_ref-leaf.result.now) =
     ap (λ (es : List Entry). length es) (entries_are g h) in (
       omega (arith, can.few),
-      (
-        can.fan_out,
-        (
-          can.subtree,
-          (
-            can.keyless,
-            (
-              can.room,
-              (
-                ordered g at.After-count_back-begin,
-                (
-                  omega (arith, same, c.count-end.ensures.count.within),
-                  (
-                    omega (arith, few_new g j, can.fan_out),
-                    (
-                      omega (
-                        arith,
-                        same,
-                        c.if-begin-entries.true,
-                        c.count-end.ensures.count.within,
-                        c.len-2.ensures.len,
-                        c.len-2.ensures.most,
-                      ),
-                      (c.requires.searched.hinted, new_known g j),
-                    ),
-                  ),
-                ),
-              ),
-            ),
-          ),
-        ),
-      ),
+      record {
+        fan_out = can.fan_out;
+        live = can.subtree;
+        keyless = can.keyless;
+        room = can.room;
+        ordered = ordered g at.After-count_back-begin;
+        within = omega (arith, same, c.count-end.ensures.count.within);
+        few_new = omega (arith, few_new g j, can.fan_out);
+        many = omega (
+          arith,
+          same,
+          c.if-begin-entries.true,
+          c.count-end.ensures.count.within,
+          c.len-2.ensures.len,
+          c.len-2.ensures.most,
+        );
+        hinted = c.requires.searched.hinted;
+        known = new_known g j;
+      },
     )
 
 -- what is said of both new keys: they begin as all keys do, so far as the probe tells

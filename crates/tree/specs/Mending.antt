@@ -1,0 +1,104 @@
+-- What must hold where nodes are changed, and the ones above them made right. This project's own.
+use Rattle.std.specs.Prelude.{◌≡◌, ◌≢◌, ◌≤◌, ◌<◌, ◌+◌, ◌*◌, ◌-◌, ℕ, List, length, drop, take, nat_eq, Some}
+use Rattle.std.specs.List.{All, IsDistinct}
+use Rattle.std.specs.FinMap as map_of
+use Rattle.arena.specs.Arena.{Arena, IsLive, spare_of}
+use Rattle.tree.specs.declared.entry.Entry.{Entry}
+use Rattle.tree.specs.declared.node.Node.{Node}
+use Rattle.tree.specs.Hints.{AreHinted, IsKnown, KeyBytes}
+use Rattle.tree.specs.Node.{hints_of, keys_of}
+use Rattle.tree.specs.Replace.{child_at, slots_with, IsFamily, IsFamilyAt, IsKeyless}
+use Rattle.tree.specs.Subtree.{entries_at, slots_in, IsSubtree}
+use Rattle.tree.specs.Tree.{least_of}
+
+module _ {N : ℕ} where
+  -- The leaf at a slot, which is too full for entries in place of those from one index up to another, and so is split.
+  pub record CanSplit (bytes : KeyBytes) (nodes : Arena (Node N)) (slot from to : ℕ) (new : List Entry) : Type 0 where
+    pub fan_out : 4 ≤ N
+    pub live : IsLive nodes slot
+    pub keyless : IsKeyless nodes
+    pub room : 0 < spare_of nodes 0
+    pub ordered : from ≤ to
+    pub within : to ≤ length (entries_at nodes slot)
+    pub few_new : 2 * length new ≤ N
+    pub many : N < from + length new + (length (entries_at nodes slot) - to)
+    pub hinted : AreHinted bytes (hints_of nodes)
+    pub known : All (IsKnown bytes) (keys_of new)
+
+  -- The node at a slot, of which the child at an index was split from the one that is added.
+  pub record CanLink (bytes : KeyBytes) (nodes : Arena (Node N)) (slot index added : ℕ) : Type 0 where
+    pub fan_out : 4 ≤ N
+    pub live : IsLive nodes slot
+    pub within : index < length (entries_at nodes slot)
+    pub some : 0 < length (entries_at nodes (child_at (entries_at nodes slot) index))
+    pub some_added : 0 < length (entries_at nodes added)
+    pub keyless : IsKeyless nodes
+    pub room : 0 < spare_of nodes 0
+    pub hinted : AreHinted bytes (hints_of nodes)
+
+  -- likewise the entries of a node
+  pub record CanLinkIn (nodes : Arena (Node N)) (entries : List Entry) (index added : ℕ) : Type 0 where
+    pub fan_out : 4 ≤ N
+    pub within : index < length entries
+    pub child : IsLive nodes (child_at entries index)
+    pub some : 0 < length (entries_at nodes (child_at entries index))
+    pub live_added : IsLive nodes added
+    pub some_added : 0 < length (entries_at nodes added)
+
+  -- the node at a slot, of which the child at an index has changed
+  pub record CanMend (bytes : KeyBytes) (nodes : Arena (Node N)) (slot index : ℕ) : Type 0 where
+    pub fan_out : 4 ≤ N
+    pub live : IsLive nodes slot
+    pub within : index < length (entries_at nodes slot)
+    pub several : 2 ≤ length (entries_at nodes slot)
+    pub keyless : IsKeyless nodes
+    pub family : (height : ℕ) × IsFamilyAt nodes (least_of N) height slot index
+    pub hinted : AreHinted bytes (hints_of nodes)
+
+  -- likewise the entries of a node
+  pub record CanMendIn (bytes : KeyBytes) (nodes : Arena (Node N)) (entries : List Entry) (index : ℕ) : Type 0 where
+    pub fan_out : 4 ≤ N
+    pub within : index < length entries
+    pub several : 2 ≤ length entries
+    pub keyless : IsKeyless nodes
+    pub family : (height : ℕ) × IsFamily nodes (least_of N) height entries index (index + 1)
+    pub hinted : AreHinted bytes (hints_of nodes)
+
+  -- the entries of a node, of which the child at an index and the one behind it share what they have
+  pub record CanShare (bytes : KeyBytes) (nodes : Arena (Node N)) (entries : List Entry) (index : ℕ) : Type 0 where
+    pub fan_out : 4 ≤ N
+    pub within : index + 1 < length entries
+    pub filled : least_of N
+        ≤ length (entries_at nodes (child_at entries index)) + length (entries_at nodes (child_at entries (index + 1)))
+    pub keyless : IsKeyless nodes
+    pub family : (height : ℕ) × IsFamily nodes (least_of N) height entries index (index + 2)
+    pub hinted : AreHinted bytes (hints_of nodes)
+
+  -- the nodes of two slots
+  pub record AreTwo (bytes : KeyBytes) (nodes : Arena (Node N)) (first second : ℕ) : Type 0 where
+    pub live_first : IsLive nodes first
+    pub live_second : IsLive nodes second
+    pub apart : first ≢ second
+    pub keyless : IsKeyless nodes
+    pub hinted : AreHinted bytes (hints_of nodes)
+
+  -- a root and the right neighbour that it was split from
+  pub record CanGrow (bytes : KeyBytes) (nodes : Arena (Node N)) (height slot added : ℕ) : Type 0 where
+    pub fan_out : 4 ≤ N
+    pub few : N ≤ 65536
+    pub low : height < 63
+    pub first : IsSubtree nodes (least_of N) height slot
+    pub second : IsSubtree nodes (least_of N) height added
+    pub filled : (least_of N ≤ length (entries_at nodes slot)) × (least_of N ≤ length (entries_at nodes added))
+    pub distinct : IsDistinct nat_eq (slots_with nodes height slot (Some added))
+    pub linked : map_of.len nodes.records ≡ length (slots_with nodes height slot (Some added))
+    pub keyless : IsKeyless nodes
+    pub room : 0 < spare_of nodes 0
+    pub hinted : AreHinted bytes (hints_of nodes)
+
+  -- a root that may have a single child
+  pub record CanShrink (nodes : Arena (Node N)) (height slot : ℕ) : Type 0 where
+    pub subtree : IsSubtree nodes (least_of N) height slot
+    pub distinct : IsDistinct nat_eq (slots_in nodes height slot)
+    pub linked : map_of.len nodes.records ≡ length (slots_in nodes height slot)
+    pub keyless : IsKeyless nodes
