@@ -1,5 +1,5 @@
 -- What must hold where nodes are changed, and the ones above them made right. This project's own.
-use Rattle.std.specs.Prelude.{◌≡◌, ◌≢◌, ◌≤◌, ◌<◌, ◌+◌, ◌*◌, ◌-◌, ℕ, List, length, drop, take, nat_eq, Some}
+use Rattle.std.specs.Prelude.{◌≡◌, ◌≢◌, ◌≤◌, ◌<◌, ◌+◌, ◌*◌, ◌-◌, ◌∷◌, ℕ, List, [], length, drop, take, nat_eq, Option, Some, IfSome}
 use Rattle.std.specs.List.{All, IsDistinct}
 use Rattle.std.specs.FinMap as map_of
 use Rattle.arena.specs.Arena.{Arena, IsLive, spare_of}
@@ -7,7 +7,7 @@ use Rattle.tree.specs.declared.entry.Entry.{Entry}
 use Rattle.tree.specs.declared.node.Node.{Node}
 use Rattle.tree.specs.Hints.{AreHinted, IsKnown, KeyBytes}
 use Rattle.tree.specs.Node.{hints_of, keys_of}
-use Rattle.tree.specs.Replace.{child_at, slots_with, IsFamily, IsFamilyAt, IsKeyless}
+use Rattle.tree.specs.Replace.{child_at, slot_taken, slots_with, Changes, IsFamily, IsFamilyAt, IsKeyless}
 use Rattle.tree.specs.Subtree.{entries_at, slots_in, IsSubtree}
 use Rattle.tree.specs.Tree.{least_of}
 
@@ -24,6 +24,14 @@ module _ {N : ℕ} where
     pub many : N < from + length new + (length (entries_at nodes slot) - to)
     pub hinted : AreHinted bytes (hints_of nodes)
     pub known : All (IsKnown bytes) (keys_of new)
+
+  -- A node is stored at a slot, and its right neighbour, if any, at one that was spare.
+  pub record IsStored (bytes : KeyBytes) (old new : Arena (Node N)) (slot : ℕ) (added : Option ℕ) : Type 0 where
+    pub live : IsLive new slot
+    pub live_added : IfSome added (λ s. IsLive new s)
+    pub changes : Changes old new (slot ∷ []) (slot ∷ slot_taken added)
+    pub taken : spare_of old 0 ≤ spare_of new 0 + 1
+    pub hinted : AreHinted bytes (hints_of new)
 
   -- The node at a slot, of which the child at an index was split from the one that is added.
   pub record CanLink (bytes : KeyBytes) (nodes : Arena (Node N)) (slot index added : ℕ) : Type 0 where

@@ -6,7 +6,7 @@ ghost use Rattle.arena.specs.Arena.{IsLive, spare_of};
 ghost use Rattle.keys.specs.Key.{IsBytes};
 ghost use Rattle.tree.specs.Hints.{AreHinted, IsKnown};
 ghost use Rattle.tree.specs.Item.{item_of};
-ghost use Rattle.tree.specs.Mending.{CanSplit};
+ghost use Rattle.tree.specs.Mending.{CanSplit, IsStored};
 ghost use Rattle.tree.specs.Node.{entries_of, hints_of, items_of_run, keys_of};
 ghost use Rattle.tree.specs.Overwrite.{GivesWritten, IsPartOfCut, part_of_part, put_of};
 ghost use Rattle.tree.specs.Replace.{entries_at_both, Changes, IsKeyless};
@@ -163,12 +163,8 @@ fn split_leaf<P: Probe, const N: usize>(
     requires can_split { CanSplit (P.bytes probe.now) nodes.old slot from to new.now }
     ensures entries { entries_at_both nodes.new slot (Some result)
         ≡ take from (entries_at nodes.old slot) ++ (new.now ++ drop to (entries_at nodes.old slot)) }
-    ensures live { IsLive nodes.new slot }
-    ensures neighbour { IsLive nodes.new result }
     ensures filled { (least_of N ≤ length (entries_at nodes.new slot)) × (least_of N ≤ length (entries_at nodes.new result)) }
-    ensures changes { Changes nodes.old nodes.new (slot ∷ []) (slot ∷ result ∷ []) }
-    ensures taken { spare_of nodes.old 0 ≤ spare_of nodes.new 0 + 1 }
-    ensures hinted { AreHinted (P.bytes probe.now) (hints_of nodes.new) }
+    ensures stored { IsStored (P.bytes probe.now) nodes.old nodes.new slot (Some result) }
 {
     let mut left = nodes.header(slot);
     let mut right = left.splice_apart(from, to, new);

@@ -5,7 +5,7 @@ ghost use Rattle.std.specs.List.{All};
 ghost use Rattle.std.specs.FinMap as map_of;
 ghost use Rattle.arena.specs.Arena.{IsLive, spare_of};
 ghost use Rattle.tree.specs.Hints.{AreHinted, IsHinted, IsKnown, KeyBytes};
-ghost use Rattle.tree.specs.Mending.{CanLink, CanLinkIn, CanMend};
+ghost use Rattle.tree.specs.Mending.{CanLink, CanLinkIn, CanMend, IsStored};
 ghost use Rattle.tree.specs.Node.{entries_of, hint_of, hints_of, keys_of};
 ghost use Rattle.tree.specs.Subtree.{entries_at};
 ghost use Rattle.tree.specs.Tree.{least_of};
@@ -31,11 +31,7 @@ pub fn link_child<P: Probe, const N: usize>(
         (drop (index + 1) (entries_at nodes.old slot)) (entries_at_both nodes.new slot result) }
     ensures left { IfSome result (λ _. N ≤ 2 * length (entries_at nodes.new slot)) }
     ensures right { IfSome result (λ right. N ≤ 2 * length (entries_at nodes.new right)) }
-    ensures live { IsLive nodes.new slot }
-    ensures right_live { IfSome result (λ right. IsLive nodes.new right) }
-    ensures changes { Changes nodes.old nodes.new (slot ∷ []) (slot ∷ slot_taken result) }
-    ensures taken { spare_of nodes.old 0 ≤ spare_of nodes.new 0 + 1 }
-    ensures hinted { AreHinted (P.bytes probe.now) (hints_of nodes.new) }
+    ensures stored { IsStored (P.bytes probe.now) nodes.old nodes.new slot result }
 {
     let mut node = nodes.header(slot);
     let right = link(nodes, &mut node, index, added);
@@ -131,12 +127,8 @@ pub fn store<P: Probe, const N: usize>(
     requires left { IsHinted (P.bytes probe.now) (hint_of node.now) }
     requires right { IfSome right (λ r. All (IsKnown (P.bytes probe.now)) (keys_of (entries_of r.now))) }
     ensures node { entries_at nodes.new slot ≡ entries_of node.now }
-    ensures live { IsLive nodes.new slot }
     ensures right { MatchOption right.entry (result ≡ None) (λ r. IsSomeAnd result (λ added. entries_at nodes.new added ≡ entries_of r.now)) }
-    ensures added { IfSome result (λ added. IsLive nodes.new added) }
-    ensures changes { Changes nodes.old nodes.new (slot ∷ []) (slot ∷ slot_taken result) }
-    ensures taken { spare_of nodes.old 0 ≤ spare_of nodes.new 0 + 1 }
-    ensures hinted { AreHinted (P.bytes probe.now) (hints_of nodes.new) }
+    ensures stored { IsStored (P.bytes probe.now) nodes.old nodes.new slot result }
 {
     let Some(right) = right else {
         nodes.set_header(slot, *node);

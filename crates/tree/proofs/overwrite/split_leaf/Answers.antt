@@ -90,19 +90,20 @@ returns-clause-filled g c =
       omega (arith, there, split.ensures.right, c.requires.can_split.fan_out),
     )
 
-pub returns-clause-live : goal.returns-clause-live
-returns-clause-live g c =
-    left_live c.args.nodes.now c.set_header.new.self c.place.new.nodes c.args.slot c.place.result c.take_hints.new.self
-    c.set_header.ensures.replaced c.place.ensures.changes
-
-pub returns-clause-changes : goal.returns-clause-changes
-returns-clause-changes g c =
-    both_changes c.args.nodes.now c.set_header.new.self c.place.new.nodes c.args.slot c.place.result
-    c.take_hints.new.self c.set_header.ensures.replaced c.place.ensures.changes c.requires.can_split.live c.requires.can_split.keyless
-
-pub returns-clause-hinted : goal.returns-clause-hinted
-returns-clause-hinted g c =
+pub returns-clause-stored : goal.returns-clause-stored
+returns-clause-stored g c =
     let bytes = g.P.Probe.bytes c.args.probe.now in
-    c.place.ensures.hinted bytes c.take_hints-2.ensures.hinted
-    (hinted_header bytes c.args.nodes.now c.set_header.new.self c.args.slot c.take_hints.new.self
-    c.set_header.ensures.replaced c.requires.can_split.hinted c.take_hints.ensures.hinted)
+    let old = c.args.nodes.now in
+    let replaced = c.set_header.ensures.replaced in
+    let changes = both_changes old c.set_header.new.self c.place.new.nodes c.args.slot c.place.result c.take_hints.new.self
+    replaced c.place.ensures.changes c.requires.can_split.live c.requires.can_split.keyless in
+    record {
+      live = left_live old c.set_header.new.self c.place.new.nodes c.args.slot c.place.result c.take_hints.new.self replaced
+          c.place.ensures.changes;
+      live_added = c.place.ensures.live;
+      changes = changes;
+      taken = omega (arith, changes.live, changes.spare);
+      hinted = c.place.ensures.hinted bytes c.take_hints-2.ensures.hinted
+          (hinted_header bytes old c.set_header.new.self c.args.slot c.take_hints.new.self replaced c.requires.can_split.hinted
+          c.take_hints.ensures.hinted);
+    }

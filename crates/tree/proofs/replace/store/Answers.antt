@@ -48,21 +48,9 @@ returns-clause-node g c =
     let placed = moves_if_changes b z [] (y ∷ []) c.place.ensures.changes in
     entries_same b z x (placed.others x refl live) ∙ put_entries a b x left replaced
 
-pub returns-clause-live : goal.returns-clause-live
-returns-clause-live g c =
-    let left = c.args.node.now in
-    let a = c.args.nodes.now in
-    let b = c.set_header-2.new.self in
-    let x = c.args.slot in
-    let replaced = c.set_header-2.ensures.replaced in
-    let z = c.place.new.nodes in
-    let y = c.place.result in
-    let live = put_live a b x left replaced in
-    let placed = moves_if_changes b z [] (y ∷ []) c.place.ensures.changes in
-    live_same b z x (placed.others x refl live) live
-
-pub returns-clause-changes : goal.returns-clause-changes
-returns-clause-changes g c =
+pub returns-clause-stored : goal.returns-clause-stored
+returns-clause-stored g c =
+    let bytes = g.P.Probe.bytes c.args.probe.now in
     let left = c.args.node.now in
     let a = c.args.nodes.now in
     let b = c.set_header-2.new.self in
@@ -73,40 +61,36 @@ returns-clause-changes g c =
     let y = c.place.result in
     let live = put_live a b x left replaced in
     let placed = moves_if_changes b z [] (y ∷ []) c.place.ensures.changes in
-    changes_if_moves a z (x ∷ []) (x ∷ y ∷ [])
+    let changes = changes_if_moves a z (x ∷ []) (x ∷ y ∷ [])
     (moves_trans a b z (x ∷ []) (x ∷ []) (x ∷ y ∷ []) put
     (moves_beside b z [] (y ∷ []) (x ∷ []) (x ∷ []) (x ∷ y ∷ []) placed (λ s. omega arith) (λ s. omega arith)
-    (omega arith) (omega arith) put.few (live_one b x live)))
-
-pub returns-clause-hinted : goal.returns-clause-hinted
-returns-clause-hinted g c =
-    let bytes = g.P.Probe.bytes c.args.probe.now in
-    let left = c.args.node.now in
-    let a = c.args.nodes.now in
-    let b = c.set_header-2.new.self in
-    let x = c.args.slot in
-    let replaced = c.set_header-2.ensures.replaced in
-    c.place.ensures.hinted bytes c.take_hints.ensures.hinted
-    (hinted_header bytes a b x left replaced c.requires.hinted c.requires.left)
+    (omega arith) (omega arith) put.few (live_one b x live))) in
+    record {
+      live = live_same b z x (placed.others x refl live) live;
+      live_added = c.place.ensures.live;
+      changes = changes;
+      taken = omega (arith, changes.live, changes.spare);
+      hinted = c.place.ensures.hinted bytes c.take_hints.ensures.hinted
+          (hinted_header bytes a b x left replaced c.requires.hinted c.requires.left);
+    }
 
 pub returns-in_default-clause-node : goal.returns-in_default-clause-node
 returns-in_default-clause-node g c =
     put_entries c.args.nodes.now c.set_header.new.self c.args.slot c.args.node.now c.set_header.ensures.replaced
 
-pub returns-in_default-clause-live : goal.returns-in_default-clause-live
-returns-in_default-clause-live g c =
-    put_live c.args.nodes.now c.set_header.new.self c.args.slot c.args.node.now c.set_header.ensures.replaced
-
-pub returns-in_default-clause-changes : goal.returns-in_default-clause-changes
-returns-in_default-clause-changes g c =
+pub returns-in_default-clause-stored : goal.returns-in_default-clause-stored
+returns-in_default-clause-stored g c =
     let left = c.args.node.now in
     let a = c.args.nodes.now in
     let b = c.set_header.new.self in
     let x = c.args.slot in
-    let put = put_moves a b x left c.set_header.ensures.replaced c.requires.live c.requires.keyless in
-    changes_if_moves a b (x ∷ []) (x ∷ []) put
-
-pub returns-in_default-clause-hinted : goal.returns-in_default-clause-hinted
-returns-in_default-clause-hinted g c =
-    hinted_header (g.P.Probe.bytes c.args.probe.now) c.args.nodes.now c.set_header.new.self c.args.slot c.args.node.now
-    c.set_header.ensures.replaced c.requires.hinted c.requires.left
+    let replaced = c.set_header.ensures.replaced in
+    let put = put_moves a b x left replaced c.requires.live c.requires.keyless in
+    let changes = changes_if_moves a b (x ∷ []) (x ∷ []) put in
+    record {
+      live = put_live a b x left replaced;
+      live_added = tt;
+      changes = changes;
+      taken = omega (arith, changes.live, changes.spare);
+      hinted = hinted_header (g.P.Probe.bytes c.args.probe.now) a b x left replaced c.requires.hinted c.requires.left;
+    }

@@ -401,9 +401,9 @@ returns-in-Some-clause-changed g t c =
     linked_above _ _ _ _ _ _ _ _ _ _ _ (one_up c.args.height c.if-height-eq0.false) at c.requires.changeable
     c.link_child.new.nodes
     (subst (λ p. AreHinted (g.C.Target.Probe.bytes p) (hints_of c.link_child.new.nodes))
-    (c.target-in-Split.ensures.target ∙ c.in-Split.ensures.target) put.hinted)
-    c.in-Split.added c.in-Split.ensures.changed put.taken (Some c.in-Some.added) put.linked put.left put.right put.live
-    put.right_live put.changes
+    (c.target-in-Split.ensures.target ∙ c.in-Split.ensures.target) put.stored.hinted)
+    c.in-Split.added c.in-Split.ensures.changed put.stored.taken (Some c.in-Some.added) put.linked put.left put.right put.stored.live
+    put.stored.live_added put.stored.changes
 
 pub returns-in-Some-clause-items : goal.returns-in-Some-clause-items
 returns-in-Some-clause-items g t c =
@@ -413,7 +413,7 @@ returns-in-Some-clause-items g t c =
     let split = c.in-Split.ensures.changed in
     let step = stepped_linked _ _ _ _ _ _ _ _ _ _ _ _ (one_up c.args.height c.if-height-eq0.false) at split.subtree
     c.in-Split.added (Some c.in-Some.added) (moves_if_changes _ _ _ _ split.changes) c.requires.changeable.fan_out put.linked
-    split.neighbour split.filled.0 split.filled.1 put.left put.right put.live put.right_live put.changes in
+    split.neighbour split.filled.0 split.filled.1 put.left put.right put.stored.live put.stored.live_added put.stored.changes in
     within g t here.After-index-entries-step _ _ _ _ _ c.if-place.below-true c.if-place.below-false c.key_at.ensures.key step.items c.in-Split.ensures.items
 
 pub returns-in-None-clause-changed : goal.returns-in-None-clause-changed
@@ -423,9 +423,9 @@ returns-in-None-clause-changed g t c =
     linked_above _ _ _ _ _ _ _ _ _ _ _ (one_up c.args.height c.if-height-eq0.false) at c.requires.changeable
     c.link_child.new.nodes
     (subst (λ p. AreHinted (g.C.Target.Probe.bytes p) (hints_of c.link_child.new.nodes))
-    (c.target-in-Split.ensures.target ∙ c.in-Split.ensures.target) put.hinted)
-    c.in-Split.added c.in-Split.ensures.changed put.taken None put.linked put.left put.right put.live put.right_live
-    put.changes
+    (c.target-in-Split.ensures.target ∙ c.in-Split.ensures.target) put.stored.hinted)
+    c.in-Split.added c.in-Split.ensures.changed put.stored.taken None put.linked put.left put.right put.stored.live put.stored.live_added
+    put.stored.changes
 
 pub returns-in-None-clause-items : goal.returns-in-None-clause-items
 returns-in-None-clause-items g t c =
@@ -435,5 +435,5 @@ returns-in-None-clause-items g t c =
     let split = c.in-Split.ensures.changed in
     let step = stepped_linked _ _ _ _ _ _ _ _ _ _ _ _ (one_up c.args.height c.if-height-eq0.false) at split.subtree
     c.in-Split.added None (moves_if_changes _ _ _ _ split.changes) c.requires.changeable.fan_out put.linked split.neighbour
-    split.filled.0 split.filled.1 put.left put.right put.live put.right_live put.changes in
+    split.filled.0 split.filled.1 put.left put.right put.stored.live put.stored.live_added put.stored.changes in
     within g t here.After-index-entries-step _ _ _ _ _ c.if-place.below-true c.if-place.below-false c.key_at.ensures.key step.items c.in-Split.ensures.items

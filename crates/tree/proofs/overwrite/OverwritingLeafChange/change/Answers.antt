@@ -521,13 +521,13 @@ returns-then-begin-entries-clause-changed g c =
     record {
       same = λ e. absurd (cc);
       raised = λ version e. absurd (cc);
-      subtree = split.live;
-      neighbour = split.neighbour;
+      subtree = split.stored.live;
+      neighbour = split.stored.live_added;
       filled = split.filled;
       few_less = λ high. absurd (omega (arith, high));
-      changes = split.changes;
-      taken = omega (arith, split.taken);
-      hinted = split.hinted;
+      changes = split.stored.changes;
+      taken = omega (arith, split.stored.taken);
+      hinted = split.stored.hinted;
     }
 
 pub returns-then-begin-entries-clause-items : goal.returns-then-begin-entries-clause-items
