@@ -90,6 +90,12 @@ module _ {N : ℕ} where
     pub keyless : IsKeyless nodes
     pub hinted : AreHinted bytes (hints_of nodes)
 
+  -- The entries of a node that was made right: there is one less at most. No spare slot was taken.
+  pub record LosesOneAtMost (bytes : KeyBytes) (old new : Arena (Node N)) (was now : List Entry) : Type 0 where
+    pub few_less : length was ≤ length now + 1
+    pub spare : spare_of old 0 ≤ spare_of new 0
+    pub hinted : AreHinted bytes (hints_of new)
+
   -- a root and the right neighbour that it was split from
   pub record CanGrow (bytes : KeyBytes) (nodes : Arena (Node N)) (height slot added : ℕ) : Type 0 where
     pub fan_out : 4 ≤ N

@@ -4,7 +4,7 @@ ghost use Rattle.std.specs.Prelude.{◌≡◌, ◌≢◌, ◌≤◌, ◌<◌, �
 ghost use Rattle.arena.specs.Arena.{IsLive, spare_of};
 ghost use Rattle.tree.specs.Item.{Tells};
 ghost use Rattle.tree.specs.Hints.{AreHinted, IsKnown, KeyBytes};
-ghost use Rattle.tree.specs.Mending.{AreTwo, CanMendIn, CanShare};
+ghost use Rattle.tree.specs.Mending.{AreTwo, CanMendIn, CanShare, LosesOneAtMost};
 ghost use Rattle.tree.specs.Node.{entries_of, hints_of};
 ghost use Rattle.tree.specs.Subtree.{entries_at, items_in, IsSubtree};
 ghost use Rattle.tree.specs.Tree.{least_of};
@@ -49,9 +49,7 @@ pub fn mend<P: Probe, const N: usize>(
     requires can_mend { CanMendIn (P.bytes probe.now) nodes.old (entries_of node.old) index }
     ensures mended { (height : ℕ) → IsFamily nodes.old (least_of N) height (entries_of node.old) index (index + 1)
         → IsMended nodes.old nodes.new (least_of N) height (entries_of node.old) (entries_of node.new) }
-    ensures few_less { length (entries_of node.old) ≤ length (entries_of node.new) + 1 }
-    ensures spare { spare_of nodes.old 0 ≤ spare_of nodes.new 0 }
-    ensures hinted { AreHinted (P.bytes probe.now) (hints_of nodes.new) }
+    ensures rest { LosesOneAtMost (P.bytes probe.now) nodes.old nodes.new (entries_of node.old) (entries_of node.new) }
 {
     let child = node.entries()[index].child;
     if nodes.header_ref(child).len() >= least(N) {
@@ -71,9 +69,7 @@ fn share<P: Probe, const N: usize>(
     requires can_share { CanShare (P.bytes probe.now) nodes.old (entries_of node.old) index }
     ensures mended { (height : ℕ) → IsFamily nodes.old (least_of N) height (entries_of node.old) index (index + 2)
         → IsMended nodes.old nodes.new (least_of N) height (entries_of node.old) (entries_of node.new) }
-    ensures few_less { length (entries_of node.old) ≤ length (entries_of node.new) + 1 }
-    ensures spare { spare_of nodes.old 0 ≤ spare_of nodes.new 0 }
-    ensures hinted { AreHinted (P.bytes probe.now) (hints_of nodes.new) }
+    ensures rest { LosesOneAtMost (P.bytes probe.now) nodes.old nodes.new (entries_of node.old) (entries_of node.new) }
 {
     let first = node.entries()[index].child;
     let second = node.entries()[index + 1].child;

@@ -5,7 +5,7 @@ ghost use Rattle.std.specs.List.{All};
 ghost use Rattle.std.specs.FinMap as map_of;
 ghost use Rattle.arena.specs.Arena.{IsLive, spare_of};
 ghost use Rattle.tree.specs.Hints.{AreHinted, IsHinted, IsKnown, KeyBytes};
-ghost use Rattle.tree.specs.Mending.{CanLink, CanLinkIn, CanMend, IsStored};
+ghost use Rattle.tree.specs.Mending.{CanLink, CanLinkIn, CanMend, IsStored, LosesOneAtMost};
 ghost use Rattle.tree.specs.Node.{entries_of, hint_of, hints_of, keys_of};
 ghost use Rattle.tree.specs.Subtree.{entries_at};
 ghost use Rattle.tree.specs.Tree.{least_of};
@@ -50,9 +50,7 @@ pub fn mend_child<P: Probe, const N: usize>(
     requires can_mend { CanMend (P.bytes probe.now) nodes.old slot index }
     ensures mended { (height : ℕ) → IsFamilyAt nodes.old (least_of N) height slot index
         → IsMendedAt nodes.old nodes.new (least_of N) height slot }
-    ensures few_less { length (entries_at nodes.old slot) ≤ length (entries_at nodes.new slot) + 1 }
-    ensures spare { spare_of nodes.old 0 ≤ spare_of nodes.new 0 }
-    ensures hinted { AreHinted (P.bytes probe.now) (hints_of nodes.new) }
+    ensures rest { LosesOneAtMost (P.bytes probe.now) nodes.old nodes.new (entries_at nodes.old slot) (entries_at nodes.new slot) }
 {
     let child = nodes.header_ref(slot).entries()[index].child;
     if nodes.header_ref(child).len() >= least(N) {
@@ -78,9 +76,7 @@ pub fn mend_written<P: Probe, const N: usize>(
     requires can_mend { CanMend (P.bytes probe.now) nodes.old slot index }
     ensures mended { (height : ℕ) → IsFamilyAt nodes.old (least_of N) height slot index
         → TellsWritten nodes.old height slot index version → IsMendedAt nodes.old nodes.new (least_of N) height slot }
-    ensures few_less { length (entries_at nodes.old slot) ≤ length (entries_at nodes.new slot) + 1 }
-    ensures spare { spare_of nodes.old 0 ≤ spare_of nodes.new 0 }
-    ensures hinted { AreHinted (P.bytes probe.now) (hints_of nodes.new) }
+    ensures rest { LosesOneAtMost (P.bytes probe.now) nodes.old nodes.new (entries_at nodes.old slot) (entries_at nodes.new slot) }
 {
     let entry = nodes.header_ref(slot).entries()[index];
     if entry.version > version || nodes.header_ref(entry.child).len() < least(N) {

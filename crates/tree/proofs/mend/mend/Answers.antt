@@ -1,4 +1,4 @@
-use Rattle.std.proofs.Common.{◌≡◌, ◌≤◌, ◌-◌, List, length, get_or, sym, ap, subst, ◌∙◌, arith, rules}
+use Rattle.std.proofs.Common.{◌≡◌, ◌≤◌, ◌-◌, List, length, length-set, get_or, sym, ap, subst, ◌∙◌, arith, rules}
 use Rattle.tree.specs.declared.entry.Entry.{Entry}
 use Rattle.tree.specs.Node.{entries_of}
 use Rattle.tree.specs.Subtree.{entries_at, IsSubtree}
@@ -67,3 +67,10 @@ returns-clause-mended g c height family =
     c.share.ensures.mended height
     (widened c.args.nodes.now (least_of g.row.N) height (entries_of c.args.node.now) c.args.index c.saturating_sub.result
     c.requires.can_mend.within c.requires.can_mend.several c.saturating_sub.ensures family)
+
+pub returns-then-len-least-clause-rest : goal.returns-then-len-least-clause-rest
+returns-then-len-least-clause-rest g c = record {
+  few_less = omega (arith, ap length c.set.ensures.entries, length-set (entries_of c.args.node.now) c.args.index c.summary.result);
+  spare = search rules;
+  hinted = c.requires.can_mend.hinted;
+}

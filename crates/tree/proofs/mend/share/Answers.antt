@@ -1,4 +1,4 @@
-use Rattle.std.proofs.Common.{◌≡◌, ◌≤◌, ◌<◌, ◌+◌, ◌++◌, List, length, length-append, get_or, set, take, drop, sym, ap, subst, ◌∙◌, arith, rules}
+use Rattle.std.proofs.Common.{◌≡◌, ◌≤◌, ◌<◌, ◌+◌, ◌∷◌, ◌++◌, List, length, length-append, length-drop, length-take-le, get_or, set, take, drop, sym, ap, subst, ◌∙◌, arith, rules}
 use Rattle.tree.specs.declared.entry.Entry.{Entry}
 use Rattle.tree.specs.Node.{entries_of}
 use Rattle.tree.specs.Subtree.{entries_at}
@@ -208,3 +208,46 @@ returns-clause-mended g c height family =
     (omega (arith, left, four)) (omega (arith, right, four)) (omega (arith, left, four)) (omega (arith, right, four))
     (c.set-3.ensures.entries ∙ ap (λ (l : List Entry). set l (i + 1) u) c.set-2.ensures.entries
     ∙ set_both es i t u c.requires.can_share.within)
+
+pub returns-then-count-clause-rest : goal.returns-then-count-clause-rest
+returns-then-count-clause-rest g c =
+    let es = entries_of c.args.node.now in
+    let i = c.args.index in
+    let t = c.summary.result in
+    let changes = c.join.ensures.changes in
+    let now = c.remove.ensures.entries ∙ ap (λ (l : List Entry). take (i + 1) l ++ drop (i + 2) l) c.set.ensures.entries
+    ∙ set_removed es i t c.requires.can_share.within in
+    record {
+      few_less = omega (
+        arith,
+        c.requires.can_share.within,
+        ap length now,
+        length-append (take i es) (t ∷ drop (i + 2) es),
+        length-take-le i es (omega (arith, c.requires.can_share.within)),
+        length-drop (i + 2) es,
+      );
+      spare = omega (arith, changes.live, changes.spare);
+      hinted = c.join.ensures.hinted;
+    }
+
+pub returns-clause-rest : goal.returns-clause-rest
+returns-clause-rest g c =
+    let es = entries_of c.args.node.now in
+    let i = c.args.index in
+    let t = c.summary-2.result in
+    let u = c.summary-3.result in
+    let changes = c.even_out.ensures.changes in
+    let now = c.set-3.ensures.entries ∙ ap (λ (l : List Entry). set l (i + 1) u) c.set-2.ensures.entries
+    ∙ set_both es i t u c.requires.can_share.within in
+    record {
+      few_less = omega (
+        arith,
+        c.requires.can_share.within,
+        ap length now,
+        length-append (take i es) (t ∷ u ∷ drop (i + 2) es),
+        length-take-le i es (omega (arith, c.requires.can_share.within)),
+        length-drop (i + 2) es,
+      );
+      spare = omega (arith, changes.live, changes.spare);
+      hinted = c.even_out.ensures.hinted;
+    }

@@ -61,8 +61,8 @@ returns-then-len-least-clause-mended g c height family =
     mended_at a a (with_header a slot node) L height slot i node (entries_of node) c.requires.can_mend.live family mended some
     refl refl
 
-pub returns-then-len-least-clause-few_less : goal.returns-then-len-least-clause-few_less
-returns-then-len-least-clause-few_less g c =
+pub returns-then-len-least-clause-rest : goal.returns-then-len-least-clause-rest
+returns-then-len-least-clause-rest g c =
     let a = c.args.nodes.now in
     let slot = c.args.slot in
     let es = entries_at a slot in
@@ -75,14 +75,20 @@ returns-then-len-least-clause-few_less g c =
     let after : entries_at (with_header a slot node) slot ≡ entries_of node =
     put_entries a (with_header a slot node) slot node refl in
     let parts = after ∙ now_is ∙ set_one es i t c.requires.can_mend.within in
-    omega (
-      arith,
-      c.requires.can_mend.within,
-      ap length parts,
-      length-append (take i es) (t ∷ drop (i + 1) es),
-      length-take-le i es (omega (arith, c.requires.can_mend.within)),
-      length-drop (i + 1) es,
-    )
+    let b = with_header a slot node in
+    record {
+      few_less = omega (
+        arith,
+        c.requires.can_mend.within,
+        ap length parts,
+        length-append (take i es) (t ∷ drop (i + 1) es),
+        length-take-le i es (omega (arith, c.requires.can_mend.within)),
+        length-drop (i + 1) es,
+      );
+      spare = search rules;
+      hinted = hinted_put (g.P.Probe.bytes c.args.probe.now) a b slot node c.requires.can_mend.hinted
+          (ap (option_map (λ r. r.header)) (put_record_is a b slot node refl)) c.set_hinted.ensures.hinted (put_others a b slot node refl);
+    }
 
 pub returns-clause-mended : goal.returns-clause-mended
 returns-clause-mended g c height family =
@@ -98,25 +104,25 @@ returns-clause-mended g c height family =
     (c.mend.ensures.mended height loose) in
     mended_at a c.mend.new.nodes c.set_header.new.self L height slot c.args.index c.take_hints.new.self
     (entries_of c.mend.new.node) c.requires.can_mend.live family mended
-    (omega (arith, c.mend.ensures.few_less, c.requires.can_mend.several, same)) c.take_hints.ensures.entries c.set_header.ensures.replaced
+    (omega (arith, c.mend.ensures.rest.few_less, c.requires.can_mend.several, same)) c.take_hints.ensures.entries c.set_header.ensures.replaced
 
-pub returns-clause-few_less : goal.returns-clause-few_less
-returns-clause-few_less g c =
+pub returns-clause-rest : goal.returns-clause-rest
+returns-clause-rest g c =
     let a = c.args.nodes.now in
     let slot = c.args.slot in
     let read = ap length (entries_from_header a slot c.header-node.result c.header-node.ensures.header) in
     let here = put_entries c.mend.new.nodes c.set_header.new.self slot c.take_hints.new.self
     c.set_header.ensures.replaced in
-    omega (arith, c.mend.ensures.few_less, read, ap length here, ap length c.take_hints.ensures.entries)
-
-pub returns-then-len-least-clause-hinted : goal.returns-then-len-least-clause-hinted
-returns-then-len-least-clause-hinted g c =
-    let a = c.args.nodes.now in
-    let slot = c.args.slot in
-    let node = c.set_hinted.new.self in
-    let b = with_header a slot node in
-    hinted_put (g.P.Probe.bytes c.args.probe.now) a b slot node c.requires.can_mend.hinted
-    (ap (option_map (λ r. r.header)) (put_record_is a b slot node refl)) c.set_hinted.ensures.hinted (put_others a b slot node refl)
+    let b = c.mend.new.nodes in
+    let w = c.set_header.new.self in
+    let node = c.take_hints.new.self in
+    record {
+      few_less = omega (arith, c.mend.ensures.rest.few_less, read, ap length here, ap length c.take_hints.ensures.entries);
+      spare = search rules;
+      hinted = hinted_put (g.P.Probe.bytes c.args.probe.now) b w slot node c.mend.ensures.rest.hinted
+          (ap (option_map (λ r. r.header)) (put_record_is b w slot node c.set_header.ensures.replaced)) c.take_hints.ensures.hinted
+          (put_others b w slot node c.set_header.ensures.replaced);
+    }
 
 pub take_hints-requires : goal.take_hints-requires
 take_hints-requires g c =
@@ -131,17 +137,7 @@ take_hints-requires g c =
     let mended = c.mend.ensures.mended f.0 loose in (
       search rules,
       (
-        hinted_at bytes b slot c.header_ref-3.result.now c.mend.ensures.hinted c.header_ref-3.ensures.header,
-        children_known bytes b L f.0 (entries_of c.mend.new.node) (omega arith) c.mend.ensures.hinted mended.children,
+        hinted_at bytes b slot c.header_ref-3.result.now c.mend.ensures.rest.hinted c.header_ref-3.ensures.header,
+        children_known bytes b L f.0 (entries_of c.mend.new.node) (omega arith) c.mend.ensures.rest.hinted mended.children,
       ),
     )
-
-pub returns-clause-hinted : goal.returns-clause-hinted
-returns-clause-hinted g c =
-    let b = c.mend.new.nodes in
-    let w = c.set_header.new.self in
-    let slot = c.args.slot in
-    let node = c.take_hints.new.self in
-    hinted_put (g.P.Probe.bytes c.args.probe.now) b w slot node c.mend.ensures.hinted
-    (ap (option_map (λ r. r.header)) (put_record_is b w slot node c.set_header.ensures.replaced)) c.take_hints.ensures.hinted
-    (put_others b w slot node c.set_header.ensures.replaced)

@@ -1,4 +1,4 @@
-use Rattle.std.proofs.Common.{◌≡◌, ◌≤◌, ◌≤ℤ◌, ◌+◌, ◌∷◌, w64, to_z, of_z, ℤ, List, Some, length, length-append, length-take-le, length-drop, get_or, take, drop, option_map, refl, sym, ap, subst, ◌∙◌, arith}
+use Rattle.std.proofs.Common.{◌≡◌, ◌≤◌, ◌≤ℤ◌, ◌+◌, ◌∷◌, w64, to_z, of_z, ℤ, List, Some, length, length-append, length-take-le, length-drop, get_or, take, drop, option_map, refl, sym, ap, subst, ◌∙◌, arith, rules}
 use Rattle.std.specs.Prelude.{slice_get, slice_set}
 use Rattle.std.proofs.lemmas.Int.{ints, to_z-of_z}
 use Rattle.std.proofs.lemmas.Option.{slice_get-get_or}
@@ -70,34 +70,11 @@ returns-clause-mended g c height family tells =
     mended_at a a (with_header a slot node) L height slot i node (entries_of node) c.requires.can_mend.live family mended some
     refl refl
 
-pub returns-clause-few_less : goal.returns-clause-few_less
-returns-clause-few_less g c =
+pub returns-clause-rest : goal.returns-clause-rest
+returns-clause-rest g c =
     let a = c.args.nodes.now in
     let slot = c.args.slot in
     let es = entries_at a slot in
-    let i = c.args.index in
-    let d = c.index-entries-index.result in
-    let t : Entry = record d { version = to_z w64 (of_z w64 c.args.version) } in
-    let node = c.set.new.self in
-    let here = entries_from_header a slot c.header_mut.result.now c.header_mut.ensures.header in
-    let now_is : entries_of node ≡ slice_set es i t =
-    c.set.ensures.entries ∙ ap (λ (l : List Entry). slice_set l i t) (sym here) in
-    let after : entries_at (with_header a slot node) slot ≡ entries_of node =
-    put_entries a (with_header a slot node) slot node refl in
-    let parts = after ∙ now_is ∙ set_one es i t c.requires.can_mend.within in
-    omega (
-      arith,
-      c.requires.can_mend.within,
-      ap length parts,
-      length-append (take i es) (t ∷ drop (i + 1) es),
-      length-take-le i es (omega (arith, c.requires.can_mend.within)),
-      length-drop (i + 1) es,
-    )
-
-pub returns-clause-hinted : goal.returns-clause-hinted
-returns-clause-hinted g c =
-    let a = c.args.nodes.now in
-    let slot = c.args.slot in
     let i = c.args.index in
     let d = c.index-entries-index.result in
     let t : Entry = record d { version = to_z w64 (of_z w64 c.args.version) } in
@@ -109,8 +86,22 @@ returns-clause-hinted g c =
     let here = entries_from_header a slot old c.header_mut.ensures.header in
     let d_is : d ≡ get_or (entries_of old) i d =
     c.index-entries-index.is ∙ ap (λ (l : List Entry). get_or l i d) (c.entries.ensures.entries ∙ sym read ∙ here) in
+    let now_is : entries_of node ≡ slice_set es i t =
+    c.set.ensures.entries ∙ ap (λ (l : List Entry). slice_set l i t) (sym here) in
+    let parts = put_entries a b slot node refl ∙ now_is ∙ set_one es i t c.requires.can_mend.within in
     let hinted =
     hint_stays bytes old node i d t c.set.ensures.hint c.set.ensures.entries (ap (λ (e : Entry). e.key) d_is)
     (hinted_at bytes a slot old c.requires.can_mend.hinted c.header_mut.ensures.header) in
-    hinted_put bytes a b slot node c.requires.can_mend.hinted
-    (ap (option_map (λ r. r.header)) (put_record_is a b slot node refl)) hinted (put_others a b slot node refl)
+    record {
+      few_less = omega (
+        arith,
+        c.requires.can_mend.within,
+        ap length parts,
+        length-append (take i es) (t ∷ drop (i + 1) es),
+        length-take-le i es (omega (arith, c.requires.can_mend.within)),
+        length-drop (i + 1) es,
+      );
+      spare = search rules;
+      hinted = hinted_put bytes a b slot node c.requires.can_mend.hinted
+          (ap (option_map (λ r. r.header)) (put_record_is a b slot node refl)) hinted (put_others a b slot node refl);
+    }

@@ -344,9 +344,9 @@ returns-in-Raised-clause-changed g t c =
     rw (to_z-of_z w64 c.in-Raised.version fits) (raised_too _ _ _ _ _ _ _ _ _ _ _ (one_up c.args.height c.if-height-eq0.false) at c.requires.changeable
     c.mend_written.new.nodes
     (subst (λ p. AreHinted (g.C.Target.Probe.bytes p) (hints_of c.mend_written.new.nodes))
-    (c.target-in-Raised.ensures.target ∙ c.in-Raised.ensures.target) c.mend_written.ensures.hinted)
-    put.subtree put.changes put.taken (mended_written g t here.After-mend_written at) c.mend_written.ensures.few_less
-    c.mend_written.ensures.spare c.in-Raised.version put)
+    (c.target-in-Raised.ensures.target ∙ c.in-Raised.ensures.target) c.mend_written.ensures.rest.hinted)
+    put.subtree put.changes put.taken (mended_written g t here.After-mend_written at) c.mend_written.ensures.rest.few_less
+    c.mend_written.ensures.rest.spare c.in-Raised.version put)
 
 pub returns-in-Raised-clause-items : goal.returns-in-Raised-clause-items
 returns-in-Raised-clause-items g t c =
@@ -380,9 +380,9 @@ returns-in-Changed-clause-changed g t c =
     changed_above _ _ _ _ _ _ _ _ _ _ _ (one_up c.args.height c.if-height-eq0.false) at c.requires.changeable
     c.mend_child.new.nodes
     (subst (λ p. AreHinted (g.C.Target.Probe.bytes p) (hints_of c.mend_child.new.nodes))
-    (c.target-in-Changed.ensures.target ∙ c.in-Changed.ensures.target) c.mend_child.ensures.hinted)
-    put.subtree put.changes put.taken (mended g t here.After-mend_child at) c.mend_child.ensures.few_less
-    c.mend_child.ensures.spare
+    (c.target-in-Changed.ensures.target ∙ c.in-Changed.ensures.target) c.mend_child.ensures.rest.hinted)
+    put.subtree put.changes put.taken (mended g t here.After-mend_child at) c.mend_child.ensures.rest.few_less
+    c.mend_child.ensures.rest.spare
 
 pub returns-in-Changed-clause-items : goal.returns-in-Changed-clause-items
 returns-in-Changed-clause-items g t c =
