@@ -109,3 +109,14 @@ most_passed (Some l) e xs p above tells fails told =
       least_bound = omega (arith, ints);
       reached = inl refl;
     }
+
+-- with no version beside them it is the items' own
+pub most_alone : (a : Option ℤ) (xs : List Item) → IsGreatestWith None xs a → IsPeak (λ (x : Item). x.version) a xs
+most_alone None xs h = h.1
+most_alone (Some v) xs h = record {
+  bound = h.bound;
+  reached = elim h.reached [
+      | inl e ↦ absurd (cc)
+      | inr r ↦ r
+    ];
+}
