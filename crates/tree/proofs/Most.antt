@@ -1,5 +1,5 @@
 -- The greatest of a version, which may be missing, and those of items in parts.
-use Rattle.std.proofs.Common.{◌≡◌, ◌⊎◌, Bool, true, false, not, List, [], ◌∷◌, ◌++◌, Option, Some, None, IfSome, IsTrue, ◌↔◌, filter, All, Any, refl, sym, ap, subst, ◌∙◌, inl, inr, arith, append-nil, append_assoc}
+use Rattle.std.proofs.Common.{◌≡◌, ◌⊎◌, Bool, false, List, [], ◌∷◌, ◌++◌, Option, Some, None, IfSome, IsTrue, ◌↔◌, filter, All, Any, refl, sym, ap, subst, ◌∙◌, inl, inr, arith, append-nil, append_assoc}
 use Rattle.std.specs.Prelude.{ℤ, ◌≤ℤ◌, ◌<ℤ◌}
 use Rattle.std.specs.Int.{int_max}
 use Rattle.std.proofs.lemmas.Int.{ints, clamps}
@@ -36,9 +36,9 @@ most_with (Some l) (Some v) xs h = record {
   bound = higher v (int_max l v) xs (omega (arith, ints, clamps)) h.bound;
   least_bound = omega (arith, ints, clamps);
   reached = elim (one_of_both l v) [
-      | inl e ↦ inl (ap Some e)
-      | inr e ↦ inr (subst (λ w. Any (Reaches w) xs) e h.reached)
-    ];
+    | inl e ↦ inl (ap Some e)
+    | inr e ↦ inr (subst (λ w. Any (Reaches w) xs) e h.reached)
+  ];
 }
 
 least_higher : (least : Option ℤ) (v w : ℤ) → v ≤ℤ w → IfSome least (λ l. l ≤ℤ v) → IfSome least (λ l. l ≤ℤ w)
@@ -58,14 +58,14 @@ most_append a (Some w) (Some v) xs ys g h = record {
   bound = All-append (Bounds v) xs ys (higher w v xs h.least_bound g.bound) h.bound;
   least_bound = least_higher a w v h.least_bound g.least_bound;
   reached = elim h.reached [
-      | inl e ↦
-          let same : w ≡ v = cc in
-          elim g.reached [
-            | inl i ↦ inl (i ∙ e)
-            | inr r ↦ inr (Any-left (Reaches v) xs ys (subst (λ u. Any (Reaches u) xs) same r))
-          ]
-      | inr r ↦ inr (Any-right (Reaches v) xs ys r)
-    ];
+    | inl e ↦
+        let same : w ≡ v = cc in
+        elim g.reached [
+          | inl i ↦ inl (i ∙ e)
+          | inr r ↦ inr (Any-left (Reaches v) xs ys (subst (λ u. Any (Reaches u) xs) same r))
+        ]
+    | inr r ↦ inr (Any-right (Reaches v) xs ys r)
+  ];
 }
 
 none_swapped : (xs ys : List Item) → xs ++ ys ≡ [] → ys ++ xs ≡ []
@@ -78,13 +78,13 @@ most_swapped a (Some v) xs ys h = record {
   bound = All-append (Bounds v) ys xs (All-back (Bounds v) xs ys h.bound) (All-front (Bounds v) xs ys h.bound);
   least_bound = h.least_bound;
   reached = elim h.reached [
-      | inl e ↦ inl e
-      | inr r ↦
-          elim (Any-parts (Reaches v) xs ys r) [
-            | inl i ↦ inr (Any-right (Reaches v) ys xs i)
-            | inr i ↦ inr (Any-left (Reaches v) ys xs i)
-          ]
-    ];
+    | inl e ↦ inl e
+    | inr r ↦
+        elim (Any-parts (Reaches v) xs ys r) [
+          | inl i ↦ inr (Any-right (Reaches v) ys xs i)
+          | inr i ↦ inr (Any-left (Reaches v) ys xs i)
+        ]
+  ];
 }
 
 pub most_same : (a b : Option ℤ) (xs ys : List Item) → xs ≡ ys → IsGreatestWith a ys b → IsGreatestWith a xs b
@@ -116,7 +116,7 @@ most_alone None xs h = h.1
 most_alone (Some v) xs h = record {
   bound = h.bound;
   reached = elim h.reached [
-      | inl e ↦ absurd (cc)
-      | inr r ↦ r
-    ];
+    | inl e ↦ absurd (cc)
+    | inr r ↦ r
+  ];
 }

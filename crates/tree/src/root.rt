@@ -41,7 +41,11 @@ pub fn reach<P: Probe, const N: usize>(nodes: &Arena<Node<N>>, root: Root, probe
 }
 
 /// Returns the last item that passes.
-pub fn last<P: Probe, const N: usize>(nodes: &Arena<Node<N>>, root: Root, probe: &P) -> Option<Entry>
+pub fn last<P: Probe, const N: usize>(
+    nodes: &Arena<Node<N>>,
+    root: Root,
+    probe: &P,
+) -> Option<Entry>
     requires can_reach { CanReach (P.bytes probe.now) (P.lets_pass probe.now) nodes.now (least_of N) root.height root.slot }
     ensures last { MatchOption result (passing_of (P.lets_pass probe.now) (items_in nodes.now root.height root.slot) ≡ [])
         (λ e. IsLast (item_of e) (passing_of (P.lets_pass probe.now) (items_in nodes.now root.height root.slot))) }

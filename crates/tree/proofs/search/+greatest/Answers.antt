@@ -8,7 +8,7 @@ use Rattle.tree.specs.Subtree.{items_in}
 use Rattle.tree.specs.Tree.{least_of}
 use Rattle.tree.proofs.Spans.{span}
 use Rattle.tree.proofs.Looks.{IsLook, look_of, look_cut, from_asked, to_asked, ask_from, ask_to, ask_any, look_ordered, leaf_look}
-use Rattle.tree.proofs.Halves.{AreHalves, left_items, right_items, middle, middle_items, left_span, right_span, left_tells, right_tells, middle_tells, left_subtree, left_from, left_to, right_subtree, right_to, apart, in_one, in_two}
+use Rattle.tree.proofs.Halves.{AreHalves, left_items, right_items, middle_items, left_span, right_span, left_tells, right_tells, middle_tells, left_subtree, left_from, left_to, right_subtree, right_to, apart, in_one, in_two}
 use Rattle.tree.proofs.GreatestParts.{IsPeak-leaf, IsPeak-children}
 use Rattle.tree.proofs.Most.{most_with, most_same, most_of_parts, most_passed}
 use Rattle.tree.proofs.search.+greatest.Given.{Over}
