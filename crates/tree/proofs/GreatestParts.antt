@@ -1,8 +1,7 @@
 -- The greatest version of lists in parts.
-use Rattle.std.proofs.Common.{◌≡◌, ◌⊎◌, List, [], ◌∷◌, ◌++◌, Option, Some, None, MatchOption, map, flat_map, All, Any, sym, ap, subst, inl, inr, arith, append-nil}
+use Rattle.std.proofs.Common.{◌≡◌, List, [], ◌∷◌, Option, Some, None, MatchOption, map, flat_map, All, Any, ap, subst, inl, inr, arith}
 use Rattle.std.specs.Prelude.{ℤ, ◌≤ℤ◌}
-use Rattle.std.specs.Int.{int_max}
-use Rattle.std.proofs.lemmas.Int.{ints, clamps}
+use Rattle.std.proofs.lemmas.Int.{ints}
 use Rattle.std.proofs.lemmas.List.Elements.{
   All-nil,
   All-head,
@@ -18,49 +17,12 @@ use Rattle.tree.specs.Item.{
   IsGreatest,
   item_of,
   version_of,
-  greater_of,
 }
 use Rattle.keys.proofs.callers.SomeElement.{Any-none, Any-cases, Any-left, Any-right, Any-map}
 
 -- this is the greatest version of them, or there are none of them
 abbrev pub IsPeak : {X : Type 0} → (X → ℤ) → Option ℤ → List X → Type 0
 IsPeak version_at peak xs = MatchOption peak (xs ≡ []) (λ v. IsGreatest version_at v xs)
-
-module _ {X : Type 0} (at : X → ℤ) where
-  greater_bound : (a b : ℤ) (xs ys : List X) → IsGreatest at a xs → IsGreatest at b ys
-      → All (λ x. at x ≤ℤ int_max a b) (xs ++ ys)
-  greater_bound a b xs ys g h =
-      let l : a ≤ℤ int_max a b = omega (arith, ints, clamps) in
-      let r : b ≤ℤ int_max a b = omega (arith, ints, clamps) in
-      All-append (λ x. at x ≤ℤ int_max a b) xs ys
-      (All-weaker (λ x. at x ≤ℤ a) (λ x. at x ≤ℤ int_max a b) (λ x le. omega (arith, ints, le, l)) xs g.bound)
-      (All-weaker (λ x. at x ≤ℤ b) (λ x. at x ≤ℤ int_max a b) (λ x le. omega (arith, ints, le, r)) ys h.bound)
-
-  one_of_both : (a b : ℤ) → (a ≡ int_max a b) ⊎ (b ≡ int_max a b)
-  one_of_both a b = grind (arith, ints, clamps)
-
-  greater_reached : (a b : ℤ) (xs ys : List X) → IsGreatest at a xs → IsGreatest at b ys
-      → Any (λ x. at x ≡ int_max a b) (xs ++ ys)
-  greater_reached a b xs ys g h =
-      elim (one_of_both a b) [
-        | inl e ↦
-            Any-left (λ x. at x ≡ int_max a b) xs ys (subst (λ v. Any (λ x. at x ≡ v) xs) e g.reached)
-        | inr e ↦
-            Any-right (λ x. at x ≡ int_max a b) xs ys (subst (λ v. Any (λ x. at x ≡ v) ys) e h.reached)
-      ]
-
-  pub IsPeak-append : (a b : Option ℤ) (xs ys : List X) → IsPeak at a xs → IsPeak at b ys
-      → IsPeak at (greater_of a b) (xs ++ ys)
-  IsPeak-append None b xs ys g h = subst (λ zs. IsPeak at b (zs ++ ys)) (sym g) h
-  IsPeak-append (Some a) None xs ys g h =
-      subst (λ zs. IsGreatest at a (xs ++ zs)) (sym h) (subst (IsGreatest at a) (sym (append-nil xs)) g)
-  IsPeak-append (Some a) (Some b) xs ys g h = record {
-    bound = greater_bound a b xs ys g h;
-    reached = greater_reached a b xs ys g h;
-  }
-
-  pub IsPeak-same : (a : Option ℤ) (xs ys : List X) → xs ≡ ys → IsPeak at a ys → IsPeak at a xs
-  IsPeak-same a xs ys e h = subst (IsPeak at a) (sym e) h
 
 -- at a leaf
 pub IsPeak-leaf : (a : Option ℤ) (es : List Entry) → IsPeak version_of a es

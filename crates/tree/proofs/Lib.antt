@@ -30,6 +30,7 @@ pub mod Leaves
 pub mod Looks
 pub mod Halves
 pub mod Mending
+pub mod Most
 pub mod NearCuts
 pub mod Neighbours
 pub mod Overwriting

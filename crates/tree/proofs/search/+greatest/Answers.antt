@@ -1,14 +1,19 @@
-use Rattle.std.proofs.Common.{ap, subst, ◌≡◌, ℕ, ◌-◌, ◌++◌, Bool, option_map, sym, ◌∙◌, rules}
-use Rattle.tree.specs.Item.{Item, greater_of}
+use Rattle.std.proofs.Common.{subst, ℕ, ◌+◌, ◌-◌, Bool, true, All, option_map, flat_map, sym, rules, w64}
+use Rattle.std.specs.Prelude.{slice_range}
+use Rattle.std.proofs.lemmas.Int.{to_z-of_z}
+use mir.Val.{SFits}
+use Rattle.tree.specs.Item.{Item, Tells, IsGreatestWith}
 use Rattle.tree.specs.Path.{from_cut, to_cut}
 use Rattle.tree.specs.Subtree.{items_in}
 use Rattle.tree.specs.Tree.{least_of}
+use Rattle.tree.proofs.Spans.{span}
 use Rattle.tree.proofs.Looks.{IsLook, look_of, look_cut, from_asked, to_asked, ask_from, ask_to, ask_any, look_ordered, leaf_look}
-use Rattle.tree.proofs.Halves.{AreHalves, left_items, right_items, middle, middle_items, left_span, right_span, middle_tells, left_subtree, left_from, left_to, right_subtree, right_to, apart, in_one, in_two}
-use Rattle.tree.proofs.GreatestParts.{IsPeak, IsPeak-append, IsPeak-same, IsPeak-leaf, IsPeak-children}
+use Rattle.tree.proofs.Halves.{AreHalves, left_items, right_items, middle_items, left_span, right_span, left_tells, right_tells, middle_tells, left_subtree, left_from, left_to, right_subtree, right_to, apart, in_one, in_two}
+use Rattle.tree.proofs.GreatestParts.{IsPeak-leaf, IsPeak-children}
+use Rattle.tree.proofs.Most.{most_with, most_same, most_of_parts, most_passed}
 use Rattle.tree.proofs.search.+greatest.Given.{Over}
 use Rattle.tree.proofs.search.+greatest.Goals as goal
-use Rattle.tree.proofs.search.+greatest.Goals.{After-end_of-end, After-index-entries-last}
+use Rattle.tree.proofs.search.+greatest.Goals.{After-end_of-end, After-index-entries-last, After-is_above-3, then-is_above, else-is_above}
 
 abbrev begins : (g : Over) (t : ℕ) → After-end_of-end g t → ℕ → Bool
 begins g t c = from_cut (option_map (λ p. g.P.Probe.lets_pass p.now) c.args.from)
@@ -56,9 +61,10 @@ slice_bounds-greatest_of-start g t c =
 pub returns-then-height-eq0 : goal.returns-then-height-eq0
 returns-then-height-eq0 g t c =
     let k = look g t (goal.at.returns-then-height-eq0 g t c).After-end_of-end in
+    let told = most_with c.args.least c.greatest_of.result _ (IsPeak-leaf _ _ c.greatest_of.ensures.greatest) in
     record {
-      greatest = IsPeak-same (λ (x : Item). x.version) _ _ _ (leaf_look _ _ _ _ _ _ _ _ _ k c.if-height-eq0.true)
-          (IsPeak-leaf _ _ c.greatest_of.ensures.greatest);
+      greatest = most_same c.args.least _ _ _ (leaf_look _ _ _ _ _ _ _ _ _ k c.if-height-eq0.true)
+          (subst (IsGreatestWith c.args.least _) (sym c.greater.ensures.greater) told);
     }
 
 -- the two children that the search goes on in
@@ -128,9 +134,9 @@ greatest-requires g t c κs within =
       ),
     )
 
-pub greatest-sooner-requires : goal.greatest-sooner-requires
-greatest-sooner-requires g t c κs within =
-    let at = (goal.at.greatest-sooner-requires g t c).After-index-entries-last in
+pub greatest-most-requires : goal.greatest-most-requires
+greatest-most-requires g t c κs within =
+    let at = (goal.at.greatest-most-requires g t c).After-index-entries-last in
     let h = halves g t at in (
       search rules,
       (
@@ -155,9 +161,9 @@ greatest-sooner-requires g t c κs within =
       ),
     )
 
-pub greatest-later-requires : goal.greatest-later-requires
-greatest-later-requires g t c κs within =
-    let at = (goal.at.greatest-later-requires g t c).After-index-entries-last in
+pub greatest-most-requires-then-is_above-2 : goal.greatest-most-requires-then-is_above-2
+greatest-most-requires-then-is_above-2 g t c κs within =
+    let at = (goal.at.greatest-most-requires-then-is_above-2 g t c).After-index-entries-last in
     let h = halves g t at in (
       search rules,
       (
@@ -185,31 +191,77 @@ greatest-later-requires g t c κs within =
       ),
     )
 
+pub returns-then-not-is_above : goal.returns-then-not-is_above
+returns-then-not-is_above g t c =
+    let at = (goal.at.returns-then-not-is_above g t c).After-index-entries-last in
+    let fits : SFits w64 c.index-entries-first.result.version = search rules in
+    let told = rw (to_z-of_z w64 c.index-entries-first.result.version fits) at c.is_above.ensures.above in
+    record {
+      greatest = most_same c.args.least c.args.least _ _ (in_one (halves g t at) c.if-first-last.true)
+          (most_passed c.args.least c.index-entries-first.result (left_items (halves g t at)) _ c.is_above.result
+          (left_tells (halves g t at)) c.if-not-is_above.true told);
+    }
+
 pub returns-then-first-last : goal.returns-then-first-last
 returns-then-first-last g t c =
     let at = (goal.at.returns-then-first-last g t c).After-index-entries-last in
     record {
-      greatest = IsPeak-same (λ (x : Item). x.version) _ _ _ (in_one (halves g t at) c.if-first-last.true)
+      greatest = most_same c.args.least c.greatest.result _ _ (in_one (halves g t at) c.if-first-last.true)
           c.greatest.ensures.greatest;
     }
 
-pub returns : goal.returns
-returns g t c =
-    let at = (goal.at.returns g t c).After-index-entries-last in
-    let by = λ (x : Item). x.version in
-    let inner =
-    IsPeak-children (λ e. items_in c.args.nodes.now (c.args.height - 1) e.child) c.greatest_of-inner.result
-    (middle (halves g t at)) (middle_tells (halves g t at)) c.greatest_of-inner.ensures.greatest in
-    let both =
-    IsPeak-append by c.greatest_of-inner.result c.greatest-later.result (middle_items (halves g t at)) (right_span (halves g t at))
-    inner c.greatest-later.ensures.greatest in
-    let all =
-    IsPeak-append by c.greatest-sooner.result (greater_of c.greatest_of-inner.result c.greatest-later.result)
-    (left_span (halves g t at)) (middle_items (halves g t at) ++ right_span (halves g t at)) c.greatest-sooner.ensures.greatest both in
-    let answer : c.greater-2.result ≡ greater_of c.greatest-sooner.result
-    (greater_of c.greatest_of-inner.result c.greatest-later.result) =
-    c.greater-2.ensures.greater ∙ ap (greater_of c.greatest-sooner.result) c.greater.ensures.greater in
+-- the greatest version once the children between the two are looked at
+between_two : (g : Over) (t : ℕ) (c : After-is_above-3 g t)
+    → All (λ e. Tells e (items_in c.args.nodes.now (c.args.height - 1) e.child))
+    (slice_range c.entries-entries.result.now (c.saturating_sub-first.result + 1) c.saturating_sub-last.result)
+    → IsGreatestWith c.args.least (flat_map (λ e. items_in c.args.nodes.now (c.args.height - 1) e.child)
+    (slice_range c.entries-entries.result.now (c.saturating_sub-first.result + 1) c.saturating_sub-last.result))
+    c.greater-most.result
+between_two g t c tell =
+    let inner = IsPeak-children (λ e. items_in c.args.nodes.now (c.args.height - 1) e.child) c.greatest_of-2.result
+    (slice_range c.entries-entries.result.now (c.saturating_sub-first.result + 1) c.saturating_sub-last.result) tell
+    c.greatest_of-2.ensures.greatest in
+    subst (IsGreatestWith c.args.least _) (sym c.greater-most.ensures.greater)
+    (most_with c.args.least c.greatest_of-2.result _ inner)
+
+-- then the left one
+sooner : (g : Over) (t : ℕ) (c : After-is_above-3 g t)
+    → Tells c.index-entries-first.result (items_in c.args.nodes.now (c.args.height - 1) c.index-entries-first.result.child)
+    → IsGreatestWith c.greater-most.result
+    (span (λ (x : Item). from_cut (option_map (λ p. g.P.Probe.lets_pass p.now) c.args.from) x.key)
+    (λ (x : Item). true) (items_in c.args.nodes.now (c.args.height - 1) c.index-entries-first.result.child))
+    c.if-is_above.most
+sooner g t c left =
+    let fits : SFits w64 c.index-entries-first.result.version = search rules in
+    let told = rw (to_z-of_z w64 c.index-entries-first.result.version fits) at c.is_above-2.ensures.above in
+    elim c.if-is_above.branch [
+      | then-is_above w ↦
+          subst (IsGreatestWith c.greater-most.result _) (sym w.most-is) w.greatest-most.ensures.greatest
+      | else-is_above w ↦
+          subst (IsGreatestWith c.greater-most.result _) (sym w.most-is)
+          (most_passed c.greater-most.result c.index-entries-first.result _ _ c.is_above-2.result left w.if-is_above.false told)
+    ]
+
+pub returns-then-is_above-2 : goal.returns-then-is_above-2
+returns-then-is_above-2 g t c =
+    let at = (goal.at.returns-then-is_above-2 g t c).After-index-entries-last in
+    let there = (goal.at.returns-then-is_above-2 g t c).After-is_above-3 in
     record {
-      greatest = IsPeak-same by _ _ _ (in_two (halves g t at) c.if-first-last.false)
-          (subst (λ o. IsPeak by o (left_span (halves g t at) ++ (middle_items (halves g t at) ++ right_span (halves g t at)))) (sym answer) all);
+      greatest = most_of_parts c.args.least c.greater-most.result c.if-is_above.most c.greatest-most-then-is_above-2.result _
+          (left_span (halves g t at)) (middle_items (halves g t at)) (right_span (halves g t at)) (in_two (halves g t at) c.if-first-last.false)
+          (between_two g t there (middle_tells (halves g t at))) (sooner g t there (left_tells (halves g t at))) c.greatest-most-then-is_above-2.ensures.greatest;
+    }
+
+pub returns-else-is_above-2 : goal.returns-else-is_above-2
+returns-else-is_above-2 g t c =
+    let at = (goal.at.returns-else-is_above-2 g t c).After-index-entries-last in
+    let there = (goal.at.returns-else-is_above-2 g t c).After-is_above-3 in
+    let fits : SFits w64 c.index-entries-last.result.version = search rules in
+    let told = rw (to_z-of_z w64 c.index-entries-last.result.version fits) at c.is_above-3.ensures.above in
+    let later = most_passed c.if-is_above.most c.index-entries-last.result (right_items (halves g t at)) _ c.is_above-3.result
+    (right_tells (halves g t at)) c.if-is_above-2.false told in
+    record {
+      greatest = most_of_parts c.args.least c.greater-most.result c.if-is_above.most c.if-is_above.most _
+          (left_span (halves g t at)) (middle_items (halves g t at)) (right_span (halves g t at)) (in_two (halves g t at) c.if-first-last.false)
+          (between_two g t there (middle_tells (halves g t at))) (sooner g t there (left_tells (halves g t at))) later;
     }

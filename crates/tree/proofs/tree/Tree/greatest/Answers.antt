@@ -3,6 +3,7 @@ use Rattle.std.specs.Prelude.{MatchOption}
 use Rattle.tree.specs.Item.{Item, IsGreatest}
 use Rattle.tree.specs.Tree.{Items}
 use Rattle.tree.specs.Path.{between}
+use Rattle.tree.proofs.Most.{most_alone}
 use Rattle.tree.proofs.tree.Tree.greatest.Goals as goal
 
 pub returns : goal.returns
@@ -11,4 +12,4 @@ returns g c =
     let to = Some (g.Q.Probe.lets_pass c.args.to.now) in
     let Greatest = λ (v : Items). MatchOption c.greatest.result (between from to v.items ≡ [])
     (λ version. IsGreatest (λ (x : Item). x.version) version (between from to v.items)) in
-    record { greatest = subst Greatest c.self.view_is c.greatest.ensures.greatest }
+    record { greatest = subst Greatest c.self.view_is (most_alone c.greatest.result _ c.greatest.ensures.greatest) }
