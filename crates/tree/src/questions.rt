@@ -1,7 +1,7 @@
 //! How questions are answered side by side. The way of each is gone down to its leaf, then each leaf is looked at for the
 //! first time, and then each question is answered. So the memory of the leaves is waited for at once.
 
-ghost use Rattle.std.specs.Prelude.{◌≡◌, ◌≢◌, ◌≤◌, ◌<ℤ◌, ◌↔◌, length, map, Some, [], IfSome, IsTrue};
+ghost use Rattle.std.specs.Prelude.{◌≡◌, ◌≢◌, ◌≤◌, ◌<ℤ◌, ◌↔◌, true, length, map, Some, [], IfSome, IsTrue};
 ghost use Rattle.std.specs.List.{All, AllZip, Any};
 ghost use Rattle.tree.specs.Finding.{IsOwn};
 ghost use Rattle.tree.specs.Hints.{AreHinted, KnowsAt};
