@@ -208,12 +208,12 @@ fn exceeds<P: Probe, Q: Probe, const N: usize>(
     ensures above { IsTrue result ↔ Any (λ x. question.now.version <ℤ x.version)
         (from_last (P.lets_pass question.now.from) (Some (Q.lets_pass question.now.to)) (items_in nodes.now root.height root.slot)) }
 {
+    let Root { slot, height } = root;
     let version = question.version;
     let from = &question.from;
     if last(nodes, root, from).unwrap().version > version {
         return true;
     }
-    let Root { slot, height } = root;
     let to = &question.to;
     greatest(nodes, slot, height, Some(from), Some(to), Some(version)).unwrap() > version
 }
