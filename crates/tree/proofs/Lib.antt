@@ -6,6 +6,7 @@ pub mod ChangedLeaf
 pub mod Changing
 pub mod Counting
 pub mod Entries
+pub mod Exceeding
 pub mod Families
 pub mod FirstKeys
 pub mod Found

@@ -1,7 +1,7 @@
 //! How questions are answered side by side. The way of each is gone down to its leaf, then each leaf is looked at for the
 //! first time, and then each question is answered. So the memory of the leaves is waited for at once.
 
-ghost use Rattle.std.specs.Prelude.{◌≡◌, ◌≢◌, ◌≤◌, ◌<ℤ◌, ◌↔◌, length, map, Some, [], IfSome, IsTrue};
+ghost use Rattle.std.specs.Prelude.{◌≡◌, ◌≢◌, ◌≤◌, ◌<ℤ◌, ◌↔◌, true, length, map, Some, [], IfSome, IsTrue};
 ghost use Rattle.std.specs.List.{All, AllZip, Any};
 ghost use Rattle.tree.specs.Finding.{IsOwn};
 ghost use Rattle.tree.specs.Hints.{AreHinted, KnowsAt};
@@ -208,12 +208,12 @@ fn exceeds<P: Probe, Q: Probe, const N: usize>(
     ensures above { IsTrue result ↔ Any (λ x. question.now.version <ℤ x.version)
         (from_last (P.lets_pass question.now.from) (Some (Q.lets_pass question.now.to)) (items_in nodes.now root.height root.slot)) }
 {
+    let Root { slot, height } = root;
     let version = question.version;
     let from = &question.from;
     if last(nodes, root, from).unwrap().version > version {
         return true;
     }
-    let Root { slot, height } = root;
     let to = &question.to;
     greatest(nodes, slot, height, Some(from), Some(to), Some(version)).unwrap() > version
 }

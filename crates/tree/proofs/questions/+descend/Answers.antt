@@ -5,6 +5,7 @@ use Rattle.std.proofs.lemmas.Int.{to_z-of_z}
 use Rattle.std.proofs.lemmas.Option.{slice_get_read}
 use mir.Val.{SFits}
 use Rattle.tree.specs.declared.entry.Entry.{Entry}
+use Rattle.tree.specs.Finding.{CanFind}
 use Rattle.tree.specs.Hints.{IsHinted, KnowsAt, BeginAlike, Agrees}
 use Rattle.tree.specs.Item.{Tells}
 use Rattle.tree.specs.Item.{Item}
@@ -42,90 +43,91 @@ read g t c =
 
 -- the two cuts of the node
 look : (g : Over) (t : ℕ) (c : After-entries-entries g t) (begin end : ℕ)
-    → begin ≡ length (filter (λ e. g.P.Probe.lets_pass c.args.from.now e.key) c.entries-entries.result.now)
-    → end ≡ length (filter (λ e. g.Q.Probe.lets_pass c.args.to.now e.key) c.entries-entries.result.now)
-    → IsLook c.args.nodes.now (least_of g.row.N) c.args.height c.args.slot (g.P.Probe.lets_pass c.args.from.now)
-    (g.Q.Probe.lets_pass c.args.to.now) c.entries-entries.result.now begin end
+    → begin ≡ length (filter (λ e. g.P.Probe.lets_pass c.args.question.now.from e.key) c.entries-entries.result.now)
+    → end ≡ length (filter (λ e. g.Q.Probe.lets_pass c.args.question.now.to e.key) c.entries-entries.result.now)
+    → IsLook c.args.nodes.now (least_of g.row.N) c.args.height c.args.slot (g.P.Probe.lets_pass c.args.question.now.from)
+    (g.Q.Probe.lets_pass c.args.question.now.to) c.entries-entries.result.now begin end
 look g t c begin end b e = record {
-  subtree = c.requires.subtree;
-  from = c.requires.from;
-  to = c.requires.to;
-  nested = c.requires.nested;
+  subtree = c.requires.asked.can_reach.subtree;
+  from = c.requires.asked.can_reach.cut;
+  to = c.requires.asked.to;
+  nested = c.args.question.now.nested;
   read = read g t c;
   begin_is = b;
   end_is = e;
 }
 
 some : (g : Over) (t : ℕ) (c : After-entries-entries g t) → 1 ≤ length c.entries-entries.result.now
-some g t c = subst (λ (es : List Entry). 1 ≤ length es) (read g t c) c.requires.some
+some g t c = subst (λ (es : List Entry). 1 ≤ length es) (read g t c) c.requires.asked.can_reach.some
 
 knows : (g : Over) (t : ℕ) (c : After-entries-entries g t)
-    → KnowsAt (g.P.Probe.bytes c.args.from.now) (g.P.Probe.lets_pass c.args.from.now) (g.P.Probe.sought c.args.from.now)
+    → KnowsAt (g.P.Probe.bytes c.args.question.now.from) (g.P.Probe.lets_pass c.args.question.now.from) (g.P.Probe.sought c.args.question.now.from)
     (Some c.args.known) c.entries-entries.result.now 0
 knows g t c =
     subst
-    (λ es. KnowsAt (g.P.Probe.bytes c.args.from.now) (g.P.Probe.lets_pass c.args.from.now) (g.P.Probe.sought c.args.from.now)
+    (λ es. KnowsAt (g.P.Probe.bytes c.args.question.now.from) (g.P.Probe.lets_pass c.args.question.now.from) (g.P.Probe.sought c.args.question.now.from)
     (Some c.args.known) es 0) (read g t c) c.requires.known
 
 passes : (g : Over) (t : ℕ) (c : After-entries-entries g t)
-    → 1 ≤ length (filter (λ e. g.P.Probe.lets_pass c.args.from.now e.key) c.entries-entries.result.now)
+    → 1 ≤ length (filter (λ e. g.P.Probe.lets_pass c.args.question.now.from e.key) c.entries-entries.result.now)
 passes g t c =
-    some_pass (g.P.Probe.lets_pass c.args.from.now) c.entries-entries.result.now (some g t c)
+    some_pass (g.P.Probe.lets_pass c.args.question.now.from) c.entries-entries.result.now (some g t c)
     (λ e is. (knows g t c e is).0)
 
 hinted : (g : Over) (t : ℕ) (c : After-entries-entries g t)
-    → IsHinted (g.P.Probe.bytes c.args.from.now) (hint_of c.header_ref-node.result.now)
+    → IsHinted (g.P.Probe.bytes c.args.question.now.from) (hint_of c.header_ref-node.result.now)
 hinted g t c =
-    hinted_at (g.P.Probe.bytes c.args.from.now) c.args.nodes.now c.args.slot c.header_ref-node.result.now c.requires.hinted
+    hinted_at (g.P.Probe.bytes c.args.question.now.from) c.args.nodes.now c.args.slot c.header_ref-node.result.now c.requires.asked.can_reach.hinted
     c.header_ref-node.ensures.header
 
 -- the other probe knows the same bytes
 hinted_too : (g : Over) (t : ℕ) (c : After-entries-entries g t)
-    → IsHinted (g.Q.Probe.bytes c.args.to.now) (hint_of c.header_ref-node.result.now)
+    → IsHinted (g.Q.Probe.bytes c.args.question.now.to) (hint_of c.header_ref-node.result.now)
 hinted_too g t c =
-    hint_kept (g.P.Probe.bytes c.args.from.now) (g.Q.Probe.bytes c.args.to.now) (λ key text is. sym (c.requires.bytes key) ∙ is)
+    hint_kept (g.P.Probe.bytes c.args.question.now.from) (g.Q.Probe.bytes c.args.question.now.to) (λ key text is. sym (c.args.question.now.bytes key) ∙ is)
     (hint_of c.header_ref-node.result.now) (hinted g t c)
 
 cut_from : (g : Over) (t : ℕ) (c : After-entries-entries g t)
-    → IsCut (λ e. g.P.Probe.lets_pass c.args.from.now e.key) c.entries-entries.result.now
+    → IsCut (λ e. g.P.Probe.lets_pass c.args.question.now.from e.key) c.entries-entries.result.now
 cut_from g t c =
-    look_cut c.args.nodes.now (least_of g.row.N) c.args.height c.args.slot (g.P.Probe.lets_pass c.args.from.now)
-    c.header_ref-node.result.now c.entries-entries.result.now c.requires.subtree c.requires.from
+    look_cut c.args.nodes.now (least_of g.row.N) c.args.height c.args.slot (g.P.Probe.lets_pass c.args.question.now.from)
+    c.header_ref-node.result.now c.entries-entries.result.now c.requires.asked.can_reach.subtree c.requires.asked.can_reach.cut
     c.header_ref-node.ensures.header c.entries-entries.ensures.entries
 
 cut_to : (g : Over) (t : ℕ) (c : After-entries-entries g t)
-    → IsCut (λ e. g.Q.Probe.lets_pass c.args.to.now e.key) c.entries-entries.result.now
+    → IsCut (λ e. g.Q.Probe.lets_pass c.args.question.now.to e.key) c.entries-entries.result.now
 cut_to g t c =
-    look_cut c.args.nodes.now (least_of g.row.N) c.args.height c.args.slot (g.Q.Probe.lets_pass c.args.to.now)
-    c.header_ref-node.result.now c.entries-entries.result.now c.requires.subtree c.requires.to
+    look_cut c.args.nodes.now (least_of g.row.N) c.args.height c.args.slot (g.Q.Probe.lets_pass c.args.question.now.to)
+    c.header_ref-node.result.now c.entries-entries.result.now c.requires.asked.can_reach.subtree c.requires.asked.to
     c.header_ref-node.ensures.header c.entries-entries.ensures.entries
 
 -- what is asked of the search in a node
-asked : (g : Over) (t : ℕ) (c : After-entries-entries g t) → record {
-  hinted : IsHinted (g.P.Probe.bytes c.args.from.now) (hint_of c.header_ref-node.result.now);
-  cut : IsCut (λ e. g.P.Probe.lets_pass c.args.from.now e.key) (entries_of c.header_ref-node.result.now);
-  some : 1 ≤ length (entries_of c.header_ref-node.result.now);
-  known : KnowsAt (g.P.Probe.bytes c.args.from.now) (g.P.Probe.lets_pass c.args.from.now)
-      (g.P.Probe.sought c.args.from.now) (Some c.args.known) (entries_of c.header_ref-node.result.now) 0;
-}
+asked : (g : Over) (t : ℕ) (c : After-entries-entries g t)
+    → CanFind (g.P.Probe.bytes c.args.question.now.from) (g.P.Probe.lets_pass c.args.question.now.from) c.header_ref-node.result.now
 asked g t c =
     let is = c.entries-entries.ensures.entries in
     record {
       hinted = hinted g t c;
-      cut = subst (IsCut (λ (e : Entry). g.P.Probe.lets_pass c.args.from.now e.key)) is (cut_from g t c);
+      cut = subst (IsCut (λ (e : Entry). g.P.Probe.lets_pass c.args.question.now.from e.key)) is (cut_from g t c);
       some = subst (λ (es : List Entry). 1 ≤ length es) is (some g t c);
-      known = subst
-          (λ es. KnowsAt (g.P.Probe.bytes c.args.from.now) (g.P.Probe.lets_pass c.args.from.now)
-          (g.P.Probe.sought c.args.from.now) (Some c.args.known) es 0) is (knows g t c);
     }
+
+known : (g : Over) (t : ℕ) (c : After-entries-entries g t)
+    → KnowsAt (g.P.Probe.bytes c.args.question.now.from) (g.P.Probe.lets_pass c.args.question.now.from)
+    (g.P.Probe.sought c.args.question.now.from) (Some c.args.known) (entries_of c.header_ref-node.result.now) 0
+known g t c =
+    subst
+    (λ es. KnowsAt (g.P.Probe.bytes c.args.question.now.from) (g.P.Probe.lets_pass c.args.question.now.from)
+    (g.P.Probe.sought c.args.question.now.from) (Some c.args.known) es 0) c.entries-entries.ensures.entries (knows g t c)
 
 pub digest_for-own-requires : goal.digest_for-own-requires
 digest_for-own-requires g t c =
-    let a = asked g t (goal.at.digest_for-own-requires g t c).After-entries-entries in (
+    let at = (goal.at.digest_for-own-requires g t c).After-entries-entries in
+    let a = asked g t at in (
       search rules,
       (
         a.hinted,
-        (a.some, (λ e text there known count inside le. ((a.known e there).1 text known count inside).0 le)),
+        (a.some, (λ e text there known_text count inside le. ((known g t at e there).1 text known_text count inside).0 le)),
       ),
     )
 
@@ -133,25 +135,25 @@ pub digest_given-digest-requires : goal.digest_given-digest-requires
 digest_given-digest-requires g t c =
     let at = (goal.at.digest_given-digest-requires g t c).After-entries-entries in
     let is = c.entries-entries.ensures.entries in
-    let sought = g.P.Probe.sought c.args.from.now in
-    let other = g.Q.Probe.sought c.args.to.now in
-    let near = g.Q.Probe.bytes c.args.to.now in
+    let sought = g.P.Probe.sought c.args.question.now.from in
+    let other = g.Q.Probe.sought c.args.question.now.to in
+    let near = g.Q.Probe.bytes c.args.question.now.to in
     let hint = hint_of c.header_ref-node.result.now in
     let agrees : IsTrue c.if-is_some.agrees → Agrees near hint other =
     elim c.if-is_some.branch [
       | then-is_some w ↦
           λ yes.
-          let short : w.skip.result ≤ c.args.shared = leb-true w.skip.result c.args.shared (sym w.agrees-is ∙ yes) in
-          agrees_too near (g.P.Probe.bytes c.args.from.now) hint other sought c.args.shared c.digest_for-own.result
-          c.requires.bytes c.digest_for-own.ensures.digest (sym c.is_some.ensures ∙ w.if-is_some.true)
-          (omega (arith, short, w.skip.ensures.skip)) c.requires.shared
+          let short : w.skip.result ≤ c.args.question.now.shared = leb-true w.skip.result c.args.question.now.shared (sym w.agrees-is ∙ yes) in
+          agrees_too near (g.P.Probe.bytes c.args.question.now.from) hint other sought c.args.question.now.shared c.digest_for-own.result
+          c.args.question.now.bytes c.digest_for-own.ensures.digest.digest (sym c.is_some.ensures ∙ w.if-is_some.true)
+          (omega (arith, short, w.skip.ensures.skip)) c.args.question.now.begin_alike
       | else-is_some w ↦ λ yes. absurd (let f : false ≡ true = sym w.if-is_some.false ∙ sym w.agrees-is ∙ yes in cc)
     ] in
     let alike = λ (e : Entry) (text : List ℕ) (there : slice_get c.entries-entries.result.now 0 ≡ Some e)
     (known : near e.key ≡ Some text).
     subst (λ n. BeginAlike n text other) (sym c.min.ensures)
-    (alike_for_other c.args.known c.args.shared text sought other
-    ((knows g t at e there).1 text (c.requires.bytes e.key ∙ known)) c.requires.shared) in (
+    (alike_for_other c.args.known c.args.question.now.shared text sought other
+    ((knows g t at e there).1 text (c.args.question.now.bytes e.key ∙ known)) c.args.question.now.begin_alike) in (
       search rules,
       (
         hinted_too g t at,
@@ -169,14 +171,14 @@ digest_given-digest-requires g t c =
 
 pub step_by-step-requires : goal.step_by-step-requires
 step_by-step-requires g t c =
-    let a = asked g t (goal.at.step_by-step-requires g t c).After-entries-entries in
-    (search rules, (a.hinted, (a.cut, (a.some, (a.known, (c.digest_for-own.ensures.digest, c.digest_for-own.ensures.none))))))
+    let at = (goal.at.step_by-step-requires g t c).After-entries-entries in
+    (search rules, (asked g t at, (known g t at, c.digest_for-own.ensures.digest)))
 
 -- the entry at which the search goes on is one of them
 within : (g : Over) (t : ℕ) (c : After-index-entries-step g t) → c.step_by-step.result.index < length c.entries-entries.result.now
 within g t c =
     subst (λ (es : List Entry). c.step_by-step.result.index < length es) (sym c.entries-entries.ensures.entries)
-    c.step_by-step.ensures.within
+    c.step_by-step.ensures.step.within
 
 -- its child
 child : (g : Over) (t : ℕ) (c : After-index-entries-step g t)
@@ -184,18 +186,18 @@ child : (g : Over) (t : ℕ) (c : After-index-entries-step g t)
     (IsSubtree c.args.nodes.now (least_of g.row.N) (c.args.height - 1)) c.index-entries-step.result
 child g t c =
     child_at c.args.nodes.now (least_of g.row.N) c.args.height c.args.slot c.entries-entries.result.now
-    c.step_by-step.result.index c.index-entries-step.result c.if-height-eq0.false c.requires.subtree
+    c.step_by-step.result.index c.index-entries-step.result c.if-height-eq0.false c.requires.asked.can_reach.subtree
     (entries_read c.args.nodes.now c.args.slot c.header_ref-node.result.now c.entries-entries.result.now
     c.header_ref-node.ensures.header c.entries-entries.ensures.entries) (within g t c) c.index-entries-step.is
 
 -- what is told of the items behind the child
 behind : (g : Over) (t : ℕ) (c : After-index-entries-step g t)
     → All (λ e. Tells e (items_in c.args.nodes.now (c.args.height - 1) e.child)) c.entries-entries.result.now
-    → Clears (g.Q.Probe.lets_pass c.args.to.now) c.args.clear c.if-next-entries.clear
+    → Clears (g.Q.Probe.lets_pass c.args.question.now.to) c.args.clear c.if-next-entries.clear
     (flat_map (λ e. items_in c.args.nodes.now (c.args.height - 1) e.child)
     (drop (c.step_by-step.result.index + 1) c.entries-entries.result.now))
 behind g t c tell =
-    let q = g.Q.Probe.lets_pass c.args.to.now in
+    let q = g.Q.Probe.lets_pass c.args.question.now.to in
     let below = λ (e : Entry). items_in c.args.nodes.now (c.args.height - 1) e.child in
     let es = c.entries-entries.result.now in
     let next = c.step_by-step.result.index + 1 in
@@ -220,9 +222,9 @@ descend-requires g t c κs within_lives =
     let is = c.index-entries-step.is in
     let es = c.entries-entries.result.now in
     let there : slice_get es i ≡ Some e = slice_get_read es (length es) i e refl inside is in
-    let knows = knows_child c.args.nodes.now (least_of g.row.N) (c.args.height - 1) e e.child (g.P.Probe.bytes c.args.from.now)
-    (g.P.Probe.lets_pass c.args.from.now) (g.P.Probe.sought c.args.from.now) c.step_by-step.result.known node refl
-    (c.step_by-step.ensures.known e (subst (λ es. slice_get es i ≡ Some e) c.entries-entries.ensures.entries there)) in (
+    let knows = knows_child c.args.nodes.now (least_of g.row.N) (c.args.height - 1) e e.child (g.P.Probe.bytes c.args.question.now.from)
+    (g.P.Probe.lets_pass c.args.question.now.from) (g.P.Probe.sought c.args.question.now.from) c.step_by-step.result.known node refl
+    (c.step_by-step.ensures.step.knows e (subst (λ es. slice_get es i ≡ Some e) c.entries-entries.ensures.entries there)) in (
       search rules,
       (
         search rules,
@@ -233,17 +235,16 @@ descend-requires g t c κs within_lives =
             (
               search rules,
               (
-                node.subtree,
-                (
-                  omega (arith, node.filled),
-                  (
-                    child_from _ _ _ _ _ _ _ _ _ k c.if-height-eq0.false i e inside is,
-                    (
-                      child_to _ _ _ _ _ _ _ _ _ k c.if-height-eq0.false i e inside is,
-                      (c.requires.nested, (c.requires.hinted, (rw c.in-Some.is at knows, (c.requires.shared, c.requires.bytes)))),
-                    ),
-                  ),
-                ),
+                record {
+                  can_reach = record {
+                    subtree = node.subtree;
+                    some = omega (arith, node.filled);
+                    cut = child_from _ _ _ _ _ _ _ _ _ k c.if-height-eq0.false i e inside is;
+                    hinted = c.requires.asked.can_reach.hinted;
+                  };
+                  to = child_to _ _ _ _ _ _ _ _ _ k c.if-height-eq0.false i e inside is;
+                },
+                rw c.in-Some.is at knows,
               ),
             ),
           ),
@@ -255,20 +256,20 @@ pub returns-then-height-eq0 : goal.returns-then-height-eq0
 returns-then-height-eq0 g t c =
     let nodes = c.args.nodes.now in
     let slot = c.args.slot in
-    let p = g.P.Probe.lets_pass c.args.from.now in
-    let q = g.Q.Probe.lets_pass c.args.to.now in
+    let p = g.P.Probe.lets_pass c.args.question.now.from in
+    let q = g.Q.Probe.lets_pass c.args.question.now.to in
     let zero = c.if-height-eq0.true in
     record {
       approach = record {
         near_is = record {
-          live = subst (λ h. IsSubtree nodes (least_of g.row.N) h slot) zero c.requires.subtree;
-          some = c.requires.some;
+          live = subst (λ h. IsSubtree nodes (least_of g.row.N) h slot) zero c.requires.asked.can_reach.subtree;
+          some = c.requires.asked.can_reach.some;
           known = c.requires.known;
         };
-        from = subst (λ h. IsCut (λ (x : Item). p x.key) (items_in nodes h slot)) zero c.requires.from;
-        to = subst (λ h. IsCut (λ (x : Item). q x.key) (items_in nodes h slot)) zero c.requires.to;
+        from = subst (λ h. IsCut (λ (x : Item). p x.key) (items_in nodes h slot)) zero c.requires.asked.can_reach.cut;
+        to = subst (λ h. IsCut (λ (x : Item). q x.key) (items_in nodes h slot)) zero c.requires.asked.to;
         tells = λ result told.
-            subst (λ h. IsTold p q c.args.version c.args.clear (items_in nodes h slot) result) (sym zero) told;
+            subst (λ h. IsTold p q c.args.question.now.version c.args.clear (items_in nodes h slot) result) (sym zero) told;
       };
     }
 
@@ -278,20 +279,19 @@ returns g t c =
     let k = look g t (goal.at.returns g t c).After-entries-entries _ _ refl refl in
     let nodes = c.args.nodes.now in
     let e = c.index-entries-step.result in
-    let bytes = g.P.Probe.bytes c.args.from.now in
-    let p = g.P.Probe.lets_pass c.args.from.now in
-    let q = g.Q.Probe.lets_pass c.args.to.now in
-    let sought = g.P.Probe.sought c.args.from.now in
+    let bytes = g.P.Probe.bytes c.args.question.now.from in
+    let p = g.P.Probe.lets_pass c.args.question.now.from in
+    let q = g.Q.Probe.lets_pass c.args.question.now.to in
+    let sought = g.P.Probe.sought c.args.question.now.from in
     let next = c.if-next-entries.clear in
     let low = c.args.height - 1 in
-    let found = rw (to_z-of_z w64 c.args.version c.ranges.version) at c.descend.ensures.approach in
     record {
-      approach = approach_wider nodes bytes p q sought c.args.version c.args.height c.args.slot low e.child c.args.clear next
+      approach = approach_wider nodes bytes p q sought c.args.question.now.version c.args.height c.args.slot low e.child c.args.clear next
           c.descend.result
-          (λ result told. told_by_child _ _ _ _ _ _ _ _ _ k c.args.version c.args.clear c.if-height-eq0.false
+          (λ result told. told_by_child _ _ _ _ _ _ _ _ _ k c.args.question.now.version c.args.clear c.if-height-eq0.false
           c.step_by-step.result.index e (within g t at) c.index-entries-step.is next result
           (behind g t at (look_tell _ _ _ _ _ _ _ _ _ k c.if-height-eq0.false)) told)
-          found;
+          c.descend.ensures.approach;
     }
 
 pub returns-then-clear : goal.returns-then-clear
@@ -300,19 +300,19 @@ returns-then-clear g t c =
     let first = (goal.at.returns-then-clear g t c).After-entries-entries in
     let k = look g t first _ _ refl refl in
     let e = c.index-entries-step.result in
-    let v = c.args.version in
+    let v = c.args.question.now.version in
     let es = c.entries-entries.result.now in
-    let p = g.P.Probe.lets_pass c.args.from.now in
+    let p = g.P.Probe.lets_pass c.args.question.now.from in
     let fits : SFits w64 e.version = search rules in
-    let le = at_most_tested e.version v fits c.ranges.version c.if-entry-version.true in
-    let index = c.step_by-step.ensures.index
+    let le = at_most_tested e.version v fits (search rules) c.if-entry-question.true in
+    let index = c.step_by-step.ensures.step.index_is
     ∙ ap (λ es. length (filter (λ (e : Entry). p e.key) es) - 1) (sym c.entries-entries.ensures.entries) in
     let passed = last_passes p es c.step_by-step.result.index e (cut_from g t first) (passes g t first) index c.index-entries-step.is in
     record {
       approach = told_by_child _ _ _ _ _ _ _ _ _ k v c.args.clear c.if-height-eq0.false c.step_by-step.result.index e (within g t at)
           c.index-entries-step.is c.if-next-entries.clear (Some false)
           (behind g t at (look_tell _ _ _ _ _ _ _ _ _ k c.if-height-eq0.false))
-          (told_by_entry p (g.Q.Probe.lets_pass c.args.to.now) v c.requires.nested e
+          (told_by_entry p (g.Q.Probe.lets_pass c.args.question.now.to) v c.args.question.now.nested e
           (items_in c.args.nodes.now (c.args.height - 1) e.child) c.if-next-entries.clear false (child g t at).tells passed
           c.if-clear.true refl le);
     }

@@ -1,5 +1,4 @@
-use Rattle.std.proofs.Common.{true, Some, false, subst, w64}
-use Rattle.std.proofs.lemmas.Int.{to_z-of_z}
+use Rattle.std.proofs.Common.{true, Some, false, subst}
 use Rattle.tree.specs.Question.{IsApproach, IsFor, IsTold}
 use Rattle.tree.specs.Subtree.{items_in}
 use Rattle.tree.proofs.Told.{told_of_all}
@@ -10,19 +9,18 @@ returns-in-Some g c =
     let nodes = c.args.nodes.now in
     let slot = c.args.root.slot in
     let height = c.args.root.height in
-    let bytes = g.P.Probe.bytes c.args.from.now in
-    let p = g.P.Probe.lets_pass c.args.from.now in
-    let q = g.Q.Probe.lets_pass c.args.to.now in
-    let sought = g.P.Probe.sought c.args.from.now in
-    let v = c.args.version in
+    let bytes = g.P.Probe.bytes c.args.question.now.from in
+    let p = g.P.Probe.lets_pass c.args.question.now.from in
+    let q = g.Q.Probe.lets_pass c.args.question.now.to in
+    let sought = g.P.Probe.sought c.args.question.now.from in
+    let v = c.args.question.now.version in
     let near = c.in-Leaf.near in
     let b = c.in-Some.above in
     let is : IsFor nodes height slot bytes p q sought v true near =
     subst (IsApproach nodes height slot bytes p q sought v true) c.in-Leaf.is c.requires.approach in
-    let told : IsTold p q v near.clear (items_in nodes 0 near.leaf) (Some b) =
-    rw (to_z-of_z w64 v c.ranges.version) at c.in-Some.ensures.told in
+    let told : IsTold p q v near.clear (items_in nodes 0 near.leaf) (Some b) = c.in-Some.ensures.told in
     record {
-      above = told_of_all p q v c.requires.nested (items_in nodes height slot) b (is.tells (Some b) told) c.requires.from c.requires.to;
+      above = told_of_all p q v c.args.question.now.nested (items_in nodes height slot) b (is.tells (Some b) told) c.requires.asked.can_reach.cut c.requires.asked.to;
     }
 
 pub returns-in-Clear : goal.returns-in-Clear
@@ -30,13 +28,13 @@ returns-in-Clear g c =
     let nodes = c.args.nodes.now in
     let slot = c.args.root.slot in
     let height = c.args.root.height in
-    let bytes = g.P.Probe.bytes c.args.from.now in
-    let p = g.P.Probe.lets_pass c.args.from.now in
-    let q = g.Q.Probe.lets_pass c.args.to.now in
-    let sought = g.P.Probe.sought c.args.from.now in
-    let v = c.args.version in
+    let bytes = g.P.Probe.bytes c.args.question.now.from in
+    let p = g.P.Probe.lets_pass c.args.question.now.from in
+    let q = g.Q.Probe.lets_pass c.args.question.now.to in
+    let sought = g.P.Probe.sought c.args.question.now.from in
+    let v = c.args.question.now.version in
     let told : IsTold p q v true (items_in nodes height slot) (Some false) =
     subst (IsApproach nodes height slot bytes p q sought v true) c.in-Clear.is c.requires.approach in
     record {
-      above = told_of_all p q v c.requires.nested (items_in nodes height slot) false told c.requires.from c.requires.to;
+      above = told_of_all p q v c.args.question.now.nested (items_in nodes height slot) false told c.requires.asked.can_reach.cut c.requires.asked.to;
     }

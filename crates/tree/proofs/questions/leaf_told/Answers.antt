@@ -3,10 +3,10 @@ use Rattle.std.specs.Prelude.{IsTrue}
 use Rattle.std.proofs.lemmas.Bool.{leb-true, not-false}
 use Rattle.std.proofs.lemmas.Int.{to_z-of_z}
 use Rattle.tree.specs.declared.entry.Entry.{Entry}
+use Rattle.tree.specs.Finding.{CanFind, IsOwn}
 use Rattle.tree.specs.Hints.{IsHinted, KnowsAt, BeginAlike, Agrees}
 use Rattle.tree.specs.Node.{entries_of, hint_of}
 use Rattle.tree.specs.Path.{IsCut}
-use Rattle.tree.specs.Finding.{IsOwn}
 use Rattle.tree.specs.Subtree.{entries_at}
 use Rattle.tree.specs.Tree.{least_of}
 use Rattle.tree.proofs.Found.{entries_read}
@@ -35,15 +35,15 @@ read g c =
 
 -- the two cuts of the node
 look : (g : Over) (c : After-entries-entries g) (begin end : ℕ)
-    → begin ≡ length (filter (λ e. g.P.Probe.lets_pass c.args.from.now e.key) c.entries-entries.result.now)
-    → end ≡ length (filter (λ e. g.Q.Probe.lets_pass c.args.to.now e.key) c.entries-entries.result.now)
-    → IsLook c.args.nodes.now (least_of g.row.N) 0 c.args.near.leaf (g.P.Probe.lets_pass c.args.from.now)
-    (g.Q.Probe.lets_pass c.args.to.now) c.entries-entries.result.now begin end
+    → begin ≡ length (filter (λ e. g.P.Probe.lets_pass c.args.question.now.from e.key) c.entries-entries.result.now)
+    → end ≡ length (filter (λ e. g.Q.Probe.lets_pass c.args.question.now.to e.key) c.entries-entries.result.now)
+    → IsLook c.args.nodes.now (least_of g.row.N) 0 c.args.near.leaf (g.P.Probe.lets_pass c.args.question.now.from)
+    (g.Q.Probe.lets_pass c.args.question.now.to) c.entries-entries.result.now begin end
 look g c begin end b e = record {
   subtree = c.requires.near.live;
-  from = c.requires.from;
-  to = c.requires.to;
-  nested = c.requires.nested;
+  from = c.requires.asked.can_reach.cut;
+  to = c.requires.asked.to;
+  nested = c.args.question.now.nested;
   read = read g c;
   begin_is = b;
   end_is = e;
@@ -53,98 +53,98 @@ some : (g : Over) (c : After-entries-entries g) → 1 ≤ length c.entries-entri
 some g c = subst (λ (es : List Entry). 1 ≤ length es) (read g c) c.requires.near.some
 
 knows : (g : Over) (c : After-entries-entries g)
-    → KnowsAt (g.P.Probe.bytes c.args.from.now) (g.P.Probe.lets_pass c.args.from.now) (g.P.Probe.sought c.args.from.now)
+    → KnowsAt (g.P.Probe.bytes c.args.question.now.from) (g.P.Probe.lets_pass c.args.question.now.from) (g.P.Probe.sought c.args.question.now.from)
     (Some c.args.near.known) c.entries-entries.result.now 0
 knows g c =
     subst
-    (λ es. KnowsAt (g.P.Probe.bytes c.args.from.now) (g.P.Probe.lets_pass c.args.from.now) (g.P.Probe.sought c.args.from.now)
+    (λ es. KnowsAt (g.P.Probe.bytes c.args.question.now.from) (g.P.Probe.lets_pass c.args.question.now.from) (g.P.Probe.sought c.args.question.now.from)
     (Some c.args.near.known) es 0) (read g c) c.requires.near.known
 
 passes : (g : Over) (c : After-entries-entries g)
-    → 1 ≤ length (filter (λ e. g.P.Probe.lets_pass c.args.from.now e.key) c.entries-entries.result.now)
+    → 1 ≤ length (filter (λ e. g.P.Probe.lets_pass c.args.question.now.from e.key) c.entries-entries.result.now)
 passes g c =
-    some_pass (g.P.Probe.lets_pass c.args.from.now) c.entries-entries.result.now (some g c)
+    some_pass (g.P.Probe.lets_pass c.args.question.now.from) c.entries-entries.result.now (some g c)
     (λ e is. (knows g c e is).0)
 
 hinted : (g : Over) (c : After-entries-entries g)
-    → IsHinted (g.P.Probe.bytes c.args.from.now) (hint_of c.header_ref-node.result.now)
+    → IsHinted (g.P.Probe.bytes c.args.question.now.from) (hint_of c.header_ref-node.result.now)
 hinted g c =
-    hinted_at (g.P.Probe.bytes c.args.from.now) c.args.nodes.now c.args.near.leaf c.header_ref-node.result.now c.requires.hinted
+    hinted_at (g.P.Probe.bytes c.args.question.now.from) c.args.nodes.now c.args.near.leaf c.header_ref-node.result.now c.requires.asked.can_reach.hinted
     c.header_ref-node.ensures.header
 
 -- the other probe knows the same bytes
 hinted_too : (g : Over) (c : After-entries-entries g)
-    → IsHinted (g.Q.Probe.bytes c.args.to.now) (hint_of c.header_ref-node.result.now)
+    → IsHinted (g.Q.Probe.bytes c.args.question.now.to) (hint_of c.header_ref-node.result.now)
 hinted_too g c =
-    hint_kept (g.P.Probe.bytes c.args.from.now) (g.Q.Probe.bytes c.args.to.now) (λ key text is. sym (c.requires.bytes key) ∙ is)
+    hint_kept (g.P.Probe.bytes c.args.question.now.from) (g.Q.Probe.bytes c.args.question.now.to) (λ key text is. sym (c.args.question.now.bytes key) ∙ is)
     (hint_of c.header_ref-node.result.now) (hinted g c)
 
 cut_from : (g : Over) (c : After-entries-entries g)
-    → IsCut (λ e. g.P.Probe.lets_pass c.args.from.now e.key) c.entries-entries.result.now
+    → IsCut (λ e. g.P.Probe.lets_pass c.args.question.now.from e.key) c.entries-entries.result.now
 cut_from g c =
-    look_cut c.args.nodes.now (least_of g.row.N) 0 c.args.near.leaf (g.P.Probe.lets_pass c.args.from.now)
-    c.header_ref-node.result.now c.entries-entries.result.now c.requires.near.live c.requires.from
+    look_cut c.args.nodes.now (least_of g.row.N) 0 c.args.near.leaf (g.P.Probe.lets_pass c.args.question.now.from)
+    c.header_ref-node.result.now c.entries-entries.result.now c.requires.near.live c.requires.asked.can_reach.cut
     c.header_ref-node.ensures.header c.entries-entries.ensures.entries
 
 cut_to : (g : Over) (c : After-entries-entries g)
-    → IsCut (λ e. g.Q.Probe.lets_pass c.args.to.now e.key) c.entries-entries.result.now
+    → IsCut (λ e. g.Q.Probe.lets_pass c.args.question.now.to e.key) c.entries-entries.result.now
 cut_to g c =
-    look_cut c.args.nodes.now (least_of g.row.N) 0 c.args.near.leaf (g.Q.Probe.lets_pass c.args.to.now)
-    c.header_ref-node.result.now c.entries-entries.result.now c.requires.near.live c.requires.to
+    look_cut c.args.nodes.now (least_of g.row.N) 0 c.args.near.leaf (g.Q.Probe.lets_pass c.args.question.now.to)
+    c.header_ref-node.result.now c.entries-entries.result.now c.requires.near.live c.requires.asked.to
     c.header_ref-node.ensures.header c.entries-entries.ensures.entries
 
 -- what is asked of the search in a node
-asked : (g : Over) (c : After-entries-entries g) → record {
-  hinted : IsHinted (g.P.Probe.bytes c.args.from.now) (hint_of c.header_ref-node.result.now);
-  cut : IsCut (λ e. g.P.Probe.lets_pass c.args.from.now e.key) (entries_of c.header_ref-node.result.now);
-  some : 1 ≤ length (entries_of c.header_ref-node.result.now);
-  known : KnowsAt (g.P.Probe.bytes c.args.from.now) (g.P.Probe.lets_pass c.args.from.now)
-      (g.P.Probe.sought c.args.from.now) (Some c.args.near.known) (entries_of c.header_ref-node.result.now) 0;
-}
+asked : (g : Over) (c : After-entries-entries g)
+    → CanFind (g.P.Probe.bytes c.args.question.now.from) (g.P.Probe.lets_pass c.args.question.now.from) c.header_ref-node.result.now
 asked g c =
     let is = c.entries-entries.ensures.entries in
     record {
       hinted = hinted g c;
-      cut = subst (IsCut (λ (e : Entry). g.P.Probe.lets_pass c.args.from.now e.key)) is (cut_from g c);
+      cut = subst (IsCut (λ (e : Entry). g.P.Probe.lets_pass c.args.question.now.from e.key)) is (cut_from g c);
       some = subst (λ (es : List Entry). 1 ≤ length es) is (some g c);
-      known = subst
-          (λ es. KnowsAt (g.P.Probe.bytes c.args.from.now) (g.P.Probe.lets_pass c.args.from.now)
-          (g.P.Probe.sought c.args.from.now) (Some c.args.near.known) es 0) is (knows g c);
     }
+
+known : (g : Over) (c : After-entries-entries g)
+    → KnowsAt (g.P.Probe.bytes c.args.question.now.from) (g.P.Probe.lets_pass c.args.question.now.from)
+    (g.P.Probe.sought c.args.question.now.from) (Some c.args.near.known) (entries_of c.header_ref-node.result.now) 0
+known g c =
+    subst
+    (λ es. KnowsAt (g.P.Probe.bytes c.args.question.now.from) (g.P.Probe.lets_pass c.args.question.now.from)
+    (g.P.Probe.sought c.args.question.now.from) (Some c.args.near.known) es 0) c.entries-entries.ensures.entries (knows g c)
 
 -- what the first look at the leaf gave
 own : (g : Over) (c : After-entries-entries g)
-    → IsOwn (g.P.Probe.bytes c.args.from.now) (g.P.Probe.sought c.args.from.now) c.args.near.known c.args.own
+    → IsOwn (g.P.Probe.bytes c.args.question.now.from) (g.P.Probe.sought c.args.question.now.from) c.args.near.known c.args.own
     (hint_of c.header_ref-node.result.now)
 own g c =
     subst
     (λ o. IfSome (option_map hint_of o)
-    (IsOwn (g.P.Probe.bytes c.args.from.now) (g.P.Probe.sought c.args.from.now) c.args.near.known c.args.own))
+    (IsOwn (g.P.Probe.bytes c.args.question.now.from) (g.P.Probe.sought c.args.question.now.from) c.args.near.known c.args.own))
     c.header_ref-node.ensures.header c.requires.own
 
 pub digest_given-digest-requires : goal.digest_given-digest-requires
 digest_given-digest-requires g c =
     let at = (goal.at.digest_given-digest-requires g c).After-entries-entries in
     let is = c.entries-entries.ensures.entries in
-    let sought = g.P.Probe.sought c.args.from.now in
-    let other = g.Q.Probe.sought c.args.to.now in
-    let near = g.Q.Probe.bytes c.args.to.now in
+    let sought = g.P.Probe.sought c.args.question.now.from in
+    let other = g.Q.Probe.sought c.args.question.now.to in
+    let near = g.Q.Probe.bytes c.args.question.now.to in
     let hint = hint_of c.header_ref-node.result.now in
     let agrees : IsTrue c.if-is_some.agrees → Agrees near hint other =
     elim c.if-is_some.branch [
       | then-is_some w ↦
           λ yes.
-          let short : w.skip.result ≤ c.args.shared = leb-true w.skip.result c.args.shared (sym w.agrees-is ∙ yes) in
-          agrees_too near (g.P.Probe.bytes c.args.from.now) hint other sought c.args.shared c.args.own
-          c.requires.bytes (own g at).digest (sym c.is_some.ensures ∙ w.if-is_some.true)
-          (omega (arith, short, w.skip.ensures.skip)) c.requires.shared
+          let short : w.skip.result ≤ c.args.question.now.shared = leb-true w.skip.result c.args.question.now.shared (sym w.agrees-is ∙ yes) in
+          agrees_too near (g.P.Probe.bytes c.args.question.now.from) hint other sought c.args.question.now.shared c.args.own
+          c.args.question.now.bytes (own g at).digest (sym c.is_some.ensures ∙ w.if-is_some.true)
+          (omega (arith, short, w.skip.ensures.skip)) c.args.question.now.begin_alike
       | else-is_some w ↦ λ yes. absurd (let f : false ≡ true = sym w.if-is_some.false ∙ sym w.agrees-is ∙ yes in cc)
     ] in
     let alike = λ (e : Entry) (text : List ℕ) (there : slice_get c.entries-entries.result.now 0 ≡ Some e)
     (known : near e.key ≡ Some text).
     subst (λ n. BeginAlike n text other) (sym c.min.ensures)
-    (alike_for_other c.args.near.known c.args.shared text sought other
-    ((knows g at e there).1 text (c.requires.bytes e.key ∙ known)) c.requires.shared) in (
+    (alike_for_other c.args.near.known c.args.question.now.shared text sought other
+    ((knows g at e there).1 text (c.args.question.now.bytes e.key ∙ known)) c.args.question.now.begin_alike) in (
       search rules,
       (
         hinted_too g at,
@@ -164,21 +164,15 @@ pub count_by-begin-requires : goal.count_by-begin-requires
 count_by-begin-requires g c =
     let at = (goal.at.count_by-begin-requires g c).After-entries-entries in
     let a = asked g at in
-    let probe = c.args.from.now in (
+    let probe = c.args.question.now.from in (
       search rules,
       (
-        a.hinted,
+        a,
         (
-          a.cut,
-          (
-            a.some,
-            (
-              (own g at).digest,
-              (λ none. all_known
-                  (g.P.Probe.bytes probe) c.header_ref-node.result.now a.hinted (g.P.Probe.sought probe) (g.P.Probe.lets_pass probe)
-                  (g.met.P.Probe.order probe) c.args.near.known a.some a.known ((own g at).none none)),
-            ),
-          ),
+          (own g at).digest,
+          (λ none. all_known
+              (g.P.Probe.bytes probe) c.header_ref-node.result.now a.hinted (g.P.Probe.sought probe) (g.P.Probe.lets_pass probe)
+              (g.met.P.Probe.order probe) c.args.near.known a.some (known g at) ((own g at).none none)),
         ),
       ),
     )
@@ -189,36 +183,37 @@ count_on-end-requires g c =
     let is = c.entries-entries.ensures.entries in
     let le = look_ordered _ _ _ _ _ _ _ _ _ (look g at _ _ refl refl) in
     let most : c.count_by-begin.result
-    ≤ length (filter (λ e. g.Q.Probe.lets_pass c.args.to.now e.key) (entries_of c.header_ref-node.result.now)) =
-    rw is at (subst (λ n. n ≤ length (filter (λ (e : Entry). g.Q.Probe.lets_pass c.args.to.now e.key) c.entries-entries.result.now))
-    (sym (rw (sym is) at c.count_by-begin.ensures.count)) le) in (
+    ≤ length (filter (λ e. g.Q.Probe.lets_pass c.args.question.now.to e.key) (entries_of c.header_ref-node.result.now)) =
+    rw is at (subst (λ n. n ≤ length (filter (λ (e : Entry). g.Q.Probe.lets_pass c.args.question.now.to e.key) c.entries-entries.result.now))
+    (sym (rw (sym is) at c.count_by-begin.ensures.count.count_is)) le) in (
       search rules,
       (
-        hinted_too g at,
-        (
-          subst (IsCut (λ (e : Entry). g.Q.Probe.lets_pass c.args.to.now e.key)) is (cut_to g at),
-          (c.digest_given-digest.ensures.digest, most),
-        ),
+        record {
+          hinted = hinted_too g at;
+          cut = subst (IsCut (λ (e : Entry). g.Q.Probe.lets_pass c.args.question.now.to e.key)) is (cut_to g at);
+          some = (asked g at).some;
+        },
+        (c.digest_given-digest.ensures.digest, most),
       ),
     )
 
 -- the two cuts of a leaf
 leaf : (g : Over) (c : After-count_on-end g)
-    → IsLook c.args.nodes.now (least_of g.row.N) 0 c.args.near.leaf (g.P.Probe.lets_pass c.args.from.now)
-    (g.Q.Probe.lets_pass c.args.to.now) c.entries-entries.result.now c.count_by-begin.result c.count_on-end.result
+    → IsLook c.args.nodes.now (least_of g.row.N) 0 c.args.near.leaf (g.P.Probe.lets_pass c.args.question.now.from)
+    (g.Q.Probe.lets_pass c.args.question.now.to) c.entries-entries.result.now c.count_by-begin.result c.count_on-end.result
 leaf g c =
     let is = c.entries-entries.ensures.entries in
     record {
       subtree = c.requires.near.live;
-      from = c.requires.from;
-      to = c.requires.to;
-      nested = c.requires.nested;
+      from = c.requires.asked.can_reach.cut;
+      to = c.requires.asked.to;
+      nested = c.args.question.now.nested;
       read = entries_read c.args.nodes.now c.args.near.leaf c.header_ref-node.result.now c.entries-entries.result.now
           c.header_ref-node.ensures.header is;
-      begin_is = c.count_by-begin.ensures.count
-          ∙ ap (λ es. length (filter (λ (e : Entry). g.P.Probe.lets_pass c.args.from.now e.key) es)) (sym is);
-      end_is = c.count_on-end.ensures.count
-          ∙ ap (λ es. length (filter (λ (e : Entry). g.Q.Probe.lets_pass c.args.to.now e.key) es)) (sym is);
+      begin_is = c.count_by-begin.ensures.count.count_is
+          ∙ ap (λ es. length (filter (λ (e : Entry). g.P.Probe.lets_pass c.args.question.now.from e.key) es)) (sym is);
+      end_is = c.count_on-end.ensures.count.count_is
+          ∙ ap (λ es. length (filter (λ (e : Entry). g.Q.Probe.lets_pass c.args.question.now.to e.key) es)) (sym is);
     }
 
 pub slice_bounds-any_above-count : goal.slice_bounds-any_above-count
@@ -236,9 +231,9 @@ pub returns : goal.returns
 returns g c =
     let k = leaf g (goal.at.returns g c).After-count_on-end in
     let least = passes g (goal.at.returns g c).After-entries-entries in
-    let said = rw (to_z-of_z w64 c.args.version c.ranges.version) at c.any_above.ensures.above in
+    let said = rw (to_z-of_z w64 c.args.question.now.version (search rules)) at c.any_above.ensures.above in
     record {
-      told = told_by_leaf _ _ _ _ _ _ _ _ _ k c.args.version c.args.near.clear c.any_above.result refl
+      told = told_by_leaf _ _ _ _ _ _ _ _ _ k c.args.question.now.version c.args.near.clear c.any_above.result refl
           (omega (arith, least, k.begin_is))
           (λ all. elim c.else-end-entries.branch [
             | else-end-entries-via-then-end-entries+else-not-near w ↦ not-false c.args.near.clear w.if-not-near.false

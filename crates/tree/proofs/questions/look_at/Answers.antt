@@ -35,9 +35,7 @@ returns-clause-looked g c =
     let near = c.in-Leaf.near in
     let bytes = g.P.Probe.bytes c.args.from.now in
     let sought = g.P.Probe.sought c.args.from.now in
-    let own : IsOwn bytes sought near.known c.digest_for.result (hint_of c.header_ref-leaf.result.now) =
-    record { digest = c.digest_for.ensures.digest; none = c.digest_for.ensures.none } in
     let there : IfSome (hints_of nodes near.leaf) (IsOwn bytes sought near.known c.digest_for.result) =
     subst (λ o. IfSome (option_map hint_of o) (IsOwn bytes sought near.known c.digest_for.result))
-    (sym c.header_ref-leaf.ensures.header) own in
+    (sym c.header_ref-leaf.ensures.header) c.digest_for.ensures.digest in
     subst (λ way. IsLooked nodes bytes sought way c.digest_for.result) (sym c.in-Leaf.is) there
