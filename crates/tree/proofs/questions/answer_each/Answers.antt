@@ -1,16 +1,14 @@
 use Rattle.std.proofs.Common.{rules, ◌≡◌, ◌≢◌, ◌≤◌, ◌<◌, ◌++◌, ◌∷◌, ◌∙◌, ◌+◌, ℤ, [], true, Some, None, filter, length, get_or, take, min, refl, sym, subst, w64, to_z, of_z, length-append, arith}
 use Rattle.std.specs.Prelude.{◌↔◌, ◌<ℤ◌, IsTrue}
 use Rattle.std.specs.List.{Any}
-use Rattle.std.proofs.lemmas.Int.{to_z-of_z}
 use Rattle.std.proofs.lemmas.List.{length-take}
 use Rattle.std.proofs.lemmas.List.Elements.{All-get_or}
 use Rattle.std.proofs.lemmas.Slice.Zip.{AllZip-long, zip_turn, zip_end}
-use Rattle.tree.specs.Hints.{AreHinted}
 use Rattle.tree.specs.Item.{Item}
-use Rattle.tree.specs.Node.{hints_of}
-use Rattle.tree.specs.Path.{IsCut, from_last}
-use Rattle.tree.specs.Question.{IsApproach}
+use Rattle.tree.specs.Path.{from_last}
+use Rattle.tree.specs.Question.{IsApproach, IsAsked}
 use Rattle.tree.specs.Subtree.{items_in}
+use Rattle.tree.specs.Tree.{least_of}
 use Rattle.tree.proofs.InTurn.{AllZip-at, AllZip-turn, AllZip-whole}
 use Rattle.tree.proofs.questions.answer_each.Given.{Over}
 use Rattle.tree.proofs.questions.answer_each.Goals as goal
@@ -46,45 +44,20 @@ answer-requires g c =
     let slot = c.args.root.now.slot in
     let items = items_in nodes height slot in
     let same = sym t.2 in
-    let from = All-get_or (λ q. IsCut (λ (x : Item). g.P.Probe.lets_pass q.from x.key) items) qs i q t.0 c.requires.from in
-    let to = All-get_or (λ q. IsCut (λ (x : Item). g.Q.Probe.lets_pass q.to x.key) items) qs i q t.0 c.requires.to in
+    let asked = All-get_or
+    (λ q. IsAsked nodes (least_of g.row.N) height slot (g.P.Probe.bytes q.from) (g.P.Probe.lets_pass q.from) (g.Q.Probe.lets_pass q.to))
+    qs i q t.0 c.requires.asked in
     let passing = All-get_or (λ q. filter (λ (x : Item). g.P.Probe.lets_pass q.from x.key) items ≢ []) qs i q t.0
     c.requires.passing in
-    let hinted = All-get_or (λ q. AreHinted (g.P.Probe.bytes q.from) (hints_of nodes)) qs i q t.0 c.requires.hinted in
     let way : IsApproach nodes height slot (g.P.Probe.bytes q.from) (g.P.Probe.lets_pass q.from) (g.Q.Probe.lets_pass q.to)
     (g.P.Probe.sought q.from) q.version true k.way = AllZip-at _ qs ks i q k t.0 t.2 t.3 c.requires.approach in
-    let looked = AllZip-at _ qs ks i q k t.0 t.2 t.3 c.requires.looked in
-    let is : to_z w64 (of_z w64 q.version) ≡ q.version = to_z-of_z w64 q.version (search rules) in (
+    let looked = AllZip-at _ qs ks i q k t.0 t.2 t.3 c.requires.looked in (
       search rules,
       (
-        c.requires.subtree,
-        (
-          subst (λ q. IsCut (λ (x : Item). g.P.Probe.lets_pass q.from x.key) items) same from,
-          (
-            subst (λ q. IsCut (λ (x : Item). g.Q.Probe.lets_pass q.to x.key) items) same to,
-            (
-              q.nested,
-              (
-                subst (λ q. filter (λ (x : Item). g.P.Probe.lets_pass q.from x.key) items ≢ []) same passing,
-                (
-                  subst (λ q. AreHinted (g.P.Probe.bytes q.from) (hints_of nodes)) same hinted,
-                  (
-                    q.begin_alike,
-                    (
-                      q.bytes,
-                      (
-                        subst
-                            (λ version. IsApproach nodes height slot (g.P.Probe.bytes q.from) (g.P.Probe.lets_pass q.from)
-                            (g.Q.Probe.lets_pass q.to) (g.P.Probe.sought q.from) version true k.way) (sym is) way,
-                        looked,
-                      ),
-                    ),
-                  ),
-                ),
-              ),
-            ),
-          ),
-        ),
+        subst
+            (λ q. IsAsked nodes (least_of g.row.N) height slot (g.P.Probe.bytes q.from) (g.P.Probe.lets_pass q.from)
+            (g.Q.Probe.lets_pass q.to)) same asked,
+        (subst (λ q. filter (λ (x : Item). g.P.Probe.lets_pass q.from x.key) items ≢ []) same passing, (way, looked)),
       ),
     )
 
@@ -98,7 +71,7 @@ loop-question-preserved g c =
     let items = items_in c.args.nodes.now c.args.root.now.height c.args.root.now.slot in
     let Above = λ (version : ℤ). IsTrue above ↔ Any (λ (x : Item). version <ℤ x.version)
     (from_last (g.P.Probe.lets_pass q.from) (Some (g.Q.Probe.lets_pass q.to)) items) in
-    let said : Above q.version = rw (to_z-of_z w64 q.version (search rules)) at c.answer.ensures.above in
+    let said : Above q.version = c.answer.ensures.above in
     let more : length (c.loop-question.yielded ++ (c.in-Some.question, c.in-Some.look) ∷ []) ≡ i + 1 =
     length-append c.loop-question.yielded ((c.in-Some.question, c.in-Some.look) ∷ []) in
     AllZip-turn _ c.args.questions.now i _ c.loop-question.answers.items _ q above t.0 t.2 more c.push.ensures.items before said
