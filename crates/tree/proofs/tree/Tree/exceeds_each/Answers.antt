@@ -1,4 +1,4 @@
-use Rattle.std.proofs.Common.{rules, ◌≡◌, ◌≢◌, ◌≤◌, ◌∙◌, All, Some, [], true, length, map, filter, sym, subst}
+use Rattle.std.proofs.Common.{rules, ◌≡◌, ◌≢◌, ◌∙◌, All, Some, [], true, map, filter, sym, subst}
 use Rattle.std.specs.Prelude.{◌↔◌, ◌<ℤ◌, IsTrue}
 use Rattle.std.specs.List.{AllZip, Any}
 use Rattle.std.proofs.lemmas.List.Elements.{All-weaker}
@@ -7,9 +7,9 @@ use Rattle.tree.specs.Hints.{AreHinted}
 use Rattle.tree.specs.Item.{Item}
 use Rattle.tree.specs.Node.{hints_of}
 use Rattle.tree.specs.Path.{IsCut, from_last}
-use Rattle.tree.specs.Question.{IsApproach, IsLeading, IsLooked}
-use Rattle.tree.specs.Subtree.{entries_at, items_in}
-use Rattle.tree.specs.Tree.{Items, hints_in}
+use Rattle.tree.specs.Question.{IsApproach, IsAsked, IsLeading, IsLooked}
+use Rattle.tree.specs.Subtree.{items_in}
+use Rattle.tree.specs.Tree.{Items, hints_in, least_of}
 use Rattle.tree.proofs.Approaches.{leading_of}
 use Rattle.tree.proofs.HintList.{hinted_from_list}
 use Rattle.tree.proofs.InTurn.{AllZip-unmap, AllZip-weaker}
@@ -20,11 +20,8 @@ use Rattle.tree.proofs.tree.Tree.exceeds_each.Goals.{After-self}
 
 -- what is required, of the nodes
 inside : (g : Over) (c : After-self g) → record {
-  some : 1 ≤ length (entries_at c.self.inside.nodes c.self.inside.root.slot);
-  from : All (λ q. IsCut (λ x. g.P.Probe.lets_pass q.from x.key)
-      (items_in c.self.inside.nodes c.self.inside.root.height c.self.inside.root.slot)) c.args.questions.now;
-  to : All (λ q. IsCut (λ x. g.Q.Probe.lets_pass q.to x.key)
-      (items_in c.self.inside.nodes c.self.inside.root.height c.self.inside.root.slot)) c.args.questions.now;
+  asked : All (λ q. IsAsked c.self.inside.nodes (least_of g.row.N) c.self.inside.root.height c.self.inside.root.slot
+      (g.P.Probe.bytes q.from) (g.P.Probe.lets_pass q.from) (g.Q.Probe.lets_pass q.to)) c.args.questions.now;
   passing : All (λ q. filter (λ x. g.P.Probe.lets_pass q.from x.key)
       (items_in c.self.inside.nodes c.self.inside.root.height c.self.inside.root.slot) ≢ []) c.args.questions.now;
   hinted : All (λ q. AreHinted (g.P.Probe.bytes q.from) (hints_of c.self.inside.nodes)) c.args.questions.now;
@@ -33,23 +30,33 @@ inside g c =
     let t = c.self.inside in
     let qs = c.args.questions.now in
     let view = sym c.self.view_is in
+    let from = subst (λ (v : Items). All (λ q. IsCut (λ (x : Item). g.P.Probe.lets_pass q.from x.key) v.items) qs) view
+    c.requires.from in
+    let to = subst (λ (v : Items). All (λ q. IsCut (λ (x : Item). g.Q.Probe.lets_pass q.to x.key) v.items) qs) view
+    c.requires.to in
+    let hinted = All-weaker (λ q. AreHinted (g.P.Probe.bytes q.from) (hints_in c.args.self.now))
+    (λ q. AreHinted (g.P.Probe.bytes q.from) (hints_of t.nodes))
+    (λ q h. hinted_from_list (g.P.Probe.bytes q.from) t.nodes
+    (subst (λ v. AreHinted (g.P.Probe.bytes q.from) (hints_in v)) view h)) qs c.requires.hinted in
     record {
-      some = root_some t.nodes t.root.slot t.root.height t.len t.room c.self.invariant;
-      from = subst (λ (v : Items). All (λ q. IsCut (λ (x : Item). g.P.Probe.lets_pass q.from x.key) v.items) qs) view
-          c.requires.from;
-      to = subst (λ (v : Items). All (λ q. IsCut (λ (x : Item). g.Q.Probe.lets_pass q.to x.key) v.items) qs) view c.requires.to;
+      asked = λ i q within. record {
+        can_reach = record {
+          subtree = c.self.invariant.rooted.subtree;
+          some = root_some t.nodes t.root.slot t.root.height t.len t.room c.self.invariant;
+          cut = from i q within;
+          hinted = hinted i q within;
+        };
+        to = to i q within;
+      };
       passing = subst (λ (v : Items). All (λ q. filter (λ (x : Item). g.P.Probe.lets_pass q.from x.key) v.items ≢ []) qs) view
           c.requires.some;
-      hinted = All-weaker (λ q. AreHinted (g.P.Probe.bytes q.from) (hints_in c.args.self.now))
-          (λ q. AreHinted (g.P.Probe.bytes q.from) (hints_of t.nodes))
-          (λ q h. hinted_from_list (g.P.Probe.bytes q.from) t.nodes
-          (subst (λ v. AreHinted (g.P.Probe.bytes q.from) (hints_in v)) view h)) qs c.requires.hinted;
+      hinted = hinted;
     }
 
 pub descend_each-ways-requires : goal.descend_each-ways-requires
 descend_each-ways-requires g c =
     let i = inside g (goal.at.descend_each-ways-requires g c).After-self in
-    (search rules, (c.requires.few, (c.self.invariant.rooted.subtree, (i.some, (i.from, (i.to, (i.passing, i.hinted)))))))
+    (search rules, (c.requires.few, (i.asked, i.passing)))
 
 pub look_at_each-looks-requires : goal.look_at_each-looks-requires
 look_at_each-looks-requires g c =
@@ -93,26 +100,17 @@ answer_each-requires g c =
       (
         c.requires.few,
         (
-          c.self.invariant.rooted.subtree,
+          i.asked,
           (
-            i.from,
+            i.passing,
             (
-              i.to,
-              (
-                i.passing,
-                (
-                  i.hinted,
-                  (
-                    subst
-                        (λ looks. AllZip (λ q l. IsApproach t.nodes t.root.height t.root.slot (g.P.Probe.bytes q.from)
-                        (g.P.Probe.lets_pass q.from) (g.Q.Probe.lets_pass q.to) (g.P.Probe.sought q.from) q.version true l.way)
-                        qs looks) value (AllZip-unmap _ (λ (l : Look). l.way) qs looks ways),
-                    subst
-                        (λ looks. AllZip (λ q l. IsLooked t.nodes (g.P.Probe.bytes q.from) (g.P.Probe.sought q.from) l.way l.own)
-                        qs looks) value c.look_at_each-looks.ensures.looked,
-                  ),
-                ),
-              ),
+              subst
+                  (λ looks. AllZip (λ q l. IsApproach t.nodes t.root.height t.root.slot (g.P.Probe.bytes q.from)
+                  (g.P.Probe.lets_pass q.from) (g.Q.Probe.lets_pass q.to) (g.P.Probe.sought q.from) q.version true l.way)
+                  qs looks) value (AllZip-unmap _ (λ (l : Look). l.way) qs looks ways),
+              subst
+                  (λ looks. AllZip (λ q l. IsLooked t.nodes (g.P.Probe.bytes q.from) (g.P.Probe.sought q.from) l.way l.own)
+                  qs looks) value c.look_at_each-looks.ensures.looked,
             ),
           ),
         ),
