@@ -64,18 +64,18 @@ module _ {X : Type 0} where
   inserted-left xs i m e before within =
       let front = take m xs in
       let front_len : length front ≡ m = length-take-le m xs within in
-      let joined : drop i front ++ drop m xs ≡ drop i xs =
+      let merged : drop i front ++ drop m xs ≡ drop i xs =
       sym (drop-append-le i front (drop m xs) (omega arith)) ∙ ap (drop i) (take-append-drop m xs) in
-      append_assoc (take i front) (e ∷ drop i front) (drop m xs) ∙ ap (λ q. take i front ++ e ∷ q) joined
+      append_assoc (take i front) (e ∷ drop i front) (drop m xs) ∙ ap (λ q. take i front ++ e ∷ q) merged
       ∙ ap (λ p. p ++ e ∷ drop i xs) (take-take i m xs before)
 
   pub inserted-right : (xs : List X) (i m : ℕ) (e : X) → m ≤ i
       → take m xs ++ (take (i - m) (drop m xs) ++ e ∷ drop (i - m) (drop m xs)) ≡ take i xs ++ e ∷ drop i xs
   inserted-right xs i m e behind =
       let sum : m + (i - m) ≡ i = omega arith in
-      let joined : take m xs ++ take (i - m) (drop m xs) ≡ take i xs =
+      let merged : take m xs ++ take (i - m) (drop m xs) ≡ take i xs =
       ap (λ p. p ++ take (i - m) (drop m xs)) (sym (take-take m i xs behind)) ∙ ap (λ q. take m (take i xs) ++ q) (sym (drop-front xs i m behind))
       ∙ take-append-drop m (take i xs) in
       let rest : drop (i - m) (drop m xs) ≡ drop i xs = drop-drop (i - m) m xs ∙ ap (λ n. drop n xs) sum in
       sym (append_assoc (take m xs) (take (i - m) (drop m xs)) (e ∷ drop (i - m) (drop m xs)))
-      ∙ ap (λ p. p ++ e ∷ drop (i - m) (drop m xs)) joined ∙ ap (λ q. take i xs ++ e ∷ q) rest
+      ∙ ap (λ p. p ++ e ∷ drop (i - m) (drop m xs)) merged ∙ ap (λ q. take i xs ++ e ∷ q) rest

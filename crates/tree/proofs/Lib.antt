@@ -30,7 +30,7 @@ pub mod LeafChange
 pub mod Leaves
 pub mod Looks
 pub mod Halves
-pub mod Mending
+pub mod Rebalancing
 pub mod Most
 pub mod NearCuts
 pub mod Neighbours

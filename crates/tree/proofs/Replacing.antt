@@ -13,7 +13,7 @@ use Rattle.tree.proofs.Frames.{IsRight, below_of}
 use Rattle.tree.proofs.Changing.{Moves}
 use Rattle.tree.proofs.Families.{times-slots_of, loose, replaced}
 use Rattle.tree.proofs.Sharing.{around_one}
-use Rattle.tree.proofs.Mending.{right_child}
+use Rattle.tree.proofs.Rebalancing.{right_child}
 
 module _ {N : ℕ} where
   -- entries of one node that stand for those of another
@@ -59,25 +59,25 @@ module _ {N : ℕ} where
         → IsSubtree b least height x → IsSubtree b least height added → least ≤ length (entries_at b x)
         → least ≤ length (entries_at b added) → Moves a b (slots_in a height x) (slots_in b height x ++ slots_in b height added)
         → IsStep a b least height es now i (items_in b height x ++ items_in b height added)
-    step_linked added now link below_x below_added filled_x filled_added moves =
-        let t = link.first in
-        let u = link.second in
+    step_linked added now insert_entry below_x below_added filled_x filled_added moves =
+        let t = insert_entry.first in
+        let u = insert_entry.second in
         let two_slots : slots_in b height x ++ slots_in b height added ≡ slots_of b height (t ∷ u ∷ []) =
-        ap₂ (λ l m. l ++ m) (ap (slots_in b height) (sym link.first_child)) (ap (slots_in b height) (sym link.second_child) ∙ sym (append-nil _)) in
+        ap₂ (λ l m. l ++ m) (ap (slots_in b height) (sym insert_entry.first_child)) (ap (slots_in b height) (sym insert_entry.second_child) ∙ sym (append-nil _)) in
         let two_items : items_of b height (t ∷ u ∷ []) ≡ items_in b height x ++ items_in b height added =
-        ap₂ (λ l m. l ++ m) (ap (items_in b height) link.first_child) (append-nil _ ∙ ap (items_in b height) link.second_child) in
+        ap₂ (λ l m. l ++ m) (ap (items_in b height) insert_entry.first_child) (append-nil _ ∙ ap (items_in b height) insert_entry.second_child) in
         let then : Moves a b (slots_of a height (here ∷ [])) (slots_of b height (t ∷ u ∷ [])) =
         subst (λ l. Moves a b l (slots_of b height (t ∷ u ∷ []))) one_slots (subst (Moves a b (slots_in a height x)) two_slots moves) in
         let r = replaced a b least height (take i es) (here ∷ []) (drop (i + 1) es) (t ∷ u ∷ []) few_split before behind then
-        (All-cons (IsRight b least height) t (u ∷ []) (right_child b least height x t link.first_child filled_x below_x (link.first_tells height least below_x))
-        (All-cons (IsRight b least height) u [] (right_child b least height added u link.second_child filled_added below_added (link.second_tells height least below_added))
+        (All-cons (IsRight b least height) t (u ∷ []) (right_child b least height x t insert_entry.first_child filled_x below_x (insert_entry.first_tells height least below_x))
+        (All-cons (IsRight b least height) u [] (right_child b least height added u insert_entry.second_child filled_added below_added (insert_entry.second_tells height least below_added))
         (All-nil (IsRight b least height)))) in
         record {
-          children = subst (AreChildren b least height) (sym link.entries) r.children;
-          items = ap (items_of b height) link.entries ∙ r.items
+          children = subst (AreChildren b least height) (sym insert_entry.entries) r.children;
+          items = ap (items_of b height) insert_entry.entries ∙ r.items
               ∙ ap (λ l. items_of a height (take i es) ++ (l ++ items_of a height (drop (i + 1) es))) two_items;
           moves = subst (λ l. Moves a b (slots_of a height l) (slots_of b height now)) (sym split)
-              (subst (λ l. Moves a b (slots_of a height (take i es ++ (here ∷ [] ++ drop (i + 1) es))) (slots_of b height l)) (sym link.entries) r.moves);
+              (subst (λ l. Moves a b (slots_of a height (take i es ++ (here ∷ [] ++ drop (i + 1) es))) (slots_of b height l)) (sym insert_entry.entries) r.moves);
         }
 
     -- the child was changed, and its entry isn't right yet

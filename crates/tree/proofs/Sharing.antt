@@ -1,4 +1,4 @@
--- Two neighbours that are joined or share their entries, and the entries of the node above.
+-- Two neighbours that are merged or merge_or_redistribute their entries, and the entries of the node above.
 use Rattle.std.proofs.Common.{◌≡◌, ℕ, zero, suc, ◌+◌, ◌<◌, ◌≤◌, List, [], ◌∷◌, ◌++◌, length, length-append, get_or, set, take, drop, map, option_map, unwrap_or, refl, sym, ap, ap₂, subst, ◌∙◌, arith, append_assoc}
 use Rattle.std.proofs.lemmas.List.{map-append, take-append-drop, drop_more, set_split, take_more_set, drop-set-lt, length-set}
 use Rattle.std.proofs.lemmas.List.Elements.{All-append}
@@ -8,7 +8,7 @@ use Rattle.tree.specs.declared.entry.Entry.{Entry}
 use Rattle.tree.specs.declared.node.Node.{Node}
 use Rattle.tree.specs.Item.{item_of}
 use Rattle.tree.specs.Subtree.{entries_at, items_in, slots_in, IsSubtree}
-use Rattle.tree.specs.Replace.{child_at, items_of, slots_of, AreChildren, IsFamily, IsMended}
+use Rattle.tree.specs.Replace.{child_at, items_of, slots_of, AreChildren, IsFamily, IsRebalanced}
 use Rattle.tree.proofs.callers.Times.{times, once, times-append, once_if_distinct}
 use Rattle.tree.proofs.Frames.{Agree, IsRight}
 use Rattle.tree.proofs.Changing.{Moves, moves_beside, moves_agree, changes_if_moves}
@@ -63,7 +63,7 @@ set_inserted es i t u within =
     ∙ append_assoc (take i es) (t ∷ []) (u ∷ drop (i + 1) es)
 
 module _ {N : ℕ} where
-  -- two neighbours joined
+  -- two neighbours merged
   pub record Joined (a b : Arena (Node N)) (least height x y : ℕ) : Type 0 where
     pub subtree : IsSubtree b least height x
     pub items : items_in b height x ≡ items_in a height x ++ items_in a height y
@@ -76,16 +76,16 @@ module _ {N : ℕ} where
   below_both a b least height x y now es moves right few =
       moves_agree a b (x ∷ y ∷ []) now (slots_of a height es) moves (live_children a least height es right) few
 
-  pub joined : (a b : Arena (Node N)) (least height x y : ℕ) → Moves a b (x ∷ y ∷ []) (x ∷ [])
+  pub merged : (a b : Arena (Node N)) (least height x y : ℕ) → Moves a b (x ∷ y ∷ []) (x ∷ [])
       → entries_at b x ≡ entries_at a x ++ entries_at a y → 1 ≤ length (entries_at b x)
       → IsSubtree a least height x → IsSubtree a least height y
       → ((s : ℕ) → times s (slots_in a height x ++ slots_in a height y) ≤ 1) → Joined a b least height x y
-  joined a b least zero x y moves here some h k few = record {
+  merged a b least zero x y moves here some h k few = record {
     subtree = live_if_some b x some;
     items = ap (map item_of) here ∙ map-append item_of (entries_at a x) (entries_at a y);
     moves = moves;
   }
-  joined a b least (suc height) x y moves here some h k few =
+  merged a b least (suc height) x y moves here some h k few =
       let es = entries_at a x ++ entries_at a y in
       let xs = slots_of a height (entries_at a x) in
       let ys = slots_of a height (entries_at a y) in
@@ -161,13 +161,13 @@ module _ {N : ℕ} where
             (live_children a least height (us ++ vs) then_right));
       }
 
-  -- entries of which some in the middle are replaced are mended
-  pub mended : (a b : Arena (Node N)) (least height from to : ℕ) (was now middle new : List Entry)
+  -- entries of which some in the middle are replaced are rebalanced
+  pub rebalanced : (a b : Arena (Node N)) (least height from to : ℕ) (was now middle new : List Entry)
       → IsFamily a least height was from to → was ≡ take from was ++ (middle ++ drop to was)
       → now ≡ take from was ++ (new ++ drop to was) → AreChildren b least height new
       → items_of b height new ≡ items_of a height middle → Moves a b (slots_of a height middle) (slots_of b height new)
-      → IsMended a b least height was now
-  mended a b least height from to was now middle new family was_is now_is right items moves =
+      → IsRebalanced a b least height was now
+  rebalanced a b least height from to was now middle new family was_is now_is right items moves =
       let few : (s : ℕ) → times s (slots_of a height (take from was ++ (middle ++ drop to was))) ≤ 1 =
       λ (s : ℕ). subst (λ l. times s (slots_of a height l) ≤ 1) was_is (once_if_distinct (slots_of a height was) family.distinct s) in
       let h = replaced a b least height (take from was) middle (drop to was) new few family.before family.behind moves right in

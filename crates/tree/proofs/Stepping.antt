@@ -10,7 +10,7 @@ use Rattle.tree.specs.Item.{Item}
 use Rattle.tree.specs.Node.{entries_of}
 use Rattle.tree.specs.Path.{index_in, child_in}
 use Rattle.tree.specs.Subtree.{entries_at, items_in, slots_in, IsSubtree}
-use Rattle.tree.specs.Replace.{child_at, entries_at_both, items_with, slots_with, slot_taken, items_of, slots_of, AreChildren, Changes, IsFamily, IsFamilyAt, IsLinked, IsMendedAt}
+use Rattle.tree.specs.Replace.{child_at, entries_at_both, items_with, slots_with, slot_taken, items_of, slots_of, AreChildren, Changes, IsFamily, IsFamilyAt, IsLinked, IsRebalancedAt}
 use Rattle.tree.proofs.callers.Times.{times, once_same, once_if_distinct, times_if_contains}
 use Rattle.tree.proofs.Frames.{entries_same, live_same}
 use Rattle.tree.proofs.Changing.{Moves, changes_if_moves, moves_if_changes, moves_trans}
@@ -155,15 +155,15 @@ module _ {N : ℕ} where
         (moves : Moves a b (slots_in a lower x) (slots_in b lower x ++ slots_in b lower s)) (four : 4 ≤ N)
         (linked : IsLinked b (child_at (entries_at b slot) i) s (take i (entries_at b slot))
         (drop (i + 1) (entries_at b slot)) (entries_at_both w slot added)) where
-      link : IsLinked b x s (take i es) (drop (i + 1) es) (entries_at_both w slot added)
-      link =
+      insert_entry : IsLinked b x s (take i es) (drop (i + 1) es) (entries_at_both w slot added)
+      insert_entry =
           subst (λ z. IsLinked b z s (take i es) (drop (i + 1) es) (entries_at_both w slot added)) (sym at.x_at)
           (subst (λ l. IsLinked b (child_at l i) s (take i l) (drop (i + 1) l) (entries_at_both w slot added))
           (read_beside a b least lower slot passes es i x d (slots_in b lower x ++ slots_in b lower s) at moves) linked)
 
       pub one_less : added ≡ None → length (entries_at a slot) ≤ length (entries_at w slot) + 1
       one_less none =
-          let more = one_more w slot added es i link.first link.second at.within link.entries none in
+          let more = one_more w slot added es i insert_entry.first insert_entry.second at.within insert_entry.entries none in
           omega (arith, ap length at.read, more)
 
       pub stepped_linked : IsSubtree b least lower s → least ≤ length (entries_at b x) → least ≤ length (entries_at b s)
@@ -173,9 +173,9 @@ module _ {N : ℕ} where
       stepped_linked below_added filled_x filled_added left right live live_added changes =
           let now = entries_at_both w slot added in
           let middle = items_in b lower x ++ items_in b lower s in
-          let step = step_linked a b least lower es i x d at.within at.x_is at.few_below at.right s now link below
+          let step = step_linked a b least lower es i x d at.within at.x_is at.few_below at.right s now insert_entry below
           below_added filled_x filled_added moves in
-          let some = some_left w slot added (take i es) (drop (i + 1) es) link.first link.second four link.entries
+          let some = some_left w slot added (take i es) (drop (i + 1) es) insert_entry.first insert_entry.second four insert_entry.entries
           left in
           stepped a b w least height lower slot es now i middle added next step.items
           (stored a b w least lower slot es at.slots_are at.few at.live now step.moves step.children added refl some
@@ -203,18 +203,18 @@ module _ {N : ℕ} where
             absurd (omega (arith, own.few slot, once_same slot, below)));
       }
 
-      -- and the node mended
-      pub stepped_mended : IsMendedAt b w least lower slot
+      -- and the node rebalanced
+      pub stepped_rebalanced : IsRebalancedAt b w least lower slot
           → IsStepped a w least height lower slot es i (items_in b lower x) None
-      stepped_mended mended =
+      stepped_rebalanced rebalanced =
           stepped a b w least height lower slot es es i (items_in b lower x) None next changed.2
           (record {
-            items_are = mended.items ∙ ap (items_of b lower) read;
-            subtree = mended.subtree;
+            items_are = rebalanced.items ∙ ap (items_of b lower) read;
+            subtree = rebalanced.subtree;
             neighbour = tt;
             moves = moves_trans a b w (slots_in a (suc lower) slot) (slots_in b (suc lower) slot)
                 (slots_in w (suc lower) slot)
                 (subst (Moves a b (slots_in a (suc lower) slot)) (ap (λ l. slot ∷ slots_of b lower l) (sym read))
                 (subst (λ l. Moves a b l (slot ∷ slots_of b lower es)) (sym at.slots_are) own))
-                (moves_if_changes b w (slots_in b (suc lower) slot) (slots_in w (suc lower) slot) mended.changes);
+                (moves_if_changes b w (slots_in b (suc lower) slot) (slots_in w (suc lower) slot) rebalanced.changes);
           })

@@ -8,7 +8,7 @@ use Rattle.tree.specs.declared.node.Node.{Node}
 use Rattle.tree.specs.Item.{Item}
 use Rattle.tree.specs.Node.{entries_of}
 use Rattle.tree.specs.Subtree.{entries_at, slots_in, IsSubtree}
-use Rattle.tree.specs.Replace.{entries_at_both, items_with, slots_with, slot_taken, items_of, slots_of, AreChildren, IsFamilyAt, IsMended, IsMendedAt}
+use Rattle.tree.specs.Replace.{entries_at_both, items_with, slots_with, slot_taken, items_of, slots_of, AreChildren, IsFamilyAt, IsRebalanced, IsRebalancedAt}
 use Rattle.tree.proofs.callers.Times.{times, once, once_same, once_cases, once_if_distinct, times-append, times_unless_contains}
 use Rattle.tree.proofs.Frames.{Agree, IsRight, live_same}
 use Rattle.tree.proofs.Changing.{Moves, moves_beside, moves_agree, moves_trans, moves_if_changes, changes_if_moves}
@@ -105,21 +105,21 @@ module _ {N : ℕ} where
       ]
 
   -- a family's entries are made right, and the node with them put in its place
-  pub mended_at : (a b w : Arena (Node N)) (least height slot index : ℕ) (node : Node N) (now : List Entry)
-      → IsLive a slot → IsFamilyAt a least height slot index → IsMended a b least height (entries_at a slot) now
-      → 1 ≤ length now → entries_of node ≡ now → w ≡ with_header b slot node → IsMendedAt a w least height slot
-  mended_at a b w least height slot index node now live at mended some same put =
+  pub rebalanced_at : (a b w : Arena (Node N)) (least height slot index : ℕ) (node : Node N) (now : List Entry)
+      → IsLive a slot → IsFamilyAt a least height slot index → IsRebalanced a b least height (entries_at a slot) now
+      → 1 ≤ length now → entries_of node ≡ now → w ≡ with_header b slot node → IsRebalancedAt a w least height slot
+  rebalanced_at a b w least height slot index node now live at rebalanced some same put =
       let es = entries_at a slot in
       let few = family_apart a least height slot index at in
-      let moves = moves_if_changes a b (slots_of a height es) (slots_of b height now) mended.changes in
+      let moves = moves_if_changes a b (slots_of a height es) (slots_of b height now) rebalanced.changes in
       let alive : IsLive b slot = live_own a b w least height slot es refl few live now moves in
       let here : entries_at w slot ≡ now = put_entries b w slot node put ∙ same in
       let s =
-      stored a b w least height slot es refl few live now moves mended.children None (sym here)
+      stored a b w least height slot es refl few live now moves rebalanced.children None (sym here)
       (subst (λ l. 1 ≤ length l) (sym here) some) tt (put_live b w slot node put) tt
       (put_moves b w slot node put alive moves.keyless) in
       record {
         subtree = s.subtree;
-        items = s.items_are ∙ mended.items;
+        items = s.items_are ∙ rebalanced.items;
         changes = changes_if_moves a w (slots_in a (suc height) slot) (slots_in w (suc height) slot) s.moves;
       }

@@ -1,4 +1,4 @@
--- A subtree once a leaf of one of its children was changed, and its node was mended.
+-- A subtree once a leaf of one of its children was changed, and its node was rebalanced.
 use Rattle.std.proofs.Common.{◌≡◌, inl, ℕ, suc, ◌+◌, ◌*◌, ◌≤◌, Bool, true, false, List, [], ◌∷◌, ◌++◌, Option, Some, None, IfSome, length, take, drop, refl, sym, ap, subst, arith, append-nil}
 use Rattle.std.specs.Prelude.{ℤ}
 use Rattle.std.proofs.lemmas.List.Elements.{All-nil}
@@ -10,12 +10,12 @@ use Rattle.tree.specs.declared.walk.Outcome.TheVariants.{Same, Raised, Changed, 
 use Rattle.tree.specs.Hints.{KeyBytes, AreHinted}
 use Rattle.tree.specs.Item.{Item}
 use Rattle.tree.specs.Node.{hints_of}
-use Rattle.tree.specs.Replace.{child_at, entries_at_both, slot_taken, Changes, IsLinked, IsMendedAt}
+use Rattle.tree.specs.Replace.{child_at, entries_at_both, slot_taken, Changes, IsLinked, IsRebalancedAt}
 use Rattle.tree.specs.Subtree.{entries_at, items_in, slots_in, IsSubtree}
 use Rattle.tree.specs.Tree.{least_of}
 use Rattle.tree.specs.Walk.{CanChange, IsChanged, IsChangedWithin, IsRaised}
 use Rattle.tree.proofs.Changing.{Moves, moves_if_changes}
-use Rattle.tree.proofs.Stepping.{IsAt, IsStepped, read_beside, stepped_linked, stepped_mended, one_less}
+use Rattle.tree.proofs.Stepping.{IsAt, IsStepped, read_beside, stepped_linked, stepped_rebalanced, one_less}
 use Rattle.tree.proofs.Walking.{raised_above}
 
 -- The items of a leaf that was changed.
@@ -69,17 +69,17 @@ module _ {N : ℕ} (bytes : KeyBytes) (a b : Arena (Node N)) (height lower slot 
       })
 
   module _ (w : Arena (Node N)) (hinted : AreHinted bytes (hints_of w)) where
-    -- The child was changed, and the node mended.
+    -- The child was changed, and the node rebalanced.
     module _ (below : IsSubtree b (least_of N) lower x)
         (changes : Changes a b (slots_in a lower x) (slots_in b lower x))
-        (taken : spare_of a 0 ≤ spare_of b 0 + (lower + 1)) (mended : IsMendedAt b w (least_of N) lower slot)
+        (taken : spare_of a 0 ≤ spare_of b 0 + (lower + 1)) (rebalanced : IsRebalancedAt b w (least_of N) lower slot)
         (less : length (entries_at b slot) ≤ length (entries_at w slot) + 1) (spare : spare_of b 0 ≤ spare_of w 0) where
       moves : Moves a b (slots_in a lower x) (slots_in b lower x)
       moves = moves_if_changes a b (slots_in a lower x) (slots_in b lower x) changes
 
-      pub step_mended : IsStepped a w (least_of N) height lower slot es i (items_in b lower x) None
-      step_mended =
-          stepped_mended a b w (least_of N) height lower slot passes es i x d next at below moves mended
+      pub step_rebalanced : IsStepped a w (least_of N) height lower slot es i (items_in b lower x) None
+      step_rebalanced =
+          stepped_rebalanced a b w (least_of N) height lower slot passes es i x d next at below moves rebalanced
 
       few_less : length (entries_at a slot) ≤ length (entries_at w slot) + 1
       few_less =
@@ -90,11 +90,11 @@ module _ {N : ℕ} (bytes : KeyBytes) (a b : Arena (Node N)) (height lower slot 
       changed_above = record {
         same = λ is. absurd (cc);
         raised = λ version is. absurd (cc);
-        subtree = step_mended.subtree;
+        subtree = step_rebalanced.subtree;
         neighbour = tt;
         filled = tt;
         few_less = λ above none. few_less;
-        changes = step_mended.changes;
+        changes = step_rebalanced.changes;
         taken = omega (arith, taken, spare, next);
         hinted = hinted;
       }
@@ -107,13 +107,13 @@ module _ {N : ℕ} (bytes : KeyBytes) (a b : Arena (Node N)) (height lower slot 
             let same : version ≡ other = cc in
             subst (λ v. IsRaised v (items_in a height slot) (items_in w height slot)) same
             (raised_above a (least_of N) height lower slot passes es i x d next at version (items_in b lower x)
-            (items_in w height slot) step_mended.items (was.raised version refl))
+            (items_in w height slot) step_rebalanced.items (was.raised version refl))
             );
-        subtree = step_mended.subtree;
+        subtree = step_rebalanced.subtree;
         neighbour = tt;
         filled = tt;
         few_less = λ above none. few_less;
-        changes = step_mended.changes;
+        changes = step_rebalanced.changes;
         taken = omega (arith, taken, spare, next);
         hinted = hinted;
       }

@@ -9,7 +9,7 @@ pub mod Reached
 pub mod Question
 pub mod Tree
 pub mod Replace
-pub mod Mending
+pub mod Rebalancing
 pub mod Walk
 pub mod Overwrite
 pub mod Thin

@@ -62,7 +62,7 @@ module _ {N : ℕ} where
     pub behind : AreChildren nodes least height (drop to entries)
 
   -- the entries of a node, made right
-  pub record IsMended (old new : Arena (Node N)) (least height : ℕ) (was now : List Entry) : Type 0 where
+  pub record IsRebalanced (old new : Arena (Node N)) (least height : ℕ) (was now : List Entry) : Type 0 where
     pub children : AreChildren new least height now
     pub items : items_of new height now ≡ items_of old height was
     pub changes : Changes old new (slots_of old height was) (slots_of new height now)
@@ -94,7 +94,7 @@ module _ {N : ℕ} where
     pub apart : ¬ Contains (slots_of nodes height (entries_at nodes slot)) slot
 
   -- the node at a slot, made right
-  pub record IsMendedAt (old new : Arena (Node N)) (least height slot : ℕ) : Type 0 where
+  pub record IsRebalancedAt (old new : Arena (Node N)) (least height slot : ℕ) : Type 0 where
     pub subtree : IsSubtree new least (suc height) slot
     pub items : items_in new (suc height) slot ≡ items_in old (suc height) slot
     pub changes : Changes old new (slots_in old (suc height) slot) (slots_in new (suc height) slot)

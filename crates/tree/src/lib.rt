@@ -7,12 +7,12 @@
 
 mod descent;
 mod entry;
-mod mend;
 mod node;
 mod overwrite;
 mod probe;
 mod question;
 mod questions;
+mod rebalance;
 mod replace;
 mod root;
 mod search;

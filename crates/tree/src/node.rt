@@ -171,7 +171,7 @@ impl<const N: usize> Node<N> {
         } else {
             right.splice(0, 0, new);
         }
-        self.even_out(&mut right);
+        self.redistribute(&mut right);
         right
     }
 
@@ -213,7 +213,7 @@ impl<const N: usize> Node<N> {
     }
 
     /// Moves entries between two neighbours so that they have as many, but for one. The first of these is the left one.
-    pub fn even_out(&mut self, right: &mut Node<N>)
+    pub fn redistribute(&mut self, right: &mut Node<N>)
         requires many { N < length (entries_of self.old) + length (entries_of right.old) }
         ensures entries { (entries_of self.new) ++ (entries_of right.new) ≡ (entries_of self.old) ++ (entries_of right.old) }
         ensures left { N ≤ 2 * length (entries_of self.new) }

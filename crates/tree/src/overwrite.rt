@@ -6,7 +6,7 @@ ghost use Rattle.arena.specs.Arena.{IsLive, spare_of};
 ghost use Rattle.keys.specs.Key.{IsBytes};
 ghost use Rattle.tree.specs.Hints.{AreHinted, IsKnown};
 ghost use Rattle.tree.specs.Item.{item_of};
-ghost use Rattle.tree.specs.Mending.{CanSplit, IsStored};
+ghost use Rattle.tree.specs.Rebalancing.{CanSplit, IsStored};
 ghost use Rattle.tree.specs.Node.{entries_of, hints_of, items_of_run, keys_of};
 ghost use Rattle.tree.specs.Overwrite.{GivesWritten, IsPartOfCut, part_of_part, put_of};
 ghost use Rattle.tree.specs.Replace.{entries_at_both, Changes, IsKeyless};

@@ -1,32 +1,32 @@
-//! A node above a changed child, mended.
+//! A node above a changed child, rebalanced.
 
 ghost use Rattle.std.specs.Prelude.{◌≡◌, ◌≤◌, ◌<◌, ◌+◌, ◌*◌, ◌∷◌, ℕ, [], length, take, drop, MatchOption, IfSome, IsSome, IsSomeAnd, None, Some};
 ghost use Rattle.std.specs.List.{All};
 ghost use Rattle.std.specs.FinMap as map_of;
 ghost use Rattle.arena.specs.Arena.{IsLive, spare_of};
 ghost use Rattle.tree.specs.Hints.{AreHinted, IsHinted, IsKnown, KeyBytes};
-ghost use Rattle.tree.specs.Mending.{CanLink, CanLinkIn, CanMend, IsStored, LosesOneAtMost};
+ghost use Rattle.tree.specs.Rebalancing.{CanInsertChild, CanInsertEntry, CanRebalance, IsStored, LosesOneAtMost};
 ghost use Rattle.tree.specs.Node.{entries_of, hint_of, hints_of, keys_of};
 ghost use Rattle.tree.specs.Subtree.{entries_at};
 ghost use Rattle.tree.specs.Tree.{least_of};
-ghost use Rattle.tree.specs.Replace.{child_at, entries_at_both, entries_with, slot_taken, Changes, IsFamilyAt, IsKeyless, IsLinked, IsMendedAt, TellsWritten};
+ghost use Rattle.tree.specs.Replace.{child_at, entries_at_both, entries_with, slot_taken, Changes, IsFamilyAt, IsKeyless, IsLinked, IsRebalancedAt, TellsWritten};
 
 use crate::entry::Entry;
-use crate::mend::{least, mend, summary};
 use crate::node::Node;
 use crate::probe::Probe;
+use crate::rebalance::{entry_for, least, rebalance};
 use arena::{Arena, Slot};
 
 /// Makes the entry at an index right in the node at a slot, whose child was split, and puts one for the child's right
 /// neighbour behind it. Returns the slot of the node's own right neighbour where it is split, too.
-pub fn link_child<P: Probe, const N: usize>(
+pub fn insert_child<P: Probe, const N: usize>(
     nodes: &mut Arena<Node<N>>,
     slot: Slot,
     index: usize,
     added: Slot,
     probe: &P,
 ) -> Option<Slot>
-    requires can_link { CanLink (P.bytes probe.now) nodes.old slot index added }
+    requires can_insert { CanInsertChild (P.bytes probe.now) nodes.old slot index added }
     ensures linked { IsLinked nodes.old (child_at (entries_at nodes.old slot) index) added (take index (entries_at nodes.old slot))
         (drop (index + 1) (entries_at nodes.old slot)) (entries_at_both nodes.new slot result) }
     ensures left { IfSome result (λ _. N ≤ 2 * length (entries_at nodes.new slot)) }
@@ -34,53 +34,53 @@ pub fn link_child<P: Probe, const N: usize>(
     ensures stored { IsStored (P.bytes probe.now) nodes.old nodes.new slot result }
 {
     let mut node = nodes.header(slot);
-    let right = link(nodes, &mut node, index, added);
+    let right = insert_entry(nodes, &mut node, index, added);
     node.take_hints(nodes.header_ref(slot), probe);
     store(nodes, slot, &node, right.as_ref(), probe)
 }
 
 /// Makes the entry at an index right in the node at a slot, whose child has changed: where the node lies, unless the
 /// child has too few entries.
-pub fn mend_child<P: Probe, const N: usize>(
+pub fn rebalance_child<P: Probe, const N: usize>(
     nodes: &mut Arena<Node<N>>,
     slot: Slot,
     index: usize,
     probe: &P,
 )
-    requires can_mend { CanMend (P.bytes probe.now) nodes.old slot index }
-    ensures mended { (height : ℕ) → IsFamilyAt nodes.old (least_of N) height slot index
-        → IsMendedAt nodes.old nodes.new (least_of N) height slot }
+    requires can_rebalance { CanRebalance (P.bytes probe.now) nodes.old slot index }
+    ensures rebalanced { (height : ℕ) → IsFamilyAt nodes.old (least_of N) height slot index
+        → IsRebalancedAt nodes.old nodes.new (least_of N) height slot }
     ensures rest { LosesOneAtMost (P.bytes probe.now) nodes.old nodes.new (entries_at nodes.old slot) (entries_at nodes.new slot) }
 {
     let child = nodes.header_ref(slot).entries()[index].child;
     if nodes.header_ref(child).len() >= least(N) {
-        let entry = summary(nodes, child);
+        let entry = entry_for(nodes, child);
         nodes.header_mut(slot).set_hinted(index, entry, probe);
         return;
     }
     let mut node = nodes.header(slot);
-    mend(nodes, &mut node, index, probe);
+    rebalance(nodes, &mut node, index, probe);
     node.take_hints(nodes.header_ref(slot), probe);
     nodes.set_header(slot, node);
 }
 
 /// Makes the entry at an index right in the node at a slot, whose child has changed: an item of this version was
 /// written in its subtree.
-pub fn mend_written<P: Probe, const N: usize>(
+pub fn raise_entry<P: Probe, const N: usize>(
     nodes: &mut Arena<Node<N>>,
     slot: Slot,
     index: usize,
     version: i64,
     probe: &P,
 )
-    requires can_mend { CanMend (P.bytes probe.now) nodes.old slot index }
-    ensures mended { (height : ℕ) → IsFamilyAt nodes.old (least_of N) height slot index
-        → TellsWritten nodes.old height slot index version → IsMendedAt nodes.old nodes.new (least_of N) height slot }
+    requires can_rebalance { CanRebalance (P.bytes probe.now) nodes.old slot index }
+    ensures rebalanced { (height : ℕ) → IsFamilyAt nodes.old (least_of N) height slot index
+        → TellsWritten nodes.old height slot index version → IsRebalancedAt nodes.old nodes.new (least_of N) height slot }
     ensures rest { LosesOneAtMost (P.bytes probe.now) nodes.old nodes.new (entries_at nodes.old slot) (entries_at nodes.new slot) }
 {
     let entry = nodes.header_ref(slot).entries()[index];
     if entry.version > version || nodes.header_ref(entry.child).len() < least(N) {
-        return mend_child(nodes, slot, index, probe);
+        return rebalance_child(nodes, slot, index, probe);
     }
     nodes
         .header_mut(slot)
@@ -89,13 +89,13 @@ pub fn mend_written<P: Probe, const N: usize>(
 
 // Makes the entry for a changed child right, and puts one for the child's new right neighbour behind it. A full node is
 // split.
-fn link<const N: usize>(
+fn insert_entry<const N: usize>(
     nodes: &Arena<Node<N>>,
     node: &mut Node<N>,
     index: usize,
     added: Slot,
 ) -> Option<Node<N>>
-    requires can_link { CanLinkIn nodes.now (entries_of node.old) index added }
+    requires can_insert { CanInsertEntry nodes.now (entries_of node.old) index added }
     ensures linked { IsLinked nodes.now (child_at (entries_of node.old) index) added (take index (entries_of node.old))
         (drop (index + 1) (entries_of node.old)) (entries_with node.new result) }
     ensures left { IfSome result (λ _. N ≤ 2 * length (entries_of node.new)) }
@@ -104,8 +104,8 @@ fn link<const N: usize>(
         → All (IsKnown bytes) (keys_of (entries_with node.new result)) }
 {
     let child = node.entries()[index].child;
-    node.set(index, summary(nodes, child));
-    node.insert_or_split(index + 1, summary(nodes, added))
+    node.set(index, entry_for(nodes, child));
+    node.insert_or_split(index + 1, entry_for(nodes, added))
 }
 
 /// Puts a node at a slot, and its right neighbour, if any, in a spare one, which is returned.

@@ -6,7 +6,7 @@ ghost use Rattle.std.specs.FinMap as map_of;
 ghost use Rattle.arena.specs.Arena.{IsLive, spare_of};
 ghost use Rattle.tree.specs.Item.{item_of};
 ghost use Rattle.tree.specs.Hints.{AreHinted, KeyBytes};
-ghost use Rattle.tree.specs.Mending.{CanGrow, CanShrink};
+ghost use Rattle.tree.specs.Rebalancing.{CanGrow, CanShrink};
 ghost use Rattle.tree.specs.Node.{hints_of, items_of_run};
 ghost use Rattle.tree.specs.Subtree.{entries_at, items_in, slots_in, IsSubtree};
 ghost use Rattle.tree.specs.Path.{IsCut, passing as passing_of};
@@ -17,9 +17,9 @@ ghost use Rattle.tree.specs.Walk.{CanChangeTree, IsChangedWithin};
 
 use crate::descent::{Reached, find, known_at};
 use crate::entry::Entry;
-use crate::mend::summary;
 use crate::node::Node;
 use crate::probe::Probe;
+use crate::rebalance::entry_for;
 use crate::replace::place;
 use crate::walk::{LeafChange, Place, change_leaf};
 use arena::{Arena, Slot};
@@ -101,8 +101,8 @@ fn grow<P: Probe, const N: usize>(
     ensures spare { spare_of nodes.new 0 + map_of.len nodes.new.records ≡ spare_of nodes.old 0 + map_of.len nodes.old.records }
     ensures hinted { AreHinted (P.bytes probe.now) (hints_of nodes.new) }
 {
-    let mut node = Node::of(summary(nodes, root.slot));
-    node.insert(1, summary(nodes, added));
+    let mut node = Node::of(entry_for(nodes, root.slot));
+    node.insert(1, entry_for(nodes, added));
     node.renew_hints(probe);
     Root {
         slot: place(nodes, node),

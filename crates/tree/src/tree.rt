@@ -12,12 +12,12 @@ ghost use Rattle.tree.specs.declared.question.TheConstants.{SIDE};
 ghost use Rattle.tree.specs.Tree.{IsLast, hints_in, KnowItems};
 
 use crate::entry::Entry;
-use crate::mend::least;
 use crate::node::Node;
 use crate::overwrite::{Overwrite, Overwriting, Written};
 use crate::probe::Probe;
 use crate::question::{Question, SIDE};
 use crate::questions::{answer_each, descend_each, look_at_each};
+use crate::rebalance::least;
 use crate::root::{Root, change, last};
 use crate::search::{greatest, key_behind};
 use crate::thin::{Thinned, Thinning};

@@ -1,4 +1,4 @@
-//! The one way into a tree: a walk to a leaf, a change of the leaf where it lies, and the mending of the nodes above it.
+//! The one way into a tree: a walk to a leaf, a change of the leaf where it lies, and the rebalancing of the nodes above it.
 
 ghost use Rattle.std.specs.Prelude.{◌≡◌, ◌++◌, ℕ, Bool, List, Option, None};
 ghost use Rattle.tree.specs.Item.{Item};
@@ -9,7 +9,7 @@ ghost use Rattle.tree.specs.Walk.{added_by, CanChange, CanSearch, IsChanged, IsC
 
 use crate::node::Node;
 use crate::probe::Probe;
-use crate::replace::{link_child, mend_child, mend_written};
+use crate::replace::{insert_child, raise_entry, rebalance_child};
 use crate::search::key_at;
 use arena::{Arena, Slot};
 
@@ -91,7 +91,7 @@ pub trait LeafChange<const N: usize> {
         → wants change items };
 }
 
-/// Changes a leaf of a subtree, puts the entries that are taken out into `taken`, and mends the nodes above it. Takes at
+/// Changes a leaf of a subtree, puts the entries that are taken out into `taken`, and rebalances the nodes above it. Takes at
 /// most one slot at each height.
 pub fn change_leaf<C: LeafChange<N>, const N: usize>(
     nodes: &mut Arena<Node<N>>,
@@ -126,15 +126,15 @@ pub fn change_leaf<C: LeafChange<N>, const N: usize>(
     match change_leaf(nodes, child, height - 1, change, below, taken) {
         Outcome::Same => Outcome::Same,
         Outcome::Raised(version) => {
-            mend_written(nodes, slot, step.index, version, change.target());
+            raise_entry(nodes, slot, step.index, version, change.target());
             Outcome::Raised(version)
         }
         Outcome::Changed => {
-            mend_child(nodes, slot, step.index, change.target());
+            rebalance_child(nodes, slot, step.index, change.target());
             Outcome::Changed
         }
         Outcome::Split(added) => {
-            match link_child(nodes, slot, step.index, added, change.target()) {
+            match insert_child(nodes, slot, step.index, added, change.target()) {
                 Some(added) => Outcome::Split(added),
                 None => Outcome::Changed,
             }

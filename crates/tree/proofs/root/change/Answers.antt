@@ -5,7 +5,7 @@ use Rattle.tree.specs.Replace.{items_with, slots_with, Changes}
 use Rattle.tree.specs.Subtree.{entries_at, items_in, slots_in, IsSubtree}
 use Rattle.tree.specs.Tree.{least_of}
 use Rattle.tree.specs.Walk.{CanChange, CanSearch, IsChangedWithin}
-use Rattle.tree.proofs.Mending.{live_subtree}
+use Rattle.tree.proofs.Rebalancing.{live_subtree}
 use Rattle.tree.proofs.root.change.Goals as goal
 
 pub known_at-requires : goal.known_at-requires

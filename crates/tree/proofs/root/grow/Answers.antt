@@ -17,39 +17,39 @@ use Rattle.tree.proofs.root.grow.Goals as goal
 pub renew_hints-requires : goal.renew_hints-requires
 renew_hints-requires g c =
     let bytes = g.P.Probe.bytes c.args.probe.now in
-    let first = c.summary.result in
-    let second = c.summary-2.result in
+    let first = c.entry_for.result in
+    let second = c.entry_for-2.result in
     let es : List Entry = first ∷ second ∷ [] in
     let node : entries_of c.insert.new.self ≡ es =
     c.insert.ensures.entries ∙ ap (λ l. take 1 l ++ second ∷ drop 1 l) c.of-node.ensures.entries in
     let known : All (IsKnown bytes) (keys_of es) =
-    All-cons (IsKnown bytes) first.key (second.key ∷ []) (c.summary.ensures.known bytes c.requires.can_grow.hinted)
-    (All-cons (IsKnown bytes) second.key [] (c.summary-2.ensures.known bytes c.requires.can_grow.hinted) (All-nil (IsKnown bytes))) in (search rules, subst (λ l. All (IsKnown bytes) (keys_of l)) (sym node) known)
+    All-cons (IsKnown bytes) first.key (second.key ∷ []) (c.entry_for.ensures.known bytes c.requires.can_grow.hinted)
+    (All-cons (IsKnown bytes) second.key [] (c.entry_for-2.ensures.known bytes c.requires.can_grow.hinted) (All-nil (IsKnown bytes))) in (search rules, subst (λ l. All (IsKnown bytes) (keys_of l)) (sym node) known)
 
 pub returns-clause-items : goal.returns-clause-items
 returns-clause-items g c =
     let a = c.args.nodes.now in
     let b = c.place.new.nodes in
     let h = c.args.root.height in
-    let first = c.summary.result in
-    let second = c.summary-2.result in
+    let first = c.entry_for.result in
+    let second = c.entry_for-2.result in
     let least = least_of g.row.N in
     let es : List Entry = first ∷ second ∷ [] in
     let node : entries_of c.renew_hints.new.self ≡ es =
     c.renew_hints.ensures.entries ∙ c.insert.ensures.entries ∙ ap (λ l. take 1 l ++ second ∷ drop 1 l) c.of-node.ensures.entries in
     let right : AreChildren a least h es =
     All-cons (IsRight a least h) first (second ∷ [])
-    (right_entry a least h c.args.root.slot first c.summary.ensures.child c.requires.can_grow.first c.requires.can_grow.filled.0
-    (c.summary.ensures.tells h least c.requires.can_grow.first))
+    (right_entry a least h c.args.root.slot first c.entry_for.ensures.child c.requires.can_grow.first c.requires.can_grow.filled.0
+    (c.entry_for.ensures.tells h least c.requires.can_grow.first))
     (All-cons (IsRight a least h) second []
-    (right_entry a least h c.args.added second c.summary-2.ensures.child c.requires.can_grow.second c.requires.can_grow.filled.1
-    (c.summary-2.ensures.tells h least c.requires.can_grow.second))
+    (right_entry a least h c.args.added second c.entry_for-2.ensures.child c.requires.can_grow.second c.requires.can_grow.filled.1
+    (c.entry_for-2.ensures.tells h least c.requires.can_grow.second))
     (All-nil (IsRight a least h))) in
     let slots : slots_of a h es ≡ slots_in a h c.args.root.slot ++ slots_in a h c.args.added =
-    ap₂ (λ x y. slots_in a h x ++ (slots_in a h y ++ [])) c.summary.ensures.child c.summary-2.ensures.child
+    ap₂ (λ x y. slots_in a h x ++ (slots_in a h y ++ [])) c.entry_for.ensures.child c.entry_for-2.ensures.child
     ∙ ap (λ l. slots_in a h c.args.root.slot ++ l) (append-nil (slots_in a h c.args.added)) in
     let items : items_of a h es ≡ items_in a h c.args.root.slot ++ items_in a h c.args.added =
-    ap₂ (λ x y. items_in a h x ++ (items_in a h y ++ [])) c.summary.ensures.child c.summary-2.ensures.child
+    ap₂ (λ x y. items_in a h x ++ (items_in a h y ++ [])) c.entry_for.ensures.child c.entry_for-2.ensures.child
     ∙ ap (λ l. items_in a h c.args.root.slot ++ l) (append-nil (items_in a h c.args.added)) in
     let moves = moves_if_changes a b [] (c.place.result ∷ []) c.place.ensures.changes in
     let new =
@@ -63,25 +63,25 @@ returns-clause-rooted g c =
     let a = c.args.nodes.now in
     let b = c.place.new.nodes in
     let h = c.args.root.height in
-    let first = c.summary.result in
-    let second = c.summary-2.result in
+    let first = c.entry_for.result in
+    let second = c.entry_for-2.result in
     let least = least_of g.row.N in
     let es : List Entry = first ∷ second ∷ [] in
     let node : entries_of c.renew_hints.new.self ≡ es =
     c.renew_hints.ensures.entries ∙ c.insert.ensures.entries ∙ ap (λ l. take 1 l ++ second ∷ drop 1 l) c.of-node.ensures.entries in
     let right : AreChildren a least h es =
     All-cons (IsRight a least h) first (second ∷ [])
-    (right_entry a least h c.args.root.slot first c.summary.ensures.child c.requires.can_grow.first c.requires.can_grow.filled.0
-    (c.summary.ensures.tells h least c.requires.can_grow.first))
+    (right_entry a least h c.args.root.slot first c.entry_for.ensures.child c.requires.can_grow.first c.requires.can_grow.filled.0
+    (c.entry_for.ensures.tells h least c.requires.can_grow.first))
     (All-cons (IsRight a least h) second []
-    (right_entry a least h c.args.added second c.summary-2.ensures.child c.requires.can_grow.second c.requires.can_grow.filled.1
-    (c.summary-2.ensures.tells h least c.requires.can_grow.second))
+    (right_entry a least h c.args.added second c.entry_for-2.ensures.child c.requires.can_grow.second c.requires.can_grow.filled.1
+    (c.entry_for-2.ensures.tells h least c.requires.can_grow.second))
     (All-nil (IsRight a least h))) in
     let slots : slots_of a h es ≡ slots_in a h c.args.root.slot ++ slots_in a h c.args.added =
-    ap₂ (λ x y. slots_in a h x ++ (slots_in a h y ++ [])) c.summary.ensures.child c.summary-2.ensures.child
+    ap₂ (λ x y. slots_in a h x ++ (slots_in a h y ++ [])) c.entry_for.ensures.child c.entry_for-2.ensures.child
     ∙ ap (λ l. slots_in a h c.args.root.slot ++ l) (append-nil (slots_in a h c.args.added)) in
     let items : items_of a h es ≡ items_in a h c.args.root.slot ++ items_in a h c.args.added =
-    ap₂ (λ x y. items_in a h x ++ (items_in a h y ++ [])) c.summary.ensures.child c.summary-2.ensures.child
+    ap₂ (λ x y. items_in a h x ++ (items_in a h y ++ [])) c.entry_for.ensures.child c.entry_for-2.ensures.child
     ∙ ap (λ l. items_in a h c.args.root.slot ++ l) (append-nil (items_in a h c.args.added)) in
     let moves = moves_if_changes a b [] (c.place.result ∷ []) c.place.ensures.changes in
     let new =

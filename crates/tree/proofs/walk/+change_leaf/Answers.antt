@@ -6,7 +6,7 @@ use Rattle.tree.specs.Node.{entries_of, hints_of, items_of_run}
 use Rattle.tree.specs.Path.{index_in, first_key}
 use Rattle.tree.specs.Subtree.{entries_at, items_in, slots_in}
 use Rattle.tree.specs.Tree.{least_of}
-use Rattle.tree.specs.Replace.{child_at, items_of, items_with, IsMendedAt}
+use Rattle.tree.specs.Replace.{child_at, items_of, items_with, IsRebalancedAt}
 use Rattle.tree.specs.Walk.{CanChange, CanSearch, IsChanged, IsChangedWithin, added_by}
 use Rattle.tree.proofs.callers.Times.{distinct_if_once}
 use Rattle.tree.proofs.Changing.{moves_if_changes}
@@ -15,12 +15,12 @@ use Rattle.tree.proofs.Hinted.{hinted_at}
 use Rattle.tree.proofs.Placing.{entries_from_header}
 use Rattle.tree.proofs.Found.{read_cut, found, found_subtree, found_cut}
 use Rattle.tree.proofs.Replacing.{child_right, child_few}
-use Rattle.tree.proofs.Stepping.{IsAt, is_at, items_split, live_beside, read_beside, family_at, stepped_mended, stepped_linked}
+use Rattle.tree.proofs.Stepping.{IsAt, is_at, items_split, live_beside, read_beside, family_at, stepped_rebalanced, stepped_linked}
 use Rattle.tree.proofs.Walking.{first_if, within_at, raised_at}
 use Rattle.tree.proofs.Walked.{within_leaf, same_above, changed_above, raised_too, linked_above}
 use Rattle.tree.proofs.walk.+change_leaf.Given.{Over}
 use Rattle.tree.proofs.walk.+change_leaf.Goals as goal
-use Rattle.tree.proofs.walk.+change_leaf.Goals.{After-index-entries-step, After-mend_written, After-mend_child}
+use Rattle.tree.proofs.walk.+change_leaf.Goals.{After-index-entries-step, After-raise_entry, After-rebalance_child}
 
 pub change-requires : goal.change-requires
 change-requires g t c =
@@ -154,9 +154,9 @@ change_leaf-requires g t c κs within =
       (search rules, (search rules, (search rules, (search rules, (can, (search_on, (wanted, c.requires.none_taken))))))),
     )
 
-pub mend_written-requires : goal.mend_written-requires
-mend_written-requires g t c =
-    let at = at_child g t (goal.at.mend_written-requires g t c).After-index-entries-step in
+pub raise_entry-requires : goal.raise_entry-requires
+raise_entry-requires g t c =
+    let at = at_child g t (goal.at.raise_entry-requires g t c).After-index-entries-step in
     let a = c.args.nodes.now in
     let b = c.change_leaf.new.nodes in
     let L = least_of g.row.N in
@@ -187,9 +187,9 @@ mend_written-requires g t c =
       },
     )
 
-pub mend_child-requires : goal.mend_child-requires
-mend_child-requires g t c =
-    let at = at_child g t (goal.at.mend_child-requires g t c).After-index-entries-step in
+pub rebalance_child-requires : goal.rebalance_child-requires
+rebalance_child-requires g t c =
+    let at = at_child g t (goal.at.rebalance_child-requires g t c).After-index-entries-step in
     let a = c.args.nodes.now in
     let b = c.change_leaf.new.nodes in
     let L = least_of g.row.N in
@@ -220,9 +220,9 @@ mend_child-requires g t c =
       },
     )
 
-pub link_child-requires : goal.link_child-requires
-link_child-requires g t c =
-    let at = at_child g t (goal.at.link_child-requires g t c).After-index-entries-step in
+pub insert_child-requires : goal.insert_child-requires
+insert_child-requires g t c =
+    let at = at_child g t (goal.at.insert_child-requires g t c).After-index-entries-step in
     let a = c.args.nodes.now in
     let b = c.change_leaf.new.nodes in
     let L = least_of g.row.N in
@@ -305,15 +305,15 @@ returns-in-Same-clause-items g t c =
     (subst (λ b. items_in b n slot ≡ items_of a h (take i es) ++ (items_in b h x ++ items_of a h (drop (i + 1) es)))
     (sym (c.in-Same.ensures.changed.same refl)) split) c.in-Same.ensures.items
 
--- the node mended where an item of one version came in
-mended_written : (g : Over) (t : ℕ) (c : After-mend_written g t)
+-- the node rebalanced where an item of one version came in
+raised_entry : (g : Over) (t : ℕ) (c : After-raise_entry g t)
     → IsAt c.args.nodes.now (least_of g.row.N) (c.args.height - 1) c.args.slot
     (g.C.Target.Probe.lets_pass (g.C.LeafChange.target_of c.args.change.now))
     (entries_of c.header_ref-node.result.now) c.step-step.result.index
     (get_or c.entries-entries.result.now c.step-step.result.index c.index-entries-step.result).child
     c.index-entries-step.result
-    → IsMendedAt c.change_leaf.new.nodes c.mend_written.new.nodes (least_of g.row.N) (c.args.height - 1) c.args.slot
-mended_written g t c at =
+    → IsRebalancedAt c.change_leaf.new.nodes c.raise_entry.new.nodes (least_of g.row.N) (c.args.height - 1) c.args.slot
+raised_entry g t c at =
     let a = c.args.nodes.now in
     let b = c.change_leaf.new.nodes in
     let L = least_of g.row.N in
@@ -332,8 +332,8 @@ mended_written g t c at =
     let read = read_beside a b L h slot passes es i x d (slots_in b h x) at moves in
     let family = family_at a b b L n h slot passes es i x d next at put.subtree moves in
     let fits : SFits w64 version = search rules in
-    let mended = rw (to_z-of_z w64 version fits) at c.mend_written.ensures.mended in
-    mended h family (raised_at a L n h slot passes es i x d next at b version read (put.raised version refl))
+    let rebalanced = rw (to_z-of_z w64 version fits) at c.raise_entry.ensures.rebalanced in
+    rebalanced h family (raised_at a L n h slot passes es i x d next at b version read (put.raised version refl))
 
 pub returns-in-Raised-clause-changed : goal.returns-in-Raised-clause-changed
 returns-in-Raised-clause-changed g t c =
@@ -342,11 +342,11 @@ returns-in-Raised-clause-changed g t c =
     let put = c.in-Raised.ensures.changed in
     let fits : SFits w64 c.in-Raised.version = search rules in
     rw (to_z-of_z w64 c.in-Raised.version fits) (raised_too _ _ _ _ _ _ _ _ _ _ _ (one_up c.args.height c.if-height-eq0.false) at c.requires.changeable
-    c.mend_written.new.nodes
-    (subst (λ p. AreHinted (g.C.Target.Probe.bytes p) (hints_of c.mend_written.new.nodes))
-    (c.target-in-Raised.ensures.target ∙ c.in-Raised.ensures.target) c.mend_written.ensures.rest.hinted)
-    put.subtree put.changes put.taken (mended_written g t here.After-mend_written at) c.mend_written.ensures.rest.few_less
-    c.mend_written.ensures.rest.spare c.in-Raised.version put)
+    c.raise_entry.new.nodes
+    (subst (λ p. AreHinted (g.C.Target.Probe.bytes p) (hints_of c.raise_entry.new.nodes))
+    (c.target-in-Raised.ensures.target ∙ c.in-Raised.ensures.target) c.raise_entry.ensures.rest.hinted)
+    put.subtree put.changes put.taken (raised_entry g t here.After-raise_entry at) c.raise_entry.ensures.rest.few_less
+    c.raise_entry.ensures.rest.spare c.in-Raised.version put)
 
 pub returns-in-Raised-clause-items : goal.returns-in-Raised-clause-items
 returns-in-Raised-clause-items g t c =
@@ -354,22 +354,22 @@ returns-in-Raised-clause-items g t c =
     let at = at_child g t here.After-index-entries-step in
     let put = c.in-Raised.ensures.changed in
     let moves = moves_if_changes _ _ _ _ put.changes in
-    let step = stepped_mended _ _ _ _ _ _ _ _ _ _ _ _ (one_up c.args.height c.if-height-eq0.false) at put.subtree
-    moves (mended_written g t here.After-mend_written at) in
+    let step = stepped_rebalanced _ _ _ _ _ _ _ _ _ _ _ _ (one_up c.args.height c.if-height-eq0.false) at put.subtree
+    moves (raised_entry g t here.After-raise_entry at) in
     within g t here.After-index-entries-step _ _ _ _ _ c.if-place.below-true c.if-place.below-false c.key_at.ensures.key step.items c.in-Raised.ensures.items
 
--- the node mended where the child has other items
-mended : (g : Over) (t : ℕ) (c : After-mend_child g t)
+-- the node rebalanced where the child has other items
+rebalanced : (g : Over) (t : ℕ) (c : After-rebalance_child g t)
     → IsAt c.args.nodes.now (least_of g.row.N) (c.args.height - 1) c.args.slot
     (g.C.Target.Probe.lets_pass (g.C.LeafChange.target_of c.args.change.now))
     (entries_of c.header_ref-node.result.now) c.step-step.result.index
     (get_or c.entries-entries.result.now c.step-step.result.index c.index-entries-step.result).child
     c.index-entries-step.result
-    → IsMendedAt c.change_leaf.new.nodes c.mend_child.new.nodes (least_of g.row.N) (c.args.height - 1) c.args.slot
-mended g t c at =
+    → IsRebalancedAt c.change_leaf.new.nodes c.rebalance_child.new.nodes (least_of g.row.N) (c.args.height - 1) c.args.slot
+rebalanced g t c at =
     let put = c.in-Changed.ensures.changed in
-    c.mend_child.ensures.mended (c.args.height - 1)
-    (family_at _ _ c.mend_child.new.nodes _ _ _ _ _ _ _ _ _ (one_up c.args.height c.if-height-eq0.false) at put.subtree
+    c.rebalance_child.ensures.rebalanced (c.args.height - 1)
+    (family_at _ _ c.rebalance_child.new.nodes _ _ _ _ _ _ _ _ _ (one_up c.args.height c.if-height-eq0.false) at put.subtree
     (moves_if_changes _ _ _ _ put.changes))
 
 pub returns-in-Changed-clause-changed : goal.returns-in-Changed-clause-changed
@@ -378,11 +378,11 @@ returns-in-Changed-clause-changed g t c =
     let at = at_child g t here.After-index-entries-step in
     let put = c.in-Changed.ensures.changed in
     changed_above _ _ _ _ _ _ _ _ _ _ _ (one_up c.args.height c.if-height-eq0.false) at c.requires.changeable
-    c.mend_child.new.nodes
-    (subst (λ p. AreHinted (g.C.Target.Probe.bytes p) (hints_of c.mend_child.new.nodes))
-    (c.target-in-Changed.ensures.target ∙ c.in-Changed.ensures.target) c.mend_child.ensures.rest.hinted)
-    put.subtree put.changes put.taken (mended g t here.After-mend_child at) c.mend_child.ensures.rest.few_less
-    c.mend_child.ensures.rest.spare
+    c.rebalance_child.new.nodes
+    (subst (λ p. AreHinted (g.C.Target.Probe.bytes p) (hints_of c.rebalance_child.new.nodes))
+    (c.target-in-Changed.ensures.target ∙ c.in-Changed.ensures.target) c.rebalance_child.ensures.rest.hinted)
+    put.subtree put.changes put.taken (rebalanced g t here.After-rebalance_child at) c.rebalance_child.ensures.rest.few_less
+    c.rebalance_child.ensures.rest.spare
 
 pub returns-in-Changed-clause-items : goal.returns-in-Changed-clause-items
 returns-in-Changed-clause-items g t c =
@@ -390,8 +390,8 @@ returns-in-Changed-clause-items g t c =
     let at = at_child g t here.After-index-entries-step in
     let put = c.in-Changed.ensures.changed in
     let moves = moves_if_changes _ _ _ _ put.changes in
-    let step = stepped_mended _ _ _ _ _ _ _ _ _ _ _ _ (one_up c.args.height c.if-height-eq0.false) at put.subtree
-    moves (mended g t here.After-mend_child at) in
+    let step = stepped_rebalanced _ _ _ _ _ _ _ _ _ _ _ _ (one_up c.args.height c.if-height-eq0.false) at put.subtree
+    moves (rebalanced g t here.After-rebalance_child at) in
     within g t here.After-index-entries-step _ _ _ _ _ c.if-place.below-true c.if-place.below-false c.key_at.ensures.key step.items c.in-Changed.ensures.items
 
 pub returns-in-Some-clause-changed : goal.returns-in-Some-clause-changed
@@ -399,8 +399,8 @@ returns-in-Some-clause-changed g t c =
     let at = at_child g t (goal.at.returns-in-Some-clause-changed g t c).After-index-entries-step in
     let put = c.in-Some.ensures in
     linked_above _ _ _ _ _ _ _ _ _ _ _ (one_up c.args.height c.if-height-eq0.false) at c.requires.changeable
-    c.link_child.new.nodes
-    (subst (λ p. AreHinted (g.C.Target.Probe.bytes p) (hints_of c.link_child.new.nodes))
+    c.insert_child.new.nodes
+    (subst (λ p. AreHinted (g.C.Target.Probe.bytes p) (hints_of c.insert_child.new.nodes))
     (c.target-in-Split.ensures.target ∙ c.in-Split.ensures.target) put.stored.hinted)
     c.in-Split.added c.in-Split.ensures.changed put.stored.taken (Some c.in-Some.added) put.linked put.left put.right put.stored.live
     put.stored.live_added put.stored.changes
@@ -421,8 +421,8 @@ returns-in-None-clause-changed g t c =
     let at = at_child g t (goal.at.returns-in-None-clause-changed g t c).After-index-entries-step in
     let put = c.in-None.ensures in
     linked_above _ _ _ _ _ _ _ _ _ _ _ (one_up c.args.height c.if-height-eq0.false) at c.requires.changeable
-    c.link_child.new.nodes
-    (subst (λ p. AreHinted (g.C.Target.Probe.bytes p) (hints_of c.link_child.new.nodes))
+    c.insert_child.new.nodes
+    (subst (λ p. AreHinted (g.C.Target.Probe.bytes p) (hints_of c.insert_child.new.nodes))
     (c.target-in-Split.ensures.target ∙ c.in-Split.ensures.target) put.stored.hinted)
     c.in-Split.added c.in-Split.ensures.changed put.stored.taken None put.linked put.left put.right put.stored.live put.stored.live_added
     put.stored.changes

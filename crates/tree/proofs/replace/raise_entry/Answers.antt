@@ -12,9 +12,9 @@ use Rattle.tree.proofs.Hinted.{hinted_at, hinted_put}
 use Rattle.tree.proofs.LeafChange.{hint_stays}
 use Rattle.tree.proofs.Placing.{entries_from_header, put_entries, put_record_is, put_others}
 use Rattle.tree.proofs.Sharing.{set_one}
-use Rattle.tree.proofs.Mending.{live_subtree, mended_by_summary}
-use Rattle.tree.proofs.Storing.{mended_at}
-use Rattle.tree.proofs.replace.mend_written.Goals as goal
+use Rattle.tree.proofs.Rebalancing.{live_subtree, rebalanced_by_entry}
+use Rattle.tree.proofs.Storing.{rebalanced_at}
+use Rattle.tree.proofs.replace.raise_entry.Goals as goal
 
 pub header_ref-requires-else-entry-version : goal.header_ref-requires-else-entry-version
 header_ref-requires-else-entry-version g c =
@@ -26,14 +26,14 @@ header_ref-requires-else-entry-version g c =
     let d_is : d ≡ get_or es i d =
     c.index-entries-index.is ∙ ap (λ (l : List Entry). get_or l i d) (c.entries.ensures.entries ∙ sym read) in
     let x_is : d.child ≡ (get_or es i d).child = ap (λ (e : Entry). e.child) d_is in
-    let f = c.requires.can_mend.family in
+    let f = c.requires.can_rebalance.family in
     record {
       live = live_subtree a (least_of g.row.N) f.0 d.child
-          (subst (IsSubtree a (least_of g.row.N) f.0) (sym x_is) (f.1.family.below i d c.requires.can_mend.within));
+          (subst (IsSubtree a (least_of g.row.N) f.0) (sym x_is) (f.1.family.below i d c.requires.can_rebalance.within));
     }
 
-pub returns-clause-mended : goal.returns-clause-mended
-returns-clause-mended g c height family tells =
+pub returns-clause-rebalanced : goal.returns-clause-rebalanced
+returns-clause-rebalanced g c height family tells =
     let a = c.args.nodes.now in
     let slot = c.args.slot in
     let es = entries_at a slot in
@@ -53,7 +53,7 @@ returns-clause-mended g c height family tells =
     subst (λ n. n ≤ length (entries_at a x)) c.least.ensures.least (omega (arith, len, c.if-len-least.false)) in
     let t : Entry = record d { version = version } in
     let below : d.version ≤ℤ version = grind (arith, ints, c.if-entry-version.false) in
-    let there : slice_get es i ≡ Some d = slice_get-get_or es i d c.requires.can_mend.within ∙ ap Some (sym d_is) in
+    let there : slice_get es i ≡ Some d = slice_get-get_or es i d c.requires.can_rebalance.within ∙ ap Some (sym d_is) in
     let told : Tells t (items_in a height x) = tells d there below in
     let node = c.set.new.self in
     let here = entries_from_header a slot c.header_mut.result.now c.header_mut.ensures.header in
@@ -61,13 +61,13 @@ returns-clause-mended g c height family tells =
     let now_is : entries_of node ≡ slice_set es i t =
     c.set.ensures.entries ∙ ap set_to (to_z-of_z w64 version c.ranges.version)
     ∙ ap (λ (l : List Entry). slice_set l i t) (sym here) in
-    let parts = now_is ∙ set_one es i t c.requires.can_mend.within in
-    let mended =
-    mended_by_summary a L height es (entries_of node) i x d t c.requires.can_mend.within (ap (λ (e : Entry). e.child) d_is)
-    family.family c.requires.can_mend.keyless refl (λ subtree. told) filled parts in
+    let parts = now_is ∙ set_one es i t c.requires.can_rebalance.within in
+    let rebalanced =
+    rebalanced_by_entry a L height es (entries_of node) i x d t c.requires.can_rebalance.within (ap (λ (e : Entry). e.child) d_is)
+    family.family c.requires.can_rebalance.keyless refl (λ subtree. told) filled parts in
     let some : 1 ≤ length (entries_of node) =
     omega (arith, ap length parts, length-append (take i es) (t ∷ drop (i + 1) es)) in
-    mended_at a a (with_header a slot node) L height slot i node (entries_of node) c.requires.can_mend.live family mended some
+    rebalanced_at a a (with_header a slot node) L height slot i node (entries_of node) c.requires.can_rebalance.live family rebalanced some
     refl refl
 
 pub returns-clause-rest : goal.returns-clause-rest
@@ -88,20 +88,20 @@ returns-clause-rest g c =
     c.index-entries-index.is ∙ ap (λ (l : List Entry). get_or l i d) (c.entries.ensures.entries ∙ sym read ∙ here) in
     let now_is : entries_of node ≡ slice_set es i t =
     c.set.ensures.entries ∙ ap (λ (l : List Entry). slice_set l i t) (sym here) in
-    let parts = put_entries a b slot node refl ∙ now_is ∙ set_one es i t c.requires.can_mend.within in
+    let parts = put_entries a b slot node refl ∙ now_is ∙ set_one es i t c.requires.can_rebalance.within in
     let hinted =
     hint_stays bytes old node i d t c.set.ensures.hint c.set.ensures.entries (ap (λ (e : Entry). e.key) d_is)
-    (hinted_at bytes a slot old c.requires.can_mend.hinted c.header_mut.ensures.header) in
+    (hinted_at bytes a slot old c.requires.can_rebalance.hinted c.header_mut.ensures.header) in
     record {
       few_less = omega (
         arith,
-        c.requires.can_mend.within,
+        c.requires.can_rebalance.within,
         ap length parts,
         length-append (take i es) (t ∷ drop (i + 1) es),
-        length-take-le i es (omega (arith, c.requires.can_mend.within)),
+        length-take-le i es (omega (arith, c.requires.can_rebalance.within)),
         length-drop (i + 1) es,
       );
       spare = search rules;
-      hinted = hinted_put bytes a b slot node c.requires.can_mend.hinted
+      hinted = hinted_put bytes a b slot node c.requires.can_rebalance.hinted
           (ap (option_map (λ r. r.header)) (put_record_is a b slot node refl)) hinted (put_others a b slot node refl);
     }

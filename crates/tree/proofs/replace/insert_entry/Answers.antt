@@ -10,7 +10,7 @@ use Rattle.tree.proofs.Sharing.{child_is, set_inserted}
 use Rattle.std.specs.List.{All}
 use Rattle.tree.specs.Hints.{IsKnown}
 use Rattle.tree.proofs.KnownKeys.{keys_set_inserted}
-use Rattle.tree.proofs.replace.link.Goals as goal
+use Rattle.tree.proofs.replace.insert_entry.Goals as goal
 
 with_is : {N : ℕ} (node : Node N) (o : Option (Node N)) (es : List Entry)
     → MatchOption o (entries_of node ≡ es) (λ right. entries_of node ++ entries_of right ≡ es) → entries_with node o ≡ es
@@ -25,9 +25,9 @@ returns-clause-linked g c =
     let d = c.index-entries-index.result in
     let x = (get_or c.entries.result.now i d).child in
     let x_is : x ≡ child_at es i =
-    ap (λ (l : List Entry). (get_or l i d).child) c.entries.ensures.entries ∙ sym (child_is es i d c.requires.can_link.within) in
-    let t = c.summary.result in
-    let u = c.summary-2.result in
+    ap (λ (l : List Entry). (get_or l i d).child) c.entries.ensures.entries ∙ sym (child_is es i d c.requires.can_insert.within) in
+    let t = c.entry_for.result in
+    let u = c.entry_for-2.result in
     let new = c.insert_or_split.new.self in
     record {
       first = t;
@@ -35,19 +35,19 @@ returns-clause-linked g c =
       entries = with_is new c.insert_or_split.result _
           (subst (λ (l : List Entry). MatchOption c.insert_or_split.result (entries_of new ≡ take (i + 1) l ++ u ∷ drop (i + 1) l)
           (λ right. entries_of new ++ entries_of right ≡ take (i + 1) l ++ u ∷ drop (i + 1) l)) c.set.ensures.entries
-          c.insert_or_split.ensures.entries) ∙ set_inserted es i t u c.requires.can_link.within;
-      first_child = c.summary.ensures.child ∙ x_is;
-      first_tells = subst (λ z. (height least : ℕ) → IsSubtree a least height z → Tells t (items_in a height z)) x_is c.summary.ensures.tells;
-      second_child = c.summary-2.ensures.child;
-      second_tells = c.summary-2.ensures.tells;
+          c.insert_or_split.ensures.entries) ∙ set_inserted es i t u c.requires.can_insert.within;
+      first_child = c.entry_for.ensures.child ∙ x_is;
+      first_tells = subst (λ z. (height least : ℕ) → IsSubtree a least height z → Tells t (items_in a height z)) x_is c.entry_for.ensures.tells;
+      second_child = c.entry_for-2.ensures.child;
+      second_tells = c.entry_for-2.ensures.tells;
     }
 
 pub returns-clause-known : goal.returns-clause-known
 returns-clause-known g c bytes hinted known =
     let es = entries_of c.args.node.now in
     let i = c.args.index in
-    let t = c.summary.result in
-    let u = c.summary-2.result in
+    let t = c.entry_for.result in
+    let u = c.entry_for-2.result in
     let new = c.insert_or_split.new.self in
     let then = set es i t in
     let entries : entries_with new c.insert_or_split.result ≡ take (i + 1) then ++ u ∷ drop (i + 1) then =
@@ -56,4 +56,4 @@ returns-clause-known g c bytes hinted known =
     (λ right. entries_of new ++ entries_of right ≡ take (i + 1) l ++ u ∷ drop (i + 1) l)) c.set.ensures.entries
     c.insert_or_split.ensures.entries) in
     subst (λ l. All (IsKnown bytes) (keys_of l)) (sym entries)
-    (keys_set_inserted (IsKnown bytes) es i t u known (c.summary.ensures.known bytes hinted) (c.summary-2.ensures.known bytes hinted))
+    (keys_set_inserted (IsKnown bytes) es i t u known (c.entry_for.ensures.known bytes hinted) (c.entry_for-2.ensures.known bytes hinted))

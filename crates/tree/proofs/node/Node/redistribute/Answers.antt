@@ -1,7 +1,7 @@
 use Rattle.std.proofs.Common.{◌/◌, ◌+◌, ◌++◌, ◌∙◌, sym, ap, append_assoc, take, drop}
 use Rattle.std.proofs.lemmas.List.{take-append-drop}
 use Rattle.tree.specs.Node.{entries_of}
-use Rattle.tree.proofs.node.Node.even_out.Goals as goal
+use Rattle.tree.proofs.node.Node.redistribute.Goals as goal
 
 pub returns-then-self-half-clause-entries : goal.returns-then-self-half-clause-entries
 returns-then-self-half-clause-entries g c =

@@ -7,43 +7,43 @@ use Rattle.tree.specs.Hints.{IsKnown}
 use Rattle.tree.specs.Node.{entries_of, keys_of}
 use Rattle.tree.proofs.Hinted.{hinted_at, hinted_released}
 use Rattle.tree.proofs.KnownKeys.{keys_of_both, known_in, hinted_header}
-use Rattle.tree.proofs.mend.join.Goals as goal
+use Rattle.tree.proofs.rebalance.merge.Goals as goal
 
 pub release-requires : goal.release-requires
 release-requires g c =
-    let joined = c.take_hints.new.self in
+    let merged = c.take_hints.new.self in
     let a = c.args.nodes.now in
     let b = c.set_header.new.self in
     record {
       live = live_same a b c.args.second
-          (put_others a b c.args.first joined c.set_header.ensures.replaced c.args.second (λ same. c.requires.two.apart (sym same)))
+          (put_others a b c.args.first merged c.set_header.ensures.replaced c.args.second (λ same. c.requires.two.apart (sym same)))
           c.requires.two.live_second;
     }
 
 pub returns-clause-entries : goal.returns-clause-entries
 returns-clause-entries g c =
-    let joined = c.take_hints.new.self in
+    let merged = c.take_hints.new.self in
     let a = c.args.nodes.now in
     let b = c.set_header.new.self in
     entries_same b c.release.new.self c.args.first (c.release.ensures.others c.args.first c.requires.two.apart)
-    ∙ put_entries a b c.args.first joined c.set_header.ensures.replaced
+    ∙ put_entries a b c.args.first merged c.set_header.ensures.replaced
     ∙ c.take_hints.ensures.entries
     ∙ c.append.ensures.entries
-    ∙ ap₂ (λ xs ys. xs ++ ys) (sym (entries_from_header a c.args.first c.header-joined.result c.header-joined.ensures.header))
+    ∙ ap₂ (λ xs ys. xs ++ ys) (sym (entries_from_header a c.args.first c.header-merged.result c.header-merged.ensures.header))
     (sym (entries_from_header a c.args.second c.header_ref.result.now c.header_ref.ensures.header))
 
 pub returns-clause-changes : goal.returns-clause-changes
 returns-clause-changes g c =
-    let joined = c.take_hints.new.self in
+    let merged = c.take_hints.new.self in
     let a = c.args.nodes.now in
     let b = c.set_header.new.self in
     let d = c.release.new.self in
     let x = c.args.first in
     let y = c.args.second in
-    let put = put_moves a b x joined c.set_header.ensures.replaced c.requires.two.live_first c.requires.two.keyless in
-    let live_x = put_live a b x joined c.set_header.ensures.replaced in
+    let put = put_moves a b x merged c.set_header.ensures.replaced c.requires.two.live_first c.requires.two.keyless in
+    let live_x = put_live a b x merged c.set_header.ensures.replaced in
     let live_y =
-    live_same a b y (put_others a b x joined c.set_header.ensures.replaced y (λ same. c.requires.two.apart (sym same)))
+    live_same a b y (put_others a b x merged c.set_header.ensures.replaced y (λ same. c.requires.two.apart (sym same)))
     c.requires.two.live_second in
     let gone = moves_released b d y put.keyless live_y c.release.ensures.released c.release.ensures.others
     (released_spare b d y live_y put.keyless c.release.ensures.spare) in
@@ -55,14 +55,14 @@ pub take_hints-requires : goal.take_hints-requires
 take_hints-requires g c =
     let bytes = g.P.Probe.bytes c.args.probe.now in
     let a = c.args.nodes.now in
-    let one = c.header-joined.result in
+    let one = c.header-merged.result in
     let other = c.header_ref.result.now in (
       search rules,
       (
         hinted_at bytes a c.args.first c.header_ref-2.result.now c.requires.two.hinted c.header_ref-2.ensures.header,
         subst (λ l. All (IsKnown bytes) (keys_of l)) (sym c.append.ensures.entries)
             (keys_of_both (IsKnown bytes) (entries_of one) (entries_of other)
-            (known_in bytes a c.args.first one c.requires.two.hinted c.header-joined.ensures.header)
+            (known_in bytes a c.args.first one c.requires.two.hinted c.header-merged.ensures.header)
             (known_in bytes a c.args.second other c.requires.two.hinted c.header_ref.ensures.header)),
       ),
     )
@@ -70,9 +70,9 @@ take_hints-requires g c =
 pub returns-clause-hinted : goal.returns-clause-hinted
 returns-clause-hinted g c =
     let bytes = g.P.Probe.bytes c.args.probe.now in
-    let joined = c.take_hints.new.self in
+    let merged = c.take_hints.new.self in
     let a = c.args.nodes.now in
     let b = c.set_header.new.self in
     hinted_released bytes b c.release.new.self c.args.second
-    (hinted_header bytes a b c.args.first joined c.set_header.ensures.replaced c.requires.two.hinted c.take_hints.ensures.hinted)
+    (hinted_header bytes a b c.args.first merged c.set_header.ensures.replaced c.requires.two.hinted c.take_hints.ensures.hinted)
     c.release.ensures.released c.release.ensures.others

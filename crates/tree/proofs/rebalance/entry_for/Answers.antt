@@ -13,7 +13,7 @@ use Rattle.std.specs.List.{All}
 use Rattle.tree.specs.Hints.{IsKnown}
 use Rattle.tree.proofs.Hinted.{known_at}
 use Rattle.tree.proofs.KnownKeys.{key_of_one}
-use Rattle.tree.proofs.mend.summary.Goals as goal
+use Rattle.tree.proofs.rebalance.entry_for.Goals as goal
 
 first_and_rest : (xs : List Entry) (x : Entry) → 0 < length xs → x ≡ get_or xs 0 x → xs ≡ x ∷ drop 1 xs
 first_and_rest [] x some is = absurd (omega arith)

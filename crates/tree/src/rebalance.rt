@@ -4,11 +4,11 @@ ghost use Rattle.std.specs.Prelude.{◌≡◌, ◌≢◌, ◌≤◌, ◌<◌, �
 ghost use Rattle.arena.specs.Arena.{IsLive, spare_of};
 ghost use Rattle.tree.specs.Item.{Tells};
 ghost use Rattle.tree.specs.Hints.{AreHinted, IsKnown, KeyBytes};
-ghost use Rattle.tree.specs.Mending.{AreTwo, CanMendIn, CanShare, LosesOneAtMost};
+ghost use Rattle.tree.specs.Rebalancing.{AreTwo, CanRebalanceIn, CanMerge, LosesOneAtMost};
 ghost use Rattle.tree.specs.Node.{entries_of, hints_of};
 ghost use Rattle.tree.specs.Subtree.{entries_at, items_in, IsSubtree};
 ghost use Rattle.tree.specs.Tree.{least_of};
-ghost use Rattle.tree.specs.Replace.{child_at, Changes, IsFamily, IsKeyless, IsMended};
+ghost use Rattle.tree.specs.Replace.{child_at, Changes, IsFamily, IsKeyless, IsRebalanced};
 
 use crate::entry::Entry;
 use crate::node::Node;
@@ -23,7 +23,7 @@ pub fn least(fan_out: usize) -> usize
 }
 
 /// Returns the entry for a child.
-pub fn summary<const N: usize>(nodes: &Arena<Node<N>>, child: Slot) -> Entry
+pub fn entry_for<const N: usize>(nodes: &Arena<Node<N>>, child: Slot) -> Entry
     requires live { IsLive nodes.now child }
     requires some { 0 < length (entries_at nodes.now child) }
     ensures child { result.child ≡ child }
@@ -38,70 +38,70 @@ pub fn summary<const N: usize>(nodes: &Arena<Node<N>>, child: Slot) -> Entry
     }
 }
 
-/// Makes the entry for a changed child right. A child with too few entries is joined with a neighbour, or takes some of
+/// Makes the entry for a changed child right. A child with too few entries is merged with a neighbour, or takes some of
 /// its entries.
-pub fn mend<P: Probe, const N: usize>(
+pub fn rebalance<P: Probe, const N: usize>(
     nodes: &mut Arena<Node<N>>,
     node: &mut Node<N>,
     index: usize,
     probe: &P,
 )
-    requires can_mend { CanMendIn (P.bytes probe.now) nodes.old (entries_of node.old) index }
-    ensures mended { (height : ℕ) → IsFamily nodes.old (least_of N) height (entries_of node.old) index (index + 1)
-        → IsMended nodes.old nodes.new (least_of N) height (entries_of node.old) (entries_of node.new) }
+    requires can_rebalance { CanRebalanceIn (P.bytes probe.now) nodes.old (entries_of node.old) index }
+    ensures rebalanced { (height : ℕ) → IsFamily nodes.old (least_of N) height (entries_of node.old) index (index + 1)
+        → IsRebalanced nodes.old nodes.new (least_of N) height (entries_of node.old) (entries_of node.new) }
     ensures rest { LosesOneAtMost (P.bytes probe.now) nodes.old nodes.new (entries_of node.old) (entries_of node.new) }
 {
     let child = node.entries()[index].child;
     if nodes.header_ref(child).len() >= least(N) {
-        node.set(index, summary(nodes, child));
+        node.set(index, entry_for(nodes, child));
         return;
     }
-    share(nodes, node, index.saturating_sub(1), probe);
+    merge_or_redistribute(nodes, node, index.saturating_sub(1), probe);
 }
 
-// Joins the children at an index and behind it, or shares their entries evenly where there are too many for one node.
-fn share<P: Probe, const N: usize>(
+// Merges the children at an index and behind it, or shares their entries evenly where there are too many for one node.
+fn merge_or_redistribute<P: Probe, const N: usize>(
     nodes: &mut Arena<Node<N>>,
     node: &mut Node<N>,
     index: usize,
     probe: &P,
 )
-    requires can_share { CanShare (P.bytes probe.now) nodes.old (entries_of node.old) index }
-    ensures mended { (height : ℕ) → IsFamily nodes.old (least_of N) height (entries_of node.old) index (index + 2)
-        → IsMended nodes.old nodes.new (least_of N) height (entries_of node.old) (entries_of node.new) }
+    requires can_merge { CanMerge (P.bytes probe.now) nodes.old (entries_of node.old) index }
+    ensures rebalanced { (height : ℕ) → IsFamily nodes.old (least_of N) height (entries_of node.old) index (index + 2)
+        → IsRebalanced nodes.old nodes.new (least_of N) height (entries_of node.old) (entries_of node.new) }
     ensures rest { LosesOneAtMost (P.bytes probe.now) nodes.old nodes.new (entries_of node.old) (entries_of node.new) }
 {
     let first = node.entries()[index].child;
     let second = node.entries()[index + 1].child;
     let count = nodes.header_ref(first).len() + nodes.header_ref(second).len();
     if count <= N {
-        join(nodes, first, second, probe);
-        node.set(index, summary(nodes, first));
+        merge(nodes, first, second, probe);
+        node.set(index, entry_for(nodes, first));
         node.remove(index + 1, index + 2);
         return;
     }
-    even_out(nodes, first, second, probe);
-    node.set(index, summary(nodes, first));
-    node.set(index + 1, summary(nodes, second));
+    redistribute(nodes, first, second, probe);
+    node.set(index, entry_for(nodes, first));
+    node.set(index + 1, entry_for(nodes, second));
 }
 
 // Puts the entries of the second node behind those of the first one, and releases the second.
-fn join<P: Probe, const N: usize>(nodes: &mut Arena<Node<N>>, first: Slot, second: Slot, probe: &P)
+fn merge<P: Probe, const N: usize>(nodes: &mut Arena<Node<N>>, first: Slot, second: Slot, probe: &P)
     requires two { AreTwo (P.bytes probe.now) nodes.old first second }
     requires room { length (entries_at nodes.old first) + length (entries_at nodes.old second) ≤ N }
     ensures entries { entries_at nodes.new first ≡ entries_at nodes.old first ++ entries_at nodes.old second }
     ensures changes { Changes nodes.old nodes.new (first ∷ second ∷ []) (first ∷ []) }
     ensures hinted { AreHinted (P.bytes probe.now) (hints_of nodes.new) }
 {
-    let mut joined = nodes.header(first);
-    joined.append(nodes.header_ref(second));
-    joined.take_hints(nodes.header_ref(first), probe);
-    nodes.set_header(first, joined);
+    let mut merged = nodes.header(first);
+    merged.append(nodes.header_ref(second));
+    merged.take_hints(nodes.header_ref(first), probe);
+    nodes.set_header(first, merged);
     nodes.release(second);
 }
 
 // Moves entries between two nodes so that they have as many, but for one.
-fn even_out<P: Probe, const N: usize>(
+fn redistribute<P: Probe, const N: usize>(
     nodes: &mut Arena<Node<N>>,
     first: Slot,
     second: Slot,
@@ -118,7 +118,7 @@ fn even_out<P: Probe, const N: usize>(
 {
     let mut left = nodes.header(first);
     let mut right = nodes.header(second);
-    left.even_out(&mut right);
+    left.redistribute(&mut right);
     left.take_hints(nodes.header_ref(first), probe);
     right.take_hints(nodes.header_ref(second), probe);
     nodes.set_header(first, left);

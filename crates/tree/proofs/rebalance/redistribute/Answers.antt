@@ -7,7 +7,7 @@ use Rattle.tree.specs.Hints.{IsKnown}
 use Rattle.tree.specs.Node.{entries_of, keys_of}
 use Rattle.tree.proofs.Hinted.{hinted_at}
 use Rattle.tree.proofs.KnownKeys.{keys_of_both, keys_in_front, keys_at_back, known_in, hinted_header}
-use Rattle.tree.proofs.mend.even_out.Goals as goal
+use Rattle.tree.proofs.rebalance.redistribute.Goals as goal
 
 pub set_header-requires-2 : goal.set_header-requires-2
 set_header-requires-2 g c =
@@ -33,7 +33,7 @@ returns-clause-entries g c =
     ∙ c.take_hints.ensures.entries)
     (put_entries b d c.args.second right c.set_header-2.ensures.replaced
     ∙ c.take_hints-2.ensures.entries)
-    ∙ c.even_out.ensures.entries
+    ∙ c.redistribute.ensures.entries
     ∙ ap₂ (λ xs ys. xs ++ ys) (sym (entries_from_header a c.args.first c.header-left.result c.header-left.ensures.header))
     (sym (entries_from_header a c.args.second c.header-right.result c.header-right.ensures.header))
 
@@ -48,7 +48,7 @@ returns-clause-left g c =
     (sym (entries_same b d c.args.first (put_others b d c.args.second right c.set_header-2.ensures.replaced c.args.first c.requires.two.apart)
     ∙ put_entries a b c.args.first left c.set_header.ensures.replaced
     ∙ c.take_hints.ensures.entries))
-    c.even_out.ensures.left
+    c.redistribute.ensures.left
 
 pub returns-clause-right : goal.returns-clause-right
 returns-clause-right g c =
@@ -57,7 +57,7 @@ returns-clause-right g c =
     let d = c.set_header-2.new.self in
     subst (λ xs. g.row.N ≤ 2 * length xs)
     (sym (put_entries b d c.args.second right c.set_header-2.ensures.replaced
-    ∙ c.take_hints-2.ensures.entries)) c.even_out.ensures.right
+    ∙ c.take_hints-2.ensures.entries)) c.redistribute.ensures.right
 
 pub returns-clause-changes : goal.returns-clause-changes
 returns-clause-changes g c =
@@ -87,8 +87,8 @@ take_hints-requires g c =
       search rules,
       (
         hinted_at bytes a c.args.first c.header_ref.result.now c.requires.two.hinted c.header_ref.ensures.header,
-        keys_in_front (IsKnown bytes) (entries_of c.even_out.new.self) (entries_of c.even_out.new.right)
-            (subst (λ l. All (IsKnown bytes) (keys_of l)) (sym c.even_out.ensures.entries)
+        keys_in_front (IsKnown bytes) (entries_of c.redistribute.new.self) (entries_of c.redistribute.new.right)
+            (subst (λ l. All (IsKnown bytes) (keys_of l)) (sym c.redistribute.ensures.entries)
             (keys_of_both (IsKnown bytes) (entries_of one) (entries_of other)
             (known_in bytes a c.args.first one c.requires.two.hinted c.header-left.ensures.header)
             (known_in bytes a c.args.second other c.requires.two.hinted c.header-right.ensures.header))),
@@ -104,8 +104,8 @@ take_hints-requires-2 g c =
       search rules,
       (
         hinted_at bytes a c.args.second c.header_ref-2.result.now c.requires.two.hinted c.header_ref-2.ensures.header,
-        keys_at_back (IsKnown bytes) (entries_of c.even_out.new.self) (entries_of c.even_out.new.right)
-            (subst (λ l. All (IsKnown bytes) (keys_of l)) (sym c.even_out.ensures.entries)
+        keys_at_back (IsKnown bytes) (entries_of c.redistribute.new.self) (entries_of c.redistribute.new.right)
+            (subst (λ l. All (IsKnown bytes) (keys_of l)) (sym c.redistribute.ensures.entries)
             (keys_of_both (IsKnown bytes) (entries_of one) (entries_of other)
             (known_in bytes a c.args.first one c.requires.two.hinted c.header-left.ensures.header)
             (known_in bytes a c.args.second other c.requires.two.hinted c.header-right.ensures.header))),

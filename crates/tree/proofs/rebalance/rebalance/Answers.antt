@@ -5,8 +5,8 @@ use Rattle.tree.specs.Subtree.{entries_at, IsSubtree}
 use Rattle.tree.specs.Tree.{least_of}
 use Rattle.tree.proofs.Placing.{entries_from_header}
 use Rattle.tree.proofs.Sharing.{set_one}
-use Rattle.tree.proofs.Mending.{live_subtree, mended_by_summary, widened, filled_pair}
-use Rattle.tree.proofs.mend.mend.Goals as goal
+use Rattle.tree.proofs.Rebalancing.{live_subtree, rebalanced_by_entry, widened, filled_pair}
+use Rattle.tree.proofs.rebalance.rebalance.Goals as goal
 
 pub header_ref-requires : goal.header_ref-requires
 header_ref-requires g c =
@@ -16,61 +16,61 @@ header_ref-requires g c =
     let d = c.index-entries-index.result in
     let x = (get_or c.entries.result.now i d).child in
     let x_is : x ≡ (get_or es i d).child = ap (λ (l : List Entry). (get_or l i d).child) c.entries.ensures.entries in
-    let f = c.requires.can_mend.family in
+    let f = c.requires.can_rebalance.family in
     record {
       live = live_subtree a (least_of g.row.N) f.0 x
-          (subst (IsSubtree a (least_of g.row.N) f.0) (sym x_is) (f.1.below i d c.requires.can_mend.within));
+          (subst (IsSubtree a (least_of g.row.N) f.0) (sym x_is) (f.1.below i d c.requires.can_rebalance.within));
     }
 
-pub returns-then-len-least-clause-mended : goal.returns-then-len-least-clause-mended
-returns-then-len-least-clause-mended g c height family =
+pub returns-then-len-least-clause-rebalanced : goal.returns-then-len-least-clause-rebalanced
+returns-then-len-least-clause-rebalanced g c height family =
     let a = c.args.nodes.now in
     let es = entries_of c.args.node.now in
     let i = c.args.index in
     let d = c.index-entries-index.result in
     let x = (get_or c.entries.result.now i d).child in
     let x_is : x ≡ (get_or es i d).child = ap (λ (l : List Entry). (get_or l i d).child) c.entries.ensures.entries in
-    let f = c.requires.can_mend.family in
-    let t = c.summary.result in
+    let f = c.requires.can_rebalance.family in
+    let t = c.entry_for.result in
     let len : length (entries_at a x) ≡ c.len.result =
     ap length (entries_from_header a x c.header_ref.result.now c.header_ref.ensures.header) ∙ sym c.len.ensures.len in
     let filled : least_of g.row.N ≤ length (entries_at a x) =
     subst (λ n. n ≤ length (entries_at a x)) c.least.ensures.least (omega (arith, len, c.if-len-least.true)) in
-    mended_by_summary a (least_of g.row.N) height es (entries_of c.set.new.self) i x d t c.requires.can_mend.within x_is family c.requires.can_mend.keyless
-    c.summary.ensures.child (c.summary.ensures.tells height (least_of g.row.N)) filled
-    (c.set.ensures.entries ∙ set_one es i t c.requires.can_mend.within)
+    rebalanced_by_entry a (least_of g.row.N) height es (entries_of c.set.new.self) i x d t c.requires.can_rebalance.within x_is family c.requires.can_rebalance.keyless
+    c.entry_for.ensures.child (c.entry_for.ensures.tells height (least_of g.row.N)) filled
+    (c.set.ensures.entries ∙ set_one es i t c.requires.can_rebalance.within)
 
-pub share-requires : goal.share-requires
-share-requires g c =
+pub merge_or_redistribute-requires : goal.merge_or_redistribute-requires
+merge_or_redistribute-requires g c =
     let a = c.args.nodes.now in
     let es = entries_of c.args.node.now in
     let i = c.args.index in
     let d = c.index-entries-index.result in
     let x = (get_or c.entries.result.now i d).child in
     let x_is : x ≡ (get_or es i d).child = ap (λ (l : List Entry). (get_or l i d).child) c.entries.ensures.entries in
-    let f = c.requires.can_mend.family in
+    let f = c.requires.can_rebalance.family in
     let j = c.saturating_sub.result in
     let j_is : j ≡ i - 1 = c.saturating_sub.ensures in (
       search rules,
       record {
-        fan_out = c.requires.can_mend.fan_out;
-        within = omega (arith, c.requires.can_mend.within, c.requires.can_mend.several, j_is);
-        filled = filled_pair a (least_of g.row.N) f.0 es i j d c.requires.can_mend.within c.requires.can_mend.several j_is f.1;
-        keyless = c.requires.can_mend.keyless;
-        family = (f.0, widened a (least_of g.row.N) f.0 es i j c.requires.can_mend.within c.requires.can_mend.several j_is f.1);
-        hinted = c.requires.can_mend.hinted;
+        fan_out = c.requires.can_rebalance.fan_out;
+        within = omega (arith, c.requires.can_rebalance.within, c.requires.can_rebalance.several, j_is);
+        filled = filled_pair a (least_of g.row.N) f.0 es i j d c.requires.can_rebalance.within c.requires.can_rebalance.several j_is f.1;
+        keyless = c.requires.can_rebalance.keyless;
+        family = (f.0, widened a (least_of g.row.N) f.0 es i j c.requires.can_rebalance.within c.requires.can_rebalance.several j_is f.1);
+        hinted = c.requires.can_rebalance.hinted;
       },
     )
 
-pub returns-clause-mended : goal.returns-clause-mended
-returns-clause-mended g c height family =
-    c.share.ensures.mended height
+pub returns-clause-rebalanced : goal.returns-clause-rebalanced
+returns-clause-rebalanced g c height family =
+    c.merge_or_redistribute.ensures.rebalanced height
     (widened c.args.nodes.now (least_of g.row.N) height (entries_of c.args.node.now) c.args.index c.saturating_sub.result
-    c.requires.can_mend.within c.requires.can_mend.several c.saturating_sub.ensures family)
+    c.requires.can_rebalance.within c.requires.can_rebalance.several c.saturating_sub.ensures family)
 
 pub returns-then-len-least-clause-rest : goal.returns-then-len-least-clause-rest
 returns-then-len-least-clause-rest g c = record {
-  few_less = omega (arith, ap length c.set.ensures.entries, length-set (entries_of c.args.node.now) c.args.index c.summary.result);
+  few_less = omega (arith, ap length c.set.ensures.entries, length-set (entries_of c.args.node.now) c.args.index c.entry_for.result);
   spare = search rules;
-  hinted = c.requires.can_mend.hinted;
+  hinted = c.requires.can_rebalance.hinted;
 }

@@ -1,4 +1,4 @@
--- A node above two neighbours that are joined or share their entries.
+-- A node above two neighbours that are merged or merge_or_redistribute their entries.
 use Rattle.std.proofs.Common.{◌≡◌, ◌≢◌, inl, inr, ℕ, ◌+◌, ◌-◌, ◌<◌, ◌≤◌, List, [], ◌∷◌, ◌++◌, length, get_or, take, drop, sym, ap, ap₂, subst, ◌∙◌, arith, append-nil}
 use Rattle.std.proofs.lemmas.List.Elements.{All-nil, All-cons, All-take, All-drop}
 use Rattle.std.proofs.lemmas.List.{take-take, drop-drop, get_or-take, get_or-drop, length-take-le, length-drop}
@@ -7,12 +7,12 @@ use Rattle.tree.specs.declared.entry.Entry.{Entry}
 use Rattle.tree.specs.declared.node.Node.{Node}
 use Rattle.tree.specs.Item.{Tells}
 use Rattle.tree.specs.Subtree.{entries_at, items_in, slots_in, IsSubtree}
-use Rattle.tree.specs.Replace.{child_at, items_of, slots_of, AreChildren, Changes, IsFamily, IsKeyless, IsMended}
+use Rattle.tree.specs.Replace.{child_at, items_of, slots_of, AreChildren, Changes, IsFamily, IsKeyless, IsRebalanced}
 use Rattle.tree.proofs.callers.Times.{none_or_some, times, times-append, once_if_distinct}
 use Rattle.tree.proofs.Frames.{IsRight, live_in, own_slot}
 use Rattle.tree.proofs.Changing.{Moves, moves_if_changes, moves_same}
 use Rattle.tree.proofs.Families.{times-slots_of}
-use Rattle.tree.proofs.Sharing.{child_is, around_one, around_two, joined, evened, mended}
+use Rattle.tree.proofs.Sharing.{child_is, around_one, around_two, merged, evened, rebalanced}
 
 module _ {N : ℕ} where
   pub right_child : (b : Arena (Node N)) (least height x : ℕ) (t : Entry) → t.child ≡ x → least ≤ length (entries_at b x)
@@ -77,16 +77,16 @@ module _ {N : ℕ} where
     items_are : items_in a height x ++ items_in a height y ≡ items_of a height (get_or was i d ∷ get_or was (i + 1) e ∷ [])
     items_are = ap₂ (λ l m. l ++ m) (ap (items_in a height) x_is) (ap (items_in a height) y_is ∙ sym (append-nil _))
 
-    pub mended_by_join : (t : Entry) → t.child ≡ x → (IsSubtree b least height x → Tells t (items_in b height x))
+    pub rebalanced_by_merge : (t : Entry) → t.child ≡ x → (IsSubtree b least height x → Tells t (items_in b height x))
         → Changes a b (x ∷ y ∷ []) (x ∷ []) → entries_at b x ≡ entries_at a x ++ entries_at a y
         → 1 ≤ length (entries_at b x) → least ≤ length (entries_at b x)
-        → now ≡ take i was ++ (t ∷ [] ++ drop (i + 2) was) → IsMended a b least height was now
-    mended_by_join t child tells changes here some filled now_is =
+        → now ≡ take i was ++ (t ∷ [] ++ drop (i + 2) was) → IsRebalanced a b least height was now
+    rebalanced_by_merge t child tells changes here some filled now_is =
         let p = pair a least height was i x y d e within x_is y_is family in
-        let j = joined a b least height x y (moves_if_changes a b (x ∷ y ∷ []) (x ∷ []) changes) here some p.first p.second p.few in
+        let j = merged a b least height x y (moves_if_changes a b (x ∷ y ∷ []) (x ∷ []) changes) here some p.first p.second p.few in
         let one_slots : slots_in b height x ≡ slots_of b height (t ∷ []) = ap (slots_in b height) (sym child) ∙ sym (append-nil _) in
         let one_items : items_of b height (t ∷ []) ≡ items_in b height x = append-nil _ ∙ ap (items_in b height) child in
-        mended a b least height i (i + 2) was now (get_or was i d ∷ get_or was (i + 1) e ∷ []) (t ∷ []) family
+        rebalanced a b least height i (i + 2) was now (get_or was i d ∷ get_or was (i + 1) e ∷ []) (t ∷ []) family
         (around_two was i d e within) now_is
         (All-cons (IsRight b least height) t [] (right_child b least height x t child filled j.subtree (tells j.subtree))
         (All-nil (IsRight b least height)))
@@ -94,19 +94,19 @@ module _ {N : ℕ} where
         (subst (λ l. Moves a b l (slots_of b height (t ∷ []))) slots_are
         (subst (Moves a b (slots_in a height x ++ slots_in a height y)) one_slots j.moves))
 
-    pub mended_by_sharing : (t u : Entry) → t.child ≡ x → u.child ≡ y → (IsSubtree b least height x → Tells t (items_in b height x))
+    pub rebalanced_by_sharing : (t u : Entry) → t.child ≡ x → u.child ≡ y → (IsSubtree b least height x → Tells t (items_in b height x))
         → (IsSubtree b least height y → Tells u (items_in b height y)) → Changes a b (x ∷ y ∷ []) (x ∷ y ∷ [])
         → entries_at b x ++ entries_at b y ≡ entries_at a x ++ entries_at a y → 1 ≤ length (entries_at b x)
         → 1 ≤ length (entries_at b y) → least ≤ length (entries_at b x) → least ≤ length (entries_at b y)
-        → now ≡ take i was ++ (t ∷ u ∷ [] ++ drop (i + 2) was) → IsMended a b least height was now
-    mended_by_sharing t u child_t child_u tells_t tells_u changes here some_x some_y filled_x filled_y now_is =
+        → now ≡ take i was ++ (t ∷ u ∷ [] ++ drop (i + 2) was) → IsRebalanced a b least height was now
+    rebalanced_by_sharing t u child_t child_u tells_t tells_u changes here some_x some_y filled_x filled_y now_is =
         let p = pair a least height was i x y d e within x_is y_is family in
         let v = evened a b least height x y (moves_if_changes a b (x ∷ y ∷ []) (x ∷ y ∷ []) changes) here some_x some_y p.first p.second p.few in
         let two_slots : slots_in b height x ++ slots_in b height y ≡ slots_of b height (t ∷ u ∷ []) =
         ap₂ (λ l m. l ++ m) (ap (slots_in b height) (sym child_t)) (ap (slots_in b height) (sym child_u) ∙ sym (append-nil _)) in
         let two_items : items_of b height (t ∷ u ∷ []) ≡ items_in b height x ++ items_in b height y =
         ap₂ (λ l m. l ++ m) (ap (items_in b height) child_t) (append-nil _ ∙ ap (items_in b height) child_u) in
-        mended a b least height i (i + 2) was now (get_or was i d ∷ get_or was (i + 1) e ∷ []) (t ∷ u ∷ []) family
+        rebalanced a b least height i (i + 2) was now (get_or was i d ∷ get_or was (i + 1) e ∷ []) (t ∷ u ∷ []) family
         (around_two was i d e within) now_is
         (All-cons (IsRight b least height) t (u ∷ []) (right_child b least height x t child_t filled_x v.first (tells_t v.first))
         (All-cons (IsRight b least height) u [] (right_child b least height y u child_u filled_y v.second (tells_u v.second))
@@ -116,11 +116,11 @@ module _ {N : ℕ} where
         (subst (Moves a b (slots_in a height x ++ slots_in a height y)) two_slots v.moves))
 
   -- the entry of a changed child is made right, and no node is changed
-  pub mended_by_summary : (a : Arena (Node N)) (least height : ℕ) (was now : List Entry) (i x : ℕ) (d t : Entry)
+  pub rebalanced_by_entry : (a : Arena (Node N)) (least height : ℕ) (was now : List Entry) (i x : ℕ) (d t : Entry)
       → i < length was → x ≡ (get_or was i d).child → IsFamily a least height was i (i + 1) → IsKeyless a → t.child ≡ x
       → (IsSubtree a least height x → Tells t (items_in a height x)) → least ≤ length (entries_at a x)
-      → now ≡ take i was ++ (t ∷ [] ++ drop (i + 1) was) → IsMended a a least height was now
-  mended_by_summary a least height was now i x d t within x_is family keyless child tells filled now_is =
+      → now ≡ take i was ++ (t ∷ [] ++ drop (i + 1) was) → IsRebalanced a a least height was now
+  rebalanced_by_entry a least height was now i x d t within x_is family keyless child tells filled now_is =
       let A = get_or was i d in
       let below : IsSubtree a least height x = subst (IsSubtree a least height) (sym x_is) (family.below i d within) in
       let same : slots_of a height (t ∷ []) ≡ slots_of a height (A ∷ []) = ap (λ z. slots_in a height z ++ []) (child ∙ x_is) in
@@ -131,7 +131,7 @@ module _ {N : ℕ} where
       let parts = times-slots_of a height s (take i was) (A ∷ [] ++ drop (i + 1) was) in
       let more = times-slots_of a height s (A ∷ []) (drop (i + 1) was) in
       omega arith in
-      mended a a least height i (i + 1) was now (A ∷ []) (t ∷ []) family (around_one was i d within) now_is
+      rebalanced a a least height i (i + 1) was now (A ∷ []) (t ∷ []) family (around_one was i d within) now_is
       (All-cons (IsRight a least height) t [] (right_child a least height x t child filled below (tells below)) (All-nil (IsRight a least height)))
       (ap (λ z. items_in a height z ++ []) (child ∙ x_is))
       (moves_same a (slots_of a height (A ∷ [])) (slots_of a height (t ∷ [])) keyless few (λ s. ap (times s) same) (ap length same))

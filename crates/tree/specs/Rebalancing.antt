@@ -34,7 +34,7 @@ module _ {N : ℕ} where
     pub hinted : AreHinted bytes (hints_of new)
 
   -- The node at a slot, of which the child at an index was split from the one that is added.
-  pub record CanLink (bytes : KeyBytes) (nodes : Arena (Node N)) (slot index added : ℕ) : Type 0 where
+  pub record CanInsertChild (bytes : KeyBytes) (nodes : Arena (Node N)) (slot index added : ℕ) : Type 0 where
     pub fan_out : 4 ≤ N
     pub live : IsLive nodes slot
     pub within : index < length (entries_at nodes slot)
@@ -45,7 +45,7 @@ module _ {N : ℕ} where
     pub hinted : AreHinted bytes (hints_of nodes)
 
   -- likewise the entries of a node
-  pub record CanLinkIn (nodes : Arena (Node N)) (entries : List Entry) (index added : ℕ) : Type 0 where
+  pub record CanInsertEntry (nodes : Arena (Node N)) (entries : List Entry) (index added : ℕ) : Type 0 where
     pub fan_out : 4 ≤ N
     pub within : index < length entries
     pub child : IsLive nodes (child_at entries index)
@@ -54,7 +54,7 @@ module _ {N : ℕ} where
     pub some_added : 0 < length (entries_at nodes added)
 
   -- the node at a slot, of which the child at an index has changed
-  pub record CanMend (bytes : KeyBytes) (nodes : Arena (Node N)) (slot index : ℕ) : Type 0 where
+  pub record CanRebalance (bytes : KeyBytes) (nodes : Arena (Node N)) (slot index : ℕ) : Type 0 where
     pub fan_out : 4 ≤ N
     pub live : IsLive nodes slot
     pub within : index < length (entries_at nodes slot)
@@ -64,7 +64,7 @@ module _ {N : ℕ} where
     pub hinted : AreHinted bytes (hints_of nodes)
 
   -- likewise the entries of a node
-  pub record CanMendIn (bytes : KeyBytes) (nodes : Arena (Node N)) (entries : List Entry) (index : ℕ) : Type 0 where
+  pub record CanRebalanceIn (bytes : KeyBytes) (nodes : Arena (Node N)) (entries : List Entry) (index : ℕ) : Type 0 where
     pub fan_out : 4 ≤ N
     pub within : index < length entries
     pub several : 2 ≤ length entries
@@ -72,8 +72,8 @@ module _ {N : ℕ} where
     pub family : (height : ℕ) × IsFamily nodes (least_of N) height entries index (index + 1)
     pub hinted : AreHinted bytes (hints_of nodes)
 
-  -- the entries of a node, of which the child at an index and the one behind it share what they have
-  pub record CanShare (bytes : KeyBytes) (nodes : Arena (Node N)) (entries : List Entry) (index : ℕ) : Type 0 where
+  -- the entries of a node, of which the child at an index and the one behind it are merged, or share their entries evenly
+  pub record CanMerge (bytes : KeyBytes) (nodes : Arena (Node N)) (entries : List Entry) (index : ℕ) : Type 0 where
     pub fan_out : 4 ≤ N
     pub within : index + 1 < length entries
     pub filled : least_of N

@@ -5,14 +5,14 @@ use Rattle.tree.specs.declared.entry.Entry.{Entry}
 use Rattle.tree.specs.Node.{entries_of}
 use Rattle.tree.specs.Subtree.{entries_at, IsSubtree}
 use Rattle.tree.specs.Tree.{least_of}
-use Rattle.tree.specs.Replace.{IsFamily, IsMended}
+use Rattle.tree.specs.Replace.{IsFamily, IsRebalanced}
 use Rattle.tree.proofs.KnownKeys.{children_known}
 use Rattle.tree.proofs.Hinted.{hinted_at, hinted_put}
 use Rattle.tree.proofs.Placing.{entries_from_header, put_entries, put_record_is, put_others}
 use Rattle.tree.proofs.Sharing.{set_one}
-use Rattle.tree.proofs.Mending.{live_subtree, mended_by_summary}
-use Rattle.tree.proofs.Storing.{mended_at}
-use Rattle.tree.proofs.replace.mend_child.Goals as goal
+use Rattle.tree.proofs.Rebalancing.{live_subtree, rebalanced_by_entry}
+use Rattle.tree.proofs.Storing.{rebalanced_at}
+use Rattle.tree.proofs.replace.rebalance_child.Goals as goal
 
 pub header_ref-requires-2 : goal.header_ref-requires-2
 header_ref-requires-2 g c =
@@ -24,14 +24,14 @@ header_ref-requires-2 g c =
     let read = entries_from_header a c.args.slot c.header_ref.result.now c.header_ref.ensures.header in
     let x_is : x ≡ (get_or es i d).child =
     ap (λ (l : List Entry). (get_or l i d).child) (c.entries.ensures.entries ∙ sym read) in
-    let f = c.requires.can_mend.family in
+    let f = c.requires.can_rebalance.family in
     record {
       live = live_subtree a (least_of g.row.N) f.0 x
-          (subst (IsSubtree a (least_of g.row.N) f.0) (sym x_is) (f.1.family.below i d c.requires.can_mend.within));
+          (subst (IsSubtree a (least_of g.row.N) f.0) (sym x_is) (f.1.family.below i d c.requires.can_rebalance.within));
     }
 
-pub returns-then-len-least-clause-mended : goal.returns-then-len-least-clause-mended
-returns-then-len-least-clause-mended g c height family =
+pub returns-then-len-least-clause-rebalanced : goal.returns-then-len-least-clause-rebalanced
+returns-then-len-least-clause-rebalanced g c height family =
     let a = c.args.nodes.now in
     let slot = c.args.slot in
     let es = entries_at a slot in
@@ -42,7 +42,7 @@ returns-then-len-least-clause-mended g c height family =
     let read = entries_from_header a slot c.header_ref.result.now c.header_ref.ensures.header in
     let x_is : x ≡ (get_or es i d).child =
     ap (λ (l : List Entry). (get_or l i d).child) (c.entries.ensures.entries ∙ sym read) in
-    let t = c.summary-entry.result in
+    let t = c.entry_for-entry.result in
     let len : length (entries_at a x) ≡ c.len.result =
     ap length (entries_from_header a x c.header_ref-2.result.now c.header_ref-2.ensures.header)
     ∙ sym c.len.ensures.len in
@@ -52,13 +52,13 @@ returns-then-len-least-clause-mended g c height family =
     let here = entries_from_header a slot c.header_mut.result.now c.header_mut.ensures.header in
     let now_is : entries_of node ≡ slice_set es i t =
     c.set_hinted.ensures.entries ∙ ap (λ (l : List Entry). slice_set l i t) (sym here) in
-    let parts = now_is ∙ set_one es i t c.requires.can_mend.within in
-    let mended =
-    mended_by_summary a L height es (entries_of node) i x d t c.requires.can_mend.within x_is family.family c.requires.can_mend.keyless
-    c.summary-entry.ensures.child (c.summary-entry.ensures.tells height L) filled parts in
+    let parts = now_is ∙ set_one es i t c.requires.can_rebalance.within in
+    let rebalanced =
+    rebalanced_by_entry a L height es (entries_of node) i x d t c.requires.can_rebalance.within x_is family.family c.requires.can_rebalance.keyless
+    c.entry_for-entry.ensures.child (c.entry_for-entry.ensures.tells height L) filled parts in
     let some : 1 ≤ length (entries_of node) =
     omega (arith, ap length parts, length-append (take i es) (t ∷ drop (i + 1) es)) in
-    mended_at a a (with_header a slot node) L height slot i node (entries_of node) c.requires.can_mend.live family mended some
+    rebalanced_at a a (with_header a slot node) L height slot i node (entries_of node) c.requires.can_rebalance.live family rebalanced some
     refl refl
 
 pub returns-then-len-least-clause-rest : goal.returns-then-len-least-clause-rest
@@ -67,31 +67,31 @@ returns-then-len-least-clause-rest g c =
     let slot = c.args.slot in
     let es = entries_at a slot in
     let i = c.args.index in
-    let t = c.summary-entry.result in
+    let t = c.entry_for-entry.result in
     let node = c.set_hinted.new.self in
     let here = entries_from_header a slot c.header_mut.result.now c.header_mut.ensures.header in
     let now_is : entries_of node ≡ slice_set es i t =
     c.set_hinted.ensures.entries ∙ ap (λ (l : List Entry). slice_set l i t) (sym here) in
     let after : entries_at (with_header a slot node) slot ≡ entries_of node =
     put_entries a (with_header a slot node) slot node refl in
-    let parts = after ∙ now_is ∙ set_one es i t c.requires.can_mend.within in
+    let parts = after ∙ now_is ∙ set_one es i t c.requires.can_rebalance.within in
     let b = with_header a slot node in
     record {
       few_less = omega (
         arith,
-        c.requires.can_mend.within,
+        c.requires.can_rebalance.within,
         ap length parts,
         length-append (take i es) (t ∷ drop (i + 1) es),
-        length-take-le i es (omega (arith, c.requires.can_mend.within)),
+        length-take-le i es (omega (arith, c.requires.can_rebalance.within)),
         length-drop (i + 1) es,
       );
       spare = search rules;
-      hinted = hinted_put (g.P.Probe.bytes c.args.probe.now) a b slot node c.requires.can_mend.hinted
+      hinted = hinted_put (g.P.Probe.bytes c.args.probe.now) a b slot node c.requires.can_rebalance.hinted
           (ap (option_map (λ r. r.header)) (put_record_is a b slot node refl)) c.set_hinted.ensures.hinted (put_others a b slot node refl);
     }
 
-pub returns-clause-mended : goal.returns-clause-mended
-returns-clause-mended g c height family =
+pub returns-clause-rebalanced : goal.returns-clause-rebalanced
+returns-clause-rebalanced g c height family =
     let a = c.args.nodes.now in
     let slot = c.args.slot in
     let es = entries_at a slot in
@@ -99,27 +99,27 @@ returns-clause-mended g c height family =
     let read = entries_from_header a slot c.header-node.result c.header-node.ensures.header in
     let same = ap length read in
     let loose = subst (λ l. IsFamily a L height l c.args.index (c.args.index + 1)) read family.family in
-    let mended =
-    subst (λ l. IsMended a c.mend.new.nodes L height l (entries_of c.mend.new.node)) (sym read)
-    (c.mend.ensures.mended height loose) in
-    mended_at a c.mend.new.nodes c.set_header.new.self L height slot c.args.index c.take_hints.new.self
-    (entries_of c.mend.new.node) c.requires.can_mend.live family mended
-    (omega (arith, c.mend.ensures.rest.few_less, c.requires.can_mend.several, same)) c.take_hints.ensures.entries c.set_header.ensures.replaced
+    let rebalanced =
+    subst (λ l. IsRebalanced a c.rebalance.new.nodes L height l (entries_of c.rebalance.new.node)) (sym read)
+    (c.rebalance.ensures.rebalanced height loose) in
+    rebalanced_at a c.rebalance.new.nodes c.set_header.new.self L height slot c.args.index c.take_hints.new.self
+    (entries_of c.rebalance.new.node) c.requires.can_rebalance.live family rebalanced
+    (omega (arith, c.rebalance.ensures.rest.few_less, c.requires.can_rebalance.several, same)) c.take_hints.ensures.entries c.set_header.ensures.replaced
 
 pub returns-clause-rest : goal.returns-clause-rest
 returns-clause-rest g c =
     let a = c.args.nodes.now in
     let slot = c.args.slot in
     let read = ap length (entries_from_header a slot c.header-node.result c.header-node.ensures.header) in
-    let here = put_entries c.mend.new.nodes c.set_header.new.self slot c.take_hints.new.self
+    let here = put_entries c.rebalance.new.nodes c.set_header.new.self slot c.take_hints.new.self
     c.set_header.ensures.replaced in
-    let b = c.mend.new.nodes in
+    let b = c.rebalance.new.nodes in
     let w = c.set_header.new.self in
     let node = c.take_hints.new.self in
     record {
-      few_less = omega (arith, c.mend.ensures.rest.few_less, read, ap length here, ap length c.take_hints.ensures.entries);
+      few_less = omega (arith, c.rebalance.ensures.rest.few_less, read, ap length here, ap length c.take_hints.ensures.entries);
       spare = search rules;
-      hinted = hinted_put (g.P.Probe.bytes c.args.probe.now) b w slot node c.mend.ensures.rest.hinted
+      hinted = hinted_put (g.P.Probe.bytes c.args.probe.now) b w slot node c.rebalance.ensures.rest.hinted
           (ap (option_map (λ r. r.header)) (put_record_is b w slot node c.set_header.ensures.replaced)) c.take_hints.ensures.hinted
           (put_others b w slot node c.set_header.ensures.replaced);
     }
@@ -127,17 +127,17 @@ returns-clause-rest g c =
 pub take_hints-requires : goal.take_hints-requires
 take_hints-requires g c =
     let a = c.args.nodes.now in
-    let b = c.mend.new.nodes in
+    let b = c.rebalance.new.nodes in
     let slot = c.args.slot in
     let bytes = g.P.Probe.bytes c.args.probe.now in
     let L = least_of g.row.N in
-    let f = c.requires.can_mend.family in
+    let f = c.requires.can_rebalance.family in
     let read = entries_from_header a slot c.header-node.result c.header-node.ensures.header in
     let loose = subst (λ l. IsFamily a L f.0 l c.args.index (c.args.index + 1)) read f.1.family in
-    let mended = c.mend.ensures.mended f.0 loose in (
+    let rebalanced = c.rebalance.ensures.rebalanced f.0 loose in (
       search rules,
       (
-        hinted_at bytes b slot c.header_ref-3.result.now c.mend.ensures.rest.hinted c.header_ref-3.ensures.header,
-        children_known bytes b L f.0 (entries_of c.mend.new.node) (omega arith) c.mend.ensures.rest.hinted mended.children,
+        hinted_at bytes b slot c.header_ref-3.result.now c.rebalance.ensures.rest.hinted c.header_ref-3.ensures.header,
+        children_known bytes b L f.0 (entries_of c.rebalance.new.node) (omega arith) c.rebalance.ensures.rest.hinted rebalanced.children,
       ),
     )
