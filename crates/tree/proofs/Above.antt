@@ -22,15 +22,6 @@ use Rattle.keys.proofs.callers.SomeElement.{
   Any-unmap,
 }
 
-pub le_from_test : (a b : ℤ) → int_lt a b ≡ false → b ≤ℤ a
-le_from_test a b h = grind (arith, ints)
-
--- the test as the code makes it
-pub not_above_tested : (a b : ℤ) → SFits w64 a → SFits w64 b
-    → int_lt (to_z w64 (of_z w64 a)) (to_z w64 (of_z w64 b)) ≡ false → b ≤ℤ a
-not_above_tested a b f g h =
-    rw (to_z-of_z w64 a f, to_z-of_z w64 b g) at (le_from_test (to_z w64 (of_z w64 a)) (to_z w64 (of_z w64 b)) h)
-
 -- the other way about
 pub at_most_tested : (a b : ℤ) → SFits w64 a → SFits w64 b
     → int_le (to_z w64 (of_z w64 a)) (to_z w64 (of_z w64 b)) ≡ true → a ≤ℤ b
@@ -119,35 +110,5 @@ module _ (v : ℤ) where
   pub none_above : (b : Bool) (whole : List Item) → b ≡ false → (IsAbove whole → ⊥) → (IsTrue b ↔ IsAbove whole)
   none_above b whole f n = ((λ t. absurd (not_both b t f)), (λ a. absurd (n a)))
 
-  pub found_above : (b : Bool) (whole : List Item) → b ≡ true → IsAbove whole → (IsTrue b ↔ IsAbove whole)
-  found_above b whole t a = ((λ _. a), (λ _. t))
-
   -- where it is the answer for the last of three parts
   module _ (whole l m r : List Item) (parts : whole ≡ l ++ (m ++ r)) where
-    pub above_left : IsAbove l → IsAbove whole
-    above_left a = subst IsAbove (sym parts) (Any-left (λ (x : Item). v <ℤ x.version) l (m ++ r) a)
-
-    pub above_middle : IsAbove m → IsAbove whole
-    above_middle a =
-        subst IsAbove (sym parts)
-        (Any-right (λ (x : Item). v <ℤ x.version) l (m ++ r) (Any-left (λ (x : Item). v <ℤ x.version) m r a))
-
-    pub above_right : IsAbove r → IsAbove whole
-    above_right a =
-        subst IsAbove (sym parts)
-        (Any-right (λ (x : Item). v <ℤ x.version) l (m ++ r) (Any-right (λ (x : Item). v <ℤ x.version) m r a))
-
-    pub only_right : (IsAbove l → ⊥) × (IsAbove m → ⊥) → IsAbove whole → IsAbove r
-    only_right n a =
-        elim (Any-parts (λ (x : Item). v <ℤ x.version) l (m ++ r) (subst IsAbove parts a)) [
-          | inl h ↦ absurd (n.0 h)
-          | inr h ↦
-              elim (Any-parts (λ (x : Item). v <ℤ x.version) m r h) [
-                | inl i ↦ absurd (n.1 i)
-                | inr i ↦ i
-              ]
-        ]
-
-    pub last_above : (b : Bool) → (IsAbove l → ⊥) × (IsAbove m → ⊥) → (IsTrue b ↔ IsAbove r)
-        → (IsTrue b ↔ IsAbove whole)
-    last_above b n h = ((λ t. above_right (h.0 t)), (λ a. h.1 (only_right n a)))

@@ -10,24 +10,10 @@ use Rattle.tree.specs.Item.{Item, Tells, item_of}
 use Rattle.tree.specs.Node.{entries_of}
 use Rattle.tree.specs.Path.{IsCut, from_cut, to_cut}
 use Rattle.tree.specs.Subtree.{entries_at, items_in, IsChild, IsSubtree}
-use Rattle.tree.proofs.Ways.{
-  entries_cut,
-  children_cut,
-  pass_before,
-  fail_behind_index,
-  index_inside,
-}
+use Rattle.tree.proofs.Ways.{entries_cut, children_cut, pass_before, fail_behind_index, index_inside}
 use Rattle.tree.proofs.Found.{cut-entries, entries_read}
 use Rattle.tree.proofs.Keys.{filter-items}
-use Rattle.tree.proofs.Spans.{
-  IsCut-none,
-  IsCut-all,
-  span,
-  span_range,
-  span_of_child,
-  span_of_two,
-  fewer_before,
-}
+use Rattle.tree.proofs.Spans.{IsCut-none, IsCut-all, span, span_range, span_of_child, span_of_two, fewer_before}
 
 -- What `requires` says of a probe that may be missing, as a cut, and back.
 module _ {A : Type 0} (lets : A → ℕ → Bool) (items : List Item) where

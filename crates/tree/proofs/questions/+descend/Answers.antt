@@ -1,7 +1,6 @@
 use Rattle.std.proofs.Common.{rules, ◌≡◌, ◌≤◌, ◌<◌, All, ℕ, ◌+◌, ◌-◌, true, false, List, length, filter, flat_map, drop, slice_get, Some, refl, sym, ap, subst, ◌∙◌, w64, arith}
 use Rattle.std.specs.Prelude.{IsTrue}
 use Rattle.std.proofs.lemmas.Bool.{leb-true}
-use Rattle.std.proofs.lemmas.Int.{to_z-of_z}
 use Rattle.std.proofs.lemmas.Option.{slice_get_read}
 use mir.Val.{SFits}
 use Rattle.tree.specs.declared.entry.Entry.{Entry}

@@ -1,4 +1,4 @@
-use Rattle.std.proofs.Common.{rules, ◌≡◌, ◌≢◌, ◌≤◌, ◌<◌, ◌++◌, ◌∷◌, ◌∙◌, ◌+◌, ℤ, [], true, Some, None, filter, length, get_or, take, min, refl, sym, subst, w64, to_z, of_z, length-append, arith}
+use Rattle.std.proofs.Common.{rules, ◌≡◌, ◌≢◌, ◌≤◌, ◌<◌, ◌++◌, ◌∷◌, ◌+◌, ℤ, [], true, Some, None, filter, length, get_or, take, min, refl, sym, subst, length-append, arith}
 use Rattle.std.specs.Prelude.{◌↔◌, ◌<ℤ◌, IsTrue}
 use Rattle.std.specs.List.{Any}
 use Rattle.std.proofs.lemmas.List.{length-take}

@@ -1,4 +1,4 @@
-use Rattle.std.proofs.Common.{rules, ◌≡◌, ℤ, ◌<ℤ◌, Some, MatchOption, [], refl, subst, w64}
+use Rattle.std.proofs.Common.{rules, ◌≡◌, ◌<ℤ◌, Some, MatchOption, [], refl, subst, w64}
 use Rattle.std.proofs.lemmas.Int.{to_z-of_z}
 use mir.Val.{SFits}
 use Rattle.tree.specs.Item.{IsGreatestWith, IsMost, item_of}

@@ -1,4 +1,4 @@
-use Rattle.std.proofs.Common.{rules, ℕ, ◌≡◌, ◌≤◌, ◌<◌, ◌-◌, ◌∙◌, ap, sym, subst, refl, Bool, List, []}
+use Rattle.std.proofs.Common.{rules, ℕ, ◌≡◌, ◌≤◌, ◌<◌, ◌∙◌, ap, sym, subst, refl, Bool, List, []}
 use Rattle.std.proofs.Common.{true, false, is_some, None, Option, Some, ◌++◌, length, take, drop, filter, map, arith}
 use Rattle.std.proofs.Common.{ℤ, SFits, w64, to_z, of_z, nat_eq, inl, inr, ◌⊎◌, IsTrue, not, unwrap_or}
 use Rattle.arena.specs.Arena.{with_header}
