@@ -29,7 +29,7 @@ returns-then-unwrap-version g c =
     let above = above_by_last (g.P.Probe.lets_pass c.args.question.now.from) (g.Q.Probe.lets_pass c.args.question.now.to) v
     c.args.question.now.nested items c.requires.asked.can_reach.cut (item_of e)
     (last g (goal.at.returns-then-unwrap-version g c).After-unwrap) lt in
-    record { above = ((λ _. above), (λ _. refl)); }
+    record { above = ((λ _. above), (λ _. refl)) }
 
 pub returns : goal.returns
 returns g c =
@@ -49,4 +49,4 @@ returns g c =
     let answer = above_by_most p q v c.args.question.now.nested items c.requires.asked.can_reach.cut (item_of e)
     (last g (goal.at.returns g c).After-unwrap) w none most in
     let test = above_tested v w (search rules) (search rules) in
-    record { above = ((λ t. answer.0 (test.0 t)), (λ a. test.1 (answer.1 a))); }
+    record { above = ((λ t. answer.0 (test.0 t)), (λ a. test.1 (answer.1 a))) }
