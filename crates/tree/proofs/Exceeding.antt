@@ -1,5 +1,5 @@
 -- Whether a version is above another one from the last item before a cut to another cut: of that item, or of those behind it.
-use Rattle.std.proofs.Common.{◌≡◌, ℕ, ◌+◌, ◌-◌, Bool, true, List, [], ◌∷◌, ◌++◌, Option, Some, length, drop, filter, IsTrue, ◌↔◌, int_lt, sym, ◌∙◌, ap, subst, inl, inr, arith, length-append}
+use Rattle.std.proofs.Common.{◌≡◌, ℕ, ◌+◌, ◌-◌, Bool, true, List, [], ◌∷◌, ◌++◌, Some, length, drop, IsTrue, ◌↔◌, int_lt, sym, ◌∙◌, ap, subst, inl, inr, arith, length-append}
 use Rattle.std.specs.Prelude.{ℤ, ◌<ℤ◌, ◌≤ℤ◌}
 use Rattle.std.proofs.Math.Seq.{drop-append-add}
 use Rattle.std.proofs.lemmas.Int.{ints, to_z-of_z}
@@ -48,7 +48,8 @@ module _ (p q : ℕ → Bool) (v : ℤ) (n : (key : ℕ) → p key ≡ true → 
       let to : v <ℤ w → IsAbove v inside =
       λ lt. elim most.reached [
         | inl same ↦ absurd (let e : v ≡ w = some_same v w same in omega (arith, ints, lt, e))
-        | inr one ↦ Any-weaker (λ (x : Item). x.version ≡ w) (λ (x : Item). v <ℤ x.version) (λ x h. subst (λ u. v <ℤ u) (sym h) lt) inside one
+        | inr one ↦ Any-weaker (λ (x : Item). x.version ≡ w) (λ (x : Item). v <ℤ x.version)
+            (λ x h. subst (λ u. v <ℤ u) (sym h) lt) inside one
       ] in
       let back : IsAbove v (x ∷ inside) → v <ℤ w =
       λ a. elim (Any-cases (λ (x : Item). v <ℤ x.version) x inside a) [

@@ -60,12 +60,12 @@ some : (g : Over) (t : ℕ) (c : After-entries-entries g t) → 1 ≤ length c.e
 some g t c = subst (λ (es : List Entry). 1 ≤ length es) (read g t c) c.requires.asked.can_reach.some
 
 knows : (g : Over) (t : ℕ) (c : After-entries-entries g t)
-    → KnowsAt (g.P.Probe.bytes c.args.question.now.from) (g.P.Probe.lets_pass c.args.question.now.from) (g.P.Probe.sought c.args.question.now.from)
-    (Some c.args.known) c.entries-entries.result.now 0
+    → KnowsAt (g.P.Probe.bytes c.args.question.now.from) (g.P.Probe.lets_pass c.args.question.now.from)
+    (g.P.Probe.sought c.args.question.now.from) (Some c.args.known) c.entries-entries.result.now 0
 knows g t c =
     subst
-    (λ es. KnowsAt (g.P.Probe.bytes c.args.question.now.from) (g.P.Probe.lets_pass c.args.question.now.from) (g.P.Probe.sought c.args.question.now.from)
-    (Some c.args.known) es 0) (read g t c) c.requires.known
+    (λ es. KnowsAt (g.P.Probe.bytes c.args.question.now.from) (g.P.Probe.lets_pass c.args.question.now.from)
+    (g.P.Probe.sought c.args.question.now.from) (Some c.args.known) es 0) (read g t c) c.requires.known
 
 passes : (g : Over) (t : ℕ) (c : After-entries-entries g t)
     → 1 ≤ length (filter (λ e. g.P.Probe.lets_pass c.args.question.now.from e.key) c.entries-entries.result.now)
@@ -76,14 +76,16 @@ passes g t c =
 hinted : (g : Over) (t : ℕ) (c : After-entries-entries g t)
     → IsHinted (g.P.Probe.bytes c.args.question.now.from) (hint_of c.header_ref-node.result.now)
 hinted g t c =
-    hinted_at (g.P.Probe.bytes c.args.question.now.from) c.args.nodes.now c.args.slot c.header_ref-node.result.now c.requires.asked.can_reach.hinted
+    hinted_at (g.P.Probe.bytes c.args.question.now.from) c.args.nodes.now c.args.slot c.header_ref-node.result.now
+    c.requires.asked.can_reach.hinted
     c.header_ref-node.ensures.header
 
 -- the other probe knows the same bytes
 hinted_too : (g : Over) (t : ℕ) (c : After-entries-entries g t)
     → IsHinted (g.Q.Probe.bytes c.args.question.now.to) (hint_of c.header_ref-node.result.now)
 hinted_too g t c =
-    hint_kept (g.P.Probe.bytes c.args.question.now.from) (g.Q.Probe.bytes c.args.question.now.to) (λ key text is. sym (c.args.question.now.bytes key) ∙ is)
+    hint_kept (g.P.Probe.bytes c.args.question.now.from) (g.Q.Probe.bytes c.args.question.now.to)
+    (λ key text is. sym (c.args.question.now.bytes key) ∙ is)
     (hint_of c.header_ref-node.result.now) (hinted g t c)
 
 cut_from : (g : Over) (t : ℕ) (c : After-entries-entries g t)
@@ -102,7 +104,8 @@ cut_to g t c =
 
 -- what is asked of the search in a node
 asked : (g : Over) (t : ℕ) (c : After-entries-entries g t)
-    → CanFind (g.P.Probe.bytes c.args.question.now.from) (g.P.Probe.lets_pass c.args.question.now.from) c.header_ref-node.result.now
+    → CanFind (g.P.Probe.bytes c.args.question.now.from) (g.P.Probe.lets_pass c.args.question.now.from)
+    c.header_ref-node.result.now
 asked g t c =
     let is = c.entries-entries.ensures.entries in
     record {
@@ -142,9 +145,10 @@ digest_given-digest-requires g t c =
     elim c.if-is_some.branch [
       | then-is_some w ↦
           λ yes.
-          let short : w.skip.result ≤ c.args.question.now.shared = leb-true w.skip.result c.args.question.now.shared (sym w.agrees-is ∙ yes) in
-          agrees_too near (g.P.Probe.bytes c.args.question.now.from) hint other sought c.args.question.now.shared c.digest_for-own.result
-          c.args.question.now.bytes c.digest_for-own.ensures.digest.digest (sym c.is_some.ensures ∙ w.if-is_some.true)
+          let short : w.skip.result ≤ c.args.question.now.shared = leb-true w.skip.result c.args.question.now.shared
+          (sym w.agrees-is ∙ yes) in
+          agrees_too near (g.P.Probe.bytes c.args.question.now.from) hint other sought c.args.question.now.shared
+          c.digest_for-own.result c.args.question.now.bytes c.digest_for-own.ensures.digest.digest (sym c.is_some.ensures ∙ w.if-is_some.true)
           (omega (arith, short, w.skip.ensures.skip)) c.args.question.now.begin_alike
       | else-is_some w ↦ λ yes. absurd (let f : false ≡ true = sym w.if-is_some.false ∙ sym w.agrees-is ∙ yes in cc)
     ] in
@@ -221,8 +225,9 @@ descend-requires g t c κs within_lives =
     let is = c.index-entries-step.is in
     let es = c.entries-entries.result.now in
     let there : slice_get es i ≡ Some e = slice_get_read es (length es) i e refl inside is in
-    let knows = knows_child c.args.nodes.now (least_of g.row.N) (c.args.height - 1) e e.child (g.P.Probe.bytes c.args.question.now.from)
-    (g.P.Probe.lets_pass c.args.question.now.from) (g.P.Probe.sought c.args.question.now.from) c.step_by-step.result.known node refl
+    let knows = knows_child c.args.nodes.now (least_of g.row.N) (c.args.height - 1) e e.child
+    (g.P.Probe.bytes c.args.question.now.from) (g.P.Probe.lets_pass c.args.question.now.from)
+    (g.P.Probe.sought c.args.question.now.from) c.step_by-step.result.known node refl
     (c.step_by-step.ensures.step.knows e (subst (λ es. slice_get es i ≡ Some e) c.entries-entries.ensures.entries there)) in (
       search rules,
       (
@@ -285,8 +290,8 @@ returns g t c =
     let next = c.if-next-entries.clear in
     let low = c.args.height - 1 in
     record {
-      approach = approach_wider nodes bytes p q sought c.args.question.now.version c.args.height c.args.slot low e.child c.args.clear next
-          c.descend.result
+      approach = approach_wider nodes bytes p q sought c.args.question.now.version c.args.height c.args.slot low e.child
+          c.args.clear next c.descend.result
           (λ result told. told_by_child _ _ _ _ _ _ _ _ _ k c.args.question.now.version c.args.clear c.if-height-eq0.false
           c.step_by-step.result.index e (within g t at) c.index-entries-step.is next result
           (behind g t at (look_tell _ _ _ _ _ _ _ _ _ k c.if-height-eq0.false)) told)
@@ -306,9 +311,11 @@ returns-then-clear g t c =
     let le = at_most_tested e.version v fits (search rules) c.if-entry-question.true in
     let index = c.step_by-step.ensures.step.index_is
     ∙ ap (λ es. length (filter (λ (e : Entry). p e.key) es) - 1) (sym c.entries-entries.ensures.entries) in
-    let passed = last_passes p es c.step_by-step.result.index e (cut_from g t first) (passes g t first) index c.index-entries-step.is in
+    let passed = last_passes p es c.step_by-step.result.index e (cut_from g t first) (passes g t first) index
+    c.index-entries-step.is in
     record {
-      approach = told_by_child _ _ _ _ _ _ _ _ _ k v c.args.clear c.if-height-eq0.false c.step_by-step.result.index e (within g t at)
+      approach = told_by_child _ _ _ _ _ _ _ _ _ k v c.args.clear c.if-height-eq0.false c.step_by-step.result.index e
+          (within g t at)
           c.index-entries-step.is c.if-next-entries.clear (Some false)
           (behind g t at (look_tell _ _ _ _ _ _ _ _ _ k c.if-height-eq0.false))
           (told_by_entry p (g.Q.Probe.lets_pass c.args.question.now.to) v c.args.question.now.nested e

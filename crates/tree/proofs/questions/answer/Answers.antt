@@ -20,7 +20,8 @@ returns-in-Some g c =
     subst (IsApproach nodes height slot bytes p q sought v true) c.in-Leaf.is c.requires.approach in
     let told : IsTold p q v near.clear (items_in nodes 0 near.leaf) (Some b) = c.in-Some.ensures.told in
     record {
-      above = told_of_all p q v c.args.question.now.nested (items_in nodes height slot) b (is.tells (Some b) told) c.requires.asked.can_reach.cut c.requires.asked.to;
+      above = told_of_all p q v c.args.question.now.nested (items_in nodes height slot) b (is.tells (Some b) told)
+          c.requires.asked.can_reach.cut c.requires.asked.to;
     }
 
 pub returns-in-Clear : goal.returns-in-Clear
@@ -36,5 +37,6 @@ returns-in-Clear g c =
     let told : IsTold p q v true (items_in nodes height slot) (Some false) =
     subst (IsApproach nodes height slot bytes p q sought v true) c.in-Clear.is c.requires.approach in
     record {
-      above = told_of_all p q v c.args.question.now.nested (items_in nodes height slot) false told c.requires.asked.can_reach.cut c.requires.asked.to;
+      above = told_of_all p q v c.args.question.now.nested (items_in nodes height slot) false told c.requires.asked.can_reach.cut
+          c.requires.asked.to;
     }

@@ -29,7 +29,8 @@ turn g c =
 end : (g : Over) (c : In-None g) → length c.loop-question.yielded ≡ min (length c.args.questions.now) (length c.args.looks.now)
 end g c =
     zip_end c.args.questions.now c.args.looks.now c.loop-question.yielded c.into_iter-question-iterator.result
-    c.loop-question.question-iterator c.next.new.self None (search rules) (search rules) c.loop-question.yielded_by refl c.in-None.ensures.steps
+    c.loop-question.question-iterator c.next.new.self None (search rules) (search rules) c.loop-question.yielded_by refl
+    c.in-None.ensures.steps
 
 pub answer-requires : goal.answer-requires
 answer-requires g c =
@@ -45,7 +46,8 @@ answer-requires g c =
     let items = items_in nodes height slot in
     let same = sym t.2 in
     let asked = All-get_or
-    (λ q. IsAsked nodes (least_of g.row.N) height slot (g.P.Probe.bytes q.from) (g.P.Probe.lets_pass q.from) (g.Q.Probe.lets_pass q.to))
+    (λ q. IsAsked nodes (least_of g.row.N) height slot (g.P.Probe.bytes q.from) (g.P.Probe.lets_pass q.from)
+    (g.Q.Probe.lets_pass q.to))
     qs i q t.0 c.requires.asked in
     let passing = All-get_or (λ q. filter (λ (x : Item). g.P.Probe.lets_pass q.from x.key) items ≢ []) qs i q t.0
     c.requires.passing in

@@ -21,7 +21,8 @@ descend_from-requires g c =
     let inside = c.loop-question-test.true in
     let same = sym c.question-item.is in
     let asked = All-get_or
-    (λ q. IsAsked nodes (least_of g.row.N) height slot (g.P.Probe.bytes q.from) (g.P.Probe.lets_pass q.from) (g.Q.Probe.lets_pass q.to))
+    (λ q. IsAsked nodes (least_of g.row.N) height slot (g.P.Probe.bytes q.from) (g.P.Probe.lets_pass q.from)
+    (g.Q.Probe.lets_pass q.to))
     qs i q inside c.requires.asked in
     let passing = All-get_or (λ q. filter (λ (x : Item). g.P.Probe.lets_pass q.from x.key) items ≢ []) qs i q inside
     c.requires.passing in (
@@ -39,7 +40,8 @@ loop-question-preserved g c =
     let q = c.question-item.result in
     let way = c.descend_from.result in
     let said : IsApproach c.args.nodes.now c.args.root.now.height c.args.root.now.slot (g.P.Probe.bytes q.from)
-    (g.P.Probe.lets_pass q.from) (g.Q.Probe.lets_pass q.to) (g.P.Probe.sought q.from) q.version true way = c.descend_from.ensures.approach in
+    (g.P.Probe.lets_pass q.from) (g.Q.Probe.lets_pass q.to) (g.P.Probe.sought q.from) q.version true way =
+    c.descend_from.ensures.approach in
     AllZip-turn _ c.args.questions.now c.loop-question.question-index _ c.loop-question.ways.items _ q way
     c.loop-question-test.true c.question-item.is refl c.push.ensures.items c.loop-question.invariant said
 

@@ -16,7 +16,8 @@ last : (g : Over) (c : After-unwrap g)
     → IsLast (item_of c.unwrap.result)
     (passing (g.P.Probe.lets_pass c.args.question.now.from) (items_in c.args.nodes.now c.args.root.height c.args.root.slot))
 last g c =
-    let items = passing (g.P.Probe.lets_pass c.args.question.now.from) (items_in c.args.nodes.now c.args.root.height c.args.root.slot) in
+    let items = passing (g.P.Probe.lets_pass c.args.question.now.from)
+    (items_in c.args.nodes.now c.args.root.height c.args.root.slot) in
     subst (λ o. MatchOption o (items ≡ []) (λ e. IsLast (item_of e) items)) c.unwrap.ensures c.last.ensures.last
 
 pub returns-then-unwrap-version : goal.returns-then-unwrap-version

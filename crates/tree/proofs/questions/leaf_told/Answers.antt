@@ -53,12 +53,12 @@ some : (g : Over) (c : After-entries-entries g) → 1 ≤ length c.entries-entri
 some g c = subst (λ (es : List Entry). 1 ≤ length es) (read g c) c.requires.near.some
 
 knows : (g : Over) (c : After-entries-entries g)
-    → KnowsAt (g.P.Probe.bytes c.args.question.now.from) (g.P.Probe.lets_pass c.args.question.now.from) (g.P.Probe.sought c.args.question.now.from)
-    (Some c.args.near.known) c.entries-entries.result.now 0
+    → KnowsAt (g.P.Probe.bytes c.args.question.now.from) (g.P.Probe.lets_pass c.args.question.now.from)
+    (g.P.Probe.sought c.args.question.now.from) (Some c.args.near.known) c.entries-entries.result.now 0
 knows g c =
     subst
-    (λ es. KnowsAt (g.P.Probe.bytes c.args.question.now.from) (g.P.Probe.lets_pass c.args.question.now.from) (g.P.Probe.sought c.args.question.now.from)
-    (Some c.args.near.known) es 0) (read g c) c.requires.near.known
+    (λ es. KnowsAt (g.P.Probe.bytes c.args.question.now.from) (g.P.Probe.lets_pass c.args.question.now.from)
+    (g.P.Probe.sought c.args.question.now.from) (Some c.args.near.known) es 0) (read g c) c.requires.near.known
 
 passes : (g : Over) (c : After-entries-entries g)
     → 1 ≤ length (filter (λ e. g.P.Probe.lets_pass c.args.question.now.from e.key) c.entries-entries.result.now)
@@ -69,14 +69,16 @@ passes g c =
 hinted : (g : Over) (c : After-entries-entries g)
     → IsHinted (g.P.Probe.bytes c.args.question.now.from) (hint_of c.header_ref-node.result.now)
 hinted g c =
-    hinted_at (g.P.Probe.bytes c.args.question.now.from) c.args.nodes.now c.args.near.leaf c.header_ref-node.result.now c.requires.asked.can_reach.hinted
+    hinted_at (g.P.Probe.bytes c.args.question.now.from) c.args.nodes.now c.args.near.leaf c.header_ref-node.result.now
+    c.requires.asked.can_reach.hinted
     c.header_ref-node.ensures.header
 
 -- the other probe knows the same bytes
 hinted_too : (g : Over) (c : After-entries-entries g)
     → IsHinted (g.Q.Probe.bytes c.args.question.now.to) (hint_of c.header_ref-node.result.now)
 hinted_too g c =
-    hint_kept (g.P.Probe.bytes c.args.question.now.from) (g.Q.Probe.bytes c.args.question.now.to) (λ key text is. sym (c.args.question.now.bytes key) ∙ is)
+    hint_kept (g.P.Probe.bytes c.args.question.now.from) (g.Q.Probe.bytes c.args.question.now.to)
+    (λ key text is. sym (c.args.question.now.bytes key) ∙ is)
     (hint_of c.header_ref-node.result.now) (hinted g c)
 
 cut_from : (g : Over) (c : After-entries-entries g)
@@ -95,7 +97,8 @@ cut_to g c =
 
 -- what is asked of the search in a node
 asked : (g : Over) (c : After-entries-entries g)
-    → CanFind (g.P.Probe.bytes c.args.question.now.from) (g.P.Probe.lets_pass c.args.question.now.from) c.header_ref-node.result.now
+    → CanFind (g.P.Probe.bytes c.args.question.now.from) (g.P.Probe.lets_pass c.args.question.now.from)
+    c.header_ref-node.result.now
 asked g c =
     let is = c.entries-entries.ensures.entries in
     record {
@@ -134,7 +137,8 @@ digest_given-digest-requires g c =
     elim c.if-is_some.branch [
       | then-is_some w ↦
           λ yes.
-          let short : w.skip.result ≤ c.args.question.now.shared = leb-true w.skip.result c.args.question.now.shared (sym w.agrees-is ∙ yes) in
+          let short : w.skip.result ≤ c.args.question.now.shared = leb-true w.skip.result c.args.question.now.shared
+          (sym w.agrees-is ∙ yes) in
           agrees_too near (g.P.Probe.bytes c.args.question.now.from) hint other sought c.args.question.now.shared c.args.own
           c.args.question.now.bytes (own g at).digest (sym c.is_some.ensures ∙ w.if-is_some.true)
           (omega (arith, short, w.skip.ensures.skip)) c.args.question.now.begin_alike
@@ -184,7 +188,8 @@ count_on-end-requires g c =
     let le = look_ordered _ _ _ _ _ _ _ _ _ (look g at _ _ refl refl) in
     let most : c.count_by-begin.result
     ≤ length (filter (λ e. g.Q.Probe.lets_pass c.args.question.now.to e.key) (entries_of c.header_ref-node.result.now)) =
-    rw is at (subst (λ n. n ≤ length (filter (λ (e : Entry). g.Q.Probe.lets_pass c.args.question.now.to e.key) c.entries-entries.result.now))
+    rw is at (subst (λ n. n ≤ length (filter (λ (e : Entry). g.Q.Probe.lets_pass c.args.question.now.to e.key)
+    c.entries-entries.result.now))
     (sym (rw (sym is) at c.count_by-begin.ensures.count.count_is)) le) in (
       search rules,
       (

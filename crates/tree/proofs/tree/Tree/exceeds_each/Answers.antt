@@ -94,7 +94,8 @@ answer_each-requires g c =
     subst
     (λ ways. AllZip
     (λ q way. IsApproach t.nodes t.root.height t.root.slot (g.P.Probe.bytes q.from) (g.P.Probe.lets_pass q.from)
-    (g.Q.Probe.lets_pass q.to) (g.P.Probe.sought q.from) q.version true way) qs ways) (sym made) c.descend_each-ways.ensures.ways in
+    (g.Q.Probe.lets_pass q.to) (g.P.Probe.sought q.from) q.version true way) qs ways) (sym made)
+    c.descend_each-ways.ensures.ways in
     let value = sym c.as_slice-2.ensures.value in (
       search rules,
       (
