@@ -1,10 +1,8 @@
 -- The items before a cut, of those before another cut the last alone, in parts.
-use Rattle.std.proofs.Common.{◌≡◌, ◌≢◌, ℕ, ◌+◌, ◌-◌, ◌<◌, ◌≤◌, Bool, true, false, not, List, [], ◌∷◌, ◌++◌, length, get_or, take, drop, filter, flat_map, map, All, refl, sym, ◌∙◌, ap, subst, inl, inr, arith, append-nil, append_assoc, length-append, take-append-drop}
+use Rattle.std.proofs.Common.{◌≡◌, ℕ, ◌+◌, ◌-◌, ◌<◌, ◌≤◌, Bool, true, false, not, List, [], ◌∷◌, ◌++◌, length, take, drop, filter, map, refl, sym, ◌∙◌, ap, subst, inl, inr, arith, take-append-drop}
 use Rattle.std.specs.Prelude.{ℤ, ◌<ℤ◌, ◌≤ℤ◌, slice_range}
-use Rattle.std.proofs.Math.Seq.{drop-append-add}
-use Rattle.std.proofs.lemmas.Grind.{flat_map-append}
-use Rattle.std.proofs.lemmas.List.{drop-append-le, drop-take, drop-map, get_or-take, length-map, length-take-le, take_at}
-use Rattle.std.proofs.lemmas.List.Elements.{All-cons, filter-append}
+use Rattle.std.proofs.lemmas.List.{drop-append-le, drop-take, drop-map, length-map, take_at}
+use Rattle.std.proofs.lemmas.List.Elements.{All-cons}
 use Rattle.arena.specs.Arena.{Arena}
 use Rattle.tree.specs.declared.entry.Entry.{Entry}
 use Rattle.tree.specs.declared.node.Node.{Node}
@@ -12,14 +10,12 @@ use Rattle.tree.specs.Item.{Item, Tells, item_of}
 use Rattle.tree.specs.Path.{IsCut}
 use Rattle.tree.specs.Subtree.{items_in}
 use Rattle.tree.proofs.Above.{IsAbove, not_above_told}
-use Rattle.tree.proofs.callers.Cuts.{Falls, Falls-from_cut, none_pass, length-passing}
+use Rattle.tree.proofs.callers.Cuts.{Falls, Falls-from_cut, none_pass}
 use Rattle.tree.proofs.Found.{cut-entries}
 use Rattle.tree.proofs.Keys.{filter-items}
-use Rattle.tree.proofs.Looks.{IsLook, look_ordered, look_items, look_tell, look_one, look_two, from_items, first_inside, child_from, below}
+use Rattle.tree.proofs.Looks.{IsLook, look_ordered}
 use Rattle.keys.proofs.callers.SomeElement.{Any-right}
-use Rattle.tree.proofs.Spans.{span, span_from_begin, before_cut}
-use Rattle.tree.proofs.callers.Times.{none_or_some}
-use Rattle.tree.proofs.Ways.{AllTell, around_element, entries_cut, fail_behind, fail_behind_index}
+use Rattle.tree.proofs.Spans.{span, span_from_begin}
 
 -- the last of those that pass, alone
 abbrev pub last_passing : {X : Type 0} → (X → Bool) → List X → List X
@@ -66,19 +62,6 @@ module _ {X : Type 0} (p q : X → Bool) where
       ap (λ k. drop k (filter q xs)) (sym m) ∙ ap (drop i) front ∙ ap (λ k. drop i (take k xs)) (sym up)
       ∙ drop-take i (j - i) xs
 
--- The last one that passes is in the part behind which none does, if one of it passes.
-last_in_part : {X : Type 0} (p : X → Bool) (a c b : List X) → 1 ≤ length (filter p c)
-    → All (λ x. p x ≡ false) b → last_passing p (a ++ (c ++ b)) ≡ last_passing p c
-last_in_part p a c b some n =
-    let e : filter p (a ++ (c ++ b)) ≡ filter p a ++ filter p c =
-    filter-append p a (c ++ b)
-    ∙ ap (λ ys. filter p a ++ ys)
-    (filter-append p c b ∙ ap (λ ys. filter p c ++ ys) (none_pass p b n).0 ∙ append-nil (filter p c)) in
-    let count : length (filter p a ++ filter p c) - 1 ≡ length (filter p a) + (length (filter p c) - 1) =
-    omega (arith, some, length-append (filter p a) (filter p c)) in
-    ap (λ ys. drop (length ys - 1) ys) e ∙ ap (λ k. drop k (filter p a ++ filter p c)) count
-    ∙ drop-append-add (filter p a) (filter p c) (length (filter p c) - 1)
-
 -- Where the entry's version isn't above it, no item's is.
 pub none_told : (v : ℤ) (e : Entry) (items : List Item) → Tells e items → e.version ≤ℤ v → (p q : Item → Bool)
     → IsAbove v (from_last_of p q items) → ⊥
@@ -87,59 +70,6 @@ none_told v e items t le p q a =
     let all = subst (IsAbove v) (take-append-drop n (filter q items))
     (Any-right (λ (x : Item). v <ℤ x.version) (take n (filter q items)) (drop n (filter q items)) a) in
     not_above_told v e items t le q all
-
--- among the items of children, where some pass
-module _ (passes : ℕ → Bool) (under : Entry → List Item) (es : List Entry) (tell : AllTell passes under es)
-    (cut : IsCut (λ x. passes x.key) (flat_map under es))
-    (some : filter (λ x. passes x.key) (flat_map under es) ≢ []) where
-  some_entry : 1 ≤ length (filter (λ e. passes e.key) es)
-  some_entry =
-      elim (none_or_some (length (filter (λ (e : Entry). passes e.key) es))) [
-        | inl none ↦
-            let fail = subst (λ n. All (λ (x : Item). passes x.key ≡ false) (flat_map under (drop n es))) none
-            (fail_behind passes under es tell cut) in
-            absurd (some (none_pass (λ (x : Item). passes x.key) (flat_map under es) fail).0)
-        | inr many ↦ many
-      ]
-
-  module _ (i : ℕ) (e : Entry) (is : e ≡ get_or es i e) (at : i ≡ length (filter (λ e. passes e.key) es) - 1)
-      (inside : i < length es) where
-    entry_passes : passes e.key ≡ true
-    entry_passes =
-        let count = length (filter (λ (e : Entry). passes e.key) es) in
-        let less : i < count = let s = some_entry in omega arith in
-        let le = length-passing (λ (e : Entry). passes e.key) es in
-        let within : i < length (take count es) = omega (arith, length-take-le count es le) in
-        let here = before_cut (λ (e : Entry). passes e.key) es (entries_cut passes under es tell cut) i e within in
-        subst (λ (e : Entry). passes e.key ≡ true) (get_or-take count es i e less ∙ sym is) here
-
-    entry_tells : Tells e (under e)
-    entry_tells = subst (λ (e : Entry). Tells e (under e)) (sym is) (tell i e inside)
-
-    first_passes : (t : Tells e (under e)) → filter (λ x. passes x.key) (under e)
-        ≡ t.first ∷ filter (λ x. passes x.key) t.others
-    first_passes t =
-        let first : passes t.first.key ≡ true = subst (λ k. passes k ≡ true) t.key entry_passes in
-        ap (filter (λ (x : Item). passes x.key)) t.items_are ∙ rw first refl
-
-    -- one of the child of the last entry that passes does
-    child_passes : filter (λ x. passes x.key) (under e) ≢ []
-    child_passes none = let f = first_passes entry_tells in absurd (cc)
-
-    -- and the last that passes is there
-    last_in_child : last_passing (λ x. passes x.key) (flat_map under es)
-        ≡ last_passing (λ x. passes x.key) (under e)
-    last_in_child =
-        let p = λ (x : Item). passes x.key in
-        let a = flat_map under (take i es) in
-        let b = flat_map under (drop (i + 1) es) in
-        let none = subst (λ n. All (λ (x : Item). passes x.key ≡ false) (flat_map under (drop (n + 1) es))) (sym at)
-        (fail_behind_index passes under es tell cut) in
-        let count : 1 ≤ length (filter p (under e)) = omega (arith, ap length (first_passes entry_tells)) in
-        ap (λ xs. last_passing p (flat_map under xs)) (around_element es i e inside)
-        ∙ ap (last_passing p) (flat_map-append under (take i es) (get_or es i e ∷ drop (i + 1) es))
-        ∙ ap (λ x. last_passing p (a ++ (under x ++ b))) (sym is)
-        ∙ last_in_part p a (under e) b count none
 
 -- below a node
 module _ {N : ℕ} (nodes : Arena (Node N)) (least height slot : ℕ) (f t : ℕ → Bool) (es : List Entry)
@@ -163,70 +93,3 @@ module _ {N : ℕ} (nodes : Arena (Node N)) (least height slot : ℕ) (f t : ℕ
       ∙ drop-map item_of (length passed - 1) (filter (λ (e : Entry). t e.key) es)
       ∙ ap (map item_of)
       (from_last_range (λ (e : Entry). f e.key) (λ (e : Entry). t e.key) es first end d le m k.end_is)
-
-  module _ (some : height ≡ 0 → ⊥) (any : filter (λ x. f x.key) (items_in nodes height slot) ≢ []) (first : ℕ)
-      (fi : first ≡ begin - 1) (left : Entry) (li : left ≡ get_or es first left) where
-    -- the items of an entry's child
-    abbrev pub children : Entry → List Item
-    children = below nodes least height slot f t es begin end k some
-
-    at : items_in nodes height slot ≡ flat_map children es
-    at = look_items nodes least height slot f t es begin end k some
-
-    any_below : filter (λ x. f x.key) (flat_map children es) ≢ []
-    any_below = subst (λ xs. filter (λ (x : Item). f x.key) xs ≢ []) at any
-
-    index : first ≡ length (filter (λ e. f e.key) es) - 1
-    index = fi ∙ ap (λ n. n - 1) k.begin_is
-
-    inside : first < length es
-    inside = let i = first_inside nodes least height slot f t es begin end k some in omega (arith, i, fi)
-
-    -- one of the left entry's child passes
-    pub left_passes : filter (λ x. f x.key) (children left) ≢ []
-    left_passes =
-        child_passes f children es (look_tell nodes least height slot f t es begin end k some)
-        (from_items nodes least height slot f t es begin end k some) any_below first left li index inside
-
-    same_last : last_passing (λ x. f x.key) (items_in nodes height slot) ≡ last_passing (λ x. f x.key) (children left)
-    same_last =
-        ap (last_passing (λ (x : Item). f x.key)) at
-        ∙ last_in_child f children es (look_tell nodes least height slot f t es begin end k some)
-        (from_items nodes least height slot f t es begin end k some) any_below first left li index inside
-
-    left_cut : IsCut (λ x. f x.key) (children left)
-    left_cut = child_from nodes least height slot f t es begin end k some first left inside li
-
-    -- where both cuts lie in one child
-    pub from_last_one : (last : ℕ) → last ≡ end - 1 → first ≡ last
-        → from_last_of (λ x. f x.key) (λ x. t x.key) (items_in nodes height slot)
-        ≡ from_last_of (λ x. f x.key) (λ x. t x.key) (children left)
-    from_last_one last la same =
-        let p = λ (x : Item). f x.key in
-        let q = λ (x : Item). t x.key in
-        let n = λ (x : Item) (h : p x ≡ true). k.nested x.key h in
-        last_and_between p q n (items_in nodes height slot) k.from
-        ∙ ap (λ xs. xs ++ span p q (items_in nodes height slot)) same_last
-        ∙ ap (λ xs. last_passing p (children left) ++ xs)
-        (look_one nodes least height slot f t es begin end k some first last fi la left li same)
-        ∙ sym (last_and_between p q n (children left) left_cut)
-
-    -- where they lie in two
-    pub from_last_two : (last : ℕ) → last ≡ end - 1 → (right : Entry) → right ≡ get_or es last right
-        → (first ≡ last → ⊥)
-        → from_last_of (λ x. f x.key) (λ x. t x.key) (items_in nodes height slot)
-        ≡ from_last_of (λ x. f x.key) (λ x. true) (children left)
-        ++ (flat_map children (slice_range es (first + 1) last) ++ span (λ x. false) (λ x. t x.key) (children right))
-    from_last_two last la right ri apart =
-        let p = λ (x : Item). f x.key in
-        let q = λ (x : Item). t x.key in
-        let yes = λ (x : Item). true in
-        let n = λ (x : Item) (h : p x ≡ true). k.nested x.key h in
-        let one = last_passing p (children left) in
-        let rest = flat_map children (slice_range es (first + 1) last) ++ span (λ (x : Item). false) q (children right) in
-        last_and_between p q n (items_in nodes height slot) k.from
-        ∙ ap (λ xs. xs ++ span p q (items_in nodes height slot)) same_last
-        ∙ ap (λ xs. one ++ xs)
-        (look_two nodes least height slot f t es begin end k some first last fi la left right li ri apart)
-        ∙ sym (append_assoc one (span p yes (children left)) rest)
-        ∙ ap (λ xs. xs ++ rest) (sym (last_and_between p yes (λ x h. refl) (children left) left_cut))
