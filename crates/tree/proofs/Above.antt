@@ -1,26 +1,14 @@
 -- Whether a version is above another, of items and of the entries for them.
-use Rattle.std.proofs.Common.{◌≡◌, Bool, true, false, List, [], ◌∷◌, ◌++◌, filter, flat_map, map, IsTrue, ◌↔◌, All, Any, int_lt, int_le, cond, sym, subst, inl, inr, arith}
+use Rattle.std.proofs.Common.{◌≡◌, Bool, true, false, List, [], ◌∷◌, filter, map, IsTrue, ◌↔◌, Any, int_le, cond, sym, subst, inl, inr, arith}
 use Rattle.std.specs.Prelude.{ℤ, ◌<ℤ◌, ◌≤ℤ◌}
 use Rattle.std.proofs.lemmas.Bool.{cases_Bool}
 use Rattle.std.proofs.lemmas.Int.{ints, to_z-of_z}
-use Rattle.std.proofs.lemmas.List.Elements.{All-head, All-tail}
 use mir.Syntax.{w64}
 use mir.Val.{SFits, to_z, of_z}
 use Rattle.tree.specs.declared.entry.Entry.{Entry}
 use Rattle.tree.specs.Item.{Item, Tells, item_of}
 use Rattle.tree.proofs.callers.Cuts.{not_both}
-use Rattle.keys.proofs.callers.SomeElement.{
-  Any-weaker,
-  Any-first,
-  Any-later,
-  Any-none,
-  Any-cases,
-  Any-parts,
-  Any-left,
-  Any-right,
-  Any-map,
-  Any-unmap,
-}
+use Rattle.keys.proofs.callers.SomeElement.{Any-first, Any-later, Any-cases, Any-map, Any-unmap}
 
 -- the other way about
 pub at_most_tested : (a b : ℤ) → SFits w64 a → SFits w64 b
@@ -60,40 +48,6 @@ module _ (v : ℤ) where
       → IsAbove (filter p items) → ⊥
   not_above_told e items t le p a = let lt = above_told e items t p a in omega (arith, ints, le, lt)
 
-  above_reached : (e : Entry) (items : List Item) → Tells e items → v <ℤ e.version → IsAbove items
-  above_reached e items t lt =
-      Any-weaker (λ (x : Item). x.version ≡ e.version) (λ (x : Item). v <ℤ x.version)
-      (λ x h. subst (λ w. v <ℤ w) (sym h) lt) items t.greatest.reached
-
-  -- for whole children the entries tell it
-  pub children_above : (below : Entry → List Item) (es : List Entry) → All (λ e. Tells e (below e)) es
-      → Any (λ e. v <ℤ e.version) es → IsAbove (flat_map below es)
-  children_above below [] t a = absurd (Any-none (λ (e : Entry). v <ℤ e.version) a)
-  children_above below (e ∷ es) t a =
-      elim (Any-cases (λ (e : Entry). v <ℤ e.version) e es a) [
-        | inl h ↦
-            Any-left (λ (x : Item). v <ℤ x.version) (below e) (flat_map below es)
-            (above_reached e (below e) (All-head (λ e. Tells e (below e)) e es t) h)
-        | inr b ↦
-            Any-right (λ (x : Item). v <ℤ x.version) (below e) (flat_map below es)
-            (children_above below es (All-tail (λ e. Tells e (below e)) e es t) b)
-      ]
-
-  pub above_of_children : (below : Entry → List Item) (es : List Entry) → All (λ e. Tells e (below e)) es
-      → IsAbove (flat_map below es) → Any (λ e. v <ℤ e.version) es
-  above_of_children below [] t a = absurd (Any-none (λ (x : Item). v <ℤ x.version) a)
-  above_of_children below (e ∷ es) t a =
-      elim (Any-parts (λ (x : Item). v <ℤ x.version) (below e) (flat_map below es) a) [
-        | inl h ↦
-            let tells = All-head (λ e. Tells e (below e)) e es t in
-            let le = subst (λ (x : Item). x.version ≤ℤ e.version) h.3 (tells.greatest.bound h.0 h.1 h.2) in
-            let lt : v <ℤ h.1.version = h.4 in
-            Any-first (λ (e : Entry). v <ℤ e.version) e es (omega (arith, ints, le, lt))
-        | inr b ↦
-            Any-later (λ (e : Entry). v <ℤ e.version) e es
-            (above_of_children below es (All-tail (λ e. Tells e (below e)) e es t) b)
-      ]
-
   -- what the code answers, where that is the answer for a part
   pub part_above : (b : Bool) (whole part : List Item) → whole ≡ part → (IsTrue b ↔ IsAbove part)
       → (IsTrue b ↔ IsAbove whole)
@@ -109,6 +63,3 @@ module _ (v : ℤ) where
 
   pub none_above : (b : Bool) (whole : List Item) → b ≡ false → (IsAbove whole → ⊥) → (IsTrue b ↔ IsAbove whole)
   none_above b whole f n = ((λ t. absurd (not_both b t f)), (λ a. absurd (n a)))
-
-  -- where it is the answer for the last of three parts
-  module _ (whole l m r : List Item) (parts : whole ≡ l ++ (m ++ r)) where

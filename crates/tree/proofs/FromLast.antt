@@ -1,10 +1,8 @@
 -- The items before a cut, of those before another cut the last alone, in parts.
-use Rattle.std.proofs.Common.{◌≡◌, ◌≢◌, ℕ, ◌+◌, ◌-◌, ◌<◌, ◌≤◌, Bool, true, false, not, List, [], ◌∷◌, ◌++◌, length, get_or, take, drop, filter, flat_map, map, All, refl, sym, ◌∙◌, ap, subst, inl, inr, arith, append-nil, append_assoc, length-append, take-append-drop}
+use Rattle.std.proofs.Common.{◌≡◌, ℕ, ◌+◌, ◌-◌, ◌<◌, ◌≤◌, Bool, true, false, not, List, [], ◌∷◌, ◌++◌, length, take, drop, filter, map, refl, sym, ◌∙◌, ap, subst, inl, inr, arith, take-append-drop}
 use Rattle.std.specs.Prelude.{ℤ, ◌<ℤ◌, ◌≤ℤ◌, slice_range}
-use Rattle.std.proofs.Math.Seq.{drop-append-add}
-use Rattle.std.proofs.lemmas.Grind.{flat_map-append}
-use Rattle.std.proofs.lemmas.List.{drop-append-le, drop-take, drop-map, get_or-take, length-map, length-take-le, take_at}
-use Rattle.std.proofs.lemmas.List.Elements.{All-cons, filter-append}
+use Rattle.std.proofs.lemmas.List.{drop-append-le, drop-take, drop-map, length-map, take_at}
+use Rattle.std.proofs.lemmas.List.Elements.{All-cons}
 use Rattle.arena.specs.Arena.{Arena}
 use Rattle.tree.specs.declared.entry.Entry.{Entry}
 use Rattle.tree.specs.declared.node.Node.{Node}
@@ -15,10 +13,9 @@ use Rattle.tree.proofs.Above.{IsAbove, not_above_told}
 use Rattle.tree.proofs.callers.Cuts.{Falls, Falls-from_cut, none_pass}
 use Rattle.tree.proofs.Found.{cut-entries}
 use Rattle.tree.proofs.Keys.{filter-items}
-use Rattle.tree.proofs.Looks.{IsLook, look_ordered, look_items, first_inside, below}
+use Rattle.tree.proofs.Looks.{IsLook, look_ordered}
 use Rattle.keys.proofs.callers.SomeElement.{Any-right}
 use Rattle.tree.proofs.Spans.{span, span_from_begin}
-use Rattle.tree.proofs.Ways.{AllTell}
 
 -- the last of those that pass, alone
 abbrev pub last_passing : {X : Type 0} → (X → Bool) → List X → List X
@@ -74,13 +71,6 @@ none_told v e items t le p q a =
     (Any-right (λ (x : Item). v <ℤ x.version) (take n (filter q items)) (drop n (filter q items)) a) in
     not_above_told v e items t le q all
 
--- among the items of children, where some pass
-module _ (passes : ℕ → Bool) (under : Entry → List Item) (es : List Entry) (tell : AllTell passes under es)
-    (cut : IsCut (λ x. passes x.key) (flat_map under es))
-    (some : filter (λ x. passes x.key) (flat_map under es) ≢ []) where
-  module _ (i : ℕ) (e : Entry) (is : e ≡ get_or es i e) (at : i ≡ length (filter (λ e. passes e.key) es) - 1)
-      (inside : i < length es) where
-
 -- below a node
 module _ {N : ℕ} (nodes : Arena (Node N)) (least height slot : ℕ) (f t : ℕ → Bool) (es : List Entry)
     (begin end : ℕ) (k : IsLook nodes least height slot f t es begin end) where
@@ -103,15 +93,3 @@ module _ {N : ℕ} (nodes : Arena (Node N)) (least height slot : ℕ) (f t : ℕ
       ∙ drop-map item_of (length passed - 1) (filter (λ (e : Entry). t e.key) es)
       ∙ ap (map item_of)
       (from_last_range (λ (e : Entry). f e.key) (λ (e : Entry). t e.key) es first end d le m k.end_is)
-
-  module _ (some : height ≡ 0 → ⊥) (any : filter (λ x. f x.key) (items_in nodes height slot) ≢ []) (first : ℕ)
-      (fi : first ≡ begin - 1) (left : Entry) (li : left ≡ get_or es first left) where
-    -- the items of an entry's child
-    abbrev pub children : Entry → List Item
-    children = below nodes least height slot f t es begin end k some
-
-    at : items_in nodes height slot ≡ flat_map children es
-    at = look_items nodes least height slot f t es begin end k some
-
-    inside : first < length es
-    inside = let i = first_inside nodes least height slot f t es begin end k some in omega (arith, i, fi)
