@@ -1,3 +1,4 @@
+pub mod Random
 pub mod Versions
 pub mod Txns
 pub mod Chain
