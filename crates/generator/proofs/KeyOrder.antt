@@ -9,7 +9,7 @@ use Rattle.std.specs.Int.{byte_at, bytes_high_first}
 use Rattle.std.specs.Ordering.{nat_cmp, is_lt, ordering_then}
 use Rattle.std.specs.declared.cmp.Ordering.{Ordering}
 use Rattle.std.specs.declared.cmp.Ordering.TheVariants.{Equal, Greater}
-use Rattle.keys.specs.Key.{IsAtMost}
+use Rattle.keys.specs.Key.{IsAtMost, IsBefore, is_before}
 use Rattle.generator.specs.Txns.{numbered_key}
 
 byte_is : (k n : ℕ) → byte_at k n ≡ n / 256 ^ k % 256
@@ -57,3 +57,11 @@ longer_behind [] (x ∷ xs) = refl
 longer_behind (x ∷ xs) more =
     subst (λ (o : Ordering). not (is_lt (ordering_then o (slice_cmp nat_cmp (xs ++ more) xs))) ≡ true)
         (nat_cmp_is x x Equal refl) (longer_behind xs more)
+
+-- the ends of a range aren't inverted
+pub not_inverted : (begin end first second : List ℕ) → begin ≡ first → end ≡ second → IsAtMost first second
+    → ¬ (IsBefore end begin)
+not_inverted begin end first second is_first is_second at_most before =
+    let most : not (is_before end begin) ≡ true = rw (is_first, is_second) at_most in
+    let bad : not true ≡ true = subst (λ b. not b ≡ true) before most in
+    absurd cc

@@ -1,6 +1,11 @@
-use Rattle.std.proofs.Common.{List, ℕ, subst, ◌∙◌}
+use Rattle.std.proofs.Common.{rules, ◌≡◌, ◌+◌, ◌*◌, ◌≤◌, List, ℕ, Err, ap, arith, inl, inr, length, subst, ◌∙◌}
 use Rattle.std.specs.Io.KnownBytes.{Appends}
+use Rattle.wire.specs.Fields.{batch_fields}
+use Rattle.wire.specs.Spelling.{batch_body}
+use Rattle.wire.specs.declared.error.WireError.TheVariants.{Memory}
+use Rattle.wire.specs.declared.version.WireVersion.TheVariants.{One}
 use Rattle.generator.specs.Chain.{IsBatchOf}
+use Rattle.generator.proofs.FrameLengths.{body_most}
 use Rattle.generator.proofs.Frames.{one_more}
 use Rattle.generator.proofs.generate.write_batches.Goals as goal
 
@@ -24,3 +29,15 @@ loop-number-preserved g c =
           before between after c.loop-number.invariant.0 is_batch c.in_ok-frame.ensures.spelled grown,
       c.in_ok-write_all.ensures.ok ∙ c.loop-number.invariant.1,
     )
+
+pub returns-in_err-frame-clause-never_limit : goal.returns-in_err-frame-clause-never_limit
+returns-in_err-frame-clause-never_limit g c =
+    let batch = c.in_ok-batch.batch in
+    let short = body_most c.args.plan.shape c.loop-number.number batch c.in_ok-batch.ensures.txns in
+    let refused = c.in_err-frame.ensures in
+    let memory : c.in_err-frame.field-0.0 ≡ Memory = elim refused.err [
+      | inl long ↦
+          let above = refused.long.0 (ap Err long) in
+          absurd (omega (arith, short, above, c.in_ok-batch.ensures.count, c.args.plan.most_transactions))
+      | inr memory ↦ memory
+    ] in search rules
