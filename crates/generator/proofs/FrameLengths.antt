@@ -1,11 +1,9 @@
 -- The frame of a batch that is drawn is short.
-use Rattle.std.proofs.Common.{◌≡◌, ℕ, ◌+◌, ◌*◌, ◌%◌, ◌≤◌, ℤ, Bool, true, false, List, [], ◌∷◌, ◌++◌, length, map, replicate, All, refl, sym, subst, arith, mod-lt}
+use Rattle.std.proofs.Common.{◌≡◌, ℕ, zero, suc, ap, ◌+◌, ◌*◌, ◌%◌, ◌≤◌, ℤ, Bool, true, false, List, [], ◌∷◌, ◌++◌, length, map, replicate, All, refl, sym, subst, arith, mod-lt}
 use Rattle.std.specs.List.{flat_map}
-use Rattle.std.specs.Int.{w64, cast_unsigned, to_be_bytes}
+use Rattle.std.specs.Int.{w64, bytes_high_first, cast_unsigned, to_be_bytes}
 use Rattle.std.proofs.lemmas.List.{length-append, length-map, length-replicate}
 use Rattle.std.proofs.lemmas.List.Elements.{All-head, All-tail}
-use Rattle.byteorder.specs.Endian.{big_bytes}
-use Rattle.byteorder.specs.Numbers.{length-bytes_high_first}
 use Rattle.keys.specs.declared.range.Range.{Range}
 use Rattle.keyspace.specs.declared.txn.Txn.{Txn}
 use Rattle.keyspace.specs.declared.batch.Batch.{Batch}
@@ -17,6 +15,10 @@ use Rattle.generator.specs.Versions.{reads_of, writes_of}
 use Rattle.generator.specs.declared.shape.Shape.{Shape}
 use Rattle.generator.specs.declared.shape.Shape.TheVariants.{SkipListTest, Points}
 
+length-bytes_high_first : (k n : ℕ) → length (bytes_high_first k n) ≡ k
+length-bytes_high_first zero n = refl
+length-bytes_high_first (suc k) n = ap suc (length-bytes_high_first k n)
+
 pub length-numbered_key : (number : ℕ) → length (numbered_key number) ≡ 16
 length-numbered_key number = refl
 
@@ -25,7 +27,7 @@ length-point number = omega (
   arith,
   length-append (to_be_bytes w64 number) (replicate (number % 17) 46),
   length-bytes_high_first 8 number,
-  length-replicate (number % 17) 46,
+  length-replicate {A = ℕ} (number % 17) 46,
 )
 
 length-ends_text : (range : Range)
@@ -33,8 +35,8 @@ length-ends_text : (range : Range)
 length-ends_text range = omega (
   arith,
   length-append (key_text range.begin) (key_text range.end),
-  length-append (big_bytes 2 (length range.begin)) range.begin,
-  length-append (big_bytes 2 (length range.end)) range.end,
+  length-append (bytes_high_first 2 (length range.begin)) range.begin,
+  length-append (bytes_high_first 2 (length range.end)) range.end,
   length-bytes_high_first 2 (length range.begin),
   length-bytes_high_first 2 (length range.end),
 )
@@ -76,8 +78,8 @@ txn_most shape number t is =
     let f = txn_fields t in
     let reads = flat_map (range_text One) f.reads in
     let writes = flat_map (range_text One) f.writes in
-    let read_count = big_bytes 2 (length f.reads) in
-    let write_count = big_bytes 2 (length f.writes) in
+    let read_count = bytes_high_first 2 (length f.reads) in
+    let write_count = bytes_high_first 2 (length f.writes) in
     omega (
       arith,
       length-append (signed_text t.snapshot) (marks_text t.marked
@@ -112,7 +114,7 @@ pub body_most : (shape : Shape) (number : ℕ) (b : Batch) → All (IsTxnOf shap
 unfolding batch_body
 body_most shape number b all =
     let txns = flat_map (txn_text One) (map txn_fields b.txns) in
-    let txn_count = big_bytes 2 (length (map txn_fields b.txns)) in
+    let txn_count = bytes_high_first 2 (length (map txn_fields b.txns)) in
     let header = header_text b.previous b.version b.received in
     omega (
       arith,
