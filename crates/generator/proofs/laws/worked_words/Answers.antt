@@ -5,4 +5,4 @@ use Rattle.generator.proofs.laws.worked_words.Goals as goal
 
 pub returns : goal.returns
 unfolding clap_on_literals faults_of workload_app
-returns c = record { help = refl; version = refl }
+returns c = record { help = refl; version = refl; help_between = refl; plan = refl }
