@@ -203,17 +203,20 @@ fn all_is_passed_on(rt: HostRuntime) -> Result<(), Fail> {
     let (code, passed) = run_with(rt.alloc(), "workload", 1_000)?;
     assert_eq!(rt; code, 0);
     assert_eq!(rt; passed, USAGE.len());
+    let (code, passed) = run_with(rt.alloc(), "workload --help", 10_000)?;
+    assert_eq!(rt; code, 0);
+    assert!(rt; passed > 100, "{passed}");
     Ok(())
 }
 
 // An environment with these words.
 #[derive(Drop)]
-struct Words<'a> {
+struct GivenWords<'a> {
     alloc: Global,
     words: &'a [&'a [u8]],
 }
 
-impl Alloc for Words<'_> {
+impl Alloc for GivenWords<'_> {
     type A = Global;
 
     fn alloc(&self) -> Global {
@@ -221,7 +224,7 @@ impl Alloc for Words<'_> {
     }
 }
 
-impl Env for Words<'_> {
+impl Env for GivenWords<'_> {
     fn arg(&self, i: usize, buf: &mut [u8]) -> Result<usize, FillError> {
         let word = self.words.get(i).ok_or(FillError::NotPresent)?;
         let room = buf.get_mut(..word.len()).ok_or(FillError::TooLong)?;
@@ -242,7 +245,7 @@ impl Env for Words<'_> {
 fn run_in_words(alloc: Global, words: &[&[u8]]) -> (u8, usize) {
     let mut out = StdSink::new(HoldsBack::new(1_000));
     let mut error = StdSink::new(HoldsBack::new(1_000));
-    let code = run_in(&Words { alloc, words }, &mut out, &mut error);
+    let code = run_in(&GivenWords { alloc, words }, &mut out, &mut error);
     (code, out.into_inner().passed)
 }
 

@@ -38,12 +38,12 @@ lowest_in_order (suc k) n m least same =
       | inl below ↦
           let above : byte_at k n < byte_at k m = omega (arith, alike, below, low, high) in
           subst (λ (o : Ordering). not (is_lt (ordering_then o rest)) ≡ true)
-              (nat_cmp_is (byte_at k m) (byte_at k n) Greater above) refl
+          (nat_cmp_is (byte_at k m) (byte_at k n) Greater above) refl
       | inr not_below ↦
           let equal : n / 256 ^ k ≡ m / 256 ^ k = omega (arith, rises, not_below) in
           subst (λ (o : Ordering). not (is_lt (ordering_then o rest)) ≡ true)
-              (nat_cmp_is (byte_at k m) (byte_at k n) Equal (omega (arith, equal, low, high)))
-              (lowest_in_order k n m least equal)
+          (nat_cmp_is (byte_at k m) (byte_at k n) Equal (omega (arith, equal, low, high)))
+          (lowest_in_order k n m least equal)
     ]
 
 -- the key of a number of 64 bits isn't after that of a number that is no less
@@ -56,7 +56,7 @@ longer_behind [] [] = refl
 longer_behind [] (x ∷ xs) = refl
 longer_behind (x ∷ xs) more =
     subst (λ (o : Ordering). not (is_lt (ordering_then o (slice_cmp nat_cmp (xs ++ more) xs))) ≡ true)
-        (nat_cmp_is x x Equal refl) (longer_behind xs more)
+    (nat_cmp_is x x Equal refl) (longer_behind xs more)
 
 -- the ends of a range aren't inverted
 pub not_inverted : (begin end first second : List ℕ) → begin ≡ first → end ≡ second → IsAtMost first second

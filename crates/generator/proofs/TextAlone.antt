@@ -3,7 +3,7 @@ use Rattle.std.specs.Prelude.{◌≡◌, ◌⊎◌, [], ◌∷◌}
 use Rattle.std.proofs.Common.{inl, inr, subst, sym, ◌∙◌}
 use Rattle.clap.specs.Words.{IsAmong, Kinds}
 use Rattle.clap.specs.declared.error.kind.ErrorKind.{ErrorKind}
-use Rattle.clap.specs.declared.error.kind.ErrorKind.TheVariants.{DisplayHelp, DisplayVersion, OutOfMemory}
+use Rattle.clap.specs.declared.error.kind.ErrorKind.TheVariants.{DisplayHelp, DisplayVersion}
 
 -- the kinds are those of a request alone
 abbrev pub AreOfText : Kinds → Type 0
@@ -18,6 +18,6 @@ some_kind kinds (inr version) none = let bad : DisplayVersion ∷ [] ≡ [] = sy
 pub shows_text : (kinds : Kinds) (kind : ErrorKind) → AreOfText kinds → IsAmong kind kinds
     → (kind ≡ DisplayHelp) ⊎ (kind ≡ DisplayVersion)
 shows_text kinds kind (inl help) among =
-    elim (subst (λ (ks : Kinds). IsAmong kind ks) help among) [ | inl is ↦ inl is | inr none ↦ absurd none ]
+    elim (subst (λ (ks : Kinds). IsAmong kind ks) help among) [ inl is ↦ inl is | inr none ↦ absurd none ]
 shows_text kinds kind (inr version) among =
-    elim (subst (λ (ks : Kinds). IsAmong kind ks) version among) [ | inl is ↦ inr is | inr none ↦ absurd none ]
+    elim (subst (λ (ks : Kinds). IsAmong kind ks) version among) [ inl is ↦ inr is | inr none ↦ absurd none ]

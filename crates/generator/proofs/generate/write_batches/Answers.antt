@@ -1,9 +1,6 @@
-use Rattle.std.proofs.Common.{rules, ◌≡◌, ◌+◌, ◌*◌, ◌≤◌, List, ℕ, Err, ap, arith, inl, inr, length, subst, ◌∙◌}
+use Rattle.std.proofs.Common.{rules, ◌≡◌, List, ℕ, Err, ap, arith, inl, inr, subst, ◌∙◌}
 use Rattle.std.specs.Io.KnownBytes.{Appends}
-use Rattle.wire.specs.Fields.{batch_fields}
-use Rattle.wire.specs.Spelling.{batch_body}
 use Rattle.wire.specs.declared.error.WireError.TheVariants.{Memory}
-use Rattle.wire.specs.declared.version.WireVersion.TheVariants.{One}
 use Rattle.generator.specs.Chain.{IsBatchOf}
 use Rattle.generator.proofs.FrameLengths.{body_most}
 use Rattle.generator.proofs.Frames.{one_more}

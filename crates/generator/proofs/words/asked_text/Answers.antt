@@ -41,11 +41,11 @@ shows_none : (kinds : Kinds) (kind : ErrorKind) → (kind ≡ OutOfMemory → �
     → (kind ≡ OutOfMemory) ⊎ IsAmong kind kinds → ¬ AreOfText kinds
 shows_none kinds kind no_memory no_help no_version (inl memory) alone = no_memory memory
 shows_none kinds kind no_memory no_help no_version (inr among) alone =
-    elim (shows_text kinds kind alone among) [ | inl help ↦ no_help help | inr version ↦ no_version version ]
+    elim (shows_text kinds kind alone among) [ inl help ↦ no_help help | inr version ↦ no_version version ]
 
 pub returns : goal.returns
 unfolding faults_of
-returns c = 
+returns c =
     let words : List (List ℕ) = map string_bytes c.args.words.now in
     let kinds = c.in-Err.ensures.kinds (ap is_simple_and_free c.in_ok-command.ensures.app ∙ workload_app-free) in
     let has = subst (λ (app : App). HasKind (fault_of app words) c.in-Err.error) c.in_ok-command.ensures.app kinds in
