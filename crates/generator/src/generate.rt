@@ -1,11 +1,11 @@
 //! Batches of transactions, and their frames.
 
-ghost use Rattle.std.specs.Prelude.{◌≡◌, ◌≢◌, ◌<◌, ◌≤◌, ◌-◌, ℕ, negsuc, List, Err, All, IfErr, IfOk, OnOk, length, vec_len};
+ghost use Rattle.std.specs.Prelude.{◌≡◌, ◌≢◌, ◌<◌, ◌≤◌, ◌-◌, ℕ, negsuc, List, Err, All, IfErr, IfOk, OnErr, OnOk, length, vec_len};
 ghost use Rattle.keyspace.specs.declared.batch.TheConstants.{MAX_TXNS};
 ghost use Rattle.std.specs.Io.KnownBytes.{Appends};
 ghost use Rattle.generator.specs.Versions.{version_of};
 ghost use Rattle.generator.specs.Txns.{IsTxnOf, IsSnapshotOf};
-ghost use Rattle.generator.specs.Chain.{previous_of, AreFrames};
+ghost use Rattle.generator.specs.Chain.{previous_of, AreFrames, BreaksOff};
 
 use crate::chain::{version, version_before};
 use crate::fault::Fault;
@@ -88,10 +88,12 @@ pub fn draw_batch(
 }
 
 /// Writes the frames of the batches that the plan asks for, and nothing else, and flushes the sink. Returns `Write` where the
-/// sink fails, and else `Memory`.
+/// sink fails, and else `Memory`; a beginning of the frames is written then.
 pub fn write_batches<W: Sink>(alloc: Global, plan: Plan, out: &mut W) -> Result<(), Fault>
     ensures written { OnOk result ((bytes : List ℕ)
         × AreFrames plan.shape plan.transactions plan.batches bytes × Appends (W.given out.old) (W.given out.new) bytes) }
+    ensures broken_off { OnErr result
+        (BreaksOff plan.shape plan.transactions plan.batches (W.given out.old) (W.given out.new)) }
     ensures ok { OnOk result (W.failures out.new ≡ W.failures out.old) }
     ensures failed { W.failures out.old < W.failures out.new → result ≡ Err Fault.Write }
     ensures write { IfErr result (λ fault. fault ≡ Fault.Write → W.failures out.old < W.failures out.new) }

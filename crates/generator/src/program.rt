@@ -4,7 +4,7 @@ ghost use Rattle.std.specs.Prelude.{◌≡◌, ◌≢◌, ◌⊎◌, ◌<◌, �
 ghost use Rattle.std.specs.Io.KnownBytes.{Appends};
 ghost use Rattle.generator.specs.Fault.{IsTold, line_of, expected_line};
 ghost use Rattle.generator.specs.Command.{AsksForText, AsksForTextAlone};
-ghost use Rattle.generator.specs.Run.{AreAskedFor, AskForNothing};
+ghost use Rattle.generator.specs.Run.{AreAskedFor, AskForNothing, BreakOffAsked};
 ghost use Rattle.generator.specs.Words.{usage_lines};
 ghost use Rattle.generator.specs.declared.fault.Fault.{Fault as FaultValue};
 
@@ -29,6 +29,8 @@ fn show<W: Sink>(out: &mut W, text: &str) -> Result<(), Failed>
 fn write_asked<W: Sink>(alloc: Global, words: &[String], out: &mut W) -> Result<bool, Fault>
     ensures written { IfOk result (λ done. done ≡ true → 2 ≤ length words.entry.now → (bytes : List ℕ)
         × AreAskedFor (map string_bytes words.entry.now) bytes × Appends (W.given out.old) (W.given out.new) bytes) }
+    ensures broken_off { OnErr result (2 ≤ length words.entry.now
+        → BreakOffAsked (map string_bytes words.entry.now) (W.given out.old) (W.given out.new)) }
     ensures usage { IfOk result (λ done. length words.entry.now < 2
         → (done ≡ true) × Appends (W.given out.old) (W.given out.new) usage_lines) }
     ensures refused { 2 ≤ length words.entry.now → AskForNothing (map string_bytes words.entry.now)
@@ -87,8 +89,10 @@ pub fn run<O: Sink, E: Sink>(alloc: Global, words: &[String], out: &mut O, error
     ensures text { result ≡ 0 → (text : List ℕ) × Appends (O.given out.old) (O.given out.new) text }
     ensures usage { result ≡ 0 → length words.entry.now < 2
         → Appends (O.given out.old) (O.given out.new) usage_lines }
-    ensures answered { 2 ≤ length words.entry.now → AskForNothing (map string_bytes words.entry.now)
-        → AsksForTextAlone (map string_bytes words.entry.now) → (result ≡ 0) ⊎ (result ≡ 1) }
+    ensures answered { AsksForTextAlone (map string_bytes words.entry.now) → (result ≡ 0) ⊎ (result ≡ 1) }
+    ensures broken_off { result ≡ 1 → 2 ≤ length words.entry.now
+        → BreakOffAsked (map string_bytes words.entry.now) (O.given out.old) (O.given out.new)
+        ⊎ AskForNothing (map string_bytes words.entry.now) }
     ensures mistaken { result ≡ 2
         → (2 ≤ length words.entry.now) × AskForNothing (map string_bytes words.entry.now) }
     ensures refused { 2 ≤ length words.entry.now → AskForNothing (map string_bytes words.entry.now)

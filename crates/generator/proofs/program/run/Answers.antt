@@ -23,3 +23,8 @@ returns-in-Ok-false-clause-mistaken g c = λ two.
       | inl short ↦ let bad : true ≡ false = sym (c.in-Ok-false.ensures.usage short).0 ∙ refused in absurd cc
       | inr least ↦ least
     ] in (long, c.write_asked.ensures.nothing cc)
+
+pub returns-in-Ok-false-clause-broken_off : goal.returns-in-Ok-false-clause-broken_off
+returns-in-Ok-false-clause-broken_off g c = λ one long.
+    let is = c.in-Ok-false.is in
+    let refused = c.in-Ok-false.field-0-test in inr (c.write_asked.ensures.nothing cc)
