@@ -1,5 +1,5 @@
-use Rattle.std.proofs.Common.{rules, ◌≡◌, ◌+◌, ◌*◌, ◌<◌, ◌≤◌, List, ℕ, Err, Ok, Result, ap, arith, inl, inr, length, subst, sym, take, ◌∙◌}
-use Rattle.std.specs.Prelude.{IfSome, OnErr}
+use Rattle.std.proofs.Common.{rules, ◌≡◌, List, ℕ, Err, ap, arith, inl, inr, subst, take, ◌∙◌}
+use Rattle.std.specs.Prelude.{IfSome}
 use Rattle.std.specs.Io.KnownBytes.{Appends}
 use Rattle.wire.specs.declared.error.WireError.TheVariants.{Memory}
 use Rattle.generator.specs.Chain.{IsBatchOf}
