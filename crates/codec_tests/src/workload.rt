@@ -2,12 +2,14 @@
 //! written is passed on.
 
 use crate::texts::is_again;
-use generator::{Random, Shape, USAGE, draw_batch, draw_range, read_words, run};
+use generator::{Random, Shape, USAGE, draw_batch, draw_range, read_words, run, run_in};
 use keyspace::Batch;
-use std::alloc::Global;
+use std::alloc::{Alloc, Global};
 use std::collections::BTreeSet;
+use std::env::FillError;
 use std::io;
 use std::io::{ErrorKind, Write};
+use std::rt::Env;
 use std::test::Fail;
 use wire::{StdSink, WireError, WireVersion, decode_batch, encode_batch_1};
 
@@ -201,5 +203,63 @@ fn all_is_passed_on(rt: HostRuntime) -> Result<(), Fail> {
     let (code, passed) = run_with(rt.alloc(), "workload", 1_000)?;
     assert_eq!(rt; code, 0);
     assert_eq!(rt; passed, USAGE.len());
+    let (code, passed) = run_with(rt.alloc(), "workload --help", 10_000)?;
+    assert_eq!(rt; code, 0);
+    assert!(rt; passed > 100, "{passed}");
     Ok(())
+}
+
+// An environment with these words.
+#[derive(Drop)]
+struct GivenWords<'a> {
+    alloc: Global,
+    words: &'a [&'a [u8]],
+}
+
+impl Alloc for GivenWords<'_> {
+    type A = Global;
+
+    fn alloc(&self) -> Global {
+        self.alloc
+    }
+}
+
+impl Env for GivenWords<'_> {
+    fn arg(&self, i: usize, buf: &mut [u8]) -> Result<usize, FillError> {
+        let word = self.words.get(i).ok_or(FillError::NotPresent)?;
+        let room = buf.get_mut(..word.len()).ok_or(FillError::TooLong)?;
+        room.copy_from_slice(word);
+        Ok(word.len())
+    }
+
+    fn var(&self, _name: &str, _buf: &mut [u8]) -> Result<usize, FillError> {
+        Err(FillError::NotPresent)
+    }
+
+    fn var_at(&self, _i: usize, _buf: &mut [u8]) -> Result<usize, FillError> {
+        Err(FillError::NotPresent)
+    }
+}
+
+// Runs by the words of an environment, and returns the exit code, and how many bytes were passed on as output.
+fn run_in_words(alloc: Global, words: &[&[u8]]) -> (u8, usize) {
+    let mut out = StdSink::new(HoldsBack::new(1_000));
+    let mut error = StdSink::new(HoldsBack::new(1_000));
+    let code = run_in(&GivenWords { alloc, words }, &mut out, &mut error);
+    (code, out.into_inner().passed)
+}
+
+// All words of an environment are taken, in their order, and one that isn't text is refused.
+#[test]
+fn words_of_an_environment(rt: HostRuntime) {
+    let alloc = rt.alloc();
+    let frame: [&[u8]; 4] = [b"workload", b"skiplisttest", b"1", b"1"];
+    let version: [&[u8]; 2] = [b"workload", b"--version"];
+    let no_text: [&[u8]; 2] = [b"workload", b"\xff"];
+    let none: [&[u8]; 1] = [b"workload"];
+    assert_eq!(rt; run_in_words(alloc, &frame), (0, 116));
+    assert_eq!(rt; run_in_words(alloc, &frame[..3]), (2, 0));
+    assert_eq!(rt; run_in_words(alloc, &version), (0, 15));
+    assert_eq!(rt; run_in_words(alloc, &no_text), (2, 0));
+    assert_eq!(rt; run_in_words(alloc, &none), (0, USAGE.len()));
 }

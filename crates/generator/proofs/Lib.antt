@@ -1,2 +1,5 @@
 pub mod Frames
 pub mod FourWords
+pub mod FrameLengths
+pub mod KeyOrder
+pub mod TextAlone

@@ -1,5 +1,6 @@
 -- What a file holds: the batches of one chain, by their numbers from 0.
-use Rattle.std.specs.Prelude.{◌≡◌, ℕ, ◌<◌, ◌≤◌, ◌-◌, ℤ, negsuc, zero, suc, List, [], ◌++◌, length, All}
+use Rattle.std.specs.Prelude.{◌≡◌, ℕ, ◌<◌, ◌≤◌, ◌-◌, ℤ, negsuc, zero, suc, List, [], ◌++◌, length, All, Option, IfSome}
+use Rattle.std.specs.Io.KnownBytes.{Appends}
 use Rattle.keyspace.specs.declared.batch.Batch.{Batch}
 use Rattle.wire.specs.Spelling.{SpellsBatch}
 use Rattle.wire.specs.declared.version.WireVersion.TheVariants.{One}
@@ -28,3 +29,10 @@ AreFrames shape count zero bytes = bytes ≡ []
 AreFrames shape count (suc number) bytes =
     (front last : List ℕ) × (batch : Batch) × (bytes ≡ front ++ last) × AreFrames shape count number front
     × IsBatchOf shape count number batch × SpellsBatch One last batch
+
+-- Where the sink still tells its bytes, they grew by a beginning of the frames of all batches below some number, which is at most this
+-- one.
+abbrev pub BreaksOff : Shape → ℕ → ℕ → Option (List ℕ) → Option (List ℕ) → Type 0
+BreaksOff shape count batches before after =
+    IfSome after (λ _. (number : ℕ) × (number ≤ batches) × (bytes rest : List ℕ)
+    × AreFrames shape count number (bytes ++ rest) × Appends before after bytes)

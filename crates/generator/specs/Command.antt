@@ -1,5 +1,5 @@
 -- The command line as `clap` sees it, and what it finds at fault in the words.
-use Rattle.std.specs.Prelude.{◌≡◌, ◌⊎◌, ℕ, true, List, codes}
+use Rattle.std.specs.Prelude.{◌≡◌, ◌⊎◌, ℕ, true, List, [], ◌∷◌, codes}
 use Rattle.clap.specs.Words.{App, IsAmong, Kinds, Rule, fault_of, new_app, new_rule, with_rule}
 use Rattle.clap.specs.declared.error.kind.ErrorKind.{ErrorKind}
 use Rattle.clap.specs.declared.error.kind.ErrorKind.TheVariants.{DisplayHelp, DisplayVersion}
@@ -26,3 +26,7 @@ faults_of = fault_of workload_app
 abbrev pub AsksForText : List (List ℕ) → Type 0
 AsksForText words =
     (kind : ErrorKind) × IsAmong kind (faults_of words) × ((kind ≡ DisplayHelp) ⊎ (kind ≡ DisplayVersion))
+
+-- `clap` finds nothing at fault in the words but that they ask for help or the version
+abbrev pub AsksForTextAlone : List (List ℕ) → Type 0
+AsksForTextAlone words = (faults_of words ≡ DisplayHelp ∷ []) ⊎ (faults_of words ≡ DisplayVersion ∷ [])

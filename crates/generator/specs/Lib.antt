@@ -1,4 +1,6 @@
+pub mod Random
 pub mod Versions
+pub mod Draws
 pub mod Txns
 pub mod Chain
 pub mod Words

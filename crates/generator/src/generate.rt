@@ -1,10 +1,11 @@
 //! Batches of transactions, and their frames.
 
-ghost use Rattle.std.specs.Prelude.{◌≡◌, ◌<◌, ◌≤◌, ◌-◌, ℕ, negsuc, List, Err, All, IfOk, OnOk, length, vec_len};
+ghost use Rattle.std.specs.Prelude.{◌≡◌, ◌≢◌, ◌<◌, ◌≤◌, ◌-◌, ℕ, negsuc, List, Err, All, IfErr, IfOk, OnErr, OnOk, length, vec_len};
+ghost use Rattle.keyspace.specs.declared.batch.TheConstants.{MAX_TXNS};
 ghost use Rattle.std.specs.Io.KnownBytes.{Appends};
 ghost use Rattle.generator.specs.Versions.{version_of};
 ghost use Rattle.generator.specs.Txns.{IsTxnOf, IsSnapshotOf};
-ghost use Rattle.generator.specs.Chain.{previous_of, AreFrames};
+ghost use Rattle.generator.specs.Chain.{previous_of, AreFrames, BreaksOff};
 
 use crate::chain::{version, version_before};
 use crate::fault::Fault;
@@ -33,6 +34,7 @@ fn draw_snapshot(random: &mut Random, shape: Shape, number: u32) -> i64
 // Draws a transaction of the batch of this number.
 fn draw_txn(alloc: Global, random: &mut Random, shape: Shape, number: u32) -> Result<Txn, Fault>
     ensures txn { IfOk result (IsTxnOf shape number) }
+    ensures memory { IfErr result (λ fault. fault ≡ Fault.Memory) }
 {
     let snapshot = draw_snapshot(random, shape, number);
     let reads = draw_ranges(alloc, random, shape, shape.reads())?;
@@ -51,6 +53,7 @@ fn draw_txns(
 ) -> Result<Vec<Txn>, Fault>
     ensures count { IfOk result (λ txns. vec_len txns ≡ count) }
     ensures each { IfOk result (λ txns. All (IsTxnOf shape number) txns.items) }
+    ensures memory { IfErr result (λ fault. fault ≡ Fault.Memory) }
 {
     let mut txns = Vec::with_capacity(alloc, count)?;
     for _ in 0..count {
@@ -60,7 +63,8 @@ fn draw_txns(
 }
 
 /// Draws the batch of this number, from 0, with so many transactions. The batches of a shape are one chain: each follows the
-/// version of the one before, and the first follows -1. The proxy has received the answer of eight batches before.
+/// version of the one before, and the first follows -1. The proxy has received the answer of eight batches before. Where a batch
+/// may have so many transactions, only memory may be refused.
 pub fn draw_batch(
     alloc: Global,
     random: &mut Random,
@@ -74,6 +78,7 @@ pub fn draw_batch(
     ensures received { IfOk result (λ batch. 8 ≤ number → batch.received ≡ version_of shape (number - 8)) }
     ensures count { IfOk result (λ batch. length batch.txns ≡ count) }
     ensures txns { IfOk result (λ batch. All (IsTxnOf shape number) batch.txns) }
+    ensures memory { count ≤ MAX_TXNS → IfErr result (λ fault. fault ≡ Fault.Memory) }
 {
     let txns = draw_txns(alloc, random, shape, number, count)?;
     let previous = version_before(shape, number, 1);
@@ -83,12 +88,16 @@ pub fn draw_batch(
 }
 
 /// Writes the frames of the batches that the plan asks for, and nothing else, and flushes the sink. Returns `Write` where the
-/// sink fails.
+/// sink fails, and else `Memory`; a beginning of the frames is written then.
 pub fn write_batches<W: Sink>(alloc: Global, plan: Plan, out: &mut W) -> Result<(), Fault>
     ensures written { OnOk result ((bytes : List ℕ)
         × AreFrames plan.shape plan.transactions plan.batches bytes × Appends (W.given out.old) (W.given out.new) bytes) }
+    ensures broken_off { OnErr result
+        (BreaksOff plan.shape plan.transactions plan.batches (W.given out.old) (W.given out.new)) }
     ensures ok { OnOk result (W.failures out.new ≡ W.failures out.old) }
     ensures failed { W.failures out.old < W.failures out.new → result ≡ Err Fault.Write }
+    ensures write { IfErr result (λ fault. fault ≡ Fault.Write → W.failures out.old < W.failures out.new) }
+    ensures never_limit { IfErr result (λ fault. fault ≢ Fault.Limit) }
 {
     let mut random = Random::new(SEED);
     for number in 0..plan.batches {

@@ -10,6 +10,7 @@ mod command;
 mod environment;
 mod fault;
 mod generate;
+pub mod laws;
 mod plan;
 mod program;
 mod random;

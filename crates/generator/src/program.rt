@@ -1,10 +1,10 @@
 //! The program, over any words and streams.
 
-ghost use Rattle.std.specs.Prelude.{◌≡◌, ◌⊎◌, ◌<◌, ◌≤◌, ℕ, List, true, false, length, map, string_bytes, Ok, Err, IfOk, OnErr, OnOk};
+ghost use Rattle.std.specs.Prelude.{◌≡◌, ◌≢◌, ◌⊎◌, ◌<◌, ◌≤◌, ℕ, List, true, false, length, map, string_bytes, Ok, Err, IfErr, IfOk, OnErr, OnOk};
 ghost use Rattle.std.specs.Io.KnownBytes.{Appends};
 ghost use Rattle.generator.specs.Fault.{IsTold, line_of, expected_line};
-ghost use Rattle.generator.specs.Command.{AsksForText};
-ghost use Rattle.generator.specs.Run.{AreAskedFor, AskForNothing};
+ghost use Rattle.generator.specs.Command.{AsksForText, AsksForTextAlone};
+ghost use Rattle.generator.specs.Run.{AreAskedFor, AskForNothing, BreakOffAsked};
 ghost use Rattle.generator.specs.Words.{usage_lines};
 ghost use Rattle.generator.specs.declared.fault.Fault.{Fault as FaultValue};
 
@@ -29,6 +29,8 @@ fn show<W: Sink>(out: &mut W, text: &str) -> Result<(), Failed>
 fn write_asked<W: Sink>(alloc: Global, words: &[String], out: &mut W) -> Result<bool, Fault>
     ensures written { IfOk result (λ done. done ≡ true → 2 ≤ length words.entry.now → (bytes : List ℕ)
         × AreAskedFor (map string_bytes words.entry.now) bytes × Appends (W.given out.old) (W.given out.new) bytes) }
+    ensures broken_off { OnErr result (2 ≤ length words.entry.now
+        → BreakOffAsked (map string_bytes words.entry.now) (W.given out.old) (W.given out.new)) }
     ensures usage { IfOk result (λ done. length words.entry.now < 2
         → (done ≡ true) × Appends (W.given out.old) (W.given out.new) usage_lines) }
     ensures refused { 2 ≤ length words.entry.now → AskForNothing (map string_bytes words.entry.now)
@@ -37,6 +39,8 @@ fn write_asked<W: Sink>(alloc: Global, words: &[String], out: &mut W) -> Result<
     ensures nothing_written { result ≡ Ok false → W.given out.new ≡ W.given out.old }
     ensures ok { OnOk result (W.failures out.new ≡ W.failures out.old) }
     ensures failed { W.failures out.old < W.failures out.new → result ≡ Err Fault.Write }
+    ensures write { IfErr result (λ fault. fault ≡ Fault.Write → W.failures out.old < W.failures out.new) }
+    ensures never_limit { IfErr result (λ fault. fault ≢ Fault.Limit) }
 {
     if words.len() < 2 {
         show(out, USAGE)?;
@@ -54,6 +58,7 @@ fn answer<O: Sink, E: Sink>(alloc: Global, words: &[String], out: &mut O, error:
     ensures shown { result ≡ 0 → AsksForText (map string_bytes words.entry.now) }
     ensures text { result ≡ 0 → (text : List ℕ) × Appends (O.given out.old) (O.given out.new) text }
     ensures quiet { result ≡ 0 → E.given error.new ≡ E.given error.old }
+    ensures answered { AsksForTextAlone (map string_bytes words.entry.now) → (result ≡ 0) ⊎ (result ≡ 1) }
     ensures refused { ¬ AsksForText (map string_bytes words.entry.now) → (result ≡ 2) ⊎ ((result ≡ 1)
         × IsTold (line_of Fault.Memory) (E.given error.old) (E.given error.new) (E.failures error.old) (E.failures error.new)) }
     ensures code { (result ≡ 0) ⊎ ((result ≡ 1) ⊎ (result ≡ 2)) }
@@ -81,8 +86,15 @@ pub fn run<O: Sink, E: Sink>(alloc: Global, words: &[String], out: &mut O, error
     ensures written { result ≡ 0 → 2 ≤ length words.entry.now → ((bytes : List ℕ)
         × AreAskedFor (map string_bytes words.entry.now) bytes × Appends (O.given out.old) (O.given out.new) bytes)
         ⊎ (AskForNothing (map string_bytes words.entry.now) × AsksForText (map string_bytes words.entry.now)) }
+    ensures text { result ≡ 0 → (text : List ℕ) × Appends (O.given out.old) (O.given out.new) text }
     ensures usage { result ≡ 0 → length words.entry.now < 2
         → Appends (O.given out.old) (O.given out.new) usage_lines }
+    ensures answered { AsksForTextAlone (map string_bytes words.entry.now) → (result ≡ 0) ⊎ (result ≡ 1) }
+    ensures broken_off { result ≡ 1 → 2 ≤ length words.entry.now
+        → BreakOffAsked (map string_bytes words.entry.now) (O.given out.old) (O.given out.new)
+        ⊎ AskForNothing (map string_bytes words.entry.now) }
+    ensures mistaken { result ≡ 2
+        → (2 ≤ length words.entry.now) × AskForNothing (map string_bytes words.entry.now) }
     ensures refused { 2 ≤ length words.entry.now → AskForNothing (map string_bytes words.entry.now)
         → ¬ AsksForText (map string_bytes words.entry.now) → (result ≡ 2) ⊎ ((result ≡ 1)
         × IsTold (line_of Fault.Memory) (E.given error.old) (E.given error.new) (E.failures error.old) (E.failures error.new)) }
@@ -93,6 +105,8 @@ pub fn run<O: Sink, E: Sink>(alloc: Global, words: &[String], out: &mut O, error
         → IsTold expected_line (E.given error.old) (E.given error.new) (E.failures error.old) (E.failures error.new) }
     ensures failed { O.failures out.old < O.failures out.new → (result ≡ 1)
         × IsTold (line_of Fault.Write) (E.given error.old) (E.given error.new) (E.failures error.old) (E.failures error.new) }
+    ensures memory { result ≡ 1 → (O.failures out.old < O.failures out.new)
+        ⊎ IsTold (line_of Fault.Memory) (E.given error.old) (E.given error.new) (E.failures error.old) (E.failures error.new) }
     ensures told { result ≡ 1 → (fault : FaultValue)
         × IsTold (line_of fault) (E.given error.old) (E.given error.new) (E.failures error.old) (E.failures error.new) }
 {

@@ -1,6 +1,7 @@
 //! A source of numbers that look drawn by chance.
 
-ghost use Rattle.std.specs.Prelude.{◌≤◌, ◌<◌};
+ghost use Rattle.std.specs.Prelude.{◌≡◌, ◌≤◌, ◌<◌};
+ghost use Rattle.generator.specs.Random.{number_below, state_after, state_of};
 
 /// A linear congruence of 64 bits: the same seed gives the same numbers.
 #[derive(Clone, Copy, Debug, PartialEq, Eq)]
@@ -10,7 +11,9 @@ pub struct Random {
 
 impl Random {
     /// Creates the source that begins with this seed.
-    pub fn new(seed: u64) -> Self {
+    pub fn new(seed: u64) -> Self
+        ensures seed { state_of result ≡ seed }
+    {
         Random { state: seed }
     }
 
@@ -18,6 +21,8 @@ impl Random {
     pub fn below(&mut self, bound: u64) -> u64
         requires some { 1 ≤ bound }
         ensures below { result < bound }
+        ensures number { result ≡ number_below bound (state_of self.new) }
+        ensures state { state_of self.new ≡ state_after (state_of self.old) }
     {
         self.state = self
             .state

@@ -1,6 +1,6 @@
 //! Keys and ranges of keys, by numbers.
 
-ghost use Rattle.std.specs.Prelude.{◌≡◌, All, IfOk, vec_len};
+ghost use Rattle.std.specs.Prelude.{◌≡◌, All, IfErr, IfOk, vec_len};
 ghost use Rattle.generator.specs.Txns.{numbered_key, point, IsRangeOf};
 
 use crate::fault::Fault;
@@ -12,6 +12,7 @@ use std::alloc::Global;
 // A key of 16 bytes: a fixed text, then the number.
 fn numbered_key(alloc: Global, number: u64) -> Result<Key, Fault>
     ensures key { IfOk result (λ key. key ≡ numbered_key number) }
+    ensures memory { IfErr result (λ fault. fault ≡ Fault.Memory) }
 {
     let mut bytes = Vec::from_slice(alloc, b"workload")?;
     bytes.extend_from_slice(&number.to_be_bytes())?;
@@ -21,15 +22,17 @@ fn numbered_key(alloc: Global, number: u64) -> Result<Key, Fault>
 // The bytes of a key of 8 to 24 bytes: the number, then a filling whose length the number settles.
 fn point(alloc: Global, number: u64) -> Result<Vec<u8>, Fault>
     ensures point { IfOk result (λ bytes. bytes.items ≡ point number) }
+    ensures memory { IfErr result (λ fault. fault ≡ Fault.Memory) }
 {
     let mut bytes = Vec::from_slice(alloc, &number.to_be_bytes())?;
     bytes.resize(bytes.len() + (number % 17) as usize, b'.')?;
     Ok(bytes)
 }
 
-/// Draws the next range of keys.
+/// Draws the next range of keys. Only memory may be refused.
 pub fn draw_range(alloc: Global, random: &mut Random, shape: Shape) -> Result<Range, Fault>
     ensures range { IfOk result (IsRangeOf shape) }
+    ensures memory { IfErr result (λ fault. fault ≡ Fault.Memory) }
 {
     let number = shape.draw(random);
     match shape {
@@ -48,7 +51,7 @@ pub fn draw_range(alloc: Global, random: &mut Random, shape: Shape) -> Result<Ra
     }
 }
 
-/// Draws so many ranges.
+/// Draws so many ranges. Only memory may be refused.
 pub fn draw_ranges(
     alloc: Global,
     random: &mut Random,
@@ -57,6 +60,7 @@ pub fn draw_ranges(
 ) -> Result<Vec<Range>, Fault>
     ensures count { IfOk result (λ ranges. vec_len ranges ≡ count) }
     ensures each { IfOk result (λ ranges. All (IsRangeOf shape) ranges.items) }
+    ensures memory { IfErr result (λ fault. fault ≡ Fault.Memory) }
 {
     let mut ranges = Vec::with_capacity(alloc, count)?;
     for _ in 0..count {

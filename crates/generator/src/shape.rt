@@ -2,6 +2,8 @@
 
 ghost use Rattle.std.specs.Prelude.{◌≡◌, ◌≢◌, ◌≤◌, ◌<◌, IfSome, IfNone};
 ghost use Rattle.generator.specs.Versions.{reads_of, writes_of, keys_of};
+ghost use Rattle.generator.specs.Draws.{behind_back, behind_key, drawn_back, drawn_key};
+ghost use Rattle.generator.specs.Random.{state_of};
 ghost use Rattle.generator.specs.Txns.{LooksBack};
 ghost use Rattle.generator.specs.Words.{name_of};
 
@@ -59,6 +61,8 @@ impl Shape {
     pub fn look_back(self, random: &mut Random) -> u32
         ensures back { LooksBack self result }
         ensures some { 1 ≤ result }
+        ensures drawn { result ≡ drawn_back self (state_of random.old) }
+        ensures state { state_of random.new ≡ behind_back self (state_of random.old) }
     {
         match self {
             Shape::SkipListTest => 50,
@@ -69,6 +73,8 @@ impl Shape {
     /// Draws the number of the next key.
     pub fn draw(self, random: &mut Random) -> u64
         ensures few { result < keys_of self }
+        ensures drawn { result ≡ drawn_key self (state_of random.old) }
+        ensures state { state_of random.new ≡ behind_key self (state_of random.old) }
     {
         match self {
             Shape::SkipListTest => random.below(RANGE_KEYS),

@@ -1,7 +1,7 @@
 //! The words of the command line.
 
-ghost use Rattle.std.specs.Prelude.{◌≡◌, ℕ, IfErr, IfOk, IfSome, IfNone, map, string_bytes};
-ghost use Rattle.generator.specs.Command.{AsksForText};
+ghost use Rattle.std.specs.Prelude.{◌≡◌, ℕ, IfErr, IfOk, IfSome, IfNone, IsSome, map, string_bytes};
+ghost use Rattle.generator.specs.Command.{AsksForText, AsksForTextAlone};
 ghost use Rattle.generator.specs.Fault.{IsTold, expected_line};
 ghost use Rattle.generator.specs.declared.plan.Plan.{Plan as PlanValue};
 ghost use Rattle.generator.specs.Words.{AskFor, IsNumberTo};
@@ -68,6 +68,7 @@ pub fn refuse<E: Sink>(error: &mut E) -> u8
 /// Returns the text of help or of the version, where `clap` finds that the words ask for it.
 pub fn asked_text(alloc: Global, words: &[String]) -> Result<Option<String>, Fault>
     ensures asked { IfOk result (λ text. IfSome text (λ _. AsksForText (map string_bytes words.entry.now))) }
+    ensures answered { IfOk result (λ text. AsksForTextAlone (map string_bytes words.entry.now) → IsSome text) }
     ensures memory { IfErr result (λ fault. fault ≡ Fault.Memory) }
 {
     let Err(error) = command(alloc)?.try_get_matches_from(words) else {
