@@ -1,7 +1,6 @@
 -- The printed form of a key is ASCII.
-use Rattle.std.proofs.Common.{◌≡◌, refl, ℕ, ◌+◌, ◌/◌, ◌%◌, ◌<◌, ◌≤◌, Bool, true, false, cond, ◌==◌, ltb, leb, List, [], ◌∷◌, ◌++◌, inl, inr, sym, subst, arith, IsAscii, ltb-true, get_or, suc}
+use Rattle.std.proofs.Common.{◌≡◌, refl, ℕ, ◌/◌, ◌%◌, ◌<◌, ◌==◌, ltb, leb, List, [], ◌∷◌, inl, inr, sym, subst, arith, IsAscii, ltb-true, get_or, suc}
 use Rattle.std.specs.Char.{digit_char}
-use Rattle.std.specs.List.{All}
 use Rattle.std.proofs.lemmas.Bool.{cases_Bool, and_parts}
 use Rattle.std.proofs.lemmas.List.Elements.{All-head, All-tail, All-nil, All-cons}
 use Rattle.std.proofs.lemmas.Str.{IsAscii-append}

@@ -1,8 +1,8 @@
 -- The text of a key, byte by byte.
-use Rattle.std.proofs.Common.{◌≡◌, ◌≢◌, ℕ, ◌+◌, ◌*◌, ◌/◌, ◌%◌, ◌<◌, ◌≤◌, Bool, true, false, cond, ◌&&◌, ◌==◌, List, [], ◌∷◌, ◌++◌, Option, Some, None, option_map, refl, sym, ap, ◌∙◌, arith, append_assoc, flat_map, length}
+use Rattle.std.proofs.Common.{◌≡◌, ◌≢◌, ℕ, ◌+◌, ◌*◌, ◌<◌, cond, ◌&&◌, ◌==◌, List, [], ◌∷◌, ◌++◌, Option, Some, None, refl, sym, ap, ◌∙◌, arith, length}
 use Rattle.std.specs.Char.{digit_value, is_digit}
 use Rattle.std.proofs.lemmas.List.{nil_from_length}
-use Rattle.json_lines.specs.KeyForm.{backslash, letter_x, is_printable, after_byte, plain, after_backslash, after_x, spelled_from, spelled, number_at, escaped_at, byte_at}
+use Rattle.json_lines.specs.KeyForm.{backslash, letter_x, is_printable, after_byte, after_backslash, after_x, spelled_from, spelled, number_at, escaped_at, byte_at}
 use Rattle.json_lines.specs.Values.{◌>>=◌}
 use Rattle.json_lines.proofs.Reading.{with_front, one_more, all_read, bind_cond}
 

@@ -1,5 +1,5 @@
 -- Whole numbers, as `parse` finds them and as the definition tests them.
-use Rattle.std.proofs.Common.{◌≡◌, ℕ, ℤ, ◌<◌, Bool, true, false, cond, ◌&&◌, List, [], ◌∷◌, length, Option, Some, None, ok_or, inl, inr, refl, sym, ap, ◌∙◌, w64, arith, MatchOption}
+use Rattle.std.proofs.Common.{◌≡◌, ℕ, ℤ, true, cond, ◌&&◌, List, [], ◌∷◌, length, Option, Some, None, ok_or, inl, inr, refl, sym, ap, ◌∙◌, w64, MatchOption}
 use Rattle.std.specs.Str.Parse.{AllDigits, IsNumeral, ParsesSigned, without_leading_sign, signed_digits_value}
 use Rattle.std.specs.Char.{digit_value, is_digit}
 use Rattle.std.specs.Int.RustNames.{FitsSigned}

@@ -1,35 +1,33 @@
 -- What is written reads back.
-use Rattle.std.proofs.Common.{◌≡◌, ◌≢◌, ℕ, ℤ, pos, negsuc, suc, ◌+◌, ◌*◌, ◌/◌, ◌%◌, ◌^◌, ◌<◌, ◌≤◌, ◌≤ℤ◌, ◌<ℤ◌, int_le, int_lt, Bool, true, false, cond, not, ◌&&◌, ◌==◌, ltb, leb, List, [], ◌∷◌, ◌++◌, length, map, Option, Some, None, option_map, Result, Ok, ok_or, refl, sym, ap, subst, ◌∙◌, inl, inr, arith, w64, max, IsTrue}
+use Rattle.std.proofs.Common.{◌≡◌, ℕ, ℤ, pos, negsuc, suc, ◌+◌, ◌*◌, ◌/◌, ◌%◌, ◌<◌, ◌≤◌, ◌<ℤ◌, int_lt, Bool, true, false, cond, not, ◌&&◌, ◌==◌, leb, List, [], ◌∷◌, ◌++◌, length, map, Option, Some, None, Ok, ok_or, refl, sym, ap, subst, ◌∙◌, inl, inr, arith, w64, IsTrue}
 use Rattle.std.specs.Char.{digit_char, digit_value, is_digit}
 use Rattle.std.specs.Fmt.{signed_decimal}
-use Rattle.std.specs.List.{All, AllByRecursion}
+use Rattle.std.specs.List.{AllByRecursion}
 use Rattle.std.specs.Int.RustNames.{FitsSigned}
-use Rattle.std.specs.Str.Parse.{ParsesSigned, signed_digits_value}
 use Rattle.std.proofs.lemmas.Str.{digit_value-digit_char}
 use Rattle.std.proofs.lemmas.Fmt.{parse-signed_decimal}
 use Rattle.std.proofs.lemmas.Bool.{and_from, lt-ltb, le-leb, eqb-true, cases_Bool}
 use Rattle.std.proofs.lemmas.List.Elements.{All-head, All-tail}
 use Rattle.std.proofs.lemmas.Int.{ints}
 use Rattle.std.proofs.lemmas.List.{length-append}
-use lib.Signed.{mag}
-use Rattle.json.specs.Json.{Json, number, string, array, object, Items, no_items, item, Members, no_members, member, document}
-use Rattle.json.specs.Tree.{json_tokens, depth, items_depth, HasNumbers, ItemsHaveNumbers}
+use Rattle.json.specs.Json.{Json}
+use Rattle.json.specs.Tree.{depth, items_depth, HasNumbers, ItemsHaveNumbers}
 use Rattle.json.specs.Value.{items_of}
-use Rattle.json.specs.Print.{print, IsNumber}
+use Rattle.json.specs.Print.{IsNumber}
 use Rattle.json.proofs.Printed.Decimals.{IsNumber-signed_decimal}
 use Rattle.json.proofs.Printed.Trees.{document-print}
-use Rattle.keys.specs.Key.{IsBytes, IsKey, is_before}
+use Rattle.keys.specs.Key.{IsBytes, is_before}
 use Rattle.keyspace.specs.Fields.{RangeFields, TxnFields, RangeHolds}
-use Rattle.wire.specs.Fields.{BatchFields, EntryFields, ReplyFields}
+use Rattle.wire.specs.Fields.{BatchFields}
 use Rattle.wire.specs.Spelling.{single_key, is_single_key, TxnHolds, BatchHolds}
 use Rattle.wire.proofs.callers.Singles.{single_is}
 use Rattle.wire.proofs.callers.Numbers.{at_least}
 use Rattle.json_lines.specs.KeyForm.{backslash, is_printable, byte_form, key_form, after_byte, spelled_from, spelled}
-use Rattle.json_lines.specs.Values.{◌>>=◌, whole, is_whole, fits, each, count, list_in, are_among, if_so}
-use Rattle.json_lines.specs.Ranges.{key_within, ends_in, pair_in, range_in, ranges_in}
+use Rattle.json_lines.specs.Values.{◌>>=◌, whole, each, count, list_in, are_among}
+use Rattle.json_lines.specs.Ranges.{key_within, ends_in, pair_in, range_in}
 use Rattle.json_lines.specs.Batches.{txn_in, txn_members, batch_in, batch_members, batch_of, are_versions}
-use Rattle.json_lines.specs.Written.{key_json, list_json, pair_json, range_json, txn_json, batch_json, batch_line}
-use Rattle.json_lines.proofs.Numbers.{passes, whole_parses}
+use Rattle.json_lines.specs.Written.{list_json, range_json, txn_json, batch_json, batch_line}
+use Rattle.json_lines.proofs.Numbers.{whole_parses}
 
 -- ---- keys
 

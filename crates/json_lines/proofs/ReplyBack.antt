@@ -1,10 +1,9 @@
 -- What is written of a reply reads back.
-use Rattle.std.proofs.Common.{◌≡◌, ◌≢◌, ℕ, ℤ, pos, ◌+◌, ◌^◌, ◌<◌, ◌≤◌, Bool, true, false, cond, ◌&&◌, ltb, leb, List, [], ◌∷◌, map, Option, Some, None, option_map, refl, sym, ap, subst, ◌∙◌, arith, w64}
-use Rattle.std.specs.List.{AllByRecursion}
+use Rattle.std.proofs.Common.{◌≡◌, ◌≢◌, ℕ, pos, ◌+◌, ◌≤◌, true, ◌&&◌, ltb, leb, List, [], ◌∷◌, map, Option, Some, refl, sym, ap, ◌∙◌, arith, w64}
 use Rattle.std.specs.Int.RustNames.{FitsSigned}
 use Rattle.std.proofs.lemmas.Bool.{and_from, lt-ltb, le-leb}
-use Rattle.json.specs.Json.{Json, number, string, array, object, Items, no_items, item}
-use Rattle.json.specs.Tree.{items_depth, ItemsHaveNumbers, HasNumbers, depth}
+use Rattle.json.specs.Json.{Json}
+use Rattle.json.specs.Tree.{items_depth, ItemsHaveNumbers}
 use Rattle.json.specs.Value.{items_of}
 use Rattle.json.proofs.Printed.Decimals.{IsNumber-decimal}
 use Rattle.json.proofs.Printed.Trees.{document-print}
@@ -14,9 +13,9 @@ use Rattle.wire.specs.Fields.{EntryFields, ReplyFields}
 use Rattle.wire.specs.Spelling.{EntryHolds, ReplyHolds}
 use Rattle.wire.proofs.callers.Numbers.{at_least}
 use Rattle.wire.proofs.callers.Places.{RiseFrom, rise}
-use Rattle.json_lines.specs.Values.{◌>>=◌, are_among, whole}
-use Rattle.json_lines.specs.Replies.{place_from, rising, report_in, entry_in, reply_members, reply_in, reply_of}
-use Rattle.json_lines.specs.Written.{place_json, report_json, entry_with, entry_json, list_json, reply_json, reply_line}
+use Rattle.json_lines.specs.Values.{◌>>=◌, are_among}
+use Rattle.json_lines.specs.Replies.{rising, report_in, entry_in, reply_members, reply_in, reply_of}
+use Rattle.json_lines.specs.Written.{place_json, report_json, entry_with, entry_json, reply_json, reply_line}
 use Rattle.json_lines.proofs.ReadBack.{whole_again, list_again, Fine, all_fine, number_fine}
 
 rising_again : (least : ℕ) (ps : List ℕ) → RiseFrom least ps → rising least (items_of (map place_json ps)) ≡ Some ps

@@ -1,5 +1,5 @@
 -- The batch that a line spells.
-use Rattle.std.specs.Prelude.{ℕ, ℤ, pos, negsuc, int_le, int_lt, List, [], ◌∷◌, Bool, false, ◌&&◌, Option, Some, None, if◌then◌else◌}
+use Rattle.std.specs.Prelude.{ℕ, ℤ, pos, negsuc, int_le, int_lt, List, [], ◌∷◌, Bool, false, ◌&&◌, Option, Some}
 use Rattle.json.specs.Json.{Json, document}
 use Rattle.json.specs.Find.{as_bool}
 use Rattle.keyspace.specs.declared.batch.TheConstants.{MAX_TXNS}

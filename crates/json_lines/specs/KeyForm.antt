@@ -1,6 +1,6 @@
 -- Keys as text, in the manner of FoundationDB's `printable`: printable ASCII stands for itself, `\\` for the backslash, and
 -- `\xNN` for any byte, by two hexadecimal digits.
-use Rattle.std.specs.Prelude.{ℕ, ◌+◌, ◌*◌, ◌/◌, ◌%◌, List, [], ◌∷◌, ◌++◌, Bool, ◌&&◌, not, ◌==◌, nat_lt, nat_le, flat_map, Option, Some, None, option_map, if◌then◌else◌}
+use Rattle.std.specs.Prelude.{ℕ, ◌+◌, ◌*◌, ◌/◌, ◌%◌, List, [], ◌∷◌, Bool, ◌&&◌, ◌==◌, nat_lt, nat_le, flat_map, Option, Some, None, option_map, if◌then◌else◌}
 use Rattle.std.specs.Char.{digit_char, digit_value, is_digit}
 
 abbrev pub backslash : ℕ

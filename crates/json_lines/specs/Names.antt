@@ -1,5 +1,5 @@
 -- The names of members.
-use Rattle.std.specs.Prelude.{ℕ, List, [], ◌∷◌, codes}
+use Rattle.std.specs.Prelude.{ℕ, List, codes}
 use Rattle.json_lines.specs.declared.member.Member.{Member}
 use Rattle.json_lines.specs.declared.member.Member.TheVariants.{Previous, Version, Received, Transactions, Snapshot, Report, Reads, Writes, Verdicts, Conflict}
 

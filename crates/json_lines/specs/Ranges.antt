@@ -1,5 +1,5 @@
 -- Ranges as JSON: a pair of keys, or one key for the range of that key alone.
-use Rattle.std.specs.Prelude.{ℕ, List, length, Bool, nat_le, Option, Some, None, option_map, if◌then◌else◌}
+use Rattle.std.specs.Prelude.{ℕ, List, length, nat_le, Option, Some, None, option_map, if◌then◌else◌}
 use Rattle.json.specs.Json.{Json, null, boolean, number, string, array, object, Items, no_items, item}
 use Rattle.json.specs.Find.{as_str}
 use Rattle.keys.specs.Key.{is_before}

@@ -1,11 +1,11 @@
 -- What JSON values say: whole numbers, truth values, lists, and the members of an object.
-use Rattle.std.specs.Prelude.{◌≡◌, ◌≢◌, Result, Ok, Err, ℕ, suc, ℤ, ◌^◌, ◌<◌, List, [], ◌∷◌, length, Bool, true, false, ◌&&◌, ◌||◌, not, nat_lt, nat_le, Option, Some, None, option_map, option_and_then, if◌then◌else◌}
+use Rattle.std.specs.Prelude.{◌≡◌, ◌≢◌, Result, Ok, Err, ℕ, suc, ℤ, ◌^◌, List, [], ◌∷◌, length, Bool, true, false, ◌&&◌, ◌||◌, not, nat_lt, nat_le, Option, Some, None, option_and_then, if◌then◌else◌}
 use Rattle.std.specs.List.{list_any, list_all}
 use Rattle.std.specs.Str.{bytes_eq}
 use Rattle.std.specs.Str.Parse.{signed_digits_value, without_leading_sign}
 use Rattle.std.specs.Char.{is_digit}
 use Rattle.json.specs.Json.{Json, null, boolean, number, string, array, object, Items, no_items, item, Members, no_members, member}
-use Rattle.json.specs.Find.{get, as_number, as_bool, as_array, as_object}
+use Rattle.json.specs.Find.{get, as_number, as_array}
 use lib.Signed.{mag}
 use Rattle.json_lines.specs.declared.cause.Cause.TheVariants.{Memory}
 use Rattle.json_lines.specs.declared.refusal.Refusal.{Refusal}

@@ -1,10 +1,10 @@
 -- The line that is written for a batch, and for a reply.
-use Rattle.std.specs.Prelude.{◌≡◌, ℕ, ℤ, List, [], ◌∷◌, ◌++◌, codes, Bool, map, flat_map, if◌then◌else◌}
+use Rattle.std.specs.Prelude.{ℕ, ℤ, List, [], ◌∷◌, codes, map, flat_map, if◌then◌else◌}
 use Rattle.std.specs.Fmt.{signed_decimal}
 use Rattle.std.specs.Prelude.{decimal}
 use Rattle.json.specs.Token as token
 use Rattle.json.specs.Token.{Token}
-use Rattle.json.specs.Json.{Json, null, boolean, number, string, array, object, Items, no_items, item, Members, no_members, member}
+use Rattle.json.specs.Json.{Json, boolean, number, string, array, object, no_items, item, no_members, member}
 use Rattle.json.specs.Print.{print}
 use Rattle.json.specs.Tree.{json_tokens}
 use Rattle.json.specs.Value.{items_of}

@@ -1,4 +1,4 @@
-use Rattle.std.proofs.Common.{append_assoc, rules}
+use Rattle.std.proofs.Common.{rules}
 use Rattle.wire.proofs.callers.Held.{batch_holds}
 use Rattle.json_lines.proofs.batch_writer.put_batch.Goals as goal
 

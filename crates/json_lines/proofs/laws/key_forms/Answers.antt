@@ -1,4 +1,4 @@
-use Rattle.std.proofs.Common.{◌≡◌, Option, List, ℕ, Some, sym, ap, ◌∙◌}
+use Rattle.std.proofs.Common.{◌≡◌, Some, sym, ap, ◌∙◌}
 use Rattle.json_lines.specs.KeyForm.{spelled}
 use Rattle.json_lines.proofs.ReadBack.{form_reads}
 use Rattle.json_lines.proofs.Forms.{form_ascii}
