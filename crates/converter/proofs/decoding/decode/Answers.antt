@@ -1,4 +1,4 @@
-use Rattle.std.proofs.Common.{◌≡◌, ◌<◌, arith}
+use Rattle.std.proofs.Common.{◌<◌, arith}
 use Rattle.std.proofs.lemmas.Result.{err_from_is_err_and}
 use Rattle.converter.specs.Lines.{BecomesLine}
 use Rattle.converter.proofs.Turning.{nothing_yet, one_more, same_output, at_the_end}
