@@ -45,7 +45,7 @@ impl Read for Stalling {
     }
 }
 
-// Lets the reader of proxy 0 go on.
+// Does what the program's gatekeeper does, and lets the reader of proxy 0 go on once proxy 1 isn't let through, or sends no more.
 #[derive(Drop)]
 struct Releasing {
     room: WaitingRoom,
@@ -74,24 +74,24 @@ impl Gatekeeper for Releasing {
     fn answered(&self, _proxy: usize, _place: u64) {}
 
     fn stands(&self, proxy: usize, stand: Stand) -> bool {
-        if !self.keeps_shares {
+        if !self.keeps_shares || <WaitingRoom as Gatekeeper>::stands(&self.room, proxy, stand) {
             return true;
         }
         self.release(proxy);
-        self.room.stands(proxy, stand)
+        false
     }
 
     fn closed(&self, proxy: usize) {
         self.release(proxy);
-        self.room.closes(proxy);
+        <WaitingRoom as Gatekeeper>::closed(&self.room, proxy);
     }
 
     fn told(&self, proxy: usize) -> Told {
-        self.room.told(proxy)
+        <WaitingRoom as Gatekeeper>::told(&self.room, proxy)
     }
 
     fn let_through(&self, proxy: usize) {
-        self.room.let_through(proxy);
+        <WaitingRoom as Gatekeeper>::let_through(&self.room, proxy);
     }
 }
 
