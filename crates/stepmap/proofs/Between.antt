@@ -52,7 +52,7 @@ use Rattle.keys.proofs.callers.KeyOrder.{at_most_before, before_at_most_same, be
 use Rattle.keys.proofs.callers.Booleans.{true_or_false}
 use Rattle.stepmap.specs.Boundary.{Boundary, AreBoundaries, AreInOrder, value_at, last_version, below, from_on}
 use Rattle.stepmap.specs.Indexes.{up_to, after}
-use Rattle.stepmap.specs.Cut.{passes_at, slot_passes}
+use Rattle.stepmap.specs.KeyBound.{is_below_at, slot_is_below}
 use Rattle.stepmap.specs.Stored.{boundary_of, boundaries_of, IsStored}
 use Rattle.stepmap.proofs.Order.{rising_in_order, rising_filter}
 use Rattle.stepmap.proofs.Looking.{not_not}
@@ -61,7 +61,7 @@ use Rattle.stepmap.proofs.Values.{parted_below}
 use Rattle.stepmap.proofs.IndexFound.{up_to_falls, value_up_to}
 use Rattle.stepmap.proofs.WritingValues.{begins_before_end}
 use Rattle.keys.proofs.callers.SomeElement.{Any-map}
-use Rattle.stepmap.proofs.Cutting.{filtered, slot_passes_live}
+use Rattle.stepmap.proofs.Partitioning.{filtered, slot_is_below_live}
 use Rattle.stepmap.proofs.LastFound.{parted_up_to, some_of_all}
 use Rattle.stepmap.proofs.GreatestFound.{
   IsInside,
@@ -78,7 +78,7 @@ abbrev pub inside : List ℕ → List ℕ → List Boundary → List Boundary
 inside begin end bs = filter (λ b. is_before begin b.key && is_before b.key end) bs
 
 -- what comes before a cut at a key comes before each later key
-passes_sooner : (up_to : Bool) (begin end k : List ℕ) → IsBefore begin end → passes_at up_to begin k ≡ true
+passes_sooner : (up_to : Bool) (begin end k : List ℕ) → IsBefore begin end → is_below_at up_to begin k ≡ true
     → is_before k end ≡ true
 passes_sooner true begin end k l h = at_most_before k begin end h l
 passes_sooner false begin end k l h = before_trans k begin end h l
@@ -86,44 +86,44 @@ passes_sooner false begin end k l h = before_trans k begin end h l
 module _ {H : Type 0} (keys : Arena H) where
   -- a slot that passes a cut at a key passes the cut before a later key
   pub nested : (up_to : Bool) (begin end : List ℕ) → IsBefore begin end → (slot : ℕ)
-      → slot_passes keys up_to begin slot ≡ true → slot_passes keys false end slot ≡ true
+      → slot_is_below keys up_to begin slot ≡ true → slot_is_below keys false end slot ≡ true
   nested up_to begin end l slot = of_key (key_at keys slot)
     where
-      of_key : (k : Option (List ℕ)) → unwrap_or (option_map (passes_at up_to begin) k) false ≡ true
-          → unwrap_or (option_map (passes_at false end) k) false ≡ true
+      of_key : (k : Option (List ℕ)) → unwrap_or (option_map (is_below_at up_to begin) k) false ≡ true
+          → unwrap_or (option_map (is_below_at false end) k) false ≡ true
       of_key None h = h
       of_key (Some k) h = passes_sooner up_to begin end k l h
 
   -- one that passes the cut before a key passes the cut up to it
   pub nested_around : (key : List ℕ) (slot : ℕ)
-      → slot_passes keys false key slot ≡ true → slot_passes keys true key slot ≡ true
+      → slot_is_below keys false key slot ≡ true → slot_is_below keys true key slot ≡ true
   nested_around key slot = of_key (key_at keys slot)
     where
-      of_key : (k : Option (List ℕ)) → unwrap_or (option_map (passes_at false key) k) false ≡ true
-          → unwrap_or (option_map (passes_at true key) k) false ≡ true
+      of_key : (k : Option (List ℕ)) → unwrap_or (option_map (is_below_at false key) k) false ≡ true
+          → unwrap_or (option_map (is_below_at true key) k) false ≡ true
       of_key None h = h
       of_key (Some k) h = before_at_most_same k key h
 
   -- the items between two cuts have the boundaries between them
-  between_cuts : (tree : Items) → IsStored keys tree → (from_up_to to_up_to : Bool) (begin end : List ℕ)
+  between_bounds : (tree : Items) → IsStored keys tree → (from_up_to to_up_to : Bool) (begin end : List ℕ)
       → boundaries_of keys
-      (between (Some (slot_passes keys from_up_to begin)) (Some (slot_passes keys to_up_to end)) tree.items)
-      ≡ filter (λ b. not (passes_at from_up_to begin b.key) && passes_at to_up_to end b.key)
+      (between (Some (slot_is_below keys from_up_to begin)) (Some (slot_is_below keys to_up_to end)) tree.items)
+      ≡ filter (λ b. not (is_below_at from_up_to begin b.key) && is_below_at to_up_to end b.key)
       (boundaries_of keys tree.items)
-  between_cuts tree s u v begin end =
-      let p = λ (x : Item). not (slot_passes keys u begin x.key) && slot_passes keys v end x.key in
-      let q = λ (b : Boundary). not (passes_at u begin b.key) && passes_at v end b.key in
+  between_bounds tree s u v begin end =
+      let p = λ (x : Item). not (slot_is_below keys u begin x.key) && slot_is_below keys v end x.key in
+      let q = λ (b : Boundary). not (is_below_at u begin b.key) && is_below_at v end b.key in
       filtered (boundary_of keys) p q tree.items
       (All-weaker (λ x. IsLive keys x.key) (λ x. p x ≡ q (boundary_of keys x))
-      (λ x l. rw (slot_passes_live keys u begin x.key l, slot_passes_live keys v end x.key l) refl) tree.items s.live)
+      (λ x l. rw (slot_is_below_live keys u begin x.key l, slot_is_below_live keys v end x.key l) refl) tree.items s.live)
 
   -- up to one key and before another
   pub between_inside : (tree : Items) → IsStored keys tree → (begin end : List ℕ)
-      → boundaries_of keys (between (Some (slot_passes keys true begin)) (Some (slot_passes keys false end)) tree.items)
+      → boundaries_of keys (between (Some (slot_is_below keys true begin)) (Some (slot_is_below keys false end)) tree.items)
       ≡ inside begin end (boundaries_of keys tree.items)
   between_inside tree s begin end =
-      between_cuts tree s true false begin end
-      ∙ filter_agree (λ b. not (passes_at true begin b.key) && passes_at false end b.key)
+      between_bounds tree s true false begin end
+      ∙ filter_agree (λ b. not (is_below_at true begin b.key) && is_below_at false end b.key)
       (λ b. is_before begin b.key && is_before b.key end)
       (λ b. ap (λ t. t && is_before b.key end) (sym (not_not (is_before begin b.key)))) (boundaries_of keys tree.items)
 
@@ -203,13 +203,13 @@ module _ (range : Range) (filled : ¬ IsEmpty range) (bs : List Boundary) (h : A
       let later = after range.begin bs in
       let sooner = below range.end bs in
       let back = from_on range.end bs in
-      let cut = parted_up_to range.begin bs h.in_order in
+      let partitioned = parted_up_to range.begin bs h.in_order in
       let end = parted_below range.end bs (rising_in_order bs h.in_order) in
       record {
-        from_in = omega (arith, ap length cut, length-append before later);
+        from_in = omega (arith, ap length partitioned, length-append before later);
         to_in = omega (arith, ap length end, length-append sooner back);
-        front = ap (take (length before)) cut ∙ take-append_seam before later;
-        later = ap (drop (length before)) cut ∙ drop-append_seam before later;
+        front = ap (take (length before)) partitioned ∙ take-append_seam before later;
+        later = ap (drop (length before)) partitioned ∙ drop-append_seam before later;
         sooner = ap (take (length sooner)) end ∙ take-append_seam sooner back;
         back = ap (drop (length sooner)) end ∙ drop-append_seam sooner back;
       }

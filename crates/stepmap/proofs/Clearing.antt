@@ -9,8 +9,8 @@ use Rattle.keys.specs.Range.{IsEmpty}
 use Rattle.keys.specs.declared.range.Range.{Range}
 use Rattle.keys.proofs.callers.Booleans.{and_left, and_right, false_unless, not_both_ways}
 use Rattle.keys.proofs.callers.KeyOrder.{before_trans}
-use Rattle.tree.specs.Path.{IsCut}
-use Rattle.tree.proofs.callers.Cuts.{All-front, All-back, not_true, IsCut-parts}
+use Rattle.tree.specs.Path.{IsPartitioned}
+use Rattle.tree.proofs.callers.Partitions.{All-front, All-back, not_true, IsPartitioned-parts}
 use Rattle.stepmap.specs.Boundary.{Boundary, AreBoundaries, AreInOrder, RiseFrom, below, from_on}
 use Rattle.stepmap.specs.Writing.{closed_at, written_to}
 use Rattle.stepmap.proofs.Closing.{closed_same}
@@ -42,11 +42,11 @@ module _ {X : Type 0} (p q : X → Bool) where
         | inr n ↦ elim (cases_Bool (p x)) [ inl t ↦ rw (n, t) i | inr f ↦ rw (n, f) i ]
       ]
 
-  module _ (nested : (x : X) → p x ≡ true → q x ≡ true) (xs : List X) (first : IsCut p xs) (second : IsCut q xs) where
+  module _ (nested : (x : X) → p x ≡ true → q x ≡ true) (xs : List X) (first : IsPartitioned p xs) (second : IsPartitioned q xs) where
     pub two_parts : filter q xs ≡ filter p xs ++ filter (λ x. not (p x) && q x) xs
     two_parts =
-        let inner : IsCut p (filter q xs) =
-        (IsCut-parts p (filter q xs) (filter (λ x. not (q x)) xs) (subst (IsCut p) second first)).0 in
+        let inner : IsPartitioned p (filter q xs) =
+        (IsPartitioned-parts p (filter q xs) (filter (λ x. not (q x)) xs) (subst (IsPartitioned p) second first)).0 in
         inner ∙ ap (λ l. l ++ filter (λ x. not (p x)) (filter q xs)) (filter_twice nested xs)
         ∙ ap (λ l. filter p xs ++ l) (filter_between xs)
 

@@ -6,18 +6,18 @@ use Rattle.std.proofs.lemmas.List.{map-append, length-map}
 use Rattle.std.proofs.lemmas.List.Elements.{All-head, All-tail, All-map}
 use Rattle.std.proofs.lemmas.Simd.{map-map}
 use Rattle.arena.specs.Arena.{Arena, IsLive, record_at, key_at}
-use Rattle.tree.specs.Hints.{AreHinted}
+use Rattle.tree.specs.Heads.{AllAreHeads}
 use Rattle.tree.specs.Item.{Item}
-use Rattle.tree.specs.Path.{IsCut, passing, behind, between}
-use Rattle.tree.specs.Tree.{Items, hints_in, KnowItems}
-use Rattle.tree.proofs.callers.Cuts.{All-front, All-back}
+use Rattle.tree.specs.Path.{IsPartitioned, items_below, behind, between}
+use Rattle.tree.specs.Tree.{Items, tree_heads, KnowItems}
+use Rattle.tree.proofs.callers.Partitions.{All-front, All-back}
 use Rattle.tree.proofs.callers.Times.{times, once_cases, once_if_distinct, distinct_if_once, none_or_some}
 use Rattle.stepmap.specs.Boundary.{Boundary, AreInOrder}
-use Rattle.stepmap.specs.Cut.{passes_at, slot_passes}
+use Rattle.stepmap.specs.KeyBound.{is_below_at, slot_is_below}
 use Rattle.stepmap.specs.Stored.{bytes_at, boundary_of, boundaries_of, IsStored}
-use Rattle.stepmap.proofs.Cutting.{filtered, stored_cut, slot_passes_live}
-use Rattle.stepmap.proofs.Indexed.{hinted_keys}
-use Rattle.stepmap.proofs.Placed.{SameRecords, boundaries_same, cut_same, passes_same}
+use Rattle.stepmap.proofs.Partitioning.{filtered, stored_partitioned, slot_is_below_live}
+use Rattle.stepmap.proofs.Indexed.{headed_keys}
+use Rattle.stepmap.proofs.Placed.{SameRecords, boundaries_same, partitioned_same, passes_same}
 use Rattle.stepmap.proofs.PlacedKeys.{Placed, item_at, boundary_at, placed_slots, ArePlaced, live_apart, live_same, placed_live, placed_are}
 use Rattle.stepmap.proofs.Unlinked.{AreParted, slots_of, slot_live, value_of_one}
 
@@ -30,36 +30,36 @@ module _ {H : Type 0} (old : Arena H) (tree : Items) (stored : IsStored old tree
     same_records : SameRecords old now tree.items
     same_records = live_same old now ps placed tree.items stored.live
 
-    pub cut_still : (up_to : Bool) (key : List ℕ) → IsCut (λ x. slot_passes now up_to key x.key) tree.items
-    cut_still up_to key =
-        cut_same old now tree.items same_records up_to key (stored_cut old tree stored up_to key).cut
+    pub partitioned_still : (up_to : Bool) (key : List ℕ) → IsPartitioned (λ x. slot_is_below now up_to key x.key) tree.items
+    partitioned_still up_to key =
+        partitioned_same old now tree.items same_records up_to key (stored_partitioned old tree stored up_to key).partitioned
 
     passes_still : (up_to : Bool) (key : List ℕ)
-        → All (λ x. slot_passes now up_to key x.key ≡ passes_at up_to key (bytes_at old x.key)) tree.items
+        → All (λ x. slot_is_below now up_to key x.key ≡ is_below_at up_to key (bytes_at old x.key)) tree.items
     passes_still up_to key k d lt =
         passes_same old now tree.items same_records up_to key k d lt
-        ∙ slot_passes_live old up_to key (get_or tree.items k d).key (stored.live k d lt)
+        ∙ slot_is_below_live old up_to key (get_or tree.items k d).key (stored.live k d lt)
 
     -- what the boundaries are of the items before a cut, behind it, and between two
     pub passing_are : (up_to : Bool) (key : List ℕ)
-        → boundaries_of old (passing (slot_passes now up_to key) tree.items) ≡ filter (λ b. passes_at up_to key b.key) bs
+        → boundaries_of old (items_below (slot_is_below now up_to key) tree.items) ≡ filter (λ b. is_below_at up_to key b.key) bs
     passing_are up_to key =
-        filtered (boundary_of old) (λ (x : Item). slot_passes now up_to key x.key)
-        (λ (b : Boundary). passes_at up_to key b.key) tree.items (passes_still up_to key)
+        filtered (boundary_of old) (λ (x : Item). slot_is_below now up_to key x.key)
+        (λ (b : Boundary). is_below_at up_to key b.key) tree.items (passes_still up_to key)
 
     pub behind_are : (up_to : Bool) (key : List ℕ)
-        → boundaries_of old (behind (slot_passes now up_to key) tree.items)
-        ≡ filter (λ b. not (passes_at up_to key b.key)) bs
+        → boundaries_of old (behind (slot_is_below now up_to key) tree.items)
+        ≡ filter (λ b. not (is_below_at up_to key b.key)) bs
     behind_are up_to key =
-        filtered (boundary_of old) (λ (x : Item). not (slot_passes now up_to key x.key))
-        (λ (b : Boundary). not (passes_at up_to key b.key)) tree.items (λ k d lt. ap not (passes_still up_to key k d lt))
+        filtered (boundary_of old) (λ (x : Item). not (slot_is_below now up_to key x.key))
+        (λ (b : Boundary). not (is_below_at up_to key b.key)) tree.items (λ k d lt. ap not (passes_still up_to key k d lt))
 
     pub between_are : (u v : Bool) (begin end : List ℕ)
-        → boundaries_of old (between (Some (slot_passes now u begin)) (Some (slot_passes now v end)) tree.items)
-        ≡ filter (λ b. not (passes_at u begin b.key) && passes_at v end b.key) bs
+        → boundaries_of old (between (Some (slot_is_below now u begin)) (Some (slot_is_below now v end)) tree.items)
+        ≡ filter (λ b. not (is_below_at u begin b.key) && is_below_at v end b.key) bs
     between_are u v begin end =
-        filtered (boundary_of old) (λ (x : Item). not (slot_passes now u begin x.key) && slot_passes now v end x.key)
-        (λ (b : Boundary). not (passes_at u begin b.key) && passes_at v end b.key) tree.items
+        filtered (boundary_of old) (λ (x : Item). not (slot_is_below now u begin x.key) && slot_is_below now v end x.key)
+        (λ (b : Boundary). not (is_below_at u begin b.key) && is_below_at v end b.key) tree.items
         (λ k d lt. ap₂ (λ s t. not s && t) (passes_still u begin k d lt) (passes_still v end k d lt))
 
   module _ (kept out : List Item) (parts : AreParted tree.items kept out) where
@@ -153,11 +153,11 @@ module _ {H : Type 0} (old : Arena H) (tree : Items) (stored : IsStored old tree
                 All-map (λ (x : Item). IsLive now x.key) item_at ps (placed_live old now (slots_of out) ps placed)
 
         -- what nodes know is right, as where keys were placed that the new items have
-        pub now_hinted : (first : Arena H) (all : List Placed) → ArePlaced old first [] all
+        pub now_headed : (first : Arena H) (all : List Placed) → ArePlaced old first [] all
             → All (λ p. key_at first p.slot ≡ Some p.key) ps → KnowItems next
-            → AreHinted (key_at first) (hints_in next) → AreHinted (key_at now) (hints_in next)
-        now_hinted first all before keys know =
-            hinted_keys first now next know (λ k d lt.
+            → AllAreHeads (key_at first) (tree_heads next) → AllAreHeads (key_at now) (tree_heads next)
+        now_headed first all before keys know =
+            headed_keys first now next know (λ k d lt.
             let s = (get_or next.items k d).key in
             let here = value_of_one (λ (x : Item). x.key) next.items k d lt in
             elim (none_or_some (times s (slots_of kept))) [

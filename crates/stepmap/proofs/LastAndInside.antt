@@ -5,20 +5,20 @@ use Rattle.std.proofs.Math.Seq.{drop-append_seam}
 use Rattle.std.proofs.lemmas.Bool.{cases_Bool}
 use Rattle.arena.specs.Arena.{Arena}
 use Rattle.tree.specs.Item.{Item}
-use Rattle.tree.specs.Path.{passing, between, from_last}
+use Rattle.tree.specs.Path.{items_below, between, from_last}
 use Rattle.tree.specs.Tree.{Items, IsLast}
 use Rattle.tree.proofs.callers.Lists.{last_and_between}
 use Rattle.keys.specs.Key.{IsBytes}
 use Rattle.keys.specs.Range.{Holds, IsEmpty}
 use Rattle.keys.specs.declared.range.Range.{Range}
 use Rattle.stepmap.specs.Boundary.{Boundary, AreBoundaries, value_at}
-use Rattle.stepmap.specs.Cut.{slot_passes}
+use Rattle.stepmap.specs.KeyBound.{slot_is_below}
 use Rattle.stepmap.specs.Stored.{boundary_of, boundaries_of, IsStored}
 use Rattle.stepmap.proofs.Between.{nested, between_inside, above_by_begin, above_by_inside, inside_if_above}
-use Rattle.stepmap.proofs.Cutting.{stored_cut}
-use Rattle.stepmap.proofs.LastFound.{some_passes, last_boundary, value_of_last}
+use Rattle.stepmap.proofs.Partitioning.{stored_partitioned}
+use Rattle.stepmap.proofs.LastFound.{some_is_below, last_boundary, value_of_last}
 use Rattle.keys.proofs.callers.SomeElement.{Any-first, Any-later, Any-cases, Any-map, Any-unmap}
-use Rattle.stepmap.proofs.Thinned.{lt_from_test, le_from_test}
+use Rattle.stepmap.proofs.Removal.{lt_from_test, le_from_test}
 use Rattle.stepmap.proofs.WritingValues.{begins_before_end}
 
 -- a list with an element has a last one
@@ -48,10 +48,10 @@ above_or_not s v = elim (cases_Bool (int_lt s v)) [
 module _ {H : Type 0} (keys : Arena H) (tree : Items) (stored : IsStored keys tree) (range : Range)
     (filled : ¬ IsEmpty range) where
   abbrev p : ℕ → Bool
-  p = slot_passes keys true range.begin
+  p = slot_is_below keys true range.begin
 
   abbrev q : ℕ → Bool
-  q = slot_passes keys false range.end
+  q = slot_is_below keys false range.end
 
   abbrev bs : List Boundary
   bs = boundaries_of keys tree.items
@@ -59,15 +59,15 @@ module _ {H : Type 0} (keys : Arena H) (tree : Items) (stored : IsStored keys tr
   abbrev inner : List Item
   inner = between (Some p) (Some q) tree.items
 
-  last_up_to : (x : Item) × IsLast x (passing p tree.items)
-  last_up_to = last_of (passing p tree.items) (some_passes keys tree stored range.begin)
+  last_up_to : (x : Item) × IsLast x (items_below p tree.items)
+  last_up_to = last_of (items_below p tree.items) (some_is_below keys tree stored range.begin)
 
   found_are : from_last p (Some q) tree.items ≡ last_up_to.0 ∷ inner
   found_are =
       last_and_between (λ (x : Item). p x.key) (λ (x : Item). q x.key)
       (λ x. nested keys true range.begin range.end (begins_before_end range filled) x.key) tree.items
-      (stored_cut keys tree stored true range.begin).cut
-      ∙ ap (λ xs. xs ++ inner) (last_alone last_up_to.0 (passing p tree.items) last_up_to.1)
+      (stored_partitioned keys tree stored true range.begin).partitioned
+      ∙ ap (λ xs. xs ++ inner) (last_alone last_up_to.0 (items_below p tree.items) last_up_to.1)
 
   at_begin : last_up_to.0.version ≡ value_at bs range.begin
   at_begin =

@@ -26,15 +26,15 @@ use Rattle.std.proofs.lemmas.List.{map-append}
 use Rattle.std.proofs.lemmas.List.Elements.{All-nil, All-cons, All-head, filter_passes}
 use Rattle.arena.specs.Arena.{Arena}
 use Rattle.tree.specs.Item.{Item}
-use Rattle.tree.specs.Path.{passing}
+use Rattle.tree.specs.Path.{items_below}
 use Rattle.tree.specs.Tree.{Items, IsLast}
-use Rattle.tree.proofs.callers.Cuts.{All-back}
+use Rattle.tree.proofs.callers.Partitions.{All-back}
 use Rattle.keys.specs.Key.{is_before, IsBefore}
 use Rattle.keys.proofs.callers.KeyOrder.{not_before_itself}
 use Rattle.keys.proofs.callers.Booleans.{not_both_ways}
 use Rattle.stepmap.specs.Boundary.{Boundary, AreInOrder, value_at, last_version}
 use Rattle.stepmap.specs.Indexes.{up_to, after}
-use Rattle.stepmap.specs.Cut.{passes_at, slot_passes}
+use Rattle.stepmap.specs.KeyBound.{is_below_at, slot_is_below}
 use Rattle.stepmap.specs.Stored.{boundary_of, boundaries_of, IsStored}
 use Rattle.keys.proofs.callers.KeyOrder.{not_before_if}
 use Rattle.stepmap.proofs.Order.{Rising, rising_in_order, rise_middle}
@@ -42,7 +42,7 @@ use Rattle.stepmap.proofs.Looking.{not_not}
 use Rattle.stepmap.proofs.Parting.{parted}
 use Rattle.stepmap.proofs.IndexFound.{up_to_empty, up_to_falls, value_up_to}
 use Rattle.keys.proofs.callers.SomeElement.{Any-parts, Any-push_cases}
-use Rattle.stepmap.proofs.Cutting.{stored_cut}
+use Rattle.stepmap.proofs.Partitioning.{stored_partitioned}
 
 -- the version of the last boundary counts
 pub last_version_last : (v : ℤ) (xs : List Boundary) (b : Boundary) → last_version v (xs ++ b ∷ []) ≡ b.version
@@ -116,18 +116,18 @@ module _ (key : List ℕ) (bs : List Boundary) (o : AreInOrder bs) where
 
 module _ {H : Type 0} (keys : Arena H) (tree : Items) (s : IsStored keys tree) where
   -- some item passes a cut up to a key
-  pub some_passes : (key : List ℕ) → passing (slot_passes keys true key) tree.items ≢ []
-  some_passes key none =
+  pub some_is_below : (key : List ℕ) → items_below (slot_is_below keys true key) tree.items ≢ []
+  some_is_below key none =
       some_up_to key (boundaries_of keys tree.items) s.in_order
-      (sym (stored_cut keys tree s true key).before ∙ ap (boundaries_of keys) none)
+      (sym (stored_partitioned keys tree s true key).before ∙ ap (boundaries_of keys) none)
 
   module _ (up_to : Bool) (key : List ℕ) (x : Item)
-      (last : IsLast x (passing (slot_passes keys up_to key) tree.items)) where
+      (last : IsLast x (items_below (slot_is_below keys up_to key) tree.items)) where
     -- the last item's boundary is the last one that passes
     pub last_boundary :
-        IsLast (boundary_of keys x) (filter (λ b. passes_at up_to key b.key) (boundaries_of keys tree.items))
+        IsLast (boundary_of keys x) (filter (λ b. is_below_at up_to key b.key) (boundaries_of keys tree.items))
     last_boundary = (
       boundaries_of keys last.0,
-      sym (stored_cut keys tree s up_to key).before ∙ ap (boundaries_of keys) last.1
+      sym (stored_partitioned keys tree s up_to key).before ∙ ap (boundaries_of keys) last.1
           ∙ map-append (boundary_of keys) last.0 (x ∷ []),
     )

@@ -9,7 +9,7 @@ pub mod Counting
 pub mod Covering
 pub mod Rooting
 pub mod WritingRooted
-pub mod Thinned
+pub mod Removal
 pub mod Looking
 pub mod Sweeps
 pub mod SweptMap
@@ -24,14 +24,14 @@ pub mod Telling
 pub mod UnitedWrites
 pub mod WritingInTurn
 pub mod Passing
-pub mod Cutting
+pub mod Partitioning
 pub mod LastFound
 pub mod Between
 pub mod Passed
 pub mod Releasing
 pub mod Unlinked
 pub mod Clearing
-pub mod ThinnedRun
+pub mod UnexpiredRun
 pub mod SweepingOn
 pub mod Indexed
 pub mod Placed

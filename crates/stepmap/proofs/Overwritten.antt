@@ -10,19 +10,19 @@ use Rattle.keys.specs.Range.{IsEmpty}
 use Rattle.keys.specs.declared.range.Range.{Range}
 use Rattle.tree.specs.declared.overwrite.Written.{Written}
 use Rattle.tree.specs.declared.overwrite.Written.TheVariants.{Partly, Whole}
-use Rattle.tree.specs.Hints.{AreHinted}
+use Rattle.tree.specs.Heads.{AllAreHeads}
 use Rattle.tree.specs.Item.{Item}
 use Rattle.tree.specs.Overwrite.{Overwrites, OverwritesWhole, OverwritesPart}
-use Rattle.tree.specs.Path.{passing, behind, between}
-use Rattle.tree.specs.Tree.{Items, IsLast, ended_by, hints_in, KnowItems}
+use Rattle.tree.specs.Path.{items_below, behind, between}
+use Rattle.tree.specs.Tree.{Items, IsLast, ended_by, tree_heads, KnowItems}
 use Rattle.stepmap.specs.Boundary.{Boundary, AreBoundaries, AreInOrder, below, from_on, value_at}
-use Rattle.stepmap.specs.Cut.{slot_passes}
+use Rattle.stepmap.specs.KeyBound.{slot_is_below}
 use Rattle.stepmap.specs.Stored.{boundary_of, boundaries_of, IsStored, AreIndexed}
 use Rattle.stepmap.specs.Writing.{closed_at, written_to}
 use Rattle.stepmap.proofs.Between.{nested}
 use Rattle.stepmap.proofs.Clearing.{inside, two_parts, three_parts, left, fewer_left, left_in_order, left_boundaries, left_written}
 use Rattle.stepmap.proofs.Closing.{standing_at, none_at, some_at, some_below, closed_there, closed_gap, up_to_below}
-use Rattle.stepmap.proofs.Exchanged.{cut_still, passing_are, behind_are, between_are, out_live, out_distinct, around_placed, now_stored, now_hinted}
+use Rattle.stepmap.proofs.Exchanged.{partitioned_still, passing_are, behind_are, between_are, out_live, out_distinct, around_placed, now_stored, now_headed}
 use Rattle.stepmap.proofs.LastAndInside.{last_of}
 use Rattle.stepmap.proofs.LastFound.{value_of_last}
 use Rattle.stepmap.proofs.Order.{rising_in_order}
@@ -85,16 +85,16 @@ module _ {H : Type 0} (old : Arena H) (tree : Items) (stored : IsStored old tree
   all = both range v w slot (Some end)
 
   abbrev pub from : ℕ → Bool
-  from = slot_passes ready false range.begin
+  from = slot_is_below ready false range.begin
 
   abbrev pub to : ℕ → Bool
-  to = slot_passes ready false range.end
+  to = slot_is_below ready false range.end
 
   abbrev pub past : ℕ → Bool
-  past = slot_passes ready true range.end
+  past = slot_is_below ready true range.end
 
   abbrev front : List Item
-  front = passing from tree.items
+  front = items_below from tree.items
 
   abbrev middle : List Item
   middle = between (Some from) (Some to) tree.items
@@ -111,14 +111,14 @@ module _ {H : Type 0} (old : Arena H) (tree : Items) (stored : IsStored old tree
   items_are : tree.items ≡ front ++ (middle ++ rest)
   items_are =
       three_parts (λ (x : Item). from x.key) (λ (x : Item). to x.key) to_nested tree.items
-      (cut_still old tree stored ready all placed false range.begin)
-      (cut_still old tree stored ready all placed false range.end)
+      (partitioned_still old tree stored ready all placed false range.begin)
+      (partitioned_still old tree stored ready all placed false range.end)
 
-  before_end : passing to tree.items ≡ front ++ middle
+  before_end : items_below to tree.items ≡ front ++ middle
   before_end =
       two_parts (λ (x : Item). from x.key) (λ (x : Item). to x.key) to_nested tree.items
-      (cut_still old tree stored ready all placed false range.begin)
-      (cut_still old tree stored ready all placed false range.end)
+      (partitioned_still old tree stored ready all placed false range.begin)
+      (partitioned_still old tree stored ready all placed false range.end)
 
   front_are : boundaries_of old front ≡ below range.begin bs
   front_are = passing_are old tree stored ready all placed false range.begin
@@ -130,13 +130,13 @@ module _ {H : Type 0} (old : Arena H) (tree : Items) (stored : IsStored old tree
   rest_are = behind_are old tree stored ready all placed false range.end
 
   -- some item comes before the range's end
-  pub some_before : passing to tree.items ≢ []
+  pub some_before : items_below to tree.items ≢ []
   some_before none =
       some_below range.begin range.end ordered bs stored.in_order
       (sym (passing_are old tree stored ready all placed false range.end) ∙ ap (boundaries_of old) none)
 
   -- where none stands at the end, the last item before it tells the version there
-  value_before : (x : Item) → IsLast x (passing to tree.items) → ¬ Any (λ b. b.key ≡ range.end) bs
+  value_before : (x : Item) → IsLast x (items_below to tree.items) → ¬ Any (λ b. b.key ≡ range.end) bs
       → x.version ≡ value_at bs range.end
   value_before x last gap =
       let b = boundary_of old x in
@@ -157,8 +157,8 @@ module _ {H : Type 0} (old : Arena H) (tree : Items) (stored : IsStored old tree
     kept : List Item
     parts : AreParted tree.items kept run
 
-  whole_cut : (run : List Item) → run ≡ middle → AreParted tree.items (front ++ rest) run
-  whole_cut run is =
+  whole_partitioned : (run : List Item) → run ≡ middle → AreParted tree.items (front ++ rest) run
+  whole_partitioned run is =
       subst (λ ms. AreParted tree.items (front ++ rest) ms) (sym is)
       (subst (λ items. AreParted items (front ++ rest) middle) (sym items_are) (middle_goes front middle rest))
 
@@ -167,23 +167,23 @@ module _ {H : Type 0} (old : Arena H) (tree : Items) (stored : IsStored old tree
       items_are ∙ ap (λ ms. front ++ (ms ++ rest)) is ∙ ap (λ ms. front ++ ms) (append_assoc kept run rest)
       ∙ sym (append_assoc front kept (run ++ rest))
 
-  part_cut : (kept run : List Item) → middle ≡ kept ++ run → AreParted tree.items ((front ++ kept) ++ rest) run
-  part_cut kept run is =
+  part_partitioned : (kept run : List Item) → middle ≡ kept ++ run → AreParted tree.items ((front ++ kept) ++ rest) run
+  part_partitioned kept run is =
       subst (λ items. AreParted items ((front ++ kept) ++ rest) run) (sym (part_is kept run is))
       (middle_goes (front ++ kept) run rest)
 
   module _ (first : Item) (given : Option ℤ) (written : Written) (run : List Item) (next : Items)
       (h : Overwrites from to past first end given written run tree.items next.items) where
-    run_cut : GoesOut run
-    run_cut = by_written written h
+    run_partitioned : GoesOut run
+    run_partitioned = by_written written h
       where
         by_written : (written : Written) → Overwrites from to past first end given written run tree.items next.items
             → GoesOut run
-        by_written (Whole ended) h = record { kept = front ++ rest; parts = whole_cut run h.run_is }
-        by_written (Partly last) h = record { kept = (front ++ h.kept) ++ rest; parts = part_cut h.kept run h.run_is }
+        by_written (Whole ended) h = record { kept = front ++ rest; parts = whole_partitioned run h.run_is }
+        by_written (Partly last) h = record { kept = (front ++ h.kept) ++ rest; parts = part_partitioned h.kept run h.run_is }
 
     pub run_was_live : All (λ x. IsLive old x.key) run
-    run_was_live = out_live old tree stored run_cut.kept run run_cut.parts
+    run_was_live = out_live old tree stored run_partitioned.kept run run_partitioned.parts
 
     -- those taken out may be released
     pub run_live : All (λ x. IsLive ready x.key) run
@@ -192,7 +192,7 @@ module _ {H : Type 0} (old : Arena H) (tree : Items) (stored : IsStored old tree
         ap is_some (placed.others s refl (live_apart old all placed.free s (run_was_live k d lt))) ∙ run_was_live k d lt
 
     pub run_distinct : IsDistinct nat_eq (slots_of run)
-    run_distinct = out_distinct old tree stored run_cut.kept run run_cut.parts
+    run_distinct = out_distinct old tree stored run_partitioned.kept run run_partitioned.parts
 
   -- the range is written over
   module _ (given : Option ℤ) (value : w ≡ unwrap_or given (value_at bs range.end)) (ended : Bool) (run : List Item)
@@ -225,12 +225,12 @@ module _ {H : Type 0} (old : Arena H) (tree : Items) (stored : IsStored old tree
 
     next_are : next.items ≡ front ++ (map item_at ps ++ rest)
     next_are =
-        let last = last_of (passing to tree.items) some_before in
+        let last = last_of (items_below to tree.items) some_before in
         h.written last.0 last.1
         ∙ ap (λ xs. front ++ (item_at (at_begin range v w slot) ∷ xs ++ rest)) (second_is ended ended_told last.0 last.1)
       where
         second_is : (t : Bool) → IsEndedBy range v w slot (unless_ended t end) bs
-            → (last : Item) → IsLast last (passing to tree.items)
+            → (last : Item) → IsLast last (items_below to tree.items)
             → ended_by t (record { key = end; version = unwrap_or given last.version })
             ≡ map item_at (at_end range v w slot (unless_ended t end))
         second_is true there last is = refl
@@ -240,7 +240,7 @@ module _ {H : Type 0} (old : Arena H) (tree : Items) (stored : IsStored old tree
 
     module _ (final : Arena H) (put : ArePlaced old final (slots_of run) ps) where
       whole_parts : AreParted tree.items (front ++ rest) run
-      whole_parts = whole_cut run h.run_is
+      whole_parts = whole_partitioned run h.run_is
 
       pub whole_boundaries : boundaries_of final next.items ≡ written_to range v w bs
       whole_boundaries =
@@ -249,8 +249,8 @@ module _ {H : Type 0} (old : Arena H) (tree : Items) (stored : IsStored old tree
           ∙ ap₂ (λ xs ys. xs ++ (map boundary_at ps ++ ys)) front_are rest_are
           ∙ written_at_once range v w slot bs stored.in_order (unless_ended ended end) ended_told
 
-      pub whole_indexed : KnowItems next → AreHinted (key_at ready) (hints_in next) → AreIndexed final next
-      whole_indexed know hinted =
+      pub whole_indexed : KnowItems next → AllAreHeads (key_at ready) (tree_heads next) → AreIndexed final next
+      whole_indexed know headed =
           let made : AreParted next.items (front ++ rest) (map item_at ps) =
           subst (λ items. AreParted items (front ++ rest) (map item_at ps)) (sym next_are)
           (middle_goes front (map item_at ps) rest) in
@@ -258,9 +258,9 @@ module _ {H : Type 0} (old : Arena H) (tree : Items) (stored : IsStored old tree
             stored =
                 now_stored old tree stored (front ++ rest) run whole_parts final ps put next made
                 (subst AreInOrder (sym whole_boundaries) (written_in_order range filled v w bs stored.in_order));
-            hinted =
-                now_hinted old tree stored (front ++ rest) run whole_parts final ps put next made ready all placed
-                (with_key ended) know hinted;
+            headed =
+                now_headed old tree stored (front ++ rest) run whole_parts final ps put next made ready all placed
+                (with_key ended) know headed;
           }
         where
           with_key : (t : Bool) → All (λ p. key_at ready p.slot ≡ Some p.key) (both range v w slot (unless_ended t end))
@@ -300,7 +300,7 @@ module _ {H : Type 0} (old : Arena H) (tree : Items) (stored : IsStored old tree
 
     module _ (final : Arena H) (none : ArePlaced old final (slots_of run) []) where
       part_parts : AreParted tree.items ((front ++ h.kept) ++ rest) run
-      part_parts = part_cut h.kept run h.run_is
+      part_parts = part_partitioned h.kept run h.run_is
 
       left_is : next.items ≡ (front ++ h.kept) ++ rest
       left_is = h.now_is ∙ sym (append_assoc front h.kept rest)
@@ -331,8 +331,8 @@ module _ {H : Type 0} (old : Arena H) (tree : Items) (stored : IsStored old tree
           ∙ left_written range filled bs stored.in_order kept out inside_is version (unwrap_or given last)
           (unwrap_or given (value_at bs range.end)) (λ gap. ap (unwrap_or given) (last_value gap))
 
-      pub part_indexed : KnowItems next → AreHinted (key_at ready) (hints_in next) → AreIndexed final next
-      part_indexed know hinted =
+      pub part_indexed : KnowItems next → AllAreHeads (key_at ready) (tree_heads next) → AreIndexed final next
+      part_indexed know headed =
           let made : AreParted next.items ((front ++ h.kept) ++ rest) [] =
           subst (λ items. AreParted items ((front ++ h.kept) ++ rest) []) (sym left_is)
           (none_go ((front ++ h.kept) ++ rest)) in
@@ -341,7 +341,7 @@ module _ {H : Type 0} (old : Arena H) (tree : Items) (stored : IsStored old tree
                 now_stored old tree stored ((front ++ h.kept) ++ rest) run part_parts final [] none next made
                 (subst AreInOrder (sym part_left)
                 (left_in_order range filled bs stored.in_order kept out inside_is some_first));
-            hinted =
-                now_hinted old tree stored ((front ++ h.kept) ++ rest) run part_parts final [] none next made ready all placed
-                (All-nil (λ p. key_at ready p.slot ≡ Some p.key)) know hinted;
+            headed =
+                now_headed old tree stored ((front ++ h.kept) ++ rest) run part_parts final [] none next made ready all placed
+                (All-nil (λ p. key_at ready p.slot ≡ Some p.key)) know headed;
           }

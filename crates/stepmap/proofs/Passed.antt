@@ -6,26 +6,26 @@ use Rattle.std.proofs.lemmas.List.Elements.{All-head, All-tail, All-cons, All-ni
 use Rattle.arena.specs.Arena.{Arena}
 use Rattle.tree.specs.declared.entry.Entry.{Entry}
 use Rattle.tree.specs.Item.{Item, item_of}
-use Rattle.tree.specs.Path.{IsCut, passing, behind, first_key as first_slot}
+use Rattle.tree.specs.Path.{IsPartitioned, items_below, behind, first_key as first_slot}
 use Rattle.tree.specs.Tree.{Items, IsLast}
 use Rattle.keys.specs.Key.{is_before}
 use Rattle.keys.proofs.callers.Booleans.{true_or_false}
 use Rattle.stepmap.specs.Boundary.{Boundary, AreInOrder, last_version}
-use Rattle.stepmap.specs.Cut.{passes_at, slot_passes}
+use Rattle.stepmap.specs.KeyBound.{is_below_at, slot_is_below}
 use Rattle.stepmap.specs.Stored.{bytes_at, boundary_of, boundaries_of, IsStored, first_key}
 use Rattle.stepmap.specs.Sweeping.{is_left, left_from, passed_to}
 use Rattle.stepmap.proofs.Order.{not_before_empty}
 use Rattle.stepmap.proofs.Looking.{not_not, empty_passed}
-use Rattle.stepmap.proofs.Cutting.{stored_cut}
+use Rattle.stepmap.proofs.Partitioning.{stored_partitioned}
 
 -- the cut is up to an empty cursor, and before any other
 pub passes_passed : (cursor : List ℕ) (b : Boundary)
-    → passes_at (length cursor == 0) cursor b.key ≡ not (is_left cursor b)
+    → is_below_at (length cursor == 0) cursor b.key ≡ not (is_left cursor b)
 passes_passed [] b =
     let f = not_before_empty b.key in
     elim (true_or_false (is_before [] b.key)) [ inl t ↦ rw (t, f) refl | inr n ↦ rw n refl ]
 passes_passed (x ∷ xs) b =
-    ap (λ u. passes_at u (x ∷ xs) b.key) (ne_eqb (length (x ∷ xs)) 0 (λ e. absurd (omega (arith, e)))) ∙ of_key b.key
+    ap (λ u. is_below_at u (x ∷ xs) b.key) (ne_eqb (length (x ∷ xs)) 0 (λ e. absurd (omega (arith, e)))) ∙ of_key b.key
   where
     of_key : (k : List ℕ) → is_before k (x ∷ xs) ≡ not (is_before [] k && not (is_before k (x ∷ xs)))
     of_key [] = refl
@@ -70,28 +70,28 @@ module _ {H : Type 0} (keys : Arena H) where
 
   -- what the cut does that the code makes
   pub record ArePassed (items : List Item) (up_to : Bool) (key cursor : List ℕ) : Type 0 where
-    pub cut : IsCut (λ x. slot_passes keys up_to key x.key) items
-    pub passed : boundaries_of keys (passing (slot_passes keys up_to key) items)
+    pub partitioned : IsPartitioned (λ x. slot_is_below keys up_to key x.key) items
+    pub passed : boundaries_of keys (items_below (slot_is_below keys up_to key) items)
         ≡ passed_to cursor (boundaries_of keys items)
-    pub left : boundaries_of keys (behind (slot_passes keys up_to key) items)
+    pub left : boundaries_of keys (behind (slot_is_below keys up_to key) items)
         ≡ left_from cursor (boundaries_of keys items)
-    pub some : passing (slot_passes keys up_to key) items ≢ []
+    pub some : items_below (slot_is_below keys up_to key) items ≢ []
 
   pub are_passed : (tree : Items) → IsStored keys tree → (up_to : Bool) (key cursor : List ℕ) (n : ℕ)
       → key ≡ cursor → length key ≡ n → up_to ≡ (n == 0) → ArePassed tree.items up_to key cursor
   are_passed tree s up_to key cursor n same len is =
-      let c = stored_cut keys tree s up_to key in
+      let c = stored_partitioned keys tree s up_to key in
       let up : up_to ≡ (length cursor == 0) = is ∙ ap (λ m. m == 0) (sym len) ∙ ap (λ k. length k == 0) same in
-      let at : (b : Boundary) → passes_at up_to key b.key ≡ not (is_left cursor b) =
-      λ b. ap (λ u. passes_at u key b.key) up ∙ ap (λ k. passes_at (length cursor == 0) k b.key) same
+      let at : (b : Boundary) → is_below_at up_to key b.key ≡ not (is_left cursor b) =
+      λ b. ap (λ u. is_below_at u key b.key) up ∙ ap (λ k. is_below_at (length cursor == 0) k b.key) same
       ∙ passes_passed cursor b in
       let bs = boundaries_of keys tree.items in
-      let passed = c.before ∙ filter_agree (λ b. passes_at up_to key b.key) (λ b. not (is_left cursor b)) at bs in
+      let passed = c.before ∙ filter_agree (λ b. is_below_at up_to key b.key) (λ b. not (is_left cursor b)) at bs in
       record {
-        cut = c.cut;
+        partitioned = c.partitioned;
         passed = passed;
         left = c.behind
-            ∙ filter_agree (λ b. not (passes_at up_to key b.key)) (is_left cursor)
+            ∙ filter_agree (λ b. not (is_below_at up_to key b.key)) (is_left cursor)
             (λ b. ap not (at b) ∙ sym (not_not (is_left cursor b))) bs;
         some = λ none. some_passed cursor bs s.in_order (sym passed ∙ ap (boundaries_of keys) none);
       }

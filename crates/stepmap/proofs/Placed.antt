@@ -10,11 +10,11 @@ use Rattle.std.proofs.lemmas.Result.{IfOk-at_ok}
 use Rattle.arena.specs.Arena.{Arena, Record, IsLive, record_at}
 use Rattle.keys.proofs.callers.Booleans.{true_or_false}
 use Rattle.tree.specs.Item.{Item}
-use Rattle.tree.specs.Path.{IsCut}
+use Rattle.tree.specs.Path.{IsPartitioned}
 use Rattle.tree.specs.Tree.{Items}
 use Rattle.tree.proofs.callers.Times.{once_cases, distinct_if_once}
 use Rattle.stepmap.specs.Boundary.{AreInOrder}
-use Rattle.stepmap.specs.Cut.{passes_at, slot_passes}
+use Rattle.stepmap.specs.KeyBound.{is_below_at, slot_is_below}
 use Rattle.stepmap.specs.Stored.{bytes_at, boundary_of, boundaries_of, IsStored}
 
 pub none_is_not_live : {X : Type 0} (o : Option X) → o ≡ None → IsSome o → ⊥
@@ -46,18 +46,18 @@ module _ {H : Type 0} (old new : Arena H) where
       (boundaries_same xs (All-tail (λ (x : Item). record_at new x.key ≡ record_at old x.key) x xs same))
 
   module _ (items : List Item) (same : SameRecords items) (up_to : Bool) (key : List ℕ) where
-    pub passes_same : All (λ x. slot_passes new up_to key x.key ≡ slot_passes old up_to key x.key) items
+    pub passes_same : All (λ x. slot_is_below new up_to key x.key ≡ slot_is_below old up_to key x.key) items
     passes_same =
         All-weaker (λ x. record_at new x.key ≡ record_at old x.key)
-        (λ x. slot_passes new up_to key x.key ≡ slot_passes old up_to key x.key)
-        (λ x e. ap (λ o. unwrap_or (option_map (passes_at up_to key) (option_map (λ r. r.key) o)) false) e) items same
+        (λ x. slot_is_below new up_to key x.key ≡ slot_is_below old up_to key x.key)
+        (λ x e. ap (λ o. unwrap_or (option_map (is_below_at up_to key) (option_map (λ r. r.key) o)) false) e) items same
 
     -- the same items come before a cut
-    pub cut_same : IsCut (λ x. slot_passes old up_to key x.key) items → IsCut (λ x. slot_passes new up_to key x.key) items
-    cut_same cut =
-        let p : Item → Bool = λ x. slot_passes new up_to key x.key in
-        let q : Item → Bool = λ x. slot_passes old up_to key x.key in
-        cut ∙ sym (ap₂ (λ xs ys. xs ++ ys) (filter_same p q items passes_same)
+    pub partitioned_same : IsPartitioned (λ x. slot_is_below old up_to key x.key) items → IsPartitioned (λ x. slot_is_below new up_to key x.key) items
+    partitioned_same partitioned =
+        let p : Item → Bool = λ x. slot_is_below new up_to key x.key in
+        let q : Item → Bool = λ x. slot_is_below old up_to key x.key in
+        partitioned ∙ sym (ap₂ (λ xs ys. xs ++ ys) (filter_same p q items passes_same)
         (filter_same (λ x. not (p x)) (λ x. not (q x)) items
         (All-weaker (λ x. p x ≡ q x) (λ x. not (p x) ≡ not (q x)) (λ x e. ap not e) items passes_same)))
 

@@ -209,7 +209,7 @@ module _ {H : Type 0} (old : Arena H) where
       let Keeps = λ (p : Placed). key_at mid p.slot ≡ Some p.key in
       let own : IsLive mid p.slot = live_by_key mid p.slot p.key (All-head Keeps p ps h.keys) in
       let later : All Keeps ps = All-tail Keeps p ps h.keys in
-      let gone : record_at now p.slot ≡ None =
+      let expired : record_at now p.slot ≡ None =
       ap (λ m. finite.get m p.slot) removed ∙ finite.get-remove nat_cmp_total mid.records p.slot p.slot
       ∙ ap (λ t. cond t None (record_at mid p.slot)) ((eq_by_cmp_equiv nat_cmp_total).refl p.slot) in
       record {
@@ -223,7 +223,7 @@ module _ {H : Type 0} (old : Arena H) where
         distinct = λ s. omega (arith, h.distinct s);
         others = λ s apart none. elim (once_cases s p.slot) [
           | inl same ↦
-              ap (record_at now) (sym same.0) ∙ gone ∙ sym (All-head Free p ps h.free) ∙ ap (record_at old) same.0
+              ap (record_at now) (sym same.0) ∙ expired ∙ sym (All-head Free p ps h.free) ∙ ap (record_at old) same.0
           | inr other ↦ others s (λ e. other.0 (sym e)) ∙ h.others s apart (omega (arith, other.1, none))
         ];
         counted = omega (arith, len_released mid now p.slot own removed, h.counted);

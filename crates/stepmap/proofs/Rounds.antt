@@ -6,8 +6,8 @@ use Rattle.keys.specs.Key.{is_before, IsBefore}
 use Rattle.keyspace.specs.Writes.{Write}
 use Rattle.stepmap.specs.Boundary.{Boundary, AreInOrder, RiseFrom}
 use Rattle.stepmap.specs.StepMap.{Steps, AreSteps}
-use Rattle.stepmap.specs.Sweeping.{thinned, is_left, left_from, passed_to, round_at, swept, at_front, after_sweep}
-use Rattle.stepmap.specs.Limit.{thinned_all, after_round}
+use Rattle.stepmap.specs.Sweeping.{unexpired, is_left, left_from, passed_to, round_at, swept, at_front, after_sweep}
+use Rattle.stepmap.specs.Limit.{unexpired_all, after_round}
 use Rattle.stepmap.specs.Rooted.{Ends, Rooted}
 use Rattle.stepmap.proofs.Order.{not_before_empty, rise_lower}
 use Rattle.stepmap.proofs.Changes.{SweepKeeps, sweep_keeps}
@@ -40,16 +40,16 @@ front_passed b bs o =
     rw first (ap (λ xs. b ∷ xs) (none_passed bs rises))
 
 swept_all : (edge : ℤ) (bs : List Boundary) → AreInOrder bs
-    → swept edge (length bs) (passed_to [] bs) (left_from [] bs) ≡ thinned_all edge bs
+    → swept edge (length bs) (passed_to [] bs) (left_from [] bs) ≡ unexpired_all edge bs
 swept_all edge [] o = absurd o
 swept_all edge (b ∷ bs) o =
     let n = length (b ∷ bs) in
     let few : length bs ≤ n = omega arith in
     ap (swept edge n (passed_to [] (b ∷ bs))) (front_left (b ∷ bs) o)
     ∙ ap (λ xs. swept edge n xs bs) (front_passed b bs o)
-    ∙ ap (λ xs. b ∷ (thinned edge b.version xs ++ drop n bs)) (take_all n bs few)
-    ∙ ap (λ xs. b ∷ (thinned edge b.version bs ++ xs)) (drop_all n bs few)
-    ∙ ap (λ xs. b ∷ xs) (append-nil (thinned edge b.version bs))
+    ∙ ap (λ xs. b ∷ (unexpired edge b.version xs ++ drop n bs)) (take_all n bs few)
+    ∙ ap (λ xs. b ∷ (unexpired edge b.version bs ++ xs)) (drop_all n bs few)
+    ∙ ap (λ xs. b ∷ xs) (append-nil (unexpired edge b.version bs))
 
 none_left : (bs : List Boundary) → AreInOrder bs → length (left_from [] bs) ≤ length bs
 none_left bs o = omega (arith, ap length (front_left bs o), length-drop 1 bs)
@@ -68,7 +68,7 @@ whole_round m h =
     ap (λ (xs : List Boundary). record m { boundaries = xs; round = round_at m.edge (drop n left) })
     (swept_all m.edge m.boundaries o)
     ∙ ap (λ (ds : List Boundary). record m {
-      boundaries = thinned_all m.edge m.boundaries;
+      boundaries = unexpired_all m.edge m.boundaries;
       round =
           round_at m.edge ds;
     }) (drop_all n left (none_left m.boundaries o))

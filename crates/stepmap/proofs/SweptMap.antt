@@ -32,7 +32,7 @@ use Rattle.stepmap.specs.Covers.{SameFrom}
 use Rattle.stepmap.specs.Rooted.{IsEndOf, Ends, Rooted}
 use Rattle.stepmap.proofs.Order.{not_empty_if_after}
 use Rattle.stepmap.proofs.WritingOrder.{below_empty}
-use Rattle.stepmap.proofs.Thinned.{same_above}
+use Rattle.stepmap.proofs.Removal.{same_above}
 use Rattle.stepmap.proofs.Looking.{below_middle, left_middle}
 use Rattle.stepmap.proofs.Sweeps.{
   swept_has,

@@ -6,7 +6,7 @@ use Rattle.std.proofs.lemmas.List.{map-append}
 use Rattle.std.proofs.lemmas.List.Elements.{All-head, All-tail}
 use Rattle.arena.specs.Arena.{Arena, IsLive}
 use Rattle.tree.specs.Item.{Item}
-use Rattle.tree.specs.Tree.{thin, gone}
+use Rattle.tree.specs.Tree.{thin, expired}
 use Rattle.tree.proofs.callers.Times.{times, once_same, once_cases, times-append}
 
 -- the slots of items
@@ -57,7 +57,7 @@ middle_goes front out rest = parted_beside front out [] out rest (record { each 
 
 -- a run is thinned
 pub thin_parted : (edge before : ℤ) (items : List Item)
-    → AreParted items (thin edge before items) (gone edge before items)
+    → AreParted items (thin edge before items) (expired edge before items)
 thin_parted edge before [] = record { each = λ s. omega arith; count = omega arith }
 thin_parted edge before (x ∷ xs) =
     let i = thin_parted edge x.version xs in

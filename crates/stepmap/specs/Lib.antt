@@ -10,7 +10,7 @@ pub mod Counting
 pub mod Uniting
 pub mod Laws
 pub mod Indexes
-pub mod Cut
+pub mod KeyBound
 pub mod Stored
 pub mod Asking
 pub mod Filtering

@@ -2,20 +2,20 @@
 use Rattle.std.specs.Prelude.{ℕ, ℤ, ◌+◌, ◌*◌, ◌≤◌, nat_le, if◌then◌else◌, List, [], ◌∷◌, length, None}
 use Rattle.stepmap.specs.Boundary.{Boundary}
 use Rattle.stepmap.specs.StepMap.{Steps}
-use Rattle.stepmap.specs.Sweeping.{thinned}
+use Rattle.stepmap.specs.Sweeping.{unexpired}
 
 -- so many ranges can be written: the boundaries, and two for each range, are within the limit
 abbrev pub HasRoomFor : ℕ → Steps → Type 0
 HasRoomFor ranges m = length m.boundaries + 2 * ranges ≤ m.limit
 
 -- what a sweep leaves that looks at every boundary but the empty key
-abbrev pub thinned_all : ℤ → List Boundary → List Boundary
-thinned_all edge [] = []
-thinned_all edge (b ∷ bs) = b ∷ thinned edge b.version bs
+abbrev pub unexpired_all : ℤ → List Boundary → List Boundary
+unexpired_all edge [] = []
+unexpired_all edge (b ∷ bs) = b ∷ unexpired edge b.version bs
 
 -- the step map after a whole round of the sweep, from the front
 abbrev pub after_round : Steps → Steps
-after_round m = record m { boundaries = thinned_all m.edge m.boundaries; round = None }
+after_round m = record m { boundaries = unexpired_all m.edge m.boundaries; round = None }
 
 -- the step map after room was made for so many ranges: by a whole round, unless there is room for them already
 abbrev pub made_room : ℕ → Steps → Steps

@@ -3,9 +3,9 @@ use Rattle.std.specs.Prelude.{◌≡◌, ℕ, List, [], ◌∷◌, length, map, 
 use Rattle.std.specs.List.{All, IsDistinct, flat_map}
 use Rattle.std.specs.FinMap as finite
 use Rattle.arena.specs.Arena.{Arena, IsLive, key_at}
-use Rattle.tree.specs.Hints.{AreHinted}
+use Rattle.tree.specs.Heads.{AllAreHeads}
 use Rattle.tree.specs.Item.{Item}
-use Rattle.tree.specs.Tree.{Items, hints_in}
+use Rattle.tree.specs.Tree.{Items, tree_heads}
 use Rattle.stepmap.specs.Boundary.{Boundary, AreInOrder}
 
 -- boundaries, and the memory that more of them may use
@@ -52,4 +52,4 @@ module _ {H : Type 0} where
   -- Boundaries are stored, and what the nodes of the tree know of the bytes of keys is right.
   pub record AreIndexed (keys : Arena H) (tree : Items) : Type 0 where
     pub stored : IsStored keys tree
-    pub hinted : AreHinted (key_at keys) (hints_in tree)
+    pub headed : AllAreHeads (key_at keys) (tree_heads tree)

@@ -26,11 +26,11 @@ use Rattle.stepmap.specs.StepMap.{Round, Steps}
 
 -- A boundary goes if its version and that of the boundary before it are both below the edge. The one before counts
 -- as it stood when the sweep came by, also if it goes itself.
-abbrev pub thinned : ℤ → ℤ → List Boundary → List Boundary
-thinned edge before [] = []
-thinned edge before (b ∷ bs) =
-    if int_lt before edge && int_lt b.version edge then thinned edge b.version bs
-    else b ∷ thinned edge b.version bs
+abbrev pub unexpired : ℤ → ℤ → List Boundary → List Boundary
+unexpired edge before [] = []
+unexpired edge before (b ∷ bs) =
+    if int_lt before edge && int_lt b.version edge then unexpired edge b.version bs
+    else b ∷ unexpired edge b.version bs
 
 -- the key from which on the round under way has still to look, or the empty key where none is
 abbrev pub cursor_of : Option Round → List ℕ
@@ -65,7 +65,7 @@ round_at edge (b ∷ bs) = Some (record { cursor = b.key; edge = edge })
 -- of those passed and those left, what a sweep leaves that looks at so many
 abbrev pub swept : ℤ → ℕ → List Boundary → List Boundary → List Boundary
 swept edge count passed left =
-    passed ++ (thinned edge (last_version (negsuc 0) passed) (take count left) ++ drop count left)
+    passed ++ (unexpired edge (last_version (negsuc 0) passed) (take count left) ++ drop count left)
 
 -- the step map with no round under way: the next sweep begins at the front
 abbrev pub at_front : Steps → Steps

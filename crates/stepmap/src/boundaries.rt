@@ -11,10 +11,10 @@ ghost use Rattle.stepmap.specs.Stored.{spare_in, each_length};
 ghost use Rattle.stepmap.specs.Writing.{written, written_to};
 ghost use Rattle.tree.specs.declared.question.TheConstants.{SIDE};
 
-use crate::cut::Cut;
+use crate::key_bound::KeyBound;
 use crate::key_lengths::{KeyLengths, put_each_length};
 use crate::query::QueryList;
-use crate::questions::{CutQuestion, no_question, put_questions};
+use crate::questions::{BoundQuestion, no_question, put_questions};
 use crate::release::release_run;
 use crate::step_map::MAX_LIMIT;
 use arena::{Arena, ArenaError};
@@ -82,12 +82,12 @@ impl<const N: usize> Boundaries<N> {
     pub fn version_at(&self, key: &[u8]) -> i64
         ensures value { result ≡ value_at self.now.boundaries key.now }
     {
-        let cut = Cut {
+        let partitioned = KeyBound {
             keys: &self.keys,
             key,
             up_to: true,
         };
-        self.tree.last(&cut).unwrap().version
+        self.tree.last(&partitioned).unwrap().version
     }
 
     // Returns the greatest version at a key of the range, which isn't empty.
@@ -99,12 +99,12 @@ impl<const N: usize> Boundaries<N> {
             × (value_at self.now.boundaries key ≡ result) }
     {
         let at_begin = self.version_at(range.begin.as_bytes());
-        let begin = Cut {
+        let begin = KeyBound {
             keys: &self.keys,
             key: range.begin.as_bytes(),
             up_to: true,
         };
-        let end = Cut {
+        let end = KeyBound {
             keys: &self.keys,
             key: range.end.as_bytes(),
             up_to: false,
@@ -128,7 +128,7 @@ impl<const N: usize> Boundaries<N> {
         ensures above { AllZip (λ place above. IsSomeAnd (slice_get (L.queries queries.now) place)
             (λ q. IsTrue above ↔ Exceeds self.now.boundaries q)) places.now result.items }
     {
-        let mut questions: [CutQuestion<'a>; SIDE] = array::from_fn(|_| no_question(&self.keys));
+        let mut questions: [BoundQuestion<'a>; SIDE] = array::from_fn(|_| no_question(&self.keys));
         put_questions(&self.keys, queries, places, &mut questions);
         self.tree.exceeds_each(&questions[..places.len()])
     }
@@ -194,17 +194,17 @@ impl<const N: usize> Boundaries<N> {
         let begin_key = self.keys.place((), range.begin()).unwrap();
         let end_key = self.keys.place((), range.end()).unwrap();
         let to = range.end();
-        let begin = Cut {
+        let begin = KeyBound {
             keys: &self.keys,
             key: range.begin(),
             up_to: false,
         };
-        let end = Cut {
+        let end = KeyBound {
             keys: &self.keys,
             key: to,
             up_to: false,
         };
-        let past = Cut {
+        let past = KeyBound {
             keys: &self.keys,
             key: to,
             up_to: true,
@@ -213,7 +213,7 @@ impl<const N: usize> Boundaries<N> {
             from: &begin,
             to: &end,
             past: &past,
-            shared: common_prefix_len(range.begin(), to),
+            targets_prefix_len: common_prefix_len(range.begin(), to),
             first: item(begin_key, version),
             second: end_key,
             last: at_end,

@@ -13,7 +13,7 @@
 
 mod boundaries;
 mod bounding;
-mod cut;
+mod key_bound;
 mod error;
 mod key_lengths;
 pub mod laws;

@@ -4,17 +4,17 @@ ghost use Rattle.std.specs.List.{All, AllZip};
 ghost use Rattle.keys.specs.Range.{IsEmpty};
 ghost use Rattle.stepmap.specs.Asking.{AsksFor};
 
-use crate::cut::Cut;
+use crate::key_bound::KeyBound;
 use crate::query::{QueryList, RangeQuery};
 use arena::Arena;
 use keys::common_prefix_len;
 use tree::Question;
 
 // What a tree of an arena's keys is asked.
-pub type CutQuestion<'a> = Question<Cut<'a>, Cut<'a>>;
+pub type BoundQuestion<'a> = Question<KeyBound<'a>, KeyBound<'a>>;
 
 // Returns what a tree of this arena's keys is asked for the query, whose range isn't empty.
-pub fn question<'a>(keys: &'a Arena<()>, query: RangeQuery<'a>) -> CutQuestion<'a>
+pub fn question<'a>(keys: &'a Arena<()>, query: RangeQuery<'a>) -> BoundQuestion<'a>
     requires filled { ¬ IsEmpty query.range }
     ensures asks { AsksFor keys.now query.entry.range result.from result.to }
     ensures version { result.version ≡ query.entry.version }
@@ -22,35 +22,35 @@ pub fn question<'a>(keys: &'a Arena<()>, query: RangeQuery<'a>) -> CutQuestion<'
     let begin = query.range.begin();
     let end = query.range.end();
     Question {
-        from: Cut {
+        from: KeyBound {
             keys,
             key: begin,
             up_to: true,
         },
-        to: Cut {
+        to: KeyBound {
             keys,
             key: end,
             up_to: false,
         },
-        shared: common_prefix_len(begin, end),
+        targets_prefix_len: common_prefix_len(begin, end),
         version: query.version,
     }
 }
 
 // Returns a question that stands where none is asked.
-pub fn no_question(keys: &Arena<()>) -> CutQuestion<'_> {
+pub fn no_question(keys: &Arena<()>) -> BoundQuestion<'_> {
     Question {
-        from: Cut {
+        from: KeyBound {
             keys,
             key: &[],
             up_to: false,
         },
-        to: Cut {
+        to: KeyBound {
             keys,
             key: &[],
             up_to: false,
         },
-        shared: 0,
+        targets_prefix_len: 0,
         version: 0,
     }
 }
@@ -61,7 +61,7 @@ pub fn put_questions<'a, L: QueryList>(
     keys: &'a Arena<()>,
     queries: &'a L,
     places: &[usize],
-    questions: &mut [CutQuestion<'a>],
+    questions: &mut [BoundQuestion<'a>],
 )
     requires filled { All (λ place. IsSomeAnd (slice_get (L.queries queries.now) place) (λ q. ¬ IsEmpty q.0)) places.now }
     requires room { length places.now ≤ length questions.old }

@@ -261,7 +261,7 @@ impl StepMap {
         ensures count { length self.new.boundaries ≤ length self.old.boundaries }
     {
         let began = self.round.unwrap_or(self.edge);
-        self.boundaries.thin(&mut self.cursor, count, self.edge);
+        self.boundaries.sweep(&mut self.cursor, count, self.edge);
         if self.cursor.is_empty() {
             self.round = None;
             return SweepEnd::Round;

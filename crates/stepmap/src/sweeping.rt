@@ -6,10 +6,10 @@ ghost use Rattle.keys.specs.Key.{IsKey};
 ghost use Rattle.keys.specs.declared.key.TheConstants.{MAX_KEY_LENGTH};
 ghost use Rattle.stepmap.specs.Boundary.{AreBoundaries, last_version};
 ghost use Rattle.stepmap.specs.Stored.{spare_in, first_key, bytes_at};
-ghost use Rattle.stepmap.specs.Sweeping.{left_from, passed_to, swept, thinned};
+ghost use Rattle.stepmap.specs.Sweeping.{left_from, passed_to, swept, unexpired};
 
 use crate::boundaries::Boundaries;
-use crate::cut::Cut;
+use crate::key_bound::KeyBound;
 use crate::release::release_run;
 use arena::{Arena, Slot};
 
@@ -26,7 +26,7 @@ impl<const N: usize> Boundaries<N> {
     // Looks at so many boundaries from the cursor on, or at all that are left, and takes out each whose version and
     // predecessor's version are below `edge`. That at the empty key is never looked at. The cursor is then at the first
     // one left, or empty.
-    pub fn thin(&mut self, cursor: &mut Vec<u8>, count: usize, edge: i64)
+    pub fn sweep(&mut self, cursor: &mut Vec<u8>, count: usize, edge: i64)
         requires boundaries { AreBoundaries self.old.boundaries }
         requires any_key { MAX_KEY_LENGTH ≤ vec_capacity cursor.old }
         ensures boundaries { self.new.boundaries ≡ swept edge count
@@ -39,7 +39,7 @@ impl<const N: usize> Boundaries<N> {
         let mut before = self.go_on(cursor);
         let mut left = count;
         while left > 0 && !cursor.is_empty() {
-            let looked = self.thin_run(cursor, left, edge, before);
+            let looked = self.remove_expired(cursor, left, edge, before);
             before = looked.last;
             left -= looked.count;
         }
@@ -54,7 +54,7 @@ impl<const N: usize> Boundaries<N> {
         ensures cursor { cursor.new.items ≡ first_key (left_from cursor.old.items self.now.boundaries) }
         ensures capacity { vec_capacity cursor.old ≤ vec_capacity cursor.new }
     {
-        let passed = Cut {
+        let passed = KeyBound {
             keys: &self.keys,
             key: cursor,
             up_to: cursor.is_empty(),
@@ -68,7 +68,7 @@ impl<const N: usize> Boundaries<N> {
     // Looks at some boundaries from the one at the cursor on, at most `count`, and takes out each whose version and
     // predecessor's version are below `edge`. `before` is the version of the boundary before them. The cursor is then at
     // the first one not looked at, or empty.
-    pub fn thin_run(&mut self, cursor: &mut Vec<u8>, count: usize, edge: i64, before: i64) -> Looked
+    pub fn remove_expired(&mut self, cursor: &mut Vec<u8>, count: usize, edge: i64, before: i64) -> Looked
         requires keys { All (λ b. IsKey b.key) self.old.boundaries }
         requires any_key { MAX_KEY_LENGTH ≤ vec_capacity cursor.old }
         requires later { cursor.old.items ≢ [] }
@@ -79,7 +79,7 @@ impl<const N: usize> Boundaries<N> {
         ensures last { result.last
             ≡ last_version before (take result.count (left_from cursor.old.items self.old.boundaries)) }
         ensures boundaries { self.new.boundaries ≡ passed_to cursor.old.items self.old.boundaries
-            ++ (thinned edge before (take result.count (left_from cursor.old.items self.old.boundaries))
+            ++ (unexpired edge before (take result.count (left_from cursor.old.items self.old.boundaries))
             ++ drop result.count (left_from cursor.old.items self.old.boundaries)) }
         ensures cursor { cursor.new.items
             ≡ first_key (drop result.count (left_from cursor.old.items self.old.boundaries)) }
@@ -87,18 +87,18 @@ impl<const N: usize> Boundaries<N> {
         ensures spare { (size : ℕ) → spare_in self.old size ≤ spare_in self.new size }
         ensures room { self.new.room ≡ self.old.room }
     {
-        let from = Cut {
+        let from = KeyBound {
             keys: &self.keys,
             key: cursor,
             up_to: true,
         };
         let mut taken = None;
-        let thinned = self.tree.thin_run(&from, count, edge, before, &mut taken);
-        move_to(&self.keys, cursor, thinned.next);
+        let unexpired = self.tree.remove_expired(&from, count, edge, before, &mut taken);
+        move_to(&self.keys, cursor, unexpired.next);
         release_run(&mut self.keys, &taken);
         Looked {
-            count: thinned.looked_at,
-            last: thinned.last,
+            count: unexpired.looked_at,
+            last: unexpired.last,
         }
     }
 }

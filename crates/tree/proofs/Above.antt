@@ -7,7 +7,7 @@ use mir.Syntax.{w64}
 use mir.Val.{SFits, to_z, of_z}
 use Rattle.tree.specs.declared.entry.Entry.{Entry}
 use Rattle.tree.specs.Item.{Item, Tells, item_of}
-use Rattle.tree.proofs.callers.Cuts.{not_both}
+use Rattle.tree.proofs.callers.Partitions.{not_both}
 use Rattle.keys.proofs.callers.SomeElement.{Any-first, Any-later, Any-cases, Any-map, Any-unmap}
 
 -- the other way about

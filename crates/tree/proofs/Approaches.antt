@@ -5,16 +5,16 @@ use Rattle.arena.specs.Arena.{Arena}
 use Rattle.tree.specs.declared.node.Node.{Node}
 use Rattle.tree.specs.declared.questions.Approach.{Approach}
 use Rattle.tree.specs.declared.questions.Approach.TheVariants.{Leaf, Clear, Open}
-use Rattle.tree.specs.Hints.{KeyBytes}
+use Rattle.tree.specs.Heads.{KeyBytes}
 use Rattle.tree.specs.Question.{IsApproach, IsLeading, IsTold}
 use Rattle.tree.specs.Subtree.{items_in}
 
-module _ {N : ℕ} (nodes : Arena (Node N)) (bytes : KeyBytes) (p q : ℕ → Bool) (sought : List ℕ) (v : ℤ) where
+module _ {N : ℕ} (nodes : Arena (Node N)) (bytes : KeyBytes) (p q : ℕ → Bool) (target : List ℕ) (v : ℤ) where
   -- What answers for a part answers for the whole, where what is told of the part is told of the whole.
   pub approach_wider : (height slot low child : ℕ) (clear next : Bool) (way : Approach)
       → ((result : Option Bool) → IsTold p q v next (items_in nodes low child) result
       → IsTold p q v clear (items_in nodes height slot) result)
-      → IsApproach nodes low child bytes p q sought v next way → IsApproach nodes height slot bytes p q sought v clear way
+      → IsApproach nodes low child bytes p q target v next way → IsApproach nodes height slot bytes p q target v clear way
   approach_wider height slot low child clear next (Leaf near) wider is = record {
     near_is = is.near_is;
     from = is.from;
@@ -24,8 +24,8 @@ module _ {N : ℕ} (nodes : Arena (Node N)) (bytes : KeyBytes) (p q : ℕ → Bo
   approach_wider height slot low child clear next Clear wider is = wider (Some false) is
   approach_wider height slot low child clear next Open wider is = tt
 
-  pub leading_of : (height slot : ℕ) (clear : Bool) (way : Approach) → IsApproach nodes height slot bytes p q sought v clear way
-      → IsLeading nodes bytes p sought way
+  pub leading_of : (height slot : ℕ) (clear : Bool) (way : Approach) → IsApproach nodes height slot bytes p q target v clear way
+      → IsLeading nodes bytes p target way
   leading_of height slot clear (Leaf near) is = is.near_is
   leading_of height slot clear Clear is = tt
   leading_of height slot clear Open is = tt

@@ -5,20 +5,20 @@ use Rattle.arena.specs.Arena.{Arena, with_header}
 use Rattle.tree.specs.declared.node.Node.{Node}
 use Rattle.tree.specs.declared.walk.Outcome.{Outcome}
 use Rattle.tree.specs.declared.walk.Outcome.TheVariants.{Same, Raised}
-use Rattle.tree.specs.Hints.{KeyBytes, AreHinted, IsHinted}
-use Rattle.tree.specs.Node.{hint_of, hints_of}
+use Rattle.tree.specs.Heads.{KeyBytes, AllAreHeads, AreHeads}
+use Rattle.tree.specs.Node.{key_heads_of, all_heads_of}
 use Rattle.tree.specs.Replace.{slots_with, Changes}
 use Rattle.tree.specs.Subtree.{entries_at, items_in, IsSubtree}
 use Rattle.tree.specs.Tree.{least_of}
 use Rattle.tree.specs.Walk.{CanChange, IsChanged, IsRaised, added_by}
 use Rattle.tree.proofs.Changing.{changes_if_moves}
-use Rattle.tree.proofs.KnownKeys.{hinted_header}
+use Rattle.tree.proofs.KnownKeys.{headed_header}
 use Rattle.tree.proofs.Placing.{put_live, put_moves}
 
 -- A subtree that stays as it is.
 pub unchanged : {N : ℕ} (bytes : KeyBytes) (nodes : Arena (Node N)) (height slot : ℕ) → CanChange nodes height slot
-    → AreHinted bytes (hints_of nodes) → IsChanged bytes nodes nodes height slot Same
-unchanged bytes nodes height slot can hinted = record {
+    → AllAreHeads bytes (all_heads_of nodes) → IsChanged bytes nodes nodes height slot Same
+unchanged bytes nodes height slot can headed = record {
   same = λ _. refl;
   raised = λ version e. absurd (cc);
   subtree = can.subtree;
@@ -34,16 +34,16 @@ unchanged bytes nodes height slot can hinted = record {
     keyless = can.keyless;
   };
   taken = omega arith;
-  hinted = hinted;
+  headed = headed;
 }
 
 -- A leaf that is changed where it lies.
 pub leaf_put : {N : ℕ} (bytes : KeyBytes) (old new : Arena (Node N)) (slot : ℕ) (node : Node N) (outcome : Outcome)
-    → new ≡ with_header old slot node → CanChange old 0 slot → AreHinted bytes (hints_of old)
-    → IsHinted bytes (hint_of node) → added_by outcome ≡ None → (outcome ≡ Same → new ≡ old)
+    → new ≡ with_header old slot node → CanChange old 0 slot → AllAreHeads bytes (all_heads_of old)
+    → AreHeads bytes (key_heads_of node) → added_by outcome ≡ None → (outcome ≡ Same → new ≡ old)
     → ((version : ℤ) → outcome ≡ Raised version → IsRaised version (items_in old 0 slot) (items_in new 0 slot))
     → IsChanged bytes old new 0 slot outcome
-leaf_put {N} bytes old new slot node outcome put can all hinted none same raised =
+leaf_put {N} bytes old new slot node outcome put can all headed none same raised =
     let changes = changes_if_moves old new (slot ∷ []) (slot ∷ [])
     (put_moves old new slot node put can.subtree can.keyless) in
     record {
@@ -56,5 +56,5 @@ leaf_put {N} bytes old new slot node outcome put can all hinted none same raised
       few_less = λ high. absurd (omega (arith, high));
       changes = subst (λ o. Changes old new (slot ∷ []) (slots_with new 0 slot o)) (sym none) changes;
       taken = omega (arith, changes.live, changes.spare);
-      hinted = hinted_header bytes old new slot node put all hinted;
+      headed = headed_header bytes old new slot node put all headed;
     }

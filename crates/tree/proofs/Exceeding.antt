@@ -7,7 +7,7 @@ use mir.Syntax.{w64}
 use mir.Val.{SFits, to_z, of_z}
 use Rattle.keys.proofs.callers.SomeElement.{Any-weaker, Any-first, Any-later, Any-cases}
 use Rattle.tree.specs.Item.{Item, IsMost}
-use Rattle.tree.specs.Path.{IsCut, between, from_last, passing}
+use Rattle.tree.specs.Path.{IsPartitioned, between, from_last, items_below}
 use Rattle.tree.specs.Tree.{IsLast}
 use Rattle.tree.proofs.Above.{IsAbove}
 use Rattle.tree.proofs.FromLast.{last_and_between}
@@ -28,12 +28,12 @@ pub above_tested : (a b : ℤ) → SFits w64 a → SFits w64 b
 above_tested a b f g = rw (to_z-of_z w64 a f, to_z-of_z w64 b g) (less_tested a b)
 
 module _ (p q : ℕ → Bool) (v : ℤ) (n : (key : ℕ) → p key ≡ true → q key ≡ true) (items : List Item)
-    (cut : IsCut (λ x. p x.key) items) (x : Item) (last : IsLast x (passing p items)) where
+    (partitioned : IsPartitioned (λ x. p x.key) items) (x : Item) (last : IsLast x (items_below p items)) where
   -- that item, and then those between the two cuts
   last_then_between : from_last p (Some q) items ≡ x ∷ between (Some p) (Some q) items
   last_then_between =
-      last_and_between (λ (x : Item). p x.key) (λ (x : Item). q x.key) (λ x h. n x.key h) items cut
-      ∙ ap (λ xs. xs ++ between (Some p) (Some q) items) (drop_to_last x (passing p items) last)
+      last_and_between (λ (x : Item). p x.key) (λ (x : Item). q x.key) (λ x h. n x.key h) items partitioned
+      ∙ ap (λ xs. xs ++ between (Some p) (Some q) items) (drop_to_last x (items_below p items) last)
 
   -- where that item's version is above it
   pub above_by_last : v <ℤ x.version → IsAbove v (from_last p (Some q) items)

@@ -6,7 +6,7 @@ use Rattle.std.proofs.lemmas.List.Elements.{All-cons, All-nil, All-head, All-wea
 use Rattle.arena.specs.Arena.{Arena, header_at}
 use Rattle.tree.specs.declared.entry.Entry.{Entry}
 use Rattle.tree.specs.declared.node.Node.{Node}
-use Rattle.tree.specs.Hints.{KeyBytes, Knows, KnowsAt}
+use Rattle.tree.specs.Heads.{KeyBytes, IsPrefixLen, IsPrefixLenAt}
 use Rattle.tree.specs.Item.{Item, Tells, item_of}
 use Rattle.tree.specs.Node.{entries_of}
 use Rattle.tree.specs.Path.{index_in}
@@ -78,25 +78,25 @@ module _ {N : ℕ} (nodes : Arena (Node N)) (least : ℕ) where
       subst (IsChild nodes least (height - 1) (IsSubtree nodes least (height - 1))) (sym is) (all i e inside)
 
   -- What is known of the key of an entry is known of that of its child's first entry.
-  pub knows_child : (height : ℕ) (e : Entry) (child : ℕ) (bytes : KeyBytes) (passes : ℕ → Bool) (sought : List ℕ)
+  pub knows_child : (height : ℕ) (e : Entry) (child : ℕ) (bytes : KeyBytes) (is_below : ℕ → Bool) (target : List ℕ)
       (known : Option ℕ) → IsChild nodes least height (IsSubtree nodes least height) e → child ≡ e.child
-      → Knows bytes passes sought known e.key → KnowsAt bytes passes sought known (entries_at nodes child) 0
-  knows_child height e child bytes passes sought known right same knows first at =
+      → IsPrefixLen bytes is_below target known e.key → IsPrefixLenAt bytes is_below target known (entries_at nodes child) 0
+  knows_child height e child bytes is_below target known right same knows first at =
       let here = subst (λ s. slice_get (entries_at nodes s) 0 ≡ Some first) same at in
-      subst (Knows bytes passes sought known) (sym (first_key_is height e first right here)) knows
+      subst (IsPrefixLen bytes is_below target known) (sym (first_key_is height e first right here)) knows
 
 -- What a search finds out at an entry holds of the first key of the child at which it goes on.
-module _ {N : ℕ} (nodes : Arena (Node N)) (least height slot : ℕ) (passes : ℕ → Bool) (child : ℕ)
-    (f : IsFound nodes least height slot passes child) where
-  pub known_below : (bytes : KeyBytes) (sought : List ℕ) (known : Option ℕ) (header : Node N) (index : ℕ)
-      → header_at nodes slot ≡ Some header → index ≡ index_in passes (entries_of header)
-      → KnowsAt bytes passes sought known (entries_of header) index → KnowsAt bytes passes sought known (entries_at nodes child) 0
-  known_below bytes sought known header index h i k =
+module _ {N : ℕ} (nodes : Arena (Node N)) (least height slot : ℕ) (is_below : ℕ → Bool) (child : ℕ)
+    (f : IsFound nodes least height slot is_below child) where
+  pub known_below : (bytes : KeyBytes) (target : List ℕ) (known : Option ℕ) (header : Node N) (index : ℕ)
+      → header_at nodes slot ≡ Some header → index ≡ index_in is_below (entries_of header)
+      → IsPrefixLenAt bytes is_below target known (entries_of header) index → IsPrefixLenAt bytes is_below target known (entries_at nodes child) 0
+  known_below bytes target known header index h i k =
       let e = f.way.entry in
       let read : entries_at nodes slot ≡ entries_of header = entries_read nodes slot header (entries_of header) h refl in
       let at : slice_get (entries_of header) index ≡ Some e =
-      ap (slice_get (entries_of header)) i ∙ subst (λ xs. slice_get xs (index_in passes xs) ≡ Some e) read f.way.is in
-      knows_child nodes least (height - 1) e child bytes passes sought known f.way.kept f.is (k e at)
+      ap (slice_get (entries_of header)) i ∙ subst (λ xs. slice_get xs (index_in is_below xs) ≡ Some e) read f.way.is in
+      knows_child nodes least (height - 1) e child bytes is_below target known f.way.kept f.is (k e at)
 
   pub some_below : 1 ≤ least → 1 ≤ length (entries_at nodes child)
   some_below some =

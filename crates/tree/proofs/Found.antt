@@ -7,9 +7,9 @@ use Rattle.tree.specs.declared.entry.Entry.{Entry}
 use Rattle.tree.specs.declared.node.Node.{Node}
 use Rattle.tree.specs.Item.{Item, item_of}
 use Rattle.tree.specs.Node.{entries_of}
-use Rattle.tree.specs.Path.{IsCut, index_in, child_in, leaf_in}
+use Rattle.tree.specs.Path.{IsPartitioned, index_in, child_in, leaf_in}
 use Rattle.tree.specs.Subtree.{entries_at, items_in, IsSubtree}
-use Rattle.tree.proofs.callers.Cuts.{Falls, Falls-from_cut, IsCut-from_falls}
+use Rattle.tree.proofs.callers.Partitions.{Falls, Falls-below_from, IsPartitioned-from_falls}
 use Rattle.tree.proofs.Ways.{IsWay, way}
 
 -- the entries at a slot are those of the header that the code has read
@@ -18,32 +18,32 @@ pub entries_read : {N : ℕ} (nodes : Arena (Node N)) (slot : ℕ) (header : Nod
 entries_read nodes slot header es h e = ap (λ o. unwrap_or (option_map entries_of o) []) h ∙ sym e
 
 -- The child is that of the entry that the probe finds.
-pub record IsFound {N : ℕ} (nodes : Arena (Node N)) (least height slot : ℕ) (passes : ℕ → Bool) (child : ℕ)
+pub record IsFound {N : ℕ} (nodes : Arena (Node N)) (least height slot : ℕ) (is_below : ℕ → Bool) (child : ℕ)
     : Type 0 where
   pub lower : suc (height - 1) ≡ height
-  pub way : IsWay nodes least (height - 1) slot passes
+  pub way : IsWay nodes least (height - 1) slot is_below
   pub is : child ≡ way.entry.child
 
-pub found : {N : ℕ} (nodes : Arena (Node N)) (least height slot : ℕ) (passes : ℕ → Bool) (header : Node N)
+pub found : {N : ℕ} (nodes : Arena (Node N)) (least height slot : ℕ) (is_below : ℕ → Bool) (header : Node N)
     (es : List Entry) (index : ℕ) (d : Entry) → (height ≡ 0 → ⊥) → IsSubtree nodes least height slot
-    → IsCut (λ x. passes x.key) (items_in nodes height slot) → header_at nodes slot ≡ Some header
-    → es ≡ entries_of header → index ≡ index_in passes es
-    → IsFound nodes least height slot passes (slice_index_or es index d).child
-found nodes least height slot passes header es index d some s c h e i =
+    → IsPartitioned (λ x. is_below x.key) (items_in nodes height slot) → header_at nodes slot ≡ Some header
+    → es ≡ entries_of header → index ≡ index_in is_below es
+    → IsFound nodes least height slot is_below (slice_index_or es index d).child
+found nodes least height slot is_below header es index d some s c h e i =
     let lower : suc (height - 1) ≡ height = omega arith in
     let w =
-    way nodes least (height - 1) slot passes (subst (λ n. IsSubtree nodes least n slot) (sym lower) s)
-    (subst (λ n. IsCut (λ (x : Item). passes x.key) (items_in nodes n slot)) (sym lower) c) in
+    way nodes least (height - 1) slot is_below (subst (λ n. IsSubtree nodes least n slot) (sym lower) s)
+    (subst (λ n. IsPartitioned (λ (x : Item). is_below x.key) (items_in nodes n slot)) (sym lower) c) in
     let read = entries_read nodes slot header es h e in
     let at : slice_get es index ≡ Some w.entry =
-    rw i (subst (λ xs. slice_get xs (index_in passes xs) ≡ Some w.entry) read w.is) in
+    rw i (subst (λ xs. slice_get xs (index_in is_below xs) ≡ Some w.entry) read w.is) in
     record { lower = lower; way = w; is = ap (λ (x : Entry). x.child) (get_or_from_slice_get es index w.entry d at) }
 
-pub cut-entries : (p : Item → Bool) (es : List Entry) → IsCut p (map item_of es) → IsCut (λ e. p (item_of e)) es
-cut-entries p [] c = refl
-cut-entries p (e ∷ es) c =
-    IsCut-from_falls (λ (e : Entry). p (item_of e)) (e ∷ es)
-    (falls (e ∷ es) (Falls-from_cut p (map item_of (e ∷ es)) c))
+pub partitioned-entries : (p : Item → Bool) (es : List Entry) → IsPartitioned p (map item_of es) → IsPartitioned (λ e. p (item_of e)) es
+partitioned-entries p [] c = refl
+partitioned-entries p (e ∷ es) c =
+    IsPartitioned-from_falls (λ (e : Entry). p (item_of e)) (e ∷ es)
+    (falls (e ∷ es) (Falls-below_from p (map item_of (e ∷ es)) c))
   where
     fails : (es : List Entry) → All (λ x. p x ≡ false) (map item_of es) → All (λ e. p (item_of e) ≡ false) es
     fails [] a = All-nil (λ (e : Entry). p (item_of e) ≡ false)
@@ -57,40 +57,40 @@ cut-entries p (e ∷ es) c =
     falls (e ∷ es) f = elim f [ inl h ↦ inl (h.0, falls es h.1) | inr h ↦ inr (h.0, fails es h.1) ]
 
 -- The entries of a leaf, as the code has read them, are cut.
-pub leaf_cut : {N : ℕ} (nodes : Arena (Node N)) (height slot : ℕ) (passes : ℕ → Bool) (header : Node N)
-    (es : List Entry) → height ≡ 0 → IsCut (λ x. passes x.key) (items_in nodes height slot)
-    → header_at nodes slot ≡ Some header → es ≡ entries_of header → IsCut (λ e. passes e.key) es
-leaf_cut nodes height slot passes header es z c h e =
-    let at : IsCut (λ (x : Item). passes x.key) (map item_of (entries_at nodes slot)) =
-    subst (λ n. IsCut (λ (x : Item). passes x.key) (items_in nodes n slot)) z c in
-    cut-entries (λ (x : Item). passes x.key) es
-    (subst (λ xs. IsCut (λ (x : Item). passes x.key) (map item_of xs)) (entries_read nodes slot header es h e) at)
+pub leaf_partitioned : {N : ℕ} (nodes : Arena (Node N)) (height slot : ℕ) (is_below : ℕ → Bool) (header : Node N)
+    (es : List Entry) → height ≡ 0 → IsPartitioned (λ x. is_below x.key) (items_in nodes height slot)
+    → header_at nodes slot ≡ Some header → es ≡ entries_of header → IsPartitioned (λ e. is_below e.key) es
+leaf_partitioned nodes height slot is_below header es z c h e =
+    let at : IsPartitioned (λ (x : Item). is_below x.key) (map item_of (entries_at nodes slot)) =
+    subst (λ n. IsPartitioned (λ (x : Item). is_below x.key) (items_in nodes n slot)) z c in
+    partitioned-entries (λ (x : Item). is_below x.key) es
+    (subst (λ xs. IsPartitioned (λ (x : Item). is_below x.key) (map item_of xs)) (entries_read nodes slot header es h e) at)
 
 -- The entries of a node above the leaves, as the code has read them, are cut.
-pub read_cut : {N : ℕ} (nodes : Arena (Node N)) (least height slot : ℕ) (passes : ℕ → Bool) (header : Node N)
+pub read_partitioned : {N : ℕ} (nodes : Arena (Node N)) (least height slot : ℕ) (is_below : ℕ → Bool) (header : Node N)
     (es : List Entry) → (height ≡ 0 → ⊥) → IsSubtree nodes least height slot
-    → IsCut (λ x. passes x.key) (items_in nodes height slot) → header_at nodes slot ≡ Some header
-    → es ≡ entries_of header → IsCut (λ e. passes e.key) es
-read_cut nodes least height slot passes header es some s c h e =
+    → IsPartitioned (λ x. is_below x.key) (items_in nodes height slot) → header_at nodes slot ≡ Some header
+    → es ≡ entries_of header → IsPartitioned (λ e. is_below e.key) es
+read_partitioned nodes least height slot is_below header es some s c h e =
     let lower : suc (height - 1) ≡ height = omega arith in
     let w =
-    way nodes least (height - 1) slot passes (subst (λ n. IsSubtree nodes least n slot) (sym lower) s)
-    (subst (λ n. IsCut (λ (x : Item). passes x.key) (items_in nodes n slot)) (sym lower) c) in
-    subst (IsCut (λ (x : Entry). passes x.key)) (entries_read nodes slot header es h e) w.entries
+    way nodes least (height - 1) slot is_below (subst (λ n. IsSubtree nodes least n slot) (sym lower) s)
+    (subst (λ n. IsPartitioned (λ (x : Item). is_below x.key) (items_in nodes n slot)) (sym lower) c) in
+    subst (IsPartitioned (λ (x : Entry). is_below x.key)) (entries_read nodes slot header es h e) w.entries
 
-module _ {N : ℕ} (nodes : Arena (Node N)) (least height slot : ℕ) (passes : ℕ → Bool) (child : ℕ)
-    (f : IsFound nodes least height slot passes child) where
+module _ {N : ℕ} (nodes : Arena (Node N)) (least height slot : ℕ) (is_below : ℕ → Bool) (child : ℕ)
+    (f : IsFound nodes least height slot is_below child) where
   pub found_subtree : IsSubtree nodes least (height - 1) child
   found_subtree = subst (IsSubtree nodes least (height - 1)) (sym f.is) f.way.kept.subtree
 
-  pub found_cut : IsCut (λ x. passes x.key) (items_in nodes (height - 1) child)
-  found_cut = subst (λ s. IsCut (λ (x : Item). passes x.key) (items_in nodes (height - 1) s)) (sym f.is) f.way.cut
+  pub found_partitioned : IsPartitioned (λ x. is_below x.key) (items_in nodes (height - 1) child)
+  found_partitioned = subst (λ s. IsPartitioned (λ (x : Item). is_below x.key) (items_in nodes (height - 1) s)) (sym f.is) f.way.partitioned
 
-  is_child : child ≡ child_in passes (entries_at nodes slot)
+  is_child : child ≡ child_in is_below (entries_at nodes slot)
   is_child = f.is ∙ f.way.child
 
-  pub found_leaf : (leaf : ℕ) → leaf ≡ leaf_in nodes (height - 1) child passes
-      → leaf ≡ leaf_in nodes height slot passes
+  pub found_leaf : (leaf : ℕ) → leaf ≡ leaf_in nodes (height - 1) child is_below
+      → leaf ≡ leaf_in nodes height slot is_below
   found_leaf leaf e =
-      subst (λ n. leaf ≡ leaf_in nodes n slot passes) f.lower
-      (subst (λ s. leaf ≡ leaf_in nodes (height - 1) s passes) is_child e)
+      subst (λ n. leaf ≡ leaf_in nodes n slot is_below) f.lower
+      (subst (λ s. leaf ≡ leaf_in nodes (height - 1) s is_below) is_child e)

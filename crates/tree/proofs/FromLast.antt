@@ -7,11 +7,11 @@ use Rattle.arena.specs.Arena.{Arena}
 use Rattle.tree.specs.declared.entry.Entry.{Entry}
 use Rattle.tree.specs.declared.node.Node.{Node}
 use Rattle.tree.specs.Item.{Item, Tells, item_of}
-use Rattle.tree.specs.Path.{IsCut}
+use Rattle.tree.specs.Path.{IsPartitioned}
 use Rattle.tree.specs.Subtree.{items_in}
 use Rattle.tree.proofs.Above.{IsAbove, not_above_told}
-use Rattle.tree.proofs.callers.Cuts.{Falls, Falls-from_cut, none_pass}
-use Rattle.tree.proofs.Found.{cut-entries}
+use Rattle.tree.proofs.callers.Partitions.{Falls, Falls-below_from, none_pass}
+use Rattle.tree.proofs.Found.{partitioned-entries}
 use Rattle.tree.proofs.Keys.{filter-items}
 use Rattle.tree.proofs.Looks.{IsLook, look_ordered}
 use Rattle.keys.proofs.callers.SomeElement.{Any-right}
@@ -41,19 +41,19 @@ module _ {X : Type 0} (p q : X → Bool) where
       ]
 
   -- Those that pass the second test are those that pass the first one, and then those between the two cuts.
-  passing_both : ((x : X) → p x ≡ true → q x ≡ true) → (xs : List X) → IsCut p xs
+  passing_both : ((x : X) → p x ≡ true → q x ≡ true) → (xs : List X) → IsPartitioned p xs
       → filter q xs ≡ filter p xs ++ span p q xs
-  passing_both n xs c = passing_falls n xs (Falls-from_cut p xs c)
+  passing_both n xs c = passing_falls n xs (Falls-below_from p xs c)
 
   -- from the last that passes the first test on, that one and then those between the two cuts
-  pub last_and_between : ((x : X) → p x ≡ true → q x ≡ true) → (xs : List X) → IsCut p xs
+  pub last_and_between : ((x : X) → p x ≡ true → q x ≡ true) → (xs : List X) → IsPartitioned p xs
       → from_last_of p q xs ≡ last_passing p xs ++ span p q xs
   last_and_between n xs c =
       ap (drop (length (filter p xs) - 1)) (passing_both n xs c)
       ∙ drop-append-le (length (filter p xs) - 1) (filter p xs) (span p q xs) (omega arith)
 
   -- the part of a list from the last one before the first cut to the second cut
-  from_last_range : (xs : List X) (i j : ℕ) → IsCut q xs → i ≤ j → i ≡ length (filter p xs) - 1
+  from_last_range : (xs : List X) (i j : ℕ) → IsPartitioned q xs → i ≤ j → i ≡ length (filter p xs) - 1
       → j ≡ length (filter q xs) → from_last_of p q xs ≡ slice_range xs i j
   from_last_range xs i j d le m n =
       let front : filter q xs ≡ take j xs =
@@ -82,7 +82,7 @@ module _ {N : ℕ} (nodes : Arena (Node N)) (least height slot : ℕ) (f t : ℕ
       let q = λ (x : Item). t x.key in
       let at : items_in nodes height slot ≡ map item_of es =
       ap (λ n. items_in nodes n slot) z ∙ ap (map item_of) k.read in
-      let d = cut-entries q es (subst (IsCut q) at k.to) in
+      let d = partitioned-entries q es (subst (IsPartitioned q) at k.to) in
       let passed = filter (λ (e : Entry). f e.key) es in
       let count : length (filter p (map item_of es)) ≡ length passed =
       ap length (filter-items p es) ∙ length-map passed item_of in

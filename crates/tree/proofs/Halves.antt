@@ -7,7 +7,7 @@ use Rattle.arena.specs.Arena.{Arena}
 use Rattle.tree.specs.declared.entry.Entry.{Entry}
 use Rattle.tree.specs.declared.node.Node.{Node}
 use Rattle.tree.specs.Item.{Item, Tells}
-use Rattle.tree.specs.Path.{IsCut}
+use Rattle.tree.specs.Path.{IsPartitioned}
 use Rattle.tree.specs.Subtree.{IsSubtree, items_in}
 use Rattle.tree.proofs.Spans.{span}
 use Rattle.tree.proofs.Looks.{IsLook, look_apart, look_one, look_two, look_tell, child_subtree, child_tells, child_from, child_to, first_inside, last_inside}
@@ -77,11 +77,11 @@ module _ {N : ℕ} {nodes : Arena (Node N)} {least height slot : ℕ} {f t : ℕ
   left_subtree =
       child_subtree nodes least height slot f t h.es h.begin h.end h.look h.some h.first h.left first_within h.left_at
 
-  pub left_from : IsCut (λ x. f x.key) left_items
+  pub left_from : IsPartitioned (λ x. f x.key) left_items
   left_from =
       child_from nodes least height slot f t h.es h.begin h.end h.look h.some h.first h.left first_within h.left_at
 
-  pub left_to : IsCut (λ x. t x.key) left_items
+  pub left_to : IsPartitioned (λ x. t x.key) left_items
   left_to =
       child_to nodes least height slot f t h.es h.begin h.end h.look h.some h.first h.left first_within h.left_at
 
@@ -89,7 +89,7 @@ module _ {N : ℕ} {nodes : Arena (Node N)} {least height slot : ℕ} {f t : ℕ
   right_subtree =
       child_subtree nodes least height slot f t h.es h.begin h.end h.look h.some h.last h.right last_within h.right_at
 
-  pub right_to : IsCut (λ x. t x.key) right_items
+  pub right_to : IsPartitioned (λ x. t x.key) right_items
   right_to =
       child_to nodes least height slot f t h.es h.begin h.end h.look h.some h.last h.right last_within h.right_at
 

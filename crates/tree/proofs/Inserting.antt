@@ -6,7 +6,7 @@ use Rattle.std.proofs.lemmas.List.Filters.{length-filter_both}
 use Rattle.arena.specs.Arena.{Arena, spare_of}
 use Rattle.tree.specs.declared.node.Node.{Node}
 use Rattle.tree.specs.Item.{Item}
-use Rattle.tree.specs.Path.{passing, behind}
+use Rattle.tree.specs.Path.{items_below, behind}
 use Rattle.tree.specs.Subtree.{items_in}
 use Rattle.tree.specs.Tree.{IsTree, IsRooted, least_of, way}
 
@@ -28,8 +28,8 @@ module _ {N : ℕ} where
       }
 
 -- those that pass and those that don't are all
-pub length-cut : (passes : ℕ → Bool) (items : List Item) → length (passing passes items) + length (behind passes items) ≡ length items
-length-cut passes items = length-filter_both (λ (x : Item). passes x.key) (λ (x : Item). not (passes x.key)) (λ x. refl) items
+pub length-partitioned : (is_below : ℕ → Bool) (items : List Item) → length (items_below is_below items) + length (behind is_below items) ≡ length items
+length-partitioned is_below items = length-filter_both (λ (x : Item). is_below x.key) (λ (x : Item). not (is_below x.key)) (λ x. refl) items
 
 -- lists with one element behind them that are the same
 pub same_ends : {X : Type 0} (xs ys : List X) (x y : X) → xs ++ x ∷ [] ≡ ys ++ y ∷ [] → (xs ≡ ys) × (x ≡ y)

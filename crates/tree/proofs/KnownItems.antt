@@ -11,14 +11,14 @@ use Rattle.arena.specs.Arena.{Arena, Record, IsLive, record_at}
 use Rattle.tree.specs.declared.entry.Entry.{Entry}
 use Rattle.tree.specs.declared.node.Node.{Node}
 use Rattle.tree.specs.Item.{Item, item_of}
-use Rattle.tree.specs.Hints.{Hint}
-use Rattle.tree.specs.Node.{entries_of, keys_of, hint_of, hint_list}
+use Rattle.tree.specs.Heads.{KeyHeads}
+use Rattle.tree.specs.Node.{entries_of, keys_of, key_heads_of, heads_list}
 use Rattle.tree.specs.Replace.{AreChildren, slots_of}
 use Rattle.tree.specs.Subtree.{entries_at, items_in, slots_in, IsSubtree}
 use Rattle.tree.specs.Tree.{KnowItems, IsRooted, least_of}
 use Rattle.tree.proofs.Changing.{other_number}
 use Rattle.tree.proofs.Frames.{IsRight, live_in}
-use Rattle.tree.proofs.HintList.{read_list}
+use Rattle.tree.proofs.HeadList.{read_list}
 use Rattle.tree.proofs.callers.Times.{times, once, once_same, once_cases, none_or_some, times-append, once_if_distinct}
 
 -- The keys of a map that has no others.
@@ -133,9 +133,9 @@ module _ {N : ℕ} where
 
   -- Each key in each node of a tree is that of an item.
   pub know_items : (nodes : Arena (Node N)) (root height room : ℕ) → IsRooted nodes root height
-      → KnowItems (record { items = items_in nodes height root; room = room; hints = hint_list nodes })
+      → KnowItems (record { items = items_in nodes height root; room = room; all_heads = heads_list nodes })
   know_items nodes root height room r s =
-      subst (λ o. IfSome o (λ (hint : Hint). AreOf (items_in nodes height root) hint.keys)) (sym (read_list nodes s))
+      subst (λ o. IfSome o (λ (key_heads : KeyHeads). AreOf (items_in nodes height root) key_heads.keys)) (sym (read_list nodes s))
       (by_record (record_at nodes s) refl)
     where
       slots : List ℕ
@@ -147,7 +147,7 @@ module _ {N : ℕ} where
           (live_in nodes (least_of N) height root r.subtree) r.linked s live
 
       by_record : (o : Option (Record (Node N))) → record_at nodes s ≡ o
-          → IfSome (option_map hint_of (option_map (λ r. r.header) o)) (λ hint. AreOf (items_in nodes height root) hint.keys)
+          → IfSome (option_map key_heads_of (option_map (λ r. r.header) o)) (λ key_heads. AreOf (items_in nodes height root) key_heads.keys)
       by_record None e = tt
       by_record (Some record_there) e =
           let all = keys_known nodes (least_of N) s height root r.subtree (among (ap is_some e)) in

@@ -7,14 +7,14 @@ use Rattle.std.proofs.lemmas.Option.{slice_get-get_or}
 use Rattle.arena.specs.Arena.{Arena, header_at, with_header}
 use Rattle.tree.specs.declared.node.Node.{Node}
 use Rattle.tree.specs.declared.entry.Entry.{Entry}
-use Rattle.tree.specs.Hints.{KeyBytes, IsKnown, AreHinted, IsHinted}
-use Rattle.tree.specs.Node.{entries_of, keys_of, hint_of, hints_of}
+use Rattle.tree.specs.Heads.{KeyBytes, IsKnown, AllAreHeads, AreHeads}
+use Rattle.tree.specs.Node.{entries_of, keys_of, key_heads_of, all_heads_of}
 use Rattle.tree.specs.Replace.{AreChildren, entries_with}
 use Rattle.tree.specs.Subtree.{entries_at}
-use Rattle.tree.proofs.callers.Cuts.{All-front, All-back}
+use Rattle.tree.proofs.callers.Partitions.{All-front, All-back}
 use Rattle.tree.proofs.FirstKeys.{first_key_is}
 use Rattle.tree.proofs.Frames.{IsRight}
-use Rattle.tree.proofs.Hinted.{known_at, hinted_put}
+use Rattle.tree.proofs.Headed.{common_prefix_len_at, headed_put}
 use Rattle.tree.proofs.Placing.{put_record_is, put_others}
 
 module _ (P : ℕ → Type 0) where
@@ -86,33 +86,33 @@ module _ {N : ℕ} where
   halves left (Some r) = refl
 
   -- the keys of a node of an arena
-  pub known_in : (bytes : KeyBytes) (nodes : Arena (Node N)) (slot : ℕ) (node : Node N) → AreHinted bytes (hints_of nodes)
+  pub known_in : (bytes : KeyBytes) (nodes : Arena (Node N)) (slot : ℕ) (node : Node N) → AllAreHeads bytes (all_heads_of nodes)
       → header_at nodes slot ≡ Some node → All (IsKnown bytes) (keys_of (entries_of node))
   known_in bytes nodes slot node all is =
-      subst (λ o. All (IsKnown bytes) (keys_of (unwrap_or (option_map entries_of o) []))) is (known_at bytes nodes slot all)
+      subst (λ o. All (IsKnown bytes) (keys_of (unwrap_or (option_map entries_of o) []))) is (common_prefix_len_at bytes nodes slot all)
 
   -- A header is put whose knowledge is right.
-  pub hinted_header : (bytes : KeyBytes) (old new : Arena (Node N)) (slot : ℕ) (node : Node N)
-      → new ≡ with_header old slot node → AreHinted bytes (hints_of old) → IsHinted bytes (hint_of node)
-      → AreHinted bytes (hints_of new)
-  hinted_header bytes old new slot node e all hinted =
-      hinted_put bytes old new slot node all (ap (option_map (λ r. r.header)) (put_record_is old new slot node e)) hinted
+  pub headed_header : (bytes : KeyBytes) (old new : Arena (Node N)) (slot : ℕ) (node : Node N)
+      → new ≡ with_header old slot node → AllAreHeads bytes (all_heads_of old) → AreHeads bytes (key_heads_of node)
+      → AllAreHeads bytes (all_heads_of new)
+  headed_header bytes old new slot node e all headed =
+      headed_put bytes old new slot node all (ap (option_map (λ r. r.header)) (put_record_is old new slot node e)) headed
       (put_others old new slot node e)
 
   child_known : (bytes : KeyBytes) (nodes : Arena (Node N)) (least height : ℕ) (e : Entry) → 1 ≤ least
-      → AreHinted bytes (hints_of nodes) → IsRight nodes least height e → IsKnown bytes e.key
-  child_known bytes nodes least height e some hinted right =
+      → AllAreHeads bytes (all_heads_of nodes) → IsRight nodes least height e → IsKnown bytes e.key
+  child_known bytes nodes least height e some headed right =
       let es = entries_at nodes e.child in
       let filled : least ≤ length es = right.filled in
       let within : 0 < length es = omega (arith, filled, some) in
       let first = get_or es 0 e in
       subst (IsKnown bytes) (first_key_is nodes least height e first right (slice_get-get_or es 0 e within))
-      (key_of_one (IsKnown bytes) es 0 e within (known_at bytes nodes e.child hinted))
+      (key_of_one (IsKnown bytes) es 0 e within (common_prefix_len_at bytes nodes e.child headed))
 
   -- the keys of entries that are right are known
   pub children_known : (bytes : KeyBytes) (nodes : Arena (Node N)) (least height : ℕ) (es : List Entry) → 1 ≤ least
-      → AreHinted bytes (hints_of nodes) → AreChildren nodes least height es → All (IsKnown bytes) (keys_of es)
-  children_known bytes nodes least height es some hinted right =
+      → AllAreHeads bytes (all_heads_of nodes) → AreChildren nodes least height es → All (IsKnown bytes) (keys_of es)
+  children_known bytes nodes least height es some headed right =
       all_keys (IsKnown bytes) es
       (All-weaker (IsRight nodes least height) (λ e. IsKnown bytes e.key)
-      (λ e h. child_known bytes nodes least height e some hinted h) es right)
+      (λ e h. child_known bytes nodes least height e some headed h) es right)

@@ -3,12 +3,12 @@ use Rattle.std.proofs.Common.{◌≡◌, ℕ, zero, suc, ℤ, ◌+◌, ◌-◌, 
 use Rattle.std.proofs.Common.{sym, ◌∙◌, ap, subst, arith, refl, length-drop}
 use Rattle.std.proofs.lemmas.List.{map-append, length-map, length-take-le, take-append-drop, drop-drop}
 use Rattle.tree.specs.declared.entry.Entry.{Entry}
-use Rattle.tree.specs.declared.thin.Thinned.{Thinned}
+use Rattle.tree.specs.declared.expiring.Removal.{Removal}
 use Rattle.tree.specs.Item.{Item, item_of, version_of}
-use Rattle.tree.specs.Path.{IsCut, behind, first_key}
-use Rattle.tree.specs.Thin.{IsThinned}
-use Rattle.tree.specs.Tree.{IsLast, thin, gone}
-use Rattle.tree.proofs.Thinning.{run, all_stay}
+use Rattle.tree.specs.Path.{IsPartitioned, behind, first_key}
+use Rattle.tree.specs.Expire.{RemovesExpired}
+use Rattle.tree.specs.Tree.{IsLast, unexpired, expired}
+use Rattle.tree.proofs.Removing.{run, all_stay}
 use Rattle.tree.proofs.WrittenLeaf.{items_parted}
 
 -- the entry at an index, and those around it
@@ -46,10 +46,10 @@ module _ (es : List Entry) (begin end : ℕ) (some : begin < end) (most : end �
       sym (take-append-drop n rest) ∙ ap (λ xs. run es begin end ++ xs) behind
 
   -- Where no item goes, all stay.
-  pub unthinned : (edge before : ℤ) → gone edge before (map item_of (run es begin end)) ≡ []
+  pub untouched : (edge before : ℤ) → expired edge before (map item_of (run es begin end)) ≡ []
       → map item_of es ≡ map item_of (take begin es)
-      ++ (thin edge before (map item_of (run es begin end)) ++ map item_of (drop end es))
-  unthinned edge before none =
+      ++ (unexpired edge before (map item_of (run es begin end)) ++ map item_of (drop end es))
+  untouched edge before none =
       let front = map item_of (take begin es) in
       let looked = map item_of (run es begin end) in
       let rest = map item_of (drop end es) in
@@ -59,18 +59,18 @@ module _ (es : List Entry) (begin end : ℕ) (some : begin < end) (most : end �
       ∙ ap (λ xs. front ++ (xs ++ rest)) (sym (all_stay edge before looked none))
 
   -- the items of the leaf once it is thinned
-  pub leaf_thinned : (p : ℕ → Bool) → IsCut (λ e. p e.key) es → begin + 1 ≡ length (filter (λ e. p e.key) es)
-      → (count : ℕ) (edge before : ℤ) (thinned : Thinned) (out : List Item) (next : Option ℕ) (now : List Item)
-      → end - begin ≤ count → thinned.looked_at ≡ end - begin
-      → IsLast thinned.last (map version_of (run es begin end))
+  pub leaf_unexpired : (p : ℕ → Bool) → IsPartitioned (λ e. p e.key) es → begin + 1 ≡ length (filter (λ e. p e.key) es)
+      → (count : ℕ) (edge before : ℤ) (unexpired : Removal) (out : List Item) (next : Option ℕ) (now : List Item)
+      → end - begin ≤ count → unexpired.looked_at ≡ end - begin
+      → IsLast unexpired.last (map version_of (run es begin end))
       → now ≡ map item_of (take begin es)
-      ++ (thin edge before (map item_of (run es begin end)) ++ map item_of (drop end es))
-      → out ≡ gone edge before (map item_of (run es begin end))
-      → thinned.next ≡ first_key next (map item_of (drop end es))
-      → IsThinned p count edge before thinned out next (map item_of es) now
-  leaf_thinned p cut passes count edge before thinned out next now few looked_at last now_is run_is next_is =
+      ++ (unexpired edge before (map item_of (run es begin end)) ++ map item_of (drop end es))
+      → out ≡ expired edge before (map item_of (run es begin end))
+      → unexpired.next ≡ first_key next (map item_of (drop end es))
+      → RemovesExpired p count edge before unexpired out next (map item_of es) now
+  leaf_unexpired p partitioned is_below count edge before unexpired out next now few looked_at last now_is run_is next_is =
       let at = at_index es begin (omega arith) in
-      let parts = items_parted p es (begin + 1) cut passes in
+      let parts = items_parted p es (begin + 1) partitioned is_below in
       let size : length (run es begin end) ≡ end - begin =
       length-take-le (end - begin) (drop begin es) (omega (arith, length-drop begin es)) in
       record {
@@ -86,6 +86,6 @@ module _ (es : List Entry) (begin end : ℕ) (some : begin < end) (most : end �
         few = omega (arith, looked_at, few);
         now_is = now_is;
         run_is = run_is;
-        last = subst (IsLast thinned.last) (sym (versions (run es begin end))) last;
+        last = subst (IsLast unexpired.last) (sym (versions (run es begin end))) last;
         next_is = next_is;
       }

@@ -10,21 +10,21 @@ use Rattle.keys.specs.Head.{head_of}
 use Rattle.keys.specs.Key.{IsBytes}
 use Rattle.tree.specs.declared.entry.Entry.{Entry}
 use Rattle.tree.specs.declared.node.Node.{Node}
-use Rattle.tree.specs.Hints.{KeyBytes, Begins, Hint, IsHinted, AreHinted, head_behind}
+use Rattle.tree.specs.Heads.{KeyBytes, Begins, KeyHeads, AreHeads, AllAreHeads, head_behind}
 use Rattle.tree.specs.Item.{item_of}
-use Rattle.tree.specs.Node.{entries_of, hint_of, hints_of, keys_of}
-use Rattle.tree.specs.Path.{IsCut}
+use Rattle.tree.specs.Node.{entries_of, key_heads_of, all_heads_of, keys_of}
+use Rattle.tree.specs.Path.{IsPartitioned}
 use Rattle.tree.specs.Subtree.{entries_at, items_in, IsSubtree}
 use Rattle.tree.specs.Tree.{IsTree}
-use Rattle.tree.proofs.Hinted.{hinted_put}
+use Rattle.tree.proofs.Headed.{headed_put}
 
 -- so many entries pass, and the others stand behind them
-pub parted : (p : ℕ → Bool) (es : List Entry) (n : ℕ) → IsCut (λ e. p e.key) es → n ≡ length (filter (λ e. p e.key) es)
+pub parted : (p : ℕ → Bool) (es : List Entry) (n : ℕ) → IsPartitioned (λ e. p e.key) es → n ≡ length (filter (λ e. p e.key) es)
     → (take n es ≡ filter (λ e. p e.key) es) × (drop n es ≡ filter (λ e. not (p e.key)) es)
-parted p es n cut count =
+parted p es n partitioned count =
     let front = filter (λ (e : Entry). p e.key) es in
     let rest = filter (λ (e : Entry). not (p e.key)) es in
-    (ap (take n) cut ∙ take_at front rest n (sym count), ap (drop n) cut ∙ drop_at front rest n (sym count))
+    (ap (take n) partitioned ∙ take_at front rest n (sym count), ap (drop n) partitioned ∙ drop_at front rest n (sym count))
 
 module _ {N : ℕ} where
   -- a root of items has an entry
@@ -40,13 +40,13 @@ module _ {N : ℕ} where
       some_at_root nodes _ height slot t.rooted.subtree (omega (arith, t.some, t.counted))
 
   -- A node whose keys stay knows as much as before.
-  pub hint_stays : (bytes : KeyBytes) (old new : Node N) (i : ℕ) (d e : Entry)
-      → hint_of new ≡ record (hint_of old) { keys = keys_of (entries_of new) } → entries_of new ≡ set (entries_of old) i e
-      → e.key ≡ (get_or (entries_of old) i d).key → IsHinted bytes (hint_of old) → IsHinted bytes (hint_of new)
-  hint_stays bytes old new i d e hint entries key hinted =
+  pub key_heads_stays : (bytes : KeyBytes) (old new : Node N) (i : ℕ) (d e : Entry)
+      → key_heads_of new ≡ record (key_heads_of old) { keys = keys_of (entries_of new) } → entries_of new ≡ set (entries_of old) i e
+      → e.key ≡ (get_or (entries_of old) i d).key → AreHeads bytes (key_heads_of old) → AreHeads bytes (key_heads_of new)
+  key_heads_stays bytes old new i d e key_heads entries key headed =
       let keys : keys_of (entries_of new) ≡ keys_of (entries_of old) = ap keys_of entries ∙ keys_set (entries_of old) i d e key in
-      let with_keys : List ℕ → Hint = λ keys. record (hint_of old) { keys = keys } in
-      subst (IsHinted bytes) (sym (hint ∙ ap with_keys keys)) hinted
+      let with_keys : List ℕ → KeyHeads = λ keys. record (key_heads_of old) { keys = keys } in
+      subst (AreHeads bytes) (sym (key_heads ∙ ap with_keys keys)) headed
     where
       keys_set : (es : List Entry) (i : ℕ) (d e : Entry) → e.key ≡ (get_or es i d).key → keys_of (set es i e) ≡ keys_of es
       keys_set [] i d e same = refl
@@ -72,25 +72,25 @@ no_bytes : IsBytes []
 no_bytes = search rules
 
 -- The empty key is known, and its head is zero: a node that has no other knows it.
-hinted_empty : (bytes : KeyBytes) (key : ℕ) → bytes key ≡ Some []
-    → IsHinted bytes (record { keys = key ∷ []; skip = 0; heads = 0 ∷ [] })
-hinted_empty bytes key empty =
+headed_empty : (bytes : KeyBytes) (key : ℕ) → bytes key ≡ Some []
+    → AreHeads bytes (record { keys = key ∷ []; prefix_len = 0; heads = 0 ∷ [] })
+headed_empty bytes key empty =
     let text : unwrap_or (bytes key) [] ≡ [] = ap (λ o. unwrap_or o []) empty in
     record {
       beginning = [];
-      skip = refl;
+      prefix_len = refl;
       begins = All-cons (Begins bytes []) key [] (record { text = []; known = empty; are_bytes = no_bytes; begins = inl refl }) (All-nil (Begins bytes []));
       heads = ap (λ d. d ∷ []) (sym (ap (head_behind 0) text ∙ empty_head));
     }
 
 -- an arena whose only node has the empty key alone
-pub hinted_alone : {N : ℕ} (bytes : KeyBytes) (a b : Arena (Node N)) (slot : ℕ) (node : Node N) (key : ℕ) → a.records ≡ finite.empty
+pub headed_alone : {N : ℕ} (bytes : KeyBytes) (a b : Arena (Node N)) (slot : ℕ) (node : Node N) (key : ℕ) → a.records ≡ finite.empty
     → record_at b slot ≡ Some (record { header = node; key = [] }) → ((s : ℕ) → s ≢ slot → record_at b s ≡ record_at a s)
-    → hint_of node ≡ record { keys = key ∷ []; skip = 0; heads = 0 ∷ [] } → bytes key ≡ Some []
-    → AreHinted bytes (hints_of b)
-hinted_alone {N} bytes a b slot node key none is others hint empty =
-    let nothing : AreHinted bytes (hints_of a) = λ s.
-    subst (λ o. IfSome (option_map hint_of (option_map (λ (r : Record (Node N)). r.header) o)) (IsHinted bytes))
+    → key_heads_of node ≡ record { keys = key ∷ []; prefix_len = 0; heads = 0 ∷ [] } → bytes key ≡ Some []
+    → AllAreHeads bytes (all_heads_of b)
+headed_alone {N} bytes a b slot node key none is others key_heads empty =
+    let nothing : AllAreHeads bytes (all_heads_of a) = λ s.
+    subst (λ o. IfSome (option_map key_heads_of (option_map (λ (r : Record (Node N)). r.header) o)) (AreHeads bytes))
     (sym (ap (λ m. finite.get m s) none ∙ finite.get-empty nat_cmp s)) tt in
-    hinted_put bytes a b slot node nothing (ap (option_map (λ (r : Record (Node N)). r.header)) is)
-    (subst (IsHinted bytes) (sym hint) (hinted_empty bytes key empty)) others
+    headed_put bytes a b slot node nothing (ap (option_map (λ (r : Record (Node N)). r.header)) is)
+    (subst (AreHeads bytes) (sym key_heads) (headed_empty bytes key empty)) others

@@ -9,24 +9,24 @@ use Rattle.arena.specs.Arena.{Arena}
 use Rattle.tree.specs.declared.entry.Entry.{Entry}
 use Rattle.tree.specs.declared.node.Node.{Node}
 use Rattle.tree.specs.Item.{Item, item_of}
-use Rattle.tree.specs.Path.{IsCut, index_in, child_in, leaf_in, before_leaf, behind_leaf, passing, behind}
+use Rattle.tree.specs.Path.{IsPartitioned, index_in, child_in, leaf_in, before_leaf, behind_leaf, items_below, behind}
 use Rattle.tree.specs.Subtree.{entries_at, items_in, IsSubtree}
 use Rattle.tree.specs.Tree.{IsLast}
 use Rattle.tree.proofs.callers.Times.{none_or_some}
-use Rattle.tree.proofs.callers.Cuts.{not_both, none_pass, none_passed, none_fail, IsCut-parts, IsCut-from_falls, Falls, Falls-from_cut}
+use Rattle.tree.proofs.callers.Partitions.{not_both, none_pass, none_passed, none_fail, IsPartitioned-parts, IsPartitioned-from_falls, Falls, Falls-below_from}
 use Rattle.tree.proofs.Ways.{way}
 
 -- the last of those that pass does
-pub index_passes : {X : Type 0} (p : X → Bool) (xs : List X) (x : X) → IsCut p xs → 1 ≤ length (filter p xs)
+pub index_passes : {X : Type 0} (p : X → Bool) (xs : List X) (x : X) → IsPartitioned p xs → 1 ≤ length (filter p xs)
     → slice_get xs (length (filter p xs) - 1) ≡ Some x → p x ≡ true
-index_passes p xs x cut some is =
+index_passes p xs x partitioned some is =
     let front = filter p xs in
     let rest = filter (λ y. not (p y)) xs in
     let i = length front - 1 in
     let inside : i < length front = omega arith in
     let within : i < length (front ++ rest) = omega (arith, length-front front rest) in
     let read : slice_get (front ++ rest) i ≡ Some (get_or (front ++ rest) i x) = slice_get-get_or (front ++ rest) i x within in
-    let here : slice_get (front ++ rest) i ≡ Some x = ap (λ l. slice_get l i) (sym cut) ∙ is in
+    let here : slice_get (front ++ rest) i ≡ Some x = ap (λ l. slice_get l i) (sym partitioned) ∙ is in
     let same : get_or front i x ≡ x = let e : get_or (front ++ rest) i x ≡ x = cc in sym (get_or_append_left front rest x i inside) ∙ e in
     subst (λ y. p y ≡ true) same (filter_passes p xs i x inside)
   where
@@ -35,37 +35,37 @@ index_passes p xs x cut some is =
     length-front (x ∷ xs) ys = omega (arith, length-front xs ys)
 
 -- Where no entry of the leaf passes, no item of the subtree does, and none stands before the leaf.
-pub none_before : {N : ℕ} (nodes : Arena (Node N)) (least height slot : ℕ) (passes : ℕ → Bool) → IsSubtree nodes least height slot
-    → IsCut (λ x. passes x.key) (items_in nodes height slot)
-    → filter (λ e. passes e.key) (entries_at nodes (leaf_in nodes height slot passes)) ≡ []
-    → (before_leaf nodes height slot passes ≡ []) × All (λ x. passes x.key ≡ false) (items_in nodes height slot)
-none_before nodes least zero slot passes s c none =
+pub none_before : {N : ℕ} (nodes : Arena (Node N)) (least height slot : ℕ) (is_below : ℕ → Bool) → IsSubtree nodes least height slot
+    → IsPartitioned (λ x. is_below x.key) (items_in nodes height slot)
+    → filter (λ e. is_below e.key) (entries_at nodes (leaf_in nodes height slot is_below)) ≡ []
+    → (before_leaf nodes height slot is_below ≡ []) × All (λ x. is_below x.key ≡ false) (items_in nodes height slot)
+none_before nodes least zero slot is_below s c none =
     let es = entries_at nodes slot in
-    let fail : All (λ (e : Entry). passes e.key ≡ false) es = none_passed (λ (e : Entry). passes e.key) es none in
-    (refl, All-map (λ (x : Item). passes x.key ≡ false) item_of es fail)
-none_before nodes least (suc height) slot passes s c none =
-    let w = way nodes least height slot passes s c in
+    let fail : All (λ (e : Entry). is_below e.key ≡ false) es = none_passed (λ (e : Entry). is_below e.key) es none in
+    (refl, All-map (λ (x : Item). is_below x.key ≡ false) item_of es fail)
+none_before nodes least (suc height) slot is_below s c none =
+    let w = way nodes least height slot is_below s c in
     let es = entries_at nodes slot in
-    let p = λ (e : Entry). passes e.key in
+    let p = λ (e : Entry). is_below e.key in
     let below = λ (e : Entry). items_in nodes height e.child in
-    let child = child_in passes es in
-    let i = none_before nodes least height child passes (subst (IsSubtree nodes least height) w.child w.kept.subtree)
-    (subst (λ t. IsCut (λ (x : Item). passes x.key) (items_in nodes height t)) w.child w.cut) none in
-    let Fail : List Item → Type 0 = All (λ x. passes x.key ≡ false) in
+    let child = child_in is_below es in
+    let i = none_before nodes least height child is_below (subst (IsSubtree nodes least height) w.child w.kept.subtree)
+    (subst (λ t. IsPartitioned (λ (x : Item). is_below x.key) (items_in nodes height t)) w.child w.partitioned) none in
+    let Fail : List Item → Type 0 = All (λ x. is_below x.key ≡ false) in
     let all : Fail (items_in nodes height w.entry.child) = subst (λ t. Fail (items_in nodes height t)) (sym w.child) i.1 in
     let t = w.kept.tells in
-    let first : passes t.first.key ≡ false = All-head (λ (x : Item). passes x.key ≡ false) t.first t.others (subst Fail t.items_are all) in
-    let fails : passes w.entry.key ≡ false = ap passes t.key ∙ first in
+    let first : is_below t.first.key ≡ false = All-head (λ (x : Item). is_below x.key ≡ false) t.first t.others (subst Fail t.items_are all) in
+    let fails : is_below w.entry.key ≡ false = ap is_below t.key ∙ first in
     elim (none_or_some (length (filter p es))) [
       | inl zero_pass ↦
-          let at : index_in passes es ≡ 0 = omega arith in
-          let front : flat_map below (take (index_in passes es) es) ≡ [] = ap (λ n. flat_map below (take n es)) at in
-          let items = w.items ∙ ap (λ xs. xs ++ (items_in nodes height w.entry.child ++ flat_map below (drop (index_in passes es + 1) es))) front in (
-            ap (λ xs. xs ++ before_leaf nodes height child passes) front ∙ i.0,
+          let at : index_in is_below es ≡ 0 = omega arith in
+          let front : flat_map below (take (index_in is_below es) es) ≡ [] = ap (λ n. flat_map below (take n es)) at in
+          let items = w.items ∙ ap (λ xs. xs ++ (items_in nodes height w.entry.child ++ flat_map below (drop (index_in is_below es + 1) es))) front in (
+            ap (λ xs. xs ++ before_leaf nodes height child is_below) front ∙ i.0,
             subst Fail (sym items)
-                (All-append (λ (x : Item). passes x.key ≡ false) (items_in nodes height w.entry.child) (flat_map below (drop (index_in passes es + 1) es)) all w.behind),
+                (All-append (λ (x : Item). is_below x.key ≡ false) (items_in nodes height w.entry.child) (flat_map below (drop (index_in is_below es + 1) es)) all w.behind),
           )
-      | inr some ↦ absurd (not_both (passes w.entry.key) (index_passes p es w.entry w.entries some w.is) fails)
+      | inr some ↦ absurd (not_both (is_below w.entry.key) (index_passes p es w.entry w.entries some w.is) fails)
     ]
 
 pub filter-items : (q : ℕ → Bool) (es : List Entry) → filter (λ (x : Item). q x.key) (map item_of es) ≡ map item_of (filter (λ (e : Entry). q e.key) es)
@@ -77,55 +77,55 @@ filter-items q (e ∷ es) =
     ]
 
 -- entries whose items are cut are cut
-pub All-from_map : (passes : ℕ → Bool) (es : List Entry) → All (λ x. passes x.key ≡ false) (map item_of es) → All (λ e. passes e.key ≡ false) es
-All-from_map passes [] a = All-nil (λ (e : Entry). passes e.key ≡ false)
-All-from_map passes (e ∷ es) a = All-cons (λ (e : Entry). passes e.key ≡ false) e es
-    (All-head (λ (x : Item). passes x.key ≡ false) (item_of e) (map item_of es) a)
-    (All-from_map passes es (All-tail (λ (x : Item). passes x.key ≡ false) (item_of e) (map item_of es) a))
+pub All-from_map : (is_below : ℕ → Bool) (es : List Entry) → All (λ x. is_below x.key ≡ false) (map item_of es) → All (λ e. is_below e.key ≡ false) es
+All-from_map is_below [] a = All-nil (λ (e : Entry). is_below e.key ≡ false)
+All-from_map is_below (e ∷ es) a = All-cons (λ (e : Entry). is_below e.key ≡ false) e es
+    (All-head (λ (x : Item). is_below x.key ≡ false) (item_of e) (map item_of es) a)
+    (All-from_map is_below es (All-tail (λ (x : Item). is_below x.key ≡ false) (item_of e) (map item_of es) a))
 
-falls : (passes : ℕ → Bool) (es : List Entry) → Falls (λ x. passes x.key) (map item_of es) → Falls (λ e. passes e.key) es
-falls passes [] f = tt
-falls passes (e ∷ es) f =
+falls : (is_below : ℕ → Bool) (es : List Entry) → Falls (λ x. is_below x.key) (map item_of es) → Falls (λ e. is_below e.key) es
+falls is_below [] f = tt
+falls is_below (e ∷ es) f =
     elim f [
-      | inl h ↦ inl (h.0, falls passes es h.1)
-      | inr h ↦ inr (h.0, All-from_map passes es h.1)
+      | inl h ↦ inl (h.0, falls is_below es h.1)
+      | inr h ↦ inr (h.0, All-from_map is_below es h.1)
     ]
 
-pub entries_of_cut : (passes : ℕ → Bool) (es : List Entry) → IsCut (λ x. passes x.key) (map item_of es) → IsCut (λ e. passes e.key) es
-entries_of_cut passes es c = IsCut-from_falls (λ (e : Entry). passes e.key) es (falls passes es (Falls-from_cut (λ (x : Item). passes x.key) (map item_of es) c))
+pub entries_of_partitioned : (is_below : ℕ → Bool) (es : List Entry) → IsPartitioned (λ x. is_below x.key) (map item_of es) → IsPartitioned (λ e. is_below e.key) es
+entries_of_partitioned is_below es c = IsPartitioned-from_falls (λ (e : Entry). is_below e.key) es (falls is_below es (Falls-below_from (λ (x : Item). is_below x.key) (map item_of es) c))
 
 -- the entries of a leaf, between the items before it, which pass, and those behind it, which fail
-pub record IsLeaf (passes : ℕ → Bool) (items before after : List Item) (es : List Entry) : Type 0 where
+pub record IsLeaf (is_below : ℕ → Bool) (items before after : List Item) (es : List Entry) : Type 0 where
   pub items_are : items ≡ before ++ (map item_of es ++ after)
-  pub pass : All (λ x. passes x.key ≡ true) before
-  pub fail : All (λ x. passes x.key ≡ false) after
-  pub none : filter (λ e. passes e.key) es ≡ [] → before ≡ []
+  pub pass : All (λ x. is_below x.key ≡ true) before
+  pub fail : All (λ x. is_below x.key ≡ false) after
+  pub none : filter (λ e. is_below e.key) es ≡ [] → before ≡ []
 
-module _ (passes : ℕ → Bool) (items before after : List Item) (es : List Entry) (leaf : IsLeaf passes items before after es) where
+module _ (is_below : ℕ → Bool) (items before after : List Item) (es : List Entry) (leaf : IsLeaf is_below items before after es) where
   -- the items that pass, and the others
-  pub passing_is : passing passes items ≡ before ++ map item_of (filter (λ e. passes e.key) es)
+  pub passing_is : items_below is_below items ≡ before ++ map item_of (filter (λ e. is_below e.key) es)
   passing_is =
-      let p = λ (x : Item). passes x.key in
+      let p = λ (x : Item). is_below x.key in
       let here = filter p (map item_of es) in
       ap (filter p) leaf.items_are ∙ filter-append p before (map item_of es ++ after)
       ∙ ap (λ xs. xs ++ filter p (map item_of es ++ after)) (none_fail p before leaf.pass).0
       ∙ ap (λ xs. before ++ xs) (filter-append p (map item_of es) after ∙ ap (λ xs. here ++ xs) (none_pass p after leaf.fail).0
-      ∙ append-nil here ∙ filter-items passes es)
+      ∙ append-nil here ∙ filter-items is_below es)
 
-  pub behind_is : behind passes items ≡ map item_of (filter (λ e. not (passes e.key)) es) ++ after
+  pub behind_is : behind is_below items ≡ map item_of (filter (λ e. not (is_below e.key)) es) ++ after
   behind_is =
-      let p = λ (x : Item). not (passes x.key) in
+      let p = λ (x : Item). not (is_below x.key) in
       ap (filter p) leaf.items_are ∙ filter-append p before (map item_of es ++ after)
-      ∙ ap (λ xs. xs ++ filter p (map item_of es ++ after)) (none_fail (λ (x : Item). passes x.key) before leaf.pass).1
+      ∙ ap (λ xs. xs ++ filter p (map item_of es ++ after)) (none_fail (λ (x : Item). is_below x.key) before leaf.pass).1
       ∙ filter-append p (map item_of es) after
-      ∙ ap (λ xs. xs ++ filter p after) (filter-items (λ k. not (passes k)) es)
-      ∙ ap (λ xs. map item_of (filter (λ (e : Entry). not (passes e.key)) es) ++ xs) (none_pass (λ (x : Item). passes x.key) after leaf.fail).1
+      ∙ ap (λ xs. xs ++ filter p after) (filter-items (λ k. not (is_below k)) es)
+      ∙ ap (λ xs. map item_of (filter (λ (e : Entry). not (is_below e.key)) es) ++ xs) (none_pass (λ (x : Item). is_below x.key) after leaf.fail).1
 
-  pub leaf_cut_by_keys : IsCut (λ x. passes x.key) items → IsCut (λ e. passes e.key) es
-  leaf_cut_by_keys cut =
-      let p = λ (x : Item). passes x.key in
-      let rest = (IsCut-parts p before (map item_of es ++ after) (subst (IsCut p) leaf.items_are cut)).1 in
-      entries_of_cut passes es (IsCut-parts p (map item_of es) after rest).0
+  pub leaf_partitioned_by_keys : IsPartitioned (λ x. is_below x.key) items → IsPartitioned (λ e. is_below e.key) es
+  leaf_partitioned_by_keys partitioned =
+      let p = λ (x : Item). is_below x.key in
+      let rest = (IsPartitioned-parts p before (map item_of es ++ after) (subst (IsPartitioned p) leaf.items_are partitioned)).1 in
+      entries_of_partitioned is_below es (IsPartitioned-parts p (map item_of es) after rest).0
 
 -- the last of a list that isn't empty
 record LastAt {X : Type 0} (x : X) (xs : List X) : Type 0 where
@@ -149,12 +149,12 @@ match_last P Q (x ∷ xs) result is none some =
     subst (λ o. MatchOption o P Q) (sym e) (some r.last r.is_last)
 
 -- The last entry that passes is the last item that does.
-pub last_passing : (passes : ℕ → Bool) (items before after : List Item) (es passed : List Entry) (result : Option Entry)
-    → IsLeaf passes items before after es → passed ≡ filter (λ e. passes e.key) es → result ≡ slice_get passed (length passed - 1)
-    → MatchOption result (passing passes items ≡ []) (λ e. IsLast (item_of e) (passing passes items))
-last_passing passes items before after es passed result leaf same is =
-    let front = passing_is passes items before after es leaf ∙ ap (λ xs. before ++ map item_of xs) (sym same) in
-    match_last (passing passes items ≡ []) (λ e. IsLast (item_of e) (passing passes items)) passed result is
+pub last_passing : (is_below : ℕ → Bool) (items before after : List Item) (es passed : List Entry) (result : Option Entry)
+    → IsLeaf is_below items before after es → passed ≡ filter (λ e. is_below e.key) es → result ≡ slice_get passed (length passed - 1)
+    → MatchOption result (items_below is_below items ≡ []) (λ e. IsLast (item_of e) (items_below is_below items))
+last_passing is_below items before after es passed result leaf same is =
+    let front = passing_is is_below items before after es leaf ∙ ap (λ xs. before ++ map item_of xs) (sym same) in
+    match_last (items_below is_below items ≡ []) (λ e. IsLast (item_of e) (items_below is_below items)) passed result is
     (λ none. front ∙ ap (λ xs. before ++ map item_of xs) none ∙ ap (λ xs. xs ++ []) (leaf.none (sym same ∙ none)))
     (λ e last. (
       before ++ map item_of last.0,
@@ -163,20 +163,20 @@ last_passing passes items before after es passed result leaf same is =
     ))
 
 -- the leaf that a probe finds is one
-pub is_leaf : {N : ℕ} (nodes : Arena (Node N)) (least height slot : ℕ) (passes : ℕ → Bool) (leaf : ℕ) (es : List Entry)
-    → IsSubtree nodes least height slot → IsCut (λ x. passes x.key) (items_in nodes height slot)
-    → leaf ≡ leaf_in nodes height slot passes → entries_at nodes leaf ≡ es
-    → items_in nodes height slot ≡ before_leaf nodes height slot passes ++ (map item_of (entries_at nodes leaf) ++ behind_leaf nodes height slot passes)
-    → All (λ x. passes x.key ≡ true) (before_leaf nodes height slot passes)
-    → All (λ x. passes x.key ≡ false) (behind_leaf nodes height slot passes)
-    → IsLeaf passes (items_in nodes height slot) (before_leaf nodes height slot passes) (behind_leaf nodes height slot passes) es
-is_leaf nodes least height slot passes leaf es s c way same items pass fail =
-    let before = before_leaf nodes height slot passes in
-    let after = behind_leaf nodes height slot passes in
-    let there : entries_at nodes (leaf_in nodes height slot passes) ≡ es = ap (entries_at nodes) (sym way) ∙ same in
+pub is_leaf : {N : ℕ} (nodes : Arena (Node N)) (least height slot : ℕ) (is_below : ℕ → Bool) (leaf : ℕ) (es : List Entry)
+    → IsSubtree nodes least height slot → IsPartitioned (λ x. is_below x.key) (items_in nodes height slot)
+    → leaf ≡ leaf_in nodes height slot is_below → entries_at nodes leaf ≡ es
+    → items_in nodes height slot ≡ before_leaf nodes height slot is_below ++ (map item_of (entries_at nodes leaf) ++ behind_leaf nodes height slot is_below)
+    → All (λ x. is_below x.key ≡ true) (before_leaf nodes height slot is_below)
+    → All (λ x. is_below x.key ≡ false) (behind_leaf nodes height slot is_below)
+    → IsLeaf is_below (items_in nodes height slot) (before_leaf nodes height slot is_below) (behind_leaf nodes height slot is_below) es
+is_leaf nodes least height slot is_below leaf es s c way same items pass fail =
+    let before = before_leaf nodes height slot is_below in
+    let after = behind_leaf nodes height slot is_below in
+    let there : entries_at nodes (leaf_in nodes height slot is_below) ≡ es = ap (entries_at nodes) (sym way) ∙ same in
     record {
       items_are = items ∙ ap (λ xs. before ++ (map item_of xs ++ after)) same;
       pass = pass;
       fail = fail;
-      none = λ none. (none_before nodes least height slot passes s c (ap (filter (λ e. passes e.key)) there ∙ none)).0;
+      none = λ none. (none_before nodes least height slot is_below s c (ap (filter (λ e. is_below e.key)) there ∙ none)).0;
     }

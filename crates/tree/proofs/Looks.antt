@@ -8,32 +8,32 @@ use Rattle.tree.specs.declared.entry.Entry.{Entry}
 use Rattle.tree.specs.declared.node.Node.{Node}
 use Rattle.tree.specs.Item.{Item, Tells, item_of}
 use Rattle.tree.specs.Node.{entries_of}
-use Rattle.tree.specs.Path.{IsCut, from_cut, to_cut}
+use Rattle.tree.specs.Path.{IsPartitioned, below_from, below_to}
 use Rattle.tree.specs.Subtree.{entries_at, items_in, IsChild, IsSubtree}
-use Rattle.tree.proofs.Ways.{entries_cut, children_cut, pass_before, fail_behind_index, index_inside}
-use Rattle.tree.proofs.Found.{cut-entries, entries_read}
+use Rattle.tree.proofs.Ways.{entries_partitioned, children_partitioned, pass_before, fail_behind_index, index_inside}
+use Rattle.tree.proofs.Found.{partitioned-entries, entries_read}
 use Rattle.tree.proofs.Keys.{filter-items}
-use Rattle.tree.proofs.Spans.{IsCut-none, IsCut-all, span, span_range, span_of_child, span_of_two, fewer_before}
+use Rattle.tree.proofs.Spans.{IsPartitioned-none, IsPartitioned-all, span, span_range, span_of_child, span_of_two, fewer_before}
 
 -- What `requires` says of a probe that may be missing, as a cut, and back.
 module _ {A : Type 0} (lets : A → ℕ → Bool) (items : List Item) where
-  pub from_asked : (o : Option A) → IfSome o (λ p. IsCut (λ x. lets p x.key) items)
-      → IsCut (λ x. from_cut (option_map lets o) x.key) items
-  from_asked None h = IsCut-none items
+  pub from_asked : (o : Option A) → IfSome o (λ p. IsPartitioned (λ x. lets p x.key) items)
+      → IsPartitioned (λ x. below_from (option_map lets o) x.key) items
+  from_asked None h = IsPartitioned-none items
   from_asked (Some p) h = h
 
-  pub to_asked : (o : Option A) → IfSome o (λ p. IsCut (λ x. lets p x.key) items)
-      → IsCut (λ x. to_cut (option_map lets o) x.key) items
-  to_asked None h = IsCut-all items
+  pub to_asked : (o : Option A) → IfSome o (λ p. IsPartitioned (λ x. lets p x.key) items)
+      → IsPartitioned (λ x. below_to (option_map lets o) x.key) items
+  to_asked None h = IsPartitioned-all items
   to_asked (Some p) h = h
 
-  pub ask_from : (o : Option A) → IsCut (λ x. from_cut (option_map lets o) x.key) items
-      → IfSome o (λ p. IsCut (λ x. lets p x.key) items)
+  pub ask_from : (o : Option A) → IsPartitioned (λ x. below_from (option_map lets o) x.key) items
+      → IfSome o (λ p. IsPartitioned (λ x. lets p x.key) items)
   ask_from None h = tt
   ask_from (Some p) h = h
 
-  pub ask_to : (o : Option A) → IsCut (λ x. to_cut (option_map lets o) x.key) items
-      → IfSome o (λ p. IsCut (λ x. lets p x.key) items)
+  pub ask_to : (o : Option A) → IsPartitioned (λ x. below_to (option_map lets o) x.key) items
+      → IfSome o (λ p. IsPartitioned (λ x. lets p x.key) items)
   ask_to None h = tt
   ask_to (Some p) h = h
 
@@ -43,7 +43,7 @@ ask_any (Some p) P h = h p
 
 pub nested_asked : {A B : Type 0} (f : A → ℕ → Bool) (t : B → ℕ → Bool) (o : Option A) (u : Option B)
     → IfSome o (λ p. IfSome u (λ q. (key : ℕ) → f p key ≡ true → t q key ≡ true))
-    → (key : ℕ) → from_cut (option_map f o) key ≡ true → to_cut (option_map t u) key ≡ true
+    → (key : ℕ) → below_from (option_map f o) key ≡ true → below_to (option_map t u) key ≡ true
 nested_asked f t None u h key e = absurd (cc)
 nested_asked f t (Some p) None h key e = refl
 nested_asked f t (Some p) (Some q) h key e = h key e
@@ -52,37 +52,37 @@ nested_asked f t (Some p) (Some q) h key e = h key e
 pub record IsLook {N : ℕ} (nodes : Arena (Node N)) (least height slot : ℕ) (f t : ℕ → Bool) (es : List Entry)
     (begin end : ℕ) : Type 0 where
   pub subtree : IsSubtree nodes least height slot
-  pub from : IsCut (λ x. f x.key) (items_in nodes height slot)
-  pub to : IsCut (λ x. t x.key) (items_in nodes height slot)
+  pub from : IsPartitioned (λ x. f x.key) (items_in nodes height slot)
+  pub to : IsPartitioned (λ x. t x.key) (items_in nodes height slot)
   pub nested : (key : ℕ) → f key ≡ true → t key ≡ true
   pub read : entries_at nodes slot ≡ es
   pub begin_is : begin ≡ length (filter (λ e. f e.key) es)
   pub end_is : end ≡ length (filter (λ e. t e.key) es)
 
 -- The entries are cut as the items are.
-pub look_cut : {N : ℕ} (nodes : Arena (Node N)) (least height slot : ℕ) (passes : ℕ → Bool) (header : Node N)
+pub look_bound : {N : ℕ} (nodes : Arena (Node N)) (least height slot : ℕ) (is_below : ℕ → Bool) (header : Node N)
     (es : List Entry) → IsSubtree nodes least height slot
-    → IsCut (λ x. passes x.key) (items_in nodes height slot) → header_at nodes slot ≡ Some header
-    → es ≡ entries_of header → IsCut (λ e. passes e.key) es
-look_cut nodes least zero slot passes header es s c h e =
-    cut-entries (λ (x : Item). passes x.key) es
-    (subst (λ xs. IsCut (λ (x : Item). passes x.key) (map item_of xs)) (entries_read nodes slot header es h e) c)
-look_cut nodes least (suc height) slot passes header es s c h e =
+    → IsPartitioned (λ x. is_below x.key) (items_in nodes height slot) → header_at nodes slot ≡ Some header
+    → es ≡ entries_of header → IsPartitioned (λ e. is_below e.key) es
+look_bound nodes least zero slot is_below header es s c h e =
+    partitioned-entries (λ (x : Item). is_below x.key) es
+    (subst (λ xs. IsPartitioned (λ (x : Item). is_below x.key) (map item_of xs)) (entries_read nodes slot header es h e) c)
+look_bound nodes least (suc height) slot is_below header es s c h e =
     let tell = All-weaker (IsChild nodes least height (IsSubtree nodes least height))
     (λ (e : Entry). Tells e (items_in nodes height e.child)) (λ e k. k.tells) (entries_at nodes slot) s.2 in
-    subst (IsCut (λ (x : Entry). passes x.key)) (entries_read nodes slot header es h e)
-    (entries_cut passes (λ e. items_in nodes height e.child) (entries_at nodes slot) tell c)
+    subst (IsPartitioned (λ (x : Entry). is_below x.key)) (entries_read nodes slot header es h e)
+    (entries_partitioned is_below (λ e. items_in nodes height e.child) (entries_at nodes slot) tell c)
 
 pub look_of : {N : ℕ} {A B : Type 0} (nodes : Arena (Node N)) (least height slot : ℕ) (f : A → ℕ → Bool)
     (t : B → ℕ → Bool) (from : Option A) (to : Option B) (header : Node N) (es : List Entry) (begin end : ℕ)
     → IsSubtree nodes least height slot
-    → IfSome from (λ p. IsCut (λ x. f p x.key) (items_in nodes height slot))
-    → IfSome to (λ q. IsCut (λ x. t q x.key) (items_in nodes height slot))
+    → IfSome from (λ p. IsPartitioned (λ x. f p x.key) (items_in nodes height slot))
+    → IfSome to (λ q. IsPartitioned (λ x. t q x.key) (items_in nodes height slot))
     → IfSome from (λ p. IfSome to (λ q. (key : ℕ) → f p key ≡ true → t q key ≡ true))
     → header_at nodes slot ≡ Some header → es ≡ entries_of header
-    → begin ≡ length (filter (λ e. from_cut (option_map f from) e.key) es)
-    → end ≡ length (filter (λ e. to_cut (option_map t to) e.key) es)
-    → IsLook nodes least height slot (from_cut (option_map f from)) (to_cut (option_map t to)) es begin end
+    → begin ≡ length (filter (λ e. below_from (option_map f from) e.key) es)
+    → end ≡ length (filter (λ e. below_to (option_map t to) e.key) es)
+    → IsLook nodes least height slot (below_from (option_map f from)) (below_to (option_map t to)) es begin end
 look_of nodes least height slot f t from to header es begin end s c d n h e b l = record {
   subtree = s;
   from = from_asked f (items_in nodes height slot) from c;
@@ -108,8 +108,8 @@ module _ {N : ℕ} (nodes : Arena (Node N)) (least height slot : ℕ) (f t : ℕ
       let q = λ (x : Item). t x.key in
       let at : items_in nodes height slot ≡ map item_of es =
       ap (λ n. items_in nodes n slot) z ∙ ap (map item_of) k.read in
-      let c = cut-entries p es (subst (IsCut p) at k.from) in
-      let d = cut-entries q es (subst (IsCut q) at k.to) in
+      let c = partitioned-entries p es (subst (IsPartitioned p) at k.from) in
+      let d = partitioned-entries q es (subst (IsPartitioned q) at k.to) in
       ap (span p q) at ∙ filter-items (λ (x : Item). not (p x) && q x) es
       ∙ ap (map item_of)
       (span_range (λ (e : Entry). f e.key) (λ (e : Entry). t e.key) es begin end c d look_ordered k.begin_is k.end_is)
@@ -136,11 +136,11 @@ module _ {N : ℕ} (nodes : Arena (Node N)) (least height slot : ℕ) (f t : ℕ
     pub look_items : items_in nodes height slot ≡ flat_map below es
     look_items = ap (λ n. items_in nodes n slot) (sym lower) ∙ ap (flat_map below) k.read
 
-    pub from_items : IsCut (λ x. f x.key) (flat_map below es)
-    from_items = subst (IsCut (λ (x : Item). f x.key)) look_items k.from
+    pub from_items : IsPartitioned (λ x. f x.key) (flat_map below es)
+    from_items = subst (IsPartitioned (λ (x : Item). f x.key)) look_items k.from
 
-    to_items : IsCut (λ x. t x.key) (flat_map below es)
-    to_items = subst (IsCut (λ (x : Item). t x.key)) look_items k.to
+    to_items : IsPartitioned (λ x. t x.key) (flat_map below es)
+    to_items = subst (IsPartitioned (λ (x : Item). t x.key)) look_items k.to
 
     pub last_inside : end - 1 < length es
     last_inside =
@@ -160,15 +160,15 @@ module _ {N : ℕ} (nodes : Arena (Node N)) (least height slot : ℕ) (f t : ℕ
       pub child_tells : Tells e (below e)
       child_tells = subst (λ (e : Entry). Tells e (below e)) (sym is) (look_tell i e inside)
 
-      pub child_from : IsCut (λ x. f x.key) (below e)
+      pub child_from : IsPartitioned (λ x. f x.key) (below e)
       child_from =
-          subst (λ e. IsCut (λ (x : Item). f x.key) (below e)) (sym is)
-          (children_cut f below es from_items i e inside)
+          subst (λ e. IsPartitioned (λ (x : Item). f x.key) (below e)) (sym is)
+          (children_partitioned f below es from_items i e inside)
 
-      pub child_to : IsCut (λ x. t x.key) (below e)
+      pub child_to : IsPartitioned (λ x. t x.key) (below e)
       child_to =
-          subst (λ e. IsCut (λ (x : Item). t x.key) (below e)) (sym is)
-          (children_cut t below es to_items i e inside)
+          subst (λ e. IsPartitioned (λ (x : Item). t x.key) (below e)) (sym is)
+          (children_partitioned t below es to_items i e inside)
 
     module _ (first last : ℕ) (fi : first ≡ begin - 1) (la : last ≡ end - 1) where
       front : All (λ x. f x.key ≡ true) (flat_map below (take first es))

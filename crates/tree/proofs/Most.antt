@@ -7,7 +7,7 @@ use Rattle.std.proofs.lemmas.List.Elements.{All-nil, All-append, All-weaker, All
 use Rattle.keys.proofs.callers.SomeElement.{Any-parts, Any-left, Any-right}
 use Rattle.tree.specs.declared.entry.Entry.{Entry}
 use Rattle.tree.specs.Item.{Item, Tells, IsGreatestWith, greater_of}
-use Rattle.tree.proofs.callers.Cuts.{All-front, All-back}
+use Rattle.tree.proofs.callers.Partitions.{All-front, All-back}
 use Rattle.tree.proofs.GreatestParts.{IsPeak}
 
 abbrev Bounds : ℤ → Item → Type 0

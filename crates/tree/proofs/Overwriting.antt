@@ -5,9 +5,9 @@ use Rattle.std.proofs.Common.{map, refl, sym, ◌∙◌, ap, subst, arith}
 use Rattle.std.proofs.lemmas.Bool.{cases_Bool}
 use Rattle.tree.specs.declared.entry.Entry.{Entry}
 use Rattle.tree.specs.Item.{Item, item_of}
-use Rattle.tree.specs.Path.{IsCut, passing, behind, between, first_key}
+use Rattle.tree.specs.Path.{IsPartitioned, items_below, behind, between, first_key}
 use Rattle.tree.specs.Tree.{ended_by}
-use Rattle.tree.proofs.callers.Cuts.{not_both, none_pass, rest_fails, IsCut-parts}
+use Rattle.tree.proofs.callers.Partitions.{not_both, none_pass, rest_fails, IsPartitioned-parts}
 
 -- the entries that are put in
 abbrev pub entries_put : Bool → Entry → Entry → List Entry
@@ -24,7 +24,7 @@ items_put false first second x others is = ap (λ y. item_of first ∷ (y ∷ ot
 
 -- those that pass the second cut, of those that don't pass the first
 pub between_is : (q r : ℕ → Bool) (items : List Item)
-    → filter (λ (x : Item). not (q x.key) && r x.key) items ≡ passing r (behind q items)
+    → filter (λ (x : Item). not (q x.key) && r x.key) items ≡ items_below r (behind q items)
 between_is q r [] = refl
 between_is q r (x ∷ items) =
     elim (cases_Bool (q x.key)) [
@@ -38,32 +38,32 @@ between_is q r (x ∷ items) =
 
 -- There is one that passes exactly if the first one does.
 first_tells : (r : ℕ → Bool) (items : List Item) (key : Option ℕ) (post : ℕ → Type 0) (result : Bool)
-    → IsCut (λ x. r x.key) items → key ≡ first_key None items → MatchOption key (result ≡ false) post
+    → IsPartitioned (λ x. r x.key) items → key ≡ first_key None items → MatchOption key (result ≡ false) post
     → ((k : ℕ) → post k → result ≡ r k)
-    → (result ≡ true → passing r items ≢ []) × (passing r items ≢ [] → result ≡ true)
-first_tells r [] None post result cut is tested says =
+    → (result ≡ true → items_below r items ≢ []) × (items_below r items ≢ [] → result ≡ true)
+first_tells r [] None post result partitioned is tested says =
     (λ ok. absurd (not_both result ok tested), λ some. absurd (some refl))
-first_tells r [] (Some k) post result cut is tested says = absurd (cc)
-first_tells r (x ∷ items) None post result cut is tested says = absurd (cc)
-first_tells r (x ∷ items) (Some k) post result cut is tested says =
+first_tells r [] (Some k) post result partitioned is tested says = absurd (cc)
+first_tells r (x ∷ items) None post result partitioned is tested says = absurd (cc)
+first_tells r (x ∷ items) (Some k) post result partitioned is tested says =
     let p = λ (x : Item). r x.key in
     let same : k ≡ x.key = cc in
     let told : result ≡ r x.key = says k tested ∙ ap r same in
     elim (cases_Bool (r x.key)) [
       | inl t ↦ (λ ok none. let k : x ∷ filter p items ≡ [] = rw t at none in absurd (cc), λ some. told ∙ t)
       | inr f ↦
-          let none : filter p (x ∷ items) ≡ [] = (none_pass p (x ∷ items) (rest_fails p x items cut f)).0 in
+          let none : filter p (x ∷ items) ≡ [] = (none_pass p (x ∷ items) (rest_fails p x items partitioned f)).0 in
           (λ ok. absurd (not_both result ok (told ∙ f)), λ some. absurd (some none))
     ]
 
 -- The item behind the first cut tells whether there is one before the second.
 pub told_between : (q r : ℕ → Bool) (items : List Item) (key : Option ℕ) (post : ℕ → Type 0) (result : Bool)
-    → IsCut (λ x. q x.key) items → IsCut (λ x. r x.key) items → key ≡ first_key None (behind q items)
+    → IsPartitioned (λ x. q x.key) items → IsPartitioned (λ x. r x.key) items → key ≡ first_key None (behind q items)
     → MatchOption key (result ≡ false) post → ((k : ℕ) → post k → result ≡ r k)
     → (IsTrue result → between (Some q) (Some r) items ≢ []) × (between (Some q) (Some r) items ≢ [] → IsTrue result)
 told_between q r items key post result first second is tested says =
     let p = λ (x : Item). r x.key in
-    let parts = IsCut-parts p (passing q items) (behind q items) (subst (IsCut p) first second) in
+    let parts = IsPartitioned-parts p (items_below q items) (behind q items) (subst (IsPartitioned p) first second) in
     let told = first_tells r (behind q items) key post result parts.1 is tested says in
     let same = between_is q r items in
     (λ ok none. told.0 ok (sym same ∙ none), λ some. told.1 (λ none. some (same ∙ none)))

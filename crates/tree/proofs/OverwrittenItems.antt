@@ -10,8 +10,8 @@ use Rattle.tree.specs.declared.overwrite.Written.{Written}
 use Rattle.tree.specs.declared.overwrite.Written.TheVariants.{Partly, Whole}
 use Rattle.tree.specs.Item.{Item, item_of}
 use Rattle.tree.specs.Node.{entries_of, items_of_run}
-use Rattle.tree.specs.Overwrite.{Overwrites, lets_pass_first, put_of}
-use Rattle.tree.specs.Path.{IsCut, passing, behind, between, first_key}
+use Rattle.tree.specs.Overwrite.{Overwrites, first_is_below, put_of}
+use Rattle.tree.specs.Path.{IsPartitioned, items_below, behind, between, first_key}
 use Rattle.tree.specs.Tree.{ended_by}
 use Rattle.tree.proofs.Inserting.{ended_some}
 use Rattle.tree.proofs.Overwriting.{told_between}
@@ -45,7 +45,7 @@ length-lent (Some n) (Some r) post taken is some says =
 module _ (p q r : ℕ → Bool) (nested : (key : ℕ) → p key ≡ true → q key ≡ true) where
   -- Each item passes the first cut, or stands between the two, or fails the second.
   length-between : (items : List Item)
-      → length (passing p items) + (length (between (Some p) (Some q) items) + length (behind q items)) ≡ length items
+      → length (items_below p items) + (length (between (Some p) (Some q) items) + length (behind q items)) ≡ length items
   length-between [] = refl
   length-between (x ∷ items) =
       let rest = length-between items in
@@ -60,21 +60,21 @@ module _ (p q r : ℕ → Bool) (nested : (key : ℕ) → p key ≡ true → q k
 
   -- as many more are there as were put in place of the run, and one at least
   pub length-overwritten : (first : Item) (second : ℕ) (given : Option ℤ) (written : Written) (run was now : List Item)
-      → passing q was ≢ [] → Overwrites p q r first second given written run was now
+      → items_below q was ≢ [] → Overwrites p q r first second given written run was now
       → (length now + length run ≡ length was + put_of written) × (1 ≤ length now)
   length-overwritten first second given (Whole ended) run was now some h =
-      let end = ended_some (passing q was) some in
+      let end = ended_some (items_below q was) some in
       let x : Item = record { key = second; version = unwrap_or given end.last.version } in
       let now_is = ap length (h.written end.last (end.front, end.is)) in
       let sizes = length-between was in
-      let all = length-append (passing p was) (first ∷ ended_by ended x ++ behind q was) in
+      let all = length-append (items_below p was) (first ∷ ended_by ended x ++ behind q was) in
       let new = length-append (ended_by ended x) (behind q was) in (
         omega (arith, sizes, ap length h.run_is, now_is, all, new, length-put ended x),
         omega (arith, now_is, all),
       )
   length-overwritten first second given (Partly last) run was now some h =
       let now_is = ap length h.now_is in
-      let all = length-append (passing p was) (h.kept ++ behind q was) in
+      let all = length-append (items_below p was) (h.kept ++ behind q was) in
       let rest = length-append h.kept (behind q was) in (
         omega (arith, length-between was, ap length h.run_is, now_is, all, rest, length-append h.kept run),
         omega (
@@ -82,19 +82,19 @@ module _ (p q r : ℕ → Bool) (nested : (key : ℕ) → p key ≡ true → q k
           now_is,
           all,
           rest,
-          length-append (passing p was) h.kept,
-          some_left (passing p was ++ h.kept) h.first,
+          length-append (items_below p was) h.kept,
+          some_left (items_below p was ++ h.kept) h.first,
         ),
       )
 
 -- Whether the first key behind a cut passes another tells whether an item stands between the two.
-pub told_by_first : (q r : ℕ → Bool) (items : List Item) (ended : Bool) → IsCut (λ x. q x.key) items
-    → IsCut (λ x. r x.key) items → ended ≡ lets_pass_first r (first_key None (behind q items))
+pub told_by_first : (q r : ℕ → Bool) (items : List Item) (ended : Bool) → IsPartitioned (λ x. q x.key) items
+    → IsPartitioned (λ x. r x.key) items → ended ≡ first_is_below r (first_key None (behind q items))
     → (IsTrue ended → between (Some q) (Some r) items ≢ []) × (between (Some q) (Some r) items ≢ [] → IsTrue ended)
 told_by_first q r items ended first second is =
     told_between q r items (first_key None (behind q items)) (λ k. ended ≡ r k) ended first second refl
     (tested (first_key None (behind q items)) is) (λ k same. same)
   where
-    tested : (key : Option ℕ) → ended ≡ lets_pass_first r key → MatchOption key (ended ≡ false) (λ k. ended ≡ r k)
+    tested : (key : Option ℕ) → ended ≡ first_is_below r key → MatchOption key (ended ≡ false) (λ k. ended ≡ r k)
     tested None is = is
     tested (Some k) is = is

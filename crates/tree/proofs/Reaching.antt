@@ -8,7 +8,7 @@ use Rattle.arena.specs.Arena.{Arena}
 use Rattle.tree.specs.declared.entry.Entry.{Entry}
 use Rattle.tree.specs.declared.node.Node.{Node}
 use Rattle.tree.specs.Item.{Item, item_of}
-use Rattle.tree.specs.Path.{IsCut, index_in, child_in, leaf_in, before_leaf, behind_leaf}
+use Rattle.tree.specs.Path.{IsPartitioned, index_in, child_in, leaf_in, before_leaf, behind_leaf}
 use Rattle.tree.specs.Subtree.{entries_at, items_in, IsSubtree}
 use Rattle.tree.proofs.Ways.{way}
 
@@ -17,41 +17,41 @@ module _ {N : ℕ} (nodes : Arena (Node N)) where
   regroup a b m h r = simp append_assoc
 
   -- what the leaf that a probe finds says of the items of the subtree
-  pub record IsFoundLeaf (height slot leaf : ℕ) (passes : ℕ → Bool) : Type 0 where
-    pub items : items_in nodes height slot ≡ before_leaf nodes height slot passes
-        ++ (map item_of (entries_at nodes leaf) ++ behind_leaf nodes height slot passes)
-    pub before : All (λ x. passes x.key ≡ true) (before_leaf nodes height slot passes)
-    pub behind : All (λ x. passes x.key ≡ false) (behind_leaf nodes height slot passes)
+  pub record IsFoundLeaf (height slot leaf : ℕ) (is_below : ℕ → Bool) : Type 0 where
+    pub items : items_in nodes height slot ≡ before_leaf nodes height slot is_below
+        ++ (map item_of (entries_at nodes leaf) ++ behind_leaf nodes height slot is_below)
+    pub before : All (λ x. is_below x.key ≡ true) (before_leaf nodes height slot is_below)
+    pub behind : All (λ x. is_below x.key ≡ false) (behind_leaf nodes height slot is_below)
 
-  found_leaf_in : (least height slot : ℕ) (passes : ℕ → Bool) → IsSubtree nodes least height slot
-      → IsCut (λ x. passes x.key) (items_in nodes height slot)
-      → IsFoundLeaf height slot (leaf_in nodes height slot passes) passes
-  found_leaf_in least zero slot passes s c = record {
+  found_leaf_in : (least height slot : ℕ) (is_below : ℕ → Bool) → IsSubtree nodes least height slot
+      → IsPartitioned (λ x. is_below x.key) (items_in nodes height slot)
+      → IsFoundLeaf height slot (leaf_in nodes height slot is_below) is_below
+  found_leaf_in least zero slot is_below s c = record {
     items = sym (append-nil (map item_of (entries_at nodes slot)));
-    before = All-nil (λ (x : Item). passes x.key ≡ true);
-    behind = All-nil (λ (x : Item). passes x.key ≡ false);
+    before = All-nil (λ (x : Item). is_below x.key ≡ true);
+    behind = All-nil (λ (x : Item). is_below x.key ≡ false);
   }
-  found_leaf_in least (suc height) slot passes s c =
-      let w = way nodes least height slot passes s c in
+  found_leaf_in least (suc height) slot is_below s c =
+      let w = way nodes least height slot is_below s c in
       let below = λ (e : Entry). items_in nodes height e.child in
       let es = entries_at nodes slot in
-      let a = flat_map below (take (index_in passes es) es) in
-      let r = flat_map below (drop (index_in passes es + 1) es) in
-      let child = child_in passes es in
-      let here = map item_of (entries_at nodes (leaf_in nodes height child passes)) in
-      let f = found_leaf_in least height child passes (subst (IsSubtree nodes least height) w.child w.kept.subtree)
-      (subst (λ t. IsCut (λ (x : Item). passes x.key) (items_in nodes height t)) w.child w.cut) in
+      let a = flat_map below (take (index_in is_below es) es) in
+      let r = flat_map below (drop (index_in is_below es + 1) es) in
+      let child = child_in is_below es in
+      let here = map item_of (entries_at nodes (leaf_in nodes height child is_below)) in
+      let f = found_leaf_in least height child is_below (subst (IsSubtree nodes least height) w.child w.kept.subtree)
+      (subst (λ t. IsPartitioned (λ (x : Item). is_below x.key) (items_in nodes height t)) w.child w.partitioned) in
       record {
         items = w.items ∙ ap (λ t. a ++ (items_in nodes height t ++ r)) w.child ∙ ap (λ xs. a ++ (xs ++ r)) f.items
-            ∙ regroup a (before_leaf nodes height child passes) here (behind_leaf nodes height child passes) r;
-        before = All-append (λ (x : Item). passes x.key ≡ true) a (before_leaf nodes height child passes) w.before
+            ∙ regroup a (before_leaf nodes height child is_below) here (behind_leaf nodes height child is_below) r;
+        before = All-append (λ (x : Item). is_below x.key ≡ true) a (before_leaf nodes height child is_below) w.before
             f.before;
-        behind = All-append (λ (x : Item). passes x.key ≡ false) (behind_leaf nodes height child passes) r f.behind
+        behind = All-append (λ (x : Item). is_below x.key ≡ false) (behind_leaf nodes height child is_below) r f.behind
             w.behind;
       }
 
-  pub found_at_leaf : (least height slot leaf : ℕ) (passes : ℕ → Bool) → IsSubtree nodes least height slot
-      → IsCut (λ x. passes x.key) (items_in nodes height slot) → leaf ≡ leaf_in nodes height slot passes
-      → IsFoundLeaf height slot leaf passes
-  found_at_leaf least height slot leaf passes s c same =
-      subst (λ l. IsFoundLeaf height slot l passes) (sym same) (found_leaf_in least height slot passes s c)
+  pub found_at_leaf : (least height slot leaf : ℕ) (is_below : ℕ → Bool) → IsSubtree nodes least height slot
+      → IsPartitioned (λ x. is_below x.key) (items_in nodes height slot) → leaf ≡ leaf_in nodes height slot is_below
+      → IsFoundLeaf height slot leaf is_below
+  found_at_leaf least height slot leaf is_below s c same =
+      subst (λ l. IsFoundLeaf height slot l is_below) (sym same) (found_leaf_in least height slot is_below s c)

@@ -14,7 +14,7 @@ use Rattle.tree.proofs.Frames.{Agree, IsRight}
 use Rattle.tree.proofs.Changing.{Moves, moves_beside, moves_agree, changes_if_moves}
 use Rattle.tree.proofs.Families.{items_of-append, times-slots_of, length-slots_of, live_children, replaced, holds}
 use Rattle.tree.proofs.Placing.{live_if_some}
-use Rattle.tree.proofs.callers.Cuts.{All-front, All-back}
+use Rattle.tree.proofs.callers.Partitions.{All-front, All-back}
 
 -- the entries around one, and around two
 pub child_is : (es : List Entry) (i : ℕ) (d : Entry) → i < length es → child_at es i ≡ (get_or es i d).child

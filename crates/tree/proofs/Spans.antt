@@ -12,8 +12,8 @@ use Rattle.std.proofs.lemmas.List.Elements.{
   filter-append,
 }
 use Rattle.tree.specs.declared.entry.Entry.{Entry}
-use Rattle.tree.specs.Path.{IsCut}
-use Rattle.tree.proofs.callers.Cuts.{passed, failed, All-front, All-back}
+use Rattle.tree.specs.Path.{IsPartitioned}
+use Rattle.tree.proofs.callers.Partitions.{passed, failed, All-front, All-back}
 use Rattle.tree.proofs.Ways.{around_element}
 
 module _ {X : Type 0} where
@@ -29,12 +29,12 @@ module _ {X : Type 0} where
   all_before [] = refl
   all_before (x ∷ xs) = ap (λ ys. x ∷ ys) (all_before xs)
 
-  pub IsCut-none : (xs : List X) → IsCut (λ x. false) xs
-  IsCut-none xs = rw (none_before xs) (sym (all_before xs))
+  pub IsPartitioned-none : (xs : List X) → IsPartitioned (λ x. false) xs
+  IsPartitioned-none xs = rw (none_before xs) (sym (all_before xs))
 
-  pub IsCut-all : (xs : List X) → IsCut (λ x. true) xs
-  IsCut-all [] = refl
-  IsCut-all (x ∷ xs) = ap (λ ys. x ∷ ys) (IsCut-all xs)
+  pub IsPartitioned-all : (xs : List X) → IsPartitioned (λ x. true) xs
+  IsPartitioned-all [] = refl
+  IsPartitioned-all (x ∷ xs) = ap (λ ys. x ∷ ys) (IsPartitioned-all xs)
 
   module _ (p q : X → Bool) where
     pub span-append : (xs ys : List X) → span p q (xs ++ ys) ≡ span p q xs ++ span p q ys
@@ -96,17 +96,17 @@ module _ {X : Type 0} where
         ]
 
   -- what stands before and behind a cut
-  pub before_cut : (p : X → Bool) (xs : List X) → IsCut p xs
+  pub before_partitioned : (p : X → Bool) (xs : List X) → IsPartitioned p xs
       → All (λ x. p x ≡ true) (take (length (filter p xs)) xs)
-  before_cut p xs c =
+  before_partitioned p xs c =
       let e : take (length (filter p xs)) xs ≡ filter p xs =
       ap (take (length (filter p xs))) c
       ∙ take_at (filter p xs) (filter (λ x. not (p x)) xs) (length (filter p xs)) refl in
       subst (All (λ x. p x ≡ true)) (sym e) (passed p xs)
 
-  pub behind_cut : (p : X → Bool) (xs : List X) → IsCut p xs
+  pub behind_partitioned : (p : X → Bool) (xs : List X) → IsPartitioned p xs
       → All (λ x. p x ≡ false) (drop (length (filter p xs)) xs)
-  behind_cut p xs c =
+  behind_partitioned p xs c =
       let e : drop (length (filter p xs)) xs ≡ filter (λ x. not (p x)) xs =
       ap (drop (length (filter p xs))) c
       ∙ drop_at (filter p xs) (filter (λ x. not (p x)) xs) (length (filter p xs)) refl in
@@ -121,13 +121,13 @@ module _ {X : Type 0} where
       ∙ ap (λ ys. slice_range xs i j ++ ys) (drop-drop (j - i) i xs ∙ ap (λ n. drop n xs) up))
 
   -- the part of a list from one cut to another
-  pub span_range : (p q : X → Bool) (xs : List X) (i j : ℕ) → IsCut p xs → IsCut q xs → i ≤ j
+  pub span_range : (p q : X → Bool) (xs : List X) (i j : ℕ) → IsPartitioned p xs → IsPartitioned q xs → i ≤ j
       → i ≡ length (filter p xs) → j ≡ length (filter q xs) → span p q xs ≡ slice_range xs i j
   span_range p q xs i j c d le m n =
-      let front = subst (λ k. All (λ x. p x ≡ true) (take k xs)) (sym m) (before_cut p xs c) in
-      let later = subst (λ k. All (λ x. p x ≡ false) (drop k xs)) (sym m) (behind_cut p xs c) in
-      let sooner = subst (λ k. All (λ x. q x ≡ true) (take k xs)) (sym n) (before_cut q xs d) in
-      let back = subst (λ k. All (λ x. q x ≡ false) (drop k xs)) (sym n) (behind_cut q xs d) in
+      let front = subst (λ k. All (λ x. p x ≡ true) (take k xs)) (sym m) (before_partitioned p xs c) in
+      let later = subst (λ k. All (λ x. p x ≡ false) (drop k xs)) (sym m) (behind_partitioned p xs c) in
+      let sooner = subst (λ k. All (λ x. q x ≡ true) (take k xs)) (sym n) (before_partitioned q xs d) in
+      let back = subst (λ k. All (λ x. q x ≡ false) (drop k xs)) (sym n) (behind_partitioned q xs d) in
       let up : i + (j - i) ≡ j = omega arith in
       let is : drop i (take j xs) ≡ slice_range xs i j =
       ap (λ k. drop i (take k xs)) (sym up) ∙ drop-take i (j - i) xs in

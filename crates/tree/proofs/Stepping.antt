@@ -22,7 +22,7 @@ use Rattle.tree.proofs.Storing.{IsStored, moves_own, stored}
 
 module _ {N : ℕ} where
   -- the node at a slot, and the child at an index, at which a probe goes on
-  pub record IsAt (a : Arena (Node N)) (least height slot : ℕ) (passes : ℕ → Bool) (es : List Entry) (i x : ℕ) (d : Entry) : Type 0 where
+  pub record IsAt (a : Arena (Node N)) (least height slot : ℕ) (is_below : ℕ → Bool) (es : List Entry) (i x : ℕ) (d : Entry) : Type 0 where
     pub read : entries_at a slot ≡ es
     pub slots_are : slots_in a (suc height) slot ≡ slot ∷ slots_of a height es
     pub few : (s : ℕ) → times s (slots_in a (suc height) slot) ≤ 1
@@ -31,15 +31,15 @@ module _ {N : ℕ} where
     pub within : i < length es
     pub x_is : x ≡ (get_or es i d).child
     pub x_at : x ≡ child_at es i
-    pub index : i ≡ index_in passes (entries_at a slot)
-    pub child : x ≡ child_in passes (entries_at a slot)
+    pub index : i ≡ index_in is_below (entries_at a slot)
+    pub child : x ≡ child_in is_below (entries_at a slot)
     pub live : IsLive a slot
 
-  pub is_at : (a : Arena (Node N)) (least height lower slot : ℕ) (passes : ℕ → Bool) (node : Node N) (us vs : List Entry) (i : ℕ) (d : Entry)
+  pub is_at : (a : Arena (Node N)) (least height lower slot : ℕ) (is_below : ℕ → Bool) (node : Node N) (us vs : List Entry) (i : ℕ) (d : Entry)
       → suc lower ≡ height → IsSubtree a least height slot → IsDistinct nat_eq (slots_in a height slot) → header_at a slot ≡ Some node
-      → us ≡ entries_of node → vs ≡ entries_of node → i ≡ index_in passes us → i < length us
-      → IsAt a least lower slot passes (entries_of node) i (get_or vs i d).child d
-  is_at a least height lower slot passes node us vs i d next subtree distinct header us_is vs_is index within =
+      → us ≡ entries_of node → vs ≡ entries_of node → i ≡ index_in is_below us → i < length us
+      → IsAt a least lower slot is_below (entries_of node) i (get_or vs i d).child d
+  is_at a least height lower slot is_below node us vs i d next subtree distinct header us_is vs_is index within =
       let es = entries_of node in
       let read : entries_at a slot ≡ es = entries_from_header a slot node header in
       let tree : IsSubtree a least (suc lower) slot = subst (λ n. IsSubtree a least n slot) (sym next) subtree in
@@ -49,7 +49,7 @@ module _ {N : ℕ} where
       let inside : i < length es = subst (λ l. i < length l) us_is within in
       let x_is : (get_or vs i d).child ≡ (get_or es i d).child = ap (λ (l : List Entry). (get_or l i d).child) vs_is in
       let x_at : (get_or vs i d).child ≡ child_at es i = x_is ∙ sym (child_is es i d inside) in
-      let at : i ≡ index_in passes (entries_at a slot) = index ∙ ap (index_in passes) (us_is ∙ sym read) in
+      let at : i ≡ index_in is_below (entries_at a slot) = index ∙ ap (index_in is_below) (us_is ∙ sym read) in
       record {
         read = read;
         slots_are = slots_are;
@@ -65,20 +65,20 @@ module _ {N : ℕ} where
       }
 
   -- the items of the node: those of the children before the child, its own, and those of the children behind it
-  pub items_split : (a : Arena (Node N)) (least height lower slot : ℕ) (passes : ℕ → Bool) (es : List Entry) (i x : ℕ)
-      (d : Entry) → suc lower ≡ height → IsAt a least lower slot passes es i x d
+  pub items_split : (a : Arena (Node N)) (least height lower slot : ℕ) (is_below : ℕ → Bool) (es : List Entry) (i x : ℕ)
+      (d : Entry) → suc lower ≡ height → IsAt a least lower slot is_below es i x d
       → items_in a height slot
       ≡ items_of a lower (take i es) ++ (items_in a lower x ++ items_of a lower (drop (i + 1) es))
-  items_split a least height lower slot passes es i x d next at =
+  items_split a least height lower slot is_below es i x d next at =
       ap (λ n. items_in a n slot) (sym next) ∙ ap (items_of a lower) (at.read ∙ around_one es i d at.within)
       ∙ items_of-append a lower (take i es) (get_or es i d ∷ [] ++ drop (i + 1) es)
       ∙ ap (λ z. items_of a lower (take i es) ++ (items_in a lower z ++ items_of a lower (drop (i + 1) es))) (sym at.x_is)
 
   -- the node's own slot stays
-  kept_beside : (a b : Arena (Node N)) (least height slot : ℕ) (passes : ℕ → Bool) (es : List Entry) (i x : ℕ)
-      (d : Entry) (now : List ℕ) → IsAt a least height slot passes es i x d → Moves a b (slots_in a height x) now
+  kept_beside : (a b : Arena (Node N)) (least height slot : ℕ) (is_below : ℕ → Bool) (es : List Entry) (i x : ℕ)
+      (d : Entry) (now : List ℕ) → IsAt a least height slot is_below es i x d → Moves a b (slots_in a height x) now
       → record_at b slot ≡ record_at a slot
-  kept_beside a b least height slot passes es i x d now at moves =
+  kept_beside a b least height slot is_below es i x d now at moves =
       let all : times slot (slot ∷ slots_of a height es) ≤ 1 = subst (λ l. times slot l ≤ 1) at.slots_are (at.few slot) in
       let A = get_or es i d in
       let split : times slot (slots_of a height es) ≡ times slot (slots_of a height (take i es ++ (A ∷ [] ++ drop (i + 1) es))) =
@@ -93,17 +93,17 @@ module _ {N : ℕ} where
       one_slot : (a : Arena (Node N)) (height : ℕ) (e : Entry) (s : ℕ) → times s (slots_of a height (e ∷ [])) ≡ times s (slots_in a height e.child)
       one_slot a height e s = ap (times s) (append-nil (slots_in a height e.child))
 
-  pub live_beside : (a b : Arena (Node N)) (least height slot : ℕ) (passes : ℕ → Bool) (es : List Entry) (i x : ℕ)
+  pub live_beside : (a b : Arena (Node N)) (least height slot : ℕ) (is_below : ℕ → Bool) (es : List Entry) (i x : ℕ)
       (d : Entry) (now : List ℕ)
-      → IsAt a least height slot passes es i x d → Moves a b (slots_in a height x) now → IsLive b slot
-  live_beside a b least height slot passes es i x d now at moves =
-      live_same a b slot (kept_beside a b least height slot passes es i x d now at moves) at.live
+      → IsAt a least height slot is_below es i x d → Moves a b (slots_in a height x) now → IsLive b slot
+  live_beside a b least height slot is_below es i x d now at moves =
+      live_same a b slot (kept_beside a b least height slot is_below es i x d now at moves) at.live
 
-  pub read_beside : (a b : Arena (Node N)) (least height slot : ℕ) (passes : ℕ → Bool) (es : List Entry) (i x : ℕ)
+  pub read_beside : (a b : Arena (Node N)) (least height slot : ℕ) (is_below : ℕ → Bool) (es : List Entry) (i x : ℕ)
       (d : Entry) (now : List ℕ)
-      → IsAt a least height slot passes es i x d → Moves a b (slots_in a height x) now → entries_at b slot ≡ es
-  read_beside a b least height slot passes es i x d now at moves =
-      entries_same a b slot (kept_beside a b least height slot passes es i x d now at moves) ∙ at.read
+      → IsAt a least height slot is_below es i x d → Moves a b (slots_in a height x) now → entries_at b slot ≡ es
+  read_beside a b least height slot is_below es i x d now at moves =
+      entries_same a b slot (kept_beside a b least height slot is_below es i x d now at moves) ∙ at.read
 
   -- What holds afterwards. The items of the child are others, and stand among those of its neighbours.
   pub record IsStepped (a w : Arena (Node N)) (least height lower slot : ℕ) (es : List Entry) (i : ℕ) (middle : List Item)
@@ -147,8 +147,8 @@ module _ {N : ℕ} where
       omega (arith, ap length is, length-append (take i es) (t ∷ u ∷ drop (i + 1) es), length-take-le i es (omega arith), length-drop (i + 1) es)
   one_more w slot (Some s) es i t u within is none = absurd (cc)
 
-  module _ (a b w : Arena (Node N)) (least height lower slot : ℕ) (passes : ℕ → Bool) (es : List Entry) (i x : ℕ)
-      (d : Entry) (next : suc lower ≡ height) (at : IsAt a least lower slot passes es i x d)
+  module _ (a b w : Arena (Node N)) (least height lower slot : ℕ) (is_below : ℕ → Bool) (es : List Entry) (i x : ℕ)
+      (d : Entry) (next : suc lower ≡ height) (at : IsAt a least lower slot is_below es i x d)
       (below : IsSubtree b least lower x) where
     -- the child was split, and the node linked to both parts
     module _ (s : ℕ) (added : Option ℕ)
@@ -159,7 +159,7 @@ module _ {N : ℕ} where
       insert_entry =
           subst (λ z. IsLinked b z s (take i es) (drop (i + 1) es) (entries_at_both w slot added)) (sym at.x_at)
           (subst (λ l. IsLinked b (child_at l i) s (take i l) (drop (i + 1) l) (entries_at_both w slot added))
-          (read_beside a b least lower slot passes es i x d (slots_in b lower x ++ slots_in b lower s) at moves) linked)
+          (read_beside a b least lower slot is_below es i x d (slots_in b lower x ++ slots_in b lower s) at moves) linked)
 
       pub one_less : added ≡ None → length (entries_at a slot) ≤ length (entries_at w slot) + 1
       one_less none =
@@ -190,7 +190,7 @@ module _ {N : ℕ} where
       changed = family_loose a b least lower es i x d at.within at.x_is at.few_below at.right moves below
 
       read : entries_at b slot ≡ es
-      read = read_beside a b least lower slot passes es i x d (slots_in b lower x) at moves
+      read = read_beside a b least lower slot is_below es i x d (slots_in b lower x) at moves
 
       own : Moves a b (slot ∷ slots_of a lower es) (slot ∷ slots_of b lower es)
       own = moves_own a b w least lower slot es at.slots_are at.few at.live es changed.1

@@ -14,7 +14,7 @@ use Rattle.tree.proofs.Frames.{Agree, IsRight, live_same}
 use Rattle.tree.proofs.Changing.{Moves, moves_beside, moves_agree, moves_trans, moves_if_changes, changes_if_moves}
 use Rattle.tree.proofs.Families.{items_of-append, times-slots_of, length-slots_of, live_children, holds}
 use Rattle.tree.proofs.Placing.{live_one, put_entries, put_live, put_moves}
-use Rattle.tree.proofs.callers.Cuts.{All-front, All-back}
+use Rattle.tree.proofs.callers.Partitions.{All-front, All-back}
 
 module _ {N : ℕ} where
   pub record IsStored (a w : Arena (Node N)) (least height slot : ℕ) (added : Option ℕ) (items : List Item) : Type 0 where

@@ -10,11 +10,11 @@ use Rattle.arena.specs.Arena.{Arena}
 use Rattle.tree.specs.declared.entry.Entry.{Entry}
 use Rattle.tree.specs.declared.node.Node.{Node}
 use Rattle.tree.specs.Item.{Item, Tells, item_of}
-use Rattle.tree.specs.Path.{IsCut, from_last}
+use Rattle.tree.specs.Path.{IsPartitioned, from_last}
 use Rattle.tree.specs.Question.{IsTold}
 use Rattle.tree.specs.Subtree.{items_in}
 use Rattle.tree.proofs.Above.{IsAbove, none_above, part_above, leaf_above}
-use Rattle.tree.proofs.callers.Cuts.{All-front, not_both, none_pass, none_fail, IsCut-parts, rest_fails}
+use Rattle.tree.proofs.callers.Partitions.{All-front, not_both, none_pass, none_fail, IsPartitioned-parts, rest_fails}
 use Rattle.tree.proofs.FromLast.{from_last_of, leaf_from_last, none_told}
 use Rattle.tree.proofs.Keys.{filter-items}
 use Rattle.tree.proofs.Looks.{IsLook, look_items}
@@ -55,12 +55,12 @@ module _ {X : Type 0} (p q : X → Bool) (n : (x : X) → p x ≡ true → q x �
 
 -- None of these passes the cut.
 abbrev AllFail : (ℕ → Bool) → List Item → Type 0
-AllFail passes items = All (λ x. passes x.key ≡ false) items
+AllFail is_below items = All (λ x. is_below x.key ≡ false) items
 
 -- that `next` tells of some items and those behind them that none passes, where `clear` tells it of those behind
 abbrev pub Clears : (ℕ → Bool) → Bool → Bool → List Item → Type 0
 Clears q clear next back =
-    (after : List Item) → (IsTrue clear → All (λ x. q x.key ≡ false) after) → IsCut (λ x. q x.key) (back ++ after)
+    (after : List Item) → (IsTrue clear → All (λ x. q x.key ≡ false) after) → IsPartitioned (λ x. q x.key) (back ++ after)
     → IsTrue next → All (λ x. q x.key ≡ false) (back ++ after)
 
 -- No item of these children passes if the first entry doesn't.
@@ -69,7 +69,7 @@ pub clears_behind : (q : ℕ → Bool) (below : Entry → List Item) (es : List 
     → ((e : Entry) → slice_get es i ≡ Some e → next ≡ true → q e.key ≡ false)
     → Clears q clear next (flat_map below (drop i es))
 clears_behind q below [] i clear next tell inside fails = absurd (omega arith)
-clears_behind q below (e ∷ es) zero clear next tell inside fails = λ after k cut t.
+clears_behind q below (e ∷ es) zero clear next tell inside fails = λ after k partitioned t.
     let h = All-head (λ e. Tells e (below e)) e es tell in
     let rest = flat_map below es in
     let same : (below e ++ rest) ++ after ≡ h.first ∷ (h.others ++ rest) ++ after =
@@ -77,15 +77,15 @@ clears_behind q below (e ∷ es) zero clear next tell inside fails = λ after k 
     let first : q h.first.key ≡ false = subst (λ k. q k ≡ false) h.key (fails e refl t) in
     subst (AllFail q) (sym same)
     (rest_fails (λ (x : Item). q x.key) h.first ((h.others ++ rest) ++ after)
-    (subst (IsCut (λ (x : Item). q x.key)) same cut) first)
+    (subst (IsPartitioned (λ (x : Item). q x.key)) same partitioned) first)
 clears_behind q below (e ∷ es) (suc i) clear next tell inside fails =
     clears_behind q below es i clear next (All-tail (λ e. Tells e (below e)) e es tell) (omega arith) fails
 
 -- Where there are none, it is the same.
 pub clears_same : (q : ℕ → Bool) (below : Entry → List Item) (es : List Entry) (i : ℕ) (clear next : Bool) → length es ≤ i
     → next ≡ clear → Clears q clear next (flat_map below (drop i es))
-clears_same q below [] zero clear next le same = λ after k cut t. k (sym same ∙ t)
-clears_same q below [] (suc i) clear next le same = λ after k cut t. k (sym same ∙ t)
+clears_same q below [] zero clear next le same = λ after k partitioned t. k (sym same ∙ t)
+clears_same q below [] (suc i) clear next le same = λ after k partitioned t. k (sym same ∙ t)
 clears_same q below (d ∷ es) zero clear next le same = absurd (omega arith)
 clears_same q below (d ∷ es) (suc i) clear next le same = clears_same q below es i clear next (omega arith) same
 
@@ -101,45 +101,45 @@ module _ (p q : ℕ → Bool) (v : ℤ) (n : (key : ℕ) → p key ≡ true → 
   told_wider items front part back clear next result parts clears told before after k c d =
       let same : before ++ (items ++ after) ≡ (before ++ front) ++ (part ++ (back ++ after)) =
       ap (λ xs. before ++ (xs ++ after)) parts ∙ regroup before front part back after in
-      let cp = subst (IsCut (λ (x : Item). p x.key)) same c in
-      let cq = subst (IsCut (λ (x : Item). q x.key)) same d in
-      let rest = (IsCut-parts (λ (x : Item). q x.key) (before ++ front) (part ++ (back ++ after)) cq).1 in
-      let last = (IsCut-parts (λ (x : Item). q x.key) part (back ++ after) rest).1 in
+      let cp = subst (IsPartitioned (λ (x : Item). p x.key)) same c in
+      let cq = subst (IsPartitioned (λ (x : Item). q x.key)) same d in
+      let rest = (IsPartitioned-parts (λ (x : Item). q x.key) (before ++ front) (part ++ (back ++ after)) cq).1 in
+      let last = (IsPartitioned-parts (λ (x : Item). q x.key) part (back ++ after) rest).1 in
       subst (λ xs. IfSome result (λ told. IsTrue told ↔ IsAbove v (from_last p (Some q) xs))) (sym same)
       (told (before ++ front) (back ++ after) (clears after k last) cp cq)
 
   -- Where some items pass the first cut and none behind them passes the second one, the others don't count.
   told_part : (part : List Item) (clear b : Bool) → 1 ≤ length (filter (λ x. p x.key) part)
-      → ((after : List Item) → (IsTrue clear → AllFail q after) → IsCut (λ x. q x.key) (part ++ after) → AllFail q after)
+      → ((after : List Item) → (IsTrue clear → AllFail q after) → IsPartitioned (λ x. q x.key) (part ++ after) → AllFail q after)
       → (IsTrue b ↔ IsAbove v (from_last_of (λ x. p x.key) (λ x. q x.key) part)) → IsTold p q v clear part (Some b)
   told_part part clear b some behind answer before after k c d =
       let front : All (λ (x : Item). p x.key ≡ true) before =
-      elim (IsCut-parts (λ (x : Item). p x.key) before (part ++ after) c).2 [
+      elim (IsPartitioned-parts (λ (x : Item). p x.key) before (part ++ after) c).2 [
         | inl all ↦ all
         | inr fail ↦
             let z = none_pass (λ (x : Item). p x.key) part (All-front (λ (x : Item). p x.key ≡ false) part after fail) in
             absurd (omega (arith, some, ap length z.0))
       ] in
-      let rest = (IsCut-parts (λ (x : Item). q x.key) before (part ++ after) d).1 in
+      let rest = (IsPartitioned-parts (λ (x : Item). q x.key) before (part ++ after) d).1 in
       part_above v b (from_last p (Some q) (before ++ (part ++ after)))
       (from_last_of (λ x. p x.key) (λ x. q x.key) part)
       (from_last_part (λ (x : Item). p x.key) (λ (x : Item). q x.key) (λ x. n x.key) before part after front some
       (behind after k rest)) answer
 
   -- what is told of all items
-  pub told_of_all : (items : List Item) (b : Bool) → IsTold p q v true items (Some b) → IsCut (λ x. p x.key) items
-      → IsCut (λ x. q x.key) items → (IsTrue b ↔ IsAbove v (from_last p (Some q) items))
+  pub told_of_all : (items : List Item) (b : Bool) → IsTold p q v true items (Some b) → IsPartitioned (λ x. p x.key) items
+      → IsPartitioned (λ x. q x.key) items → (IsTrue b ↔ IsAbove v (from_last p (Some q) items))
   told_of_all items b told c d =
       let same : items ≡ items ++ [] = sym (append-nil items) in
       part_above v b (from_last p (Some q) items) (from_last p (Some q) (items ++ [])) (ap (from_last p (Some q)) same)
-      (told [] [] (λ _. All-nil (λ (x : Item). q x.key ≡ false)) (subst (IsCut (λ (x : Item). p x.key)) same c)
-      (subst (IsCut (λ (x : Item). q x.key)) same d))
+      (told [] [] (λ _. All-nil (λ (x : Item). q x.key ≡ false)) (subst (IsPartitioned (λ (x : Item). p x.key)) same c)
+      (subst (IsPartitioned (λ (x : Item). q x.key)) same d))
 
   -- what an entry tells whose version isn't above it
   pub told_by_entry : (e : Entry) (part : List Item) (clear b : Bool) → Tells e part → p e.key ≡ true → clear ≡ true
       → b ≡ false → e.version ≤ℤ v → IsTold p q v clear part (Some b)
-  told_by_entry e part clear b t passes c f le =
-      let first : p t.first.key ≡ true = subst (λ k. p k ≡ true) t.key passes in
+  told_by_entry e part clear b t is_below c f le =
+      let first : p t.first.key ≡ true = subst (λ k. p k ≡ true) t.key is_below in
       let one : filter (λ (x : Item). p x.key) part ≡ t.first ∷ filter (λ (x : Item). p x.key) t.others =
       ap (filter (λ (x : Item). p x.key)) t.items_are ∙ rw first refl in
       told_part part clear b (omega (arith, ap length one)) (λ after k d. k c)
@@ -158,7 +158,7 @@ module _ {N : ℕ} (nodes : Arena (Node N)) (least height slot : ℕ) (p q : ℕ
       ap (λ n. items_in nodes n slot) z ∙ ap (map item_of) k.read in
       let counted = counts at in
       told_part p q v k.nested (items_in nodes height slot) clear b (let c = counted p in let i = k.begin_is in omega arith)
-      (λ after clears cut. elim (IsCut-parts (λ (x : Item). q x.key) (items_in nodes height slot) after cut).2 [
+      (λ after clears partitioned. elim (IsPartitioned-parts (λ (x : Item). q x.key) (items_in nodes height slot) after partitioned).2 [
         | inl pass ↦
             let whole = (none_fail (λ (x : Item). q x.key) (items_in nodes height slot) pass).0 in
             let c = counted q in

@@ -5,58 +5,58 @@ use Rattle.std.proofs.lemmas.List.{get_or-take, length-take-le, take-take}
 use Rattle.arena.specs.Arena.{Arena}
 use Rattle.tree.specs.declared.entry.Entry.{Entry}
 use Rattle.tree.specs.declared.node.Node.{Node}
-use Rattle.tree.specs.Hints.{KeyBytes, BeginAlike, TellsCommon, KnowsAt}
+use Rattle.tree.specs.Heads.{KeyBytes, HaveCommonPrefix, IsCommonPrefixLen, IsPrefixLenAt}
 use Rattle.tree.specs.Item.{Item, Tells}
-use Rattle.tree.specs.Path.{IsCut}
+use Rattle.tree.specs.Path.{IsPartitioned}
 use Rattle.tree.specs.Subtree.{entries_at, items_in, IsSubtree}
-use Rattle.tree.proofs.callers.Cuts.{none_pass, rest_fails, length-passing}
+use Rattle.tree.proofs.callers.Partitions.{none_pass, rest_fails, length-items_below}
 use Rattle.tree.proofs.FirstKeys.{first_tells, items_under, node_items, node_tells}
-use Rattle.tree.proofs.Spans.{before_cut}
+use Rattle.tree.proofs.Spans.{before_partitioned}
 
 -- What begins alike with one text begins alike with another one as far as the two do.
-pub alike_for_other : (known shared : ℕ) (text from to : List ℕ) → TellsCommon known text from
-    → take shared from ≡ take shared to → BeginAlike (min known shared) text to
+pub alike_for_other : (known shared : ℕ) (text from to : List ℕ) → IsCommonPrefixLen known text from
+    → take shared from ≡ take shared to → HaveCommonPrefix (min known shared) text to
 alike_for_other known shared text from to tells same count within most =
     let a : count ≤ known = omega arith in
     let b : count ≤ shared = omega arith in
     (tells count within).0 a ∙ sym (take-take count shared from b) ∙ ap (take count) same ∙ take-take count shared to b
 
 -- Where the first entry passes, some do.
-pub some_pass : (passes : ℕ → Bool) (es : List Entry) → 1 ≤ length es
-    → ((e : Entry) → slice_get es 0 ≡ Some e → passes e.key ≡ true) → 1 ≤ length (filter (λ e. passes e.key) es)
-some_pass passes [] some first = absurd (omega arith)
-some_pass passes (e ∷ es) some first = let t = first e refl in rw t (omega arith)
+pub some_pass : (is_below : ℕ → Bool) (es : List Entry) → 1 ≤ length es
+    → ((e : Entry) → slice_get es 0 ≡ Some e → is_below e.key ≡ true) → 1 ≤ length (filter (λ e. is_below e.key) es)
+some_pass is_below [] some first = absurd (omega arith)
+some_pass is_below (e ∷ es) some first = let t = first e refl in rw t (omega arith)
 
 -- The last of those that pass does.
-pub last_passes : (passes : ℕ → Bool) (es : List Entry) (i : ℕ) (e : Entry) → IsCut (λ e. passes e.key) es
-    → 1 ≤ length (filter (λ e. passes e.key) es) → i ≡ length (filter (λ e. passes e.key) es) - 1
-    → e ≡ get_or es i e → passes e.key ≡ true
-last_passes passes es i e cut some at is =
-    let count = length (filter (λ (e : Entry). passes e.key) es) in
+pub last_passes : (is_below : ℕ → Bool) (es : List Entry) (i : ℕ) (e : Entry) → IsPartitioned (λ e. is_below e.key) es
+    → 1 ≤ length (filter (λ e. is_below e.key) es) → i ≡ length (filter (λ e. is_below e.key) es) - 1
+    → e ≡ get_or es i e → is_below e.key ≡ true
+last_passes is_below es i e partitioned some at is =
+    let count = length (filter (λ (e : Entry). is_below e.key) es) in
     let less : i < count = omega arith in
-    let le = length-passing (λ (e : Entry). passes e.key) es in
+    let le = length-items_below (λ (e : Entry). is_below e.key) es in
     let within : i < length (take count es) = omega (arith, length-take-le count es le) in
-    let here = before_cut (λ (e : Entry). passes e.key) es cut i e within in
-    subst (λ (e : Entry). passes e.key ≡ true) (get_or-take count es i e less ∙ sym is) here
+    let here = before_partitioned (λ (e : Entry). is_below e.key) es partitioned i e within in
+    subst (λ (e : Entry). is_below e.key ≡ true) (get_or-take count es i e less ∙ sym is) here
 
 -- Where the first entry doesn't pass, no item does.
-none_from_first : (passes : ℕ → Bool) (under : Entry → List Item) (es : List Entry) (e : Entry) → slice_get es 0 ≡ Some e
+none_from_first : (is_below : ℕ → Bool) (under : Entry → List Item) (es : List Entry) (e : Entry) → slice_get es 0 ≡ Some e
     → All (λ e. Tells e (under e)) es → (items : List Item) → items ≡ flat_map under es
-    → IsCut (λ x. passes x.key) items → passes e.key ≡ false → filter (λ x. passes x.key) items ≡ []
-none_from_first passes under es e there tell [] same cut f = refl
-none_from_first passes under es e there tell (x ∷ xs) same cut f =
-    let first = subst (λ k. passes k ≡ false) (first_tells under es e there tell x xs (sym same)) f in
-    (none_pass (λ (x : Item). passes x.key) (x ∷ xs) (rest_fails (λ (x : Item). passes x.key) x xs cut first)).0
+    → IsPartitioned (λ x. is_below x.key) items → is_below e.key ≡ false → filter (λ x. is_below x.key) items ≡ []
+none_from_first is_below under es e there tell [] same partitioned f = refl
+none_from_first is_below under es e there tell (x ∷ xs) same partitioned f =
+    let first = subst (λ k. is_below k ≡ false) (first_tells under es e there tell x xs (sym same)) f in
+    (none_pass (λ (x : Item). is_below x.key) (x ∷ xs) (rest_fails (λ (x : Item). is_below x.key) x xs partitioned first)).0
 
 module _ {N : ℕ} (nodes : Arena (Node N)) (least : ℕ) where
   -- What is known of the first key is not that it doesn't pass, where some item does.
-  pub known_where_some : (height slot : ℕ) (bytes : KeyBytes) (passes : ℕ → Bool) (sought : List ℕ) (known : Option ℕ)
-      → IsSubtree nodes least height slot → IsCut (λ x. passes x.key) (items_in nodes height slot)
-      → filter (λ x. passes x.key) (items_in nodes height slot) ≢ []
-      → KnowsAt bytes passes sought known (entries_at nodes slot) 0
-      → KnowsAt bytes passes sought (Some (unwrap_or known 0)) (entries_at nodes slot) 0
-  known_where_some height slot bytes passes sought None s cut some knows e there =
-      absurd (some (none_from_first passes (items_under nodes height) (entries_at nodes slot) e there
+  pub known_where_some : (height slot : ℕ) (bytes : KeyBytes) (is_below : ℕ → Bool) (target : List ℕ) (known : Option ℕ)
+      → IsSubtree nodes least height slot → IsPartitioned (λ x. is_below x.key) (items_in nodes height slot)
+      → filter (λ x. is_below x.key) (items_in nodes height slot) ≢ []
+      → IsPrefixLenAt bytes is_below target known (entries_at nodes slot) 0
+      → IsPrefixLenAt bytes is_below target (Some (unwrap_or known 0)) (entries_at nodes slot) 0
+  known_where_some height slot bytes is_below target None s partitioned some knows e there =
+      absurd (some (none_from_first is_below (items_under nodes height) (entries_at nodes slot) e there
       (node_tells nodes least height slot s)
-      (items_in nodes height slot) (node_items nodes least height slot) cut (knows e there)))
-  known_where_some height slot bytes passes sought (Some k) s cut some knows e there = knows e there
+      (items_in nodes height slot) (node_items nodes least height slot) partitioned (knows e there)))
+  known_where_some height slot bytes is_below target (Some k) s partitioned some knows e there = knows e there

@@ -7,9 +7,9 @@ use Rattle.tree.specs.declared.entry.Entry.{Entry}
 use Rattle.tree.specs.declared.node.Node.{Node}
 use Rattle.tree.specs.declared.walk.Outcome.{Outcome}
 use Rattle.tree.specs.declared.walk.Outcome.TheVariants.{Same, Raised, Changed, Split}
-use Rattle.tree.specs.Hints.{KeyBytes, AreHinted}
+use Rattle.tree.specs.Heads.{KeyBytes, AllAreHeads}
 use Rattle.tree.specs.Item.{Item}
-use Rattle.tree.specs.Node.{hints_of}
+use Rattle.tree.specs.Node.{all_heads_of}
 use Rattle.tree.specs.Replace.{child_at, entries_at_both, slot_taken, Changes, IsLinked, IsRebalancedAt}
 use Rattle.tree.specs.Subtree.{entries_at, items_in, slots_in, IsSubtree}
 use Rattle.tree.specs.Tree.{least_of}
@@ -19,18 +19,18 @@ use Rattle.tree.proofs.Stepping.{IsAt, IsStepped, read_beside, stepped_linked, s
 use Rattle.tree.proofs.Walking.{raised_above}
 
 -- The items of a leaf that was changed.
-pub within_leaf : (passes : ℕ → Bool) (Gives : Bool → Option ℕ → List Item → List Item → Type 0) (is_first : Bool)
+pub within_leaf : (is_below : ℕ → Bool) (Gives : Bool → Option ℕ → List Item → List Item → Type 0) (is_first : Bool)
     (key : Option ℕ) (was now : List Item) → Gives is_first key was now
-    → IsChangedWithin passes Gives is_first key was now
-within_leaf passes Gives is_first key was now gives = record {
+    → IsChangedWithin is_below Gives is_first key was now
+within_leaf is_below Gives is_first key was now gives = record {
   before = [];
   leaf = was;
   changed = now;
   behind = [];
   was_is = sym (append-nil was);
   now_is = sym (append-nil now);
-  passing = All-nil (λ (x : Item). passes x.key ≡ true);
-  failing = All-nil (λ (x : Item). passes x.key ≡ false);
+  items_below = All-nil (λ (x : Item). is_below x.key ≡ true);
+  failing = All-nil (λ (x : Item). is_below x.key ≡ false);
   found = inl refl;
   first = is_first;
   first_is = (λ h. (h, refl), λ h. h.0);
@@ -42,9 +42,9 @@ abbrev pub outcome_of : Option ℕ → Outcome
 outcome_of None = Changed
 outcome_of (Some slot) = Split slot
 
-module _ {N : ℕ} (bytes : KeyBytes) (a b : Arena (Node N)) (height lower slot : ℕ) (passes : ℕ → Bool)
+module _ {N : ℕ} (bytes : KeyBytes) (a b : Arena (Node N)) (height lower slot : ℕ) (is_below : ℕ → Bool)
     (es : List Entry) (i x : ℕ) (d : Entry) (next : suc lower ≡ height)
-    (at : IsAt a (least_of N) lower slot passes es i x d) (can : CanChange a height slot) where
+    (at : IsAt a (least_of N) lower slot is_below es i x d) (can : CanChange a height slot) where
   -- Nothing was changed.
   pub same_above : IsChanged bytes a b lower x Same → IsChanged bytes a b height slot Same
   same_above below =
@@ -65,10 +65,10 @@ module _ {N : ℕ} (bytes : KeyBytes) (a b : Arena (Node N)) (height lower slot 
           keyless = can.keyless;
         };
         taken = omega arith;
-        hinted = subst (λ b. AreHinted bytes (hints_of b)) same below.hinted;
+        headed = subst (λ b. AllAreHeads bytes (all_heads_of b)) same below.headed;
       })
 
-  module _ (w : Arena (Node N)) (hinted : AreHinted bytes (hints_of w)) where
+  module _ (w : Arena (Node N)) (headed : AllAreHeads bytes (all_heads_of w)) where
     -- The child was changed, and the node rebalanced.
     module _ (below : IsSubtree b (least_of N) lower x)
         (changes : Changes a b (slots_in a lower x) (slots_in b lower x))
@@ -79,11 +79,11 @@ module _ {N : ℕ} (bytes : KeyBytes) (a b : Arena (Node N)) (height lower slot 
 
       pub step_rebalanced : IsStepped a w (least_of N) height lower slot es i (items_in b lower x) None
       step_rebalanced =
-          stepped_rebalanced a b w (least_of N) height lower slot passes es i x d next at below moves rebalanced
+          stepped_rebalanced a b w (least_of N) height lower slot is_below es i x d next at below moves rebalanced
 
       few_less : length (entries_at a slot) ≤ length (entries_at w slot) + 1
       few_less =
-          let read = read_beside a b (least_of N) lower slot passes es i x d (slots_in b lower x) at moves in
+          let read = read_beside a b (least_of N) lower slot is_below es i x d (slots_in b lower x) at moves in
           omega (arith, less, ap length read, ap length at.read)
 
       pub changed_above : IsChanged bytes a w height slot Changed
@@ -96,7 +96,7 @@ module _ {N : ℕ} (bytes : KeyBytes) (a b : Arena (Node N)) (height lower slot 
         few_less = λ above none. few_less;
         changes = step_rebalanced.changes;
         taken = omega (arith, taken, spare, next);
-        hinted = hinted;
+        headed = headed;
       }
 
       pub raised_too : (version : ℤ) → IsChanged bytes a b lower x (Raised version)
@@ -106,7 +106,7 @@ module _ {N : ℕ} (bytes : KeyBytes) (a b : Arena (Node N)) (height lower slot 
         raised = λ other is. (
             let same : version ≡ other = cc in
             subst (λ v. IsRaised v (items_in a height slot) (items_in w height slot)) same
-            (raised_above a (least_of N) height lower slot passes es i x d next at version (items_in b lower x)
+            (raised_above a (least_of N) height lower slot is_below es i x d next at version (items_in b lower x)
             (items_in w height slot) step_rebalanced.items (was.raised version refl))
             );
         subtree = step_rebalanced.subtree;
@@ -115,7 +115,7 @@ module _ {N : ℕ} (bytes : KeyBytes) (a b : Arena (Node N)) (height lower slot 
         few_less = λ above none. few_less;
         changes = step_rebalanced.changes;
         taken = omega (arith, taken, spare, next);
-        hinted = hinted;
+        headed = headed;
       }
 
     -- The child was split, and the node linked to both parts.
@@ -128,7 +128,7 @@ module _ {N : ℕ} (bytes : KeyBytes) (a b : Arena (Node N)) (height lower slot 
           → IsStepped a w (least_of N) height lower slot es i (items_in b lower x ++ items_in b lower s) added
       step_linked added linked left right live live_added changes =
           let moves = moves_if_changes a b (slots_in a lower x) (slots_in b lower x ++ slots_in b lower s) below.changes in
-          stepped_linked a b w (least_of N) height lower slot passes es i x d next at below.subtree s added moves
+          stepped_linked a b w (least_of N) height lower slot is_below es i x d next at below.subtree s added moves
           can.fan_out linked below.neighbour below.filled.0 below.filled.1 left right live live_added changes
 
       pub linked_above : (added : Option ℕ)
@@ -146,11 +146,11 @@ module _ {N : ℕ} (bytes : KeyBytes) (a b : Arena (Node N)) (height lower slot 
             subtree = step.subtree;
             neighbour = tt;
             filled = tt;
-            few_less = λ above none. one_less a b w (least_of N) height lower slot passes es i x d next at
+            few_less = λ above none. one_less a b w (least_of N) height lower slot is_below es i x d next at
                 below.subtree s None moves can.fan_out linked refl;
             changes = step.changes;
             taken = omega (arith, below.taken, spare, next);
-            hinted = hinted;
+            headed = headed;
           }
       linked_above (Some t) linked left right live live_added changes =
           let step = step_linked (Some t) linked left right live live_added changes in
@@ -165,5 +165,5 @@ module _ {N : ℕ} (bytes : KeyBytes) (a b : Arena (Node N)) (height lower slot 
             few_less = λ above none. absurd (cc);
             changes = step.changes;
             taken = omega (arith, below.taken, spare, next);
-            hinted = hinted;
+            headed = headed;
           }

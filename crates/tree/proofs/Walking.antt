@@ -10,11 +10,11 @@ use Rattle.keys.proofs.callers.SomeElement.{Any-first, Any-later, Any-left, Any-
 use Rattle.tree.specs.declared.entry.Entry.{Entry}
 use Rattle.tree.specs.declared.node.Node.{Node}
 use Rattle.tree.specs.Item.{Item, Tells, item_of}
-use Rattle.tree.specs.Path.{IsCut, index_in, first_key}
+use Rattle.tree.specs.Path.{IsPartitioned, index_in, first_key}
 use Rattle.tree.specs.Replace.{items_of, AreChildren, TellsWritten}
 use Rattle.tree.specs.Subtree.{entries_at, items_in, IsSubtree}
 use Rattle.tree.specs.Walk.{IsChangedWithin, IsFoundAmong, IsRaised}
-use Rattle.tree.proofs.callers.Cuts.{not_both}
+use Rattle.tree.proofs.callers.Partitions.{not_both}
 use Rattle.tree.proofs.callers.Times.{none_or_some}
 use Rattle.tree.proofs.Frames.{IsRight}
 use Rattle.tree.proofs.Keys.{first_key-append, first_key-children}
@@ -31,10 +31,10 @@ no_back [] ys e = e
 no_back (x ∷ xs) ys e = absurd (cc)
 
 -- None that passes stands among those that fail.
-none_among : (passes : ℕ → Bool) (xs : List Item) → All (λ x. passes x.key ≡ false) xs
-    → Any (λ x. passes x.key ≡ true) xs → ⊥
-none_among passes xs fail any =
-    not_both (passes any.1.key) any.4 (subst (λ (x : Item). passes x.key ≡ false) any.3 (fail any.0 any.1 any.2))
+none_among : (is_below : ℕ → Bool) (xs : List Item) → All (λ x. is_below x.key ≡ false) xs
+    → Any (λ x. is_below x.key ≡ true) xs → ⊥
+none_among is_below xs fail any =
+    not_both (is_below any.1.key) any.4 (subst (λ (x : Item). is_below x.key ≡ false) any.3 (fail any.0 any.1 any.2))
 
 -- Each version of items is that of one of them.
 each_there : (xs : List Item) → All (λ x. Any (λ w. x.version ≡ w.version) xs) xs
@@ -69,20 +69,20 @@ first_if below is_first i both one = (
 )
 
 -- A part of items in which a search goes on: those before it pass, and those behind it don't.
-pub record IsAround (passes : ℕ → Bool) (front part back : List Item) : Type 0 where
-  pub pass : All (λ x. passes x.key ≡ true) front
-  pub fail : All (λ x. passes x.key ≡ false) back
-  pub found : IsFoundAmong passes front part
+pub record IsAround (is_below : ℕ → Bool) (front part back : List Item) : Type 0 where
+  pub pass : All (λ x. is_below x.key ≡ true) front
+  pub fail : All (λ x. is_below x.key ≡ false) back
+  pub found : IsFoundAmong is_below front part
 
 module _ (front part back now : List Item) where
   -- A leaf of the part is changed.
-  pub within_around : (passes : ℕ → Bool) (Gives : Bool → Option ℕ → List Item → List Item → Type 0)
-      (is_first below_first : Bool) (next below_next : Option ℕ) → IsAround passes front part back
+  pub within_around : (is_below : ℕ → Bool) (Gives : Bool → Option ℕ → List Item → List Item → Type 0)
+      (is_first below_first : Bool) (next below_next : Option ℕ) → IsAround is_below front part back
       → (IsTrue below_first ↔ (IsTrue is_first × (front ≡ []))) → below_next ≡ first_key next back
-      → IsChangedWithin passes Gives below_first below_next part now
-      → IsChangedWithin passes Gives is_first next (front ++ (part ++ back)) (front ++ (now ++ back))
-  within_around passes Gives is_first below_first next below_next around first_is next_is c =
-      let P = λ (x : Item). passes x.key ≡ true in
+      → IsChangedWithin is_below Gives below_first below_next part now
+      → IsChangedWithin is_below Gives is_first next (front ++ (part ++ back)) (front ++ (now ++ back))
+  within_around is_below Gives is_first below_first next below_next around first_is next_is c =
+      let P = λ (x : Item). is_below x.key ≡ true in
       record {
         before = front ++ c.before;
         leaf = c.leaf;
@@ -90,12 +90,12 @@ module _ (front part back now : List Item) where
         behind = c.behind ++ back;
         was_is = ap (λ xs. front ++ (xs ++ back)) c.was_is ∙ regroup front c.before c.leaf c.behind back;
         now_is = ap (λ xs. front ++ (xs ++ back)) c.now_is ∙ regroup front c.before c.changed c.behind back;
-        passing = All-append P front c.before around.pass c.passing;
-        failing = All-append (λ (x : Item). passes x.key ≡ false) c.behind back c.failing around.fail;
+        items_below = All-append P front c.before around.pass c.items_below;
+        failing = All-append (λ (x : Item). is_below x.key ≡ false) c.behind back c.failing around.fail;
         found = elim c.found [
           | inl none ↦ elim around.found [
             | inl first ↦ inl (ap₂ (λ xs ys. xs ++ ys) first none)
-            | inr there ↦ inr (in_leaf passes c.before c.leaf c.behind none c.was_is c.failing there)
+            | inr there ↦ inr (in_leaf is_below c.before c.leaf c.behind none c.was_is c.failing there)
           ]
           | inr there ↦ inr there
         ];
@@ -111,14 +111,14 @@ module _ (front part back now : List Item) where
       regroup : (a b m h r : List Item) → a ++ ((b ++ (m ++ h)) ++ r) ≡ (a ++ b) ++ (m ++ (h ++ r))
       regroup a b m h r = simp append_assoc
 
-      in_leaf : (passes : ℕ → Bool) (before leaf behind : List Item) → before ≡ [] → part ≡ before ++ (leaf ++ behind)
-          → All (λ x. passes x.key ≡ false) behind → Any (λ x. passes x.key ≡ true) part
-          → Any (λ x. passes x.key ≡ true) leaf
-      in_leaf passes before leaf behind none is fail there =
+      in_leaf : (is_below : ℕ → Bool) (before leaf behind : List Item) → before ≡ [] → part ≡ before ++ (leaf ++ behind)
+          → All (λ x. is_below x.key ≡ false) behind → Any (λ x. is_below x.key ≡ true) part
+          → Any (λ x. is_below x.key ≡ true) leaf
+      in_leaf is_below before leaf behind none is fail there =
           let all : part ≡ leaf ++ behind = is ∙ ap (λ xs. xs ++ (leaf ++ behind)) none in
-          elim (Any-parts (λ (x : Item). passes x.key ≡ true) leaf behind (subst (Any (λ (x : Item). passes x.key ≡ true)) all there)) [
+          elim (Any-parts (λ (x : Item). is_below x.key ≡ true) leaf behind (subst (Any (λ (x : Item). is_below x.key ≡ true)) all there)) [
             | inl here ↦ here
-            | inr later ↦ absurd (none_among passes behind fail later)
+            | inr later ↦ absurd (none_among is_below behind fail later)
           ]
 
   -- An item of this version came into the part.
@@ -198,45 +198,45 @@ none_at a least lower (e ∷ es) (suc i) right within none =
     sym (ap (λ xs. xs ++ items_of a lower (take i es)) t.items_are) ∙ none in
     absurd (cc)
 
-module _ {N : ℕ} (a : Arena (Node N)) (least height lower slot : ℕ) (passes : ℕ → Bool) (es : List Entry) (i x : ℕ)
-    (d : Entry) (next : suc lower ≡ height) (at : IsAt a least lower slot passes es i x d) where
+module _ {N : ℕ} (a : Arena (Node N)) (least height lower slot : ℕ) (is_below : ℕ → Bool) (es : List Entry) (i x : ℕ)
+    (d : Entry) (next : suc lower ≡ height) (at : IsAt a least lower slot is_below es i x d) where
   -- The child is the part of the items of the node in which the search goes on.
-  around_at : IsSubtree a least height slot → IsCut (λ x. passes x.key) (items_in a height slot)
-      → IsAround passes (items_of a lower (take i es)) (items_in a lower x) (items_of a lower (drop (i + 1) es))
-  around_at subtree cut =
+  around_at : IsSubtree a least height slot → IsPartitioned (λ x. is_below x.key) (items_in a height slot)
+      → IsAround is_below (items_of a lower (take i es)) (items_in a lower x) (items_of a lower (drop (i + 1) es))
+  around_at subtree partitioned =
       let all = entries_at a slot in
-      let w = way a least lower slot passes (subst (λ n. IsSubtree a least n slot) (sym next) subtree)
-      (subst (λ n. IsCut (λ (x : Item). passes x.key) (items_in a n slot)) (sym next) cut) in
-      let Pass = λ (es : List Entry). All (λ (x : Item). passes x.key ≡ true) (items_of a lower es) in
-      let Fail = λ (es : List Entry). All (λ (x : Item). passes x.key ≡ false) (items_of a lower es) in
+      let w = way a least lower slot is_below (subst (λ n. IsSubtree a least n slot) (sym next) subtree)
+      (subst (λ n. IsPartitioned (λ (x : Item). is_below x.key) (items_in a n slot)) (sym next) partitioned) in
+      let Pass = λ (es : List Entry). All (λ (x : Item). is_below x.key ≡ true) (items_of a lower es) in
+      let Fail = λ (es : List Entry). All (λ (x : Item). is_below x.key ≡ false) (items_of a lower es) in
       record {
         pass = subst (λ l. Pass (take i l)) at.read (subst (λ n. Pass (take n all)) (sym at.index) w.before);
         fail = subst (λ l. Fail (drop (i + 1) l)) at.read (subst (λ n. Fail (drop (n + 1) all)) (sym at.index) w.behind);
-        found = elim (none_or_some (length (filter (λ (e : Entry). passes e.key) all))) [
+        found = elim (none_or_some (length (filter (λ (e : Entry). is_below e.key) all))) [
           | inl none ↦
-              let zero_is : index_in passes all ≡ 0 = omega arith in
+              let zero_is : index_in is_below all ≡ 0 = omega arith in
               inl (ap (λ n. items_of a lower (take n es)) (at.index ∙ zero_is))
           | inr some ↦
-              let passed = index_passes (λ (e : Entry). passes e.key) all w.entry w.entries some w.is in
+              let passed = index_passes (λ (e : Entry). is_below e.key) all w.entry w.entries some w.is in
               let t = w.kept.tells in
-              let first : passes t.first.key ≡ true = subst (λ k. passes k ≡ true) t.key passed in
-              let there : Any (λ (x : Item). passes x.key ≡ true) (items_in a lower w.entry.child) =
-              subst (Any (λ (x : Item). passes x.key ≡ true)) (sym t.items_are)
-              (Any-first (λ (x : Item). passes x.key ≡ true) t.first t.others first) in
+              let first : is_below t.first.key ≡ true = subst (λ k. is_below k ≡ true) t.key passed in
+              let there : Any (λ (x : Item). is_below x.key ≡ true) (items_in a lower w.entry.child) =
+              subst (Any (λ (x : Item). is_below x.key ≡ true)) (sym t.items_are)
+              (Any-first (λ (x : Item). is_below x.key ≡ true) t.first t.others first) in
               let same : w.entry.child ≡ x = w.child ∙ sym at.child in
-              inr (subst (λ s. Any (λ (x : Item). passes x.key ≡ true) (items_in a lower s)) same there)
+              inr (subst (λ s. Any (λ (x : Item). is_below x.key ≡ true) (items_in a lower s)) same there)
         ];
       }
 
   -- A leaf of the child is changed.
   pub within_at : (Gives : Bool → Option ℕ → List Item → List Item → Type 0) (is_first below_first : Bool)
       (key below_key : Option ℕ) (now all : List Item) → IsSubtree a least height slot
-      → IsCut (λ x. passes x.key) (items_in a height slot) → (IsTrue below_first ↔ (IsTrue is_first × (i ≡ 0)))
+      → IsPartitioned (λ x. is_below x.key) (items_in a height slot) → (IsTrue below_first ↔ (IsTrue is_first × (i ≡ 0)))
       → below_key ≡ first_key key (map item_of (drop (i + 1) es))
       → all ≡ items_of a lower (take i es) ++ (now ++ items_of a lower (drop (i + 1) es))
-      → IsChangedWithin passes Gives below_first below_key (items_in a lower x) now
-      → IsChangedWithin passes Gives is_first key (items_in a height slot) all
-  within_at Gives is_first below_first key below_key now all subtree cut first_is key_is all_is c =
+      → IsChangedWithin is_below Gives below_first below_key (items_in a lower x) now
+      → IsChangedWithin is_below Gives is_first key (items_in a height slot) all
+  within_at Gives is_first below_first key below_key now all subtree partitioned first_is key_is all_is c =
       let front = items_of a lower (take i es) in
       let back = items_of a lower (drop (i + 1) es) in
       let part = items_in a lower x in
@@ -249,10 +249,10 @@ module _ {N : ℕ} (a : Arena (Node N)) (least height lower slot : ℕ) (passes 
         λ h. (let b = first_is.0 h in (b.0, ap (λ n. items_of a lower (take n es)) b.1)),
         λ h. first_is.1 (h.0, none_at a least lower es i at.right at.within h.1),
       ) in
-      subst (λ xs. IsChangedWithin passes Gives is_first key xs all)
-      (sym (items_split a least height lower slot passes es i x d next at))
-      (subst (IsChangedWithin passes Gives is_first key (front ++ (part ++ back))) (sym all_is)
-      (within_around front part back now passes Gives is_first below_first key below_key (around_at subtree cut) first
+      subst (λ xs. IsChangedWithin is_below Gives is_first key xs all)
+      (sym (items_split a least height lower slot is_below es i x d next at))
+      (subst (IsChangedWithin is_below Gives is_first key (front ++ (part ++ back))) (sym all_is)
+      (within_around front part back now is_below Gives is_first below_first key below_key (around_at subtree partitioned) first
       below_is c))
 
   -- An item of this version came into the child.
@@ -263,7 +263,7 @@ module _ {N : ℕ} (a : Arena (Node N)) (least height lower slot : ℕ) (passes 
       let front = items_of a lower (take i es) in
       let back = items_of a lower (drop (i + 1) es) in
       let part = items_in a lower x in
-      subst (λ xs. IsRaised version xs all) (sym (items_split a least height lower slot passes es i x d next at))
+      subst (λ xs. IsRaised version xs all) (sym (items_split a least height lower slot is_below es i x d next at))
       (subst (IsRaised version (front ++ (part ++ back))) (sym all_is) (raised_around front part back now version raised))
 
   -- The child's entry would be right with that version, unless it has a greater one.

@@ -15,9 +15,9 @@ use Rattle.arena.specs.Arena.{Arena}
 use Rattle.tree.specs.declared.entry.Entry.{Entry}
 use Rattle.tree.specs.declared.node.Node.{Node}
 use Rattle.tree.specs.Item.{Item, Tells}
-use Rattle.tree.specs.Path.{IsCut, index_in, child_in}
+use Rattle.tree.specs.Path.{IsPartitioned, index_in, child_in}
 use Rattle.tree.specs.Subtree.{entries_at, items_in, IsChild, IsSubtree}
-use Rattle.tree.proofs.callers.Cuts.{none_pass, IsCut-parts, rest_fails, length-passing, All-back}
+use Rattle.tree.proofs.callers.Partitions.{none_pass, IsPartitioned-parts, rest_fails, length-items_below, All-back}
 
 -- an element of a list, between those before it and those behind it
 pub around_element : {X : Type 0} (xs : List X) (i : ℕ) (d : X) → i < length xs
@@ -29,187 +29,187 @@ around_element (x ∷ xs) (suc i) d lt =
     rw e (ap (λ ys. x ∷ ys) (around_element xs i d (omega arith)))
 
 -- for entries of which each tells the first key of its child's items
-module _ (passes : ℕ → Bool) (below : Entry → List Item) where
+module _ (is_below : ℕ → Bool) (below : Entry → List Item) where
   abbrev pub AllTell : List Entry → Type 0
   AllTell es = All (λ e. Tells e (below e)) es
 
   abbrev AllPass : List Item → Type 0
-  AllPass items = All (λ x. passes x.key ≡ true) items
+  AllPass items = All (λ x. is_below x.key ≡ true) items
 
   abbrev AllFail : List Item → Type 0
-  AllFail items = All (λ x. passes x.key ≡ false) items
+  AllFail items = All (λ x. is_below x.key ≡ false) items
 
-  items_fail : (e : Entry) (rest : List Item) → Tells e (below e) → IsCut (λ x. passes x.key) (below e ++ rest)
-      → passes e.key ≡ false → AllFail (below e ++ rest)
+  items_fail : (e : Entry) (rest : List Item) → Tells e (below e) → IsPartitioned (λ x. is_below x.key) (below e ++ rest)
+      → is_below e.key ≡ false → AllFail (below e ++ rest)
   items_fail e rest t c f =
       let same : below e ++ rest ≡ t.first ∷ t.others ++ rest = ap (λ xs. xs ++ rest) t.items_are in
-      let first : passes t.first.key ≡ false = subst (λ k. passes k ≡ false) t.key f in
+      let first : is_below t.first.key ≡ false = subst (λ k. is_below k ≡ false) t.key f in
       subst AllFail (sym same)
-      (rest_fails (λ (x : Item). passes x.key) t.first (t.others ++ rest)
-      (subst (IsCut (λ (x : Item). passes x.key)) same c) first)
+      (rest_fails (λ (x : Item). is_below x.key) t.first (t.others ++ rest)
+      (subst (IsPartitioned (λ (x : Item). is_below x.key)) same c) first)
 
   entry_fails : (e : Entry) (rest : List Item) → Tells e (below e) → AllFail (below e ++ rest)
-      → passes e.key ≡ false
+      → is_below e.key ≡ false
   entry_fails e rest t a =
       let same : below e ++ rest ≡ t.first ∷ t.others ++ rest = ap (λ xs. xs ++ rest) t.items_are in
-      subst (λ k. passes k ≡ false) (sym t.key)
-      (All-head (λ (x : Item). passes x.key ≡ false) t.first (t.others ++ rest) (subst AllFail same a))
+      subst (λ k. is_below k ≡ false) (sym t.key)
+      (All-head (λ (x : Item). is_below x.key ≡ false) t.first (t.others ++ rest) (subst AllFail same a))
 
   entries_fail : (es : List Entry) → AllTell es → AllFail (flat_map below es)
-      → All (λ e. passes e.key ≡ false) es
-  entries_fail [] t a = All-nil (λ (e : Entry). passes e.key ≡ false)
+      → All (λ e. is_below e.key ≡ false) es
+  entries_fail [] t a = All-nil (λ (e : Entry). is_below e.key ≡ false)
   entries_fail (e ∷ es) t a =
-      All-cons (λ (e : Entry). passes e.key ≡ false) e es
+      All-cons (λ (e : Entry). is_below e.key ≡ false) e es
       (entry_fails e (flat_map below es) (All-head (λ e. Tells e (below e)) e es t) a)
       (entries_fail es (All-tail (λ e. Tells e (below e)) e es t)
-      (All-back (λ (x : Item). passes x.key ≡ false) (below e) (flat_map below es) a))
+      (All-back (λ (x : Item). is_below x.key ≡ false) (below e) (flat_map below es) a))
 
   -- the entries are cut by their keys
-  pub entries_cut : (es : List Entry) → AllTell es → IsCut (λ x. passes x.key) (flat_map below es)
-      → IsCut (λ e. passes e.key) es
-  entries_cut [] t c = refl
-  entries_cut (e ∷ es) t c =
+  pub entries_partitioned : (es : List Entry) → AllTell es → IsPartitioned (λ x. is_below x.key) (flat_map below es)
+      → IsPartitioned (λ e. is_below e.key) es
+  entries_partitioned [] t c = refl
+  entries_partitioned (e ∷ es) t c =
       let rest = flat_map below es in
       let others = All-tail (λ e. Tells e (below e)) e es t in
-      let parts = IsCut-parts (λ (x : Item). passes x.key) (below e) rest c in
-      elim (cases_Bool (passes e.key)) [
-        | inl h ↦ rw h (ap (λ ys. e ∷ ys) (entries_cut es others parts.1))
+      let parts = IsPartitioned-parts (λ (x : Item). is_below x.key) (below e) rest c in
+      elim (cases_Bool (is_below e.key)) [
+        | inl h ↦ rw h (ap (λ ys. e ∷ ys) (entries_partitioned es others parts.1))
         | inr h ↦
             let a = items_fail e rest (All-head (λ e. Tells e (below e)) e es t) c h in
-            let fails = entries_fail es others (All-back (λ (x : Item). passes x.key ≡ false) (below e) rest a) in
-            let n = none_pass (λ (e : Entry). passes e.key) es fails in
+            let fails = entries_fail es others (All-back (λ (x : Item). is_below x.key ≡ false) (below e) rest a) in
+            let n = none_pass (λ (e : Entry). is_below e.key) es fails in
             rw (h, n.0, n.1) refl
       ]
 
   -- and so are the items of each child
-  pub children_cut : (es : List Entry) → IsCut (λ x. passes x.key) (flat_map below es)
-      → All (λ e. IsCut (λ x. passes x.key) (below e)) es
-  children_cut [] c = All-nil (λ e. IsCut (λ (x : Item). passes x.key) (below e))
-  children_cut (e ∷ es) c =
-      let parts = IsCut-parts (λ (x : Item). passes x.key) (below e) (flat_map below es) c in
-      All-cons (λ e. IsCut (λ (x : Item). passes x.key) (below e)) e es parts.0 (children_cut es parts.1)
+  pub children_partitioned : (es : List Entry) → IsPartitioned (λ x. is_below x.key) (flat_map below es)
+      → All (λ e. IsPartitioned (λ x. is_below x.key) (below e)) es
+  children_partitioned [] c = All-nil (λ e. IsPartitioned (λ (x : Item). is_below x.key) (below e))
+  children_partitioned (e ∷ es) c =
+      let parts = IsPartitioned-parts (λ (x : Item). is_below x.key) (below e) (flat_map below es) c in
+      All-cons (λ e. IsPartitioned (λ (x : Item). is_below x.key) (below e)) e es parts.0 (children_partitioned es parts.1)
 
   -- no item behind the entries that pass does
-  pub fail_behind : (es : List Entry) → AllTell es → IsCut (λ x. passes x.key) (flat_map below es)
-      → AllFail (flat_map below (drop (length (filter (λ e. passes e.key) es)) es))
-  fail_behind [] t c = All-nil (λ (x : Item). passes x.key ≡ false)
+  pub fail_behind : (es : List Entry) → AllTell es → IsPartitioned (λ x. is_below x.key) (flat_map below es)
+      → AllFail (flat_map below (drop (length (filter (λ e. is_below e.key) es)) es))
+  fail_behind [] t c = All-nil (λ (x : Item). is_below x.key ≡ false)
   fail_behind (e ∷ es) t c =
       let rest = flat_map below es in
       let others = All-tail (λ e. Tells e (below e)) e es t in
-      elim (cases_Bool (passes e.key)) [
+      elim (cases_Bool (is_below e.key)) [
         | inl h ↦
-            let parts = IsCut-parts (λ (x : Item). passes x.key) (below e) rest c in
+            let parts = IsPartitioned-parts (λ (x : Item). is_below x.key) (below e) rest c in
             rw h (fail_behind es others parts.1)
         | inr h ↦
             let a = items_fail e rest (All-head (λ e. Tells e (below e)) e es t) c h in
-            let fails = entries_fail es others (All-back (λ (x : Item). passes x.key ≡ false) (below e) rest a) in
-            let n = none_pass (λ (e : Entry). passes e.key) es fails in
+            let fails = entries_fail es others (All-back (λ (x : Item). is_below x.key ≡ false) (below e) rest a) in
+            let n = none_pass (λ (e : Entry). is_below e.key) es fails in
             rw (h, n.0) a
       ]
 
   -- the items of all entries that pass do, but for those of the last
-  pub pass_before : (es : List Entry) → AllTell es → IsCut (λ x. passes x.key) (flat_map below es)
-      → AllPass (flat_map below (take (length (filter (λ e. passes e.key) es) - 1) es))
-  pass_before [] t c = All-nil (λ (x : Item). passes x.key ≡ true)
+  pub pass_before : (es : List Entry) → AllTell es → IsPartitioned (λ x. is_below x.key) (flat_map below es)
+      → AllPass (flat_map below (take (length (filter (λ e. is_below e.key) es) - 1) es))
+  pass_before [] t c = All-nil (λ (x : Item). is_below x.key ≡ true)
   pass_before (e ∷ es) t c =
       let rest = flat_map below es in
       let others = All-tail (λ e. Tells e (below e)) e es t in
-      let parts = IsCut-parts (λ (x : Item). passes x.key) (below e) rest c in
-      elim (cases_Bool (passes e.key)) [
+      let parts = IsPartitioned-parts (λ (x : Item). is_below x.key) (below e) rest c in
+      elim (cases_Bool (is_below e.key)) [
         | inl h ↦
-            let n = length (filter (λ (e : Entry). passes e.key) es) in
+            let n = length (filter (λ (e : Entry). is_below e.key) es) in
             let less : suc n - 1 ≡ n = omega arith in
             rw (h, less) (one_more n refl (pass_before es others parts.1) parts.2 others)
         | inr h ↦
             let a = items_fail e rest (All-head (λ e. Tells e (below e)) e es t) c h in
-            let fails = entries_fail es others (All-back (λ (x : Item). passes x.key ≡ false) (below e) rest a) in
-            let k = none_pass (λ (e : Entry). passes e.key) es fails in
-            rw (h, k.0) (All-nil (λ (x : Item). passes x.key ≡ true))
+            let fails = entries_fail es others (All-back (λ (x : Item). is_below x.key ≡ false) (below e) rest a) in
+            let k = none_pass (λ (e : Entry). is_below e.key) es fails in
+            rw (h, k.0) (All-nil (λ (x : Item). is_below x.key ≡ true))
       ]
     where
-      one_more : (n : ℕ) → n ≡ length (filter (λ e. passes e.key) es)
-          → AllPass (flat_map below (take (length (filter (λ e. passes e.key) es) - 1) es))
+      one_more : (n : ℕ) → n ≡ length (filter (λ e. is_below e.key) es)
+          → AllPass (flat_map below (take (length (filter (λ e. is_below e.key) es) - 1) es))
           → AllPass (below e) ⊎ AllFail (flat_map below es) → AllTell es
           → AllPass (flat_map below (take n (e ∷ es)))
-      one_more zero k i w o = All-nil (λ (x : Item). passes x.key ≡ true)
+      one_more zero k i w o = All-nil (λ (x : Item). is_below x.key ≡ true)
       one_more (suc n) k i w o =
-          let less : length (filter (λ (e : Entry). passes e.key) es) - 1 ≡ n = omega arith in
+          let less : length (filter (λ (e : Entry). is_below e.key) es) - 1 ≡ n = omega arith in
           let later : AllPass (flat_map below (take n es)) =
           subst (λ m. AllPass (flat_map below (take m es))) less i in
           elim w [
             | inl a ↦
-                All-append (λ (x : Item). passes x.key ≡ true) (below e) (flat_map below (take n es)) a later
+                All-append (λ (x : Item). is_below x.key ≡ true) (below e) (flat_map below (take n es)) a later
             | inr b ↦
-                let z = none_pass (λ (e : Entry). passes e.key) es (entries_fail es o b) in
-                let l : length (filter (λ (e : Entry). passes e.key) es) ≡ 0 = ap length z.0 in
+                let z = none_pass (λ (e : Entry). is_below e.key) es (entries_fail es o b) in
+                let l : length (filter (λ (e : Entry). is_below e.key) es) ≡ 0 = ap length z.0 in
                 absurd (omega arith)
           ]
 
   -- no item behind the last entry that passes, or else behind the first entry, does
-  pub fail_behind_index : (es : List Entry) → AllTell es → IsCut (λ x. passes x.key) (flat_map below es)
-      → AllFail (flat_map below (drop (index_in passes es + 1) es))
+  pub fail_behind_index : (es : List Entry) → AllTell es → IsPartitioned (λ x. is_below x.key) (flat_map below es)
+      → AllFail (flat_map below (drop (index_in is_below es + 1) es))
   fail_behind_index es t c =
-      from_count (length (filter (λ (e : Entry). passes e.key) es)) es (fail_behind es t c)
+      from_count (length (filter (λ (e : Entry). is_below e.key) es)) es (fail_behind es t c)
     where
       from_count : (n : ℕ) (es : List Entry) → AllFail (flat_map below (drop n es))
           → AllFail (flat_map below (drop (n - 1 + 1) es))
       from_count zero [] a = a
-      from_count zero (e ∷ es) a = All-back (λ (x : Item). passes x.key ≡ false) (below e) (flat_map below es) a
+      from_count zero (e ∷ es) a = All-back (λ (x : Item). is_below x.key ≡ false) (below e) (flat_map below es) a
       from_count (suc n) es a = let same : suc n - 1 + 1 ≡ suc n = omega arith in rw same a
 
-  pub index_inside : (es : List Entry) → 1 ≤ length es → index_in passes es < length es
-  index_inside es some = let le = length-passing (λ (e : Entry). passes e.key) es in omega arith
+  pub index_inside : (es : List Entry) → 1 ≤ length es → index_in is_below es < length es
+  index_inside es some = let le = length-items_below (λ (e : Entry). is_below e.key) es in omega arith
 
 -- what a cut says of the node of a subtree above its leaves
-pub record IsWay {N : ℕ} (nodes : Arena (Node N)) (least height slot : ℕ) (passes : ℕ → Bool) : Type 0 where
+pub record IsWay {N : ℕ} (nodes : Arena (Node N)) (least height slot : ℕ) (is_below : ℕ → Bool) : Type 0 where
   -- the entries are cut by their keys
-  pub entries : IsCut (λ e. passes e.key) (entries_at nodes slot)
-  pub inside : index_in passes (entries_at nodes slot) < length (entries_at nodes slot)
+  pub entries : IsPartitioned (λ e. is_below e.key) (entries_at nodes slot)
+  pub inside : index_in is_below (entries_at nodes slot) < length (entries_at nodes slot)
   -- the entry that the probe finds
   pub entry : Entry
-  pub is : slice_get (entries_at nodes slot) (index_in passes (entries_at nodes slot)) ≡ Some entry
-  pub child : entry.child ≡ child_in passes (entries_at nodes slot)
+  pub is : slice_get (entries_at nodes slot) (index_in is_below (entries_at nodes slot)) ≡ Some entry
+  pub child : entry.child ≡ child_in is_below (entries_at nodes slot)
   pub kept : IsChild nodes least height (IsSubtree nodes least height) entry
-  pub cut : IsCut (λ x. passes x.key) (items_in nodes height entry.child)
+  pub partitioned : IsPartitioned (λ x. is_below x.key) (items_in nodes height entry.child)
   pub tell : All (λ e. Tells e (items_in nodes height e.child)) (entries_at nodes slot)
   -- all items of the children before it pass, and none of those behind it does
-  pub before : All (λ x. passes x.key ≡ true)
+  pub before : All (λ x. is_below x.key ≡ true)
       (flat_map (λ e. items_in nodes height e.child)
-      (take (index_in passes (entries_at nodes slot)) (entries_at nodes slot)))
-  pub behind : All (λ x. passes x.key ≡ false)
+      (take (index_in is_below (entries_at nodes slot)) (entries_at nodes slot)))
+  pub behind : All (λ x. is_below x.key ≡ false)
       (flat_map (λ e. items_in nodes height e.child)
-      (drop (index_in passes (entries_at nodes slot) + 1) (entries_at nodes slot)))
+      (drop (index_in is_below (entries_at nodes slot) + 1) (entries_at nodes slot)))
   pub items : items_in nodes (suc height) slot
       ≡ flat_map (λ e. items_in nodes height e.child)
-      (take (index_in passes (entries_at nodes slot)) (entries_at nodes slot))
+      (take (index_in is_below (entries_at nodes slot)) (entries_at nodes slot))
       ++ (items_in nodes height entry.child
       ++ flat_map (λ e. items_in nodes height e.child)
-      (drop (index_in passes (entries_at nodes slot) + 1) (entries_at nodes slot)))
+      (drop (index_in is_below (entries_at nodes slot) + 1) (entries_at nodes slot)))
 
-pub way : {N : ℕ} (nodes : Arena (Node N)) (least height slot : ℕ) (passes : ℕ → Bool)
-    → IsSubtree nodes least (suc height) slot → IsCut (λ x. passes x.key) (items_in nodes (suc height) slot)
-    → IsWay nodes least height slot passes
-way nodes least height slot passes s c =
+pub way : {N : ℕ} (nodes : Arena (Node N)) (least height slot : ℕ) (is_below : ℕ → Bool)
+    → IsSubtree nodes least (suc height) slot → IsPartitioned (λ x. is_below x.key) (items_in nodes (suc height) slot)
+    → IsWay nodes least height slot is_below
+way nodes least height slot is_below s c =
     let below = λ (e : Entry). items_in nodes height e.child in
     let es = entries_at nodes slot in
-    let i = index_in passes es in
-    let inside = index_inside passes below es s.1 in
+    let i = index_in is_below es in
+    let inside = index_inside is_below below es s.1 in
     let default : Entry = record { key = 0; child = 0; version = pos 0 } in
     let entry = get_or es i default in
     let is : slice_get es i ≡ Some entry = slice_get-get_or es i default inside in
     let tell = All-weaker (IsChild nodes least height (IsSubtree nodes least height))
     (λ (e : Entry). Tells e (items_in nodes height e.child)) (λ e k. k.tells) es s.2 in
     record {
-      entries = entries_cut passes below es tell c;
+      entries = entries_partitioned is_below below es tell c;
       inside = inside;
       entry = entry;
       is = is;
       child = rw is refl;
       kept = s.2 i default inside;
-      cut = children_cut passes below es c i default inside;
+      partitioned = children_partitioned is_below below es c i default inside;
       tell = tell;
-      before = pass_before passes below es tell c;
-      behind = fail_behind_index passes below es tell c;
+      before = pass_before is_below below es tell c;
+      behind = fail_behind_index is_below below es tell c;
       items = ap (flat_map below) (around_element es i default inside)
           ∙ flat_map-append below (take i es) (entry ∷ drop (i + 1) es);
     }

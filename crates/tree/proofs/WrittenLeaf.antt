@@ -9,11 +9,11 @@ use Rattle.std.specs.Prelude.{option_copied}
 use Rattle.keys.proofs.callers.SomeElement.{Any-first, Any-right}
 use Rattle.tree.specs.declared.entry.Entry.{Entry}
 use Rattle.tree.specs.Item.{Item, item_of}
-use Rattle.tree.specs.Overwrite.{IsOverwritten, IsPartOfCut, lets_pass_first}
-use Rattle.tree.specs.Path.{IsCut, passing, behind, between, first_key}
+use Rattle.tree.specs.Overwrite.{IsOverwritten, IsPartOfPartitioned, first_is_below}
+use Rattle.tree.specs.Path.{IsPartitioned, items_below, behind, between, first_key}
 use Rattle.tree.specs.Tree.{IsLast, ended_by}
 use Rattle.tree.specs.Walk.{IsRaised}
-use Rattle.tree.proofs.callers.Cuts.{none_fail, IsCut-parts}
+use Rattle.tree.proofs.callers.Partitions.{none_fail, IsPartitioned-parts}
 use Rattle.tree.proofs.Inserting.{ended_some, same_ends}
 use Rattle.tree.proofs.LeafChange.{parted}
 use Rattle.tree.proofs.Leaves.{IsLeaf, filter-items, last_passing}
@@ -29,30 +29,30 @@ leaf_alone p es = record {
 }
 
 -- A part of items that are cut is cut.
-pub part_cut : (p : ℕ → Bool) (items : List Item) → IsPartOfCut p items → IsCut (λ x. p x.key) items
-part_cut p items part =
+pub part_partitioned : (p : ℕ → Bool) (items : List Item) → IsPartOfPartitioned p items → IsPartitioned (λ x. p x.key) items
+part_partitioned p items part =
     let here = λ (x : Item). p x.key in
-    (IsCut-parts here items part.1 (IsCut-parts here part.0 (items ++ part.1) part.2).1).0
+    (IsPartitioned-parts here items part.1 (IsPartitioned-parts here part.0 (items ++ part.1) part.2).1).0
 
 -- Where so many entries pass, some item does.
 pub some_item : (p : ℕ → Bool) (es : List Entry) (n : ℕ) → 1 ≤ n → n ≡ length (filter (λ e. p e.key) es)
-    → passing p (map item_of es) ≢ []
+    → items_below p (map item_of es) ≢ []
 some_item p es n some count none =
     let front = filter (λ (e : Entry). p e.key) es in
     omega (arith, some, count, ap length (filter-items p es), length-map front item_of, ap length none)
 
 -- so many entries pass, and the items that do are theirs
-pub items_parted : (p : ℕ → Bool) (es : List Entry) (n : ℕ) → IsCut (λ e. p e.key) es
+pub items_parted : (p : ℕ → Bool) (es : List Entry) (n : ℕ) → IsPartitioned (λ e. p e.key) es
     → n ≡ length (filter (λ e. p e.key) es)
-    → (passing p (map item_of es) ≡ map item_of (take n es)) × (behind p (map item_of es) ≡ map item_of (drop n es))
-items_parted p es n cut count =
-    let parts = parted p es n cut count in (
+    → (items_below p (map item_of es) ≡ map item_of (take n es)) × (behind p (map item_of es) ≡ map item_of (drop n es))
+items_parted p es n partitioned count =
+    let parts = parted p es n partitioned count in (
       filter-items p es ∙ ap (map item_of) (sym parts.0),
       filter-items (λ key. not (p key)) es ∙ ap (map item_of) (sym parts.1),
     )
 
 module _ (p q : ℕ → Bool) (nested : (key : ℕ) → p key ≡ true → q key ≡ true) (es : List Entry) (begin end : ℕ)
-    (first_cut : IsCut (λ e. p e.key) es) (second_cut : IsCut (λ e. q e.key) es) (within : begin ≤ length es)
+    (first_bound : IsPartitioned (λ e. p e.key) es) (second_bound : IsPartitioned (λ e. q e.key) es) (within : begin ≤ length es)
     (begins : begin ≡ length (filter (λ e. p e.key) es)) (ends : end ≡ length (filter (λ e. q e.key) es)) where
   -- the entries between two cuts
   run_here : filter (λ e. q e.key) (drop begin es) ≡ drop begin (take end es)
@@ -60,8 +60,8 @@ module _ (p q : ℕ → Bool) (nested : (key : ℕ) → p key ≡ true → q key
       let there = λ (e : Entry). q e.key in
       let front = take begin es in
       let rest = drop begin es in
-      let from = (parted p es begin first_cut begins).0 in
-      let to = (parted q es end second_cut ends).0 in
+      let from = (parted p es begin first_bound begins).0 in
+      let to = (parted q es end second_bound ends).0 in
       let pass : All (λ (e : Entry). q e.key ≡ true) front =
       subst (All (λ (e : Entry). q e.key ≡ true)) (sym from)
       (All-weaker (λ (e : Entry). p e.key ≡ true) (λ (e : Entry). q e.key ≡ true) (λ e. nested e.key)
@@ -74,17 +74,17 @@ module _ (p q : ℕ → Bool) (nested : (key : ℕ) → p key ≡ true → q key
   -- and the items
   pub between_entries : between (Some p) (Some q) (map item_of es) ≡ map item_of (drop begin (take end es))
   between_entries =
-      between_is p q (map item_of es) ∙ ap (passing q) (items_parted p es begin first_cut begins).1
+      between_is p q (map item_of es) ∙ ap (items_below q) (items_parted p es begin first_bound begins).1
       ∙ filter-items q (drop begin es) ∙ ap (map item_of) run_here
 
   -- what becomes of the items where entries are put in place of those between the cuts
   pub replaced : (new now : List Entry) → now ≡ take begin es ++ (new ++ drop end es)
-      → map item_of now ≡ passing p (map item_of es) ++ (map item_of new ++ behind q (map item_of es))
+      → map item_of now ≡ items_below p (map item_of es) ++ (map item_of new ++ behind q (map item_of es))
   replaced new now now_is =
       ap (map item_of) now_is ∙ map-append item_of (take begin es) (new ++ drop end es)
       ∙ ap (λ xs. map item_of (take begin es) ++ xs) (map-append item_of new (drop end es))
-      ∙ ap₂ (λ xs ys. xs ++ (map item_of new ++ ys)) (sym (items_parted p es begin first_cut begins).0)
-      (sym (items_parted q es end second_cut ends).1)
+      ∙ ap₂ (λ xs ys. xs ++ (map item_of new ++ ys)) (sym (items_parted p es begin first_bound begins).0)
+      (sym (items_parted q es end second_bound ends).1)
 
 no_last : (xs : List Item) (x : Item) → xs ++ x ∷ [] ≢ []
 no_last [] x e = cc
@@ -94,14 +94,14 @@ no_last (y ∷ xs) x e = cc
 pub last_version : (q : ℕ → Bool) (es passed : List Entry) (lent : Option (Bor Entry)) (version otherwise : ℤ)
     (post : Bor Entry → Type 0) → passed ≡ filter (λ e. q e.key) es
     → option_copied lent ≡ slice_get passed (length passed - 1) → MatchOption lent (version ≡ otherwise) post
-    → ((e : Bor Entry) → post e → version ≡ e.now.version) → (x : Item) → IsLast x (passing q (map item_of es))
+    → ((e : Bor Entry) → post e → version ≡ e.now.version) → (x : Item) → IsLast x (items_below q (map item_of es))
     → version ≡ x.version
 last_version q es passed lent version otherwise post same is told says x ends =
     by_last lent told (last_passing q (map item_of es) [] [] es passed (option_copied lent) (leaf_alone q es) same is)
   where
     by_last : (lent : Option (Bor Entry)) → MatchOption lent (version ≡ otherwise) post
-        → MatchOption (option_copied lent) (passing q (map item_of es) ≡ [])
-        (λ e. IsLast (item_of e) (passing q (map item_of es))) → version ≡ x.version
+        → MatchOption (option_copied lent) (items_below q (map item_of es) ≡ [])
+        (λ e. IsLast (item_of e) (items_below q (map item_of es))) → version ≡ x.version
     by_last None told none = absurd (no_last ends.0 x (sym ends.1 ∙ none))
     by_last (Some e) told there =
         says e told
@@ -119,13 +119,13 @@ own_version items k d within =
 
 -- Where a run is written over that has an item before it, the first key stays, and the version of the first new item comes in.
 pub raised : (p q : ℕ → Bool) → ((key : ℕ) → p key ≡ true → q key ≡ true) → (first : Item) (second : ℕ) (ended : Bool)
-    (was now : List Item) → IsCut (λ x. p x.key) was → passing p was ≢ [] → passing q was ≢ []
+    (was now : List Item) → IsPartitioned (λ x. p x.key) was → items_below p was ≢ [] → items_below q was ≢ []
     → IsOverwritten p q first second None ended was now → IsRaised first.version was now
-raised p q nested first second ended was now cut some some_second written =
-    let end = ended_some (passing q was) some_second in
+raised p q nested first second ended was now partitioned some some_second written =
+    let end = ended_some (items_below q was) some_second in
     let x : Item = record { key = second; version = end.last.version } in
     let rest = first ∷ ended_by ended x ++ behind q was in
-    let now_is : now ≡ passing p was ++ rest = written end.last (end.front, end.is) in
+    let now_is : now ≡ items_below p was ++ rest = written end.last (end.front, end.is) in
     let Known : Item → Type 0 = λ x. Any (λ (w : Item). x.version ≡ w.version) was in
     let P : Item → Type 0 = λ x. (x.version ≡ first.version) ⊎ Known x in
     let own : All P was = All-weaker Known P (λ x k. inr k) was (own_version was) in
@@ -133,13 +133,13 @@ raised p q nested first second ended was now cut some some_second written =
     All-last Known end.front end.last
     (subst (All Known) end.is (All-filter (λ (x : Item). q x.key) Known was (own_version was))) in
     record {
-      first = ap (first_key None) now_is ∙ first_of_front (passing p was) rest (behind p was) some
-          ∙ ap (first_key None) (sym cut);
+      first = ap (first_key None) now_is ∙ first_of_front (items_below p was) rest (behind p was) some
+          ∙ ap (first_key None) (sym partitioned);
       there = subst (Any (λ (x : Item). x.version ≡ first.version)) (sym now_is)
-          (Any-right (λ (x : Item). x.version ≡ first.version) (passing p was) rest
+          (Any-right (λ (x : Item). x.version ≡ first.version) (items_below p was) rest
           (Any-first (λ (x : Item). x.version ≡ first.version) first (ended_by ended x ++ behind q was) refl));
       others = subst (All P) (sym now_is)
-          (All-append P (passing p was) rest (All-filter (λ (x : Item). p x.key) P was own)
+          (All-append P (items_below p was) rest (All-filter (λ (x : Item). p x.key) P was own)
           (All-cons P first (ended_by ended x ++ behind q was) (inl refl)
           (All-append P (ended_by ended x) (behind q was) (All-ended_by P ended x (inr last))
           (All-filter (λ (x : Item). not (q x.key)) P was own))));
@@ -161,28 +161,28 @@ module _ (q r : ℕ → Bool) (es : List Entry) (end : ℕ) (others : drop end e
 
   -- The next entry of the leaf tells whether the first key behind the second cut passes.
   pub ended_in_leaf : end < length es → ((e : Entry) → slice_get es end ≡ Some e → ended ≡ r e.key)
-      → ended ≡ lets_pass_first r (first_key otherwise (behind q (map item_of es)))
+      → ended ≡ first_is_below r (first_key otherwise (behind q (map item_of es)))
   ended_in_leaf within tells = by_entries es within refl
     where
       by_entries : (xs : List Entry) → end < length xs → xs ≡ es
-          → ended ≡ lets_pass_first r (first_key otherwise (behind q (map item_of es)))
+          → ended ≡ first_is_below r (first_key otherwise (behind q (map item_of es)))
       by_entries [] lt same = absurd (omega arith)
       by_entries (d ∷ xs) lt same =
           let e = get_or es end d in
           let key : first_key otherwise (behind q (map item_of es)) ≡ Some e.key =
           ap (first_key otherwise) behind_end
           ∙ at_drop_more (λ ys. first_key otherwise (map item_of ys)) es end d within in
-          tells e (slice_get-get_or es end d within) ∙ sym (ap (lets_pass_first r) key)
+          tells e (slice_get-get_or es end d within) ∙ sym (ap (first_is_below r) key)
 
   -- Where there is none, the key behind the leaf does.
   pub ended_behind : length es ≤ end → (post : ℕ → Type 0) → MatchOption otherwise (ended ≡ false) post
       → ((key : ℕ) → post key → ended ≡ r key)
-      → ended ≡ lets_pass_first r (first_key otherwise (behind q (map item_of es)))
+      → ended ≡ first_is_below r (first_key otherwise (behind q (map item_of es)))
   ended_behind all post tested says =
       let key : first_key otherwise (behind q (map item_of es)) ≡ otherwise =
       ap (first_key otherwise) behind_end ∙ at_drop_all (λ ys. first_key otherwise (map item_of ys)) es end all in
-      by_key otherwise tested ∙ sym (ap (lets_pass_first r) key)
+      by_key otherwise tested ∙ sym (ap (first_is_below r) key)
     where
-      by_key : (key : Option ℕ) → MatchOption key (ended ≡ false) post → ended ≡ lets_pass_first r key
+      by_key : (key : Option ℕ) → MatchOption key (ended ≡ false) post → ended ≡ first_is_below r key
       by_key None none = none
       by_key (Some key) there = says key there

@@ -1,5 +1,5 @@
 -- lemmas that proofs of the crates above may cite
 pub mod Lists
 pub mod Times
-pub mod Cuts
-pub mod Hints
+pub mod Partitions
+pub mod Heads

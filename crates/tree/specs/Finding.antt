@@ -1,43 +1,43 @@
 -- What a search in a node goes by, and what it finds. This project's own.
 use Rattle.std.specs.Prelude.{◌≡◌, ◌≢◌, ◌≤◌, ◌<◌, ℕ, Bool, List, filter, length, get_or, Option, None, IfSome}
 use Rattle.tree.specs.declared.node.Node.{Node}
-use Rattle.tree.specs.declared.node.hints.Step.{Step}
-use Rattle.tree.specs.Hints.{Hint, KeyBytes, IsHeadFor, IsHinted, KnowsAt}
-use Rattle.tree.specs.Node.{entries_of, hint_of}
-use Rattle.tree.specs.Path.{IsCut, index_in}
+use Rattle.tree.specs.declared.node.heads.Step.{Step}
+use Rattle.tree.specs.Heads.{KeyHeads, KeyBytes, IsTargetHead, AreHeads, IsPrefixLenAt}
+use Rattle.tree.specs.Node.{entries_of, key_heads_of}
+use Rattle.tree.specs.Path.{IsPartitioned, index_in}
 
 -- the head of what is looked for, if there is one: then that begins as all keys of the node do
-abbrev pub HasHead : KeyBytes → List ℕ → Option ℕ → Hint → Type 0
-HasHead bytes sought head hint = IfSome head (λ d. IsHeadFor bytes hint sought d)
+abbrev pub HasHead : KeyBytes → List ℕ → Option ℕ → KeyHeads → Type 0
+HasHead bytes target head key_heads = IfSome head (λ d. IsTargetHead bytes key_heads target d)
 
 -- That, where the first key and what is looked for are known to begin with so many bytes in common. It is missing only where the
 -- first key may be empty, or where they don't begin as all keys do.
-pub record IsOwn (bytes : KeyBytes) (sought : List ℕ) (known : ℕ) (own : Option ℕ) (hint : Hint) : Type 0 where
-  pub head : HasHead bytes sought own hint
-  pub none : own ≡ None → get_or hint.heads 0 0 ≢ 0 → known < hint.skip
+pub record IsOwnHead (bytes : KeyBytes) (target : List ℕ) (known : ℕ) (own : Option ℕ) (key_heads : KeyHeads) : Type 0 where
+  pub head : HasHead bytes target own key_heads
+  pub none : own ≡ None → get_or key_heads.heads 0 0 ≢ 0 → known < key_heads.prefix_len
 
 module _ {N : ℕ} where
   -- a node that has entries, of which those that pass come first, and that knows the bytes of their keys
-  pub record CanFind (bytes : KeyBytes) (passes : ℕ → Bool) (node : Node N) : Type 0 where
-    pub hinted : IsHinted bytes (hint_of node)
-    pub cut : IsCut (λ e. passes e.key) (entries_of node)
+  pub record CanFind (bytes : KeyBytes) (is_below : ℕ → Bool) (node : Node N) : Type 0 where
+    pub headed : AreHeads bytes (key_heads_of node)
+    pub partitioned : IsPartitioned (λ e. is_below e.key) (entries_of node)
     pub some : 0 < length (entries_of node)
 
   -- how many of the entries pass
-  pub record IsCount (passes : ℕ → Bool) (node : Node N) (count : ℕ) : Type 0 where
+  pub record IsLowerBound (is_below : ℕ → Bool) (node : Node N) (count : ℕ) : Type 0 where
     pub within : count ≤ length (entries_of node)
-    pub count_is : count ≡ length (filter (λ e. passes e.key) (entries_of node))
+    pub count_is : count ≡ length (filter (λ e. is_below e.key) (entries_of node))
 
   -- the last entry that passes, or else the first one, and what is known of its key
-  pub record IsStep (bytes : KeyBytes) (passes : ℕ → Bool) (sought : List ℕ) (node : Node N) (step : Step) : Type 0 where
-    pub index_is : step.index ≡ index_in passes (entries_of node)
+  pub record IsStep (bytes : KeyBytes) (is_below : ℕ → Bool) (target : List ℕ) (node : Node N) (step : Step) : Type 0 where
+    pub index_is : step.index ≡ index_in is_below (entries_of node)
     pub within : step.index < length (entries_of node)
-    pub knows : KnowsAt bytes passes sought step.known (entries_of node) step.index
+    pub knows : IsPrefixLenAt bytes is_below target step.common_prefix_len (entries_of node) step.index
 
   -- The entries that have a head stand between these two, from an index on.
   pub record AreTied (node : Node N) (head from first end : ℕ) : Type 0 where
     pub first_is : from ≤ first
     pub ordered : first ≤ end
     pub within : end ≤ length (entries_of node)
-    pub below : (index : ℕ) → from ≤ index → index < first → get_or (hint_of node).heads index 0 < head
-    pub above : end < length (entries_of node) → head < get_or (hint_of node).heads end 0
+    pub below : (index : ℕ) → from ≤ index → index < first → get_or (key_heads_of node).heads index 0 < head
+    pub above : end < length (entries_of node) → head < get_or (key_heads_of node).heads end 0

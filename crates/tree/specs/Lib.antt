@@ -1,6 +1,6 @@
 -- In the order in which one reads them aloud.
 pub mod Item
-pub mod Hints
+pub mod Heads
 pub mod Node
 pub mod Subtree
 pub mod Path
@@ -12,4 +12,4 @@ pub mod Replace
 pub mod Rebalancing
 pub mod Walk
 pub mod Overwrite
-pub mod Thin
+pub mod Expire

@@ -4,7 +4,7 @@ use Rattle.std.specs.FinMap as finite
 use Rattle.arena.specs.Arena.{Arena, header_at}
 use Rattle.tree.specs.declared.entry.Entry.{Entry}
 use Rattle.tree.specs.declared.node.Node.{Node}
-use Rattle.tree.specs.Hints.{Hint}
+use Rattle.tree.specs.Heads.{KeyHeads}
 use Rattle.tree.specs.Item.{Item, item_of}
 
 -- its entries
@@ -25,13 +25,13 @@ abbrev pub node_heads : {N : ℕ} → Node N → List ℕ
 node_heads node = node.heads
 
 -- what a node knows of the bytes of its keys
-abbrev pub hint_of : {N : ℕ} → Node N → Hint
-hint_of node = record { keys = keys_of (entries_of node); skip = node.skip; heads = take node.len (node_heads node) }
+abbrev pub key_heads_of : {N : ℕ} → Node N → KeyHeads
+key_heads_of node = record { keys = keys_of (entries_of node); prefix_len = node.prefix_len; heads = take node.len (node_heads node) }
 
 -- what each node knows
-abbrev pub hints_of : {N : ℕ} → Arena (Node N) → ℕ → Option Hint
-hints_of nodes slot = option_map hint_of (header_at nodes slot)
+abbrev pub all_heads_of : {N : ℕ} → Arena (Node N) → ℕ → Option KeyHeads
+all_heads_of nodes slot = option_map key_heads_of (header_at nodes slot)
 
 -- the same as a list
-abbrev pub hint_list : {N : ℕ} → Arena (Node N) → List (ℕ × Hint)
-hint_list nodes = map (λ e. (e.0, hint_of e.1.header)) (finite.entries nodes.records)
+abbrev pub heads_list : {N : ℕ} → Arena (Node N) → List (ℕ × KeyHeads)
+heads_list nodes = map (λ e. (e.0, key_heads_of e.1.header)) (finite.entries nodes.records)

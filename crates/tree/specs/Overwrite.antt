@@ -4,15 +4,15 @@ use Rattle.std.proofs.Common.{ap, sym, subst, ◌∙◌, append_assoc}
 use Rattle.tree.specs.declared.overwrite.Written.{Written}
 use Rattle.tree.specs.declared.overwrite.Written.TheVariants.{Partly, Whole}
 use Rattle.tree.specs.Item.{Item}
-use Rattle.tree.specs.Path.{IsCut, passing, behind, between, first_key}
+use Rattle.tree.specs.Path.{IsPartitioned, items_below, behind, between, first_key}
 use Rattle.tree.specs.Tree.{IsLast, ended_by}
 
 -- Items once written over: the first of the new ones comes in place of those from one cut to another. A second one has the version
 -- given, or that of the last item before the other cut, unless the run is ended already.
 abbrev pub IsOverwritten : (ℕ → Bool) → (ℕ → Bool) → Item → ℕ → Option ℤ → Bool → List Item → List Item → Type 0
 IsOverwritten from to first second given ended was now =
-    (last : Item) → IsLast last (passing to was)
-    → now ≡ passing from was
+    (last : Item) → IsLast last (items_below to was)
+    → now ≡ items_below from was
     ++ (first ∷ ended_by ended (record { key = second; version = unwrap_or given last.version }) ++ behind to was)
 
 -- how many items come in place of the run
@@ -22,42 +22,42 @@ put_of (Whole true) = 1
 put_of (Whole false) = 2
 
 -- Items that are a part of others, which are cut.
-abbrev pub IsPartOfCut : (ℕ → Bool) → List Item → Type 0
-IsPartOfCut passes part = (front back : List Item) × IsCut (λ x. passes x.key) (front ++ (part ++ back))
+abbrev pub IsPartOfPartitioned : (ℕ → Bool) → List Item → Type 0
+IsPartOfPartitioned is_below part = (front back : List Item) × IsPartitioned (λ x. is_below x.key) (front ++ (part ++ back))
 
 -- A part of such items is one too.
-pub part_of_part : (passes : ℕ → Bool) (before items behind : List Item) → IsPartOfCut passes (before ++ (items ++ behind))
-    → IsPartOfCut passes items
-part_of_part passes before items behind part =
+pub part_of_part : (is_below : ℕ → Bool) (before items behind : List Item) → IsPartOfPartitioned is_below (before ++ (items ++ behind))
+    → IsPartOfPartitioned is_below items
+part_of_part is_below before items behind part =
     let front = part.0 in
     let back = part.1 in
     let regrouped : front ++ ((before ++ (items ++ behind)) ++ back) ≡ (front ++ before) ++ (items ++ (behind ++ back)) =
     ap (λ xs. front ++ xs) (append_assoc before (items ++ behind) back)
     ∙ ap (λ xs. front ++ (before ++ xs)) (append_assoc items behind back)
     ∙ sym (append_assoc front before (items ++ (behind ++ back))) in
-    (front ++ before, behind ++ back, subst (IsCut (λ x. passes x.key)) regrouped part.2)
+    (front ++ before, behind ++ back, subst (IsPartitioned (λ x. is_below x.key)) regrouped part.2)
 
 -- there is such a key, and it passes
-abbrev pub lets_pass_first : (ℕ → Bool) → Option ℕ → Bool
-lets_pass_first passes None = false
-lets_pass_first passes (Some key) = passes key
+abbrev pub first_is_below : (ℕ → Bool) → Option ℕ → Bool
+first_is_below is_below None = false
+first_is_below is_below (Some key) = is_below key
 
 -- The items of a leaf, of which the run is written over: the item before the run is there, or none stands before the leaf's.
 pub record GivesWhole (from to past : ℕ → Bool) (first : Item) (second : ℕ) (given : Option ℤ) (ended : Bool) (run : List Item) (is_first : Bool)
     (next : Option ℕ) (was now : List Item) : Type 0 where
-  pub there : (passing from was ≢ []) ⊎ IsTrue is_first
-  pub some : passing to was ≢ []
+  pub there : (items_below from was ≢ []) ⊎ IsTrue is_first
+  pub some : items_below to was ≢ []
   pub run_is : run ≡ between (Some from) (Some to) was
-  pub ended_is : ended ≡ lets_pass_first past (first_key next (behind to was))
+  pub ended_is : ended ≡ first_is_below past (first_key next (behind to was))
   pub written : IsOverwritten from to first second given ended was now
 
 -- The items of a leaf, of which the run's are taken out: no item before the run is among them.
 pub record GivesPart (from to : ℕ → Bool) (last : ℤ) (run : List Item) (is_first : Bool) (was now : List Item) : Type 0 where
-  pub none : passing from was ≡ []
-  pub run_is : run ≡ passing to was
+  pub none : items_below from was ≡ []
+  pub run_is : run ≡ items_below to was
   pub rest : now ≡ behind to was
   pub last_is : (x : Item) → IsLast x run → last ≡ x.version
-  pub some : IsTrue is_first → passing to was ≡ []
+  pub some : IsTrue is_first → items_below to was ≡ []
 
 -- either of them
 abbrev pub GivesWritten : (ℕ → Bool) → (ℕ → Bool) → (ℕ → Bool) → Item → ℕ → Option ℤ → Written → List Item → Bool → Option ℕ
@@ -79,8 +79,8 @@ pub record OverwritesPart (from to : ℕ → Bool) (last : ℤ) (run was now : L
   pub some : run ≢ []
   pub run_is : between (Some from) (Some to) was ≡ kept ++ run
   pub last_is : (x : Item) → IsLast x run → last ≡ x.version
-  pub now_is : now ≡ passing from was ++ (kept ++ behind to was)
-  pub first : passing from was ++ kept ≢ []
+  pub now_is : now ≡ items_below from was ++ (kept ++ behind to was)
+  pub first : items_below from was ++ kept ≢ []
 
 -- either of them
 abbrev pub Overwrites : (ℕ → Bool) → (ℕ → Bool) → (ℕ → Bool) → Item → ℕ → Option ℤ → Written → List Item → List Item → List Item → Type 0

@@ -8,15 +8,15 @@ use Rattle.tree.specs.Item.{Item}
 use Rattle.tree.specs.Subtree.{entries_at, items_in}
 
 -- those that pass come first
-abbrev pub IsCut : {X : Type 0} → (X → Bool) → List X → Type 0
-IsCut passes xs = xs ≡ filter passes xs ++ filter (λ x. not (passes x)) xs
+abbrev pub IsPartitioned : {X : Type 0} → (X → Bool) → List X → Type 0
+IsPartitioned is_below xs = xs ≡ filter is_below xs ++ filter (λ x. not (is_below x)) xs
 
 -- the items whose keys pass, and the others
-abbrev pub passing : (ℕ → Bool) → List Item → List Item
-passing passes items = filter (λ x. passes x.key) items
+abbrev pub items_below : (ℕ → Bool) → List Item → List Item
+items_below is_below items = filter (λ x. is_below x.key) items
 
 abbrev pub behind : (ℕ → Bool) → List Item → List Item
-behind passes items = filter (λ x. not (passes x.key)) items
+behind is_below items = filter (λ x. not (is_below x.key)) items
 
 -- the key of the first of them, or the one given if there is none
 abbrev pub first_key : Option ℕ → List Item → Option ℕ
@@ -24,47 +24,47 @@ first_key otherwise [] = otherwise
 first_key otherwise (x ∷ xs) = Some x.key
 
 -- the cut from which items are looked at: none passes where it is missing
-abbrev pub from_cut : Option (ℕ → Bool) → ℕ → Bool
-from_cut from = unwrap_or from (λ _. false)
+abbrev pub below_from : Option (ℕ → Bool) → ℕ → Bool
+below_from from = unwrap_or from (λ _. false)
 
 -- the cut to which they are: all pass where it is missing
-abbrev pub to_cut : Option (ℕ → Bool) → ℕ → Bool
-to_cut to = unwrap_or to (λ _. true)
+abbrev pub below_to : Option (ℕ → Bool) → ℕ → Bool
+below_to to = unwrap_or to (λ _. true)
 
 -- the items from one cut to another, of which either may be missing
 abbrev pub between : Option (ℕ → Bool) → Option (ℕ → Bool) → List Item → List Item
-between from to items = filter (λ x. not (from_cut from x.key) && to_cut to x.key) items
+between from to items = filter (λ x. not (below_from from x.key) && below_to to x.key) items
 
 -- the items before the second cut, of those before the first one the last alone
 abbrev pub from_last : (ℕ → Bool) → Option (ℕ → Bool) → List Item → List Item
-from_last from to items = drop (length (passing from items) - 1) (filter (λ x. to_cut to x.key) items)
+from_last from to items = drop (length (items_below from items) - 1) (filter (λ x. below_to to x.key) items)
 
 -- the index of the last entry that passes, or of the first one
 abbrev pub index_in : (ℕ → Bool) → List Entry → ℕ
-index_in passes entries = length (filter (λ e. passes e.key) entries) - 1
+index_in is_below entries = length (filter (λ e. is_below e.key) entries) - 1
 
 -- its child
 abbrev pub child_in : (ℕ → Bool) → List Entry → ℕ
-child_in passes entries = unwrap_or (option_map (λ e. e.child) (slice_get entries (index_in passes entries))) 0
+child_in is_below entries = unwrap_or (option_map (λ e. e.child) (slice_get entries (index_in is_below entries))) 0
 
 module _ {N : ℕ} where
   -- the slot of the leaf
   abbrev pub leaf_in : Arena (Node N) → ℕ → ℕ → (ℕ → Bool) → ℕ
-  leaf_in nodes zero slot passes = slot
-  leaf_in nodes (suc height) slot passes = leaf_in nodes height (child_in passes (entries_at nodes slot)) passes
+  leaf_in nodes zero slot is_below = slot
+  leaf_in nodes (suc height) slot is_below = leaf_in nodes height (child_in is_below (entries_at nodes slot)) is_below
 
   -- the items before the leaf's
   abbrev pub before_leaf : Arena (Node N) → ℕ → ℕ → (ℕ → Bool) → List Item
-  before_leaf nodes zero slot passes = []
-  before_leaf nodes (suc height) slot passes =
+  before_leaf nodes zero slot is_below = []
+  before_leaf nodes (suc height) slot is_below =
       let entries = entries_at nodes slot in
-      flat_map (λ e. items_in nodes height e.child) (take (index_in passes entries) entries)
-      ++ before_leaf nodes height (child_in passes entries) passes
+      flat_map (λ e. items_in nodes height e.child) (take (index_in is_below entries) entries)
+      ++ before_leaf nodes height (child_in is_below entries) is_below
 
   -- the items behind the leaf's
   abbrev pub behind_leaf : Arena (Node N) → ℕ → ℕ → (ℕ → Bool) → List Item
-  behind_leaf nodes zero slot passes = []
-  behind_leaf nodes (suc height) slot passes =
+  behind_leaf nodes zero slot is_below = []
+  behind_leaf nodes (suc height) slot is_below =
       let entries = entries_at nodes slot in
-      behind_leaf nodes height (child_in passes entries) passes
-      ++ flat_map (λ e. items_in nodes height e.child) (drop (index_in passes entries + 1) entries)
+      behind_leaf nodes height (child_in is_below entries) is_below
+      ++ flat_map (λ e. items_in nodes height e.child) (drop (index_in is_below entries + 1) entries)

@@ -5,8 +5,8 @@ use Rattle.std.specs.FinMap as map_of
 use Rattle.arena.specs.Arena.{Arena, IsLive, spare_of}
 use Rattle.tree.specs.declared.entry.Entry.{Entry}
 use Rattle.tree.specs.declared.node.Node.{Node}
-use Rattle.tree.specs.Hints.{AreHinted, IsKnown, KeyBytes}
-use Rattle.tree.specs.Node.{hints_of, keys_of}
+use Rattle.tree.specs.Heads.{AllAreHeads, IsKnown, KeyBytes}
+use Rattle.tree.specs.Node.{all_heads_of, keys_of}
 use Rattle.tree.specs.Replace.{child_at, slot_taken, slots_with, Changes, IsFamily, IsFamilyAt, IsKeyless}
 use Rattle.tree.specs.Subtree.{entries_at, slots_in, IsSubtree}
 use Rattle.tree.specs.Tree.{least_of}
@@ -22,7 +22,7 @@ module _ {N : ℕ} where
     pub within : to ≤ length (entries_at nodes slot)
     pub few_new : 2 * length new ≤ N
     pub many : N < from + length new + (length (entries_at nodes slot) - to)
-    pub hinted : AreHinted bytes (hints_of nodes)
+    pub headed : AllAreHeads bytes (all_heads_of nodes)
     pub known : All (IsKnown bytes) (keys_of new)
 
   -- A node is stored at a slot, and its right neighbour, if any, at one that was spare.
@@ -31,7 +31,7 @@ module _ {N : ℕ} where
     pub live_added : IfSome added (λ s. IsLive new s)
     pub changes : Changes old new (slot ∷ []) (slot ∷ slot_taken added)
     pub taken : spare_of old 0 ≤ spare_of new 0 + 1
-    pub hinted : AreHinted bytes (hints_of new)
+    pub headed : AllAreHeads bytes (all_heads_of new)
 
   -- The node at a slot, of which the child at an index was split from the one that is added.
   pub record CanInsertChild (bytes : KeyBytes) (nodes : Arena (Node N)) (slot index added : ℕ) : Type 0 where
@@ -42,7 +42,7 @@ module _ {N : ℕ} where
     pub some_added : 0 < length (entries_at nodes added)
     pub keyless : IsKeyless nodes
     pub room : 0 < spare_of nodes 0
-    pub hinted : AreHinted bytes (hints_of nodes)
+    pub headed : AllAreHeads bytes (all_heads_of nodes)
 
   -- likewise the entries of a node
   pub record CanInsertEntry (nodes : Arena (Node N)) (entries : List Entry) (index added : ℕ) : Type 0 where
@@ -61,7 +61,7 @@ module _ {N : ℕ} where
     pub several : 2 ≤ length (entries_at nodes slot)
     pub keyless : IsKeyless nodes
     pub family : (height : ℕ) × IsFamilyAt nodes (least_of N) height slot index
-    pub hinted : AreHinted bytes (hints_of nodes)
+    pub headed : AllAreHeads bytes (all_heads_of nodes)
 
   -- likewise the entries of a node
   pub record CanRebalanceIn (bytes : KeyBytes) (nodes : Arena (Node N)) (entries : List Entry) (index : ℕ) : Type 0 where
@@ -70,7 +70,7 @@ module _ {N : ℕ} where
     pub several : 2 ≤ length entries
     pub keyless : IsKeyless nodes
     pub family : (height : ℕ) × IsFamily nodes (least_of N) height entries index (index + 1)
-    pub hinted : AreHinted bytes (hints_of nodes)
+    pub headed : AllAreHeads bytes (all_heads_of nodes)
 
   -- the entries of a node, of which the child at an index and the one behind it are merged, or share their entries evenly
   pub record CanMerge (bytes : KeyBytes) (nodes : Arena (Node N)) (entries : List Entry) (index : ℕ) : Type 0 where
@@ -80,7 +80,7 @@ module _ {N : ℕ} where
         ≤ length (entries_at nodes (child_at entries index)) + length (entries_at nodes (child_at entries (index + 1)))
     pub keyless : IsKeyless nodes
     pub family : (height : ℕ) × IsFamily nodes (least_of N) height entries index (index + 2)
-    pub hinted : AreHinted bytes (hints_of nodes)
+    pub headed : AllAreHeads bytes (all_heads_of nodes)
 
   -- the nodes of two slots
   pub record AreTwo (bytes : KeyBytes) (nodes : Arena (Node N)) (first second : ℕ) : Type 0 where
@@ -88,13 +88,13 @@ module _ {N : ℕ} where
     pub live_second : IsLive nodes second
     pub apart : first ≢ second
     pub keyless : IsKeyless nodes
-    pub hinted : AreHinted bytes (hints_of nodes)
+    pub headed : AllAreHeads bytes (all_heads_of nodes)
 
   -- The entries of a node that was made right: there is one less at most. No spare slot was taken.
   pub record LosesOneAtMost (bytes : KeyBytes) (old new : Arena (Node N)) (was now : List Entry) : Type 0 where
     pub few_less : length was ≤ length now + 1
     pub spare : spare_of old 0 ≤ spare_of new 0
-    pub hinted : AreHinted bytes (hints_of new)
+    pub headed : AllAreHeads bytes (all_heads_of new)
 
   -- a root and the right neighbour that it was split from
   pub record CanGrow (bytes : KeyBytes) (nodes : Arena (Node N)) (height slot added : ℕ) : Type 0 where
@@ -108,7 +108,7 @@ module _ {N : ℕ} where
     pub linked : map_of.len nodes.records ≡ length (slots_with nodes height slot (Some added))
     pub keyless : IsKeyless nodes
     pub room : 0 < spare_of nodes 0
-    pub hinted : AreHinted bytes (hints_of nodes)
+    pub headed : AllAreHeads bytes (all_heads_of nodes)
 
   -- a root that may have a single child
   pub record CanShrink (nodes : Arena (Node N)) (height slot : ℕ) : Type 0 where

@@ -7,7 +7,7 @@ use Rattle.std.specs.Ordering.{nat_cmp}
 use Rattle.arena.specs.Arena.{Arena, spare_of}
 use Rattle.tree.specs.declared.node.Node.{Node}
 use Rattle.tree.specs.Item.{Item}
-use Rattle.tree.specs.Hints.{Hint}
+use Rattle.tree.specs.Heads.{KeyHeads}
 use Rattle.tree.specs.Subtree.{entries_at, items_in, slots_in, IsSubtree}
 use Rattle.tree.specs.Replace.{IsKeyless}
 
@@ -18,15 +18,15 @@ pub record Items : Type 0 where
   -- for how many items nodes are reserved
   pub room : ℕ
   -- what its nodes know of the bytes of keys, each by its slot
-  pub hints : List (ℕ × Hint)
+  pub all_heads : List (ℕ × KeyHeads)
 
 -- what the node at a slot knows
-abbrev pub hints_in : Items → ℕ → Option Hint
-hints_in tree slot = find nat_cmp slot tree.hints
+abbrev pub tree_heads : Items → ℕ → Option KeyHeads
+tree_heads tree slot = find nat_cmp slot tree.all_heads
 
 -- each key of which a node knows is that of an item
 abbrev pub KnowItems : Items → Type 0
-KnowItems tree = (s : ℕ) → IfSome (hints_in tree s) (λ hint. All (λ key. Contains (map (λ x. x.key) tree.items) key) hint.keys)
+KnowItems tree = (s : ℕ) → IfSome (tree_heads tree s) (λ key_heads. All (λ key. Contains (map (λ x. x.key) tree.items) key) key_heads.keys)
 
 -- the last of a list
 abbrev pub IsLast : {X : Type 0} → X → List X → Type 0
@@ -37,16 +37,16 @@ abbrev pub ended_by : Bool → Item → List Item
 ended_by ended item = if ended then [] else item ∷ []
 
 -- The items that stay of a run. One goes if its version and its predecessor's are below the edge.
-abbrev pub thin : ℤ → ℤ → List Item → List Item
-thin edge before [] = []
-thin edge before (x ∷ xs) =
-    if int_lt before edge && int_lt x.version edge then thin edge x.version xs else x ∷ thin edge x.version xs
+abbrev pub unexpired : ℤ → ℤ → List Item → List Item
+unexpired edge before [] = []
+unexpired edge before (x ∷ xs) =
+    if int_lt before edge && int_lt x.version edge then unexpired edge x.version xs else x ∷ unexpired edge x.version xs
 
 -- those that go, in order
-abbrev pub gone : ℤ → ℤ → List Item → List Item
-gone edge before [] = []
-gone edge before (x ∷ xs) =
-    if int_lt before edge && int_lt x.version edge then x ∷ gone edge x.version xs else gone edge x.version xs
+abbrev pub expired : ℤ → ℤ → List Item → List Item
+expired edge before [] = []
+expired edge before (x ∷ xs) =
+    if int_lt before edge && int_lt x.version edge then x ∷ expired edge x.version xs else expired edge x.version xs
 
 -- the least number of entries of a node that isn't the root
 abbrev pub least_of : ℕ → ℕ

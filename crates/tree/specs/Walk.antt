@@ -5,10 +5,10 @@ use Rattle.arena.specs.Arena.{Arena, spare_of}
 use Rattle.tree.specs.declared.node.Node.{Node}
 use Rattle.tree.specs.declared.walk.Outcome.{Outcome}
 use Rattle.tree.specs.declared.walk.Outcome.TheVariants.{Same, Raised, Changed, Split}
-use Rattle.tree.specs.Hints.{KeyBytes, AreHinted, KnowsAt}
+use Rattle.tree.specs.Heads.{KeyBytes, AllAreHeads, IsPrefixLenAt}
 use Rattle.tree.specs.Item.{Item}
-use Rattle.tree.specs.Node.{hints_of}
-use Rattle.tree.specs.Path.{IsCut, first_key}
+use Rattle.tree.specs.Node.{all_heads_of}
+use Rattle.tree.specs.Path.{IsPartitioned, first_key}
 use Rattle.tree.specs.Replace.{slots_with, Changes, IsKeyless}
 use Rattle.tree.specs.Subtree.{entries_at, items_in, slots_in, IsSubtree}
 use Rattle.tree.specs.Tree.{least_of, IsRooted}
@@ -28,12 +28,12 @@ pub record IsRaised (version : ℤ) (was now : List Item) : Type 0 where
 
 -- An item that passes stands among them, or none stands before them.
 abbrev pub IsFoundAmong : (ℕ → Bool) → List Item → List Item → Type 0
-IsFoundAmong passes before items = (before ≡ []) ⊎ Any (λ x. passes x.key ≡ true) items
+IsFoundAmong is_below before items = (before ≡ []) ⊎ Any (λ x. is_below x.key ≡ true) items
 
 -- Items of which those of one leaf were changed: the leaf that has the last item that passes, or else the first one. What is
 -- given of the leaf's is a relation of four: whether no item stands before them, the key of the first item behind them, what
 -- they were, and what they are.
-pub record IsChangedWithin (passes : ℕ → Bool) (Gives : Bool → Option ℕ → List Item → List Item → Type 0) (is_first : Bool)
+pub record IsChangedWithin (is_below : ℕ → Bool) (Gives : Bool → Option ℕ → List Item → List Item → Type 0) (is_first : Bool)
     (next : Option ℕ) (was now : List Item) : Type 0 where
   pub before : List Item
   pub leaf : List Item
@@ -41,9 +41,9 @@ pub record IsChangedWithin (passes : ℕ → Bool) (Gives : Bool → Option ℕ 
   pub behind : List Item
   pub was_is : was ≡ before ++ (leaf ++ behind)
   pub now_is : now ≡ before ++ (changed ++ behind)
-  pub passing : All (λ x. passes x.key ≡ true) before
-  pub failing : All (λ x. passes x.key ≡ false) behind
-  pub found : IsFoundAmong passes before leaf
+  pub items_below : All (λ x. is_below x.key ≡ true) before
+  pub failing : All (λ x. is_below x.key ≡ false) behind
+  pub found : IsFoundAmong is_below before leaf
   -- whether no item stands before the leaf's
   pub first : Bool
   pub first_is : IsTrue first ↔ (IsTrue is_first × (before ≡ []))
@@ -62,11 +62,11 @@ module _ {N : ℕ} where
     pub room : height < spare_of nodes 0
 
   -- What is known of the way to a subtree, where something is looked for.
-  pub record CanSearch (bytes : KeyBytes) (passes : ℕ → Bool) (sought : List ℕ) (nodes : Arena (Node N)) (height slot : ℕ)
+  pub record CanSearch (bytes : KeyBytes) (is_below : ℕ → Bool) (target : List ℕ) (nodes : Arena (Node N)) (height slot : ℕ)
       (shared : Option ℕ) : Type 0 where
-    pub cut : IsCut (λ x. passes x.key) (items_in nodes height slot)
-    pub hinted : AreHinted bytes (hints_of nodes)
-    pub known : KnowsAt bytes passes sought shared (entries_at nodes slot) 0
+    pub partitioned : IsPartitioned (λ x. is_below x.key) (items_in nodes height slot)
+    pub headed : AllAreHeads bytes (all_heads_of nodes)
+    pub known : IsPrefixLenAt bytes is_below target shared (entries_at nodes slot) 0
 
   -- A subtree once it was changed, and the right neighbour that it was split from, if it was.
   pub record IsChanged (bytes : KeyBytes) (old new : Arena (Node N)) (height slot : ℕ) (outcome : Outcome) : Type 0 where
@@ -80,7 +80,7 @@ module _ {N : ℕ} where
     pub few_less : 1 ≤ height → added_by outcome ≡ None → length (entries_at old slot) ≤ length (entries_at new slot) + 1
     pub changes : Changes old new (slots_in old height slot) (slots_with new height slot (added_by outcome))
     pub taken : spare_of old 0 ≤ spare_of new 0 + (height + 1)
-    pub hinted : AreHinted bytes (hints_of new)
+    pub headed : AllAreHeads bytes (all_heads_of new)
 
   -- A tree that may be changed.
   pub record CanChangeTree (nodes : Arena (Node N)) (root height : ℕ) : Type 0 where

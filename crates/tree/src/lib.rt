@@ -1,6 +1,6 @@
 //! A B+-tree of items in the order of their keys, each with a version.
 //!
-//! Keys are slots of another arena: a [`Probe`] alone reads their bytes. It is what is looked for, a cut through the
+//! Keys are slots of another arena: a [`Bound`] alone reads their bytes. It is what is looked for, a cut through the
 //! items: those before it pass. Nodes are records of an arena of their own, named by slots. All leaves are at one
 //! depth. An entry for a child has the first key and the greatest version of its subtree.
 #![tactic(auto)]
@@ -9,7 +9,7 @@ mod descent;
 mod entry;
 mod node;
 mod overwrite;
-mod probe;
+mod bound;
 mod question;
 mod questions;
 mod rebalance;
@@ -17,14 +17,14 @@ mod replace;
 mod root;
 mod search;
 mod span;
-mod thin;
+mod expiring;
 mod tree;
 mod walk;
 
 pub use entry::Entry;
 pub use node::Node;
 pub use overwrite::{Overwrite, Written};
-pub use probe::Probe;
+pub use bound::Bound;
 pub use question::{Question, SIDE};
-pub use thin::Thinned;
+pub use expiring::Removal;
 pub use tree::{Tree, item};

@@ -4,16 +4,16 @@ ghost use Rattle.std.specs.Prelude.{◌≤◌};
 
 use crate::entry::Entry;
 
-mod hints;
+mod heads;
 
-pub use hints::Step;
+pub use heads::Step;
 
 /// Up to `N` entries. Contracts see them as the list `entries_of`.
 #[derive(Clone, Copy, Debug)]
 pub struct Node<const N: usize> {
     len: usize,
     // How many bytes the keys begin with in common, or fewer.
-    skip: u16,
+    prefix_len: u16,
     // The head of each key, behind these.
     heads: [u64; N],
     entries: [Entry; N],
@@ -23,19 +23,19 @@ pub struct Node<const N: usize> {
 impl<const N: usize> Node<N> {
     ghost use Rattle.std.specs.Prelude.{◌≡◌, ◌<◌, ◌+◌, ◌-◌, ◌*◌, ◌∷◌, ◌++◌, [], length, take, drop, slice_get, slice_set, Some, None, IfSome, MatchOption};
     ghost use Rattle.tree.specs.Item.{IsGreatest, version_of};
-    ghost use Rattle.tree.specs.Hints.{IsHinted, KeyBytes};
-    ghost use Rattle.tree.specs.Node.{node_heads, entries_of, hint_of, keys_of};
+    ghost use Rattle.tree.specs.Heads.{AreHeads, KeyBytes};
+    ghost use Rattle.tree.specs.Node.{node_heads, entries_of, key_heads_of, keys_of};
 
     /// Returns a node of one entry. What it knows is right if the key is empty.
     pub fn of(entry: Entry) -> Self
         requires room { 1 ≤ N }
         ensures entries { entries_of result ≡ entry ∷ [] }
-        ensures hint { hint_of result ≡ record { keys = entry.key ∷ []; skip = 0; heads = 0 ∷ [] } }
+        ensures key_heads { key_heads_of result ≡ record { keys = entry.key ∷ []; prefix_len = 0; heads = 0 ∷ [] } }
     {
         Node {
             len: 1,
             entries: [entry; N],
-            skip: 0,
+            prefix_len: 0,
             heads: [0; N],
         }
     }
@@ -60,7 +60,7 @@ impl<const N: usize> Node<N> {
     pub fn set(&mut self, index: usize, entry: Entry)
         requires within { index < length (entries_of self.old) }
         ensures entries { (entries_of self.new) ≡ slice_set (entries_of self.old) index entry }
-        ensures hint { hint_of self.new ≡ record (hint_of self.old) { keys = keys_of (entries_of self.new) } }
+        ensures key_heads { key_heads_of self.new ≡ record (key_heads_of self.old) { keys = keys_of (entries_of self.new) } }
     {
         self.entries[index] = entry;
     }
@@ -82,7 +82,7 @@ impl<const N: usize> Node<N> {
         requires to { to < length (entries_of self.old) }
         ensures entries { (e : Entry) → slice_get (entries_of self.old) from ≡ Some e
             → (entries_of self.new) ≡ slice_set (entries_of self.old) to e }
-        ensures hinted { (bytes : KeyBytes) → IsHinted bytes (hint_of self.old) → IsHinted bytes (hint_of self.new) }
+        ensures headed { (bytes : KeyBytes) → AreHeads bytes (key_heads_of self.old) → AreHeads bytes (key_heads_of self.new) }
     {
         self.entries[to] = self.entries[from];
         self.heads[to] = self.heads[from];
@@ -93,7 +93,7 @@ impl<const N: usize> Node<N> {
         requires ordered { from ≤ to }
         requires within { to ≤ length (entries_of self.old) }
         ensures entries { (entries_of self.new) ≡ take from (entries_of self.old) ++ drop to (entries_of self.old) }
-        ensures hinted { (bytes : KeyBytes) → IsHinted bytes (hint_of self.old) → IsHinted bytes (hint_of self.new) }
+        ensures headed { (bytes : KeyBytes) → AreHeads bytes (key_heads_of self.old) → AreHeads bytes (key_heads_of self.new) }
     {
         self.heads.copy_within(to..self.len, from);
         self.entries.copy_within(to..self.len, from);
@@ -106,9 +106,9 @@ impl<const N: usize> Node<N> {
         requires within { to ≤ length (entries_of self.old) }
         requires room { from + length new.now + (length (entries_of self.old) - to) ≤ N }
         ensures entries { (entries_of self.new) ≡ take from (entries_of self.old) ++ (new.now ++ drop to (entries_of self.old)) }
-        ensures skip { (hint_of self.new).skip ≡ (hint_of self.old).skip }
+        ensures prefix_len { (key_heads_of self.new).prefix_len ≡ (key_heads_of self.old).prefix_len }
         ensures heads { node_heads self.new ≡ node_heads self.old }
-        ensures count { length (hint_of self.new).heads ≡ length (entries_of self.new) }
+        ensures count { length (key_heads_of self.new).heads ≡ length (entries_of self.new) }
     {
         let end = from + new.len();
         self.entries.copy_within(to..self.len, end);

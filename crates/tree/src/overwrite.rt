@@ -4,18 +4,18 @@ ghost use Rattle.std.specs.Prelude.{◌≡◌, ◌≤◌, ◌<◌, ◌+◌, ◌*
 ghost use Rattle.std.specs.List.{All};
 ghost use Rattle.arena.specs.Arena.{IsLive, spare_of};
 ghost use Rattle.keys.specs.Key.{IsBytes};
-ghost use Rattle.tree.specs.Hints.{AreHinted, IsKnown};
+ghost use Rattle.tree.specs.Heads.{AllAreHeads, IsKnown};
 ghost use Rattle.tree.specs.Item.{item_of};
 ghost use Rattle.tree.specs.Rebalancing.{CanSplit, IsStored};
-ghost use Rattle.tree.specs.Node.{entries_of, hints_of, items_of_run, keys_of};
-ghost use Rattle.tree.specs.Overwrite.{GivesWritten, IsPartOfCut, part_of_part, put_of};
+ghost use Rattle.tree.specs.Node.{entries_of, all_heads_of, items_of_run, keys_of};
+ghost use Rattle.tree.specs.Overwrite.{GivesWritten, IsPartOfPartitioned, part_of_part, put_of};
 ghost use Rattle.tree.specs.Replace.{entries_at_both, Changes, IsKeyless};
 ghost use Rattle.tree.specs.Subtree.{entries_at};
 ghost use Rattle.tree.specs.Tree.{least_of};
 
 use crate::entry::Entry;
 use crate::node::Node;
-use crate::probe::Probe;
+use crate::bound::Bound;
 use crate::replace::place;
 use crate::tree::item;
 use crate::walk::{LeafChange, Outcome, Place};
@@ -45,51 +45,51 @@ impl Written {
 
 /// What is written over a run of items: it stands between the first two cuts.
 #[derive(Debug, Drop)]
-pub struct Overwrite<'a, P: Probe, Q: Probe, R: Probe> {
+pub struct Overwrite<'a, P: Bound, Q: Bound, R: Bound> {
     pub from: &'a P,
     pub to: &'a Q,
     /// It looks for what the second cut looks for, and lets an item pass that has just this key.
     pub past: &'a R,
     /// How many bytes what the first two cuts look for begins with in common, or fewer.
-    pub shared: usize,
+    pub targets_prefix_len: usize,
     /// The entry that comes in place of the run.
     pub first: Entry,
     /// The key of the entry behind it.
     pub second: Slot,
     /// The version of that entry. If it is missing, that of the last item before the second cut is taken.
     pub last: Option<i64>,
-    ghost nested: { (key : ℕ) → P.lets_pass from.now key ≡ true → Q.lets_pass to.now key ≡ true },
-    ghost outer: { (key : ℕ) → Q.lets_pass to.now key ≡ true → R.lets_pass past.now key ≡ true },
+    ghost nested: { (key : ℕ) → P.below from.now key ≡ true → Q.below to.now key ≡ true },
+    ghost outer: { (key : ℕ) → Q.below to.now key ≡ true → R.below past.now key ≡ true },
     ghost bytes: { (key : ℕ) → P.bytes from.now key ≡ Q.bytes to.now key },
     ghost past_bytes: { (key : ℕ) → R.bytes past.now key ≡ Q.bytes to.now key },
-    ghost begin_alike: { take shared (P.sought from.now) ≡ take shared (Q.sought to.now) },
-    ghost past_sought: { R.sought past.now ≡ Q.sought to.now },
-    ghost first_is: { Q.bytes to.now first.key ≡ Some (P.sought from.now) },
-    ghost second_is: { Q.bytes to.now second ≡ Some (Q.sought to.now) },
-    ghost from_bytes: { IsBytes (P.sought from.now) },
-    ghost to_bytes: { IsBytes (Q.sought to.now) },
+    ghost begin_alike: { take targets_prefix_len (P.target from.now) ≡ take targets_prefix_len (Q.target to.now) },
+    ghost past_target: { R.target past.now ≡ Q.target to.now },
+    ghost first_is: { Q.bytes to.now first.key ≡ Some (P.target from.now) },
+    ghost second_is: { Q.bytes to.now second ≡ Some (Q.target to.now) },
+    ghost from_bytes: { IsBytes (P.target from.now) },
+    ghost to_bytes: { IsBytes (Q.target to.now) },
 }
 
 /// The writing over a run.
 #[derive(Debug, Drop)]
-pub struct Overwriting<'a, 'b, P: Probe, Q: Probe, R: Probe> {
+pub struct Overwriting<'a, 'b, P: Bound, Q: Bound, R: Bound> {
     pub new: &'b Overwrite<'a, P, Q, R>,
     /// How far it has come.
     pub written: Written,
 }
 
-impl<'a, 'b, P: Probe, Q: Probe, R: Probe, const N: usize> LeafChange<N>
+impl<'a, 'b, P: Bound, Q: Bound, R: Bound, const N: usize> LeafChange<N>
     for Overwriting<'a, 'b, P, Q, R> {
-    type Target = Q;
+    type LeafBound = Q;
 
-    ghost target_of = { λ o. o.new.now.to.now };
+    ghost bound_of = { λ o. o.new.now.to.now };
 
-    ghost wants = { λ o items. IsPartOfCut (P.lets_pass o.new.now.from.now) items };
+    ghost wants = { λ o items. IsPartOfPartitioned (P.below o.new.now.from.now) items };
 
-    ghost gives = { λ o done. GivesWritten (P.lets_pass o.new.now.from.now) (Q.lets_pass o.new.now.to.now)
-        (R.lets_pass o.new.now.past.now) (item_of o.new.now.first) o.new.now.second o.new.now.last done.written };
+    ghost gives = { λ o done. GivesWritten (P.below o.new.now.from.now) (Q.below o.new.now.to.now)
+        (R.below o.new.now.past.now) (item_of o.new.now.first) o.new.now.second o.new.now.last done.written };
 
-    fn target(&self) -> &Q {
+    fn leaf_bound(&self) -> &Q {
         self.new.to
     }
 
@@ -102,10 +102,10 @@ impl<'a, 'b, P: Probe, Q: Probe, R: Probe, const N: usize> LeafChange<N>
     ) -> Outcome {
         let new = self.new;
         let leaf = nodes.header_ref(slot);
-        let end = leaf.count(new.to, place.known);
-        let alike = place.known.unwrap_or(0);
-        let head = leaf.head_for(new.from, alike.min(new.shared));
-        let begin = leaf.count_back(end, new.from, head);
+        let end = leaf.lower_bound(new.to, place.common_prefix_len);
+        let alike = place.common_prefix_len.unwrap_or(0);
+        let head = leaf.head_for(new.from, alike.min(new.targets_prefix_len));
+        let begin = leaf.lower_bound_back(end, new.from, head);
         if begin < end {
             hand_out(leaf, begin, end, taken);
         }
@@ -119,26 +119,26 @@ impl<'a, 'b, P: Probe, Q: Probe, R: Probe, const N: usize> LeafChange<N>
         }
         let ended = if end < leaf.len() {
             let head = leaf.head_for(new.past, alike);
-            leaf.passes_at(end, new.past, head)
+            leaf.is_below_at(end, new.past, head)
         } else {
-            place.behind.is_some_and(|key| new.past.passes(key))
+            place.behind.is_some_and(|key| new.past.is_below(key))
         };
         self.written = Written::Whole { ended };
-        let begin_alike = head.is_some() && leaf.skip() <= new.shared;
+        let begin_alike = head.is_some() && leaf.prefix_len() <= new.targets_prefix_len;
         let entries = [new.first, item(new.second, new.last.unwrap_or(last))];
         let entries = if ended { &entries[..1] } else { &entries[..] };
         if begin + entries.len() > N - (leaf.len() - end) {
             return Outcome::Split(split_leaf(nodes, slot, begin, end, entries, new.to));
         }
         let leaf = nodes.header_mut(slot);
-        leaf.splice_hinted(begin, end, entries, new.to, begin_alike);
+        leaf.splice_with_heads(begin, end, entries, new.to, begin_alike);
         if begin == 0 || new.last.is_some() {
             return Outcome::Changed;
         }
         Outcome::Raised(new.first.version)
     }
 
-    ghost part = { λ o. part_of_part (P.lets_pass o.new.now.from.now) };
+    ghost part = { λ o. part_of_part (P.below o.new.now.from.now) };
 }
 
 // Puts the entries of a leaf from one index up to another into `taken`.
@@ -152,24 +152,24 @@ fn hand_out<const N: usize>(leaf: &Node<N>, from: usize, to: usize, taken: &mut 
 
 // Puts entries in place of those of a leaf from one index up to another, which is split for it. Returns the slot of its
 // right neighbour.
-fn split_leaf<P: Probe, const N: usize>(
+fn split_leaf<P: Bound, const N: usize>(
     nodes: &mut Arena<Node<N>>,
     slot: Slot,
     from: usize,
     to: usize,
     new: &[Entry],
-    probe: &P,
+    bound: &P,
 ) -> Slot
-    requires can_split { CanSplit (P.bytes probe.now) nodes.old slot from to new.now }
+    requires can_split { CanSplit (P.bytes bound.now) nodes.old slot from to new.now }
     ensures entries { entries_at_both nodes.new slot (Some result)
         ≡ take from (entries_at nodes.old slot) ++ (new.now ++ drop to (entries_at nodes.old slot)) }
     ensures filled { (least_of N ≤ length (entries_at nodes.new slot)) × (least_of N ≤ length (entries_at nodes.new result)) }
-    ensures stored { IsStored (P.bytes probe.now) nodes.old nodes.new slot (Some result) }
+    ensures stored { IsStored (P.bytes bound.now) nodes.old nodes.new slot (Some result) }
 {
     let mut left = nodes.header(slot);
     let mut right = left.splice_apart(from, to, new);
-    left.take_hints(nodes.header_ref(slot), probe);
-    right.take_hints(nodes.header_ref(slot), probe);
+    left.copy_heads(nodes.header_ref(slot), bound);
+    right.copy_heads(nodes.header_ref(slot), bound);
     nodes.set_header(slot, left);
     place(nodes, right)
 }

@@ -2,7 +2,7 @@
 
 ghost use Rattle.std.specs.Prelude.{◌≡◌, ℕ, true, take};
 
-use crate::probe::Probe;
+use crate::bound::Bound;
 
 /// How many questions are answered side by side at most: few enough that they and the nodes that are read for them fit into
 /// the first-level cache together.
@@ -13,13 +13,13 @@ const _: () = prove!(SIDE == 16);
 /// Asks whether a version of the items before the second cut, of those before the first one the last alone, is above this
 /// one.
 #[derive(Drop)]
-pub struct Question<P: Probe, Q: Probe> {
+pub struct Question<P: Bound, Q: Bound> {
     pub from: P,
     pub to: Q,
     /// How many bytes what the two cuts look for begins with in common, or fewer.
-    pub shared: usize,
+    pub targets_prefix_len: usize,
     pub version: i64,
-    ghost nested: { (key : ℕ) → P.lets_pass from key ≡ true → Q.lets_pass to key ≡ true },
+    ghost nested: { (key : ℕ) → P.below from key ≡ true → Q.below to key ≡ true },
     ghost bytes: { (key : ℕ) → P.bytes from key ≡ Q.bytes to key },
-    ghost begin_alike: { take shared (P.sought from) ≡ take shared (Q.sought to) },
+    ghost begin_alike: { take targets_prefix_len (P.target from) ≡ take targets_prefix_len (Q.target to) },
 }

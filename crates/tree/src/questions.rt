@@ -3,18 +3,18 @@
 
 ghost use Rattle.std.specs.Prelude.{◌≡◌, ◌≢◌, ◌≤◌, ◌<ℤ◌, ◌↔◌, true, length, map, Some, [], IfSome, IsTrue};
 ghost use Rattle.std.specs.List.{All, AllZip, Any};
-ghost use Rattle.tree.specs.Finding.{IsOwn};
-ghost use Rattle.tree.specs.Hints.{AreHinted, KnowsAt};
-ghost use Rattle.tree.specs.Node.{hints_of};
-ghost use Rattle.tree.specs.Path.{from_last, passing as passing_of};
+ghost use Rattle.tree.specs.Finding.{IsOwnHead};
+ghost use Rattle.tree.specs.Heads.{AllAreHeads, IsPrefixLenAt};
+ghost use Rattle.tree.specs.Node.{all_heads_of};
+ghost use Rattle.tree.specs.Path.{from_last, items_below};
 ghost use Rattle.tree.specs.Question.{IsApproach, IsAsked, IsLeading, IsLooked, IsNear, IsTold};
 ghost use Rattle.tree.specs.Subtree.{entries_at, items_in};
 ghost use Rattle.tree.specs.Tree.{least_of};
 ghost use Rattle.tree.specs.declared.question.TheConstants.{SIDE};
 
-use crate::descent::known_at;
+use crate::descent::common_prefix_len_at;
 use crate::node::Node;
-use crate::probe::Probe;
+use crate::bound::Bound;
 use crate::question::{Question, SIDE};
 use crate::root::{Root, last};
 use crate::search::greatest;
@@ -27,7 +27,7 @@ use arrayvec::ArrayVec;
 pub struct Near {
     pub leaf: Slot,
     /// How many bytes the first key of the leaf and what the first cut looks for begin with in common.
-    pub known: usize,
+    pub common_prefix_len: usize,
     /// Tells that the items behind the leaf don't come before the second cut.
     pub clear: bool,
 }
@@ -52,41 +52,41 @@ pub struct Look {
     pub own: Option<u64>,
 }
 
-/// Goes down a subtree to the leaf that answers a question. `known` is how many bytes the first key of the subtree and what
+/// Goes down a subtree to the leaf that answers a question. `common_prefix_len` is how many bytes the first key of the subtree and what
 /// the first cut looks for begin with in common. `clear` tells that the items behind the subtree don't come before the second
 /// cut.
-pub fn descend<P: Probe, Q: Probe, const N: usize>(
+pub fn descend<P: Bound, Q: Bound, const N: usize>(
     nodes: &Arena<Node<N>>,
     slot: Slot,
     height: usize,
     question: &Question<P, Q>,
-    known: usize,
+    common_prefix_len: usize,
     clear: bool,
 ) -> Approach
-    requires asked { IsAsked nodes.now (least_of N) height slot (P.bytes question.now.from) (P.lets_pass question.now.from)
-        (Q.lets_pass question.now.to) }
-    requires known { KnowsAt (P.bytes question.now.from) (P.lets_pass question.now.from) (P.sought question.now.from) (Some known)
+    requires asked { IsAsked nodes.now (least_of N) height slot (P.bytes question.now.from) (P.below question.now.from)
+        (Q.below question.now.to) }
+    requires known { IsPrefixLenAt (P.bytes question.now.from) (P.below question.now.from) (P.target question.now.from) (Some common_prefix_len)
         (entries_at nodes.now slot) 0 }
-    ensures approach { IsApproach nodes.now height slot (P.bytes question.now.from) (P.lets_pass question.now.from)
-        (Q.lets_pass question.now.to) (P.sought question.now.from) question.now.version clear result }
+    ensures approach { IsApproach nodes.now height slot (P.bytes question.now.from) (P.below question.now.from)
+        (Q.below question.now.to) (P.target question.now.from) question.now.version clear result }
 {
     if height == 0 {
         return Approach::Leaf(Near {
             leaf: slot,
-            known,
+            common_prefix_len,
             clear,
         });
     }
-    let shared = question.shared;
+    let targets_prefix_len = question.targets_prefix_len;
     let node = nodes.header_ref(slot);
     let entries = node.entries();
-    let own = node.head_for(&question.from, known);
-    let agrees = own.is_some() && node.skip() <= shared;
-    let head = node.head_given(agrees, &question.to, known.min(shared));
-    let step = node.step_by(&question.from, known, own);
+    let own = node.head_for(&question.from, common_prefix_len);
+    let agrees = own.is_some() && node.prefix_len() <= targets_prefix_len;
+    let head = node.head_given(agrees, &question.to, common_prefix_len.min(targets_prefix_len));
+    let step = node.step_by(&question.from, common_prefix_len, own);
     let next = step.index + 1;
     let clear = if next < entries.len() {
-        !node.passes_at(next, &question.to, head)
+        !node.is_below_at(next, &question.to, head)
     } else {
         clear
     };
@@ -98,35 +98,35 @@ pub fn descend<P: Probe, Q: Probe, const N: usize>(
             Approach::Open
         };
     }
-    let Some(known) = step.known else {
+    let Some(common_prefix_len) = step.common_prefix_len else {
         return Approach::Open;
     };
-    descend(nodes, entry.child, height - 1, question, known, clear)
+    descend(nodes, entry.child, height - 1, question, common_prefix_len, clear)
 }
 
 /// Goes down a tree so.
-pub fn descend_from<P: Probe, Q: Probe, const N: usize>(
+pub fn descend_from<P: Bound, Q: Bound, const N: usize>(
     nodes: &Arena<Node<N>>,
     root: Root,
     question: &Question<P, Q>,
 ) -> Approach
     requires asked { IsAsked nodes.now (least_of N) root.height root.slot (P.bytes question.now.from)
-        (P.lets_pass question.now.from) (Q.lets_pass question.now.to) }
-    requires passing { passing_of (P.lets_pass question.now.from) (items_in nodes.now root.height root.slot) ≢ [] }
-    ensures approach { IsApproach nodes.now root.height root.slot (P.bytes question.now.from) (P.lets_pass question.now.from)
-        (Q.lets_pass question.now.to) (P.sought question.now.from) question.now.version true result }
+        (P.below question.now.from) (Q.below question.now.to) }
+    requires some_below { items_below (P.below question.now.from) (items_in nodes.now root.height root.slot) ≢ [] }
+    ensures approach { IsApproach nodes.now root.height root.slot (P.bytes question.now.from) (P.below question.now.from)
+        (Q.below question.now.to) (P.target question.now.from) question.now.version true result }
 {
     let Root { slot, height } = root;
-    let known = known_at(nodes, slot, &question.from).unwrap_or(0);
-    descend(nodes, slot, height, question, known, true)
+    let common_prefix_len = common_prefix_len_at(nodes, slot, &question.from).unwrap_or(0);
+    descend(nodes, slot, height, question, common_prefix_len, true)
 }
 
 /// Looks at the leaf to which a way leads, for the first time.
-pub fn look_at<P: Probe, const N: usize>(nodes: &Arena<Node<N>>, way: &Approach, from: &P) -> Look
-    requires leading { IsLeading nodes.now (P.bytes from.now) (P.lets_pass from.now) (P.sought from.now) way.now }
-    requires hinted { AreHinted (P.bytes from.now) (hints_of nodes.now) }
+pub fn look_at<P: Bound, const N: usize>(nodes: &Arena<Node<N>>, way: &Approach, from: &P) -> Look
+    requires leading { IsLeading nodes.now (P.bytes from.now) (P.below from.now) (P.target from.now) way.now }
+    requires headed { AllAreHeads (P.bytes from.now) (all_heads_of nodes.now) }
     ensures way { result.way ≡ way.now }
-    ensures looked { IsLooked nodes.now (P.bytes from.now) (P.sought from.now) way.now result.own }
+    ensures looked { IsLooked nodes.now (P.bytes from.now) (P.target from.now) way.now result.own }
 {
     let Approach::Leaf(near) = way else {
         return Look {
@@ -137,32 +137,32 @@ pub fn look_at<P: Probe, const N: usize>(nodes: &Arena<Node<N>>, way: &Approach,
     let leaf = nodes.header_ref(near.leaf);
     Look {
         way: *way,
-        own: leaf.head_for(from, near.known),
+        own: leaf.head_for(from, near.common_prefix_len),
     }
 }
 
 // Answers a question if the leaf tells the answer. `own` is what the first look at the leaf gave.
-fn leaf_told<P: Probe, Q: Probe, const N: usize>(
+fn leaf_told<P: Bound, Q: Bound, const N: usize>(
     nodes: &Arena<Node<N>>,
     near: Near,
     question: &Question<P, Q>,
     own: Option<u64>,
 ) -> Option<bool>
-    requires asked { IsAsked nodes.now (least_of N) 0 near.leaf (P.bytes question.now.from) (P.lets_pass question.now.from)
-        (Q.lets_pass question.now.to) }
-    requires near { IsNear nodes.now (P.bytes question.now.from) (P.lets_pass question.now.from) (P.sought question.now.from) near }
-    requires own { IfSome (hints_of nodes.now near.leaf) (IsOwn (P.bytes question.now.from) (P.sought question.now.from)
-        near.known own) }
-    ensures told { IsTold (P.lets_pass question.now.from) (Q.lets_pass question.now.to) question.now.version near.clear
+    requires asked { IsAsked nodes.now (least_of N) 0 near.leaf (P.bytes question.now.from) (P.below question.now.from)
+        (Q.below question.now.to) }
+    requires near { IsNear nodes.now (P.bytes question.now.from) (P.below question.now.from) (P.target question.now.from) near }
+    requires own { IfSome (all_heads_of nodes.now near.leaf) (IsOwnHead (P.bytes question.now.from) (P.target question.now.from)
+        near.common_prefix_len own) }
+    ensures told { IsTold (P.below question.now.from) (Q.below question.now.to) question.now.version near.clear
         (items_in nodes.now 0 near.leaf) result }
 {
-    let shared = question.shared;
+    let targets_prefix_len = question.targets_prefix_len;
     let node = nodes.header_ref(near.leaf);
     let entries = node.entries();
-    let begin = node.count_by(&question.from, own);
-    let agrees = own.is_some() && node.skip() <= shared;
-    let head = node.head_given(agrees, &question.to, near.known.min(shared));
-    let end = node.count_on(begin, &question.to, head);
+    let begin = node.lower_bound_by_head(&question.from, own);
+    let agrees = own.is_some() && node.prefix_len() <= targets_prefix_len;
+    let head = node.head_given(agrees, &question.to, near.common_prefix_len.min(targets_prefix_len));
+    let end = node.lower_bound_from(begin, &question.to, head);
     if end == entries.len() && !near.clear {
         return None;
     }
@@ -170,20 +170,20 @@ fn leaf_told<P: Probe, Q: Probe, const N: usize>(
 }
 
 /// Answers a question. `look` is what the first look at the leaf gave to which its way leads.
-pub fn answer<P: Probe, Q: Probe, const N: usize>(
+pub fn answer<P: Bound, Q: Bound, const N: usize>(
     nodes: &Arena<Node<N>>,
     root: Root,
     question: &Question<P, Q>,
     look: Look,
 ) -> bool
     requires asked { IsAsked nodes.now (least_of N) root.height root.slot (P.bytes question.now.from)
-        (P.lets_pass question.now.from) (Q.lets_pass question.now.to) }
-    requires passing { passing_of (P.lets_pass question.now.from) (items_in nodes.now root.height root.slot) ≢ [] }
-    requires approach { IsApproach nodes.now root.height root.slot (P.bytes question.now.from) (P.lets_pass question.now.from)
-        (Q.lets_pass question.now.to) (P.sought question.now.from) question.now.version true look.way }
-    requires looked { IsLooked nodes.now (P.bytes question.now.from) (P.sought question.now.from) look.way look.own }
+        (P.below question.now.from) (Q.below question.now.to) }
+    requires some_below { items_below (P.below question.now.from) (items_in nodes.now root.height root.slot) ≢ [] }
+    requires approach { IsApproach nodes.now root.height root.slot (P.bytes question.now.from) (P.below question.now.from)
+        (Q.below question.now.to) (P.target question.now.from) question.now.version true look.way }
+    requires looked { IsLooked nodes.now (P.bytes question.now.from) (P.target question.now.from) look.way look.own }
     ensures above { IsTrue result ↔ Any (λ x. question.now.version <ℤ x.version)
-        (from_last (P.lets_pass question.now.from) (Some (Q.lets_pass question.now.to)) (items_in nodes.now root.height root.slot)) }
+        (from_last (P.below question.now.from) (Some (Q.below question.now.to)) (items_in nodes.now root.height root.slot)) }
 {
     let Look { way, own } = look;
     match way {
@@ -197,16 +197,16 @@ pub fn answer<P: Probe, Q: Probe, const N: usize>(
 }
 
 // Answers a question by a way down the tree along each of its cuts.
-fn exceeds<P: Probe, Q: Probe, const N: usize>(
+fn exceeds<P: Bound, Q: Bound, const N: usize>(
     nodes: &Arena<Node<N>>,
     root: Root,
     question: &Question<P, Q>,
 ) -> bool
     requires asked { IsAsked nodes.now (least_of N) root.height root.slot (P.bytes question.now.from)
-        (P.lets_pass question.now.from) (Q.lets_pass question.now.to) }
-    requires passing { passing_of (P.lets_pass question.now.from) (items_in nodes.now root.height root.slot) ≢ [] }
+        (P.below question.now.from) (Q.below question.now.to) }
+    requires some_below { items_below (P.below question.now.from) (items_in nodes.now root.height root.slot) ≢ [] }
     ensures above { IsTrue result ↔ Any (λ x. question.now.version <ℤ x.version)
-        (from_last (P.lets_pass question.now.from) (Some (Q.lets_pass question.now.to)) (items_in nodes.now root.height root.slot)) }
+        (from_last (P.below question.now.from) (Some (Q.below question.now.to)) (items_in nodes.now root.height root.slot)) }
 {
     let Root { slot, height } = root;
     let version = question.version;
@@ -219,17 +219,17 @@ fn exceeds<P: Probe, Q: Probe, const N: usize>(
 }
 
 /// Goes down a tree for each question. There are at most [`SIDE`].
-pub fn descend_each<P: Probe, Q: Probe, const N: usize>(
+pub fn descend_each<P: Bound, Q: Bound, const N: usize>(
     nodes: &Arena<Node<N>>,
     root: &Root,
     questions: &[Question<P, Q>],
 ) -> ArrayVec<Approach, SIDE>
     requires few { length questions.now ≤ SIDE }
-    requires asked { All (λ q. IsAsked nodes.now (least_of N) root.now.height root.now.slot (P.bytes q.from) (P.lets_pass q.from)
-        (Q.lets_pass q.to)) questions.now }
-    requires passing { All (λ q. passing_of (P.lets_pass q.from) (items_in nodes.now root.now.height root.now.slot) ≢ []) questions.now }
+    requires asked { All (λ q. IsAsked nodes.now (least_of N) root.now.height root.now.slot (P.bytes q.from) (P.below q.from)
+        (Q.below q.to)) questions.now }
+    requires some_below { All (λ q. items_below (P.below q.from) (items_in nodes.now root.now.height root.now.slot) ≢ []) questions.now }
     ensures ways { AllZip (λ q way. IsApproach nodes.now root.now.height root.now.slot (P.bytes q.from)
-        (P.lets_pass q.from) (Q.lets_pass q.to) (P.sought q.from) q.version true way) questions.now result.items }
+        (P.below q.from) (Q.below q.to) (P.target q.from) q.version true way) questions.now result.items }
 {
     let mut ways = ArrayVec::new();
     for question in questions {
@@ -239,17 +239,17 @@ pub fn descend_each<P: Probe, Q: Probe, const N: usize>(
 }
 
 /// Looks at each leaf to which a way leads, for the first time. There are at most [`SIDE`].
-pub fn look_at_each<P: Probe, Q: Probe, const N: usize>(
+pub fn look_at_each<P: Bound, Q: Bound, const N: usize>(
     nodes: &Arena<Node<N>>,
     questions: &[Question<P, Q>],
     ways: &[Approach],
 ) -> ArrayVec<Look, SIDE>
     requires few { length questions.now ≤ SIDE }
-    requires leading { AllZip (λ q way. IsLeading nodes.now (P.bytes q.from) (P.lets_pass q.from) (P.sought q.from) way)
+    requires leading { AllZip (λ q way. IsLeading nodes.now (P.bytes q.from) (P.below q.from) (P.target q.from) way)
         questions.now ways.now }
-    requires hinted { All (λ q. AreHinted (P.bytes q.from) (hints_of nodes.now)) questions.now }
+    requires headed { All (λ q. AllAreHeads (P.bytes q.from) (all_heads_of nodes.now)) questions.now }
     ensures ways { map (λ l. l.way) result.items ≡ ways.now }
-    ensures looked { AllZip (λ q l. IsLooked nodes.now (P.bytes q.from) (P.sought q.from) l.way l.own)
+    ensures looked { AllZip (λ q l. IsLooked nodes.now (P.bytes q.from) (P.target q.from) l.way l.own)
         questions.now result.items }
 {
     let mut looks = ArrayVec::new();
@@ -260,21 +260,21 @@ pub fn look_at_each<P: Probe, Q: Probe, const N: usize>(
 }
 
 /// Answers each question, in their order. There are at most [`SIDE`].
-pub fn answer_each<P: Probe, Q: Probe, const N: usize>(
+pub fn answer_each<P: Bound, Q: Bound, const N: usize>(
     nodes: &Arena<Node<N>>,
     root: &Root,
     questions: &[Question<P, Q>],
     looks: &[Look],
 ) -> ArrayVec<bool, SIDE>
     requires few { length questions.now ≤ SIDE }
-    requires asked { All (λ q. IsAsked nodes.now (least_of N) root.now.height root.now.slot (P.bytes q.from) (P.lets_pass q.from)
-        (Q.lets_pass q.to)) questions.now }
-    requires passing { All (λ q. passing_of (P.lets_pass q.from) (items_in nodes.now root.now.height root.now.slot) ≢ []) questions.now }
+    requires asked { All (λ q. IsAsked nodes.now (least_of N) root.now.height root.now.slot (P.bytes q.from) (P.below q.from)
+        (Q.below q.to)) questions.now }
+    requires some_below { All (λ q. items_below (P.below q.from) (items_in nodes.now root.now.height root.now.slot) ≢ []) questions.now }
     requires approach { AllZip (λ q l. IsApproach nodes.now root.now.height root.now.slot (P.bytes q.from)
-        (P.lets_pass q.from) (Q.lets_pass q.to) (P.sought q.from) q.version true l.way) questions.now looks.now }
-    requires looked { AllZip (λ q l. IsLooked nodes.now (P.bytes q.from) (P.sought q.from) l.way l.own) questions.now looks.now }
+        (P.below q.from) (Q.below q.to) (P.target q.from) q.version true l.way) questions.now looks.now }
+    requires looked { AllZip (λ q l. IsLooked nodes.now (P.bytes q.from) (P.target q.from) l.way l.own) questions.now looks.now }
     ensures told { AllZip (λ q above. IsTrue above ↔ Any (λ x. q.version <ℤ x.version)
-        (from_last (P.lets_pass q.from) (Some (Q.lets_pass q.to)) (items_in nodes.now root.now.height root.now.slot)))
+        (from_last (P.below q.from) (Some (Q.below q.to)) (items_in nodes.now root.now.height root.now.slot)))
         questions.now result.items }
 {
     let mut answers = ArrayVec::new();

@@ -3,16 +3,16 @@
 ghost use Rattle.std.specs.Prelude.{◌≡◌, ◌≢◌, ◌≤◌, ◌<◌, ◌+◌, ◌*◌, ◌++◌, ◌∷◌, ℕ, [], length};
 ghost use Rattle.arena.specs.Arena.{IsLive, spare_of};
 ghost use Rattle.tree.specs.Item.{Tells};
-ghost use Rattle.tree.specs.Hints.{AreHinted, IsKnown, KeyBytes};
+ghost use Rattle.tree.specs.Heads.{AllAreHeads, IsKnown, KeyBytes};
 ghost use Rattle.tree.specs.Rebalancing.{AreTwo, CanRebalanceIn, CanMerge, LosesOneAtMost};
-ghost use Rattle.tree.specs.Node.{entries_of, hints_of};
+ghost use Rattle.tree.specs.Node.{entries_of, all_heads_of};
 ghost use Rattle.tree.specs.Subtree.{entries_at, items_in, IsSubtree};
 ghost use Rattle.tree.specs.Tree.{least_of};
 ghost use Rattle.tree.specs.Replace.{child_at, Changes, IsFamily, IsKeyless, IsRebalanced};
 
 use crate::entry::Entry;
 use crate::node::Node;
-use crate::probe::Probe;
+use crate::bound::Bound;
 use arena::{Arena, Slot};
 
 /// Returns the least number of entries of a node that isn't the root: a quarter, but two at least.
@@ -28,7 +28,7 @@ pub fn entry_for<const N: usize>(nodes: &Arena<Node<N>>, child: Slot) -> Entry
     requires some { 0 < length (entries_at nodes.now child) }
     ensures child { result.child ≡ child }
     ensures tells { (height least : ℕ) → IsSubtree nodes.now least height child → Tells result (items_in nodes.now height child) }
-    ensures known { (bytes : KeyBytes) → AreHinted bytes (hints_of nodes.now) → IsKnown bytes result.key }
+    ensures known { (bytes : KeyBytes) → AllAreHeads bytes (all_heads_of nodes.now) → IsKnown bytes result.key }
 {
     let node = nodes.header_ref(child);
     Entry {
@@ -40,87 +40,87 @@ pub fn entry_for<const N: usize>(nodes: &Arena<Node<N>>, child: Slot) -> Entry
 
 /// Makes the entry for a changed child right. A child with too few entries is merged with a neighbour, or takes some of
 /// its entries.
-pub fn rebalance<P: Probe, const N: usize>(
+pub fn rebalance<P: Bound, const N: usize>(
     nodes: &mut Arena<Node<N>>,
     node: &mut Node<N>,
     index: usize,
-    probe: &P,
+    bound: &P,
 )
-    requires can_rebalance { CanRebalanceIn (P.bytes probe.now) nodes.old (entries_of node.old) index }
+    requires can_rebalance { CanRebalanceIn (P.bytes bound.now) nodes.old (entries_of node.old) index }
     ensures rebalanced { (height : ℕ) → IsFamily nodes.old (least_of N) height (entries_of node.old) index (index + 1)
         → IsRebalanced nodes.old nodes.new (least_of N) height (entries_of node.old) (entries_of node.new) }
-    ensures rest { LosesOneAtMost (P.bytes probe.now) nodes.old nodes.new (entries_of node.old) (entries_of node.new) }
+    ensures rest { LosesOneAtMost (P.bytes bound.now) nodes.old nodes.new (entries_of node.old) (entries_of node.new) }
 {
     let child = node.entries()[index].child;
     if nodes.header_ref(child).len() >= least(N) {
         node.set(index, entry_for(nodes, child));
         return;
     }
-    merge_or_redistribute(nodes, node, index.saturating_sub(1), probe);
+    merge_or_redistribute(nodes, node, index.saturating_sub(1), bound);
 }
 
 // Merges the children at an index and behind it, or shares their entries evenly where there are too many for one node.
-fn merge_or_redistribute<P: Probe, const N: usize>(
+fn merge_or_redistribute<P: Bound, const N: usize>(
     nodes: &mut Arena<Node<N>>,
     node: &mut Node<N>,
     index: usize,
-    probe: &P,
+    bound: &P,
 )
-    requires can_merge { CanMerge (P.bytes probe.now) nodes.old (entries_of node.old) index }
+    requires can_merge { CanMerge (P.bytes bound.now) nodes.old (entries_of node.old) index }
     ensures rebalanced { (height : ℕ) → IsFamily nodes.old (least_of N) height (entries_of node.old) index (index + 2)
         → IsRebalanced nodes.old nodes.new (least_of N) height (entries_of node.old) (entries_of node.new) }
-    ensures rest { LosesOneAtMost (P.bytes probe.now) nodes.old nodes.new (entries_of node.old) (entries_of node.new) }
+    ensures rest { LosesOneAtMost (P.bytes bound.now) nodes.old nodes.new (entries_of node.old) (entries_of node.new) }
 {
     let first = node.entries()[index].child;
     let second = node.entries()[index + 1].child;
     let count = nodes.header_ref(first).len() + nodes.header_ref(second).len();
     if count <= N {
-        merge(nodes, first, second, probe);
+        merge(nodes, first, second, bound);
         node.set(index, entry_for(nodes, first));
         node.remove(index + 1, index + 2);
         return;
     }
-    redistribute(nodes, first, second, probe);
+    redistribute(nodes, first, second, bound);
     node.set(index, entry_for(nodes, first));
     node.set(index + 1, entry_for(nodes, second));
 }
 
 // Puts the entries of the second node behind those of the first one, and releases the second.
-fn merge<P: Probe, const N: usize>(nodes: &mut Arena<Node<N>>, first: Slot, second: Slot, probe: &P)
-    requires two { AreTwo (P.bytes probe.now) nodes.old first second }
+fn merge<P: Bound, const N: usize>(nodes: &mut Arena<Node<N>>, first: Slot, second: Slot, bound: &P)
+    requires two { AreTwo (P.bytes bound.now) nodes.old first second }
     requires room { length (entries_at nodes.old first) + length (entries_at nodes.old second) ≤ N }
     ensures entries { entries_at nodes.new first ≡ entries_at nodes.old first ++ entries_at nodes.old second }
     ensures changes { Changes nodes.old nodes.new (first ∷ second ∷ []) (first ∷ []) }
-    ensures hinted { AreHinted (P.bytes probe.now) (hints_of nodes.new) }
+    ensures headed { AllAreHeads (P.bytes bound.now) (all_heads_of nodes.new) }
 {
     let mut merged = nodes.header(first);
     merged.append(nodes.header_ref(second));
-    merged.take_hints(nodes.header_ref(first), probe);
+    merged.copy_heads(nodes.header_ref(first), bound);
     nodes.set_header(first, merged);
     nodes.release(second);
 }
 
 // Moves entries between two nodes so that they have as many, but for one.
-fn redistribute<P: Probe, const N: usize>(
+fn redistribute<P: Bound, const N: usize>(
     nodes: &mut Arena<Node<N>>,
     first: Slot,
     second: Slot,
-    probe: &P,
+    bound: &P,
 )
-    requires two { AreTwo (P.bytes probe.now) nodes.old first second }
+    requires two { AreTwo (P.bytes bound.now) nodes.old first second }
     requires many { N < length (entries_at nodes.old first) + length (entries_at nodes.old second) }
     ensures entries { entries_at nodes.new first ++ entries_at nodes.new second
         ≡ entries_at nodes.old first ++ entries_at nodes.old second }
     ensures left { N ≤ 2 * length (entries_at nodes.new first) }
     ensures right { N ≤ 2 * length (entries_at nodes.new second) }
     ensures changes { Changes nodes.old nodes.new (first ∷ second ∷ []) (first ∷ second ∷ []) }
-    ensures hinted { AreHinted (P.bytes probe.now) (hints_of nodes.new) }
+    ensures headed { AllAreHeads (P.bytes bound.now) (all_heads_of nodes.new) }
 {
     let mut left = nodes.header(first);
     let mut right = nodes.header(second);
     left.redistribute(&mut right);
-    left.take_hints(nodes.header_ref(first), probe);
-    right.take_hints(nodes.header_ref(second), probe);
+    left.copy_heads(nodes.header_ref(first), bound);
+    right.copy_heads(nodes.header_ref(second), bound);
     nodes.set_header(first, left);
     nodes.set_header(second, right);
 }

@@ -4,83 +4,83 @@ ghost use Rattle.std.specs.Prelude.{◌≡◌, ◌≤◌, ◌<◌, ◌+◌, ◌*
 ghost use Rattle.std.specs.List.{All};
 ghost use Rattle.std.specs.FinMap as map_of;
 ghost use Rattle.arena.specs.Arena.{IsLive, spare_of};
-ghost use Rattle.tree.specs.Hints.{AreHinted, IsHinted, IsKnown, KeyBytes};
+ghost use Rattle.tree.specs.Heads.{AllAreHeads, AreHeads, IsKnown, KeyBytes};
 ghost use Rattle.tree.specs.Rebalancing.{CanInsertChild, CanInsertEntry, CanRebalance, IsStored, LosesOneAtMost};
-ghost use Rattle.tree.specs.Node.{entries_of, hint_of, hints_of, keys_of};
+ghost use Rattle.tree.specs.Node.{entries_of, key_heads_of, all_heads_of, keys_of};
 ghost use Rattle.tree.specs.Subtree.{entries_at};
 ghost use Rattle.tree.specs.Tree.{least_of};
 ghost use Rattle.tree.specs.Replace.{child_at, entries_at_both, entries_with, slot_taken, Changes, IsFamilyAt, IsKeyless, IsLinked, IsRebalancedAt, TellsWritten};
 
 use crate::entry::Entry;
 use crate::node::Node;
-use crate::probe::Probe;
+use crate::bound::Bound;
 use crate::rebalance::{entry_for, least, rebalance};
 use arena::{Arena, Slot};
 
 /// Makes the entry at an index right in the node at a slot, whose child was split, and puts one for the child's right
 /// neighbour behind it. Returns the slot of the node's own right neighbour where it is split, too.
-pub fn insert_child<P: Probe, const N: usize>(
+pub fn insert_child<P: Bound, const N: usize>(
     nodes: &mut Arena<Node<N>>,
     slot: Slot,
     index: usize,
     added: Slot,
-    probe: &P,
+    bound: &P,
 ) -> Option<Slot>
-    requires can_insert { CanInsertChild (P.bytes probe.now) nodes.old slot index added }
+    requires can_insert { CanInsertChild (P.bytes bound.now) nodes.old slot index added }
     ensures linked { IsLinked nodes.old (child_at (entries_at nodes.old slot) index) added (take index (entries_at nodes.old slot))
         (drop (index + 1) (entries_at nodes.old slot)) (entries_at_both nodes.new slot result) }
     ensures left { IfSome result (λ _. N ≤ 2 * length (entries_at nodes.new slot)) }
     ensures right { IfSome result (λ right. N ≤ 2 * length (entries_at nodes.new right)) }
-    ensures stored { IsStored (P.bytes probe.now) nodes.old nodes.new slot result }
+    ensures stored { IsStored (P.bytes bound.now) nodes.old nodes.new slot result }
 {
     let mut node = nodes.header(slot);
     let right = insert_entry(nodes, &mut node, index, added);
-    node.take_hints(nodes.header_ref(slot), probe);
-    store(nodes, slot, &node, right.as_ref(), probe)
+    node.copy_heads(nodes.header_ref(slot), bound);
+    store(nodes, slot, &node, right.as_ref(), bound)
 }
 
 /// Makes the entry at an index right in the node at a slot, whose child has changed: where the node lies, unless the
 /// child has too few entries.
-pub fn rebalance_child<P: Probe, const N: usize>(
+pub fn rebalance_child<P: Bound, const N: usize>(
     nodes: &mut Arena<Node<N>>,
     slot: Slot,
     index: usize,
-    probe: &P,
+    bound: &P,
 )
-    requires can_rebalance { CanRebalance (P.bytes probe.now) nodes.old slot index }
+    requires can_rebalance { CanRebalance (P.bytes bound.now) nodes.old slot index }
     ensures rebalanced { (height : ℕ) → IsFamilyAt nodes.old (least_of N) height slot index
         → IsRebalancedAt nodes.old nodes.new (least_of N) height slot }
-    ensures rest { LosesOneAtMost (P.bytes probe.now) nodes.old nodes.new (entries_at nodes.old slot) (entries_at nodes.new slot) }
+    ensures rest { LosesOneAtMost (P.bytes bound.now) nodes.old nodes.new (entries_at nodes.old slot) (entries_at nodes.new slot) }
 {
     let child = nodes.header_ref(slot).entries()[index].child;
     if nodes.header_ref(child).len() >= least(N) {
         let entry = entry_for(nodes, child);
-        nodes.header_mut(slot).set_hinted(index, entry, probe);
+        nodes.header_mut(slot).set_with_head(index, entry, bound);
         return;
     }
     let mut node = nodes.header(slot);
-    rebalance(nodes, &mut node, index, probe);
-    node.take_hints(nodes.header_ref(slot), probe);
+    rebalance(nodes, &mut node, index, bound);
+    node.copy_heads(nodes.header_ref(slot), bound);
     nodes.set_header(slot, node);
 }
 
 /// Makes the entry at an index right in the node at a slot, whose child has changed: an item of this version was
 /// written in its subtree.
-pub fn raise_entry<P: Probe, const N: usize>(
+pub fn raise_entry<P: Bound, const N: usize>(
     nodes: &mut Arena<Node<N>>,
     slot: Slot,
     index: usize,
     version: i64,
-    probe: &P,
+    bound: &P,
 )
-    requires can_rebalance { CanRebalance (P.bytes probe.now) nodes.old slot index }
+    requires can_rebalance { CanRebalance (P.bytes bound.now) nodes.old slot index }
     ensures rebalanced { (height : ℕ) → IsFamilyAt nodes.old (least_of N) height slot index
         → TellsWritten nodes.old height slot index version → IsRebalancedAt nodes.old nodes.new (least_of N) height slot }
-    ensures rest { LosesOneAtMost (P.bytes probe.now) nodes.old nodes.new (entries_at nodes.old slot) (entries_at nodes.new slot) }
+    ensures rest { LosesOneAtMost (P.bytes bound.now) nodes.old nodes.new (entries_at nodes.old slot) (entries_at nodes.new slot) }
 {
     let entry = nodes.header_ref(slot).entries()[index];
     if entry.version > version || nodes.header_ref(entry.child).len() < least(N) {
-        return rebalance_child(nodes, slot, index, probe);
+        return rebalance_child(nodes, slot, index, bound);
     }
     nodes
         .header_mut(slot)
@@ -100,7 +100,7 @@ fn insert_entry<const N: usize>(
         (drop (index + 1) (entries_of node.old)) (entries_with node.new result) }
     ensures left { IfSome result (λ _. N ≤ 2 * length (entries_of node.new)) }
     ensures right { IfSome result (λ right. N ≤ 2 * length (entries_of right)) }
-    ensures known { (bytes : KeyBytes) → AreHinted bytes (hints_of nodes.now) → All (IsKnown bytes) (keys_of (entries_of node.old))
+    ensures known { (bytes : KeyBytes) → AllAreHeads bytes (all_heads_of nodes.now) → All (IsKnown bytes) (keys_of (entries_of node.old))
         → All (IsKnown bytes) (keys_of (entries_with node.new result)) }
 {
     let child = node.entries()[index].child;
@@ -109,29 +109,29 @@ fn insert_entry<const N: usize>(
 }
 
 /// Puts a node at a slot, and its right neighbour, if any, in a spare one, which is returned.
-pub fn store<P: Probe, const N: usize>(
+pub fn store<P: Bound, const N: usize>(
     nodes: &mut Arena<Node<N>>,
     slot: Slot,
     node: &Node<N>,
     right: Option<&Node<N>>,
-    probe: &P,
+    bound: &P,
 ) -> Option<Slot>
     requires live { IsLive nodes.old slot }
     requires keyless { IsKeyless nodes.old }
     requires room { IsSome right → 0 < spare_of nodes.old 0 }
-    requires hinted { AreHinted (P.bytes probe.now) (hints_of nodes.old) }
-    requires left { IsHinted (P.bytes probe.now) (hint_of node.now) }
-    requires right { IfSome right (λ r. All (IsKnown (P.bytes probe.now)) (keys_of (entries_of r.now))) }
+    requires headed { AllAreHeads (P.bytes bound.now) (all_heads_of nodes.old) }
+    requires left { AreHeads (P.bytes bound.now) (key_heads_of node.now) }
+    requires right { IfSome right (λ r. All (IsKnown (P.bytes bound.now)) (keys_of (entries_of r.now))) }
     ensures node { entries_at nodes.new slot ≡ entries_of node.now }
     ensures right { MatchOption right.entry (result ≡ None) (λ r. IsSomeAnd result (λ added. entries_at nodes.new added ≡ entries_of r.now)) }
-    ensures stored { IsStored (P.bytes probe.now) nodes.old nodes.new slot result }
+    ensures stored { IsStored (P.bytes bound.now) nodes.old nodes.new slot result }
 {
     let Some(right) = right else {
         nodes.set_header(slot, *node);
         return None;
     };
     let mut added = *right;
-    added.take_hints(nodes.header_ref(slot), probe);
+    added.copy_heads(nodes.header_ref(slot), bound);
     nodes.set_header(slot, *node);
     Some(place(nodes, added))
 }
@@ -143,8 +143,8 @@ pub fn place<const N: usize>(nodes: &mut Arena<Node<N>>, node: Node<N>) -> Slot
     ensures entries { entries_at nodes.new result ≡ entries_of node.entry }
     ensures live { IsLive nodes.new result }
     ensures changes { Changes nodes.old nodes.new [] (result ∷ []) }
-    ensures hinted { (bytes : KeyBytes) → IsHinted bytes (hint_of node.entry) → AreHinted bytes (hints_of nodes.old)
-        → AreHinted bytes (hints_of nodes.new) }
+    ensures headed { (bytes : KeyBytes) → AreHeads bytes (key_heads_of node.entry) → AllAreHeads bytes (all_heads_of nodes.old)
+        → AllAreHeads bytes (all_heads_of nodes.new) }
 {
     nodes.place(node, &[]).unwrap()
 }

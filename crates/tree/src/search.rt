@@ -5,54 +5,54 @@ ghost use Rattle.std.specs.List.{All, Any};
 ghost use Rattle.tree.specs.Item.{item_of, IsGreatestWith};
 ghost use Rattle.tree.specs.Subtree.{entries_at, items_in, IsSubtree};
 ghost use Rattle.tree.specs.Tree.{least_of};
-ghost use Rattle.tree.specs.Path.{IsCut, behind as behind_cut, index_in, first_key, between};
+ghost use Rattle.tree.specs.Path.{IsPartitioned, behind as behind_partitioned, index_in, first_key, between};
 
 use crate::entry::Entry;
 use crate::node::Node;
-use crate::probe::Probe;
+use crate::bound::Bound;
 use crate::span::{begin_of, end_of, greater, greatest_of, is_above};
 use arena::{Arena, Slot};
 
 /// Returns how many of the entries pass, which come first.
-pub fn passing<P: Probe>(entries: &[Entry], probe: &P) -> usize
-    requires cut { IsCut (λ e. P.lets_pass probe.now e.key) entries.now }
+pub fn lower_bound<P: Bound>(entries: &[Entry], bound: &P) -> usize
+    requires partitioned { IsPartitioned (λ e. P.below bound.now e.key) entries.now }
     ensures within { result ≤ length entries.now }
-    ensures first { take result entries.now ≡ filter (λ e. P.lets_pass probe.now e.key) entries.now }
-    ensures rest { drop result entries.now ≡ filter (λ e. not (P.lets_pass probe.now e.key)) entries.now }
-    ensures count { result ≡ length (filter (λ e. P.lets_pass probe.now e.key) entries.now) }
+    ensures first { take result entries.now ≡ filter (λ e. P.below bound.now e.key) entries.now }
+    ensures rest { drop result entries.now ≡ filter (λ e. not (P.below bound.now e.key)) entries.now }
+    ensures count { result ≡ length (filter (λ e. P.below bound.now e.key) entries.now) }
 {
-    entries.partition_point(|entry| probe.passes(entry.key))
+    entries.partition_point(|entry| bound.is_below(entry.key))
 }
 
 /// Returns the index of the last entry that passes, or else that of the first one.
-pub fn index_of<P: Probe>(entries: &[Entry], probe: &P) -> usize
-    requires cut { IsCut (λ e. P.lets_pass probe.now e.key) entries.now }
+pub fn index_of<P: Bound>(entries: &[Entry], bound: &P) -> usize
+    requires partitioned { IsPartitioned (λ e. P.below bound.now e.key) entries.now }
     requires some { 0 < length entries.now }
-    ensures index { result ≡ index_in (P.lets_pass probe.now) entries.now }
+    ensures index { result ≡ index_in (P.below bound.now) entries.now }
     ensures within { result < length entries.now }
 {
-    passing(entries, probe).saturating_sub(1)
+    lower_bound(entries, bound).saturating_sub(1)
 }
 
 /// Returns the key of the first item that doesn't pass, or `behind` if all of them pass.
-pub fn key_behind<P: Probe, const N: usize>(
+pub fn key_behind<P: Bound, const N: usize>(
     nodes: &Arena<Node<N>>,
     slot: Slot,
     height: usize,
-    probe: &P,
+    bound: &P,
     behind: Option<Slot>,
 ) -> Option<Slot>
     requires subtree { IsSubtree nodes.now (least_of N) height slot }
-    requires cut { IsCut (λ x. P.lets_pass probe.now x.key) (items_in nodes.now height slot) }
-    ensures key { result ≡ first_key behind (behind_cut (P.lets_pass probe.now) (items_in nodes.now height slot)) }
+    requires partitioned { IsPartitioned (λ x. P.below bound.now x.key) (items_in nodes.now height slot) }
+    ensures key { result ≡ first_key behind (behind_partitioned (P.below bound.now) (items_in nodes.now height slot)) }
 {
     let entries = nodes.header_ref(slot).entries();
     if height == 0 {
-        return key_at(entries, passing(entries, probe), behind);
+        return key_at(entries, lower_bound(entries, bound), behind);
     }
-    let index = index_of(entries, probe);
+    let index = index_of(entries, bound);
     let next = key_at(entries, index + 1, behind);
-    key_behind(nodes, entries[index].child, height - 1, probe, next)
+    key_behind(nodes, entries[index].child, height - 1, bound, next)
 }
 
 /// Returns the key of the entry at an index, or `behind` if there is none.
@@ -67,7 +67,7 @@ pub fn key_at(entries: &[Entry], index: usize, behind: Option<Slot>) -> Option<S
 
 /// Returns the greatest of a version, which may be missing, and those of the items from one cut to another. Subtrees that have
 /// none above it are passed over.
-pub fn greatest<'a, P: Probe, Q: Probe, const N: usize>(
+pub fn greatest<'a, P: Bound, Q: Bound, const N: usize>(
     nodes: &Arena<Node<N>>,
     slot: Slot,
     height: usize,
@@ -76,11 +76,11 @@ pub fn greatest<'a, P: Probe, Q: Probe, const N: usize>(
     least: Option<i64>,
 ) -> Option<i64>
     requires subtree { IsSubtree nodes.now (least_of N) height slot }
-    requires from { IfSome from (λ p. IsCut (λ x. P.lets_pass p.now x.key) (items_in nodes.now height slot)) }
-    requires to { IfSome to (λ q. IsCut (λ x. Q.lets_pass q.now x.key) (items_in nodes.now height slot)) }
-    requires nested { IfSome from (λ p. IfSome to (λ q. (key : ℕ) → P.lets_pass p.now key ≡ true → Q.lets_pass q.now key ≡ true)) }
-    ensures greatest { IsGreatestWith least (between (option_map (λ p. P.lets_pass p.now) from.entry)
-        (option_map (λ q. Q.lets_pass q.now) to.entry) (items_in nodes.now height slot)) result }
+    requires from { IfSome from (λ p. IsPartitioned (λ x. P.below p.now x.key) (items_in nodes.now height slot)) }
+    requires to { IfSome to (λ q. IsPartitioned (λ x. Q.below q.now x.key) (items_in nodes.now height slot)) }
+    requires nested { IfSome from (λ p. IfSome to (λ q. (key : ℕ) → P.below p.now key ≡ true → Q.below q.now key ≡ true)) }
+    ensures greatest { IsGreatestWith least (between (option_map (λ p. P.below p.now) from.entry)
+        (option_map (λ q. Q.below q.now) to.entry) (items_in nodes.now height slot)) result }
 {
     let entries = nodes.header_ref(slot).entries();
     let begin = begin_of(entries, from);

@@ -3,32 +3,32 @@
 ghost use Rattle.std.specs.Prelude.{◌≡◌, ◌≤◌, ◌<ℤ◌, ◌↔◌, [], length, filter, option_map, IfSome, IsTrue, MatchOption};
 ghost use Rattle.std.specs.List.{Any};
 ghost use Rattle.tree.specs.Item.{IsGreatest, version_of, greater_of};
-ghost use Rattle.tree.specs.Path.{IsCut, from_cut, to_cut};
+ghost use Rattle.tree.specs.Path.{IsPartitioned, below_from, below_to};
 
 use crate::entry::Entry;
-use crate::probe::Probe;
-use crate::search::passing;
+use crate::bound::Bound;
+use crate::search::lower_bound;
 
 /// Returns how many of the entries stand before the first cut: none where it is missing.
-pub fn begin_of<P: Probe>(entries: &[Entry], from: Option<&P>) -> usize
-    requires cut { IsCut (λ e. from_cut (option_map (λ p. P.lets_pass p.now) from) e.key) entries.now }
+pub fn begin_of<P: Bound>(entries: &[Entry], from: Option<&P>) -> usize
+    requires partitioned { IsPartitioned (λ e. below_from (option_map (λ p. P.below p.now) from) e.key) entries.now }
     ensures within { result ≤ length entries.now }
-    ensures count { result ≡ length (filter (λ e. from_cut (option_map (λ p. P.lets_pass p.now) from.entry) e.key) entries.now) }
+    ensures count { result ≡ length (filter (λ e. below_from (option_map (λ p. P.below p.now) from.entry) e.key) entries.now) }
 {
     match from {
-        Some(probe) => passing(entries, probe),
+        Some(bound) => lower_bound(entries, bound),
         None => 0,
     }
 }
 
 /// Returns how many of the entries stand before the last cut: all where it is missing.
-pub fn end_of<P: Probe>(entries: &[Entry], to: Option<&P>) -> usize
-    requires cut { IsCut (λ e. to_cut (option_map (λ p. P.lets_pass p.now) to) e.key) entries.now }
+pub fn end_of<P: Bound>(entries: &[Entry], to: Option<&P>) -> usize
+    requires partitioned { IsPartitioned (λ e. below_to (option_map (λ p. P.below p.now) to) e.key) entries.now }
     ensures within { result ≤ length entries.now }
-    ensures count { result ≡ length (filter (λ e. to_cut (option_map (λ p. P.lets_pass p.now) to.entry) e.key) entries.now) }
+    ensures count { result ≡ length (filter (λ e. below_to (option_map (λ p. P.below p.now) to.entry) e.key) entries.now) }
 {
     match to {
-        Some(probe) => passing(entries, probe),
+        Some(bound) => lower_bound(entries, bound),
         None => entries.len(),
     }
 }

@@ -3,24 +3,24 @@
 ghost use Rattle.std.specs.Prelude.{◌≡◌, ◌≢◌, ◌<◌, ◌≤◌, ◌<ℤ◌, ◌≤ℤ◌, ◌↔◌, ◌+◌, ◌-◌, ◌++◌, ◌∷◌, ℕ, List, [], true, not, drop, filter, length, take, map, OnErr, OnOk, IfOk, IfSome, IsOkUnless, IsTrue, MatchOption};
 ghost use Rattle.std.specs.List.{All, AllZip, Any};
 ghost use Rattle.tree.specs.Item.{Item, item_of, IsGreatest};
-ghost use Rattle.tree.specs.Hints.{AreHinted, IsHinted, IsKnown, KeyBytes};
-ghost use Rattle.tree.specs.Node.{hint_of, items_of_run};
+ghost use Rattle.tree.specs.Heads.{AllAreHeads, AreHeads, IsKnown, KeyBytes};
+ghost use Rattle.tree.specs.Node.{key_heads_of, items_of_run};
 ghost use Rattle.tree.specs.Overwrite.{Overwrites};
-ghost use Rattle.tree.specs.Thin.{IsThinned};
-ghost use Rattle.tree.specs.Path.{IsCut, passing as passing_of, behind, first_key, between, from_last};
+ghost use Rattle.tree.specs.Expire.{RemovesExpired};
+ghost use Rattle.tree.specs.Path.{IsPartitioned, items_below, behind, first_key, between, from_last};
 ghost use Rattle.tree.specs.declared.question.TheConstants.{SIDE};
-ghost use Rattle.tree.specs.Tree.{IsLast, hints_in, KnowItems};
+ghost use Rattle.tree.specs.Tree.{IsLast, tree_heads, KnowItems};
 
 use crate::entry::Entry;
 use crate::node::Node;
 use crate::overwrite::{Overwrite, Overwriting, Written};
-use crate::probe::Probe;
+use crate::bound::Bound;
 use crate::question::{Question, SIDE};
 use crate::questions::{answer_each, descend_each, look_at_each};
 use crate::rebalance::least;
 use crate::root::{Root, change, last};
 use crate::search::{greatest, key_behind};
-use crate::thin::{Thinned, Thinning};
+use crate::expiring::{Removal, Expiring};
 use arena::{Arena, ArenaError, Slot};
 use arrayvec::ArrayVec;
 use std::alloc::Global;
@@ -43,7 +43,7 @@ pub struct Tree<const N: usize> {
 
 impl<const N: usize> Model for Tree<N> {
     ghost use Rattle.tree.specs.Tree.{Items, IsTree};
-    ghost use Rattle.tree.specs.Node.{hint_list};
+    ghost use Rattle.tree.specs.Node.{heads_list};
     ghost use Rattle.tree.specs.Subtree.{items_in};
 
     ghost Value = { Items };
@@ -51,7 +51,7 @@ impl<const N: usize> Model for Tree<N> {
     ghost view = { λ t. record {
       items = items_in t.nodes t.root.height t.root.slot;
       room = t.room;
-      hints = hint_list t.nodes;
+      all_heads = heads_list t.nodes;
     } };
 
     ghost invariant = { λ t. IsTree t.nodes t.root.slot t.root.height t.len t.room };
@@ -75,7 +75,7 @@ impl<const N: usize> Tree<N> {
         requires few { N ≤ 65536 }
         ensures items { IfOk result (λ tree. tree.items ≡ (record { key = key; version = version }) ∷ []) }
         ensures room { IfOk result (λ tree. tree.room ≡ 1) }
-        ensures hinted { IfOk result (λ tree. (bytes : KeyBytes) → bytes key ≡ Some [] → AreHinted bytes (hints_in tree)) }
+        ensures headed { IfOk result (λ tree. (bytes : KeyBytes) → bytes key ≡ Some [] → AllAreHeads bytes (tree_heads tree)) }
         ensures memory { IsOkUnless result ArenaError.Memory }
     {
         let mut nodes = Arena::new(alloc);
@@ -94,7 +94,7 @@ impl<const N: usize> Tree<N> {
         ensures room { OnOk result (room ≤ self.new.room) }
         ensures room_stays { self.old.room ≤ self.new.room }
         ensures items { self.new.items ≡ self.old.items }
-        ensures hints { self.new.hints ≡ self.old.hints }
+        ensures all_heads { self.new.all_heads ≡ self.old.all_heads }
         ensures unchanged { OnErr result (self.new ≡ self.old) }
         ensures enough { room ≤ self.old.room → self.new ≡ self.old }
         ensures memory { IsOkUnless result ArenaError.Memory }
@@ -121,36 +121,36 @@ impl<const N: usize> Tree<N> {
     }
 
     /// Returns the last item that passes.
-    pub fn last<P: Probe>(&self, probe: &P) -> Option<Entry>
-        requires cut { IsCut (λ x. P.lets_pass probe.now x.key) self.now.items }
-        requires hinted { AreHinted (P.bytes probe.now) (hints_in self.now) }
-        ensures last { MatchOption result (passing_of (P.lets_pass probe.now) self.now.items ≡ [])
-            (λ e. IsLast (item_of e) (passing_of (P.lets_pass probe.now) self.now.items)) }
+    pub fn last<P: Bound>(&self, bound: &P) -> Option<Entry>
+        requires partitioned { IsPartitioned (λ x. P.below bound.now x.key) self.now.items }
+        requires headed { AllAreHeads (P.bytes bound.now) (tree_heads self.now) }
+        ensures last { MatchOption result (items_below (P.below bound.now) self.now.items ≡ [])
+            (λ e. IsLast (item_of e) (items_below (P.below bound.now) self.now.items)) }
     {
-        last(&self.nodes, self.root, probe)
+        last(&self.nodes, self.root, bound)
     }
 
     /// Returns the key of the first item that doesn't pass.
-    pub fn key_behind<P: Probe>(&self, probe: &P) -> Option<Slot>
-        requires cut { IsCut (λ x. P.lets_pass probe.now x.key) self.now.items }
-        ensures key { result ≡ first_key None (behind (P.lets_pass probe.now) self.now.items) }
+    pub fn key_behind<P: Bound>(&self, bound: &P) -> Option<Slot>
+        requires partitioned { IsPartitioned (λ x. P.below bound.now x.key) self.now.items }
+        ensures key { result ≡ first_key None (behind (P.below bound.now) self.now.items) }
     {
-        key_behind(&self.nodes, self.root.slot, self.root.height, probe, None)
+        key_behind(&self.nodes, self.root.slot, self.root.height, bound, None)
     }
 
     /// Returns for each question, in their order, whether a version of the items before its second cut, of those before its first
     /// one the last alone, is above its own. There are at most [`SIDE`], and they are answered side by side. It takes no memory.
-    pub fn exceeds_each<P: Probe, Q: Probe>(
+    pub fn exceeds_each<P: Bound, Q: Bound>(
         &self,
         questions: &[Question<P, Q>],
     ) -> ArrayVec<bool, SIDE>
         requires few { length questions.now ≤ SIDE }
-        requires from { All (λ q. IsCut (λ x. P.lets_pass q.from x.key) self.now.items) questions.now }
-        requires to { All (λ q. IsCut (λ x. Q.lets_pass q.to x.key) self.now.items) questions.now }
-        requires some { All (λ q. passing_of (P.lets_pass q.from) self.now.items ≢ []) questions.now }
-        requires hinted { All (λ q. AreHinted (P.bytes q.from) (hints_in self.now)) questions.now }
+        requires from { All (λ q. IsPartitioned (λ x. P.below q.from x.key) self.now.items) questions.now }
+        requires to { All (λ q. IsPartitioned (λ x. Q.below q.to x.key) self.now.items) questions.now }
+        requires some { All (λ q. items_below (P.below q.from) self.now.items ≢ []) questions.now }
+        requires headed { All (λ q. AllAreHeads (P.bytes q.from) (tree_heads self.now)) questions.now }
         ensures told { AllZip (λ q above. IsTrue above ↔ Any (λ x. q.version <ℤ x.version)
-            (from_last (P.lets_pass q.from) (Some (Q.lets_pass q.to)) self.now.items)) questions.now result.items }
+            (from_last (P.below q.from) (Some (Q.below q.to)) self.now.items)) questions.now result.items }
     {
         let ways = descend_each(&self.nodes, &self.root, questions);
         let looks = look_at_each(&self.nodes, questions, ways.as_slice());
@@ -158,11 +158,11 @@ impl<const N: usize> Tree<N> {
     }
 
     /// Returns the greatest version of the items from one cut to another, or none if there is no item.
-    pub fn greatest<'a, P: Probe, Q: Probe>(&self, from: &'a P, to: &'a Q) -> Option<i64>
-        requires from { IsCut (λ x. P.lets_pass from.now x.key) self.now.items }
-        requires to { IsCut (λ x. Q.lets_pass to.now x.key) self.now.items }
-        requires nested { (key : ℕ) → P.lets_pass from.now key ≡ true → Q.lets_pass to.now key ≡ true }
-        ensures greatest { let items = between (Some (P.lets_pass from.now)) (Some (Q.lets_pass to.now)) self.now.items in
+    pub fn greatest<'a, P: Bound, Q: Bound>(&self, from: &'a P, to: &'a Q) -> Option<i64>
+        requires from { IsPartitioned (λ x. P.below from.now x.key) self.now.items }
+        requires to { IsPartitioned (λ x. Q.below to.now x.key) self.now.items }
+        requires nested { (key : ℕ) → P.below from.now key ≡ true → Q.below to.now key ≡ true }
+        ensures greatest { let items = between (Some (P.below from.now)) (Some (Q.below to.now)) self.now.items in
             MatchOption result (items ≡ []) (λ version. IsGreatest (λ x. x.version) version items) }
     {
         greatest(
@@ -179,22 +179,22 @@ impl<const N: usize> Tree<N> {
     /// before the other cut where none is given, unless an item stands between that cut and a third one. Where more than one
     /// leaf has those items and the one before them, it only takes out those that the last of these leaves has.
     /// Puts the entries that are taken out into `taken`.
-    pub fn overwrite<P: Probe, Q: Probe, R: Probe>(
+    pub fn overwrite<P: Bound, Q: Bound, R: Bound>(
         &mut self,
         new: &Overwrite<'_, P, Q, R>,
         taken: &mut Option<Node<N>>,
     ) -> Written
-        requires from { IsCut (λ x. P.lets_pass new.now.from.now x.key) self.old.items }
-        requires to { IsCut (λ x. Q.lets_pass new.now.to.now x.key) self.old.items }
-        requires past { IsCut (λ x. R.lets_pass new.now.past.now x.key) self.old.items }
-        requires some { passing_of (Q.lets_pass new.now.to.now) self.old.items ≢ [] }
+        requires from { IsPartitioned (λ x. P.below new.now.from.now x.key) self.old.items }
+        requires to { IsPartitioned (λ x. Q.below new.now.to.now x.key) self.old.items }
+        requires past { IsPartitioned (λ x. R.below new.now.past.now x.key) self.old.items }
+        requires some { items_below (Q.below new.now.to.now) self.old.items ≢ [] }
         requires room { length self.old.items + 2 ≤ self.old.room }
-        requires hinted { AreHinted (Q.bytes new.now.to.now) (hints_in self.old) }
+        requires headed { AllAreHeads (Q.bytes new.now.to.now) (tree_heads self.old) }
         requires none_taken { taken.old ≡ None }
-        ensures items { Overwrites (P.lets_pass new.now.from.now) (Q.lets_pass new.now.to.now) (R.lets_pass new.now.past.now)
+        ensures items { Overwrites (P.below new.now.from.now) (Q.below new.now.to.now) (R.below new.now.past.now)
             (item_of new.now.first) new.now.second new.now.last result (items_of_run taken.new) self.old.items self.new.items }
         ensures room { self.new.room ≡ self.old.room }
-        ensures hinted { AreHinted (Q.bytes new.now.to.now) (hints_in self.new) }
+        ensures headed { AllAreHeads (Q.bytes new.now.to.now) (tree_heads self.new) }
         ensures known { KnowItems self.new }
     {
         let mut overwriting = Overwriting {
@@ -209,41 +209,41 @@ impl<const N: usize> Tree<N> {
 
     /// Looks at a run of items that begins with the last one that passes, at most `count` of them, and takes out each whose
     /// version and predecessor's version are below `edge`, into `taken`. `before` is the version of the item before the run.
-    pub fn thin_run<P: Probe>(
+    pub fn remove_expired<P: Bound>(
         &mut self,
-        probe: &P,
+        bound: &P,
         count: usize,
         edge: i64,
         before: i64,
         taken: &mut Option<Node<N>>,
-    ) -> Thinned
-        requires cut { IsCut (λ x. P.lets_pass probe.now x.key) self.old.items }
-        requires some { passing_of (P.lets_pass probe.now) self.old.items ≢ [] }
+    ) -> Removal
+        requires partitioned { IsPartitioned (λ x. P.below bound.now x.key) self.old.items }
+        requires some { items_below (P.below bound.now) self.old.items ≢ [] }
         requires count { 1 ≤ count }
-        requires hinted { AreHinted (P.bytes probe.now) (hints_in self.old) }
+        requires headed { AllAreHeads (P.bytes bound.now) (tree_heads self.old) }
         // The first item of all stays.
-        requires first { length (passing_of (P.lets_pass probe.now) self.old.items) ≡ 1 → edge ≤ℤ before }
+        requires first { length (items_below (P.below bound.now) self.old.items) ≡ 1 → edge ≤ℤ before }
         requires none_taken { taken.old ≡ None }
-        ensures thinned { IsThinned (P.lets_pass probe.now) count edge before result (items_of_run taken.new) None
+        ensures removal { RemovesExpired (P.below bound.now) count edge before result (items_of_run taken.new) None
             self.old.items self.new.items }
         ensures room { self.new.room ≡ self.old.room }
-        ensures hinted { AreHinted (P.bytes probe.now) (hints_in self.new) }
+        ensures headed { AllAreHeads (P.bytes bound.now) (tree_heads self.new) }
         ensures known { KnowItems self.new }
     {
-        let mut thinning = Thinning {
-            probe,
+        let mut expiring = Expiring {
+            bound,
             count,
             edge,
             before,
-            thinned: Thinned {
+            removal: Removal {
                 looked_at: 0,
                 last: before,
                 next: None,
             },
         };
-        change(&mut self.nodes, &mut self.root, &mut thinning, taken);
+        change(&mut self.nodes, &mut self.root, &mut expiring, taken);
         self.len -= taken.as_ref().map_or(0, Node::len);
-        thinning.thinned
+        expiring.removal
     }
 }
 

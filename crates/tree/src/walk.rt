@@ -8,7 +8,7 @@ ghost use Rattle.tree.specs.Subtree.{items_in};
 ghost use Rattle.tree.specs.Walk.{added_by, CanChange, CanSearch, IsChanged, IsChangedWithin};
 
 use crate::node::Node;
-use crate::probe::Probe;
+use crate::bound::Bound;
 use crate::replace::{insert_child, raise_entry, rebalance_child};
 use crate::search::key_at;
 use arena::{Arena, Slot};
@@ -17,7 +17,7 @@ use arena::{Arena, Slot};
 #[derive(Clone, Copy, Debug)]
 pub struct Place {
     /// How many bytes its first key and the target begin with in common, or none if that key doesn't pass.
-    pub known: Option<usize>,
+    pub common_prefix_len: Option<usize>,
     /// The key of the first item behind it.
     pub behind: Option<Slot>,
     /// Whether no item stands before it.
@@ -52,10 +52,10 @@ impl Outcome {
 /// A change of one leaf: the one that has the last item that passes a target, or else the first leaf.
 pub trait LeafChange<const N: usize> {
     /// By what the leaf is found.
-    type Target: Probe;
+    type LeafBound: Bound;
 
     // the target
-    ghost target_of: { Self → Self.Target };
+    ghost bound_of: { Self → Self.LeafBound };
 
     // What is wanted of the items of the leaf.
     ghost wants: { Self → List Item → Type 0 };
@@ -65,8 +65,8 @@ pub trait LeafChange<const N: usize> {
     ghost gives: { Self → Self → List Item → Bool → Option ℕ → List Item → List Item → Type 0 };
 
     /// Returns the target.
-    fn target(&self) -> &Self::Target
-        ensures target { result.now ≡ target_of self.now };
+    fn leaf_bound(&self) -> &Self::LeafBound
+        ensures leaf_bound { result.now ≡ bound_of self.now };
 
     /// Changes the leaf where it lies, and puts the entries that it takes out into `taken`.
     fn change(
@@ -77,14 +77,14 @@ pub trait LeafChange<const N: usize> {
         taken: &mut Option<Node<N>>,
     ) -> Outcome
         requires changeable { CanChange nodes.old 0 slot }
-        requires searched { CanSearch (Self.Target.bytes (target_of self.old)) (Self.Target.lets_pass (target_of self.old))
-            (Self.Target.sought (target_of self.old)) nodes.old 0 slot place.known }
+        requires searched { CanSearch (Self.LeafBound.bytes (bound_of self.old)) (Self.LeafBound.below (bound_of self.old))
+            (Self.LeafBound.target (bound_of self.old)) nodes.old 0 slot place.common_prefix_len }
         requires wanted { wants self.old (items_in nodes.old 0 slot) }
         requires none_taken { taken.old ≡ None }
-        ensures changed { IsChanged (Self.Target.bytes (target_of self.old)) nodes.old nodes.new 0 slot result }
+        ensures changed { IsChanged (Self.LeafBound.bytes (bound_of self.old)) nodes.old nodes.new 0 slot result }
         ensures items { gives self.old self.new (items_of_run taken.new) place.is_first place.behind (items_in nodes.old 0 slot)
             (items_with nodes.new 0 slot (added_by result)) }
-        ensures target { target_of self.new ≡ target_of self.old };
+        ensures leaf_bound { bound_of self.new ≡ bound_of self.old };
 
     // What is wanted of items is wanted of a part of them.
     ghost part: { (change : Self) (before items behind : List Item) → wants change (before ++ (items ++ behind))
@@ -102,39 +102,39 @@ pub fn change_leaf<C: LeafChange<N>, const N: usize>(
     taken: &mut Option<Node<N>>,
 ) -> Outcome
     requires changeable { CanChange nodes.old height slot }
-    requires searched { CanSearch (C.Target.bytes (C.target_of change.old)) (C.Target.lets_pass (C.target_of change.old))
-        (C.Target.sought (C.target_of change.old)) nodes.old height slot place.known }
+    requires searched { CanSearch (C.LeafBound.bytes (C.bound_of change.old)) (C.LeafBound.below (C.bound_of change.old))
+        (C.LeafBound.target (C.bound_of change.old)) nodes.old height slot place.common_prefix_len }
     requires wanted { C.wants change.old (items_in nodes.old height slot) }
     requires none_taken { taken.old ≡ None }
-    ensures changed { IsChanged (C.Target.bytes (C.target_of change.old)) nodes.old nodes.new height slot result }
-    ensures items { IsChangedWithin (C.Target.lets_pass (C.target_of change.old)) (C.gives change.old change.new (items_of_run taken.new))
+    ensures changed { IsChanged (C.LeafBound.bytes (C.bound_of change.old)) nodes.old nodes.new height slot result }
+    ensures items { IsChangedWithin (C.LeafBound.below (C.bound_of change.old)) (C.gives change.old change.new (items_of_run taken.new))
         place.is_first place.behind (items_in nodes.old height slot) (items_with nodes.new height slot (added_by result)) }
-    ensures target { C.target_of change.new ≡ C.target_of change.old }
+    ensures leaf_bound { C.bound_of change.new ≡ C.bound_of change.old }
 {
     if height == 0 {
         return change.change(nodes, slot, place, taken);
     }
     let node = nodes.header_ref(slot);
-    let step = node.step(change.target(), place.known);
+    let step = node.step(change.leaf_bound(), place.common_prefix_len);
     let entries = node.entries();
     let child = entries[step.index].child;
     let below = Place {
-        known: step.known,
+        common_prefix_len: step.common_prefix_len,
         behind: key_at(entries, step.index + 1, place.behind),
         is_first: place.is_first && step.index == 0,
     };
     match change_leaf(nodes, child, height - 1, change, below, taken) {
         Outcome::Same => Outcome::Same,
         Outcome::Raised(version) => {
-            raise_entry(nodes, slot, step.index, version, change.target());
+            raise_entry(nodes, slot, step.index, version, change.leaf_bound());
             Outcome::Raised(version)
         }
         Outcome::Changed => {
-            rebalance_child(nodes, slot, step.index, change.target());
+            rebalance_child(nodes, slot, step.index, change.leaf_bound());
             Outcome::Changed
         }
         Outcome::Split(added) => {
-            match insert_child(nodes, slot, step.index, added, change.target()) {
+            match insert_child(nodes, slot, step.index, added, change.leaf_bound()) {
                 Some(added) => Outcome::Split(added),
                 None => Outcome::Changed,
             }

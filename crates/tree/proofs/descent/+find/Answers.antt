@@ -1,19 +1,19 @@
 use Rattle.std.proofs.Common.{rules, ◌≤◌, ◌<◌, ◌∙◌, List, length, ap, sym, subst, refl, arith}
 use Rattle.tree.specs.declared.entry.Entry.{Entry}
-use Rattle.tree.specs.Hints.{KnowsAt}
+use Rattle.tree.specs.Heads.{IsPrefixLenAt}
 use Rattle.tree.specs.Node.{entries_of}
 use Rattle.tree.specs.Path.{index_in}
 use Rattle.tree.specs.Tree.{least_of}
-use Rattle.tree.proofs.Found.{entries_read, read_cut, found, found_subtree, found_cut, found_leaf}
+use Rattle.tree.proofs.Found.{entries_read, read_partitioned, found, found_subtree, found_partitioned, found_leaf}
 use Rattle.tree.proofs.FirstKeys.{known_below, some_below}
-use Rattle.tree.proofs.Hinted.{hinted_at}
+use Rattle.tree.proofs.Headed.{headed_at}
 use Rattle.tree.proofs.Keys.{key_behind_child}
 use Rattle.tree.proofs.descent.+find.Goals as goal
 
 pub step-step-requires : goal.step-step-requires
 step-step-requires g t c =
-    let P = g.P.Probe in
-    let probe = c.args.probe.now in
+    let P = g.P.Bound in
+    let bound = c.args.bound.now in
     let nodes = c.args.nodes.now in
     let header = c.header_ref-node.result.now in
     let h = c.header_ref-node.ensures.header in
@@ -23,26 +23,26 @@ step-step-requires g t c =
       search rules,
       (
         record {
-          hinted = hinted_at (P.bytes probe) nodes c.args.slot header c.requires.can_reach.hinted h;
-          cut = read_cut nodes (least_of g.row.N) c.args.height c.args.slot (P.lets_pass probe) header es
-              c.if-height-eq0.false c.requires.can_reach.subtree c.requires.can_reach.cut h refl;
+          headed = headed_at (P.bytes bound) nodes c.args.slot header c.requires.can_reach.headed h;
+          partitioned = read_partitioned nodes (least_of g.row.N) c.args.height c.args.slot (P.below bound) header es
+              c.if-height-eq0.false c.requires.can_reach.subtree c.requires.can_reach.partitioned h refl;
           some = some;
         },
-        subst (λ es. KnowsAt (P.bytes probe) (P.lets_pass probe) (P.sought probe) c.args.known es 0) read c.requires.known,
+        subst (λ es. IsPrefixLenAt (P.bytes bound) (P.below bound) (P.target bound) c.args.common_prefix_len es 0) read c.requires.known,
       ),
     )
 
 pub find-requires : goal.find-requires
 find-requires g t c κs within =
-    let passes = g.P.Probe.lets_pass c.args.probe.now in
+    let is_below = g.P.Bound.below c.args.bound.now in
     let nodes = c.args.nodes.now in
     let least = least_of g.row.N in
     let header = c.header_ref-node.result.now in
     let es = c.entries-2.result.now in
     let some : 1 ≤ least = omega arith in
-    let f = found nodes least c.args.height c.args.slot passes header es c.step-step.result.index c.index-entries-step.result
-    c.if-height-eq0.false c.requires.can_reach.subtree c.requires.can_reach.cut c.header_ref-node.ensures.header c.entries-2.ensures.entries
-    (c.step-step.ensures.step.index_is ∙ ap (index_in passes) (sym c.entries-2.ensures.entries)) in (
+    let f = found nodes least c.args.height c.args.slot is_below header es c.step-step.result.index c.index-entries-step.result
+    c.if-height-eq0.false c.requires.can_reach.subtree c.requires.can_reach.partitioned c.header_ref-node.ensures.header c.entries-2.ensures.entries
+    (c.step-step.ensures.step.index_is ∙ ap (index_in is_below) (sym c.entries-2.ensures.entries)) in (
       search rules,
       (
         search rules,
@@ -52,13 +52,13 @@ find-requires g t c κs within =
             search rules,
             (
               record {
-                subtree = found_subtree nodes least c.args.height c.args.slot passes _ f;
-                some = some_below nodes least c.args.height c.args.slot passes _ f some;
-                cut = found_cut nodes least c.args.height c.args.slot passes _ f;
-                hinted = c.requires.can_reach.hinted;
+                subtree = found_subtree nodes least c.args.height c.args.slot is_below _ f;
+                some = some_below nodes least c.args.height c.args.slot is_below _ f some;
+                partitioned = found_partitioned nodes least c.args.height c.args.slot is_below _ f;
+                headed = c.requires.can_reach.headed;
               },
-              known_below nodes least c.args.height c.args.slot passes _ f (g.P.Probe.bytes c.args.probe.now)
-                  (g.P.Probe.sought c.args.probe.now) c.step-step.result.known header c.step-step.result.index
+              known_below nodes least c.args.height c.args.slot is_below _ f (g.P.Bound.bytes c.args.bound.now)
+                  (g.P.Bound.target c.args.bound.now) c.step-step.result.common_prefix_len header c.step-step.result.index
                   c.header_ref-node.ensures.header c.step-step.ensures.step.index_is c.step-step.ensures.step.knows,
             ),
           ),
@@ -68,27 +68,27 @@ find-requires g t c κs within =
 
 pub returns-clause-leaf : goal.returns-clause-leaf
 returns-clause-leaf g t c =
-    let passes = g.P.Probe.lets_pass c.args.probe.now in
+    let is_below = g.P.Bound.below c.args.bound.now in
     let nodes = c.args.nodes.now in
     let least = least_of g.row.N in
     let es = c.entries-2.result.now in
-    let f = found nodes least c.args.height c.args.slot passes c.header_ref-node.result.now es c.step-step.result.index
-    c.index-entries-step.result c.if-height-eq0.false c.requires.can_reach.subtree c.requires.can_reach.cut c.header_ref-node.ensures.header
-    c.entries-2.ensures.entries (c.step-step.ensures.step.index_is ∙ ap (index_in passes) (sym c.entries-2.ensures.entries)) in
-    found_leaf nodes least c.args.height c.args.slot passes _ f c.find.result.leaf c.find.ensures.leaf
+    let f = found nodes least c.args.height c.args.slot is_below c.header_ref-node.result.now es c.step-step.result.index
+    c.index-entries-step.result c.if-height-eq0.false c.requires.can_reach.subtree c.requires.can_reach.partitioned c.header_ref-node.ensures.header
+    c.entries-2.ensures.entries (c.step-step.ensures.step.index_is ∙ ap (index_in is_below) (sym c.entries-2.ensures.entries)) in
+    found_leaf nodes least c.args.height c.args.slot is_below _ f c.find.result.leaf c.find.ensures.leaf
 
 pub returns-clause-behind : goal.returns-clause-behind
 returns-clause-behind g t c =
-    let passes = g.P.Probe.lets_pass c.args.probe.now in
+    let is_below = g.P.Bound.below c.args.bound.now in
     let nodes = c.args.nodes.now in
     let least = least_of g.row.N in
     let header = c.header_ref-node.result.now in
     let index = c.step-step.result.index in
     let es = c.entries-2.result.now in
-    let f = found nodes least c.args.height c.args.slot passes header es index c.index-entries-step.result
-    c.if-height-eq0.false c.requires.can_reach.subtree c.requires.can_reach.cut c.header_ref-node.ensures.header c.entries-2.ensures.entries
-    (c.step-step.ensures.step.index_is ∙ ap (index_in passes) (sym c.entries-2.ensures.entries)) in
+    let f = found nodes least c.args.height c.args.slot is_below header es index c.index-entries-step.result
+    c.if-height-eq0.false c.requires.can_reach.subtree c.requires.can_reach.partitioned c.header_ref-node.ensures.header c.entries-2.ensures.entries
+    (c.step-step.ensures.step.index_is ∙ ap (index_in is_below) (sym c.entries-2.ensures.entries)) in
     c.find.ensures.behind
-    ∙ key_behind_child nodes least c.args.height c.args.slot passes _ f header c.entries.result.now index c.args.behind
+    ∙ key_behind_child nodes least c.args.height c.args.slot is_below _ f header c.entries.result.now index c.args.behind
     c.key_at-next.result c.header_ref-node.ensures.header c.entries.ensures.entries
-    (c.step-step.ensures.step.index_is ∙ ap (index_in passes) (sym c.entries.ensures.entries)) c.key_at-next.ensures.key
+    (c.step-step.ensures.step.index_is ∙ ap (index_in is_below) (sym c.entries.ensures.entries)) c.key_at-next.ensures.key

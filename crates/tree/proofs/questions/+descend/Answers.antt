@@ -5,21 +5,21 @@ use Rattle.std.proofs.lemmas.Option.{slice_get_read}
 use mir.Val.{SFits}
 use Rattle.tree.specs.declared.entry.Entry.{Entry}
 use Rattle.tree.specs.Finding.{CanFind}
-use Rattle.tree.specs.Hints.{IsHinted, KnowsAt, BeginAlike, Agrees}
+use Rattle.tree.specs.Heads.{AreHeads, IsPrefixLenAt, HaveCommonPrefix, HasPrefix}
 use Rattle.tree.specs.Item.{Tells}
 use Rattle.tree.specs.Item.{Item}
 use Rattle.tree.specs.Question.{IsTold}
 use Rattle.tree.proofs.Approaches.{approach_wider}
-use Rattle.tree.specs.Node.{entries_of, hint_of}
-use Rattle.tree.specs.Path.{IsCut}
+use Rattle.tree.specs.Node.{entries_of, key_heads_of}
+use Rattle.tree.specs.Path.{IsPartitioned}
 use Rattle.tree.specs.Subtree.{entries_at, items_in, IsChild, IsSubtree}
 use Rattle.tree.specs.Tree.{least_of}
 use Rattle.tree.proofs.Above.{at_most_tested}
-use Rattle.tree.proofs.callers.Cuts.{not_true}
+use Rattle.tree.proofs.callers.Partitions.{not_true}
 use Rattle.tree.proofs.Found.{entries_read}
-use Rattle.tree.proofs.Hinted.{hint_kept, hinted_at}
-use Rattle.tree.proofs.NearCuts.{agrees_too}
-use Rattle.tree.proofs.Looks.{IsLook, look_cut, look_tell, child_from, child_to}
+use Rattle.tree.proofs.Headed.{key_heads_kept, headed_at}
+use Rattle.tree.proofs.NearBounds.{agrees_too}
+use Rattle.tree.proofs.Looks.{IsLook, look_bound, look_tell, child_from, child_to}
 use Rattle.tree.proofs.Told.{Clears, clears_behind, clears_same, told_by_child, told_by_entry}
 use Rattle.tree.proofs.ToldKeys.{alike_for_other, some_pass, last_passes}
 use Rattle.tree.proofs.FirstKeys.{child_at, knows_child}
@@ -42,13 +42,13 @@ read g t c =
 
 -- the two cuts of the node
 look : (g : Over) (t : ℕ) (c : After-entries-entries g t) (begin end : ℕ)
-    → begin ≡ length (filter (λ e. g.P.Probe.lets_pass c.args.question.now.from e.key) c.entries-entries.result.now)
-    → end ≡ length (filter (λ e. g.Q.Probe.lets_pass c.args.question.now.to e.key) c.entries-entries.result.now)
-    → IsLook c.args.nodes.now (least_of g.row.N) c.args.height c.args.slot (g.P.Probe.lets_pass c.args.question.now.from)
-    (g.Q.Probe.lets_pass c.args.question.now.to) c.entries-entries.result.now begin end
+    → begin ≡ length (filter (λ e. g.P.Bound.below c.args.question.now.from e.key) c.entries-entries.result.now)
+    → end ≡ length (filter (λ e. g.Q.Bound.below c.args.question.now.to e.key) c.entries-entries.result.now)
+    → IsLook c.args.nodes.now (least_of g.row.N) c.args.height c.args.slot (g.P.Bound.below c.args.question.now.from)
+    (g.Q.Bound.below c.args.question.now.to) c.entries-entries.result.now begin end
 look g t c begin end b e = record {
   subtree = c.requires.asked.can_reach.subtree;
-  from = c.requires.asked.can_reach.cut;
+  from = c.requires.asked.can_reach.partitioned;
   to = c.requires.asked.to;
   nested = c.args.question.now.nested;
   read = read g t c;
@@ -60,67 +60,67 @@ some : (g : Over) (t : ℕ) (c : After-entries-entries g t) → 1 ≤ length c.e
 some g t c = subst (λ (es : List Entry). 1 ≤ length es) (read g t c) c.requires.asked.can_reach.some
 
 knows : (g : Over) (t : ℕ) (c : After-entries-entries g t)
-    → KnowsAt (g.P.Probe.bytes c.args.question.now.from) (g.P.Probe.lets_pass c.args.question.now.from)
-    (g.P.Probe.sought c.args.question.now.from) (Some c.args.known) c.entries-entries.result.now 0
+    → IsPrefixLenAt (g.P.Bound.bytes c.args.question.now.from) (g.P.Bound.below c.args.question.now.from)
+    (g.P.Bound.target c.args.question.now.from) (Some c.args.common_prefix_len) c.entries-entries.result.now 0
 knows g t c =
     subst
-    (λ es. KnowsAt (g.P.Probe.bytes c.args.question.now.from) (g.P.Probe.lets_pass c.args.question.now.from)
-    (g.P.Probe.sought c.args.question.now.from) (Some c.args.known) es 0) (read g t c) c.requires.known
+    (λ es. IsPrefixLenAt (g.P.Bound.bytes c.args.question.now.from) (g.P.Bound.below c.args.question.now.from)
+    (g.P.Bound.target c.args.question.now.from) (Some c.args.common_prefix_len) es 0) (read g t c) c.requires.known
 
-passes : (g : Over) (t : ℕ) (c : After-entries-entries g t)
-    → 1 ≤ length (filter (λ e. g.P.Probe.lets_pass c.args.question.now.from e.key) c.entries-entries.result.now)
-passes g t c =
-    some_pass (g.P.Probe.lets_pass c.args.question.now.from) c.entries-entries.result.now (some g t c)
+is_below : (g : Over) (t : ℕ) (c : After-entries-entries g t)
+    → 1 ≤ length (filter (λ e. g.P.Bound.below c.args.question.now.from e.key) c.entries-entries.result.now)
+is_below g t c =
+    some_pass (g.P.Bound.below c.args.question.now.from) c.entries-entries.result.now (some g t c)
     (λ e is. (knows g t c e is).0)
 
-hinted : (g : Over) (t : ℕ) (c : After-entries-entries g t)
-    → IsHinted (g.P.Probe.bytes c.args.question.now.from) (hint_of c.header_ref-node.result.now)
-hinted g t c =
-    hinted_at (g.P.Probe.bytes c.args.question.now.from) c.args.nodes.now c.args.slot c.header_ref-node.result.now
-    c.requires.asked.can_reach.hinted
+headed : (g : Over) (t : ℕ) (c : After-entries-entries g t)
+    → AreHeads (g.P.Bound.bytes c.args.question.now.from) (key_heads_of c.header_ref-node.result.now)
+headed g t c =
+    headed_at (g.P.Bound.bytes c.args.question.now.from) c.args.nodes.now c.args.slot c.header_ref-node.result.now
+    c.requires.asked.can_reach.headed
     c.header_ref-node.ensures.header
 
 -- the other probe knows the same bytes
-hinted_too : (g : Over) (t : ℕ) (c : After-entries-entries g t)
-    → IsHinted (g.Q.Probe.bytes c.args.question.now.to) (hint_of c.header_ref-node.result.now)
-hinted_too g t c =
-    hint_kept (g.P.Probe.bytes c.args.question.now.from) (g.Q.Probe.bytes c.args.question.now.to)
+headed_too : (g : Over) (t : ℕ) (c : After-entries-entries g t)
+    → AreHeads (g.Q.Bound.bytes c.args.question.now.to) (key_heads_of c.header_ref-node.result.now)
+headed_too g t c =
+    key_heads_kept (g.P.Bound.bytes c.args.question.now.from) (g.Q.Bound.bytes c.args.question.now.to)
     (λ key text is. sym (c.args.question.now.bytes key) ∙ is)
-    (hint_of c.header_ref-node.result.now) (hinted g t c)
+    (key_heads_of c.header_ref-node.result.now) (headed g t c)
 
-cut_from : (g : Over) (t : ℕ) (c : After-entries-entries g t)
-    → IsCut (λ e. g.P.Probe.lets_pass c.args.question.now.from e.key) c.entries-entries.result.now
-cut_from g t c =
-    look_cut c.args.nodes.now (least_of g.row.N) c.args.height c.args.slot (g.P.Probe.lets_pass c.args.question.now.from)
-    c.header_ref-node.result.now c.entries-entries.result.now c.requires.asked.can_reach.subtree c.requires.asked.can_reach.cut
+partitioned_from : (g : Over) (t : ℕ) (c : After-entries-entries g t)
+    → IsPartitioned (λ e. g.P.Bound.below c.args.question.now.from e.key) c.entries-entries.result.now
+partitioned_from g t c =
+    look_bound c.args.nodes.now (least_of g.row.N) c.args.height c.args.slot (g.P.Bound.below c.args.question.now.from)
+    c.header_ref-node.result.now c.entries-entries.result.now c.requires.asked.can_reach.subtree c.requires.asked.can_reach.partitioned
     c.header_ref-node.ensures.header c.entries-entries.ensures.entries
 
-cut_to : (g : Over) (t : ℕ) (c : After-entries-entries g t)
-    → IsCut (λ e. g.Q.Probe.lets_pass c.args.question.now.to e.key) c.entries-entries.result.now
-cut_to g t c =
-    look_cut c.args.nodes.now (least_of g.row.N) c.args.height c.args.slot (g.Q.Probe.lets_pass c.args.question.now.to)
+partitioned_to : (g : Over) (t : ℕ) (c : After-entries-entries g t)
+    → IsPartitioned (λ e. g.Q.Bound.below c.args.question.now.to e.key) c.entries-entries.result.now
+partitioned_to g t c =
+    look_bound c.args.nodes.now (least_of g.row.N) c.args.height c.args.slot (g.Q.Bound.below c.args.question.now.to)
     c.header_ref-node.result.now c.entries-entries.result.now c.requires.asked.can_reach.subtree c.requires.asked.to
     c.header_ref-node.ensures.header c.entries-entries.ensures.entries
 
 -- what is asked of the search in a node
 asked : (g : Over) (t : ℕ) (c : After-entries-entries g t)
-    → CanFind (g.P.Probe.bytes c.args.question.now.from) (g.P.Probe.lets_pass c.args.question.now.from)
+    → CanFind (g.P.Bound.bytes c.args.question.now.from) (g.P.Bound.below c.args.question.now.from)
     c.header_ref-node.result.now
 asked g t c =
     let is = c.entries-entries.ensures.entries in
     record {
-      hinted = hinted g t c;
-      cut = subst (IsCut (λ (e : Entry). g.P.Probe.lets_pass c.args.question.now.from e.key)) is (cut_from g t c);
+      headed = headed g t c;
+      partitioned = subst (IsPartitioned (λ (e : Entry). g.P.Bound.below c.args.question.now.from e.key)) is (partitioned_from g t c);
       some = subst (λ (es : List Entry). 1 ≤ length es) is (some g t c);
     }
 
 known : (g : Over) (t : ℕ) (c : After-entries-entries g t)
-    → KnowsAt (g.P.Probe.bytes c.args.question.now.from) (g.P.Probe.lets_pass c.args.question.now.from)
-    (g.P.Probe.sought c.args.question.now.from) (Some c.args.known) (entries_of c.header_ref-node.result.now) 0
+    → IsPrefixLenAt (g.P.Bound.bytes c.args.question.now.from) (g.P.Bound.below c.args.question.now.from)
+    (g.P.Bound.target c.args.question.now.from) (Some c.args.common_prefix_len) (entries_of c.header_ref-node.result.now) 0
 known g t c =
     subst
-    (λ es. KnowsAt (g.P.Probe.bytes c.args.question.now.from) (g.P.Probe.lets_pass c.args.question.now.from)
-    (g.P.Probe.sought c.args.question.now.from) (Some c.args.known) es 0) c.entries-entries.ensures.entries (knows g t c)
+    (λ es. IsPrefixLenAt (g.P.Bound.bytes c.args.question.now.from) (g.P.Bound.below c.args.question.now.from)
+    (g.P.Bound.target c.args.question.now.from) (Some c.args.common_prefix_len) es 0) c.entries-entries.ensures.entries (knows g t c)
 
 pub head_for-own-requires : goal.head_for-own-requires
 head_for-own-requires g t c =
@@ -128,7 +128,7 @@ head_for-own-requires g t c =
     let a = asked g t at in (
       search rules,
       (
-        a.hinted,
+        a.headed,
         (a.some, (λ e text there known_text count inside le. ((known g t at e there).1 text known_text count inside).0 le)),
       ),
     )
@@ -137,36 +137,36 @@ pub head_given-head-requires : goal.head_given-head-requires
 head_given-head-requires g t c =
     let at = (goal.at.head_given-head-requires g t c).After-entries-entries in
     let is = c.entries-entries.ensures.entries in
-    let sought = g.P.Probe.sought c.args.question.now.from in
-    let other = g.Q.Probe.sought c.args.question.now.to in
-    let near = g.Q.Probe.bytes c.args.question.now.to in
-    let hint = hint_of c.header_ref-node.result.now in
-    let agrees : IsTrue c.if-is_some.agrees → Agrees near hint other =
+    let target = g.P.Bound.target c.args.question.now.from in
+    let other = g.Q.Bound.target c.args.question.now.to in
+    let near = g.Q.Bound.bytes c.args.question.now.to in
+    let key_heads = key_heads_of c.header_ref-node.result.now in
+    let agrees : IsTrue c.if-is_some.agrees → HasPrefix near key_heads other =
     elim c.if-is_some.branch [
       | then-is_some w ↦
           λ yes.
-          let short : w.skip.result ≤ c.args.question.now.shared = leb-true w.skip.result c.args.question.now.shared
+          let short : w.prefix_len.result ≤ c.args.question.now.targets_prefix_len = leb-true w.prefix_len.result c.args.question.now.targets_prefix_len
           (sym w.agrees-is ∙ yes) in
-          agrees_too near (g.P.Probe.bytes c.args.question.now.from) hint other sought c.args.question.now.shared
+          agrees_too near (g.P.Bound.bytes c.args.question.now.from) key_heads other target c.args.question.now.targets_prefix_len
           c.head_for-own.result c.args.question.now.bytes c.head_for-own.ensures.head.head (sym c.is_some.ensures ∙ w.if-is_some.true)
-          (omega (arith, short, w.skip.ensures.skip)) c.args.question.now.begin_alike
+          (omega (arith, short, w.prefix_len.ensures.prefix_len)) c.args.question.now.begin_alike
       | else-is_some w ↦ λ yes. absurd (let f : false ≡ true = sym w.if-is_some.false ∙ sym w.agrees-is ∙ yes in cc)
     ] in
     let alike = λ (e : Entry) (text : List ℕ) (there : slice_get c.entries-entries.result.now 0 ≡ Some e)
     (known : near e.key ≡ Some text).
-    subst (λ n. BeginAlike n text other) (sym c.min.ensures)
-    (alike_for_other c.args.known c.args.question.now.shared text sought other
+    subst (λ n. HaveCommonPrefix n text other) (sym c.min.ensures)
+    (alike_for_other c.args.common_prefix_len c.args.question.now.targets_prefix_len text target other
     ((knows g t at e there).1 text (c.args.question.now.bytes e.key ∙ known)) c.args.question.now.begin_alike) in (
       search rules,
       (
-        hinted_too g t at,
+        headed_too g t at,
         (
           (asked g t at).some,
           (
             agrees,
             subst
                 (λ es. (e : Entry) (text : List ℕ) → slice_get es 0 ≡ Some e → near e.key ≡ Some text
-                → BeginAlike c.min.result text other) is alike,
+                → HaveCommonPrefix c.min.result text other) is alike,
           ),
         ),
       ),
@@ -196,11 +196,11 @@ child g t c =
 -- what is told of the items behind the child
 behind : (g : Over) (t : ℕ) (c : After-index-entries-step g t)
     → All (λ e. Tells e (items_in c.args.nodes.now (c.args.height - 1) e.child)) c.entries-entries.result.now
-    → Clears (g.Q.Probe.lets_pass c.args.question.now.to) c.args.clear c.if-next-entries.clear
+    → Clears (g.Q.Bound.below c.args.question.now.to) c.args.clear c.if-next-entries.clear
     (flat_map (λ e. items_in c.args.nodes.now (c.args.height - 1) e.child)
     (drop (c.step_by-step.result.index + 1) c.entries-entries.result.now))
 behind g t c tell =
-    let q = g.Q.Probe.lets_pass c.args.question.now.to in
+    let q = g.Q.Bound.below c.args.question.now.to in
     let below = λ (e : Entry). items_in c.args.nodes.now (c.args.height - 1) e.child in
     let es = c.entries-entries.result.now in
     let next = c.step_by-step.result.index + 1 in
@@ -208,8 +208,8 @@ behind g t c tell =
       | then-next-entries w ↦
           clears_behind q below es next c.args.clear c.if-next-entries.clear tell w.if-next-entries.true
           (λ e there t.
-          sym (w.passes_at.ensures.passes e (subst (λ es. slice_get es next ≡ Some e) c.entries-entries.ensures.entries there))
-          ∙ not_true w.passes_at.result (sym w.clear-is ∙ t))
+          sym (w.is_below_at.ensures.is_below e (subst (λ es. slice_get es next ≡ Some e) c.entries-entries.ensures.entries there))
+          ∙ not_true w.is_below_at.result (sym w.clear-is ∙ t))
       | else-next-entries w ↦
           clears_same q below es next c.args.clear c.if-next-entries.clear w.if-next-entries.false w.clear-is
     ]
@@ -226,8 +226,8 @@ descend-requires g t c κs within_lives =
     let es = c.entries-entries.result.now in
     let there : slice_get es i ≡ Some e = slice_get_read es (length es) i e refl inside is in
     let knows = knows_child c.args.nodes.now (least_of g.row.N) (c.args.height - 1) e e.child
-    (g.P.Probe.bytes c.args.question.now.from) (g.P.Probe.lets_pass c.args.question.now.from)
-    (g.P.Probe.sought c.args.question.now.from) c.step_by-step.result.known node refl
+    (g.P.Bound.bytes c.args.question.now.from) (g.P.Bound.below c.args.question.now.from)
+    (g.P.Bound.target c.args.question.now.from) c.step_by-step.result.common_prefix_len node refl
     (c.step_by-step.ensures.step.knows e (subst (λ es. slice_get es i ≡ Some e) c.entries-entries.ensures.entries there)) in (
       search rules,
       (
@@ -243,8 +243,8 @@ descend-requires g t c κs within_lives =
                   can_reach = record {
                     subtree = node.subtree;
                     some = omega (arith, node.filled);
-                    cut = child_from _ _ _ _ _ _ _ _ _ k c.if-height-eq0.false i e inside is;
-                    hinted = c.requires.asked.can_reach.hinted;
+                    partitioned = child_from _ _ _ _ _ _ _ _ _ k c.if-height-eq0.false i e inside is;
+                    headed = c.requires.asked.can_reach.headed;
                   };
                   to = child_to _ _ _ _ _ _ _ _ _ k c.if-height-eq0.false i e inside is;
                 },
@@ -260,8 +260,8 @@ pub returns-then-height-eq0 : goal.returns-then-height-eq0
 returns-then-height-eq0 g t c =
     let nodes = c.args.nodes.now in
     let slot = c.args.slot in
-    let p = g.P.Probe.lets_pass c.args.question.now.from in
-    let q = g.Q.Probe.lets_pass c.args.question.now.to in
+    let p = g.P.Bound.below c.args.question.now.from in
+    let q = g.Q.Bound.below c.args.question.now.to in
     let zero = c.if-height-eq0.true in
     record {
       approach = record {
@@ -270,8 +270,8 @@ returns-then-height-eq0 g t c =
           some = c.requires.asked.can_reach.some;
           known = c.requires.known;
         };
-        from = subst (λ h. IsCut (λ (x : Item). p x.key) (items_in nodes h slot)) zero c.requires.asked.can_reach.cut;
-        to = subst (λ h. IsCut (λ (x : Item). q x.key) (items_in nodes h slot)) zero c.requires.asked.to;
+        from = subst (λ h. IsPartitioned (λ (x : Item). p x.key) (items_in nodes h slot)) zero c.requires.asked.can_reach.partitioned;
+        to = subst (λ h. IsPartitioned (λ (x : Item). q x.key) (items_in nodes h slot)) zero c.requires.asked.to;
         tells = λ result told.
             subst (λ h. IsTold p q c.args.question.now.version c.args.clear (items_in nodes h slot) result) (sym zero) told;
       };
@@ -283,14 +283,14 @@ returns g t c =
     let k = look g t (goal.at.returns g t c).After-entries-entries _ _ refl refl in
     let nodes = c.args.nodes.now in
     let e = c.index-entries-step.result in
-    let bytes = g.P.Probe.bytes c.args.question.now.from in
-    let p = g.P.Probe.lets_pass c.args.question.now.from in
-    let q = g.Q.Probe.lets_pass c.args.question.now.to in
-    let sought = g.P.Probe.sought c.args.question.now.from in
+    let bytes = g.P.Bound.bytes c.args.question.now.from in
+    let p = g.P.Bound.below c.args.question.now.from in
+    let q = g.Q.Bound.below c.args.question.now.to in
+    let target = g.P.Bound.target c.args.question.now.from in
     let next = c.if-next-entries.clear in
     let low = c.args.height - 1 in
     record {
-      approach = approach_wider nodes bytes p q sought c.args.question.now.version c.args.height c.args.slot low e.child
+      approach = approach_wider nodes bytes p q target c.args.question.now.version c.args.height c.args.slot low e.child
           c.args.clear next c.descend.result
           (λ result told. told_by_child _ _ _ _ _ _ _ _ _ k c.args.question.now.version c.args.clear c.if-height-eq0.false
           c.step_by-step.result.index e (within g t at) c.index-entries-step.is next result
@@ -306,19 +306,19 @@ returns-then-clear g t c =
     let e = c.index-entries-step.result in
     let v = c.args.question.now.version in
     let es = c.entries-entries.result.now in
-    let p = g.P.Probe.lets_pass c.args.question.now.from in
+    let p = g.P.Bound.below c.args.question.now.from in
     let fits : SFits w64 e.version = search rules in
     let le = at_most_tested e.version v fits (search rules) c.if-entry-question.true in
     let index = c.step_by-step.ensures.step.index_is
     ∙ ap (λ es. length (filter (λ (e : Entry). p e.key) es) - 1) (sym c.entries-entries.ensures.entries) in
-    let passed = last_passes p es c.step_by-step.result.index e (cut_from g t first) (passes g t first) index
+    let passed = last_passes p es c.step_by-step.result.index e (partitioned_from g t first) (is_below g t first) index
     c.index-entries-step.is in
     record {
       approach = told_by_child _ _ _ _ _ _ _ _ _ k v c.args.clear c.if-height-eq0.false c.step_by-step.result.index e
           (within g t at)
           c.index-entries-step.is c.if-next-entries.clear (Some false)
           (behind g t at (look_tell _ _ _ _ _ _ _ _ _ k c.if-height-eq0.false))
-          (told_by_entry p (g.Q.Probe.lets_pass c.args.question.now.to) v c.args.question.now.nested e
+          (told_by_entry p (g.Q.Bound.below c.args.question.now.to) v c.args.question.now.nested e
           (items_in c.args.nodes.now (c.args.height - 1) e.child) c.if-next-entries.clear false (child g t at).tells passed
           c.if-clear.true refl le);
     }

@@ -46,20 +46,20 @@ answer-requires g c =
     let items = items_in nodes height slot in
     let same = sym t.2 in
     let asked = All-get_or
-    (λ q. IsAsked nodes (least_of g.row.N) height slot (g.P.Probe.bytes q.from) (g.P.Probe.lets_pass q.from)
-    (g.Q.Probe.lets_pass q.to))
+    (λ q. IsAsked nodes (least_of g.row.N) height slot (g.P.Bound.bytes q.from) (g.P.Bound.below q.from)
+    (g.Q.Bound.below q.to))
     qs i q t.0 c.requires.asked in
-    let passing = All-get_or (λ q. filter (λ (x : Item). g.P.Probe.lets_pass q.from x.key) items ≢ []) qs i q t.0
-    c.requires.passing in
-    let way : IsApproach nodes height slot (g.P.Probe.bytes q.from) (g.P.Probe.lets_pass q.from) (g.Q.Probe.lets_pass q.to)
-    (g.P.Probe.sought q.from) q.version true k.way = AllZip-at _ qs ks i q k t.0 t.2 t.3 c.requires.approach in
+    let items_below = All-get_or (λ q. filter (λ (x : Item). g.P.Bound.below q.from x.key) items ≢ []) qs i q t.0
+    c.requires.items_below in
+    let way : IsApproach nodes height slot (g.P.Bound.bytes q.from) (g.P.Bound.below q.from) (g.Q.Bound.below q.to)
+    (g.P.Bound.target q.from) q.version true k.way = AllZip-at _ qs ks i q k t.0 t.2 t.3 c.requires.approach in
     let looked = AllZip-at _ qs ks i q k t.0 t.2 t.3 c.requires.looked in (
       search rules,
       (
         subst
-            (λ q. IsAsked nodes (least_of g.row.N) height slot (g.P.Probe.bytes q.from) (g.P.Probe.lets_pass q.from)
-            (g.Q.Probe.lets_pass q.to)) same asked,
-        (subst (λ q. filter (λ (x : Item). g.P.Probe.lets_pass q.from x.key) items ≢ []) same passing, (way, looked)),
+            (λ q. IsAsked nodes (least_of g.row.N) height slot (g.P.Bound.bytes q.from) (g.P.Bound.below q.from)
+            (g.Q.Bound.below q.to)) same asked,
+        (subst (λ q. filter (λ (x : Item). g.P.Bound.below q.from x.key) items ≢ []) same items_below, (way, looked)),
       ),
     )
 
@@ -72,7 +72,7 @@ loop-question-preserved g c =
     let above = c.answer.result in
     let items = items_in c.args.nodes.now c.args.root.now.height c.args.root.now.slot in
     let Above = λ (version : ℤ). IsTrue above ↔ Any (λ (x : Item). version <ℤ x.version)
-    (from_last (g.P.Probe.lets_pass q.from) (Some (g.Q.Probe.lets_pass q.to)) items) in
+    (from_last (g.P.Bound.below q.from) (Some (g.Q.Bound.below q.to)) items) in
     let said : Above q.version = c.answer.ensures.above in
     let more : length (c.loop-question.yielded ++ (c.in-Some.question, c.in-Some.look) ∷ []) ≡ i + 1 =
     length-append c.loop-question.yielded ((c.in-Some.question, c.in-Some.look) ∷ []) in

@@ -21,17 +21,17 @@ descend_from-requires g c =
     let inside = c.loop-question-test.true in
     let same = sym c.question-item.is in
     let asked = All-get_or
-    (λ q. IsAsked nodes (least_of g.row.N) height slot (g.P.Probe.bytes q.from) (g.P.Probe.lets_pass q.from)
-    (g.Q.Probe.lets_pass q.to))
+    (λ q. IsAsked nodes (least_of g.row.N) height slot (g.P.Bound.bytes q.from) (g.P.Bound.below q.from)
+    (g.Q.Bound.below q.to))
     qs i q inside c.requires.asked in
-    let passing = All-get_or (λ q. filter (λ (x : Item). g.P.Probe.lets_pass q.from x.key) items ≢ []) qs i q inside
-    c.requires.passing in (
+    let items_below = All-get_or (λ q. filter (λ (x : Item). g.P.Bound.below q.from x.key) items ≢ []) qs i q inside
+    c.requires.items_below in (
       search rules,
       (
         subst
-            (λ q. IsAsked nodes (least_of g.row.N) height slot (g.P.Probe.bytes q.from) (g.P.Probe.lets_pass q.from)
-            (g.Q.Probe.lets_pass q.to)) same asked,
-        subst (λ q. filter (λ (x : Item). g.P.Probe.lets_pass q.from x.key) items ≢ []) same passing,
+            (λ q. IsAsked nodes (least_of g.row.N) height slot (g.P.Bound.bytes q.from) (g.P.Bound.below q.from)
+            (g.Q.Bound.below q.to)) same asked,
+        subst (λ q. filter (λ (x : Item). g.P.Bound.below q.from x.key) items ≢ []) same items_below,
       ),
     )
 
@@ -39,8 +39,8 @@ pub loop-question-preserved : goal.loop-question-preserved
 loop-question-preserved g c =
     let q = c.question-item.result in
     let way = c.descend_from.result in
-    let said : IsApproach c.args.nodes.now c.args.root.now.height c.args.root.now.slot (g.P.Probe.bytes q.from)
-    (g.P.Probe.lets_pass q.from) (g.Q.Probe.lets_pass q.to) (g.P.Probe.sought q.from) q.version true way =
+    let said : IsApproach c.args.nodes.now c.args.root.now.height c.args.root.now.slot (g.P.Bound.bytes q.from)
+    (g.P.Bound.below q.from) (g.Q.Bound.below q.to) (g.P.Bound.target q.from) q.version true way =
     c.descend_from.ensures.approach in
     AllZip-turn _ c.args.questions.now c.loop-question.question-index _ c.loop-question.ways.items _ q way
     c.loop-question-test.true c.question-item.is refl c.push.ensures.items c.loop-question.invariant said

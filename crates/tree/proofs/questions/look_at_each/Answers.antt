@@ -4,8 +4,8 @@ use Rattle.std.proofs.lemmas.List.{take_all}
 use Rattle.std.proofs.lemmas.List.Elements.{All-get_or}
 use Rattle.std.proofs.lemmas.Slice.Zip.{AllZip-long, zip_turn, zip_end}
 use Rattle.tree.specs.declared.questions.Look.{Look}
-use Rattle.tree.specs.Hints.{AreHinted}
-use Rattle.tree.specs.Node.{hints_of}
+use Rattle.tree.specs.Heads.{AllAreHeads}
+use Rattle.tree.specs.Node.{all_heads_of}
 use Rattle.tree.specs.Question.{IsLooked}
 use Rattle.tree.proofs.InTurn.{AllZip-at, AllZip-turn, map-next}
 use Rattle.tree.proofs.questions.look_at_each.Given.{Over}
@@ -34,12 +34,12 @@ look_at-requires g c =
     let t = turn g (goal.at.look_at-requires g c).In-Some in
     let i = length c.loop-question.yielded in
     let q = c.in-Some.question.now in
-    let hinted = All-get_or (λ q. AreHinted (g.P.Probe.bytes q.from) (hints_of c.args.nodes.now)) c.args.questions.now i q t.0
-    c.requires.hinted in (
+    let headed = All-get_or (λ q. AllAreHeads (g.P.Bound.bytes q.from) (all_heads_of c.args.nodes.now)) c.args.questions.now i q t.0
+    c.requires.headed in (
       search rules,
       (
         AllZip-at _ c.args.questions.now c.args.ways.now i q c.in-Some.way.now t.0 t.2 t.3 c.requires.leading,
-        subst (λ q. AreHinted (g.P.Probe.bytes q.from) (hints_of c.args.nodes.now)) (sym t.2) hinted,
+        subst (λ q. AllAreHeads (g.P.Bound.bytes q.from) (all_heads_of c.args.nodes.now)) (sym t.2) headed,
       ),
     )
 
@@ -55,8 +55,8 @@ loop-question-preserved g c =
     length-append c.loop-question.yielded ((c.in-Some.question, c.in-Some.way) ∷ []) in
     let way = c.look_at.ensures.way in
     let is : k.way ≡ get_or c.args.ways.now i k.way = way ∙ subst (λ w. c.in-Some.way.now ≡ get_or c.args.ways.now i w) (sym way) t.3 in
-    let looked : IsLooked c.args.nodes.now (g.P.Probe.bytes q.from) (g.P.Probe.sought q.from) k.way k.own =
-    subst (λ w. IsLooked c.args.nodes.now (g.P.Probe.bytes q.from) (g.P.Probe.sought q.from) w k.own) (sym way)
+    let looked : IsLooked c.args.nodes.now (g.P.Bound.bytes q.from) (g.P.Bound.target q.from) k.way k.own =
+    subst (λ w. IsLooked c.args.nodes.now (g.P.Bound.bytes q.from) (g.P.Bound.target q.from) w k.own) (sym way)
     c.look_at.ensures.looked in (
       ap (map (λ (k : Look). k.way)) c.push.ensures.items
           ∙ map-next (λ (k : Look). k.way) looks c.args.ways.now i k t.1 is before.0 ∙ ap (λ n. take n c.args.ways.now) (sym more),
@@ -76,6 +76,6 @@ returns-clause-looked g c =
     let most : length c.args.questions.now ≤ length c.loop-question.yielded =
     omega (arith, same, end g (goal.at.returns-clause-looked g c).In-None) in
     subst
-    (λ qs. AllZip (λ q k. IsLooked c.args.nodes.now (g.P.Probe.bytes q.from) (g.P.Probe.sought q.from) k.way k.own) qs
+    (λ qs. AllZip (λ q k. IsLooked c.args.nodes.now (g.P.Bound.bytes q.from) (g.P.Bound.target q.from) k.way k.own) qs
     c.loop-question.looks.items)
     (take_all (length c.loop-question.yielded) c.args.questions.now most) c.loop-question.invariant.1

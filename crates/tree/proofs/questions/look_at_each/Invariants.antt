@@ -6,5 +6,5 @@ use Rattle.tree.proofs.questions.look_at_each.Given as goal
 abbrev pub invariant-loop-question : goal.invariant-loop-question
 invariant-loop-question g l =
     (map (λ k. k.way) l.looks.items ≡ take (length l.yielded) l.ways)
-    × AllZip (λ q k. IsLooked l.nodes (g.P.Probe.bytes q.from) (g.P.Probe.sought q.from) k.way k.own)
+    × AllZip (λ q k. IsLooked l.nodes (g.P.Bound.bytes q.from) (g.P.Bound.target q.from) k.way k.own)
     (take (length l.yielded) l.questions) l.looks.items

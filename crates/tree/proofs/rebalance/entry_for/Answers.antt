@@ -10,8 +10,8 @@ use Rattle.tree.specs.Subtree.{entries_at}
 use Rattle.tree.proofs.Placing.{entries_from_header}
 use Rattle.tree.proofs.Telling.{tells_items}
 use Rattle.std.specs.List.{All}
-use Rattle.tree.specs.Hints.{IsKnown}
-use Rattle.tree.proofs.Hinted.{known_at}
+use Rattle.tree.specs.Heads.{IsKnown}
+use Rattle.tree.proofs.Headed.{common_prefix_len_at}
 use Rattle.tree.proofs.KnownKeys.{key_of_one}
 use Rattle.tree.proofs.rebalance.entry_for.Goals as goal
 
@@ -37,11 +37,11 @@ returns-clause-tells g c height least h =
     (subst (λ (v : ℤ). IsGreatest version_of v (e ∷ drop 1 xs)) (sym (to_z-of_z w64 r fits)) greatest) h
 
 pub returns-clause-known : goal.returns-clause-known
-returns-clause-known g c bytes hinted =
+returns-clause-known g c bytes headed =
     let a = c.args.nodes.now in
     let node = c.header_ref-node.result.now in
     let xs = c.entries.result.now in
     let here : entries_at a c.args.child ≡ entries_of node = entries_from_header a c.args.child node c.header_ref-node.ensures.header in
     let same : entries_at a c.args.child ≡ xs = here ∙ sym c.entries.ensures.entries in
     key_of_one (IsKnown bytes) xs 0 _ (subst (λ l. 0 < length l) same c.requires.some)
-    (subst (λ l. All (IsKnown bytes) (keys_of l)) same (known_at bytes a c.args.child hinted))
+    (subst (λ l. All (IsKnown bytes) (keys_of l)) same (common_prefix_len_at bytes a c.args.child headed))

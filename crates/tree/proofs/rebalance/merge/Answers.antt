@@ -3,15 +3,15 @@ use Rattle.tree.proofs.Frames.{entries_same, live_same}
 use Rattle.tree.proofs.Changing.{changes_if_moves, moves_trans, moves_released}
 use Rattle.tree.proofs.Placing.{entries_from_header, put_entries, put_live, put_others, put_moves, moves_first, moves_second, released_spare}
 use Rattle.std.specs.List.{All}
-use Rattle.tree.specs.Hints.{IsKnown}
+use Rattle.tree.specs.Heads.{IsKnown}
 use Rattle.tree.specs.Node.{entries_of, keys_of}
-use Rattle.tree.proofs.Hinted.{hinted_at, hinted_released}
-use Rattle.tree.proofs.KnownKeys.{keys_of_both, known_in, hinted_header}
+use Rattle.tree.proofs.Headed.{headed_at, headed_released}
+use Rattle.tree.proofs.KnownKeys.{keys_of_both, known_in, headed_header}
 use Rattle.tree.proofs.rebalance.merge.Goals as goal
 
 pub release-requires : goal.release-requires
 release-requires g c =
-    let merged = c.take_hints.new.self in
+    let merged = c.copy_heads.new.self in
     let a = c.args.nodes.now in
     let b = c.set_header.new.self in
     record {
@@ -22,19 +22,19 @@ release-requires g c =
 
 pub returns-clause-entries : goal.returns-clause-entries
 returns-clause-entries g c =
-    let merged = c.take_hints.new.self in
+    let merged = c.copy_heads.new.self in
     let a = c.args.nodes.now in
     let b = c.set_header.new.self in
     entries_same b c.release.new.self c.args.first (c.release.ensures.others c.args.first c.requires.two.apart)
     ∙ put_entries a b c.args.first merged c.set_header.ensures.replaced
-    ∙ c.take_hints.ensures.entries
+    ∙ c.copy_heads.ensures.entries
     ∙ c.append.ensures.entries
     ∙ ap₂ (λ xs ys. xs ++ ys) (sym (entries_from_header a c.args.first c.header-merged.result c.header-merged.ensures.header))
     (sym (entries_from_header a c.args.second c.header_ref.result.now c.header_ref.ensures.header))
 
 pub returns-clause-changes : goal.returns-clause-changes
 returns-clause-changes g c =
-    let merged = c.take_hints.new.self in
+    let merged = c.copy_heads.new.self in
     let a = c.args.nodes.now in
     let b = c.set_header.new.self in
     let d = c.release.new.self in
@@ -45,34 +45,34 @@ returns-clause-changes g c =
     let live_y =
     live_same a b y (put_others a b x merged c.set_header.ensures.replaced y (λ same. c.requires.two.apart (sym same)))
     c.requires.two.live_second in
-    let gone = moves_released b d y put.keyless live_y c.release.ensures.released c.release.ensures.others
+    let expired = moves_released b d y put.keyless live_y c.release.ensures.released c.release.ensures.others
     (released_spare b d y live_y put.keyless c.release.ensures.spare) in
     changes_if_moves a d (x ∷ y ∷ []) (x ∷ [])
     (moves_trans a b d (x ∷ y ∷ []) (x ∷ y ∷ []) (x ∷ []) (moves_first a b x y c.requires.two.apart c.requires.two.live_second put)
-    (moves_second b d x y [] c.requires.two.apart live_x gone))
+    (moves_second b d x y [] c.requires.two.apart live_x expired))
 
-pub take_hints-requires : goal.take_hints-requires
-take_hints-requires g c =
-    let bytes = g.P.Probe.bytes c.args.probe.now in
+pub copy_heads-requires : goal.copy_heads-requires
+copy_heads-requires g c =
+    let bytes = g.P.Bound.bytes c.args.bound.now in
     let a = c.args.nodes.now in
     let one = c.header-merged.result in
     let other = c.header_ref.result.now in (
       search rules,
       (
-        hinted_at bytes a c.args.first c.header_ref-2.result.now c.requires.two.hinted c.header_ref-2.ensures.header,
+        headed_at bytes a c.args.first c.header_ref-2.result.now c.requires.two.headed c.header_ref-2.ensures.header,
         subst (λ l. All (IsKnown bytes) (keys_of l)) (sym c.append.ensures.entries)
             (keys_of_both (IsKnown bytes) (entries_of one) (entries_of other)
-            (known_in bytes a c.args.first one c.requires.two.hinted c.header-merged.ensures.header)
-            (known_in bytes a c.args.second other c.requires.two.hinted c.header_ref.ensures.header)),
+            (known_in bytes a c.args.first one c.requires.two.headed c.header-merged.ensures.header)
+            (known_in bytes a c.args.second other c.requires.two.headed c.header_ref.ensures.header)),
       ),
     )
 
-pub returns-clause-hinted : goal.returns-clause-hinted
-returns-clause-hinted g c =
-    let bytes = g.P.Probe.bytes c.args.probe.now in
-    let merged = c.take_hints.new.self in
+pub returns-clause-headed : goal.returns-clause-headed
+returns-clause-headed g c =
+    let bytes = g.P.Bound.bytes c.args.bound.now in
+    let merged = c.copy_heads.new.self in
     let a = c.args.nodes.now in
     let b = c.set_header.new.self in
-    hinted_released bytes b c.release.new.self c.args.second
-    (hinted_header bytes a b c.args.first merged c.set_header.ensures.replaced c.requires.two.hinted c.take_hints.ensures.hinted)
+    headed_released bytes b c.release.new.self c.args.second
+    (headed_header bytes a b c.args.first merged c.set_header.ensures.replaced c.requires.two.headed c.copy_heads.ensures.headed)
     c.release.ensures.released c.release.ensures.others

@@ -63,7 +63,7 @@ merge-requires g c =
           live_second = p.live_second;
           apart = p.apart;
           keyless = c.requires.can_merge.keyless;
-          hinted = c.requires.can_merge.hinted;
+          headed = c.requires.can_merge.headed;
         },
         omega (arith, len_x, len_y, c.if-count.true),
       ),
@@ -93,7 +93,7 @@ redistribute-requires g c =
           live_second = p.live_second;
           apart = p.apart;
           keyless = c.requires.can_merge.keyless;
-          hinted = c.requires.can_merge.hinted;
+          headed = c.requires.can_merge.headed;
         },
         omega (arith, len_x, len_y, c.if-count.false),
       ),
@@ -227,7 +227,7 @@ returns-then-count-clause-rest g c =
         length-drop (i + 2) es,
       );
       spare = omega (arith, changes.live, changes.spare);
-      hinted = c.merge.ensures.hinted;
+      headed = c.merge.ensures.headed;
     }
 
 pub returns-clause-rest : goal.returns-clause-rest
@@ -249,5 +249,5 @@ returns-clause-rest g c =
         length-drop (i + 2) es,
       );
       spare = omega (arith, changes.live, changes.spare);
-      hinted = c.redistribute.ensures.hinted;
+      headed = c.redistribute.ensures.headed;
     }

@@ -58,7 +58,7 @@ merge_or_redistribute-requires g c =
         filled = filled_pair a (least_of g.row.N) f.0 es i j d c.requires.can_rebalance.within c.requires.can_rebalance.several j_is f.1;
         keyless = c.requires.can_rebalance.keyless;
         family = (f.0, widened a (least_of g.row.N) f.0 es i j c.requires.can_rebalance.within c.requires.can_rebalance.several j_is f.1);
-        hinted = c.requires.can_rebalance.hinted;
+        headed = c.requires.can_rebalance.headed;
       },
     )
 
@@ -72,5 +72,5 @@ pub returns-then-len-least-clause-rest : goal.returns-then-len-least-clause-rest
 returns-then-len-least-clause-rest g c = record {
   few_less = omega (arith, ap length c.set.ensures.entries, length-set (entries_of c.args.node.now) c.args.index c.entry_for.result);
   spare = search rules;
-  hinted = c.requires.can_rebalance.hinted;
+  headed = c.requires.can_rebalance.headed;
 }

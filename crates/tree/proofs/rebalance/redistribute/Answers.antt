@@ -3,15 +3,15 @@ use Rattle.tree.proofs.Frames.{entries_same, live_same}
 use Rattle.tree.proofs.Changing.{changes_if_moves, moves_trans}
 use Rattle.tree.proofs.Placing.{entries_from_header, put_entries, put_live, put_others, put_moves, moves_first, moves_second}
 use Rattle.std.specs.List.{All}
-use Rattle.tree.specs.Hints.{IsKnown}
+use Rattle.tree.specs.Heads.{IsKnown}
 use Rattle.tree.specs.Node.{entries_of, keys_of}
-use Rattle.tree.proofs.Hinted.{hinted_at}
-use Rattle.tree.proofs.KnownKeys.{keys_of_both, keys_in_front, keys_at_back, known_in, hinted_header}
+use Rattle.tree.proofs.Headed.{headed_at}
+use Rattle.tree.proofs.KnownKeys.{keys_of_both, keys_in_front, keys_at_back, known_in, headed_header}
 use Rattle.tree.proofs.rebalance.redistribute.Goals as goal
 
 pub set_header-requires-2 : goal.set_header-requires-2
 set_header-requires-2 g c =
-    let left = c.take_hints.new.self in
+    let left = c.copy_heads.new.self in
     let a = c.args.nodes.now in
     let b = c.set_header.new.self in
     record {
@@ -22,47 +22,47 @@ set_header-requires-2 g c =
 
 pub returns-clause-entries : goal.returns-clause-entries
 returns-clause-entries g c =
-    let left = c.take_hints.new.self in
-    let right = c.take_hints-2.new.self in
+    let left = c.copy_heads.new.self in
+    let right = c.copy_heads-2.new.self in
     let a = c.args.nodes.now in
     let b = c.set_header.new.self in
     let d = c.set_header-2.new.self in
     ap₂ (λ xs ys. xs ++ ys)
     (entries_same b d c.args.first (put_others b d c.args.second right c.set_header-2.ensures.replaced c.args.first c.requires.two.apart)
     ∙ put_entries a b c.args.first left c.set_header.ensures.replaced
-    ∙ c.take_hints.ensures.entries)
+    ∙ c.copy_heads.ensures.entries)
     (put_entries b d c.args.second right c.set_header-2.ensures.replaced
-    ∙ c.take_hints-2.ensures.entries)
+    ∙ c.copy_heads-2.ensures.entries)
     ∙ c.redistribute.ensures.entries
     ∙ ap₂ (λ xs ys. xs ++ ys) (sym (entries_from_header a c.args.first c.header-left.result c.header-left.ensures.header))
     (sym (entries_from_header a c.args.second c.header-right.result c.header-right.ensures.header))
 
 pub returns-clause-left : goal.returns-clause-left
 returns-clause-left g c =
-    let left = c.take_hints.new.self in
-    let right = c.take_hints-2.new.self in
+    let left = c.copy_heads.new.self in
+    let right = c.copy_heads-2.new.self in
     let a = c.args.nodes.now in
     let b = c.set_header.new.self in
     let d = c.set_header-2.new.self in
     subst (λ xs. g.row.N ≤ 2 * length xs)
     (sym (entries_same b d c.args.first (put_others b d c.args.second right c.set_header-2.ensures.replaced c.args.first c.requires.two.apart)
     ∙ put_entries a b c.args.first left c.set_header.ensures.replaced
-    ∙ c.take_hints.ensures.entries))
+    ∙ c.copy_heads.ensures.entries))
     c.redistribute.ensures.left
 
 pub returns-clause-right : goal.returns-clause-right
 returns-clause-right g c =
-    let right = c.take_hints-2.new.self in
+    let right = c.copy_heads-2.new.self in
     let b = c.set_header.new.self in
     let d = c.set_header-2.new.self in
     subst (λ xs. g.row.N ≤ 2 * length xs)
     (sym (put_entries b d c.args.second right c.set_header-2.ensures.replaced
-    ∙ c.take_hints-2.ensures.entries)) c.redistribute.ensures.right
+    ∙ c.copy_heads-2.ensures.entries)) c.redistribute.ensures.right
 
 pub returns-clause-changes : goal.returns-clause-changes
 returns-clause-changes g c =
-    let left = c.take_hints.new.self in
-    let right = c.take_hints-2.new.self in
+    let left = c.copy_heads.new.self in
+    let right = c.copy_heads-2.new.self in
     let a = c.args.nodes.now in
     let b = c.set_header.new.self in
     let d = c.set_header-2.new.self in
@@ -78,45 +78,45 @@ returns-clause-changes g c =
     (moves_trans a b d (x ∷ y ∷ []) (x ∷ y ∷ []) (x ∷ y ∷ []) (moves_first a b x y c.requires.two.apart c.requires.two.live_second put)
     (moves_second b d x y (y ∷ []) c.requires.two.apart live_x then))
 
-pub take_hints-requires : goal.take_hints-requires
-take_hints-requires g c =
-    let bytes = g.P.Probe.bytes c.args.probe.now in
+pub copy_heads-requires : goal.copy_heads-requires
+copy_heads-requires g c =
+    let bytes = g.P.Bound.bytes c.args.bound.now in
     let a = c.args.nodes.now in
     let one = c.header-left.result in
     let other = c.header-right.result in (
       search rules,
       (
-        hinted_at bytes a c.args.first c.header_ref.result.now c.requires.two.hinted c.header_ref.ensures.header,
+        headed_at bytes a c.args.first c.header_ref.result.now c.requires.two.headed c.header_ref.ensures.header,
         keys_in_front (IsKnown bytes) (entries_of c.redistribute.new.self) (entries_of c.redistribute.new.right)
             (subst (λ l. All (IsKnown bytes) (keys_of l)) (sym c.redistribute.ensures.entries)
             (keys_of_both (IsKnown bytes) (entries_of one) (entries_of other)
-            (known_in bytes a c.args.first one c.requires.two.hinted c.header-left.ensures.header)
-            (known_in bytes a c.args.second other c.requires.two.hinted c.header-right.ensures.header))),
+            (known_in bytes a c.args.first one c.requires.two.headed c.header-left.ensures.header)
+            (known_in bytes a c.args.second other c.requires.two.headed c.header-right.ensures.header))),
       ),
     )
 
-pub take_hints-requires-2 : goal.take_hints-requires-2
-take_hints-requires-2 g c =
-    let bytes = g.P.Probe.bytes c.args.probe.now in
+pub copy_heads-requires-2 : goal.copy_heads-requires-2
+copy_heads-requires-2 g c =
+    let bytes = g.P.Bound.bytes c.args.bound.now in
     let a = c.args.nodes.now in
     let one = c.header-left.result in
     let other = c.header-right.result in (
       search rules,
       (
-        hinted_at bytes a c.args.second c.header_ref-2.result.now c.requires.two.hinted c.header_ref-2.ensures.header,
+        headed_at bytes a c.args.second c.header_ref-2.result.now c.requires.two.headed c.header_ref-2.ensures.header,
         keys_at_back (IsKnown bytes) (entries_of c.redistribute.new.self) (entries_of c.redistribute.new.right)
             (subst (λ l. All (IsKnown bytes) (keys_of l)) (sym c.redistribute.ensures.entries)
             (keys_of_both (IsKnown bytes) (entries_of one) (entries_of other)
-            (known_in bytes a c.args.first one c.requires.two.hinted c.header-left.ensures.header)
-            (known_in bytes a c.args.second other c.requires.two.hinted c.header-right.ensures.header))),
+            (known_in bytes a c.args.first one c.requires.two.headed c.header-left.ensures.header)
+            (known_in bytes a c.args.second other c.requires.two.headed c.header-right.ensures.header))),
       ),
     )
 
-pub returns-clause-hinted : goal.returns-clause-hinted
-returns-clause-hinted g c =
-    let bytes = g.P.Probe.bytes c.args.probe.now in
+pub returns-clause-headed : goal.returns-clause-headed
+returns-clause-headed g c =
+    let bytes = g.P.Bound.bytes c.args.bound.now in
     let a = c.args.nodes.now in
     let b = c.set_header.new.self in
-    hinted_header bytes b c.set_header-2.new.self c.args.second c.take_hints-2.new.self c.set_header-2.ensures.replaced
-    (hinted_header bytes a b c.args.first c.take_hints.new.self c.set_header.ensures.replaced c.requires.two.hinted c.take_hints.ensures.hinted)
-    c.take_hints-2.ensures.hinted
+    headed_header bytes b c.set_header-2.new.self c.args.second c.copy_heads-2.new.self c.set_header-2.ensures.replaced
+    (headed_header bytes a b c.args.first c.copy_heads.new.self c.set_header.ensures.replaced c.requires.two.headed c.copy_heads.ensures.headed)
+    c.copy_heads-2.ensures.headed

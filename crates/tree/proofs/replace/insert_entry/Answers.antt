@@ -8,7 +8,7 @@ use Rattle.tree.specs.Subtree.{items_in, IsSubtree}
 use Rattle.tree.specs.Replace.{child_at, entries_with}
 use Rattle.tree.proofs.Sharing.{child_is, set_inserted}
 use Rattle.std.specs.List.{All}
-use Rattle.tree.specs.Hints.{IsKnown}
+use Rattle.tree.specs.Heads.{IsKnown}
 use Rattle.tree.proofs.KnownKeys.{keys_set_inserted}
 use Rattle.tree.proofs.replace.insert_entry.Goals as goal
 
@@ -43,7 +43,7 @@ returns-clause-linked g c =
     }
 
 pub returns-clause-known : goal.returns-clause-known
-returns-clause-known g c bytes hinted known =
+returns-clause-known g c bytes headed known =
     let es = entries_of c.args.node.now in
     let i = c.args.index in
     let t = c.entry_for.result in
@@ -56,4 +56,4 @@ returns-clause-known g c bytes hinted known =
     (λ right. entries_of new ++ entries_of right ≡ take (i + 1) l ++ u ∷ drop (i + 1) l)) c.set.ensures.entries
     c.insert_or_split.ensures.entries) in
     subst (λ l. All (IsKnown bytes) (keys_of l)) (sym entries)
-    (keys_set_inserted (IsKnown bytes) es i t u known (c.entry_for.ensures.known bytes hinted) (c.entry_for-2.ensures.known bytes hinted))
+    (keys_set_inserted (IsKnown bytes) es i t u known (c.entry_for.ensures.known bytes headed) (c.entry_for-2.ensures.known bytes headed))

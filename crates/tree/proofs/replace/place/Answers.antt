@@ -4,7 +4,7 @@ use Rattle.std.specs.FinMap as map
 use Rattle.arena.specs.Arena.{record_at, spare_of, slots_of}
 use Rattle.tree.proofs.Changing.{changes_if_moves, moves_placed}
 use Rattle.tree.proofs.Placing.{placed_spare}
-use Rattle.tree.proofs.Hinted.{hinted_put}
+use Rattle.tree.proofs.Headed.{headed_put}
 use Rattle.tree.proofs.replace.place.Goals as goal
 
 at_ok : {X E : Type 0} (P : X → Type 0) (r : Result X E) (x : X) → r ≡ Ok x → IfOk r P → P x
@@ -26,8 +26,8 @@ returns-clause-changes g c =
     changes_if_moves a b [] (slot ∷ [])
     (moves_placed a b slot node c.requires.keyless free placed here others (placed_spare a b c.requires.room spare))
 
-pub returns-clause-hinted : goal.returns-clause-hinted
-returns-clause-hinted g c bytes hinted all =
+pub returns-clause-headed : goal.returns-clause-headed
+returns-clause-headed g c bytes headed all =
     let a = c.args.nodes.now in
     let b = c.place.new.self in
     let node = c.args.node in
@@ -36,4 +36,4 @@ returns-clause-hinted g c bytes hinted all =
     let e = c.unwrap.ensures in
     let here = at_ok (λ slot. record_at b slot ≡ Some (record { header = node; key = [] })) r slot e c.place.ensures.record in
     let others = at_ok (λ slot. (other : ℕ) → other ≢ slot → record_at b other ≡ record_at a other) r slot e c.place.ensures.others in
-    hinted_put bytes a b slot node all (ap (option_map (λ r. r.header)) here) hinted others
+    headed_put bytes a b slot node all (ap (option_map (λ r. r.header)) here) headed others

@@ -8,8 +8,8 @@ use Rattle.tree.specs.Item.{Tells}
 use Rattle.tree.specs.Node.{entries_of}
 use Rattle.tree.specs.Subtree.{entries_at, items_in, IsSubtree}
 use Rattle.tree.specs.Tree.{least_of}
-use Rattle.tree.proofs.Hinted.{hinted_at, hinted_put}
-use Rattle.tree.proofs.LeafChange.{hint_stays}
+use Rattle.tree.proofs.Headed.{headed_at, headed_put}
+use Rattle.tree.proofs.LeafChange.{key_heads_stays}
 use Rattle.tree.proofs.Placing.{entries_from_header, put_entries, put_record_is, put_others}
 use Rattle.tree.proofs.Sharing.{set_one}
 use Rattle.tree.proofs.Rebalancing.{live_subtree, rebalanced_by_entry}
@@ -78,7 +78,7 @@ returns-clause-rest g c =
     let i = c.args.index in
     let d = c.index-entries-index.result in
     let t : Entry = record d { version = to_z w64 (of_z w64 c.args.version) } in
-    let bytes = g.P.Probe.bytes c.args.probe.now in
+    let bytes = g.P.Bound.bytes c.args.bound.now in
     let old = c.header_mut.result.now in
     let node = c.set.new.self in
     let b = with_header a slot node in
@@ -89,9 +89,9 @@ returns-clause-rest g c =
     let now_is : entries_of node ≡ slice_set es i t =
     c.set.ensures.entries ∙ ap (λ (l : List Entry). slice_set l i t) (sym here) in
     let parts = put_entries a b slot node refl ∙ now_is ∙ set_one es i t c.requires.can_rebalance.within in
-    let hinted =
-    hint_stays bytes old node i d t c.set.ensures.hint c.set.ensures.entries (ap (λ (e : Entry). e.key) d_is)
-    (hinted_at bytes a slot old c.requires.can_rebalance.hinted c.header_mut.ensures.header) in
+    let headed =
+    key_heads_stays bytes old node i d t c.set.ensures.key_heads c.set.ensures.entries (ap (λ (e : Entry). e.key) d_is)
+    (headed_at bytes a slot old c.requires.can_rebalance.headed c.header_mut.ensures.header) in
     record {
       few_less = omega (
         arith,
@@ -102,6 +102,6 @@ returns-clause-rest g c =
         length-drop (i + 1) es,
       );
       spare = search rules;
-      hinted = hinted_put bytes a b slot node c.requires.can_rebalance.hinted
-          (ap (option_map (λ r. r.header)) (put_record_is a b slot node refl)) hinted (put_others a b slot node refl);
+      headed = headed_put bytes a b slot node c.requires.can_rebalance.headed
+          (ap (option_map (λ r. r.header)) (put_record_is a b slot node refl)) headed (put_others a b slot node refl);
     }

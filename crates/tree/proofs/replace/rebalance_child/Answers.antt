@@ -7,7 +7,7 @@ use Rattle.tree.specs.Subtree.{entries_at, IsSubtree}
 use Rattle.tree.specs.Tree.{least_of}
 use Rattle.tree.specs.Replace.{IsFamily, IsRebalanced}
 use Rattle.tree.proofs.KnownKeys.{children_known}
-use Rattle.tree.proofs.Hinted.{hinted_at, hinted_put}
+use Rattle.tree.proofs.Headed.{headed_at, headed_put}
 use Rattle.tree.proofs.Placing.{entries_from_header, put_entries, put_record_is, put_others}
 use Rattle.tree.proofs.Sharing.{set_one}
 use Rattle.tree.proofs.Rebalancing.{live_subtree, rebalanced_by_entry}
@@ -48,10 +48,10 @@ returns-then-len-least-clause-rebalanced g c height family =
     ∙ sym c.len.ensures.len in
     let filled : L ≤ length (entries_at a x) =
     subst (λ n. n ≤ length (entries_at a x)) c.least.ensures.least (omega (arith, len, c.if-len-least.true)) in
-    let node = c.set_hinted.new.self in
+    let node = c.set_with_head.new.self in
     let here = entries_from_header a slot c.header_mut.result.now c.header_mut.ensures.header in
     let now_is : entries_of node ≡ slice_set es i t =
-    c.set_hinted.ensures.entries ∙ ap (λ (l : List Entry). slice_set l i t) (sym here) in
+    c.set_with_head.ensures.entries ∙ ap (λ (l : List Entry). slice_set l i t) (sym here) in
     let parts = now_is ∙ set_one es i t c.requires.can_rebalance.within in
     let rebalanced =
     rebalanced_by_entry a L height es (entries_of node) i x d t c.requires.can_rebalance.within x_is family.family c.requires.can_rebalance.keyless
@@ -68,10 +68,10 @@ returns-then-len-least-clause-rest g c =
     let es = entries_at a slot in
     let i = c.args.index in
     let t = c.entry_for-entry.result in
-    let node = c.set_hinted.new.self in
+    let node = c.set_with_head.new.self in
     let here = entries_from_header a slot c.header_mut.result.now c.header_mut.ensures.header in
     let now_is : entries_of node ≡ slice_set es i t =
-    c.set_hinted.ensures.entries ∙ ap (λ (l : List Entry). slice_set l i t) (sym here) in
+    c.set_with_head.ensures.entries ∙ ap (λ (l : List Entry). slice_set l i t) (sym here) in
     let after : entries_at (with_header a slot node) slot ≡ entries_of node =
     put_entries a (with_header a slot node) slot node refl in
     let parts = after ∙ now_is ∙ set_one es i t c.requires.can_rebalance.within in
@@ -86,8 +86,8 @@ returns-then-len-least-clause-rest g c =
         length-drop (i + 1) es,
       );
       spare = search rules;
-      hinted = hinted_put (g.P.Probe.bytes c.args.probe.now) a b slot node c.requires.can_rebalance.hinted
-          (ap (option_map (λ r. r.header)) (put_record_is a b slot node refl)) c.set_hinted.ensures.hinted (put_others a b slot node refl);
+      headed = headed_put (g.P.Bound.bytes c.args.bound.now) a b slot node c.requires.can_rebalance.headed
+          (ap (option_map (λ r. r.header)) (put_record_is a b slot node refl)) c.set_with_head.ensures.headed (put_others a b slot node refl);
     }
 
 pub returns-clause-rebalanced : goal.returns-clause-rebalanced
@@ -102,34 +102,34 @@ returns-clause-rebalanced g c height family =
     let rebalanced =
     subst (λ l. IsRebalanced a c.rebalance.new.nodes L height l (entries_of c.rebalance.new.node)) (sym read)
     (c.rebalance.ensures.rebalanced height loose) in
-    rebalanced_at a c.rebalance.new.nodes c.set_header.new.self L height slot c.args.index c.take_hints.new.self
+    rebalanced_at a c.rebalance.new.nodes c.set_header.new.self L height slot c.args.index c.copy_heads.new.self
     (entries_of c.rebalance.new.node) c.requires.can_rebalance.live family rebalanced
-    (omega (arith, c.rebalance.ensures.rest.few_less, c.requires.can_rebalance.several, same)) c.take_hints.ensures.entries c.set_header.ensures.replaced
+    (omega (arith, c.rebalance.ensures.rest.few_less, c.requires.can_rebalance.several, same)) c.copy_heads.ensures.entries c.set_header.ensures.replaced
 
 pub returns-clause-rest : goal.returns-clause-rest
 returns-clause-rest g c =
     let a = c.args.nodes.now in
     let slot = c.args.slot in
     let read = ap length (entries_from_header a slot c.header-node.result c.header-node.ensures.header) in
-    let here = put_entries c.rebalance.new.nodes c.set_header.new.self slot c.take_hints.new.self
+    let here = put_entries c.rebalance.new.nodes c.set_header.new.self slot c.copy_heads.new.self
     c.set_header.ensures.replaced in
     let b = c.rebalance.new.nodes in
     let w = c.set_header.new.self in
-    let node = c.take_hints.new.self in
+    let node = c.copy_heads.new.self in
     record {
-      few_less = omega (arith, c.rebalance.ensures.rest.few_less, read, ap length here, ap length c.take_hints.ensures.entries);
+      few_less = omega (arith, c.rebalance.ensures.rest.few_less, read, ap length here, ap length c.copy_heads.ensures.entries);
       spare = search rules;
-      hinted = hinted_put (g.P.Probe.bytes c.args.probe.now) b w slot node c.rebalance.ensures.rest.hinted
-          (ap (option_map (λ r. r.header)) (put_record_is b w slot node c.set_header.ensures.replaced)) c.take_hints.ensures.hinted
+      headed = headed_put (g.P.Bound.bytes c.args.bound.now) b w slot node c.rebalance.ensures.rest.headed
+          (ap (option_map (λ r. r.header)) (put_record_is b w slot node c.set_header.ensures.replaced)) c.copy_heads.ensures.headed
           (put_others b w slot node c.set_header.ensures.replaced);
     }
 
-pub take_hints-requires : goal.take_hints-requires
-take_hints-requires g c =
+pub copy_heads-requires : goal.copy_heads-requires
+copy_heads-requires g c =
     let a = c.args.nodes.now in
     let b = c.rebalance.new.nodes in
     let slot = c.args.slot in
-    let bytes = g.P.Probe.bytes c.args.probe.now in
+    let bytes = g.P.Bound.bytes c.args.bound.now in
     let L = least_of g.row.N in
     let f = c.requires.can_rebalance.family in
     let read = entries_from_header a slot c.header-node.result c.header-node.ensures.header in
@@ -137,7 +137,7 @@ take_hints-requires g c =
     let rebalanced = c.rebalance.ensures.rebalanced f.0 loose in (
       search rules,
       (
-        hinted_at bytes b slot c.header_ref-3.result.now c.rebalance.ensures.rest.hinted c.header_ref-3.ensures.header,
-        children_known bytes b L f.0 (entries_of c.rebalance.new.node) (omega arith) c.rebalance.ensures.rest.hinted rebalanced.children,
+        headed_at bytes b slot c.header_ref-3.result.now c.rebalance.ensures.rest.headed c.header_ref-3.ensures.header,
+        children_known bytes b L f.0 (entries_of c.rebalance.new.node) (omega arith) c.rebalance.ensures.rest.headed rebalanced.children,
       ),
     )

@@ -1,24 +1,24 @@
 use Rattle.std.proofs.Common.{◌<◌, [], ◌∷◌, is_some, refl, ap, subst, ◌∙◌, Bor, arith, rules}
 use Rattle.arena.specs.Arena.{spare_of}
 use Rattle.tree.proofs.Frames.{entries_same, live_same}
-use Rattle.tree.proofs.Hinted.{hinted_at}
+use Rattle.tree.proofs.Headed.{headed_at}
 use Rattle.tree.proofs.Changing.{changes_if_moves, moves_beside, moves_if_changes, moves_trans}
 use Rattle.tree.proofs.Placing.{live_one, put_entries, put_live, put_moves}
 use Rattle.std.specs.Prelude.{IfSome}
 use Rattle.std.specs.List.{All}
-use Rattle.tree.specs.Hints.{IsKnown}
+use Rattle.tree.specs.Heads.{IsKnown}
 use Rattle.tree.specs.declared.node.Node.{Node}
 use Rattle.tree.specs.Node.{entries_of, keys_of}
-use Rattle.tree.proofs.KnownKeys.{hinted_header}
+use Rattle.tree.proofs.KnownKeys.{headed_header}
 use Rattle.tree.proofs.replace.store.Goals as goal
 
-pub take_hints-requires : goal.take_hints-requires
-take_hints-requires g c =
-    let bytes = g.P.Probe.bytes c.args.probe.now in
+pub copy_heads-requires : goal.copy_heads-requires
+copy_heads-requires g c =
+    let bytes = g.P.Bound.bytes c.args.bound.now in
     let node = c.header_ref.result.now in (
       search rules,
       (
-        hinted_at bytes c.args.nodes.now c.args.slot node c.requires.hinted c.header_ref.ensures.header,
+        headed_at bytes c.args.nodes.now c.args.slot node c.requires.headed c.header_ref.ensures.header,
         subst (λ o. IfSome o (λ (r : Bor (Node g.row.N)). All (IsKnown bytes) (keys_of (entries_of r.now)))) c.in-Some.is
             c.requires.right,
       ),
@@ -50,7 +50,7 @@ returns-clause-node g c =
 
 pub returns-clause-stored : goal.returns-clause-stored
 returns-clause-stored g c =
-    let bytes = g.P.Probe.bytes c.args.probe.now in
+    let bytes = g.P.Bound.bytes c.args.bound.now in
     let left = c.args.node.now in
     let a = c.args.nodes.now in
     let b = c.set_header-2.new.self in
@@ -70,8 +70,8 @@ returns-clause-stored g c =
       live_added = c.place.ensures.live;
       changes = changes;
       taken = omega (arith, changes.live, changes.spare);
-      hinted = c.place.ensures.hinted bytes c.take_hints.ensures.hinted
-          (hinted_header bytes a b x left replaced c.requires.hinted c.requires.left);
+      headed = c.place.ensures.headed bytes c.copy_heads.ensures.headed
+          (headed_header bytes a b x left replaced c.requires.headed c.requires.left);
     }
 
 pub returns-in_default-clause-node : goal.returns-in_default-clause-node
@@ -92,5 +92,5 @@ returns-in_default-clause-stored g c =
       live_added = tt;
       changes = changes;
       taken = omega (arith, changes.live, changes.spare);
-      hinted = hinted_header (g.P.Probe.bytes c.args.probe.now) a b x left replaced c.requires.hinted c.requires.left;
+      headed = headed_header (g.P.Bound.bytes c.args.bound.now) a b x left replaced c.requires.headed c.requires.left;
     }

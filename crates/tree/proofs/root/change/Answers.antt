@@ -1,6 +1,6 @@
 use Rattle.std.proofs.Common.{rules, ◌≤◌, true, None, IfSome, length, sym, ap, subst, ◌∙◌, arith}
-use Rattle.tree.specs.Hints.{AreHinted, KnowsAt}
-use Rattle.tree.specs.Node.{hints_of, items_of_run}
+use Rattle.tree.specs.Heads.{AllAreHeads, IsPrefixLenAt}
+use Rattle.tree.specs.Node.{all_heads_of, items_of_run}
 use Rattle.tree.specs.Replace.{items_with, slots_with, Changes}
 use Rattle.tree.specs.Subtree.{entries_at, items_in, slots_in, IsSubtree}
 use Rattle.tree.specs.Tree.{least_of}
@@ -8,8 +8,8 @@ use Rattle.tree.specs.Walk.{CanChange, CanSearch, IsChangedWithin}
 use Rattle.tree.proofs.Rebalancing.{live_subtree}
 use Rattle.tree.proofs.root.change.Goals as goal
 
-pub known_at-requires : goal.known_at-requires
-known_at-requires g c =
+pub common_prefix_len_at-requires : goal.common_prefix_len_at-requires
+common_prefix_len_at-requires g c =
     let can = c.requires.changeable in (
       search rules,
       (
@@ -22,7 +22,7 @@ pub change_leaf-requires : goal.change_leaf-requires
 change_leaf-requires g c =
     let a = c.args.nodes.now in
     let root = c.args.root.now in
-    let target = g.C.LeafChange.target_of c.args.change.now in
+    let leaf_bound = g.C.LeafChange.bound_of c.args.change.now in
     let can = c.requires.changeable in
     let changeable : CanChange a root.height root.slot = record {
       fan_out = can.fan_out;
@@ -34,12 +34,12 @@ change_leaf-requires g c =
       keyless = can.rooted.keyless;
       room = omega (arith, can.room);
     } in
-    let searched : CanSearch (g.C.Target.Probe.bytes target) (g.C.Target.Probe.lets_pass target)
-    (g.C.Target.Probe.sought target) a root.height root.slot c.known_at.result = record {
-      cut = c.requires.cut;
-      hinted = c.requires.hinted;
-      known = subst (λ p. KnowsAt (g.C.Target.Probe.bytes p) (g.C.Target.Probe.lets_pass p) (g.C.Target.Probe.sought p)
-          c.known_at.result (entries_at a root.slot) 0) c.target.ensures.target c.known_at.ensures.known;
+    let searched : CanSearch (g.C.LeafBound.Bound.bytes leaf_bound) (g.C.LeafBound.Bound.below leaf_bound)
+    (g.C.LeafBound.Bound.target leaf_bound) a root.height root.slot c.common_prefix_len_at.result = record {
+      partitioned = c.requires.partitioned;
+      headed = c.requires.headed;
+      known = subst (λ p. IsPrefixLenAt (g.C.LeafBound.Bound.bytes p) (g.C.LeafBound.Bound.below p) (g.C.LeafBound.Bound.target p)
+          c.common_prefix_len_at.result (entries_at a root.slot) 0) c.leaf_bound.ensures.leaf_bound c.common_prefix_len_at.ensures.known;
     } in
     (search rules, (changeable, (searched, (c.requires.wanted, c.requires.none_taken))))
 
@@ -66,8 +66,8 @@ grow-requires g c =
         linked = omega (arith, changes.live, can.rooted.linked);
         keyless = changes.keyless;
         room = omega (arith, put.taken, can.room);
-        hinted = subst (λ p. AreHinted (g.C.Target.Probe.bytes p) (hints_of b))
-            (sym (c.target-in-Some.ensures.target ∙ c.change_leaf.ensures.target)) put.hinted;
+        headed = subst (λ p. AllAreHeads (g.C.LeafBound.Bound.bytes p) (all_heads_of b))
+            (sym (c.leaf_bound-in-Some.ensures.leaf_bound ∙ c.change_leaf.ensures.leaf_bound)) put.headed;
       },
     )
 
@@ -92,7 +92,7 @@ pub returns-in-Some-clause-items : goal.returns-in-Some-clause-items
 returns-in-Some-clause-items g c =
     let root = c.args.root.now in
     let change = c.args.change.now in
-    subst (IsChangedWithin (g.C.Target.Probe.lets_pass (g.C.LeafChange.target_of change))
+    subst (IsChangedWithin (g.C.LeafBound.Bound.below (g.C.LeafChange.bound_of change))
     (g.C.LeafChange.gives change c.change_leaf.new.change (items_of_run c.change_leaf.new.taken)) true None
     (items_in c.args.nodes.now root.height root.slot))
     (ap (items_with c.change_leaf.new.nodes root.height root.slot) (sym c.in-Some.ensures.added) ∙ sym c.grow.ensures.items)
@@ -101,16 +101,16 @@ returns-in-Some-clause-items g c =
 pub returns-in-Some-clause-spare : goal.returns-in-Some-clause-spare
 returns-in-Some-clause-spare g c = c.grow.ensures.spare ∙ c.change_leaf.ensures.changed.changes.spare
 
-pub returns-in-Some-clause-hinted : goal.returns-in-Some-clause-hinted
-returns-in-Some-clause-hinted g c =
-    subst (λ p. AreHinted (g.C.Target.Probe.bytes p) (hints_of c.grow.new.nodes))
-    (c.target-in-Some.ensures.target ∙ c.change_leaf.ensures.target) c.grow.ensures.hinted
+pub returns-in-Some-clause-headed : goal.returns-in-Some-clause-headed
+returns-in-Some-clause-headed g c =
+    subst (λ p. AllAreHeads (g.C.LeafBound.Bound.bytes p) (all_heads_of c.grow.new.nodes))
+    (c.leaf_bound-in-Some.ensures.leaf_bound ∙ c.change_leaf.ensures.leaf_bound) c.grow.ensures.headed
 
 pub returns-in-None-clause-items : goal.returns-in-None-clause-items
 returns-in-None-clause-items g c =
     let root = c.args.root.now in
     let change = c.args.change.now in
-    subst (IsChangedWithin (g.C.Target.Probe.lets_pass (g.C.LeafChange.target_of change))
+    subst (IsChangedWithin (g.C.LeafBound.Bound.below (g.C.LeafChange.bound_of change))
     (g.C.LeafChange.gives change c.change_leaf.new.change (items_of_run c.change_leaf.new.taken)) true None
     (items_in c.args.nodes.now root.height root.slot))
     (ap (items_with c.change_leaf.new.nodes root.height root.slot) (sym c.in-None.ensures.added) ∙ sym c.shrink.ensures.items)
@@ -119,7 +119,7 @@ returns-in-None-clause-items g c =
 pub returns-in-None-clause-spare : goal.returns-in-None-clause-spare
 returns-in-None-clause-spare g c = c.shrink.ensures.spare ∙ c.change_leaf.ensures.changed.changes.spare
 
-pub returns-in-None-clause-hinted : goal.returns-in-None-clause-hinted
-returns-in-None-clause-hinted g c =
-    c.shrink.ensures.hinted (g.C.Target.Probe.bytes (g.C.LeafChange.target_of c.args.change.now))
-    c.change_leaf.ensures.changed.hinted
+pub returns-in-None-clause-headed : goal.returns-in-None-clause-headed
+returns-in-None-clause-headed g c =
+    c.shrink.ensures.headed (g.C.LeafBound.Bound.bytes (g.C.LeafChange.bound_of c.args.change.now))
+    c.change_leaf.ensures.changed.headed

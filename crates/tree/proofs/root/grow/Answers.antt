@@ -4,7 +4,7 @@ use Rattle.std.specs.List.{All, IsDistinct}
 use Rattle.std.proofs.lemmas.List.{append-nil}
 use Rattle.std.proofs.lemmas.List.Elements.{All-nil, All-cons}
 use Rattle.tree.specs.declared.entry.Entry.{Entry}
-use Rattle.tree.specs.Hints.{IsKnown}
+use Rattle.tree.specs.Heads.{IsKnown}
 use Rattle.tree.specs.Node.{entries_of, keys_of}
 use Rattle.tree.specs.Subtree.{items_in, slots_in}
 use Rattle.tree.specs.Replace.{AreChildren, items_of, slots_of}
@@ -14,17 +14,17 @@ use Rattle.tree.proofs.Changing.{moves_if_changes}
 use Rattle.tree.proofs.Rooting.{right_entry, grown}
 use Rattle.tree.proofs.root.grow.Goals as goal
 
-pub renew_hints-requires : goal.renew_hints-requires
-renew_hints-requires g c =
-    let bytes = g.P.Probe.bytes c.args.probe.now in
+pub compute_heads-requires : goal.compute_heads-requires
+compute_heads-requires g c =
+    let bytes = g.P.Bound.bytes c.args.bound.now in
     let first = c.entry_for.result in
     let second = c.entry_for-2.result in
     let es : List Entry = first ∷ second ∷ [] in
     let node : entries_of c.insert.new.self ≡ es =
     c.insert.ensures.entries ∙ ap (λ l. take 1 l ++ second ∷ drop 1 l) c.of-node.ensures.entries in
     let known : All (IsKnown bytes) (keys_of es) =
-    All-cons (IsKnown bytes) first.key (second.key ∷ []) (c.entry_for.ensures.known bytes c.requires.can_grow.hinted)
-    (All-cons (IsKnown bytes) second.key [] (c.entry_for-2.ensures.known bytes c.requires.can_grow.hinted) (All-nil (IsKnown bytes))) in (search rules, subst (λ l. All (IsKnown bytes) (keys_of l)) (sym node) known)
+    All-cons (IsKnown bytes) first.key (second.key ∷ []) (c.entry_for.ensures.known bytes c.requires.can_grow.headed)
+    (All-cons (IsKnown bytes) second.key [] (c.entry_for-2.ensures.known bytes c.requires.can_grow.headed) (All-nil (IsKnown bytes))) in (search rules, subst (λ l. All (IsKnown bytes) (keys_of l)) (sym node) known)
 
 pub returns-clause-items : goal.returns-clause-items
 returns-clause-items g c =
@@ -35,8 +35,8 @@ returns-clause-items g c =
     let second = c.entry_for-2.result in
     let least = least_of g.row.N in
     let es : List Entry = first ∷ second ∷ [] in
-    let node : entries_of c.renew_hints.new.self ≡ es =
-    c.renew_hints.ensures.entries ∙ c.insert.ensures.entries ∙ ap (λ l. take 1 l ++ second ∷ drop 1 l) c.of-node.ensures.entries in
+    let node : entries_of c.compute_heads.new.self ≡ es =
+    c.compute_heads.ensures.entries ∙ c.insert.ensures.entries ∙ ap (λ l. take 1 l ++ second ∷ drop 1 l) c.of-node.ensures.entries in
     let right : AreChildren a least h es =
     All-cons (IsRight a least h) first (second ∷ [])
     (right_entry a least h c.args.root.slot first c.entry_for.ensures.child c.requires.can_grow.first c.requires.can_grow.filled.0
@@ -67,8 +67,8 @@ returns-clause-rooted g c =
     let second = c.entry_for-2.result in
     let least = least_of g.row.N in
     let es : List Entry = first ∷ second ∷ [] in
-    let node : entries_of c.renew_hints.new.self ≡ es =
-    c.renew_hints.ensures.entries ∙ c.insert.ensures.entries ∙ ap (λ l. take 1 l ++ second ∷ drop 1 l) c.of-node.ensures.entries in
+    let node : entries_of c.compute_heads.new.self ≡ es =
+    c.compute_heads.ensures.entries ∙ c.insert.ensures.entries ∙ ap (λ l. take 1 l ++ second ∷ drop 1 l) c.of-node.ensures.entries in
     let right : AreChildren a least h es =
     All-cons (IsRight a least h) first (second ∷ [])
     (right_entry a least h c.args.root.slot first c.entry_for.ensures.child c.requires.can_grow.first c.requires.can_grow.filled.0
@@ -90,6 +90,6 @@ returns-clause-rooted g c =
     let one : suc h ≡ h + 1 = omega arith in
     subst (λ n. IsRooted b c.place.result n) one new.rooted
 
-pub returns-clause-hinted : goal.returns-clause-hinted
-returns-clause-hinted g c =
-    c.place.ensures.hinted (g.P.Probe.bytes c.args.probe.now) c.renew_hints.ensures.hinted c.requires.can_grow.hinted
+pub returns-clause-headed : goal.returns-clause-headed
+returns-clause-headed g c =
+    c.place.ensures.headed (g.P.Bound.bytes c.args.bound.now) c.compute_heads.ensures.headed c.requires.can_grow.headed

@@ -2,20 +2,20 @@ use Rattle.std.proofs.Common.{refl, rules}
 use Rattle.tree.specs.Path.{before_leaf, behind_leaf}
 use Rattle.tree.specs.Subtree.{entries_at, items_in}
 use Rattle.tree.specs.Tree.{least_of}
-use Rattle.tree.proofs.Leaves.{is_leaf, leaf_cut_by_keys}
+use Rattle.tree.proofs.Leaves.{is_leaf, leaf_partitioned_by_keys}
 use Rattle.tree.proofs.Reaching.{found_at_leaf}
 use Rattle.tree.proofs.root.reach.Goals as goal
 
 pub returns : goal.returns
 returns g c =
-    let passes = g.P.Probe.lets_pass c.args.probe.now in
+    let is_below = g.P.Bound.below c.args.bound.now in
     let nodes = c.args.nodes.now in
     let root = c.args.root in
     let slot = c.find.result.leaf in
     let can = c.requires.can_reach in
-    let found = found_at_leaf nodes (least_of g.row.N) root.height root.slot slot passes can.subtree can.cut c.find.ensures.leaf in
-    let leaf = is_leaf nodes (least_of g.row.N) root.height root.slot passes slot (entries_at nodes slot) can.subtree
-    can.cut c.find.ensures.leaf refl found.items found.before found.behind in
+    let found = found_at_leaf nodes (least_of g.row.N) root.height root.slot slot is_below can.subtree can.partitioned c.find.ensures.leaf in
+    let leaf = is_leaf nodes (least_of g.row.N) root.height root.slot is_below slot (entries_at nodes slot) can.subtree
+    can.partitioned c.find.ensures.leaf refl found.items found.before found.behind in
     record {
       reached = record {
         live = search rules;
@@ -23,8 +23,8 @@ returns g c =
         before = found.before;
         after = found.behind;
         none = leaf.none;
-        cut = leaf_cut_by_keys passes (items_in nodes root.height root.slot) (before_leaf nodes root.height root.slot passes)
-            (behind_leaf nodes root.height root.slot passes) (entries_at nodes slot) leaf can.cut;
+        partitioned = leaf_partitioned_by_keys is_below (items_in nodes root.height root.slot) (before_leaf nodes root.height root.slot is_below)
+            (behind_leaf nodes root.height root.slot is_below) (entries_at nodes slot) leaf can.partitioned;
         some = c.find.ensures.some;
         knows = c.find.ensures.known;
         next = c.find.ensures.behind;

@@ -5,7 +5,7 @@ use Rattle.tree.specs.Subtree.{items_in, slots_in, IsSubtree}
 use Rattle.tree.specs.Tree.{least_of}
 use Rattle.tree.proofs.Changing.{moves_released}
 use Rattle.tree.proofs.Found.{entries_read}
-use Rattle.tree.proofs.Hinted.{hinted_released}
+use Rattle.tree.proofs.Headed.{headed_released}
 use Rattle.tree.proofs.Placing.{released_spare}
 use Rattle.tree.proofs.Rooting.{only_one, shrunk}
 use Rattle.tree.proofs.root.shrink.Goals as goal
@@ -75,7 +75,7 @@ returns-clause-spare g c =
     moves_released a b slot c.requires.can_shrink.keyless subtree.0 c.release.ensures.released c.release.ensures.others spare in
     omega (arith, moves.live, moves.spare)
 
-pub returns-clause-hinted : goal.returns-clause-hinted
-returns-clause-hinted g c bytes all =
-    hinted_released bytes c.args.nodes.now c.release.new.self c.args.root.slot all c.release.ensures.released
+pub returns-clause-headed : goal.returns-clause-headed
+returns-clause-headed g c bytes all =
+    headed_released bytes c.args.nodes.now c.release.new.self c.args.root.slot all c.release.ensures.released
     c.release.ensures.others

@@ -3,11 +3,11 @@ use Rattle.std.specs.Prelude.{slice_range}
 use Rattle.std.proofs.lemmas.Int.{to_z-of_z}
 use mir.Val.{SFits}
 use Rattle.tree.specs.Item.{Item, Tells, IsGreatestWith}
-use Rattle.tree.specs.Path.{from_cut, to_cut}
+use Rattle.tree.specs.Path.{below_from, below_to}
 use Rattle.tree.specs.Subtree.{items_in}
 use Rattle.tree.specs.Tree.{least_of}
 use Rattle.tree.proofs.Spans.{span}
-use Rattle.tree.proofs.Looks.{IsLook, look_of, look_cut, from_asked, to_asked, ask_from, ask_to, ask_any, look_ordered, leaf_look}
+use Rattle.tree.proofs.Looks.{IsLook, look_of, look_bound, from_asked, to_asked, ask_from, ask_to, ask_any, look_ordered, leaf_look}
 use Rattle.tree.proofs.Halves.{AreHalves, left_items, right_items, middle_items, left_span, right_span, left_tells, right_tells, middle_tells, left_subtree, left_from, left_to, right_subtree, right_to, apart, in_one, in_two}
 use Rattle.tree.proofs.GreatestParts.{IsPeak-leaf, IsPeak-children}
 use Rattle.tree.proofs.Most.{most_with, most_same, most_of_parts, most_passed}
@@ -16,36 +16,36 @@ use Rattle.tree.proofs.search.+greatest.Goals as goal
 use Rattle.tree.proofs.search.+greatest.Goals.{After-end_of-end, After-index-entries-last, After-is_above-3, then-is_above, else-is_above}
 
 abbrev begins : (g : Over) (t : ℕ) → After-end_of-end g t → ℕ → Bool
-begins g t c = from_cut (option_map (λ p. g.P.Probe.lets_pass p.now) c.args.from)
+begins g t c = below_from (option_map (λ p. g.P.Bound.below p.now) c.args.from)
 
 abbrev ends : (g : Over) (t : ℕ) → After-end_of-end g t → ℕ → Bool
-ends g t c = to_cut (option_map (λ q. g.Q.Probe.lets_pass q.now) c.args.to)
+ends g t c = below_to (option_map (λ q. g.Q.Bound.below q.now) c.args.to)
 
 look : (g : Over) (t : ℕ) (c : After-end_of-end g t)
     → IsLook c.args.nodes.now (least_of g.row.N) c.args.height c.args.slot (begins g t c) (ends g t c)
     c.entries-entries.result.now c.begin_of-begin.result c.end_of-end.result
 look g t c =
-    look_of c.args.nodes.now (least_of g.row.N) c.args.height c.args.slot (λ p. g.P.Probe.lets_pass p.now)
-    (λ q. g.Q.Probe.lets_pass q.now) c.args.from c.args.to c.header_ref.result.now c.entries-entries.result.now
+    look_of c.args.nodes.now (least_of g.row.N) c.args.height c.args.slot (λ p. g.P.Bound.below p.now)
+    (λ q. g.Q.Bound.below q.now) c.args.from c.args.to c.header_ref.result.now c.entries-entries.result.now
     c.begin_of-begin.result c.end_of-end.result c.requires.subtree c.requires.from c.requires.to c.requires.nested
     c.header_ref.ensures.header c.entries-entries.ensures.entries c.begin_of-begin.ensures.count
     c.end_of-end.ensures.count
 
 pub begin_of-begin-requires : goal.begin_of-begin-requires
 begin_of-begin-requires g t c = record {
-  cut = look_cut c.args.nodes.now (least_of g.row.N) c.args.height c.args.slot
-      (from_cut (option_map (λ p. g.P.Probe.lets_pass p.now) c.args.from)) c.header_ref.result.now
+  partitioned = look_bound c.args.nodes.now (least_of g.row.N) c.args.height c.args.slot
+      (below_from (option_map (λ p. g.P.Bound.below p.now) c.args.from)) c.header_ref.result.now
       c.entries-entries.result.now c.requires.subtree
-      (from_asked (λ p. g.P.Probe.lets_pass p.now) (items_in c.args.nodes.now c.args.height c.args.slot) c.args.from
+      (from_asked (λ p. g.P.Bound.below p.now) (items_in c.args.nodes.now c.args.height c.args.slot) c.args.from
       c.requires.from) c.header_ref.ensures.header c.entries-entries.ensures.entries;
 }
 
 pub end_of-end-requires : goal.end_of-end-requires
 end_of-end-requires g t c = record {
-  cut = look_cut c.args.nodes.now (least_of g.row.N) c.args.height c.args.slot
-      (to_cut (option_map (λ q. g.Q.Probe.lets_pass q.now) c.args.to)) c.header_ref.result.now
+  partitioned = look_bound c.args.nodes.now (least_of g.row.N) c.args.height c.args.slot
+      (below_to (option_map (λ q. g.Q.Bound.below q.now) c.args.to)) c.header_ref.result.now
       c.entries-entries.result.now c.requires.subtree
-      (to_asked (λ q. g.Q.Probe.lets_pass q.now) (items_in c.args.nodes.now c.args.height c.args.slot) c.args.to
+      (to_asked (λ q. g.Q.Bound.below q.now) (items_in c.args.nodes.now c.args.height c.args.slot) c.args.to
       c.requires.to) c.header_ref.ensures.header c.entries-entries.ensures.entries;
 }
 
@@ -70,14 +70,14 @@ returns-then-height-eq0 g t c =
 -- the two children that the search goes on in
 abbrev halves : (g : Over) (t : ℕ) (c : After-index-entries-last g t)
     → AreHalves c.args.nodes.now (least_of g.row.N) c.args.height c.args.slot
-    (from_cut (option_map (λ p. g.P.Probe.lets_pass p.now) c.args.from))
-    (to_cut (option_map (λ q. g.Q.Probe.lets_pass q.now) c.args.to))
+    (below_from (option_map (λ p. g.P.Bound.below p.now) c.args.from))
+    (below_to (option_map (λ q. g.Q.Bound.below q.now) c.args.to))
 halves g t c = record {
   es = c.entries-entries.result.now;
   begin = c.begin_of-begin.result;
   end = c.end_of-end.result;
-  look = look_of c.args.nodes.now (least_of g.row.N) c.args.height c.args.slot (λ p. g.P.Probe.lets_pass p.now)
-      (λ q. g.Q.Probe.lets_pass q.now) c.args.from c.args.to c.header_ref.result.now c.entries-entries.result.now
+  look = look_of c.args.nodes.now (least_of g.row.N) c.args.height c.args.slot (λ p. g.P.Bound.below p.now)
+      (λ q. g.Q.Bound.below q.now) c.args.from c.args.to c.header_ref.result.now c.entries-entries.result.now
       c.begin_of-begin.result c.end_of-end.result c.requires.subtree c.requires.from c.requires.to c.requires.nested
       c.header_ref.ensures.header c.entries-entries.ensures.entries c.begin_of-begin.ensures.count
       c.end_of-end.ensures.count;
@@ -119,10 +119,10 @@ greatest-requires g t c κs within =
               (
                 left_subtree h,
                 (
-                  ask_from (λ p. g.P.Probe.lets_pass p.now) (left_items (halves g t at)) c.args.from
+                  ask_from (λ p. g.P.Bound.below p.now) (left_items (halves g t at)) c.args.from
                       (left_from h),
                   (
-                    ask_to (λ q. g.Q.Probe.lets_pass q.now) (left_items (halves g t at)) c.args.to
+                    ask_to (λ q. g.Q.Bound.below q.now) (left_items (halves g t at)) c.args.to
                         (left_to h),
                     c.requires.nested,
                   ),
@@ -150,7 +150,7 @@ greatest-most-requires g t c κs within =
               (
                 left_subtree h,
                 (
-                  ask_from (λ p. g.P.Probe.lets_pass p.now) (left_items (halves g t at)) c.args.from
+                  ask_from (λ p. g.P.Bound.below p.now) (left_items (halves g t at)) c.args.from
                       (left_from h),
                   (tt, ask_any c.args.from (λ _. Unit {0}) (λ _. tt)),
                 ),
@@ -179,7 +179,7 @@ greatest-most-requires-then-is_above-2 g t c κs within =
                 (
                   tt,
                   (
-                    ask_to (λ q. g.Q.Probe.lets_pass q.now) (right_items (halves g t at)) c.args.to
+                    ask_to (λ q. g.Q.Bound.below q.now) (right_items (halves g t at)) c.args.to
                         (right_to h),
                     tt,
                   ),
@@ -228,7 +228,7 @@ between_two g t c tell =
 sooner : (g : Over) (t : ℕ) (c : After-is_above-3 g t)
     → Tells c.index-entries-first.result (items_in c.args.nodes.now (c.args.height - 1) c.index-entries-first.result.child)
     → IsGreatestWith c.greater-most.result
-    (span (λ (x : Item). from_cut (option_map (λ p. g.P.Probe.lets_pass p.now) c.args.from) x.key)
+    (span (λ (x : Item). below_from (option_map (λ p. g.P.Bound.below p.now) c.args.from) x.key)
     (λ (x : Item). true) (items_in c.args.nodes.now (c.args.height - 1) c.index-entries-first.result.child))
     c.if-is_above.most
 sooner g t c left =

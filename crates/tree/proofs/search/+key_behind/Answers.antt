@@ -1,36 +1,36 @@
 use Rattle.std.proofs.Common.{rules, ◌∙◌}
 use Rattle.tree.specs.Tree.{least_of}
-use Rattle.tree.proofs.Found.{leaf_cut, read_cut, found, found_subtree, found_cut}
+use Rattle.tree.proofs.Found.{leaf_partitioned, read_partitioned, found, found_subtree, found_partitioned}
 use Rattle.tree.proofs.Keys.{key_of_leaf, key_of_child}
 use Rattle.tree.proofs.search.+key_behind.Goals as goal
 
-pub passing-requires : goal.passing-requires
-passing-requires g t c = record {
-  cut = leaf_cut c.args.nodes.now c.args.height c.args.slot (g.P.Probe.lets_pass c.args.probe.now)
-      c.header_ref.result.now c.entries-entries.result.now c.if-height-eq0.true c.requires.cut
+pub items_below-requires : goal.items_below-requires
+items_below-requires g t c = record {
+  partitioned = leaf_partitioned c.args.nodes.now c.args.height c.args.slot (g.P.Bound.below c.args.bound.now)
+      c.header_ref.result.now c.entries-entries.result.now c.if-height-eq0.true c.requires.partitioned
       c.header_ref.ensures.header c.entries-entries.ensures.entries;
 }
 
 pub returns-then-height-eq0 : goal.returns-then-height-eq0
 returns-then-height-eq0 g t c = record {
   key = c.key_at.ensures.key
-      ∙ key_of_leaf c.args.nodes.now c.args.height c.args.slot (g.P.Probe.lets_pass c.args.probe.now)
+      ∙ key_of_leaf c.args.nodes.now c.args.height c.args.slot (g.P.Bound.below c.args.bound.now)
       c.header_ref.result.now c.entries-entries.result.now _ c.args.behind c.if-height-eq0.true
-      c.header_ref.ensures.header c.entries-entries.ensures.entries c.passing.ensures.rest;
+      c.header_ref.ensures.header c.entries-entries.ensures.entries c.items_below.ensures.rest;
 }
 
-pub index_of-index-requires-clause-cut : goal.index_of-index-requires-clause-cut
-index_of-index-requires-clause-cut g t c =
-    read_cut c.args.nodes.now (least_of g.row.N) c.args.height c.args.slot (g.P.Probe.lets_pass c.args.probe.now)
-    c.header_ref.result.now c.entries-entries.result.now c.if-height-eq0.false c.requires.subtree c.requires.cut
+pub index_of-index-requires-clause-partitioned : goal.index_of-index-requires-clause-partitioned
+index_of-index-requires-clause-partitioned g t c =
+    read_partitioned c.args.nodes.now (least_of g.row.N) c.args.height c.args.slot (g.P.Bound.below c.args.bound.now)
+    c.header_ref.result.now c.entries-entries.result.now c.if-height-eq0.false c.requires.subtree c.requires.partitioned
     c.header_ref.ensures.header c.entries-entries.ensures.entries
 
 pub key_behind-requires : goal.key_behind-requires
 key_behind-requires g t c κs within =
-    let passes = g.P.Probe.lets_pass c.args.probe.now in
-    let f = found c.args.nodes.now (least_of g.row.N) c.args.height c.args.slot passes c.header_ref.result.now
+    let is_below = g.P.Bound.below c.args.bound.now in
+    let f = found c.args.nodes.now (least_of g.row.N) c.args.height c.args.slot is_below c.header_ref.result.now
     c.entries-entries.result.now c.index_of-index.result c.index-entries-index.result
-    c.if-height-eq0.false c.requires.subtree c.requires.cut c.header_ref.ensures.header
+    c.if-height-eq0.false c.requires.subtree c.requires.partitioned c.header_ref.ensures.header
     c.entries-entries.ensures.entries c.index_of-index.ensures.index in (
       search rules,
       (
@@ -40,8 +40,8 @@ key_behind-requires g t c κs within =
           (
             search rules,
             (
-              found_subtree c.args.nodes.now (least_of g.row.N) c.args.height c.args.slot passes _ f,
-              found_cut c.args.nodes.now (least_of g.row.N) c.args.height c.args.slot passes _ f,
+              found_subtree c.args.nodes.now (least_of g.row.N) c.args.height c.args.slot is_below _ f,
+              found_partitioned c.args.nodes.now (least_of g.row.N) c.args.height c.args.slot is_below _ f,
             ),
           ),
         ),
@@ -50,14 +50,14 @@ key_behind-requires g t c κs within =
 
 pub returns : goal.returns
 returns g t c =
-    let passes = g.P.Probe.lets_pass c.args.probe.now in
-    let f = found c.args.nodes.now (least_of g.row.N) c.args.height c.args.slot passes c.header_ref.result.now
+    let is_below = g.P.Bound.below c.args.bound.now in
+    let f = found c.args.nodes.now (least_of g.row.N) c.args.height c.args.slot is_below c.header_ref.result.now
     c.entries-entries.result.now c.index_of-index.result c.index-entries-index.result
-    c.if-height-eq0.false c.requires.subtree c.requires.cut c.header_ref.ensures.header
+    c.if-height-eq0.false c.requires.subtree c.requires.partitioned c.header_ref.ensures.header
     c.entries-entries.ensures.entries c.index_of-index.ensures.index in
     record {
       key = c.key_behind.ensures.key
-          ∙ key_of_child c.args.nodes.now (least_of g.row.N) c.args.height c.args.slot passes _ f
+          ∙ key_of_child c.args.nodes.now (least_of g.row.N) c.args.height c.args.slot is_below _ f
           c.header_ref.result.now c.entries-entries.result.now c.index_of-index.result c.args.behind
           c.key_at-next.result c.header_ref.ensures.header c.entries-entries.ensures.entries
           c.index_of-index.ensures.index c.key_at-next.ensures.key;

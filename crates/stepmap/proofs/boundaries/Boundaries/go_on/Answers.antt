@@ -5,10 +5,10 @@ use Rattle.std.proofs.lemmas.List.Elements.{All-filter, All-weaker}
 use Rattle.arena.specs.Arena.{IsLive}
 use Rattle.keys.specs.Key.{IsKey}
 use Rattle.tree.specs.Item.{Item, item_of}
-use Rattle.tree.specs.Path.{passing, behind}
+use Rattle.tree.specs.Path.{items_below, behind}
 use Rattle.tree.specs.Tree.{IsLast}
 use Rattle.stepmap.specs.Boundary.{last_version}
-use Rattle.stepmap.specs.Cut.{slot_passes}
+use Rattle.stepmap.specs.KeyBound.{slot_is_below}
 use Rattle.stepmap.specs.Stored.{bytes_at, boundaries_of, first_key}
 use Rattle.stepmap.specs.Sweeping.{left_from, passed_to}
 use Rattle.stepmap.proofs.Passed.{are_passed, is_some, first_bytes, first_has, keys_have, last_is}
@@ -18,7 +18,7 @@ pub last-requires : goal.last-requires
 last-requires g c =
     let p = are_passed c.self.inside.keys c.self.inside.tree c.self.invariant.stored c.is_empty.result c.deref.result.now
     c.args.cursor.now.items _ c.deref.ensures.value c.deref.ensures.len c.is_empty.ensures in
-    (omega arith, (p.cut, c.self.invariant.hinted))
+    (omega arith, (p.partitioned, c.self.invariant.headed))
 
 pub unwrap-last-requires : goal.unwrap-last-requires
 unwrap-last-requires g c =
@@ -30,12 +30,12 @@ pub key_behind-next-requires : goal.key_behind-next-requires
 key_behind-next-requires g c =
     let p = are_passed c.self.inside.keys c.self.inside.tree c.self.invariant.stored c.is_empty.result c.deref.result.now
     c.args.cursor.now.items _ c.deref.ensures.value c.deref.ensures.len c.is_empty.ensures in
-    (omega arith, p.cut)
+    (omega arith, p.partitioned)
 
 pub move_to-requires-clause-live : goal.move_to-requires-clause-live
 move_to-requires-clause-live g c =
     let keys = c.self.inside.keys in
-    let p = slot_passes keys c.is_empty.result c.deref.result.now in
+    let p = slot_is_below keys c.is_empty.result c.deref.result.now in
     let items = c.self.inside.tree.items in
     subst (λ o. IfSome o (IsLive keys)) (sym c.key_behind-next.ensures.key)
     (first_has keys (IsLive keys) (behind p items)
@@ -44,7 +44,7 @@ move_to-requires-clause-live g c =
 pub move_to-requires-clause-fits : goal.move_to-requires-clause-fits
 move_to-requires-clause-fits g c =
     let keys = c.self.inside.keys in
-    let p = slot_passes keys c.is_empty.result c.deref.result.now in
+    let p = slot_is_below keys c.is_empty.result c.deref.result.now in
     let items = c.self.inside.tree.items in
     let all : All (λ b. IsKey b.key) (boundaries_of keys items) =
     subst (All (λ b. IsKey b.key)) (sym (ap (λ v. v.boundaries) c.self.view_is)) c.requires.keys in
@@ -61,7 +61,7 @@ returns-clause-version g c =
     let e = c.unwrap-last.result in
     let p = are_passed keys c.self.inside.tree c.self.invariant.stored c.is_empty.result c.deref.result.now cursor _
     c.deref.ensures.value c.deref.ensures.len c.is_empty.ensures in
-    let items = passing (slot_passes keys c.is_empty.result c.deref.result.now) c.self.inside.tree.items in
+    let items = items_below (slot_is_below keys c.is_empty.result c.deref.result.now) c.self.inside.tree.items in
     let last = subst (λ o. MatchOption o (items ≡ []) (λ e. IsLast (item_of e) items)) c.unwrap-last.ensures c.last.ensures.last in
     let fits : SFits w64 e.version = search rules in
     to_z-of_z w64 e.version fits ∙ sym (last_is keys (item_of e) items (negsuc 0) last)
@@ -73,6 +73,6 @@ returns-clause-cursor g c =
     let cursor = c.args.cursor.now.items in
     let p = are_passed keys c.self.inside.tree c.self.invariant.stored c.is_empty.result c.deref.result.now cursor _
     c.deref.ensures.value c.deref.ensures.len c.is_empty.ensures in
-    let items = behind (slot_passes keys c.is_empty.result c.deref.result.now) c.self.inside.tree.items in
+    let items = behind (slot_is_below keys c.is_empty.result c.deref.result.now) c.self.inside.tree.items in
     c.move_to.ensures.cursor ∙ ap (λ o. unwrap_or (option_map (bytes_at keys) o) []) c.key_behind-next.ensures.key
     ∙ first_bytes keys items ∙ ap first_key (p.left ∙ ap (λ v. left_from cursor v.boundaries) c.self.view_is)

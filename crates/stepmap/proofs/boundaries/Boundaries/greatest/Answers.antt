@@ -6,9 +6,9 @@ use Rattle.tree.specs.Item.{Item}
 use Rattle.tree.specs.Path.{between}
 use Rattle.keys.specs.Key.{IsBefore}
 use Rattle.stepmap.specs.Boundary.{Boundary, value_at}
-use Rattle.stepmap.specs.Cut.{slot_passes}
+use Rattle.stepmap.specs.KeyBound.{slot_is_below}
 use Rattle.stepmap.specs.Stored.{Stored, boundaries_of}
-use Rattle.stepmap.proofs.Cutting.{stored_cut}
+use Rattle.stepmap.proofs.Partitioning.{stored_partitioned}
 use Rattle.stepmap.proofs.WritingValues.{begins_before_end}
 use Rattle.stepmap.proofs.Between.{
   inside,
@@ -32,8 +32,8 @@ greatest-requires g c =
     rw (c.as_bytes-2.ensures.bytes, c.as_bytes-3.ensures.bytes) (begins_before_end c.args.range.now c.requires.filled) in (
       omega arith,
       (
-        (stored_cut b.keys b.tree c.self.invariant.stored true begin).cut,
-        ((stored_cut b.keys b.tree c.self.invariant.stored false end).cut, nested b.keys true begin end rises),
+        (stored_partitioned b.keys b.tree c.self.invariant.stored true begin).partitioned,
+        ((stored_partitioned b.keys b.tree c.self.invariant.stored false end).partitioned, nested b.keys true begin end rises),
       ),
     )
 
@@ -44,7 +44,7 @@ at_begin g c = c.version_at-at_begin.ensures.value ∙ ap (value_at c.args.self.
 abbrev items : (g : Over) → After-greatest g → List Item
 items g c =
     let keys = c.self.inside.keys in
-    between (Some (slot_passes keys true c.as_bytes-2.result.now)) (Some (slot_passes keys false c.as_bytes-3.result.now))
+    between (Some (slot_is_below keys true c.as_bytes-2.result.now)) (Some (slot_is_below keys false c.as_bytes-3.result.now))
     c.self.inside.tree.items
 
 abbrev inside_range : (g : Over) → After-greatest g → List Boundary
@@ -64,8 +64,8 @@ found g c =
 -- where there are boundaries inside
 greatest_some : (g : Over) (c : After-max g) (bs : List Boundary)
     → boundaries_of c.self.inside.keys
-    (between (Some (slot_passes c.self.inside.keys true c.as_bytes-2.result.now))
-    (Some (slot_passes c.self.inside.keys false c.as_bytes-3.result.now)) c.self.inside.tree.items) ≡ bs
+    (between (Some (slot_is_below c.self.inside.keys true c.as_bytes-2.result.now))
+    (Some (slot_is_below c.self.inside.keys false c.as_bytes-3.result.now)) c.self.inside.tree.items) ≡ bs
     → c.max.result ≡ fold int_max c.version_at-at_begin.result (map (λ b. b.version) bs)
 greatest_some g c bs are =
     let v : FitsSigned w64 c.version_at-at_begin.result = search rules in

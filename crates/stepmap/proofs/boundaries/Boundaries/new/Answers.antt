@@ -13,6 +13,6 @@ invariant_of-result-2 g c =
     let tree = c.in_ok-tree.tree in
     record {
       stored = alone_stored old new slot tt _ placed tree (negsuc 0) refl c.new-keys.ensures.empty c.in_ok-tree.ensures.items;
-      hinted = c.in_ok-tree.ensures.hinted (key_at new)
+      headed = c.in_ok-tree.ensures.headed (key_at new)
           (ap (option_map (λ r. r.key)) placed.is);
     }

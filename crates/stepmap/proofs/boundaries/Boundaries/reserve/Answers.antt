@@ -13,4 +13,4 @@ invariant_of-self-in_err-map_err g c =
 pub invariant_of-self-2 : goal.invariant_of-self-2
 invariant_of-self-2 g c =
     indexed_still c.self.inside.keys c.reserve.new.self c.self.inside.tree c.reserve-2.new.self c.reserve.ensures.records
-    c.reserve-2.ensures.items c.reserve-2.ensures.hints c.self.invariant
+    c.reserve-2.ensures.items c.reserve-2.ensures.all_heads c.self.invariant

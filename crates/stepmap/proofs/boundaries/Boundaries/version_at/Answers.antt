@@ -4,33 +4,33 @@ use Rattle.std.proofs.lemmas.Bool.{some_since}
 use Rattle.std.proofs.lemmas.Int.{to_z-of_z}
 use Rattle.std.proofs.lemmas.Option.{MatchOption-at_some}
 use Rattle.tree.specs.Item.{item_of}
-use Rattle.tree.specs.Path.{passing}
+use Rattle.tree.specs.Path.{items_below}
 use Rattle.tree.specs.Tree.{IsLast}
 use Rattle.stepmap.specs.Boundary.{value_at}
-use Rattle.stepmap.specs.Cut.{slot_passes}
+use Rattle.stepmap.specs.KeyBound.{slot_is_below}
 use Rattle.stepmap.specs.Stored.{Stored, boundaries_of}
-use Rattle.stepmap.proofs.Cutting.{stored_cut}
-use Rattle.stepmap.proofs.LastFound.{some_passes, last_boundary, value_of_last}
+use Rattle.stepmap.proofs.Partitioning.{stored_partitioned}
+use Rattle.stepmap.proofs.LastFound.{some_is_below, last_boundary, value_of_last}
 use Rattle.stepmap.proofs.boundaries.Boundaries.version_at.Goals as goal
 
 pub last-requires : goal.last-requires
 last-requires g c =
     let b = c.self.inside in (
       omega arith,
-      ((stored_cut b.keys b.tree c.self.invariant.stored true c.args.key.now).cut, c.self.invariant.hinted),
+      ((stored_partitioned b.keys b.tree c.self.invariant.stored true c.args.key.now).partitioned, c.self.invariant.headed),
     )
 
 pub unwrap-requires : goal.unwrap-requires
 unwrap-requires g c =
     some_since c.last.result _ _ c.last.ensures.last
-    (some_passes c.self.inside.keys c.self.inside.tree c.self.invariant.stored c.args.key.now)
+    (some_is_below c.self.inside.keys c.self.inside.tree c.self.invariant.stored c.args.key.now)
 
 pub returns : goal.returns
 returns g c =
     let b = c.self.inside in
     let key = c.args.key.now in
     let x = item_of c.unwrap.result in
-    let last : IsLast x (passing (slot_passes b.keys true key) b.tree.items) =
+    let last : IsLast x (items_below (slot_is_below b.keys true key) b.tree.items) =
     MatchOption-at_some _ _ c.unwrap.result c.unwrap.ensures c.last.ensures.last in
     let found = last_boundary b.keys b.tree c.self.invariant.stored true key x last in
     let fits : FitsSigned w64 x.version = search rules in

@@ -10,16 +10,16 @@ use Rattle.tree.specs.Node.{items_of_run}
 use Rattle.tree.specs.declared.overwrite.Written.{Written}
 use Rattle.tree.specs.declared.overwrite.Written.TheVariants.{Partly, Whole}
 use Rattle.tree.specs.Overwrite.{Overwrites}
-use Rattle.tree.specs.Path.{IsCut, passing}
+use Rattle.tree.specs.Path.{IsPartitioned, items_below}
 use Rattle.arena.specs.Arena.{Arena, IsLive, record_at, key_at, spare_of, size_of, wanted_of}
 use Rattle.keys.specs.Key.{IsBefore, IsBytes}
 use Rattle.stepmap.specs.Boundary.{AreBoundaries, value_at}
-use Rattle.stepmap.specs.Cut.{slot_passes}
+use Rattle.stepmap.specs.KeyBound.{slot_is_below}
 use Rattle.stepmap.specs.Stored.{Stored, spare_in, boundary_of, boundaries_of, AreIndexed}
 use Rattle.stepmap.specs.Writing.{written_to}
 use Rattle.stepmap.proofs.Between.{nested, nested_around}
-use Rattle.stepmap.proofs.Exchanged.{cut_still}
-use Rattle.stepmap.proofs.Indexed.{hinted_with}
+use Rattle.stepmap.proofs.Exchanged.{partitioned_still}
+use Rattle.stepmap.proofs.Indexed.{headed_with}
 use Rattle.stepmap.proofs.Overwritten.{at_begin, at_end, both, used_at_most, unless_ended, some_before, run_was_live, run_live, run_distinct, whole_boundaries, whole_indexed, part_fewer, part_boundaries, part_written, part_indexed}
 use Rattle.stepmap.proofs.PlacedKeys.{Placed, ArePlaced, none_placed, one_more_by, first_released, second_released, run_released, placed_live}
 use Rattle.stepmap.proofs.SpareKeys.{taken_by_place, spare_for_end}
@@ -76,10 +76,10 @@ ready g c =
     c.end.ensures.bytes c.unwrap-end_key.ensures f.was_free f.placed f.record f.others f.spare f.other_sizes
 
 -- what the cuts require
-cuts : (g : given.Over) (c : After-item g) (up_to : Bool) (key : List ℕ)
-    → IsCut (λ x. slot_passes c.place-2.new.self up_to key x.key) c.self.inside.tree.items
-cuts g c =
-    cut_still c.self.inside.keys c.self.inside.tree c.self.invariant.stored c.place-2.new.self (placed g c) (ready g c)
+bounds : (g : given.Over) (c : After-item g) (up_to : Bool) (key : List ℕ)
+    → IsPartitioned (λ x. slot_is_below c.place-2.new.self up_to key x.key) c.self.inside.tree.items
+bounds g c =
+    partitioned_still c.self.inside.keys c.self.inside.tree c.self.invariant.stored c.place-2.new.self (placed g c) (ready g c)
 
 rises : (g : given.Over) (c : After-item g) → IsBefore c.begin-2.result.now c.end-to.result.now
 rises g c =
@@ -114,7 +114,7 @@ invariant_of-new g c =
       bytes = λ key. refl;
       past_bytes = λ key. refl;
       begin_alike = ap (take n) (c.begin-2.ensures.bytes ∙ sym c.begin-3.ensures.bytes) ∙ c.common_prefix_len.ensures.same;
-      past_sought = refl;
+      past_target = refl;
       first_is = begin_at ∙ ap (λ k. Some k) (sym c.begin-2.ensures.bytes);
       second_is = end_at ∙ ap (λ k. Some k) (sym c.end-to.ensures.bytes);
       from_bytes = subst IsBytes (sym c.begin-2.ensures.bytes) range.begin_is_key.bytes;
@@ -131,23 +131,23 @@ overwrite-written-requires g c =
     let range = c.args.range.now in
     let some = some_before keys tree c.self.invariant.stored range c.requires.filled c.args.version (end_version g at)
     c.unwrap-begin_key.result c.unwrap-end_key.result c.place-2.new.self (ready g at) in
-    let some_items = subst (λ k. passing (slot_passes c.place-2.new.self false k) tree.items ≢ []) (sym c.end-to.ensures.bytes)
+    let some_items = subst (λ k. items_below (slot_is_below c.place-2.new.self false k) tree.items ≢ []) (sym c.end-to.ensures.bytes)
     some in (
       omega arith,
       (
         omega (arith, c.self.inside.few),
         (
-          cuts g at false begin,
+          bounds g at false begin,
           (
-            cuts g at false end,
+            bounds g at false end,
             (
-              cuts g at true end,
+              bounds g at true end,
               (
                 some_items,
                 (
                   omega (arith, room g at),
                   (
-                    hinted_with keys c.place-2.new.self (placed g at) (ready g at) tree c.self.invariant.hinted,
+                    headed_with keys c.place-2.new.self (placed g at) (ready g at) tree c.self.invariant.headed,
                     refl,
                   ),
                 ),
@@ -160,8 +160,8 @@ overwrite-written-requires g c =
 
 -- what the tree tells
 told : (g : given.Over) (c : After-overwrite-written g)
-    → Overwrites (slot_passes c.place-2.new.self false c.args.range.now.begin)
-    (slot_passes c.place-2.new.self false c.args.range.now.end) (slot_passes c.place-2.new.self true c.args.range.now.end)
+    → Overwrites (slot_is_below c.place-2.new.self false c.args.range.now.begin)
+    (slot_is_below c.place-2.new.self false c.args.range.now.end) (slot_is_below c.place-2.new.self true c.args.range.now.end)
     (record { key = c.unwrap-begin_key.result; version = c.args.version }) c.unwrap-end_key.result c.args.at_end
     c.overwrite-written.result (items_of_run c.overwrite-written.new.taken) c.self.inside.tree.items
     c.overwrite-written.new.self.items
@@ -169,7 +169,7 @@ told g c =
     let range = c.args.range.now in
     let now = c.place-2.new.self in
     let Told = λ (begin end : List ℕ) (first : Item).
-    Overwrites (slot_passes now false begin) (slot_passes now false end) (slot_passes now true end) first
+    Overwrites (slot_is_below now false begin) (slot_is_below now false end) (slot_is_below now true end) first
     c.unwrap-end_key.result c.args.at_end c.overwrite-written.result (items_of_run c.overwrite-written.new.taken)
     c.self.inside.tree.items c.overwrite-written.new.self.items in
     let first_is : item_of c.item.result ≡ record { key = c.unwrap-begin_key.result; version = c.args.version } =
@@ -189,8 +189,8 @@ IsReady g c =
 
 abbrev IsTold : (g : given.Over) → After-release_run g → Written → Type 0
 IsTold g c written =
-    Overwrites (slot_passes c.place-2.new.self false c.args.range.now.begin)
-    (slot_passes c.place-2.new.self false c.args.range.now.end) (slot_passes c.place-2.new.self true c.args.range.now.end)
+    Overwrites (slot_is_below c.place-2.new.self false c.args.range.now.begin)
+    (slot_is_below c.place-2.new.self false c.args.range.now.end) (slot_is_below c.place-2.new.self true c.args.range.now.end)
     (record { key = c.unwrap-begin_key.result; version = c.args.version }) c.unwrap-end_key.result c.args.at_end
     written (items_of_run c.overwrite-written.new.taken) c.self.inside.tree.items
     c.overwrite-written.new.self.items
@@ -238,7 +238,7 @@ written_at g c ready ended told final left =
           c.args.version (unwrap_or c.args.at_end (value_at (boundaries_of c.self.inside.keys c.self.inside.tree.items) c.args.range.now.end))
           c.unwrap-begin_key.result c.unwrap-end_key.result c.place-2.new.self ready
           c.args.at_end refl ended (items_of_run c.overwrite-written.new.taken) c.overwrite-written.new.self told
-          final left e.known e.hinted;
+          final left e.known e.headed;
       boundaries =
           whole_boundaries c.self.inside.keys c.self.inside.tree c.self.invariant.stored c.args.range.now c.requires.filled
           c.args.version (unwrap_or c.args.at_end (value_at (boundaries_of c.self.inside.keys c.self.inside.tree.items) c.args.range.now.end))
@@ -279,7 +279,7 @@ cleared_at g c ready last told final left =
       indexed = part_indexed c.self.inside.keys c.self.inside.tree c.self.invariant.stored c.args.range.now c.requires.filled
           c.args.version (unwrap_or c.args.at_end (value_at (boundaries_of c.self.inside.keys c.self.inside.tree.items) c.args.range.now.end))
           c.unwrap-begin_key.result c.unwrap-end_key.result c.place-2.new.self ready
-          last (items_of_run c.overwrite-written.new.taken) c.overwrite-written.new.self told final left e.known e.hinted;
+          last (items_of_run c.overwrite-written.new.taken) c.overwrite-written.new.self told final left e.known e.headed;
       cleared =
           part_written c.self.inside.keys c.self.inside.tree c.self.invariant.stored c.args.range.now c.requires.filled
           c.args.version (unwrap_or c.args.at_end (value_at (boundaries_of c.self.inside.keys c.self.inside.tree.items) c.args.range.now.end))

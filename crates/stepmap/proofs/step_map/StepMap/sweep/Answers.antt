@@ -50,28 +50,28 @@ edge_is : (c : After-is_empty) → to_z w64 (of_z w64 c.self.inside.edge) ≡ c.
 edge_is c = let fits : SFits w64 c.self.inside.edge = search rules in to_z-of_z w64 c.self.inside.edge fits
 
 pass : (c : After-is_empty)
-    → IsPass (old c).edge (cursor_of (old c).round) c.args.count (old c).boundaries c.thin.new.self.boundaries
-    c.thin.new.cursor.items
+    → IsPass (old c).edge (cursor_of (old c).round) c.args.count (old c).boundaries c.sweep.new.self.boundaries
+    c.sweep.new.cursor.items
 unfolding old
 pass c =
     let bs = c.self.inside.boundaries.boundaries in
     let at = sym c.self.invariant.at_cursor in
     record {
-      boundaries = (rw (edge_is c) at c.thin.ensures.boundaries)
+      boundaries = (rw (edge_is c) at c.sweep.ensures.boundaries)
           ∙ ap (λ k. swept c.self.inside.edge c.args.count (passed_to k bs) (left_from k bs)) at;
-      cursor = c.thin.ensures.cursor ∙ ap (λ k. first_key (drop c.args.count (left_from k bs))) at;
+      cursor = c.sweep.ensures.cursor ∙ ap (λ k. first_key (drop c.args.count (left_from k bs))) at;
     }
 
 -- where the round has ended
-ended : (c : After-is_empty) → c.is_empty.result ≡ true → c.thin.new.cursor.items ≡ []
+ended : (c : After-is_empty) → c.is_empty.result ≡ true → c.sweep.new.cursor.items ≡ []
 ended c e =
-    empty_if c.thin.new.cursor.items (vec_len c.thin.new.cursor) (omega (arith, c.thin.new.cursor.ok.0))
+    empty_if c.sweep.new.cursor.items (vec_len c.sweep.new.cursor) (omega (arith, c.sweep.new.cursor.ok.0))
     (sym c.is_empty.ensures ∙ e)
 
 -- where it has stopped
-stopped : (c : After-is_empty) → c.is_empty.result ≡ false → c.thin.new.cursor.items ≢ []
+stopped : (c : After-is_empty) → c.is_empty.result ≡ false → c.sweep.new.cursor.items ≢ []
 stopped c e =
-    some_if c.thin.new.cursor.items (vec_len c.thin.new.cursor) (omega (arith, c.thin.new.cursor.ok.0))
+    some_if c.sweep.new.cursor.items (vec_len c.sweep.new.cursor) (omega (arith, c.sweep.new.cursor.ok.0))
     (sym c.is_empty.ensures ∙ e)
 
 began : (c : After-is_empty)
@@ -85,33 +85,33 @@ began c =
 
 -- the map after, as the fields say
 new_map : (c : After-is_empty) → Option ℤ → Steps
-new_map c round = steps_of c.thin.new.self c.self.inside.edge c.self.inside.ready.items c.thin.new.cursor.items round
+new_map c round = steps_of c.sweep.new.self c.self.inside.edge c.self.inside.ready.items c.sweep.new.cursor.items round
     c.self.inside.limit
 
-ended_is : (c : After-is_empty) → c.thin.new.cursor.items ≡ [] → new_map c None ≡ after_sweep c.args.count (old c)
+ended_is : (c : After-is_empty) → c.sweep.new.cursor.items ≡ [] → new_map c None ≡ after_sweep c.args.count (old c)
 unfolding old new_map
-ended_is c e = ended_map (old c) c.args.count c.thin.new.self.boundaries c.thin.new.cursor.items (pass c) e
+ended_is c e = ended_map (old c) c.args.count c.sweep.new.self.boundaries c.sweep.new.cursor.items (pass c) e
 
-stopped_is : (c : After-is_empty) → c.thin.new.cursor.items ≢ []
+stopped_is : (c : After-is_empty) → c.sweep.new.cursor.items ≢ []
     → new_map c (Some (to_z w64 (of_z w64 c.unwrap_or-began.result))) ≡ after_sweep c.args.count (old c)
 unfolding old new_map
 stopped_is c later =
     ap (λ (e : ℤ). new_map c (Some e)) (began c)
-    ∙ stopped_map (old c) c.args.count c.thin.new.self.boundaries c.thin.new.cursor.items (pass c) later
+    ∙ stopped_map (old c) c.args.count c.sweep.new.self.boundaries c.sweep.new.cursor.items (pass c) later
 
 -- what is kept beside the map stays
-stays : (c : After-is_empty) (round : Option ℤ) → cursor_of (new_map c round).round ≡ c.thin.new.cursor.items
+stays : (c : After-is_empty) (round : Option ℤ) → cursor_of (new_map c round).round ≡ c.sweep.new.cursor.items
     → new_map c round ≡ after_sweep c.args.count (old c)
-    → IsKept (new_map c round) c.thin.new.self c.self.inside.filter c.thin.new.cursor.items (vec_capacity c.thin.new.cursor)
+    → IsKept (new_map c round) c.sweep.new.self c.self.inside.filter c.sweep.new.cursor.items (vec_capacity c.sweep.new.cursor)
 unfolding old new_map
 stays c round at is =
     let keeps = sweep_keeps c.args.count (old c) c.self.invariant.steps _ is in
     record {
       steps = keeps.steps;
       tells = tells_same c.self.inside.filter (old c) (new_map c round) c.self.invariant.tells refl keeps.same;
-      boundaries = omega (arith, c.self.invariant.boundaries, keeps.no_more, c.thin.ensures.room);
-      keys = λ size lt. omega (arith, c.self.invariant.keys size lt, c.thin.ensures.spare size);
-      any_key = omega (arith, c.self.invariant.any_key, c.thin.ensures.capacity);
+      boundaries = omega (arith, c.self.invariant.boundaries, keeps.no_more, c.sweep.ensures.room);
+      keys = λ size lt. omega (arith, c.self.invariant.keys size lt, c.sweep.ensures.spare size);
+      any_key = omega (arith, c.self.invariant.any_key, c.sweep.ensures.capacity);
       at_cursor = at;
     }
 
@@ -136,7 +136,7 @@ returns-then-is_empty c =
     let is = ended_is at e ∙ ap (after_sweep c.args.count) c.self.view_is in
     let few =
     subst (λ (m : Steps). rest m ≤ c.args.count) c.self.view_is
-    (ended_rest (old at) c.args.count c.thin.new.self.boundaries c.thin.new.cursor.items (pass at) e) in
+    (ended_rest (old at) c.args.count c.sweep.new.self.boundaries c.sweep.new.cursor.items (pass at) e) in
     let keeps =
     sweep_keeps c.args.count c.args.self.now (subst AreSteps c.self.view_is c.self.invariant.steps) _ is in
     record {
@@ -161,7 +161,7 @@ returns c =
     let is = stopped_is at later ∙ ap (after_sweep c.args.count) c.self.view_is in
     let more =
     subst (λ (m : Steps). c.args.count < rest m) c.self.view_is
-    (stopped_rest (old at) c.args.count c.thin.new.self.boundaries c.thin.new.cursor.items (pass at) later) in
+    (stopped_rest (old at) c.args.count c.sweep.new.self.boundaries c.sweep.new.cursor.items (pass at) later) in
     let keeps =
     sweep_keeps c.args.count c.args.self.now (subst AreSteps c.self.view_is c.self.invariant.steps) _ is in
     record {

@@ -1,20 +1,20 @@
 use Rattle.std.proofs.Common.{◌≡◌, ◌≤◌, ◌-◌, ◌∙◌, length, Some, slice_get, ap, sym, arith}
 use Rattle.std.proofs.lemmas.Bool.{leb-true}
-use Rattle.tree.specs.Node.{entries_of, hint_of}
-use Rattle.tree.proofs.HintChanges.{common_agrees, last_there}
+use Rattle.tree.specs.Node.{entries_of, key_heads_of}
+use Rattle.tree.proofs.HeadChanges.{common_agrees, last_there}
 use Rattle.tree.proofs.node.Node.begins.Goals as goal
 
 pub returns-in-Some : goal.returns-in-Some
 returns-in-Some g c =
     let node = c.args.self.now in
-    let bytes = g.P.Probe.bytes c.args.probe.now in
+    let bytes = g.P.Bound.bytes c.args.bound.now in
     let last = c.in-Some.last.now in
     let get : slice_get (entries_of node) (length (entries_of node) - 1) ≡ Some last =
     ap (λ es. slice_get es (length es - 1)) (sym c.entries.ensures.entries)
     ∙ sym {b = slice_get c.entries.result.now (length c.entries.result.now - 1)} c.in-Some.ensures.value in
     record {
       agrees =
-          λ enough. let least : c.skip.result ≤ c.common.result = leb-true c.skip.result c.common.result enough in
-          common_agrees bytes (hint_of node) c.requires.hinted last.key c.args.key c.common.result
+          λ enough. let least : c.prefix_len.result ≤ c.common.result = leb-true c.prefix_len.result c.common.result enough in
+          common_agrees bytes (key_heads_of node) c.requires.headed last.key c.args.key c.common.result
           (last_there (entries_of node) last get) (omega (arith, least)) c.common.ensures.same c.common.ensures.within;
     }

@@ -4,11 +4,11 @@ use Rattle.std.proofs.lemmas.List.{length-take-le, map-set}
 use Rattle.std.proofs.lemmas.List.Elements.{All-contains}
 use Rattle.std.proofs.Math.Seq.{take-set-lt}
 use Rattle.tree.specs.declared.entry.Entry.{Entry}
-use Rattle.tree.specs.Hints.{IsKnown, head_at}
-use Rattle.tree.specs.Node.{entries_of, hint_of, keys_of}
-use Rattle.tree.proofs.HintAt.{entry_there}
-use Rattle.tree.proofs.HintChanges.{head_there, hinted_set, key_agrees, key_there}
-use Rattle.tree.proofs.Hinted.{all_known}
+use Rattle.tree.specs.Heads.{IsKnown, head_at}
+use Rattle.tree.specs.Node.{entries_of, key_heads_of, keys_of}
+use Rattle.tree.proofs.HeadAt.{entry_there}
+use Rattle.tree.proofs.HeadChanges.{head_there, headed_set, key_agrees, key_there}
+use Rattle.tree.proofs.Headed.{all_known}
 use Rattle.tree.proofs.node.Node.copy.Goals as goal
 
 pub returns-clause-entries : goal.returns-clause-entries
@@ -22,10 +22,10 @@ returns-clause-entries g c e there =
     take-set-lt node.len node.entries to (get_or node.entries from read) to_inside
     ∙ ap (slice_set (entries_of node) to) (entry_there node.entries node.len from e read there)
 
-pub returns-clause-hinted : goal.returns-clause-hinted
-returns-clause-hinted g c bytes h =
+pub returns-clause-headed : goal.returns-clause-headed
+returns-clause-headed g c bytes h =
     let node = c.args.self.now in
-    let hint = hint_of node in
+    let key_heads = key_heads_of node in
     let from = c.args.from in
     let to = c.args.to in
     let e = c.index-self-from.result in
@@ -35,12 +35,12 @@ returns-clause-hinted g c bytes h =
     let from_inside : from < node.len = omega (arith, c.requires.from, len) in
     let to_inside : to < node.len = omega (arith, c.requires.to, len) in
     let there = key_there node.entries node.len from e from_inside most is in
-    let known = All-contains (IsKnown bytes) hint.keys e.key (all_known bytes hint h) there in
+    let known = All-contains (IsKnown bytes) key_heads.keys e.key (all_known bytes key_heads h) there in
     let read = get_or node.entries from e in
-    hinted_set bytes hint _ h to e.key (get_or node.heads from 0) known (key_agrees bytes hint h e.key there)
-    (head_there node.entries node.len from e from_inside most is (head_at bytes node.skip) node.heads h.heads)
+    headed_set bytes key_heads _ h to e.key (get_or node.heads from 0) known (key_agrees bytes key_heads h e.key there)
+    (head_there node.entries node.len from e from_inside most is (head_at bytes node.prefix_len) node.heads h.heads)
     (ap keys_of (take-set-lt node.len node.entries to read to_inside)
     ∙ map-set (λ (x : Entry). x.key) (entries_of node) to read
-    ∙ ap (λ (x : Entry). slice_set hint.keys to x.key) (sym is))
+    ∙ ap (λ (x : Entry). slice_set key_heads.keys to x.key) (sym is))
     refl
     (take-set-lt node.len node.heads to (get_or node.heads from 0) to_inside)

@@ -9,4 +9,4 @@ returns g c =
     let node = c.args.self.now in
     let full : length node.entries ≡ g.row.N = omega arith in
     let len : length (entries_of node) ≡ node.len = length-take-le node.len node.entries (omega arith) in
-    record { entries = take-set-lt node.len node.entries c.args.index c.args.entry (omega arith); hint = refl }
+    record { entries = take-set-lt node.len node.entries c.args.index c.args.entry (omega arith); key_heads = refl }

@@ -2,7 +2,7 @@ use Rattle.std.proofs.Common.{arith, ◌≡◌, ◌+◌, ◌-◌, ◌++◌, ◌�
 use Rattle.std.proofs.lemmas.List.{length-take-le}
 use Rattle.tree.specs.Node.{entries_of}
 use Rattle.tree.proofs.Splicing.{take-spliced}
-use Rattle.tree.proofs.HintChanges.{length_spliced}
+use Rattle.tree.proofs.HeadChanges.{length_spliced}
 use Rattle.tree.proofs.node.Node.splice.Goals as goal
 
 pub returns : goal.returns
@@ -27,7 +27,7 @@ returns g c =
     ∙ omega (arith, len, length_spliced (entries_of node) new _ from to (omega (arith, c.requires.ordered, c.requires.within)) entries_are) in
     record {
       entries = entries_are;
-      skip = refl;
+      prefix_len = refl;
       heads = refl;
       count = count;
     }

@@ -1,5 +1,5 @@
 use Rattle.std.proofs.Common.{◌-◌, ◌<◌, ◌≤◌, ℕ, length, get_or}
-use Rattle.tree.specs.Node.{entries_of, hint_of}
+use Rattle.tree.specs.Node.{entries_of, key_heads_of}
 use Rattle.tree.proofs.node.Node.tied.Given as goal
 
 abbrev pub invariant-loop-first : goal.invariant-loop-first
@@ -7,7 +7,7 @@ invariant-loop-first g l =
     record {
       first : l.fn.from ≤ l.first;
       within : l.first ≤ length (entries_of l.self);
-      below : (index : ℕ) → l.fn.from ≤ index → index < l.first → get_or (hint_of l.self).heads index 0 < l.head;
+      below : (index : ℕ) → l.fn.from ≤ index → index < l.first → get_or (key_heads_of l.self).heads index 0 < l.head;
     }
 
 abbrev pub decreases-loop-first : goal.decreases-loop-first

@@ -8,8 +8,8 @@ use Rattle.tree.proofs.tree.Tree.greatest.Goals as goal
 
 pub returns : goal.returns
 returns g c =
-    let from = Some (g.P.Probe.lets_pass c.args.from.now) in
-    let to = Some (g.Q.Probe.lets_pass c.args.to.now) in
+    let from = Some (g.P.Bound.below c.args.from.now) in
+    let to = Some (g.Q.Bound.below c.args.to.now) in
     let Greatest = λ (v : Items). MatchOption c.greatest.result (between from to v.items ≡ [])
     (λ version. IsGreatest (λ (x : Item). x.version) version (between from to v.items)) in
     record { greatest = subst Greatest c.self.view_is (most_alone c.greatest.result _ c.greatest.ensures.greatest) }

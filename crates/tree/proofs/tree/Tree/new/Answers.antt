@@ -3,8 +3,8 @@ use Rattle.std.proofs.lemmas.Bool.{ne_eqb}
 use Rattle.arena.specs.Arena.{spare_of, slots_of}
 use Rattle.tree.proofs.Trees.{tree_of_one}
 use Rattle.tree.specs.Item.{Item}
-use Rattle.tree.proofs.LeafChange.{hinted_alone}
-use Rattle.tree.proofs.HintList.{hinted_in_list}
+use Rattle.tree.proofs.LeafChange.{headed_alone}
+use Rattle.tree.proofs.HeadList.{headed_in_list}
 use Rattle.tree.proofs.tree.Tree.new.Goals as goal
 
 pub of-requires : goal.of-requires
@@ -22,14 +22,14 @@ invariant_of-result g c =
     (c.reserve_slots.ensures.records ∙ c.new-nodes.ensures.empty) enough c.in_ok-slot.ensures.was_free c.in_ok-slot.ensures.placed
     c.in_ok-slot.ensures.record c.in_ok-slot.ensures.others spare c.of.ensures.entries
 
-pub returns-clause-hinted : goal.returns-clause-hinted
-returns-clause-hinted g c =
+pub returns-clause-headed : goal.returns-clause-headed
+returns-clause-headed g c =
     let a = c.reserve_slots.new.self in
     let b = c.place.new.self in
     let e = c.item.result in
     let key : c.args.key ≡ e.key = sym (ap (λ (x : Item). x.key) c.item.ensures.item) in
     λ bytes empty.
-    hinted_in_list bytes b
-    (hinted_alone bytes a b c.in_ok-slot.slot c.of.result e.key (c.reserve_slots.ensures.records ∙ c.new-nodes.ensures.empty)
-    c.in_ok-slot.ensures.record c.in_ok-slot.ensures.others c.of.ensures.hint
+    headed_in_list bytes b
+    (headed_alone bytes a b c.in_ok-slot.slot c.of.result e.key (c.reserve_slots.ensures.records ∙ c.new-nodes.ensures.empty)
+    c.in_ok-slot.ensures.record c.in_ok-slot.ensures.others c.of.ensures.key_heads
     (ap bytes (sym key) ∙ empty))

@@ -1,15 +1,15 @@
 use Rattle.std.proofs.Common.{rules, ◌≡◌, ◌≢◌, ◌≤◌, ◌+◌, ◌-◌, ◌∙◌, ℕ, Bool, length, ap, sym, subst, arith}
 use Rattle.std.proofs.Common.{List, [], Fits, w64}
 use Rattle.std.proofs.lemmas.List.{append-nil}
-use Rattle.tree.specs.Hints.{AreHinted}
+use Rattle.tree.specs.Heads.{AllAreHeads}
 use Rattle.tree.specs.Item.{Item, item_of}
 use Rattle.tree.specs.Node.{items_of_run}
 use Rattle.tree.specs.Overwrite.{Overwrites, put_of}
-use Rattle.tree.specs.Path.{IsCut, passing}
+use Rattle.tree.specs.Path.{IsPartitioned, items_below}
 use Rattle.tree.specs.Subtree.{items_in}
-use Rattle.tree.specs.Tree.{Items, hints_in}
+use Rattle.tree.specs.Tree.{Items, tree_heads}
 use Rattle.tree.proofs.Counting.{low, enough_spare}
-use Rattle.tree.proofs.HintList.{hinted_from_list, hinted_in_list}
+use Rattle.tree.proofs.HeadList.{headed_from_list, headed_in_list}
 use Rattle.tree.proofs.Inserting.{tree_put}
 use Rattle.tree.proofs.KnownItems.{know_items}
 use Rattle.tree.proofs.LeafChange.{root_some}
@@ -23,13 +23,13 @@ pub change-requires : goal.change-requires
 change-requires g c =
     let t = c.self.inside in
     let new = c.args.new.now in
-    let bytes = g.Q.Probe.bytes new.to.now in
-    let Cut : (ℕ → Bool) → List Item → Type 0 = λ passes items. IsCut (λ (x : Item). passes x.key) items in
+    let bytes = g.Q.Bound.bytes new.to.now in
+    let KeyBound : (ℕ → Bool) → List Item → Type 0 = λ is_below items. IsPartitioned (λ (x : Item). is_below x.key) items in
     let items = items_in t.nodes t.root.height t.root.slot in
     let items_are = sym (ap (λ v. v.items) c.self.view_is) in
     let height = low t.nodes t.root.slot t.root.height t.len t.room c.self.invariant (omega arith) in
     let spare = enough_spare t.nodes t.root.slot t.root.height t.len t.room c.self.invariant in
-    let from = g.P.Probe.lets_pass new.from.now in (
+    let from = g.P.Bound.below new.from.now in (
       omega (arith, c.self.invariant.few),
       (
         record {
@@ -41,12 +41,12 @@ change-requires g c =
           room = omega (arith, height, spare);
         },
         (
-          subst (Cut (g.Q.Probe.lets_pass new.to.now)) items_are c.requires.to,
+          subst (KeyBound (g.Q.Bound.below new.to.now)) items_are c.requires.to,
           (
-            hinted_from_list bytes t.nodes
-                (subst (λ (v : Items). AreHinted bytes (hints_in v)) (sym c.self.view_is) c.requires.hinted),
+            headed_from_list bytes t.nodes
+                (subst (λ (v : Items). AllAreHeads bytes (tree_heads v)) (sym c.self.view_is) c.requires.headed),
             (
-              ([], [], subst (Cut from) (sym (append-nil items)) (subst (Cut from) items_are c.requires.from)),
+              ([], [], subst (KeyBound from) (sym (append-nil items)) (subst (KeyBound from) items_are c.requires.from)),
               c.requires.none_taken,
             ),
           ),
@@ -60,31 +60,31 @@ Done g c =
     let t = c.self.inside in
     let n = c.change.new in
     let new = c.args.new.now in
-    Overwrites (g.P.Probe.lets_pass new.from.now) (g.Q.Probe.lets_pass new.to.now) (g.R.Probe.lets_pass new.past.now)
+    Overwrites (g.P.Bound.below new.from.now) (g.Q.Bound.below new.to.now) (g.R.Bound.below new.past.now)
     (item_of new.first) new.second new.last n.change.written (items_of_run n.taken)
     (items_in t.nodes t.root.height t.root.slot) (items_in n.nodes n.root.height n.root.slot)
 
 some_pass : (g : given.Over) (c : After-change g)
-    → passing (g.Q.Probe.lets_pass c.args.new.now.to.now)
+    → items_below (g.Q.Bound.below c.args.new.now.to.now)
     (items_in c.self.inside.nodes c.self.inside.root.height c.self.inside.root.slot) ≢ []
 some_pass g c none =
     c.requires.some
-    (ap (λ (v : Items). passing (g.Q.Probe.lets_pass c.args.new.now.to.now) v.items) (sym c.self.view_is) ∙ none)
+    (ap (λ (v : Items). items_below (g.Q.Bound.below c.args.new.now.to.now) v.items) (sym c.self.view_is) ∙ none)
 
 done : (g : given.Over) (c : After-change g) → Done g c
 done g c =
     let t = c.self.inside in
     let n = c.change.new in
     let new = c.args.new.now in
-    let p = g.P.Probe.lets_pass new.from.now in
-    let q = g.Q.Probe.lets_pass new.to.now in
-    let past = g.R.Probe.lets_pass new.past.now in
-    let Cut : (ℕ → Bool) → List Item → Type 0 = λ passes items. IsCut (λ (x : Item). passes x.key) items in
+    let p = g.P.Bound.below new.from.now in
+    let q = g.Q.Bound.below new.to.now in
+    let past = g.R.Bound.below new.past.now in
+    let KeyBound : (ℕ → Bool) → List Item → Type 0 = λ is_below items. IsPartitioned (λ (x : Item). is_below x.key) items in
     let items_are = sym (ap (λ v. v.items) c.self.view_is) in
     overwritten p q past new.nested (item_of new.first) new.second new.last n.change.written (items_of_run n.taken)
     (items_in t.nodes t.root.height t.root.slot) (items_in n.nodes n.root.height n.root.slot) c.change.ensures.items
-    (subst (Cut p) items_are c.requires.from) (subst (Cut q) items_are c.requires.to)
-    (subst (Cut past) items_are c.requires.past) (some_pass g c)
+    (subst (KeyBound p) items_are c.requires.from) (subst (KeyBound q) items_are c.requires.to)
+    (subst (KeyBound past) items_are c.requires.past) (some_pass g c)
 
 -- how many items there are
 abbrev Counted : (g : given.Over) → After-change g → Type 0
@@ -100,8 +100,8 @@ counted g c =
     let t = c.self.inside in
     let n = c.change.new in
     let new = c.args.new.now in
-    length-overwritten (g.P.Probe.lets_pass new.from.now) (g.Q.Probe.lets_pass new.to.now)
-    (g.R.Probe.lets_pass new.past.now) new.nested (item_of new.first) new.second new.last n.change.written
+    length-overwritten (g.P.Bound.below new.from.now) (g.Q.Bound.below new.to.now)
+    (g.R.Bound.below new.past.now) new.nested (item_of new.first) new.second new.last n.change.written
     (items_of_run n.taken) (items_in t.nodes t.root.height t.root.slot) (items_in n.nodes n.root.height n.root.slot)
     (some_pass g c) (done g c)
 
@@ -155,13 +155,13 @@ returns-clause-items g c =
     let at = (goal.at.returns-clause-items g c).After-change in
     let n = c.change.new in
     let new = c.args.new.now in
-    subst (λ (v : Items). Overwrites (g.P.Probe.lets_pass new.from.now) (g.Q.Probe.lets_pass new.to.now)
-    (g.R.Probe.lets_pass new.past.now) (item_of new.first) new.second new.last n.change.written
+    subst (λ (v : Items). Overwrites (g.P.Bound.below new.from.now) (g.Q.Bound.below new.to.now)
+    (g.R.Bound.below new.past.now) (item_of new.first) new.second new.last n.change.written
     (items_of_run n.taken) v.items (items_in n.nodes n.root.height n.root.slot)) c.self.view_is (done g at)
 
-pub returns-clause-hinted : goal.returns-clause-hinted
-returns-clause-hinted g c =
-    hinted_in_list (g.Q.Probe.bytes c.args.new.now.to.now) c.change.new.nodes c.change.ensures.hinted
+pub returns-clause-headed : goal.returns-clause-headed
+returns-clause-headed g c =
+    headed_in_list (g.Q.Bound.bytes c.args.new.now.to.now) c.change.new.nodes c.change.ensures.headed
 
 pub returns-clause-known : goal.returns-clause-known
 returns-clause-known g c =

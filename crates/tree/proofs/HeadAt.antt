@@ -1,0 +1,318 @@
+-- What a node's hint tells of the key at an index.
+use Rattle.std.proofs.Common.{◌≡◌, ◌≢◌, ◌⊎◌, ℕ, ◌+◌, ◌<◌, ◌≤◌, Bool, true, false, nat_lt, List, [], ◌∷◌, length, filter, get_or, take, slice_get, slice_index, option_map, Some, All, refl, sym, ap, subst, ◌∙◌, inl, inr, arith, length-take, get_or-take, lt-ltb, le-ltb, ltb-true}
+use Rattle.std.specs.Prelude.{unwrap_or}
+use Rattle.std.specs.Int.{w64, to_be_bytes}
+use Rattle.std.proofs.lemmas.Bool.{cases_lt}
+use Rattle.std.proofs.lemmas.List.{get_or-map}
+use Rattle.std.proofs.lemmas.Option.{get_or_from_slice_get, slice_get_within, slice_get-get_or, slice_get-map}
+use Rattle.keys.specs.Key.{IsBytes, IsBefore}
+use Rattle.tree.specs.declared.entry.Entry.{Entry}
+use Rattle.tree.specs.declared.node.Node.{Node}
+use Rattle.tree.specs.Node.{entries_of, key_heads_of, keys_of}
+use Rattle.tree.specs.Heads.{KeyBytes, Begins, head_behind, head_at, KeyHeads, AreHeads, IsBelowInOrder, IsCommonPrefixLen, IsPrefixLenAt, HasPrefix, IsTargetHead}
+use Rattle.tree.specs.Path.{IsPartitioned}
+use Rattle.tree.proofs.callers.Partitions.{length-items_below, none_fail, not_both}
+use Rattle.tree.proofs.HeadCounts.{fewer_pass, length-filter_map, passing_before, passing_inside}
+use Rattle.tree.proofs.HeadOrder.{empty_head, empty_before, empty_before_too, tells_empty, told_by_heads, before_too, tells_too, common_by_heads}
+
+some_same : {X : Type 0} (a b : X) → Some a ≡ Some b → a ≡ b
+some_same a b e = cc
+
+-- an entry, where there are so many
+pub entry_at : (entries : List Entry) (index : ℕ) → index < length entries
+    → (e : Entry) × (slice_get entries index ≡ Some e)
+entry_at [] index inside = absurd (omega arith)
+entry_at (e ∷ es) index inside = (get_or (e ∷ es) index e, slice_get-get_or (e ∷ es) index e inside)
+
+-- the key of the entry there
+pub key_there : (entries : List Entry) (index : ℕ) (e : Entry) → slice_get entries index ≡ Some e
+    → slice_get (keys_of entries) index ≡ Some e.key
+key_there entries index e there =
+    slice_get-map (λ (x : Entry). x.key) entries index ∙ ap (option_map (λ (x : Entry). x.key)) there
+
+-- the entry itself, among all those that the node has room for
+pub entry_there : (room : List Entry) (len index : ℕ) (e d : Entry) → slice_get (take len room) index ≡ Some e
+    → get_or room index d ≡ e
+entry_there room len index e d there =
+    let inside : index < len = omega (arith, slice_get_within (take len room) index e there, length-take len room) in
+    sym (get_or-take len room index d inside) ∙ get_or_from_slice_get (take len room) index e d there
+
+-- what is known of the key at an index
+pub record IsKeyAt (bytes : KeyBytes) (key_heads : KeyHeads) (beginning : List ℕ) (index key : ℕ) : Type 0 where
+  pub text : List ℕ
+  pub known : bytes key ≡ Some text
+  pub are_bytes : IsBytes text
+  pub begins : (text ≡ []) ⊎ ((take key_heads.prefix_len text ≡ beginning) × (key_heads.prefix_len ≤ length text))
+  pub head : get_or key_heads.heads index 0 ≡ head_behind key_heads.prefix_len text
+
+-- a list without an element
+nothing_in : (xs : List ℕ) → length xs ≡ 0 → xs ≡ []
+nothing_in [] none = refl
+nothing_in (x ∷ xs) none = absurd (omega arith)
+
+module _ (bytes : KeyBytes) (key_heads : KeyHeads) (h : AreHeads bytes key_heads) where
+  pub key_at : (index key : ℕ) → slice_get key_heads.keys index ≡ Some key → IsKeyAt bytes key_heads h.beginning index key
+  key_at index key there =
+      let inside : index < length key_heads.keys = slice_get_within key_heads.keys index key there in
+      let read : get_or key_heads.keys index key ≡ key = get_or_from_slice_get key_heads.keys index key key there in
+      let own : Begins bytes h.beginning key = subst (Begins bytes h.beginning) read (h.begins index key inside) in
+      record {
+        text = own.text;
+        known = own.known;
+        are_bytes = own.are_bytes;
+        begins = elim own.begins [
+          | inl empty ↦ inl empty
+          | inr same ↦
+              let begins : take key_heads.prefix_len own.text ≡ h.beginning = ap (λ n. take n own.text) (sym h.prefix_len) ∙ same in
+              inr (begins, omega (arith, h.prefix_len, ap length begins, length-take key_heads.prefix_len own.text))
+        ];
+        head = ap (λ (ds : List ℕ). get_or ds index 0) h.heads
+            ∙ get_or-map (head_at bytes key_heads.prefix_len) key_heads.keys index key 0 inside ∙ ap (head_at bytes key_heads.prefix_len) read
+            ∙ ap (λ o. head_behind key_heads.prefix_len (unwrap_or o [])) own.known;
+      }
+
+  -- what is known of its bytes
+  text_at : (index key : ℕ) (there : slice_get key_heads.keys index ≡ Some key) (text : List ℕ) → bytes key ≡ Some text
+      → (key_at index key there).text ≡ text
+  text_at index key there text known =
+      let k = key_at index key there in
+      some_same k.text text (sym k.known ∙ known)
+
+  -- a key whose head isn't zero isn't empty
+  long_at : (index key : ℕ) (there : slice_get key_heads.keys index ≡ Some key)
+      → (key_heads.prefix_len ≡ 0) ⊎ (get_or key_heads.heads index 0 ≢ 0) → key_heads.prefix_len ≤ length (key_at index key there).text
+  long_at index key there filled =
+      let k = key_at index key there in
+      elim k.begins [
+        | inr long ↦ long.1
+        | inl empty ↦ elim filled [
+          | inl none ↦ omega (arith, none)
+          | inr differ ↦
+              absurd (differ (k.head ∙ ap (head_behind key_heads.prefix_len) empty ∙ empty_head key_heads.prefix_len))
+        ]
+      ]
+
+  -- What is looked for begins as all keys do.
+  sought_begins : (target : List ℕ) → HasPrefix bytes key_heads target → h.beginning ≡ take key_heads.prefix_len target
+  sought_begins target agrees =
+      let there : slice_get key_heads.keys agrees.there.0 ≡ Some agrees.key =
+      slice_get-get_or key_heads.keys agrees.there.0 agrees.key agrees.there.1 ∙ ap Some agrees.there.2 in
+      let k = key_at agrees.there.0 agrees.key there in
+      let same : k.text ≡ agrees.text = text_at agrees.there.0 agrees.key there agrees.text agrees.known in
+      elim k.begins [
+        | inr long ↦ sym long.0 ∙ ap (take key_heads.prefix_len) same ∙ agrees.same
+        | inl empty ↦
+            let none : key_heads.prefix_len ≡ 0 = omega (arith, agrees.long, ap length same, ap length empty) in
+            nothing_in h.beginning (h.prefix_len ∙ none) ∙ sym (ap (λ n. take n target) none)
+      ]
+
+  -- It does if it begins as one of them that isn't empty.
+  pub agrees_at : (index key : ℕ) (target : List ℕ) → slice_get key_heads.keys index ≡ Some key
+      → (key_heads.prefix_len ≡ 0) ⊎ (get_or key_heads.heads index 0 ≢ 0)
+      → ((text : List ℕ) → bytes key ≡ Some text → key_heads.prefix_len ≤ length text → take key_heads.prefix_len text ≡ take key_heads.prefix_len target)
+      → HasPrefix bytes key_heads target
+  agrees_at index key target there filled alike =
+      let k = key_at index key there in
+      let long = long_at index key there filled in
+      record {
+        key = key;
+        text = k.text;
+        there = (index, slice_get_within key_heads.keys index key there, get_or_from_slice_get key_heads.keys index key key there);
+        known = k.known;
+        long = long;
+        same = alike k.text k.known long;
+      }
+
+  module _ (target : List ℕ) (is_below : ℕ → Bool)
+      (order : (key : ℕ) (text : List ℕ) → bytes key ≡ Some text → IsBelowInOrder text target (is_below key)) where
+    not_behind : (key : ℕ) (text : List ℕ) → bytes key ≡ Some text → is_below key ≡ true → IsBefore target text → ⊥
+    not_behind key text known passed behind =
+        not_both (is_below key) passed ((order key text known).behind behind)
+
+    -- Whether the key passes is told by its head, if that isn't the one of what is looked for.
+    pub told_at : (index key head : ℕ) → slice_get key_heads.keys index ≡ Some key → IsTargetHead bytes key_heads target head
+        → head ≢ get_or key_heads.heads index 0 → nat_lt (get_or key_heads.heads index 0) head ≡ is_below key
+    told_at index key head there is differ =
+        let k = key_at index key there in
+        let apart : head_behind key_heads.prefix_len k.text ≢ head_behind key_heads.prefix_len target =
+        λ e. differ (is.head_is ∙ sym e ∙ sym k.head) in
+        elim k.begins [
+          | inr long ↦
+              let same : take key_heads.prefix_len k.text ≡ take key_heads.prefix_len target = long.0 ∙ sought_begins target is.agrees in
+              ap (λ d. nat_lt d head) k.head ∙ ap (nat_lt (head_behind key_heads.prefix_len k.text)) is.head_is
+              ∙ told_by_heads key_heads.prefix_len k.text target (is_below key) k.are_bytes is.are_bytes long.1 same apart
+              (order key k.text k.known)
+          | inl empty ↦
+              let own : get_or key_heads.heads index 0 ≡ 0 =
+              k.head ∙ ap (head_behind key_heads.prefix_len) empty ∙ empty_head key_heads.prefix_len in
+              let before : IsBefore k.text target =
+              subst (λ t. IsBefore t target) (sym empty)
+              (empty_before key_heads.prefix_len target (λ e. differ (is.head_is ∙ e ∙ sym own))) in
+              lt-ltb (get_or key_heads.heads index 0) head (omega (arith, own, differ))
+              ∙ sym ((order key k.text k.known).before before)
+        ]
+
+    -- A key whose head is less passes.
+    pub less_passes : (index key head : ℕ) → slice_get key_heads.keys index ≡ Some key → IsTargetHead bytes key_heads target head
+        → nat_lt (get_or key_heads.heads index 0) head ≡ true → is_below key ≡ true
+    less_passes index key head there is less =
+        sym (told_at index key head there is (λ e. absurd (omega (arith, ltb-true (get_or key_heads.heads index 0) head less))))
+        ∙ less
+
+    -- Where the first key isn't empty and passes, and differs from what is looked for before all keys' common beginning
+    -- ends, all keys pass.
+    module _ (shared first : ℕ) (at_first : slice_get key_heads.keys 0 ≡ Some first) (filled : get_or key_heads.heads 0 0 ≢ 0)
+        (less : shared < key_heads.prefix_len) (passed : is_below first ≡ true)
+        (tells : (text : List ℕ) → bytes first ≡ Some text → IsCommonPrefixLen shared text target) where
+      first_begins : take key_heads.prefix_len (key_at 0 first at_first).text ≡ h.beginning
+      first_begins =
+          let f = key_at 0 first at_first in
+          elim f.begins [
+            | inr long ↦ long.0
+            | inl empty ↦ absurd (filled (f.head ∙ ap (head_behind key_heads.prefix_len) empty ∙ empty_head key_heads.prefix_len))
+          ]
+
+      pub passes_too : (index key : ℕ) → slice_get key_heads.keys index ≡ Some key → is_below key ≡ true
+      passes_too index key there =
+          let f = key_at 0 first at_first in
+          let k = key_at index key there in
+          let long = long_at 0 first at_first (inr filled) in
+          let ahead = not_behind first f.text f.known passed in
+          (order key k.text k.known).before
+          (elim k.begins [
+            | inr begins ↦
+                before_too shared key_heads.prefix_len f.text k.text target less long begins.1 (begins.0 ∙ sym first_begins)
+                (tells f.text f.known) ahead
+            | inl empty ↦
+                subst (λ t. IsBefore t target) (sym empty) (empty_before_too f.text target (omega (arith, long, less)) ahead)
+          ])
+
+      -- and differ from it as the first one does
+      pub differs_too : (index key : ℕ) → slice_get key_heads.keys index ≡ Some key → (text : List ℕ) → bytes key ≡ Some text
+          → IsCommonPrefixLen shared text target
+      differs_too index key there text known =
+          let f = key_at 0 first at_first in
+          let k = key_at index key there in
+          subst (λ t. IsCommonPrefixLen shared t target) (text_at index key there text known)
+          (elim k.begins [
+            | inr begins ↦
+                tells_too shared key_heads.prefix_len f.text k.text target less (long_at 0 first at_first (inr filled)) begins.1
+                (begins.0 ∙ sym first_begins) (tells f.text f.known)
+            | inl empty ↦ subst (λ t. IsCommonPrefixLen shared t target) (sym empty) (tells_empty shared target)
+          ])
+
+    -- How far a key that passes and what is looked for begin alike is told by its head, if that isn't the one of what is
+    -- looked for.
+    pub common_at : (index key head count : ℕ) → slice_get key_heads.keys index ≡ Some key → IsTargetHead bytes key_heads target head
+        → is_below key ≡ true → get_or key_heads.heads index 0 ≢ head → count ≤ 8
+        → take count (to_be_bytes w64 (get_or key_heads.heads index 0)) ≡ take count (to_be_bytes w64 head)
+        → (count < 8
+        → slice_index (to_be_bytes w64 (get_or key_heads.heads index 0)) count ≢ slice_index (to_be_bytes w64 head) count)
+        → (text : List ℕ) → bytes key ≡ Some text → IsCommonPrefixLen (key_heads.prefix_len + count) text target
+    common_at index key head count there is passed apart few alike differ text known =
+        let k = key_at index key there in
+        let own = k.head in
+        let other = is.head_is in
+        let begin : take count (to_be_bytes w64 (head_behind key_heads.prefix_len k.text))
+        ≡ take count (to_be_bytes w64 (head_behind key_heads.prefix_len target)) =
+        sym (ap (λ d. take count (to_be_bytes w64 d)) own) ∙ alike ∙ ap (λ d. take count (to_be_bytes w64 d)) other in
+        subst (λ t. IsCommonPrefixLen (key_heads.prefix_len + count) t target) (text_at index key there text known)
+        (elim k.begins [
+          | inl empty ↦
+              subst (λ t. IsCommonPrefixLen (key_heads.prefix_len + count) t target) (sym empty) (tells_empty (key_heads.prefix_len + count) target)
+          | inr begins ↦
+              let same : take key_heads.prefix_len k.text ≡ take key_heads.prefix_len target = begins.0 ∙ sought_begins target is.agrees in
+              common_by_heads key_heads.prefix_len count k.text target k.are_bytes is.are_bytes begins.1 same
+              (λ e. apart (own ∙ e ∙ sym other)) few begin
+              (λ less e. differ less (ap (λ d. slice_index (to_be_bytes w64 d) count) own ∙ e
+              ∙ sym (ap (λ d. slice_index (to_be_bytes w64 d) count) other)))
+              (not_behind key k.text k.known passed)
+        ])
+
+module _ {N : ℕ} (bytes : KeyBytes) (node : Node N) (h : AreHeads bytes (key_heads_of node)) (target : List ℕ) (is_below : ℕ → Bool)
+    (order : (key : ℕ) (text : List ℕ) → bytes key ≡ Some text → IsBelowInOrder text target (is_below key)) where
+  -- Where the first key isn't empty and passes, and differs from what is looked for before all keys' common beginning ends,
+  -- all entries pass.
+  pub all_pass : (shared : ℕ) (first : Entry) → slice_get (entries_of node) 0 ≡ Some first
+      → get_or (key_heads_of node).heads 0 0 ≢ 0 → shared < node.prefix_len → is_below first.key ≡ true → ((text : List ℕ) → bytes first.key ≡ Some text → IsCommonPrefixLen shared text target)
+      → filter (λ (e : Entry). is_below e.key) (entries_of node) ≡ entries_of node
+  all_pass shared first there filled less passed tells =
+      let es = entries_of node in
+      let all : All (λ (e : Entry). is_below e.key ≡ true) es =
+      λ i d inside.
+      let e = get_or es i d in
+      passes_too bytes (key_heads_of node) h target is_below order shared first.key (key_there es 0 first there) filled less
+      passed tells
+      i e.key (key_there es i e (slice_get-get_or es i d inside)) in
+      (none_fail (λ (e : Entry). is_below e.key) es all).0
+
+  -- The same where only that of the first entry is known.
+  pub all_known : (shared : ℕ) → 0 < length (entries_of node) → IsPrefixLenAt bytes is_below target (Some shared) (entries_of node) 0
+      → (get_or (key_heads_of node).heads 0 0 ≢ 0 → shared < node.prefix_len) → get_or (key_heads_of node).heads 0 0 ≢ 0
+      → length (filter (λ (e : Entry). is_below e.key) (entries_of node)) ≡ length (entries_of node)
+  all_known shared some knows less filled =
+      let first = entry_at (entries_of node) 0 some in
+      let known = knows first.0 first.1 in
+      ap length (all_pass shared first.0 first.1 filled (less filled) known.0 known.1)
+
+  -- No more heads are below that of what is looked for than entries pass.
+  pub few_below : (head : ℕ) → IsTargetHead bytes (key_heads_of node) target head
+      → length (filter (λ d. nat_lt d head) (take node.len node.heads))
+      ≤ length (filter (λ (e : Entry). is_below e.key) (entries_of node))
+  few_below head is =
+      let es = entries_of node in
+      let key_heads = key_heads_of node in
+      let own : ℕ → ℕ = head_at bytes key_heads.prefix_len in
+      let below : ℕ → Bool = λ d. nat_lt d head in
+      let of_keys : length (filter below key_heads.heads) ≡ length (filter (λ k. below (own k)) key_heads.keys) =
+      ap (λ ds. length (filter below ds)) h.heads ∙ length-filter_map below own key_heads.keys in
+      let of_entries : length (filter (λ k. below (own k)) key_heads.keys)
+      ≡ length (filter (λ (e : Entry). below (own e.key)) es) =
+      length-filter_map (λ k. below (own k)) (λ (e : Entry). e.key) es in
+      let all : All (λ (e : Entry). below (own e.key) ≡ true → is_below e.key ≡ true) es =
+      λ i d inside less.
+      let e = get_or es i d in
+      let there = key_there es i e (slice_get-get_or es i d inside) in
+      let k = key_at bytes key_heads h i e.key there in
+      let is_own : get_or key_heads.heads i 0 ≡ own e.key =
+      k.head ∙ sym (ap (λ o. head_behind key_heads.prefix_len (unwrap_or o [])) k.known) in
+      less_passes bytes key_heads h target is_below order i e.key head there is (ap below is_own ∙ less) in
+      omega (arith, of_keys, of_entries, fewer_pass (λ (e : Entry). below (own e.key)) (λ (e : Entry). is_below e.key) es all)
+
+  module _ (head : ℕ) (is : IsTargetHead bytes (key_heads_of node) target head)
+      (partitioned : IsPartitioned (λ (e : Entry). is_below e.key) (entries_of node)) where
+    -- Entries behind some that pass do so, too, as far as their heads are below that of what is looked for.
+    pub many_pass : (from first : ℕ) → from ≤ length (filter (λ (e : Entry). is_below e.key) (entries_of node))
+        → first ≤ length (entries_of node)
+        → ((index : ℕ) → from ≤ index → index < first → get_or (key_heads_of node).heads index 0 < head)
+        → first ≤ length (filter (λ (e : Entry). is_below e.key) (entries_of node))
+    many_pass from first least within below =
+        let es = entries_of node in
+        let count = length (filter (λ (e : Entry). is_below e.key) es) in
+        elim (cases_lt count first) [
+          | inr enough ↦ enough
+          | inl few ↦
+              let e = entry_at es count (omega arith) in
+              let less = lt-ltb (get_or (key_heads_of node).heads count 0) head (below count least few) in
+              let passed = less_passes bytes (key_heads_of node) h target is_below order count e.0.key head
+              (key_there es count e.0 e.1) is less in
+              absurd (omega (arith, passing_inside (λ (e : Entry). is_below e.key) es count e.0 partitioned e.1 passed))
+        ]
+
+    -- No more entries pass than stand before one whose head is above that of what is looked for.
+    pub few_pass : (end : ℕ) → (end < length (entries_of node) → head < get_or (key_heads_of node).heads end 0)
+        → length (filter (λ (e : Entry). is_below e.key) (entries_of node)) ≤ end
+    few_pass end above =
+        let es = entries_of node in
+        elim (cases_lt end (length es)) [
+          | inr all ↦ omega (arith, length-items_below (λ (e : Entry). is_below e.key) es)
+          | inl inside ↦
+              let own = get_or (key_heads_of node).heads end 0 in
+              let more : head < own = above inside in
+              let e = entry_at es end inside in
+              let fails : is_below e.0.key ≡ false =
+              sym (told_at bytes (key_heads_of node) h target is_below order end e.0.key head (key_there es end e.0 e.1) is
+              (λ same. absurd (omega (arith, same, more))))
+              ∙ le-ltb own head (omega arith) in
+              passing_before (λ (e : Entry). is_below e.key) es end e.0 partitioned e.1 fails
+        ]

@@ -1,0 +1,369 @@
+-- What nodes know of the bytes of their keys, through changes of these.
+use Rattle.std.proofs.Math.Nat.{min-le_left, min-le_right}
+use Rattle.std.proofs.Common.{◌≡◌, ◌≢◌, ◌⊎◌, inl, inr, ℕ, ◌+◌, ◌-◌, ◌<◌, ◌≤◌, min, List, [], ◌∷◌, ◌++◌, Some, length, get_or, take, drop, map, All, refl, sym, ◌∙◌, ap, ap₂, subst, arith, append_assoc, length-append, length-drop}
+use Rattle.std.specs.Prelude.{unwrap_or, slice_get, slice_set}
+use Rattle.std.specs.List.{Contains, copy_within}
+use Rattle.std.proofs.lemmas.List.{get_or-map, get_or-take, length-map, length-take, length-take-le, map-append, map-set, map_more, set-get_or, take_all, take-append-drop, take-append-le, take_at, drop_at, take-map, drop-map, take-take, take_more_set, drop-take}
+use Rattle.std.proofs.lemmas.Option.{slice_get_within, get_or_from_slice_get}
+use Rattle.std.proofs.lemmas.List.Elements.{All-nil, All-append, All-contains, All-drop, All-more, All-set, All-take, All-weaker}
+use Rattle.tree.specs.declared.entry.Entry.{Entry}
+use Rattle.tree.specs.Heads.{KeyBytes, IsKnown, Begins, KeyHeads, AreHeads, HasPrefix, head_behind, head_at}
+use Rattle.tree.specs.Node.{keys_of}
+use Rattle.tree.proofs.Headed.{all_known, begins_if_long}
+
+-- One more element of the second list becomes that of the first one.
+pub map_further : {X Y : Type 0} (f : X → Y) (xs : List X) (ys : List Y) (i : ℕ) (x : X) (y : Y)
+    → i < length xs → i < length ys → x ≡ get_or xs i x → y ≡ f x → take i ys ≡ map f (take i xs)
+    → take (i + 1) (slice_set ys i y) ≡ map f (take (i + 1) xs)
+map_further f xs ys i x y inside room is new before =
+    take_more_set ys i y room ∙ ap (λ zs. zs ++ y ∷ []) before ∙ ap (λ z. map f (take i xs) ++ z ∷ []) (new ∙ ap f is)
+    ∙ sym (map_more f xs i x inside)
+
+-- The second list is that of the first one, whole.
+pub map_whole : {X Y : Type 0} (f : X → Y) (xs : List X) (ys : List Y) (len i : ℕ) → length xs ≡ len → i ≡ len
+    → take i ys ≡ map f (take i xs) → take len ys ≡ map f xs
+map_whole f xs ys len i count end is =
+    ap (λ n. take n ys) (sym end) ∙ is ∙ ap (map f) (take_all i xs (omega (arith, count, end)))
+
+-- Both parts of the second list are those of the first one.
+pub map_parts : {X Y : Type 0} (f : X → Y) (xs : List X) (ys : List Y) (len end : ℕ) → end ≤ len
+    → take end ys ≡ map f (take end xs) → take (len - end) (drop end ys) ≡ map f (drop end xs) → take len ys ≡ map f xs
+map_parts f xs ys len end within front back =
+    let add : len ≡ end + (len - end) = omega arith in
+    sym (take-append-drop end (take len ys))
+    ∙ ap₂ (λ ps qs. ps ++ qs) (take-take end len ys within ∙ front)
+    (ap (λ n. drop end (take n ys)) add ∙ drop-take end (len - end) ys ∙ back)
+    ∙ sym (map-append f (take end xs) (drop end xs)) ∙ ap (map f) (take-append-drop end xs)
+
+-- Elements are put in place of those from one index up to another.
+pub All-spliced : {X : Type 0} (P : X → Type 0) (xs new : List X) (from to : ℕ) → All P xs → All P new
+    → All P (take from xs ++ (new ++ drop to xs))
+All-spliced P xs new from to all more =
+    All-append P (take from xs) (new ++ drop to xs) (All-take P from xs all)
+    (All-append P new (drop to xs) more (All-drop P to xs all))
+
+-- then there are so many
+pub length_spliced : {X : Type 0} (xs new now : List X) (from to : ℕ) → from ≤ length xs → now ≡ take from xs ++ (new ++ drop to xs)
+    → length now ≡ from + length new + (length xs - to)
+length_spliced xs new now from to within is =
+    omega (
+      arith,
+      ap length is,
+      length-append (take from xs) (new ++ drop to xs),
+      length-append new (drop to xs),
+      length-take-le from xs within,
+      length-drop to xs,
+    )
+
+module _ {X Y : Type 0} (f : X → Y) (xs new now : List X) (ys : List Y) (len from to end : ℕ) (ordered : from ≤ to)
+    (most : to ≤ len) (count : length xs ≡ len) (within : len ≤ length ys) (end_is : end ≡ from + length new)
+    (room : end ≤ length ys) (is : take len ys ≡ map f xs) (now_is : now ≡ take from xs ++ (new ++ drop to xs)) where
+  -- The second list is moved as the first one: what stays before the new elements
+  pub front_moved : take from (copy_within ys to len end) ≡ map f (take from now)
+  front_moved =
+      let head = take end ys in
+      let moved = take (len - to) (drop to ys) in
+      let rest = drop (end + (len - to)) ys in
+      ap (take from) (append_assoc head moved rest)
+      ∙ take-append-le from head (moved ++ rest) (omega (arith, end_is, length-take-le end ys room))
+      ∙ take-take from end ys (omega (arith, end_is)) ∙ sym (take-take from len ys (omega (arith, ordered, most))) ∙ ap (take from) is
+      ∙ take-map f from xs
+      ∙ ap (map f) (sym (ap (take from) now_is
+      ∙ take_at (take from xs) (new ++ drop to xs) from (length-take-le from xs (omega (arith, ordered, most, count)))))
+
+  -- and what stays behind them
+  pub back_moved : take (len - to) (drop end (copy_within ys to len end)) ≡ map f (drop end now)
+  back_moved =
+      let head = take end ys in
+      let moved = take (len - to) (drop to ys) in
+      let rest = drop (end + (len - to)) ys in
+      let moved_len : length moved ≡ len - to =
+      length-take-le (len - to) (drop to ys) (omega (arith, within, length-drop to ys)) in
+      let add : to + (len - to) ≡ len = omega (arith, most) in
+      let front_len : length (take from xs ++ new) ≡ end =
+      omega (arith, end_is, length-append (take from xs) new, length-take-le from xs (omega (arith, ordered, most, count))) in
+      ap (λ zs. take (len - to) (drop end zs)) (append_assoc head moved rest)
+      ∙ ap (take (len - to)) (drop_at head (moved ++ rest) end (length-take-le end ys room))
+      ∙ take_at moved rest (len - to) moved_len
+      ∙ sym (drop-take to (len - to) ys) ∙ ap (λ n. drop to (take n ys)) add ∙ ap (drop to) is ∙ drop-map f to xs
+      ∙ ap (map f) (sym (ap (drop end) (now_is ∙ sym (append_assoc (take from xs) new (drop to xs)))
+      ∙ drop_at (take from xs ++ new) (drop to xs) end front_len))
+
+-- the keys of so many entries are as many
+pub keys_count : (es : List Entry) (len : ℕ) → len ≤ length es → length (keys_of (take len es)) ≡ len
+keys_count es len most = length-map (take len es) (λ (e : Entry). e.key) ∙ length-take-le len es most
+
+-- the keys where entries are put in place of those from one index up to another
+pub keys_spliced : (es new now : List Entry) (from to : ℕ) → now ≡ take from es ++ (new ++ drop to es)
+    → keys_of now ≡ take from (keys_of es) ++ (keys_of new ++ drop to (keys_of es))
+keys_spliced es new now from to is =
+    let key : Entry → ℕ = λ e. e.key in
+    ap keys_of is ∙ map-append key (take from es) (new ++ drop to es)
+    ∙ ap₂ (λ xs ys. xs ++ ys) (sym (take-map key from es))
+    (map-append key new (drop to es) ∙ ap (λ ys. keys_of new ++ ys) (sym (drop-map key to es)))
+
+-- the key of an entry is one of the keys
+pub keys_there : (es : List Entry) (i : ℕ) (e : Entry) → i < length es → get_or es i e ≡ e → Contains (keys_of es) e.key
+keys_there es i e inside is =
+    let key : Entry → ℕ = λ x. x.key in
+    (i, omega (arith, length-map es key, inside), get_or-map key es i e e.key inside ∙ ap key is)
+
+-- the key of the last one
+pub last_there : (es : List Entry) (e : Entry) → slice_get es (length es - 1) ≡ Some e → Contains (keys_of es) e.key
+last_there es e is =
+    let i = length es - 1 in
+    keys_there es i e (slice_get_within es i e is) (get_or_from_slice_get es i e e is)
+
+-- Entries of which some are in use, and one of these.
+module _ (es : List Entry) (len i : ℕ) (e : Entry) (inside : i < len) (most : len ≤ length es) (is : e ≡ get_or es i e) where
+  -- its key
+  pub key_read : e.key ≡ get_or (keys_of (take len es)) i e.key
+  key_read =
+      sym (get_or-map (λ (x : Entry). x.key) (take len es) i e e.key (omega (arith, length-take-le len es most))
+      ∙ ap (λ (x : Entry). x.key) (get_or-take len es i e inside ∙ sym is))
+
+  pub key_there : Contains (keys_of (take len es)) e.key
+  key_there = (i, omega (arith, keys_count es len most), sym key_read)
+
+  -- its head
+  pub head_there : (f : ℕ → ℕ) (heads : List ℕ) → take len heads ≡ map f (keys_of (take len es)) → get_or heads i 0 ≡ f e.key
+  head_there f heads right =
+      sym (get_or-take len heads i 0 inside) ∙ ap (λ xs. get_or xs i 0) right
+      ∙ get_or-map f (keys_of (take len es)) i e.key 0 (omega (arith, keys_count es len most)) ∙ ap f (sym key_read)
+
+  -- with its head one more is right
+  pub head_next : (f : ℕ → ℕ) (heads : List ℕ) (head : ℕ) → i < length heads → head ≡ f e.key
+      → take i heads ≡ map f (take i (keys_of (take len es)))
+      → take (i + 1) (slice_set heads i head) ≡ map f (take (i + 1) (keys_of (take len es)))
+  head_next f heads head room right before =
+      map_further f (keys_of (take len es)) heads i e.key head (omega (arith, keys_count es len most)) room key_read right before
+
+  -- another entry of the same key in its place changes no key
+  pub key_stays : (new : Entry) → e.key ≡ new.key → keys_of (slice_set (take len es) i new) ≡ keys_of (take len es)
+  key_stays new same =
+      map-set (λ (x : Entry). x.key) (take len es) i new
+      ∙ ap (λ k. slice_set (keys_of (take len es)) i k) (sym same ∙ key_read)
+      ∙ set-get_or (keys_of (take len es)) i e.key
+
+-- A key is empty, or begins as the keys do of which this is known.
+abbrev pub BeginsAsThese : KeyBytes → KeyHeads → ℕ → Type 0
+BeginsAsThese bytes key_heads key = (text : List ℕ) → bytes key ≡ Some text → (text ≡ []) ⊎ HasPrefix bytes key_heads text
+
+-- A key is empty, or begins with so many bytes in common with a first one, and that one is no shorter.
+abbrev pub BeginsAsFirst : KeyBytes → ℕ → ℕ → ℕ → Type 0
+BeginsAsFirst bytes first count key =
+    (a b : List ℕ) → bytes first ≡ Some a → bytes key ≡ Some b → (b ≡ []) ⊎ ((count ≤ length a) × (take count a ≡ take count b))
+
+module _ (bytes : KeyBytes) where
+  -- the head of a key is that of its bytes
+  pub head_known : (prefix_len key head : ℕ) → IsKnown bytes key
+      → ((text : List ℕ) → bytes key ≡ Some text → head ≡ head_behind prefix_len text) → head ≡ head_at bytes prefix_len key
+  head_known prefix_len key head k d =
+      d k.text k.known ∙ ap (λ o. head_behind prefix_len (unwrap_or o [])) (sym k.known)
+
+  -- A key that begins as all others do for so many bytes begins with these.
+  pub agrees_begins : (key_heads : KeyHeads) (h : AreHeads bytes key_heads) (key : ℕ) → IsKnown bytes key
+      → BeginsAsThese bytes key_heads key → Begins bytes h.beginning key
+  agrees_begins key_heads h key k agrees =
+      record {
+        text = k.text;
+        known = k.known;
+        are_bytes = k.are_bytes;
+        begins = elim (agrees k.text k.known) [
+          | inl empty ↦ inl empty
+          | inr a ↦ inr (same a)
+        ];
+      }
+    where
+      same : HasPrefix bytes key_heads k.text → take (length h.beginning) k.text ≡ h.beginning
+      same a =
+          let b = All-contains (Begins bytes h.beginning) key_heads.keys a.key h.begins a.there in
+          let one : Some b.text ≡ Some a.text = sym b.known ∙ a.known in
+          let texts : b.text ≡ a.text = cc in
+          let long : length h.beginning ≤ length b.text = omega (arith, a.long, h.prefix_len, ap length texts) in
+          ap (λ n. take n k.text) h.prefix_len ∙ sym a.same ∙ ap₂ take (sym h.prefix_len) (sym texts)
+          ∙ begins_if_long h.beginning b.text b.begins long
+
+  -- a key of the node itself does
+  pub key_agrees : (key_heads : KeyHeads) (h : AreHeads bytes key_heads) (key : ℕ) → Contains key_heads.keys key → BeginsAsThese bytes key_heads key
+  key_agrees key_heads h key there text known =
+      let b = All-contains (Begins bytes h.beginning) key_heads.keys key h.begins there in
+      let one : Some text ≡ Some b.text = sym known ∙ b.known in
+      let texts : text ≡ b.text = cc in
+      elim b.begins [
+        | inl empty ↦ inl (texts ∙ empty)
+        | inr same ↦ inr (record {
+          key = key;
+          text = text;
+          there = there;
+          known = known;
+          long = omega (
+            arith,
+            ap length texts,
+            ap length same,
+            h.prefix_len,
+            length-take (length h.beginning) b.text,
+            min-le_right (length h.beginning) (length b.text),
+          );
+          same = refl;
+        })
+      ]
+
+  -- and a key that begins as one of them for so many bytes does
+  pub common_agrees : (key_heads : KeyHeads) (h : AreHeads bytes key_heads) (first key count : ℕ) → Contains key_heads.keys first
+      → key_heads.prefix_len ≤ count
+      → ((a b : List ℕ) → bytes first ≡ Some a → bytes key ≡ Some b → take count a ≡ take count b)
+      → ((a b : List ℕ) → bytes first ≡ Some a → bytes key ≡ Some b → (count ≤ length a) × (count ≤ length b))
+      → (text : List ℕ) → bytes key ≡ Some text → HasPrefix bytes key_heads text
+  common_agrees key_heads h first key count there enough same within text known =
+      let b = All-contains (Begins bytes h.beginning) key_heads.keys first h.begins there in
+      record {
+        key = first;
+        text = b.text;
+        there = there;
+        known = b.known;
+        long = omega (arith, enough, (within b.text text b.known known).0);
+        same = sym (take-take key_heads.prefix_len count b.text enough) ∙ ap (take key_heads.prefix_len) (same b.text text b.known known)
+            ∙ take-take key_heads.prefix_len count text enough;
+      }
+
+  -- keys that begin as all others do
+  pub all_begin : (key_heads : KeyHeads) (h : AreHeads bytes key_heads) (keys : List ℕ) → All (IsKnown bytes) keys
+      → All (BeginsAsThese bytes key_heads) keys → All (Begins bytes h.beginning) keys
+  all_begin key_heads h keys known agree i d inside =
+      agrees_begins key_heads h (get_or keys i d) (known i d inside) (agree i d inside)
+
+  -- one key more that begins as the first one does, for fewer bytes perhaps
+  pub first_more : (first count common i : ℕ) (keys : List ℕ) (key : ℕ) → i < length keys → key ≡ get_or keys i key
+      → ((a b : List ℕ) → bytes first ≡ Some a → bytes key ≡ Some b → take common a ≡ take common b)
+      → ((a b : List ℕ) → bytes first ≡ Some a → bytes key ≡ Some b → (common ≤ length a) × (common ≤ length b))
+      → All (BeginsAsFirst bytes first count) (take i keys)
+      → All (BeginsAsFirst bytes first (min count common)) (take (i + 1) keys)
+  first_more first count common i keys key inside is same within before =
+      let less = min count common in
+      let fewer : less ≤ common = min-le_right count common in
+      let here : BeginsAsFirst bytes first less key = λ a b one other. inr (
+        omega (arith, (within a b one other).0, fewer),
+        sym (take-take less common a fewer) ∙ ap (take less) (same a b one other) ∙ take-take less common b fewer,
+      ) in
+      All-more (BeginsAsFirst bytes first less) keys i key inside
+      (All-weaker (BeginsAsFirst bytes first count) (BeginsAsFirst bytes first less) weaker (take i keys) before)
+      (subst (BeginsAsFirst bytes first less) is here)
+    where
+      weaker : (k : ℕ) → BeginsAsFirst bytes first count k → BeginsAsFirst bytes first (min count common) k
+      weaker k b one other is_one is_other =
+          let less = min count common in
+          let fewer : less ≤ count = min-le_left count common in
+          elim (b one other is_one is_other) [
+            | inl empty ↦ inl empty
+            | inr h ↦ inr (
+              omega (arith, h.0, fewer),
+              sym (take-take less count one fewer) ∙ ap (take less) h.1 ∙ take-take less count other fewer,
+            )
+          ]
+
+  -- an empty key more
+  pub first_empty : (first count i : ℕ) (keys : List ℕ) (key : ℕ) → i < length keys → key ≡ get_or keys i key
+      → ((b : List ℕ) → bytes key ≡ Some b → b ≡ [])
+      → All (BeginsAsFirst bytes first count) (take i keys) → All (BeginsAsFirst bytes first count) (take (i + 1) keys)
+  first_empty first count i keys key inside is empty before =
+      let here : BeginsAsFirst bytes first count key = λ a b one other. inl (empty b other) in
+      All-more (BeginsAsFirst bytes first count) keys i key inside before (subst (BeginsAsFirst bytes first count) is here)
+
+  -- Keys that all begin as one of them does that isn't empty begin with bytes of it.
+  pub begin_of_first : (first count : ℕ) (keys : List ℕ) → Contains keys first → All (IsKnown bytes) keys
+      → All (BeginsAsFirst bytes first count) keys
+      → (text : List ℕ) → bytes first ≡ Some text → text ≢ []
+      → (count ≤ length text) × All (Begins bytes (take count text)) keys
+  begin_of_first first count keys there known common text is filled =
+      let long : count ≤ length text =
+      elim (All-contains (BeginsAsFirst bytes first count) keys first common there text text is is) [
+        | inl empty ↦ absurd (filled empty)
+        | inr h ↦ h.0
+      ] in (
+        long,
+        λ i d inside.
+            let other = known i d inside in
+            record {
+              text = other.text;
+              known = other.known;
+              are_bytes = other.are_bytes;
+              begins = elim (common i d inside text other.text is other.known) [
+                | inl empty ↦ inl empty
+                | inr h ↦ inr (ap (λ n. take n other.text) (length-take-le count text long) ∙ sym h.1)
+              ];
+            },
+      )
+
+  -- Where no bytes are asked for, known keys begin with them.
+  pub begin_none : (keys : List ℕ) → All (IsKnown bytes) keys
+      → (beginning : List ℕ) × (length beginning ≡ 0) × All (Begins bytes beginning) keys
+  begin_none keys known = (
+    [],
+    refl,
+    λ i d inside.
+        let k = known i d inside in
+        record { text = k.text; known = k.known; are_bytes = k.are_bytes; begins = inr refl },
+  )
+
+  -- Another key that begins alike is set.
+  pub headed_set : (key_heads new : KeyHeads) (h : AreHeads bytes key_heads) (i key head : ℕ) → IsKnown bytes key → BeginsAsThese bytes key_heads key
+      → head ≡ head_at bytes key_heads.prefix_len key → new.keys ≡ slice_set key_heads.keys i key → new.prefix_len ≡ key_heads.prefix_len
+      → new.heads ≡ slice_set key_heads.heads i head → AreHeads bytes new
+  headed_set key_heads new h i key head k agrees right keys prefix_len heads =
+      let P = Begins bytes h.beginning in
+      record {
+        beginning = h.beginning;
+        prefix_len = h.prefix_len ∙ sym prefix_len;
+        begins = subst (All P) (sym keys) (All-set P key_heads.keys i key (agrees_begins key_heads h key k agrees) h.begins);
+        heads = heads ∙ ap₂ (λ xs d. slice_set xs i d) h.heads right
+            ∙ sym (map-set (head_at bytes key_heads.prefix_len) key_heads.keys i key)
+            ∙ ap₂ (λ n xs. map (head_at bytes n) xs) (sym prefix_len) (sym keys);
+      }
+
+  -- then the keys are known
+  pub known_set : (key_heads : KeyHeads) → AreHeads bytes key_heads → (i key : ℕ) → IsKnown bytes key → (keys : List ℕ)
+      → keys ≡ slice_set key_heads.keys i key → All (IsKnown bytes) keys
+  known_set key_heads h i key k keys is =
+      subst (All (IsKnown bytes)) (sym is) (All-set (IsKnown bytes) key_heads.keys i key k (all_known bytes key_heads h))
+
+  -- those where others are put in place of some
+  pub known_spliced : (key_heads : KeyHeads) → AreHeads bytes key_heads → (new keys : List ℕ) (from to : ℕ) → All (IsKnown bytes) new
+      → keys ≡ take from key_heads.keys ++ (new ++ drop to key_heads.keys) → All (IsKnown bytes) keys
+  known_spliced key_heads h new keys from to known is =
+      subst (All (IsKnown bytes)) (sym is) (All-spliced (IsKnown bytes) key_heads.keys new from to (all_known bytes key_heads h) known)
+
+  -- these begin as all others do where the others do
+  pub begin_spliced : (key_heads : KeyHeads) (h : AreHeads bytes key_heads) (new keys : List ℕ) (from to : ℕ) → All (IsKnown bytes) new
+      → All (BeginsAsThese bytes key_heads) new → keys ≡ take from key_heads.keys ++ (new ++ drop to key_heads.keys)
+      → All (Begins bytes h.beginning) keys
+  begin_spliced key_heads h new keys from to known begin is =
+      subst (All (Begins bytes h.beginning)) (sym is)
+      (All-spliced (Begins bytes h.beginning) key_heads.keys new from to h.begins (all_begin key_heads h new known begin))
+
+  -- Those from one index up to another are taken out, with their heads.
+  pub headed_removed : (key_heads new : KeyHeads) (h : AreHeads bytes key_heads) (from to : ℕ)
+      → new.keys ≡ take from key_heads.keys ++ drop to key_heads.keys → new.prefix_len ≡ key_heads.prefix_len
+      → new.heads ≡ take from key_heads.heads ++ drop to key_heads.heads → AreHeads bytes new
+  headed_removed key_heads new h from to keys prefix_len heads =
+      let P = Begins bytes h.beginning in
+      let f = head_at bytes key_heads.prefix_len in
+      record {
+        beginning = h.beginning;
+        prefix_len = h.prefix_len ∙ sym prefix_len;
+        begins = subst (All P) (sym keys) (All-spliced P key_heads.keys [] from to h.begins (All-nil P));
+        heads = heads ∙ ap (λ ds. take from ds ++ drop to ds) h.heads
+            ∙ ap₂ (λ xs ys. xs ++ ys) (take-map f from key_heads.keys) (drop-map f to key_heads.keys)
+            ∙ sym (map-append f (take from key_heads.keys) (drop to key_heads.keys))
+            ∙ ap₂ (λ n xs. map (head_at bytes n) xs) (sym prefix_len) (sym keys);
+      }
+
+-- The head of the key of an entry, behind so many bytes, is that of its bytes.
+pub head_read : (es : List Entry) (len i : ℕ) (e : Entry) → i < len → len ≤ length es → e ≡ get_or es i e
+    → (bytes : KeyBytes) (prefix_len behind head : ℕ) → behind ≡ prefix_len → All (IsKnown bytes) (keys_of (take len es))
+    → ((text : List ℕ) → bytes (get_or es i e).key ≡ Some text → head ≡ head_behind behind text)
+    → head ≡ head_at bytes prefix_len e.key
+head_read es len i e inside most is bytes prefix_len behind head same known right =
+    head_known bytes prefix_len e.key head
+    (All-contains (IsKnown bytes) (keys_of (take len es)) e.key known (key_there es len i e inside most is))
+    (λ text k. right text (ap (λ (x : Entry). bytes x.key) (sym is) ∙ k) ∙ ap (λ n. head_behind n text) same)

@@ -1,0 +1,116 @@
+-- What nodes know of the bytes of keys, while nodes are put, placed and released.
+use Rattle.std.proofs.Common.{rules, ◌≡◌, ◌≢◌, ◌⊎◌, inl, inr, ℕ, ◌≤◌, cond, List, [], ◌∷◌, length, map, take, Option, Some, None, option_map, unwrap_or, refl, sym, ap, ap₂, subst, arith, ◌∙◌}
+use Rattle.std.specs.Prelude.{IfSome}
+use Rattle.std.specs.List.{All}
+use Rattle.std.proofs.lemmas.List.Elements.{All-weaker, All-head, All-tail}
+use Rattle.arena.specs.Arena.{Arena, record_at, header_at}
+use Rattle.tree.specs.declared.node.Node.{Node}
+use Rattle.tree.specs.Heads.{KeyBytes, IsKnown, Begins, KeyHeads, AreHeads, AllAreHeads, head_at, head_behind}
+use Rattle.tree.specs.Node.{entries_of, keys_of, key_heads_of, all_heads_of}
+use Rattle.tree.specs.Subtree.{entries_at}
+use Rattle.std.specs.FinMap as finite
+use Rattle.std.specs.Cmp.{nat_cmp_total}
+use Rattle.tree.proofs.Changing.{same_number}
+use Rattle.tree.proofs.callers.Times.{once_cases}
+
+-- a key that begins with some bytes is known
+pub known_if_begins : (bytes : KeyBytes) (beginning : List ℕ) (key : ℕ) → Begins bytes beginning key → IsKnown bytes key
+known_if_begins bytes beginning key b = record { text = b.text; known = b.known; are_bytes = b.are_bytes }
+
+-- a text that isn't too short for it begins with these bytes
+pub begins_if_long : (beginning text : List ℕ) → (text ≡ []) ⊎ (take (length beginning) text ≡ beginning)
+    → length beginning ≤ length text → take (length beginning) text ≡ beginning
+begins_if_long [] text begins long = refl
+begins_if_long (x ∷ xs) text begins long =
+    elim begins [
+      | inl empty ↦ absurd (omega (arith, long, ap length empty))
+      | inr same ↦ same
+    ]
+
+-- each key of which a node knows is known
+pub all_known : (bytes : KeyBytes) (key_heads : KeyHeads) → AreHeads bytes key_heads → All (IsKnown bytes) key_heads.keys
+all_known bytes key_heads h =
+    All-weaker (Begins bytes h.beginning) (IsKnown bytes) (λ key b. known_if_begins bytes h.beginning key b) key_heads.keys h.begins
+
+-- a slot is another one or the same
+same_or_other : (s slot : ℕ) → (slot ≡ s) ⊎ (s ≢ slot)
+same_or_other s slot =
+    elim (once_cases s slot) [
+      | inl same ↦ inl same.0
+      | inr other ↦ inr (λ same. other.0 (sym same))
+    ]
+
+heads_kept : (a b : KeyBytes) (prefix_len : ℕ) → ((key : ℕ) (text : List ℕ) → a key ≡ Some text → b key ≡ Some text)
+    → (keys : List ℕ) → All (IsKnown a) keys → map (head_at a prefix_len) keys ≡ map (head_at b prefix_len) keys
+heads_kept a b prefix_len same [] known = refl
+heads_kept a b prefix_len same (key ∷ keys) known =
+    let k = All-head (IsKnown a) key keys known in
+    ap₂ (λ x xs. x ∷ xs) (ap (λ o. head_behind prefix_len (unwrap_or o [])) (k.known ∙ sym (same key k.text k.known)))
+    (heads_kept a b prefix_len same keys (All-tail (IsKnown a) key keys known))
+
+-- what a node knows is right for bytes that are the same of the keys that are known
+pub key_heads_kept : (a b : KeyBytes) → ((key : ℕ) (text : List ℕ) → a key ≡ Some text → b key ≡ Some text)
+    → (key_heads : KeyHeads) → AreHeads a key_heads → AreHeads b key_heads
+key_heads_kept a b same key_heads h =
+    record {
+      beginning = h.beginning;
+      prefix_len = h.prefix_len;
+      begins = All-weaker (Begins a h.beginning) (Begins b h.beginning)
+          (λ key x. record { text = x.text; known = same key x.text x.known; are_bytes = x.are_bytes; begins = x.begins })
+          key_heads.keys h.begins;
+      heads = h.heads ∙ heads_kept a b key_heads.prefix_len same key_heads.keys (all_known a key_heads h);
+    }
+
+-- What each node knows is right for bytes that are the same of the keys that are known.
+pub headed_kept : (a b : KeyBytes) → ((key : ℕ) (text : List ℕ) → a key ≡ Some text → b key ≡ Some text)
+    → (all_heads : ℕ → Option KeyHeads) → AllAreHeads a all_heads → AllAreHeads b all_heads
+headed_kept a b same all_heads all s = by_key_heads (all_heads s) (all s)
+  where
+    by_key_heads : (o : Option KeyHeads) → IfSome o (AreHeads a) → IfSome o (AreHeads b)
+    by_key_heads None h = tt
+    by_key_heads (Some key_heads) h = key_heads_kept a b same key_heads h
+
+module _ {N : ℕ} where
+  -- what the node at a slot knows is right
+  pub headed_at : (bytes : KeyBytes) (nodes : Arena (Node N)) (slot : ℕ) (node : Node N) → AllAreHeads bytes (all_heads_of nodes)
+      → header_at nodes slot ≡ Some node → AreHeads bytes (key_heads_of node)
+  headed_at bytes nodes slot node all is =
+      subst (λ o. IfSome (option_map key_heads_of o) (AreHeads bytes)) is (all slot)
+
+  -- the keys of the entries of a node are known
+  pub common_prefix_len_at : (bytes : KeyBytes) (nodes : Arena (Node N)) (slot : ℕ) → AllAreHeads bytes (all_heads_of nodes)
+      → All (IsKnown bytes) (keys_of (entries_at nodes slot))
+  common_prefix_len_at bytes nodes slot all = by_header (header_at nodes slot) (all slot)
+    where
+      by_header : (o : Option (Node N)) → IfSome (option_map key_heads_of o) (AreHeads bytes)
+          → All (IsKnown bytes) (keys_of (unwrap_or (option_map entries_of o) []))
+      by_header None h = search rules
+      by_header (Some node) h = all_known bytes (key_heads_of node) h
+
+  -- One slot has another node whose knowledge is right, and all others have the same node or none.
+  pub headed_put : (bytes : KeyBytes) (old new : Arena (Node N)) (slot : ℕ) (node : Node N) → AllAreHeads bytes (all_heads_of old)
+      → header_at new slot ≡ Some node → AreHeads bytes (key_heads_of node)
+      → ((s : ℕ) → s ≢ slot → record_at new s ≡ record_at old s)
+      → AllAreHeads bytes (all_heads_of new)
+  headed_put bytes old new slot node all is headed others s =
+      elim (same_or_other s slot) [
+        | inl same ↦ subst (λ o. IfSome (option_map key_heads_of o) (AreHeads bytes)) (sym is ∙ ap (header_at new) same) headed
+        | inr other ↦
+            subst (λ o. IfSome (option_map key_heads_of (option_map (λ r. r.header) o)) (AreHeads bytes)) (sym (others s other)) (all s)
+      ]
+
+  -- One slot has no node any more, and all others have the same.
+  pub headed_released : (bytes : KeyBytes) (old new : Arena (Node N)) (slot : ℕ) → AllAreHeads bytes (all_heads_of old)
+      → new.records ≡ finite.remove old.records slot → ((s : ℕ) → s ≢ slot → record_at new s ≡ record_at old s)
+      → AllAreHeads bytes (all_heads_of new)
+  headed_released bytes old new slot all released others s =
+      let none : record_at new slot ≡ None =
+      ap (λ m. finite.get m slot) released ∙ finite.get-remove nat_cmp_total old.records slot slot
+      ∙ ap (λ b. cond b None (finite.get old.records slot)) (same_number slot slot refl) in
+      elim (same_or_other s slot) [
+        | inl same ↦
+            subst (λ o. IfSome (option_map key_heads_of (option_map (λ r. r.header) o)) (AreHeads bytes))
+            (sym none ∙ ap (record_at new) same) tt
+        | inr other ↦
+            subst (λ o. IfSome (option_map key_heads_of (option_map (λ r. r.header) o)) (AreHeads bytes)) (sym (others s other)) (all s)
+      ]

@@ -1,0 +1,99 @@
+-- Items of which a run is thinned: what is said of a leaf's is said of all of them, and how many stay.
+use Rattle.std.proofs.Common.{◌≡◌, ◌≢◌, ℕ, ℤ, ◌+◌, ◌≤◌, ◌≤ℤ◌, int_lt, ◌&&◌, Bool, true, false, inl, inr, List, [], ◌∷◌, ◌++◌, Option, None}
+use Rattle.std.proofs.Common.{length, sym, ◌∙◌, ap, subst, arith, append_assoc, length-append, refl}
+use Rattle.std.proofs.lemmas.Int.{ints}
+use Rattle.tree.specs.declared.expiring.Removal.{Removal}
+use Rattle.tree.specs.Item.{Item}
+use Rattle.tree.specs.Path.{items_below}
+use Rattle.tree.specs.Expire.{RemovesExpired, GivesUnexpired}
+use Rattle.tree.specs.Tree.{unexpired}
+use Rattle.tree.specs.Walk.{IsChangedWithin}
+use Rattle.tree.proofs.callers.Times.{none_or_some}
+use Rattle.tree.proofs.Inserting.{length-partitioned}
+use Rattle.tree.proofs.Keys.{behind-parts, first_key-append}
+use Rattle.tree.proofs.PartWritten.{some_here}
+use Rattle.tree.proofs.Removing.{stays, expired_or_kept}
+use Rattle.tree.proofs.Told.{filter_around}
+
+regroup : (a f t r b : List Item) → a ++ ((f ++ (t ++ r)) ++ b) ≡ (a ++ f) ++ (t ++ (r ++ b))
+regroup a f t r b = simp append_assoc
+
+-- What becomes of all items where those of one leaf are thinned.
+pub unexpired_all : (p : ℕ → Bool) (count : ℕ) (edge before : ℤ) (unexpired : Removal) (run was now : List Item)
+    → IsChangedWithin p (λ _. GivesUnexpired p count edge before unexpired run) true None was now
+    → items_below p was ≢ [] → RemovesExpired p count edge before unexpired run None was now
+unexpired_all p count edge before unexpired run was now c some =
+    let pass = filter_around (λ (x : Item). p x.key) c.before c.leaf c.behind c.items_below c.failing in
+    let here : items_below p c.leaf ≢ [] =
+    some_here p p (λ key t. t) c.before c.leaf c.behind c.items_below c.failing c.found
+    (λ none. some (ap (items_below p) c.was_is ∙ none)) in
+    let h = c.gives.1 here in
+    let all = c.before ++ (c.leaf ++ c.behind) in
+    let whole : RemovesExpired p count edge before unexpired run None all (c.before ++ (c.changed ++ c.behind)) =
+    record {
+      front = c.before ++ h.front;
+      first = h.first;
+      looked = h.looked;
+      rest = h.rest ++ c.behind;
+      front_is = pass ∙ ap (λ xs. c.before ++ xs) h.front_is ∙ sym (append_assoc c.before h.front (h.first ∷ []));
+      looked_is = ap (λ xs. h.first ∷ xs) (behind-parts p c.before c.leaf c.behind c.items_below c.failing)
+          ∙ ap (λ xs. xs ++ c.behind) h.looked_is ∙ append_assoc h.looked h.rest c.behind;
+      looked_at = h.looked_at;
+      some = h.some;
+      few = h.few;
+      now_is = ap (λ xs. c.before ++ (xs ++ c.behind)) h.now_is
+          ∙ regroup c.before h.front (unexpired edge before h.looked) h.rest c.behind;
+      run_is = h.run_is;
+      last = h.last;
+      next_is = h.next_is ∙ sym (first_key-append None h.rest c.behind);
+    } in
+    subst (λ xs. RemovesExpired p count edge before unexpired run None xs now) (sym c.was_is)
+    (subst (λ xs. RemovesExpired p count edge before unexpired run None all xs) (sym c.now_is) whole)
+
+not_under : (edge before : ℤ) → edge ≤ℤ before → int_lt before edge ≡ false
+not_under edge before h = grind (arith, ints)
+
+-- The first of a run stays behind a version that isn't below the edge.
+first_stays : (edge before : ℤ) (xs : List Item) → 1 ≤ length xs → edge ≤ℤ before → 1 ≤ length (unexpired edge before xs)
+first_stays edge before [] some h = absurd (omega arith)
+first_stays edge before (x ∷ xs) some h =
+    let f = not_under edge before h in
+    let one : (int_lt before edge && int_lt x.version edge) ≡ false = rw f refl in
+    omega (arith, ap length (stays edge before x xs one).0)
+
+-- Each item stays or goes, and one stays.
+pub length-unexpired : (p : ℕ → Bool) (count : ℕ) (edge before : ℤ) (unexpired : Removal) (run was now : List Item)
+    (next : Option ℕ) → RemovesExpired p count edge before unexpired run next was now
+    → (length (items_below p was) ≡ 1 → edge ≤ℤ before) → (length now + length run ≡ length was) × (1 ≤ length now)
+length-unexpired p count edge before unexpired run was now next h first =
+    let now_is = ap length h.now_is in
+    let all = length-append h.front (unexpired edge before h.looked ++ h.rest) in
+    let stay = length-append (unexpired edge before h.looked) h.rest in
+    let is_below : length (items_below p was) ≡ length h.front + 1 =
+    omega (arith, ap length h.front_is, length-append h.front (h.first ∷ [])) in
+    let looked = ap length h.looked_is in
+    let behind_too = length-append h.looked h.rest in (
+      omega (
+        arith,
+        now_is,
+        all,
+        stay,
+        is_below,
+        looked,
+        behind_too,
+        ap length h.run_is,
+        expired_or_kept edge before h.looked,
+        length-partitioned p was,
+      ),
+      elim (none_or_some (length h.front)) [
+        | inl none ↦
+            omega (
+              arith,
+              now_is,
+              all,
+              stay,
+              first_stays edge before h.looked (omega (arith, h.looked_at, h.some)) (first (omega (arith, is_below, none))),
+            )
+        | inr filled ↦ omega (arith, now_is, all)
+      ],
+    )

@@ -1,0 +1,171 @@
+-- The thinning of a run, entry by entry.
+use Rattle.std.proofs.Common.{◌≡◌, ℕ, suc, ◌+◌, ◌-◌, ◌<◌, ◌≤◌, ℤ, int_lt, int_le, ◌&&◌, Bool, true, false, List, [], ◌∷◌, ◌++◌, length, get_or, map, take, drop, set, refl, sym, ◌∙◌, ap, subst, arith, inl, inr, length-append, length-drop, drop-cons, append_assoc}
+use Rattle.std.proofs.lemmas.Int.{ints}
+use Rattle.std.proofs.lemmas.List.{append-nil, map-append, take_more_set, drop-set-lt, length-take-le}
+use Rattle.std.proofs.Math.ListN.{length-set}
+use Rattle.std.proofs.lemmas.Bool.{cases_Bool}
+use Rattle.tree.specs.declared.entry.Entry.{Entry}
+use Rattle.tree.specs.Item.{Item, item_of, version_of}
+use Rattle.tree.specs.Tree.{IsLast, unexpired, expired}
+
+-- the version of the last of them, or the one before
+abbrev pub last_version : ℤ → List Entry → ℤ
+last_version before [] = before
+last_version before (e ∷ es) = last_version e.version es
+
+-- the entries from an index up to another
+abbrev pub run : List Entry → ℕ → ℕ → List Entry
+run es from to = take (to - from) (drop from es)
+
+-- an item that has both versions below the edge goes
+goes : (edge before : ℤ) (x : Item) (xs : List Item) → (int_lt before edge && int_lt x.version edge) ≡ true
+    → (unexpired edge before (x ∷ xs) ≡ unexpired edge x.version xs) × (expired edge before (x ∷ xs) ≡ x ∷ expired edge x.version xs)
+goes edge before x xs t = (rw t refl, rw t refl)
+
+-- another one stays
+pub stays : (edge before : ℤ) (x : Item) (xs : List Item) → (int_lt before edge && int_lt x.version edge) ≡ false
+    → (unexpired edge before (x ∷ xs) ≡ x ∷ unexpired edge x.version xs) × (expired edge before (x ∷ xs) ≡ expired edge x.version xs)
+stays edge before x xs f = (rw f refl, rw f refl)
+
+-- each goes or stays
+pub expired_or_kept : (edge before : ℤ) (xs : List Item) → length (unexpired edge before xs) + length (expired edge before xs) ≡ length xs
+expired_or_kept edge before [] = omega arith
+expired_or_kept edge before (x ∷ xs) =
+    let i = expired_or_kept edge x.version xs in
+    elim (cases_Bool (int_lt before edge && int_lt x.version edge)) [
+      | inl t ↦ rw t (omega arith)
+      | inr f ↦ rw f (omega arith)
+    ]
+
+-- where none goes, all stay
+pub all_stay : (edge before : ℤ) (xs : List Item) → expired edge before xs ≡ [] → unexpired edge before xs ≡ xs
+all_stay edge before [] none = refl
+all_stay edge before (x ∷ xs) none =
+    elim (cases_Bool (int_lt before edge && int_lt x.version edge)) [
+      | inl t ↦ let k : x ∷ expired edge x.version xs ≡ [] = sym (goes edge before x xs t).1 ∙ none in absurd (cc)
+      | inr f ↦
+          let s = stays edge before x xs f in
+          s.0 ∙ ap (λ l. x ∷ l) (all_stay edge x.version xs (sym s.1 ∙ none))
+    ]
+
+-- the version of the last of a run is the last of the versions
+last_from : (before : ℤ) (e : Entry) (es : List Entry) → IsLast (last_version before (e ∷ es)) (map version_of (e ∷ es))
+last_from before e [] = ([], refl)
+last_from before e (f ∷ es) =
+    let r = last_from e.version f es in
+    (e.version ∷ r.0, ap (λ l. e.version ∷ l) r.1)
+
+last_of : (before : ℤ) (es : List Entry) → 0 < length es → IsLast (last_version before es) (map version_of es)
+last_of before [] some = absurd (omega arith)
+last_of before (e ∷ es) some = last_from before e es
+
+-- a version that isn't below the edge
+pub not_below : (edge v : ℤ) → int_le edge v ≡ true → int_lt v edge ≡ false
+not_below edge v h = grind (arith, ints)
+
+pub is_below : (edge v : ℤ) → int_le edge v ≡ false → int_lt v edge ≡ true
+is_below edge v h = grind (arith, ints)
+
+pub one_not_below : (a b : Bool) → b ≡ false → (a && b) ≡ false
+one_not_below true b f = f
+one_not_below false b f = refl
+
+-- the entries of a node that is thinned, up to an index: those that stay, those that go, and those ahead
+pub record RemovesExpired (edge before last : ℤ) (es now : List Entry) (out : List Item) (from to index kept : ℕ) : Type 0 where
+  pub counted : kept + length out ≡ index
+  pub same_length : length now ≡ length es
+  pub ahead : drop index now ≡ drop index es
+  pub last_is : last_version last (run es index to) ≡ last_version before (run es from to)
+  pub stayed : map item_of (take kept now) ++ unexpired edge last (map item_of (run es index to))
+      ≡ map item_of (take from es) ++ unexpired edge before (map item_of (run es from to))
+  pub went : out ++ expired edge last (map item_of (run es index to)) ≡ expired edge before (map item_of (run es from to))
+
+-- the next entry
+next_of : (es now : List Entry) (index to : ℕ) (e : Entry) → index < to → to ≤ length es → length now ≡ length es
+    → drop index now ≡ drop index es → e ≡ get_or now index e
+    → (run es index to ≡ e ∷ run es (index + 1) to) × (drop (index + 1) now ≡ drop (index + 1) es)
+next_of es now index to e lt within same ahead is =
+    let inside : index < length es = omega arith in
+    let inside_now : index < length now = omega arith in
+    let one : index + 1 ≡ suc index = omega arith in
+    let a = drop-cons now index e inside_now in
+    let b = drop-cons es index e inside in
+    let both : get_or now index e ∷ drop (suc index) now ≡ get_or es index e ∷ drop (suc index) es = sym a ∙ ahead ∙ b in
+    let head : get_or now index e ≡ get_or es index e = cc in
+    let tail : drop (suc index) now ≡ drop (suc index) es = cc in
+    let count : to - index ≡ suc (to - (index + 1)) = omega arith in (
+      ap (λ n. take n (drop index es)) count ∙ ap (take (suc (to - (index + 1)))) b
+          ∙ ap (λ x. x ∷ take (to - (index + 1)) (drop (suc index) es)) (sym (is ∙ head))
+          ∙ ap (λ n. e ∷ take (to - (index + 1)) (drop n es)) (sym one),
+      ap (λ n. drop n now) one ∙ tail ∙ ap (λ n. drop n es) (sym one),
+    )
+
+module _ (edge before last : ℤ) (es now : List Entry) (out : List Item) (from to index kept : ℕ) (e : Entry) (t : RemovesExpired edge before last es now out from to index kept)
+    (lt : index < to) (within : to ≤ length es) (is : e ≡ get_or now index e) where
+  -- an entry stays
+  pub one_stays : (int_lt last edge && int_lt e.version edge) ≡ false
+      → RemovesExpired edge before e.version es (set now kept e) out from to (index + 1) (kept + 1)
+  one_stays f =
+      let n = next_of es now index to e lt within t.same_length t.ahead is in
+      let rest = run es (index + 1) to in
+      let s = stays edge last (item_of e) (map item_of rest) f in
+      let inside : kept < length now = omega (arith, t.counted, t.same_length) in
+      let front = map item_of (take kept now) in
+      let taken : map item_of (take (kept + 1) (set now kept e)) ≡ front ++ item_of e ∷ [] =
+      ap (map item_of) (take_more_set now kept e inside) ∙ map-append item_of (take kept now) (e ∷ []) in
+      record {
+        counted = omega (arith, t.counted);
+        same_length = length-set now kept e ∙ t.same_length;
+        ahead = drop-set-lt (index + 1) now kept e (omega (arith, t.counted)) ∙ n.1;
+        last_is = ap (last_version last) (sym n.0) ∙ t.last_is;
+        stayed = ap (λ l. l ++ unexpired edge e.version (map item_of rest)) taken
+            ∙ append_assoc front (item_of e ∷ []) (unexpired edge e.version (map item_of rest))
+            ∙ ap (λ l. front ++ l) (sym s.0) ∙ ap (λ l. front ++ unexpired edge last (map item_of l)) (sym n.0) ∙ t.stayed;
+        went = ap (λ l. out ++ l) (sym s.1) ∙ ap (λ l. out ++ expired edge last (map item_of l)) (sym n.0) ∙ t.went;
+      }
+
+  -- an entry goes
+  pub one_goes : (int_lt last edge && int_lt e.version edge) ≡ true
+      → RemovesExpired edge before e.version es now (out ++ item_of e ∷ []) from to (index + 1) kept
+  one_goes g =
+      let n = next_of es now index to e lt within t.same_length t.ahead is in
+      let rest = run es (index + 1) to in
+      let s = goes edge last (item_of e) (map item_of rest) g in
+      let front = map item_of (take kept now) in
+      let more = expired edge e.version (map item_of rest) in
+      record {
+        counted = omega (arith, t.counted, length-append out (item_of e ∷ []));
+        same_length = t.same_length;
+        ahead = n.1;
+        last_is = ap (last_version last) (sym n.0) ∙ t.last_is;
+        stayed = ap (λ l. front ++ l) (sym s.0) ∙ ap (λ l. front ++ unexpired edge last (map item_of l)) (sym n.0) ∙ t.stayed;
+        went = append_assoc out (item_of e ∷ []) more ∙ ap (λ l. out ++ l) (sym s.1)
+            ∙ ap (λ l. out ++ expired edge last (map item_of l)) (sym n.0) ∙ t.went;
+      }
+
+module _ (edge before last : ℤ) (es now : List Entry) (out : List Item) (from to index kept : ℕ) (t : RemovesExpired edge before last es now out from to index kept)
+    (end : index ≡ to) (within : to ≤ length es) where
+  none_ahead : run es index to ≡ []
+  none_ahead = let none : to - index ≡ 0 = omega arith in ap (λ n. take n (drop index es)) none
+
+  -- at the end of the run
+  pub last_seen : from < to → IsLast last (map version_of (run es from to))
+  last_seen some =
+      let many : 0 < length (run es from to) = omega (arith, length-take-le (to - from) (drop from es) (omega (arith, length-drop from es))) in
+      let is : last ≡ last_version before (run es from to) = ap (last_version last) (sym none_ahead) ∙ t.last_is in
+      subst (λ v. IsLast v (map version_of (run es from to))) (sym is) (last_of before (run es from to) many)
+
+  pub all_kept : (after : List Entry) → after ≡ take kept now ++ drop to now
+      → map item_of after ≡ map item_of (take from es) ++ (unexpired edge before (map item_of (run es from to)) ++ map item_of (drop to es))
+  all_kept after is =
+      let front = map item_of (take kept now) in
+      let first : front ≡ map item_of (take from es) ++ unexpired edge before (map item_of (run es from to)) =
+      sym (append-nil front) ∙ ap (λ l. front ++ unexpired edge last (map item_of l)) (sym none_ahead) ∙ t.stayed in
+      let behind : drop to now ≡ drop to es = subst (λ n. drop n now ≡ drop n es) end t.ahead in
+      ap (map item_of) is ∙ map-append item_of (take kept now) (drop to now)
+      ∙ ap (λ l. l ++ map item_of (drop to now)) first ∙ ap (λ l. (map item_of (take from es) ++ unexpired edge before (map item_of (run es from to))) ++ map item_of l) behind
+      ∙ append_assoc (map item_of (take from es)) (unexpired edge before (map item_of (run es from to))) (map item_of (drop to es))
+
+  -- Those that went are all that go.
+  pub all_expired : out ≡ expired edge before (map item_of (run es from to))
+  all_expired = sym (append-nil out) ∙ ap (λ l. out ++ expired edge last (map item_of l)) (sym none_ahead) ∙ t.went

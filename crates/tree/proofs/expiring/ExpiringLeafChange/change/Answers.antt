@@ -1,0 +1,166 @@
+use Rattle.std.proofs.Common.{rules, Option, Some, false, not, is_some, ℕ, ℤ, ◌≡◌, ◌≢◌, ◌≤◌, ◌<◌, ◌+◌, ◌-◌, ◌∙◌, ◌++◌, ap, sym, subst, refl, List, [], None, length, take, drop, map, arith, to_z, of_z, w64}
+use Rattle.std.proofs.lemmas.Int.{to_z-of_z}
+use Rattle.tree.specs.declared.entry.Entry.{Entry}
+use Rattle.tree.specs.declared.node.Node.{Node}
+use Rattle.tree.specs.declared.walk.Outcome.TheVariants.{Changed}
+use Rattle.tree.specs.Heads.{IsPrefixLenAt}
+use Rattle.tree.specs.Item.{Item, item_of}
+use Rattle.tree.specs.Node.{entries_of, items_of_run}
+use Rattle.tree.specs.Path.{IsPartitioned, items_below}
+use Rattle.tree.specs.Subtree.{entries_at}
+use Rattle.tree.specs.Expire.{RemovesExpired}
+use Rattle.tree.specs.Tree.{unexpired, expired}
+use Rattle.tree.proofs.ChangedLeaf.{leaf_put}
+use Rattle.tree.proofs.Headed.{headed_at}
+use Rattle.tree.proofs.LastRun.{leaf_unexpired, untouched}
+use Rattle.tree.proofs.Leaves.{entries_of_partitioned}
+use Rattle.tree.proofs.Placing.{entries_from_header, put_entries}
+use Rattle.tree.proofs.Removing.{run}
+use Rattle.tree.proofs.WrittenLeaf.{items_parted, some_item}
+use Rattle.tree.proofs.expiring.ExpiringLeafChange.change.Given as given
+use Rattle.tree.proofs.expiring.ExpiringLeafChange.change.Goals as goal
+use Rattle.tree.proofs.expiring.ExpiringLeafChange.change.Goals.{After-header-leaf, After-remove_expired-self}
+
+-- the entries of the leaf
+entries_are : (g : given.Over) (c : After-header-leaf g)
+    → entries_at c.args.nodes.now c.args.slot ≡ entries_of c.header-leaf.result
+entries_are g c =
+    entries_from_header c.args.nodes.now c.args.slot c.header-leaf.result c.header-leaf.ensures.header
+
+partitioned_is : (g : given.Over) (c : After-header-leaf g)
+    → IsPartitioned (λ (e : Entry). g.P.Bound.below c.args.self.now.bound.now e.key) (entries_of c.header-leaf.result)
+partitioned_is g c =
+    let p = g.P.Bound.below c.args.self.now.bound.now in
+    subst (λ es. IsPartitioned (λ (e : Entry). p e.key) es) (entries_are g c)
+    (entries_of_partitioned p (entries_at c.args.nodes.now c.args.slot) c.requires.searched.partitioned)
+
+pub count-items_below-requires : goal.count-items_below-requires
+count-items_below-requires g c =
+    let h = (goal.at.count-items_below-requires g c).After-header-leaf in
+    let bound = c.args.self.now.bound.now in
+    let es = entries_of c.header-leaf.result in
+    let some : 0 < length es =
+    omega (arith, ap (λ (es : List Entry). length es) (entries_are g h), c.requires.changeable.some) in
+    let known =
+    subst (λ es. IsPrefixLenAt (g.P.Bound.bytes bound) (g.P.Bound.below bound) (g.P.Bound.target bound)
+    c.args.place.common_prefix_len es 0) (entries_are g h) c.requires.searched.known in (
+      omega (arith, c.requires.changeable.few),
+      (
+        record {
+          headed = headed_at (g.P.Bound.bytes bound) c.args.nodes.now c.args.slot c.header-leaf.result c.requires.searched.headed
+              c.header-leaf.ensures.header;
+          partitioned = partitioned_is g h;
+          some = some;
+        },
+        known,
+      ),
+    )
+
+-- Where no entry passes, no item does.
+pub returns-then-items_below-eq0-clause-items : goal.returns-then-items_below-eq0-clause-items
+returns-then-items_below-eq0-clause-items g c =
+    let h = (goal.at.returns-then-items_below-eq0-clause-items g c).After-header-leaf in
+    let p = g.P.Bound.below c.args.self.now.bound.now in
+    let es = entries_of c.header-leaf.result in
+    let none : items_below p (map item_of es) ≡ [] =
+    (items_parted p es 0 (partitioned_is g h) (omega (arith, c.lower_bound-items_below.ensures.count.count_is, c.if-items_below-eq0.true))).0 in (
+      λ _. (refl, ap items_of_run c.requires.none_taken),
+      λ some. absurd (some (ap (λ es. items_below p (map item_of es)) (entries_are g h) ∙ none)),
+    )
+
+-- Where there is no node of those that went, none went.
+no_run : {N : ℕ} (run : Option (Node N)) → is_some run ≡ false → items_of_run run ≡ []
+no_run None none = refl
+no_run (Some n) none = absurd (cc)
+
+-- where the run stands that is looked at
+module _ (g : given.Over) (c : After-remove_expired-self g) where
+  abbrev es : List Entry
+  es = entries_of c.header-leaf.result
+
+  abbrev begin : ℕ
+  begin = c.lower_bound-items_below.result - 1
+
+  abbrev end : ℕ
+  end = c.lower_bound-items_below.result - 1 + c.min.result
+
+  abbrev looked : List Item
+  looked = map item_of (run es begin end)
+
+  abbrev edge : ℤ
+  edge = to_z w64 (of_z w64 c.args.self.now.edge)
+
+  abbrev before : ℤ
+  before = to_z w64 (of_z w64 c.args.self.now.before)
+
+  edge_is : edge ≡ c.args.self.now.edge
+  edge_is = to_z-of_z w64 c.args.self.now.edge (search rules)
+
+  before_is : before ≡ c.args.self.now.before
+  before_is = to_z-of_z w64 c.args.self.now.before (search rules)
+
+  some_looked : begin < end
+  some_looked = omega (arith, c.min.ensures, c.args.self.now.some, c.len.ensures.len, c.lower_bound-items_below.ensures.count.within, c.if-items_below-eq0.false)
+
+  within : end ≤ length es
+  within = omega (arith, c.min.ensures, c.len.ensures.len, c.lower_bound-items_below.ensures.count.within)
+
+  -- what becomes of the items of the leaf
+  unexpired_items : (partitioned : IsPartitioned (λ (e : Entry). g.P.Bound.below c.args.self.now.bound.now e.key) es)
+      → entries_at c.args.nodes.now c.args.slot ≡ es → (now : List Item)
+      → now ≡ map item_of (take begin es) ++ (unexpired edge before looked ++ map item_of (drop end es))
+      → RemovesExpired (g.P.Bound.below c.args.self.now.bound.now) c.args.self.now.count c.args.self.now.edge
+      c.args.self.now.before c.remove_expired-self.result (items_of_run c.remove_expired-self.new.taken) c.args.place.behind
+      (map item_of (entries_at c.args.nodes.now c.args.slot)) now
+  unexpired_items partitioned read now now_is =
+      let t = c.args.self.now in
+      let p = g.P.Bound.below t.bound.now in
+      let told = c.remove_expired-self.ensures in
+      let Removal : ℤ → ℤ → List Entry → Type 0 = λ edge before es.
+      RemovesExpired p t.count edge before c.remove_expired-self.result (items_of_run c.remove_expired-self.new.taken) c.args.place.behind
+      (map item_of es) now in
+      subst (Removal t.edge t.before) (sym read)
+      (subst (λ b. Removal t.edge b es) before_is
+      (subst (λ e. Removal e before es) edge_is
+      (leaf_unexpired es begin end some_looked within p partitioned
+      (omega (arith, c.lower_bound-items_below.ensures.count.count_is, c.if-items_below-eq0.false)) t.count edge before c.remove_expired-self.result
+      (items_of_run c.remove_expired-self.new.taken) c.args.place.behind now (omega (arith, c.min.ensures)) told.looked_at told.last
+      now_is told.taken told.next)))
+
+-- Where none goes, all stay.
+pub returns-then-is_none-clause-items : goal.returns-then-is_none-clause-items
+returns-then-is_none-clause-items g c =
+    let at = goal.at.returns-then-is_none-clause-items g c in
+    let t = at.After-remove_expired-self in
+    let h = at.After-header-leaf in
+    let out = no_run c.remove_expired-self.new.taken (c.is_none.ensures ∙ ap not c.if-is_none.true) in
+    let expired_is : expired (edge g t) (before g t) (looked g t) ≡ [] = sym c.remove_expired-self.ensures.taken ∙ out in
+    let same = ap (map item_of) (entries_are g h)
+    ∙ untouched (es g t) (begin g t) (end g t) (some_looked g t) (within g t) (edge g t) (before g t) expired_is in
+    (λ none. (refl, out), λ some. unexpired_items g t (partitioned_is g h) (entries_are g h) (map item_of (entries_at c.args.nodes.now c.args.slot)) same)
+
+pub returns-clause-changed : goal.returns-clause-changed
+returns-clause-changed g c =
+    let bytes = g.P.Bound.bytes c.args.self.now.bound.now in
+    leaf_put bytes c.args.nodes.now c.set_header.new.self c.args.slot c.lengthen_prefix.new.self Changed
+    c.set_header.ensures.replaced c.requires.changeable c.requires.searched.headed c.lengthen_prefix.ensures.headed refl
+    (λ e. absurd (cc)) (λ version e. absurd (cc))
+
+pub returns-clause-items : goal.returns-clause-items
+returns-clause-items g c =
+    let at = goal.at.returns-clause-items g c in
+    let t = at.After-remove_expired-self in
+    let h = at.After-header-leaf in
+    let p = g.P.Bound.below c.args.self.now.bound.now in
+    let slot = c.args.slot in
+    let b = c.set_header.new.self in
+    let after : entries_at b slot ≡ entries_of c.lengthen_prefix.new.self =
+    put_entries c.args.nodes.now b slot c.lengthen_prefix.new.self c.set_header.ensures.replaced in
+    let some : items_below p (map item_of (es g t)) ≢ [] =
+    some_item p (es g t) c.lower_bound-items_below.result (omega (arith, c.if-items_below-eq0.false)) c.lower_bound-items_below.ensures.count.count_is in (
+      λ none.
+          absurd (some (ap (λ es. items_below p (map item_of es)) (sym (entries_are g h)) ∙ none)),
+      λ _.
+          unexpired_items g t (partitioned_is g h) (entries_are g h) (map item_of (entries_at b slot))
+          (ap (map item_of) (after ∙ c.lengthen_prefix.ensures.entries) ∙ c.remove_expired-self.ensures.kept),
+    )

@@ -1,0 +1,136 @@
+use Rattle.std.proofs.Common.{rules, ◌≡◌, ◌<◌, ◌≤◌, ◌++◌, ◌∷◌, [], take, drop, map, get_or, set, ℕ, ◌+◌, ◌∙◌, ap, sym, subst, true, false, List, w64, ℤ, to_z, of_z, SFits, ◌&&◌, int_lt, int_le, arith, refl, length, Option, Some, None}
+use Rattle.std.specs.Prelude.{MatchOption}
+use Rattle.std.proofs.lemmas.Int.{to_z-of_z}
+use Rattle.std.proofs.lemmas.List.{length-map}
+use Rattle.std.proofs.lemmas.Option.{slice_get_read}
+use Rattle.tree.specs.declared.entry.Entry.{Entry}
+use Rattle.tree.specs.Item.{Item, item_of}
+use Rattle.tree.specs.declared.node.Node.{Node}
+use Rattle.tree.specs.Heads.{AreHeads}
+use Rattle.tree.specs.Node.{entries_of, key_heads_of, items_of_run}
+use Rattle.tree.specs.Tree.{unexpired, expired}
+use Rattle.tree.proofs.Removing.{RemovesExpired, run, one_stays, one_goes, not_below, is_below, one_not_below, last_seen, all_kept, all_expired}
+use Rattle.tree.proofs.expiring.remove_expired.Goals as goal
+use Rattle.tree.proofs.expiring.remove_expired.Goals.{then-last-edge, else-last-edge, then-version-edge, else-version-edge}
+
+-- A run of fewer items than a node has room for isn't full.
+room_left : {N : ℕ} (run : Option (Node N)) → 1 ≤ N → length (items_of_run run) < N
+    → MatchOption run (1 ≤ N) (λ n. length (entries_of n) < N)
+room_left None some few = some
+room_left (Some n) some few = omega (arith, few, length-map (entries_of n) item_of)
+
+pub put_aside-requires : goal.put_aside-requires
+put_aside-requires g c =
+    let inv = c.loop-index.invariant.unexpired in
+    let most = c.entries.ensures.most in
+    let here = c.loop-index-test.true in
+    let within = c.requires.within in (
+      search rules,
+      room_left c.loop-index.taken (omega (arith, most, inv.same_length, within, here))
+          (omega (arith, most, inv.same_length, inv.counted, within, here)),
+    )
+
+pub loop-index-init : goal.loop-index-init
+loop-index-init g c =
+    let none : items_of_run c.args.taken.now ≡ [] = ap items_of_run c.requires.none_taken in
+    record {
+      unexpired = rw none (record {
+        counted = omega arith;
+        same_length = refl;
+        ahead = refl;
+        last_is = refl;
+        stayed = refl;
+        went = refl;
+      });
+      headed = λ bytes h. h;
+    }
+
+pub loop-index-preserved : goal.loop-index-preserved
+loop-index-preserved g c =
+    let es = entries_of c.args.node.now in
+    let now = entries_of c.loop-index.node in
+    let out = items_of_run c.loop-index.taken in
+    let edge = to_z w64 (of_z w64 c.args.edge) in
+    let before = to_z w64 (of_z w64 c.args.before) in
+    let last = to_z w64 c.loop-index.last-bits in
+    let e = c.index-entries-index.result in
+    let i = c.loop-index.index in
+    let kept = c.loop-index.kept in
+    let fits : SFits w64 e.version = search rules in
+    let same : to_z w64 (of_z w64 e.version) ≡ e.version = to_z-of_z w64 e.version fits in
+    let is = c.index-entries-index.is ∙ ap (λ (l : List Entry). get_or l i e) c.entries.ensures.entries in
+    let here : i < c.args.to = c.loop-index-test.true in
+    let Removal : List Entry → List Item → ℕ → ℤ → Type 0 = λ now out kept v. RemovesExpired edge before v es now out c.args.from c.args.to (i + 1) kept in
+    let inv = c.loop-index.invariant in
+    let within = c.requires.within in
+    let stays = one_stays edge before last es now out c.args.from c.args.to i kept e inv.unexpired here within is in
+    let goes = one_goes edge before last es now out c.args.from c.args.to i kept e inv.unexpired here within is in
+    elim c.if-version-edge.branch [
+      | then-version-edge w ↦
+          let inside : i < length now = omega (arith, inv.unexpired.same_length, within, here) in
+          let nodes : entries_of c.if-version-edge.node ≡ set now kept e =
+          ap entries_of w.node-is ∙ w.copy.ensures.entries e (slice_get_read now (length now) i e refl inside is) in
+          let outs : items_of_run c.if-version-edge.taken ≡ out = ap items_of_run w.taken-is in
+          let kept_is : c.if-version-edge.kept ≡ kept + 1 = w.kept-is in
+          let both : (int_lt last edge && int_lt e.version edge) ≡ false = elim c.if-last-edge.branch [
+            | then-last-edge u ↦ rw (not_below edge last u.if-last-edge.true) refl
+            | else-last-edge u ↦
+                let at : int_le edge (to_z w64 (of_z w64 e.version)) ≡ true = sym u.value-is ∙ w.if-version-edge.true in
+                one_not_below (int_lt last edge) (int_lt e.version edge) (not_below edge e.version (ap (int_le edge) (sym same) ∙ at))
+          ] in
+          let t : Removal (set now kept e) out (kept + 1) e.version = stays both in
+          record {
+            unexpired = rw (nodes, outs, kept_is, same) t;
+            headed = λ bytes h.
+                subst (λ (n : Node g.row.N). AreHeads bytes (key_heads_of n)) (sym w.node-is)
+                (w.copy.ensures.headed bytes (inv.headed bytes h));
+          }
+      | else-version-edge w ↦
+          let nodes : entries_of c.if-version-edge.node ≡ now = ap entries_of w.node-is in
+          let outs : items_of_run c.if-version-edge.taken ≡ out ++ item_of e ∷ [] =
+          ap items_of_run w.taken-is ∙ w.put_aside.ensures.items in
+          let kept_is : c.if-version-edge.kept ≡ kept = w.kept-is in
+          let both : (int_lt last edge && int_lt e.version edge) ≡ true = elim c.if-last-edge.branch [
+            | then-last-edge u ↦ let k : true ≡ false = sym u.if-last-edge.true ∙ sym u.value-is ∙ w.if-version-edge.false in absurd (cc)
+            | else-last-edge u ↦
+                let at : int_le edge (to_z w64 (of_z w64 e.version)) ≡ false = sym u.value-is ∙ w.if-version-edge.false in
+                let b : int_lt e.version edge ≡ true = is_below edge e.version (ap (int_le edge) (sym same) ∙ at) in
+                let a : int_lt last edge ≡ true = is_below edge last u.if-last-edge.false in
+                rw (a, b) refl
+          ] in
+          let t : Removal now (out ++ item_of e ∷ []) kept e.version = goes both in
+          record {
+            unexpired = rw (nodes, outs, kept_is, same) t;
+            headed = λ bytes h.
+                subst (λ (n : Node g.row.N). AreHeads bytes (key_heads_of n)) (sym w.node-is) (inv.headed bytes h);
+          }
+    ]
+
+pub returns-clause-last : goal.returns-clause-last
+returns-clause-last g c =
+    let end : c.loop-index.index ≡ c.args.to = omega arith in
+    last_seen _ _ _ _ _ _ _ _ _ _ c.loop-index.invariant.unexpired end c.requires.within c.requires.some
+
+pub returns-clause-kept : goal.returns-clause-kept
+returns-clause-kept g c =
+    let end : c.loop-index.index ≡ c.args.to = omega arith in
+    let edge : to_z w64 (of_z w64 c.args.edge) ≡ c.args.edge = to_z-of_z w64 c.args.edge c.ranges.edge in
+    let before : to_z w64 (of_z w64 c.args.before) ≡ c.args.before = to_z-of_z w64 c.args.before c.ranges.before in
+    let es = entries_of c.args.node.now in
+    let from = c.args.from in
+    let to = c.args.to in
+    let Kept : ℤ → ℤ → Type 0 = λ edge before. map item_of (entries_of c.remove.new.self)
+    ≡ map item_of (take from es) ++ (unexpired edge before (map item_of (run es from to)) ++ map item_of (drop to es)) in
+    subst (λ (e : ℤ). Kept e c.args.before) edge (subst (λ (b : ℤ). Kept (to_z w64 (of_z w64 c.args.edge)) b) before
+    (all_kept _ _ _ _ _ _ _ _ _ _ c.loop-index.invariant.unexpired end c.requires.within (entries_of c.remove.new.self)
+    c.remove.ensures.entries))
+
+pub returns-clause-taken : goal.returns-clause-taken
+returns-clause-taken g c =
+    let end : c.loop-index.index ≡ c.args.to = omega arith in
+    let edge : to_z w64 (of_z w64 c.args.edge) ≡ c.args.edge = to_z-of_z w64 c.args.edge c.ranges.edge in
+    let before : to_z w64 (of_z w64 c.args.before) ≡ c.args.before = to_z-of_z w64 c.args.before c.ranges.before in
+    let looked = map item_of (run (entries_of c.args.node.now) c.args.from c.args.to) in
+    let Expired : ℤ → ℤ → Type 0 = λ edge before. items_of_run c.loop-index.taken ≡ expired edge before looked in
+    subst (λ (e : ℤ). Expired e c.args.before) edge (subst (λ (b : ℤ). Expired (to_z w64 (of_z w64 c.args.edge)) b) before
+    (all_expired _ _ _ _ _ _ _ _ _ _ c.loop-index.invariant.unexpired end c.requires.within))

@@ -1,0 +1,58 @@
+use Rattle.std.proofs.Common.{◌≡◌, ◌<◌, ◌+◌, ◌∙◌, ℕ, length, get_or, take, min, All, ap, sym, subst, arith}
+use Rattle.std.proofs.Math.Nat.{min-le_left}
+use Rattle.std.proofs.lemmas.List.{get_or-map, length-map, take_all}
+use Rattle.tree.specs.declared.entry.Entry.{Entry}
+use Rattle.tree.specs.Node.{keys_of}
+use Rattle.tree.proofs.HeadChanges.{BeginsAsFirst, begin_of_first, first_empty, first_more}
+use Rattle.tree.proofs.node.heads.keys_prefix_len.Goals as goal
+use Rattle.tree.proofs.node.heads.keys_prefix_len.Goals.{then-not-is_empty, else-not-is_empty}
+
+pub loop-entry-init : goal.loop-entry-init
+loop-entry-init g c = record { most = omega (arith, c.from-count.ensures); common = λ k d inside. absurd (omega (arith, inside)) }
+
+pub loop-entry-preserved : goal.loop-entry-preserved
+loop-entry-preserved g c =
+    let bytes = g.P.Bound.bytes c.args.bound.now in
+    let xs = c.args.entries.now in
+    let keys = keys_of xs in
+    let key : Entry → ℕ = λ x. x.key in
+    let i = c.loop-entry.entry-index in
+    let count = c.loop-entry.count in
+    let inv = c.loop-entry.invariant in
+    let e = c.entry-item.result in
+    let inside : i < length xs = c.loop-entry-test.true in
+    let inside_keys : i < length keys = omega (arith, inside, length-map xs key) in
+    let here : e.key ≡ get_or keys i e.key = sym (get_or-map key xs i e e.key inside ∙ ap key (sym c.entry-item.is)) in
+    elim c.if-not-is_empty.branch [
+      | then-not-is_empty w ↦
+          let less : min count w.common.result ≡ c.if-not-is_empty.count = sym {b = min count w.common.result} (w.count-is ∙ w.min-count.ensures) in
+          record {
+            most = omega (arith, inv.most, less, min-le_left count w.common.result);
+            common = subst (λ n. All (BeginsAsFirst bytes c.args.key n) (take (i + 1) keys)) less
+                (first_more bytes c.args.key count w.common.result i keys e.key inside_keys here w.common.ensures.same
+                w.common.ensures.within inv.common);
+          }
+      | else-not-is_empty w ↦ record {
+        most = omega (arith, inv.most, w.count-is);
+        common = subst (λ n. All (BeginsAsFirst bytes c.args.key n) (take (i + 1) keys)) (sym w.count-is)
+            (first_empty bytes c.args.key count i keys e.key inside_keys here
+            (λ b other. (c.is_empty.ensures.empty b other).0 w.if-not-is_empty.false) inv.common);
+      }
+    ]
+
+pub overflow_cast-result : goal.overflow_cast-result
+overflow_cast-result g c = omega (arith, c.loop-entry.invariant.most)
+
+pub returns : goal.returns
+returns g c =
+    let bytes = g.P.Bound.bytes c.args.bound.now in
+    let keys = keys_of c.args.entries.now in
+    let count = c.loop-entry.count in
+    let size = length-map c.args.entries.now (λ (x : Entry). x.key) in
+    let common : All (BeginsAsFirst bytes c.args.key count) keys =
+    subst (All (BeginsAsFirst bytes c.args.key count)) (take_all c.loop-entry.entry-index keys (omega (arith, size, c.loop-entry-test.false)))
+    c.loop-entry.invariant.common in
+    record {
+      begin = λ text is. begin_of_first bytes c.args.key count keys c.requires.there c.requires.known common text is
+          (c.requires.filled text is);
+    }

@@ -1,0 +1,20 @@
+use Rattle.std.proofs.Common.{length, sym, ◌∙◌, ap, length-take-le, rules}
+use Rattle.std.proofs.lemmas.List.Sorted.{IsPartitionPoint-from_clause}
+use Rattle.tree.specs.declared.entry.Entry.{Entry}
+use Rattle.tree.proofs.callers.Partitions.{partitioned, parted_at}
+use Rattle.tree.proofs.search.lower_bound.Goals as goal
+
+pub returns : goal.returns
+returns g c =
+    let p = λ (e : Entry). g.P.Bound.below c.args.bound.now e.key in
+    let es = c.args.entries.now in
+    let point = IsPartitionPoint-from_clause p es _ c.partition_point.ensures.partitioned
+    (partitioned p es c.requires.partitioned)
+    (λ a r q k. search rules) in
+    let parts = parted_at p es _ c.partition_point.ensures.bound point in
+    record {
+      within = c.partition_point.ensures.bound;
+      first = parts.0;
+      rest = parts.1;
+      count = sym (length-take-le _ es c.partition_point.ensures.bound) ∙ ap length parts.0;
+    }

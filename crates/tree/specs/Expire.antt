@@ -1,0 +1,31 @@
+-- What becomes of a run of items that is thinned. This project's own.
+use Rattle.std.specs.Prelude.{◌≡◌, ◌≢◌, ◌≤◌, ◌++◌, ◌∷◌, ℕ, ℤ, Bool, List, [], length, map, Option}
+use Rattle.tree.specs.declared.expiring.Removal.{Removal}
+use Rattle.tree.specs.Item.{Item}
+use Rattle.tree.specs.Path.{items_below, behind, first_key}
+use Rattle.tree.specs.Tree.{IsLast, unexpired, expired}
+
+-- A run of items was looked at that begins with the last one that passes. Those that tell nothing at or above the edge are
+-- gone: each whose version and predecessor's version are below it. `before` is the version of the item before the run, and
+-- `next` the key of the first item behind all of these.
+pub record RemovesExpired (is_below : ℕ → Bool) (count : ℕ) (edge before : ℤ) (removal : Removal) (run : List Item) (next : Option ℕ)
+    (was now : List Item) : Type 0 where
+  pub front : List Item
+  pub first : Item
+  pub looked : List Item
+  pub rest : List Item
+  pub front_is : items_below is_below was ≡ front ++ first ∷ []
+  pub looked_is : first ∷ behind is_below was ≡ looked ++ rest
+  pub looked_at : length looked ≡ removal.looked_at
+  pub some : 1 ≤ removal.looked_at
+  pub few : removal.looked_at ≤ count
+  pub now_is : now ≡ front ++ (unexpired edge before looked ++ rest)
+  pub run_is : run ≡ expired edge before looked
+  pub last : IsLast removal.last (map (λ x. x.version) looked)
+  pub next_is : removal.next ≡ first_key next rest
+
+-- That of the items of a leaf, if one of them passes.
+abbrev pub GivesUnexpired : (ℕ → Bool) → ℕ → ℤ → ℤ → Removal → List Item → Option ℕ → List Item → List Item → Type 0
+GivesUnexpired is_below count edge before removal run next was now =
+    ((items_below is_below was ≡ []) → (now ≡ was) × (run ≡ []))
+    × ((items_below is_below was ≢ []) → RemovesExpired is_below count edge before removal run next was now)

@@ -1,0 +1,87 @@
+-- What nodes know of the bytes of keys. This project's own.
+use Rattle.std.specs.Prelude.{◌≡◌, ◌⊎◌, ◌≤◌, ◌↔◌, ℕ, Bool, true, false, List, [], length, map, take, drop, Option, Some, slice_get, unwrap_or, IfSome, MatchOption}
+use Rattle.std.specs.List.{All, Contains}
+use Rattle.keys.specs.Key.{IsBytes, IsBefore}
+use Rattle.keys.specs.Head.{head_of}
+use Rattle.tree.specs.declared.entry.Entry.{Entry}
+
+-- the bytes of keys, of those that are known
+abbrev pub KeyBytes : Type 0
+KeyBytes = ℕ → Option (List ℕ)
+
+-- the bytes of this key are known
+pub record IsKnown (bytes : KeyBytes) (key : ℕ) : Type 0 where
+  pub text : List ℕ
+  pub known : bytes key ≡ Some text
+  pub are_bytes : IsBytes text
+
+-- the key is known, and begins with these bytes unless it is empty
+pub record Begins (bytes : KeyBytes) (beginning : List ℕ) (key : ℕ) : Type 0 where
+  pub text : List ℕ
+  pub known : bytes key ≡ Some text
+  pub are_bytes : IsBytes text
+  pub begins : (text ≡ []) ⊎ (take (length beginning) text ≡ beginning)
+
+-- the head of what stands in a key behind so many bytes
+abbrev pub head_behind : ℕ → List ℕ → ℕ
+head_behind prefix_len text = head_of (drop prefix_len text)
+
+-- that of a key
+abbrev pub head_at : KeyBytes → ℕ → ℕ → ℕ
+head_at bytes prefix_len key = head_behind prefix_len (unwrap_or (bytes key) [])
+
+-- what a node knows: its keys, with how many bytes all of them but an empty one begin, and the head of each behind these
+pub record KeyHeads : Type 0 where
+  pub keys : List ℕ
+  pub prefix_len : ℕ
+  pub heads : List ℕ
+
+-- what it knows is right
+pub record AreHeads (bytes : KeyBytes) (key_heads : KeyHeads) : Type 0 where
+  pub beginning : List ℕ
+  pub prefix_len : length beginning ≡ key_heads.prefix_len
+  pub begins : All (Begins bytes beginning) key_heads.keys
+  pub heads : key_heads.heads ≡ map (head_at bytes key_heads.prefix_len) key_heads.keys
+
+-- what each node knows is right
+abbrev pub AllAreHeads : KeyBytes → (ℕ → Option KeyHeads) → Type 0
+AllAreHeads bytes all_heads = (s : ℕ) → IfSome (all_heads s) (AreHeads bytes)
+
+-- Whether a key passes goes by its bytes and by those that are looked for.
+pub record IsBelowInOrder (text target : List ℕ) (is_below : Bool) : Type 0 where
+  pub before : IsBefore text target → is_below ≡ true
+  pub behind : IsBefore target text → is_below ≡ false
+
+-- The two begin alike as far as so many bytes, or to the end of the first one.
+abbrev pub HaveCommonPrefix : ℕ → List ℕ → List ℕ → Type 0
+HaveCommonPrefix shared text target = (count : ℕ) → count ≤ length text → count ≤ shared → take count text ≡ take count target
+
+-- They begin alike just as far.
+abbrev pub IsCommonPrefixLen : ℕ → List ℕ → List ℕ → Type 0
+IsCommonPrefixLen shared text target = (count : ℕ) → count ≤ length text → (count ≤ shared) ↔ (take count text ≡ take count target)
+
+-- What is known of a key: how far it and what is looked for begin alike, or that it doesn't pass.
+abbrev pub IsPrefixLen : KeyBytes → (ℕ → Bool) → List ℕ → Option ℕ → ℕ → Type 0
+IsPrefixLen bytes is_below target known key =
+    MatchOption known (is_below key ≡ false)
+    (λ shared. (is_below key ≡ true) × ((text : List ℕ) → bytes key ≡ Some text → IsCommonPrefixLen shared text target))
+
+-- what is known of the key of the entry at an index
+abbrev pub IsPrefixLenAt : KeyBytes → (ℕ → Bool) → List ℕ → Option ℕ → List Entry → ℕ → Type 0
+IsPrefixLenAt bytes is_below target known entries index =
+    (e : Entry) → slice_get entries index ≡ Some e → IsPrefixLen bytes is_below target known e.key
+
+-- What is looked for begins as all keys of the node do: as one of them that is long enough, so far as the node tells.
+pub record HasPrefix (bytes : KeyBytes) (key_heads : KeyHeads) (target : List ℕ) : Type 0 where
+  pub key : ℕ
+  pub text : List ℕ
+  pub there : Contains key_heads.keys key
+  pub known : bytes key ≡ Some text
+  pub long : key_heads.prefix_len ≤ length text
+  pub same : take key_heads.prefix_len text ≡ take key_heads.prefix_len target
+
+-- The head of what is looked for, which begins as all keys do.
+pub record IsTargetHead (bytes : KeyBytes) (key_heads : KeyHeads) (target : List ℕ) (head : ℕ) : Type 0 where
+  pub agrees : HasPrefix bytes key_heads target
+  pub head_is : head ≡ head_behind key_heads.prefix_len target
+  pub are_bytes : IsBytes target

@@ -1,0 +1,142 @@
+//! A run of items thinned: those that tell nothing any more are taken out.
+
+ghost use Rattle.std.specs.Prelude.{◌≡◌, ◌-◌, ◌≤◌, ◌<◌, ◌++◌, ◌∷◌, [], take, drop, length, map, IsSomeAnd, MatchOption};
+ghost use Rattle.tree.specs.Item.{item_of, version_of};
+ghost use Rattle.tree.specs.Heads.{AreHeads, KeyBytes};
+ghost use Rattle.tree.specs.Node.{entries_of, key_heads_of, items_of_run};
+ghost use Rattle.tree.specs.Path.{first_key};
+ghost use Rattle.tree.specs.Expire.{GivesUnexpired};
+ghost use Rattle.tree.specs.Tree.{IsLast, unexpired, expired};
+
+use crate::entry::Entry;
+use crate::node::Node;
+use crate::bound::Bound;
+use crate::search::key_at;
+use crate::walk::{LeafChange, Outcome, Place};
+use arena::{Arena, Slot};
+
+/// How the thinning of a run ended.
+#[derive(Clone, Copy, Debug)]
+pub struct Removal {
+    /// How many items were looked at.
+    pub looked_at: usize,
+    /// The version of the last of them.
+    pub last: i64,
+    /// The key of the item behind those that were looked at, if there is one.
+    pub next: Option<Slot>,
+}
+
+/// A run of a leaf's items that begins with the last one that passes, to be thinned.
+#[derive(Debug, Drop)]
+pub struct Expiring<'a, P: Bound> {
+    pub bound: &'a P,
+    /// How many items are looked at, at most: at least one.
+    pub count: usize,
+    pub edge: i64,
+    /// The version of the item before the run.
+    pub before: i64,
+    /// How it ended.
+    pub removal: Removal,
+    ghost some: { 1 ≤ count },
+}
+
+impl<'a, P: Bound, const N: usize> LeafChange<N> for Expiring<'a, P> {
+    type LeafBound = P;
+
+    ghost bound_of = { λ t. t.bound.now };
+
+    ghost wants = { λ t items. Unit {0} };
+
+    ghost gives = { λ t done run is_first next was now.
+        GivesUnexpired (P.below t.bound.now) t.count t.edge t.before done.removal run next was now };
+
+    fn leaf_bound(&self) -> &P {
+        self.bound
+    }
+
+    fn change(
+        &mut self,
+        nodes: &mut Arena<Node<N>>,
+        slot: Slot,
+        place: Place,
+        taken: &mut Option<Node<N>>,
+    ) -> Outcome {
+        let mut leaf = nodes.header(slot);
+        let passing = leaf.lower_bound(self.bound, place.common_prefix_len);
+        if passing == 0 {
+            return Outcome::Same;
+        }
+        let begin = passing - 1;
+        let end = begin + self.count.min(leaf.len() - begin);
+        let Expiring { edge, before, .. } = *self;
+        self.removal = remove_expired(&mut leaf, begin, end, edge, before, place.behind, taken);
+        if taken.is_none() {
+            return Outcome::Same;
+        }
+        leaf.lengthen_prefix(self.bound);
+        nodes.set_header(slot, leaf);
+        Outcome::Changed
+    }
+
+    ghost part = { λ t before items behind wanted. wanted };
+}
+
+/// Looks at the entries of a leaf from one index up to another, and takes out each whose version and predecessor's
+/// version are below `edge`, into `taken`. `before` is the version of the entry before the first of them, and `behind` the key
+/// of the item behind the leaf.
+fn remove_expired<const N: usize>(
+    node: &mut Node<N>,
+    from: usize,
+    to: usize,
+    edge: i64,
+    before: i64,
+    behind: Option<Slot>,
+    taken: &mut Option<Node<N>>,
+) -> Removal
+    requires none_taken { taken.old ≡ None }
+    requires some { from < to }
+    requires within { to ≤ length (entries_of node.old) }
+    ensures looked_at { result.looked_at ≡ to - from }
+    ensures last { IsLast result.last (map version_of (take (to - from) (drop from (entries_of node.old)))) }
+    ensures kept { map item_of (entries_of node.new) ≡ map item_of (take from (entries_of node.old))
+        ++ (unexpired edge before (map item_of (take (to - from) (drop from (entries_of node.old))))
+        ++ map item_of (drop to (entries_of node.old))) }
+    ensures taken { items_of_run taken.new ≡ expired edge before (map item_of (take (to - from) (drop from (entries_of node.old)))) }
+    ensures next { result.next ≡ first_key behind (map item_of (drop to (entries_of node.old))) }
+    ensures headed { (bytes : KeyBytes) → AreHeads bytes (key_heads_of node.old) → AreHeads bytes (key_heads_of node.new) }
+{
+    let mut last = before;
+    let mut kept = from;
+    for index in from..to {
+        let entry = node.entries()[index];
+        let version = entry.version;
+        if last >= edge || version >= edge {
+            node.copy(index, kept);
+            kept += 1;
+        } else {
+            put_aside(taken, entry);
+        }
+        last = version;
+    }
+    let next = key_at(node.entries(), to, behind);
+    node.remove(kept, to);
+    Removal {
+        looked_at: to - from,
+        last,
+        next,
+    }
+}
+
+// Puts an entry behind those of a node, or into a new one where there is none.
+fn put_aside<const N: usize>(node: &mut Option<Node<N>>, entry: Entry)
+    requires room { MatchOption node.old (1 ≤ N) (λ n. length (entries_of n) < N) }
+    ensures items { items_of_run node.new ≡ items_of_run node.old ++ item_of entry ∷ [] }
+{
+    match node {
+        Some(node) => {
+            let len = node.len();
+            node.insert(len, entry);
+        }
+        None => *node = Some(Node::of(entry)),
+    }
+}
