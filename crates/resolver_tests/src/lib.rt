@@ -1,6 +1,7 @@
 //! Tests of the conflict set and of the resolver, by their public calls alone.
 //!
 //! `set` and `scan` resolve batches by a conflict set: by hand, and at random beside a plain scan of all committed writes.
+//! `set_stops` has one that is refused memory.
 //! `cores` plays the worked rows of `rows` over a core, `rows_over_lanes` the same over lanes of one, and `lanes` those that are of
 //! lanes alone; `serving` has those of two proxies served in one thread. `shares` has two proxies send up to their share and beyond it.
 //! `calls_without_waiting` makes each call over lanes where nothing can wait. `refusals` prints each stop and each refusal.
@@ -37,5 +38,7 @@ mod service;
 mod serving;
 #[cfg(test)]
 mod set;
+#[cfg(test)]
+mod set_stops;
 #[cfg(test)]
 mod shares;

@@ -18,7 +18,7 @@ use Rattle.stepmap.proofs.Partitioning.{stored_partitioned}
 use Rattle.stepmap.proofs.LastFound.{some_is_below}
 use Rattle.stepmap.proofs.LastAndInside.{above_told}
 
--- what the tree is asked between two cuts
+-- what the tree is asked between two bounds
 abbrev pub BoundQuestion : Type 0
 BoundQuestion = Question KeyBound KeyBound ghosts ghosts
 
@@ -26,11 +26,11 @@ BoundQuestion = Question KeyBound KeyBound ghosts ghosts
 abbrev pub Asks : Arena (Unit {0}) → Range × ℤ → BoundQuestion → Type 0
 Asks keys a q = AsksFor keys a.0 q.from q.to × (q.version ≡ a.1)
 
--- whether the key of a slot comes before the cut
+-- whether the key of a slot comes before the bound
 abbrev pub is_below : KeyBound → ℕ → Bool
 is_below partitioned = slot_is_below partitioned.keys.now partitioned.up_to partitioned.key.now
 
--- an item is above the number, among those that are looked at between two cuts
+-- an item is above the number, among those that are looked at between two bounds
 abbrev pub IsToldAbove : Items → (ℕ → Bool) → (ℕ → Bool) → ℤ → Bool → Type 0
 IsToldAbove tree from to s above = IsTrue above ↔ Any (λ (x : Item). s <ℤ x.version) (from_last from (Some to) tree.items)
 

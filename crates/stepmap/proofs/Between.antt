@@ -1,4 +1,4 @@
--- The boundaries between two cuts, and what they say of the values in a range.
+-- The boundaries between two bounds, and what they say of the values in a range.
 use Rattle.std.proofs.Common.{
   ◌≡◌,
   ℕ,
@@ -77,14 +77,14 @@ use Rattle.stepmap.proofs.GreatestFound.{
 abbrev pub inside : List ℕ → List ℕ → List Boundary → List Boundary
 inside begin end bs = filter (λ b. is_before begin b.key && is_before b.key end) bs
 
--- what comes before a cut at a key comes before each later key
+-- what comes before a bound at a key comes before each later key
 passes_sooner : (up_to : Bool) (begin end k : List ℕ) → IsBefore begin end → is_below_at up_to begin k ≡ true
     → is_before k end ≡ true
 passes_sooner true begin end k l h = at_most_before k begin end h l
 passes_sooner false begin end k l h = before_trans k begin end h l
 
 module _ {H : Type 0} (keys : Arena H) where
-  -- a slot that passes a cut at a key passes the cut before a later key
+  -- a slot that is below a bound at a key is below the bound before a later key
   pub nested : (up_to : Bool) (begin end : List ℕ) → IsBefore begin end → (slot : ℕ)
       → slot_is_below keys up_to begin slot ≡ true → slot_is_below keys false end slot ≡ true
   nested up_to begin end l slot = of_key (key_at keys slot)
@@ -94,7 +94,7 @@ module _ {H : Type 0} (keys : Arena H) where
       of_key None h = h
       of_key (Some k) h = passes_sooner up_to begin end k l h
 
-  -- one that passes the cut before a key passes the cut up to it
+  -- one that is below the bound before a key is below the bound up to it
   pub nested_around : (key : List ℕ) (slot : ℕ)
       → slot_is_below keys false key slot ≡ true → slot_is_below keys true key slot ≡ true
   nested_around key slot = of_key (key_at keys slot)
@@ -104,7 +104,7 @@ module _ {H : Type 0} (keys : Arena H) where
       of_key None h = h
       of_key (Some k) h = before_at_most_same k key h
 
-  -- the items between two cuts have the boundaries between them
+  -- the items between two bounds have the boundaries between them
   between_bounds : (tree : Items) → IsStored keys tree → (from_up_to to_up_to : Bool) (begin end : List ℕ)
       → boundaries_of keys
       (between (Some (slot_is_below keys from_up_to begin)) (Some (slot_is_below keys to_up_to end)) tree.items)

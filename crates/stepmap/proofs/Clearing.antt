@@ -19,7 +19,7 @@ use Rattle.stepmap.proofs.Order.{rise_lower, rise_swap, rising_in_order}
 use Rattle.stepmap.proofs.Values.{parted_below}
 use Rattle.stepmap.proofs.WritingValues.{begins_before_end}
 
--- two cuts, the first before the second, part a list in three
+-- two bounds, the first before the second, part a list in three
 module _ {X : Type 0} (p q : X → Bool) where
   filter_twice : ((x : X) → p x ≡ true → q x ≡ true) → (xs : List X) → filter p (filter q xs) ≡ filter p xs
   filter_twice nested [] = refl

@@ -25,7 +25,7 @@ module _ {H : Type 0} (old : Arena H) (tree : Items) (stored : IsStored old tree
   abbrev bs : List Boundary
   bs = boundaries_of old tree.items
 
-  -- where keys were placed, the items are cut as before
+  -- where keys were placed, the items are partitioned as before
   module _ (now : Arena H) (ps : List Placed) (placed : ArePlaced old now [] ps) where
     same_records : SameRecords old now tree.items
     same_records = live_same old now ps placed tree.items stored.live
@@ -40,7 +40,7 @@ module _ {H : Type 0} (old : Arena H) (tree : Items) (stored : IsStored old tree
         passes_same old now tree.items same_records up_to key k d lt
         ∙ slot_is_below_live old up_to key (get_or tree.items k d).key (stored.live k d lt)
 
-    -- what the boundaries are of the items before a cut, behind it, and between two
+    -- what the boundaries are of the items before a bound, behind it, and between two
     pub passing_are : (up_to : Bool) (key : List ℕ)
         → boundaries_of old (items_below (slot_is_below now up_to key) tree.items) ≡ filter (λ b. is_below_at up_to key b.key) bs
     passing_are up_to key =

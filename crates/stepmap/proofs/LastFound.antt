@@ -1,4 +1,4 @@
--- The last item that passes a cut, and what it says of the boundaries up to a key.
+-- The last item that is below a bound, and what it says of the boundaries up to a key.
 use Rattle.std.proofs.Common.{
   ◌≡◌,
   ◌≢◌,
@@ -115,7 +115,7 @@ module _ (key : List ℕ) (bs : List Boundary) (o : AreInOrder bs) where
         ]
 
 module _ {H : Type 0} (keys : Arena H) (tree : Items) (s : IsStored keys tree) where
-  -- some item passes a cut up to a key
+  -- some item is below a bound up to a key
   pub some_is_below : (key : List ℕ) → items_below (slot_is_below keys true key) tree.items ≢ []
   some_is_below key none =
       some_up_to key (boundaries_of keys tree.items) s.in_order
@@ -123,7 +123,7 @@ module _ {H : Type 0} (keys : Arena H) (tree : Items) (s : IsStored keys tree) w
 
   module _ (up_to : Bool) (key : List ℕ) (x : Item)
       (last : IsLast x (items_below (slot_is_below keys up_to key) tree.items)) where
-    -- the last item's boundary is the last one that passes
+    -- the last item's boundary is the last one below the bound
     pub last_boundary :
         IsLast (boundary_of keys x) (filter (λ b. is_below_at up_to key b.key) (boundaries_of keys tree.items))
     last_boundary = (

@@ -1,4 +1,4 @@
--- A cut through stored boundaries parts them as their keys say.
+-- A bound in stored boundaries parts them as their keys say.
 use Rattle.std.proofs.Common.{◌≡◌, ℕ, Bool, true, false, not, List, [], ◌∷◌, Option, None, Some, map, filter, refl, sym, ◌∙◌, ap, inl, inr, unwrap_or, Less, Equal, Greater, option_map}
 use Rattle.std.specs.Prelude.{IsSome}
 use Rattle.std.specs.List.{All}
@@ -57,7 +57,7 @@ module _ (f : Item → Boundary) (p : Item → Bool) (q : Boundary → Bool) whe
               rw (n', all.0, all.1) refl
         ]
 
--- what a comparison of a key with that of the cut tells
+-- what a comparison of a key with that of the bound tells
 module _ (up_to : Bool) (key k : List ℕ) where
   pub less_passes : slice_cmp nat_cmp k key ≡ Less → true ≡ is_below_at up_to key k
   less_passes e =
@@ -100,7 +100,7 @@ module _ {H : Type 0} (keys : Arena H) where
       → slot_is_below keys up_to key slot ≡ is_below_at up_to key k
   slot_is_below_key up_to key k slot e = ap (λ o. unwrap_or (option_map (is_below_at up_to key) o) false) e
 
-  -- what a cut does to stored boundaries
+  -- what a bound does to stored boundaries
   pub record ArePartitioned (items : List Item) (up_to : Bool) (key : List ℕ) : Type 0 where
     pub partitioned : IsPartitioned (λ x. slot_is_below keys up_to key x.key) items
     pub before : boundaries_of keys (items_below (slot_is_below keys up_to key) items)

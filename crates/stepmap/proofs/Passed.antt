@@ -1,4 +1,4 @@
--- The cut at the cursor of a sweep parts stored boundaries into those that it has passed and those that are left.
+-- The bound at the cursor of a sweep parts stored boundaries into those that it has passed and those that are left.
 use Rattle.std.proofs.Common.{◌≡◌, ◌≢◌, ℕ, Bool, not, ◌&&◌, List, [], ◌∷◌, ◌++◌, length, Option, None, Some, refl, sym, ◌∙◌, ap, inl, inr, ◌==◌, arith, unwrap_or, option_map, All, IfSome}
 use Rattle.std.specs.Prelude.{ℤ, IsSome, MatchOption}
 use Rattle.std.proofs.lemmas.Bool.{ne_eqb}
@@ -18,7 +18,7 @@ use Rattle.stepmap.proofs.Order.{not_before_empty}
 use Rattle.stepmap.proofs.Looking.{not_not, empty_passed}
 use Rattle.stepmap.proofs.Partitioning.{stored_partitioned}
 
--- the cut is up to an empty cursor, and before any other
+-- the bound is up to an empty cursor, and before any other
 pub passes_passed : (cursor : List ℕ) (b : Boundary)
     → is_below_at (length cursor == 0) cursor b.key ≡ not (is_left cursor b)
 passes_passed [] b =
@@ -68,7 +68,7 @@ module _ {H : Type 0} (keys : Arena H) where
       → last_version v (boundaries_of keys items) ≡ x.version
   last_is x items v l = ap (λ xs. last_version v (boundaries_of keys xs)) l.1 ∙ last_of l.0 x v
 
-  -- what the cut does that the code makes
+  -- what the bound does that the code makes
   pub record ArePassed (items : List Item) (up_to : Bool) (key cursor : List ℕ) : Type 0 where
     pub partitioned : IsPartitioned (λ x. slot_is_below keys up_to key x.key) items
     pub passed : boundaries_of keys (items_below (slot_is_below keys up_to key) items)

@@ -52,7 +52,7 @@ module _ {H : Type 0} (old new : Arena H) where
         (λ x. slot_is_below new up_to key x.key ≡ slot_is_below old up_to key x.key)
         (λ x e. ap (λ o. unwrap_or (option_map (is_below_at up_to key) (option_map (λ r. r.key) o)) false) e) items same
 
-    -- the same items come before a cut
+    -- the same items come before a bound
     pub partitioned_same : IsPartitioned (λ x. slot_is_below old up_to key x.key) items → IsPartitioned (λ x. slot_is_below new up_to key x.key) items
     partitioned_same partitioned =
         let p : Item → Bool = λ x. slot_is_below new up_to key x.key in

@@ -19,7 +19,7 @@ last_version-append : (before : ℤ) (bs cs : List Boundary)
 last_version-append before [] cs = refl
 last_version-append before (b ∷ bs) cs = last_version-append b.version bs cs
 
--- one part is thinned after the other
+-- one part is swept of expired items after the other
 unexpired-append : (edge before : ℤ) (bs cs : List Boundary)
     → unexpired edge before (bs ++ cs) ≡ unexpired edge before bs ++ unexpired edge (last_version before bs) cs
 unexpired-append edge before [] cs = refl

@@ -1,4 +1,4 @@
--- A run of stored boundaries is thinned that begins at a key.
+-- A run of stored boundaries is swept of expired items that begins at a key.
 use Rattle.std.proofs.Common.{◌≡◌, ◌≢◌, ℕ, ◌≤◌, Bool, true, false, not, ◌&&◌, List, [], ◌∷◌, ◌++◌, length, take, drop, map, filter, Some, None, option_map, unwrap_or, refl, sym, ◌∙◌, ap, ap₂, subst, inl, inr, arith, length-append, append_assoc, All, Any}
 use Rattle.std.specs.Prelude.{ℤ, int_lt, nat_eq, IfSome}
 use Rattle.std.specs.List.{IsDistinct}
@@ -69,7 +69,7 @@ passed_middle c xs cs before after filled =
     xs before) in
     filter-append p xs (c ∷ cs) ∙ ap (λ ys. filter p xs ++ ys) none ∙ append-nil (filter p xs) ∙ all
 
--- what is in order stays in order where a part behind the first is thinned
+-- what is in order stays in order where a part behind the first is swept of expired items
 unexpired_in_order : (edge before : ℤ) (xs ys zs : List Boundary) → xs ≢ [] → AreInOrder (xs ++ (ys ++ zs))
     → AreInOrder (xs ++ (unexpired edge before ys ++ zs))
 unexpired_in_order edge before [] ys zs some o = absurd (some refl)
@@ -91,7 +91,7 @@ last_of_versions keys (x ∷ xs) (v ∷ front) before last e =
     last_of_versions keys xs front x.version last k
 
 module _ {H : Type 0} (keys : Arena H) where
-  -- items are thinned as their boundaries are
+  -- items are swept of expired items as their boundaries are
   thin_boundaries : (edge before : ℤ) (xs : List Item)
       → boundaries_of keys (thin edge before xs) ≡ unexpired edge before (boundaries_of keys xs)
   thin_boundaries edge before [] = refl
@@ -115,7 +115,7 @@ module _ {H : Type 0} (keys : Arena H) where
 
     -- a boundary stands at the key, which isn't the empty one
     module _ (later : key ≢ []) (there : Any (λ b. b.key ≡ key) bs) where
-      -- the last item that passes is that boundary's
+      -- the last item below the bound is that boundary's
       module _ (front : List Item) (first : Item) (passing_are : items_below p tree.items ≡ front ++ first ∷ []) where
         abbrev rest : List Item
         rest = behind p tree.items
@@ -167,7 +167,7 @@ module _ {H : Type 0} (keys : Arena H) where
           let last = last_of (items_below p tree.items) (some_is_below keys tree stored key) in
           more_pass last.1.0 last.0 last.1.1
 
-      -- a run that begins there is thinned
+      -- a run that begins there is swept of expired items
       module _ (count : ℕ) (edge before : ℤ) (unexpired_by : Removal) (run : List Item) (next : Items)
           (h : RemovesExpired p count edge before unexpired_by run None tree.items next.items) where
         abbrev n : ℕ

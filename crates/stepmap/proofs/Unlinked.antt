@@ -55,7 +55,7 @@ parted_beside front items kept out rest h = record {
 pub middle_goes : (front out rest : List Item) → AreParted (front ++ (out ++ rest)) (front ++ rest) out
 middle_goes front out rest = parted_beside front out [] out rest (record { each = λ s. omega arith; count = omega arith })
 
--- a run is thinned
+-- a run is swept of expired items
 pub thin_parted : (edge before : ℤ) (items : List Item)
     → AreParted items (thin edge before items) (expired edge before items)
 thin_parted edge before [] = record { each = λ s. omega arith; count = omega arith }

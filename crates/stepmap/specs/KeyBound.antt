@@ -1,4 +1,4 @@
--- Where a key stands beside a cut through boundaries. This project's own.
+-- Where a key stands beside a bound through boundaries. This project's own.
 use Rattle.std.specs.Prelude.{◌≡◌, Some, ℕ, Bool, not, true, false, refl, if◌then◌else◌, List, option_map, unwrap_or}
 use Rattle.arena.specs.Arena.{Arena, key_at}
 use mathlib.Core.Path.{sym, ap, subst}
@@ -6,7 +6,7 @@ use Rattle.keys.specs.Key.{is_before}
 use Rattle.keys.proofs.callers.KeyOrder.{before_at_most_same}
 use Rattle.tree.specs.Heads.{IsBelowInOrder}
 
--- whether a key comes before the cut, which is up to a key or before it
+-- whether a key comes before the bound, which is up to a key or before it
 abbrev pub is_below_at : Bool → List ℕ → List ℕ → Bool
 is_below_at up_to key k = if up_to then not (is_before key k) else is_before k key
 
@@ -24,7 +24,7 @@ in_order true key text =
 in_order false key text =
     record { before = λ h. h; behind = λ h. not_if (is_before text key) (before_at_most_same key text h) }
 
--- whether the key of a slot comes before the cut goes by its bytes
+-- whether the key of a slot comes before the bound goes by its bytes
 pub is_below_in_order : {H : Type 0} (keys : Arena H) (up_to : Bool) (key : List ℕ) (slot : ℕ) (text : List ℕ)
     → key_at keys slot ≡ Some text → IsBelowInOrder text key (slot_is_below keys up_to key slot)
 is_below_in_order keys up_to key slot text is =

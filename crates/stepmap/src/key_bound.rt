@@ -11,12 +11,12 @@ use keys::{common_prefix_len, key_head};
 use std::cmp::Ordering;
 use tree::Bound;
 
-// A cut through boundaries in the order of their keys, which are records of an arena: up to a key, or before it.
+// A bound in the order of keys, for boundaries whose keys are records of an arena: up to a key, or before it.
 #[derive(Clone, Copy)]
 pub struct KeyBound<'a> {
     pub keys: &'a Arena<()>,
     pub key: &'a [u8],
-    // Whether a boundary at the key itself comes before the cut.
+    // Whether a boundary at the key itself comes before the bound.
     pub up_to: bool,
 }
 

@@ -13,8 +13,8 @@
 
 mod boundaries;
 mod bounding;
-mod key_bound;
 mod error;
+mod key_bound;
 mod key_lengths;
 pub mod laws;
 mod left;

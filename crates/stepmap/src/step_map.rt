@@ -4,37 +4,31 @@ ghost use Rattle.std.specs.Prelude.{◌≡◌, ℕ, ◌+◌, ◌*◌, ◌≤◌,
 ghost use Rattle.std.specs.Prelude.{Bool, List, [], ◌++◌, length, take, drop, slice_get, Some, None, Err};
 ghost use Rattle.std.specs.Prelude.{IfOk, OnOk, OnErr, IfErr, IsTrue};
 ghost use Rattle.std.specs.List.{AllZip};
-ghost use Rattle.arena.specs.Arena.{wanted_of};
-ghost use Rattle.filter.specs.Filter.{bound};
 ghost use Rattle.keys.specs.Key.{IsBytes};
 ghost use Rattle.keys.specs.Range.{Holds, IsEmpty};
 ghost use Rattle.keyspace.specs.Writes.{Write, with_write};
 ghost use Rattle.stepmap.specs.Boundary.{value_at, AreUpTo};
 ghost use Rattle.stepmap.specs.StepMap.{lengths, new_map, AreSteps};
 ghost use Rattle.stepmap.specs.Writing.{after_write};
-ghost use Rattle.stepmap.specs.Sweeping.{rest, round_edge, at_front, after_sweep};
-ghost use Rattle.stepmap.specs.Limit.{HasRoomFor, after_round, made_room, prepared};
+ghost use Rattle.stepmap.specs.Sweeping.{rest, round_edge, after_sweep};
+ghost use Rattle.stepmap.specs.Limit.{HasRoomFor, made_room, prepared};
 ghost use Rattle.stepmap.specs.Covers.{SameFrom, MapCovers, IsAbove};
 ghost use Rattle.stepmap.specs.Rooted.{Ends, Rooted};
 ghost use Rattle.stepmap.specs.Counting.{live_count};
-ghost use Rattle.stepmap.specs.Filtering.{AreMarked, IsBound};
-ghost use Rattle.stepmap.specs.Stored.{spare_in, each_length};
-ghost use Rattle.tree.specs.declared.question.TheConstants.{SIDE};
+
+mod answering;
+mod room;
 
 use crate::boundaries::Boundaries;
-use crate::bounding::{bounds_at, cells_from, repeated};
 use crate::error::StepError;
-use crate::key_lengths::{KeyLengths, keep};
-use crate::left::put_told;
-use crate::query::{OneQuery, QueryList, RangeQuery};
-use crate::single::{is_single, note};
-use arrayvec::ArrayVec;
+use crate::key_lengths::KeyLengths;
+use crate::query::{OneQuery, QueryList};
+use crate::single::note;
 use filter::Filter;
 use keys::{MAX_KEY_LENGTH, Range, RangeRef};
 use std::alloc::{AllocError, Global};
 use std::collections::VecDeque;
 use std::marker::Model;
-use tree::SIDE;
 
 /// The greatest limit on the boundaries of a step map: this project's own.
 pub const MAX_LIMIT: usize = 16_777_216;
@@ -269,188 +263,4 @@ impl StepMap {
         self.round = Some(began);
         SweepEnd::Stopped
     }
-
-    // Answers the next of the queries, and appends the answers. At most `SIDE` of them are looked up, side by side.
-    fn answer_some<L: QueryList>(
-        &self,
-        queries: &L,
-        answers: &mut Vec<bool>,
-    ) -> Result<(), AllocError>
-        requires some { length answers.old.items < length (L.queries queries.now) }
-        ensures more { OnOk result (length answers.old.items < length answers.new.items) }
-        ensures within { OnOk result (length answers.new.items ≤ length (L.queries queries.now)) }
-        ensures told { OnOk result (AllZip (λ q above. IsTrue above ↔ IsAbove self.now q.0 q.1)
-            (take (length answers.old.items) (L.queries queries.now)) answers.old.items
-            → AllZip (λ q above. IsTrue above ↔ IsAbove self.now q.0 q.1)
-            (take (length answers.new.items) (L.queries queries.now)) answers.new.items) }
-    {
-        let from = answers.len();
-        let places = self.mark_some(queries, answers)?;
-        let told = self.boundaries.are_above(queries, places.as_slice());
-        put_told(answers, from, told.as_slice());
-        Ok(())
-    }
-
-    // Marks the next of the queries, and appends the marks: true where the filter leaves a query open. Returns the places of
-    // these. There are at most `SIDE`.
-    fn mark_some<L: QueryList>(
-        &self,
-        queries: &L,
-        marks: &mut Vec<bool>,
-    ) -> Result<ArrayVec<usize, SIDE>, AllocError>
-        requires some { length marks.old.items < length (L.queries queries.now) }
-        ensures marked { IfOk result (λ places. (told : List Bool) × (marks.new.items ≡ marks.old.items ++ told)
-            × (1 ≤ length told) × AreMarked self.now (L.queries queries.now) (length marks.old.items) told places.items) }
-    {
-        let count = queries.len();
-        let mut places = ArrayVec::new();
-        while marks.len() < count && !places.is_full() {
-            self.mark_next(queries, marks, &mut places)?;
-        }
-        Ok(places)
-    }
-
-    // Marks the next queries likewise, at least one and as many as there is room for their places, and adds the places.
-    fn mark_next<L: QueryList>(
-        &self,
-        queries: &L,
-        marks: &mut Vec<bool>,
-        places: &mut ArrayVec<usize, SIDE>,
-    ) -> Result<(), AllocError>
-        requires some { length marks.old.items < length (L.queries queries.now) }
-        requires room { length places.old.items < SIDE }
-        ensures more { OnOk result (length marks.old.items < length marks.new.items) }
-        ensures marked { OnOk result ((old told : List Bool) → marks.old.items ≡ old ++ told
-            → AreMarked self.now (L.queries queries.now) (length old) told places.old.items
-            → (more : List Bool) × (marks.new.items ≡ old ++ more)
-            × AreMarked self.now (L.queries queries.now) (length old) more places.new.items) }
-    {
-        let bounds = self.bounds_from(queries, marks.len(), SIDE - places.len());
-        for bound in bounds.as_slice() {
-            let place = marks.len();
-            let is_open = self.is_open(&queries.query(place), *bound);
-            if is_open {
-                places.push(place);
-            }
-            marks.push(is_open)?;
-        }
-        Ok(())
-    }
-
-    // Returns bounds of the ranges of the next queries, at least one and at most as many as is said.
-    fn bounds_from<L: QueryList>(
-        &self,
-        queries: &L,
-        from: usize,
-        most: usize,
-    ) -> ArrayVec<i64, SIDE>
-        requires some { from < length (L.queries queries.now) }
-        requires least { 1 ≤ most }
-        requires few { most ≤ SIDE }
-        ensures bounds { AllZip (λ q bound. IsBound self.now q.0 bound)
-            (take (length result.items) (drop from (L.queries queries.now))) result.items }
-        ensures some { 1 ≤ length result.items }
-        ensures few { length result.items ≤ most }
-        ensures within { from + length result.items ≤ length (L.queries queries.now) }
-    {
-        let count = (queries.len() - from).min(most);
-        if !self.filter.is_useful() {
-            return repeated(self.filter.newest_range(), count);
-        }
-        let cells = cells_from(&self.filter, queries, from, from + count);
-        bounds_at(&self.filter, cells.as_slice())
-    }
-
-    // Returns whether the query is to be looked up: its range isn't empty, and this bound of it leaves it open.
-    fn is_open(&self, query: &RangeQuery<'_>, bound: i64) -> bool
-        requires bound { IsBound self.now query.now.range bound }
-        ensures filled { IsTrue result → ¬ IsEmpty query.now.range }
-        ensures others { ¬ IsTrue result → ¬ IsAbove self.now query.now.range query.now.version }
-    {
-        !query.range.is_empty() && self.may_exceed(&query.range, query.version, bound)
-    }
-
-    // Returns whether this bound of the range leaves open that the version at some key of it is above this one. It tells only of
-    // single keys, and only from the edge on.
-    fn may_exceed(&self, range: &RangeRef<'_>, version: i64, bound: i64) -> bool
-        requires bound { IsBound self.now range.now bound }
-        ensures not_above { ¬ IsTrue result → ¬ IsAbove self.now range.now version }
-    {
-        version < self.edge || version < bound || !is_single(range.begin(), range.end())
-    }
-
-    // Returns whether the boundaries, and two for each of so many ranges, are within the limit.
-    fn has_room_for(&self, ranges: usize) -> bool
-        ensures room { result ≡ nat_le (length self.now.boundaries + 2 * ranges) self.now.limit }
-        ensures steps { AreSteps self.now }
-    {
-        ranges <= (self.limit - self.boundaries.len()) / 2
-    }
-
-    // Sweeps a whole round, unless there is room for so many ranges.
-    fn make_room(&mut self, ranges: usize)
-        ensures map { self.new ≡ made_room ranges self.old }
-        ensures steps { AreSteps self.old }
-    {
-        if !self.has_room_for(ranges) {
-            self.sweep_round();
-        }
-    }
-
-    // Sweeps a whole round from the front, wherever the cursor is; the next sweep begins at the front.
-    fn sweep_round(&mut self)
-        ensures map { self.new ≡ after_round self.old }
-    {
-        self.end_round();
-        let count = self.boundaries.len();
-        self.sweep(count);
-    }
-
-    // Ends the round under way, if there is one: the next sweep begins at the front.
-    fn end_round(&mut self)
-        ensures map { self.new ≡ at_front self.old }
-    {
-        self.round = None;
-        self.cursor.clear();
-    }
-
-    // Takes the memory that writing ranges with keys of these lengths needs, in place of what was taken before.
-    fn reserve(&mut self, lengths: &[KeyLengths]) -> Result<(), AllocError>
-        requires room { HasRoomFor (length lengths.now) self.old }
-        ensures ok { OnOk result (self.new ≡ record self.old { ready = lengths.now }) }
-        ensures err { OnErr result (self.new ≡ record self.old { ready = [] }) }
-    {
-        let reserved = take_memory(
-            &mut self.boundaries,
-            &mut self.filter,
-            &mut self.ready,
-            lengths,
-        );
-        if reserved.is_err() {
-            self.ready.clear();
-        }
-        reserved
-    }
-}
-
-// Takes the memory that writing ranges with keys of these lengths needs, and keeps these as those that are ready. The filter
-// grows first, to a few cells for each boundary that there may be then.
-fn take_memory(
-    boundaries: &mut Boundaries<FAN_OUT>,
-    filter: &mut Filter,
-    ready: &mut VecDeque<KeyLengths>,
-    lengths: &[KeyLengths],
-) -> Result<(), AllocError>
-    requires few { length boundaries.old.boundaries + 2 * length lengths.now ≤ MAX_LIMIT }
-    ensures ready { OnOk result (ready.new.items ≡ lengths.now) }
-    ensures keys { OnOk result ((size : ℕ) → size < 10
-        → wanted_of (each_length lengths.now) size ≤ spare_in boundaries.new size) }
-    ensures nodes { OnOk result (length boundaries.new.boundaries + 2 * length lengths.now ≤ boundaries.new.room) }
-    ensures boundaries { boundaries.new.boundaries ≡ boundaries.old.boundaries }
-    ensures room { boundaries.old.room ≤ boundaries.new.room }
-    ensures bounds { (key : List ℕ) → bound filter.new key ≡ bound filter.old key }
-{
-    filter.reserve(2 * (boundaries.len() + 2 * lengths.len()))?;
-    keep(ready, lengths)?;
-    boundaries.reserve(lengths)
 }

@@ -68,7 +68,13 @@ impl<const N: usize> Boundaries<N> {
     // Looks at some boundaries from the one at the cursor on, at most `count`, and takes out each whose version and
     // predecessor's version are below `edge`. `before` is the version of the boundary before them. The cursor is then at
     // the first one not looked at, or empty.
-    pub fn remove_expired(&mut self, cursor: &mut Vec<u8>, count: usize, edge: i64, before: i64) -> Looked
+    pub fn remove_expired(
+        &mut self,
+        cursor: &mut Vec<u8>,
+        count: usize,
+        edge: i64,
+        before: i64,
+    ) -> Looked
         requires keys { All (λ b. IsKey b.key) self.old.boundaries }
         requires any_key { MAX_KEY_LENGTH ≤ vec_capacity cursor.old }
         requires later { cursor.old.items ≢ [] }
@@ -93,7 +99,9 @@ impl<const N: usize> Boundaries<N> {
             up_to: true,
         };
         let mut taken = None;
-        let unexpired = self.tree.remove_expired(&from, count, edge, before, &mut taken);
+        let unexpired = self
+            .tree
+            .remove_expired(&from, count, edge, before, &mut taken);
         move_to(&self.keys, cursor, unexpired.next);
         release_run(&mut self.keys, &taken);
         Looked {

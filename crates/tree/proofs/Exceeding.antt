@@ -1,4 +1,4 @@
--- Whether a version is above another one from the last item before a cut to another cut: of that item, or of those behind it.
+-- Whether a version is above another one from the last item before a bound to another bound: of that item, or of those behind it.
 use Rattle.std.proofs.Common.{◌≡◌, ℕ, ◌+◌, ◌-◌, Bool, true, List, [], ◌∷◌, ◌++◌, Some, length, drop, IsTrue, ◌↔◌, int_lt, sym, ◌∙◌, ap, subst, inl, inr, arith, length-append}
 use Rattle.std.specs.Prelude.{ℤ, ◌<ℤ◌, ◌≤ℤ◌}
 use Rattle.std.proofs.Math.Seq.{drop-append-add}
@@ -29,7 +29,7 @@ above_tested a b f g = rw (to_z-of_z w64 a f, to_z-of_z w64 b g) (less_tested a 
 
 module _ (p q : ℕ → Bool) (v : ℤ) (n : (key : ℕ) → p key ≡ true → q key ≡ true) (items : List Item)
     (partitioned : IsPartitioned (λ x. p x.key) items) (x : Item) (last : IsLast x (items_below p items)) where
-  -- that item, and then those between the two cuts
+  -- that item, and then those between the two bounds
   last_then_between : from_last p (Some q) items ≡ x ∷ between (Some p) (Some q) items
   last_then_between =
       last_and_between (λ (x : Item). p x.key) (λ (x : Item). q x.key) (λ x h. n x.key h) items partitioned

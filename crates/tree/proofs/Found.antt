@@ -1,4 +1,4 @@
--- The child at which a probe goes on, as the code finds it.
+-- The child at which a bound goes on, as the code finds it.
 use Rattle.std.proofs.Common.{◌≡◌, ℕ, suc, ◌-◌, Bool, false, List, [], ◌∷◌, Some, option_map, unwrap_or, map, slice_get, slice_index_or, All, sym, ◌∙◌, ap, subst, refl, inl, inr, arith}
 use Rattle.std.proofs.lemmas.Option.{get_or_from_slice_get}
 use Rattle.std.proofs.lemmas.List.Elements.{All-nil, All-cons, All-head, All-tail}
@@ -17,7 +17,7 @@ pub entries_read : {N : ℕ} (nodes : Arena (Node N)) (slot : ℕ) (header : Nod
     → header_at nodes slot ≡ Some header → es ≡ entries_of header → entries_at nodes slot ≡ es
 entries_read nodes slot header es h e = ap (λ o. unwrap_or (option_map entries_of o) []) h ∙ sym e
 
--- The child is that of the entry that the probe finds.
+-- The child is that of the entry that the bound finds.
 pub record IsFound {N : ℕ} (nodes : Arena (Node N)) (least height slot : ℕ) (is_below : ℕ → Bool) (child : ℕ)
     : Type 0 where
   pub lower : suc (height - 1) ≡ height
@@ -56,7 +56,7 @@ partitioned-entries p (e ∷ es) c =
     falls [] f = tt
     falls (e ∷ es) f = elim f [ inl h ↦ inl (h.0, falls es h.1) | inr h ↦ inr (h.0, fails es h.1) ]
 
--- The entries of a leaf, as the code has read them, are cut.
+-- The entries of a leaf, as the code has read them, are partitioned.
 pub leaf_partitioned : {N : ℕ} (nodes : Arena (Node N)) (height slot : ℕ) (is_below : ℕ → Bool) (header : Node N)
     (es : List Entry) → height ≡ 0 → IsPartitioned (λ x. is_below x.key) (items_in nodes height slot)
     → header_at nodes slot ≡ Some header → es ≡ entries_of header → IsPartitioned (λ e. is_below e.key) es
@@ -66,7 +66,7 @@ leaf_partitioned nodes height slot is_below header es z c h e =
     partitioned-entries (λ (x : Item). is_below x.key) es
     (subst (λ xs. IsPartitioned (λ (x : Item). is_below x.key) (map item_of xs)) (entries_read nodes slot header es h e) at)
 
--- The entries of a node above the leaves, as the code has read them, are cut.
+-- The entries of a node above the leaves, as the code has read them, are partitioned.
 pub read_partitioned : {N : ℕ} (nodes : Arena (Node N)) (least height slot : ℕ) (is_below : ℕ → Bool) (header : Node N)
     (es : List Entry) → (height ≡ 0 → ⊥) → IsSubtree nodes least height slot
     → IsPartitioned (λ x. is_below x.key) (items_in nodes height slot) → header_at nodes slot ≡ Some header

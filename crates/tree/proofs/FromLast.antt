@@ -1,4 +1,4 @@
--- The items before a cut, of those before another cut the last alone, in parts.
+-- The items before a bound, of those before another bound the last alone, in parts.
 use Rattle.std.proofs.Common.{◌≡◌, ℕ, ◌+◌, ◌-◌, ◌<◌, ◌≤◌, Bool, true, false, not, List, [], ◌∷◌, ◌++◌, length, take, drop, filter, map, refl, sym, ◌∙◌, ap, subst, inl, inr, arith, take-append-drop}
 use Rattle.std.specs.Prelude.{ℤ, ◌<ℤ◌, ◌≤ℤ◌, slice_range}
 use Rattle.std.proofs.lemmas.List.{drop-append-le, drop-take, drop-map, length-map, take_at}
@@ -40,19 +40,19 @@ module _ {X : Type 0} (p q : X → Bool) where
             sym (ap (λ ys. ys ++ span p q (x ∷ xs)) (none_pass p (x ∷ xs) a).0 ∙ span_from_begin p q (x ∷ xs) a)
       ]
 
-  -- Those that pass the second test are those that pass the first one, and then those between the two cuts.
+  -- Those that pass the second test are those that pass the first one, and then those between the two bounds.
   passing_both : ((x : X) → p x ≡ true → q x ≡ true) → (xs : List X) → IsPartitioned p xs
       → filter q xs ≡ filter p xs ++ span p q xs
   passing_both n xs c = passing_falls n xs (Falls-below_from p xs c)
 
-  -- from the last that passes the first test on, that one and then those between the two cuts
+  -- from the last that the first test accepts on, that one and then those between the two bounds
   pub last_and_between : ((x : X) → p x ≡ true → q x ≡ true) → (xs : List X) → IsPartitioned p xs
       → from_last_of p q xs ≡ last_passing p xs ++ span p q xs
   last_and_between n xs c =
       ap (drop (length (filter p xs) - 1)) (passing_both n xs c)
       ∙ drop-append-le (length (filter p xs) - 1) (filter p xs) (span p q xs) (omega arith)
 
-  -- the part of a list from the last one before the first cut to the second cut
+  -- the part of a list from the last one before the first bound to the second bound
   from_last_range : (xs : List X) (i j : ℕ) → IsPartitioned q xs → i ≤ j → i ≡ length (filter p xs) - 1
       → j ≡ length (filter q xs) → from_last_of p q xs ≡ slice_range xs i j
   from_last_range xs i j d le m n =

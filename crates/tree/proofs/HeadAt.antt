@@ -1,4 +1,4 @@
--- What a node's hint tells of the key at an index.
+-- What a node's heads tells of the key at an index.
 use Rattle.std.proofs.Common.{◌≡◌, ◌≢◌, ◌⊎◌, ℕ, ◌+◌, ◌<◌, ◌≤◌, Bool, true, false, nat_lt, List, [], ◌∷◌, length, filter, get_or, take, slice_get, slice_index, option_map, Some, All, refl, sym, ap, subst, ◌∙◌, inl, inr, arith, length-take, get_or-take, lt-ltb, le-ltb, ltb-true}
 use Rattle.std.specs.Prelude.{unwrap_or}
 use Rattle.std.specs.Int.{w64, to_be_bytes}
@@ -92,7 +92,7 @@ module _ (bytes : KeyBytes) (key_heads : KeyHeads) (h : AreHeads bytes key_heads
         ]
       ]
 
-  -- What is looked for begins as all keys do.
+  -- The target begins as all keys do.
   sought_begins : (target : List ℕ) → HasPrefix bytes key_heads target → h.beginning ≡ take key_heads.prefix_len target
   sought_begins target agrees =
       let there : slice_get key_heads.keys agrees.there.0 ≡ Some agrees.key =
@@ -129,7 +129,7 @@ module _ (bytes : KeyBytes) (key_heads : KeyHeads) (h : AreHeads bytes key_heads
     not_behind key text known passed behind =
         not_both (is_below key) passed ((order key text known).behind behind)
 
-    -- Whether the key passes is told by its head, if that isn't the one of what is looked for.
+    -- Whether the key is below the bound is told by its head, if that isn't the one of the target.
     pub told_at : (index key head : ℕ) → slice_get key_heads.keys index ≡ Some key → IsTargetHead bytes key_heads target head
         → head ≢ get_or key_heads.heads index 0 → nat_lt (get_or key_heads.heads index 0) head ≡ is_below key
     told_at index key head there is differ =
@@ -159,8 +159,8 @@ module _ (bytes : KeyBytes) (key_heads : KeyHeads) (h : AreHeads bytes key_heads
         sym (told_at index key head there is (λ e. absurd (omega (arith, ltb-true (get_or key_heads.heads index 0) head less))))
         ∙ less
 
-    -- Where the first key isn't empty and passes, and differs from what is looked for before all keys' common beginning
-    -- ends, all keys pass.
+    -- Where the first key isn't empty and is below the bound, and differs from the target before all keys' common beginning ends,
+    -- all keys are below the bound.
     module _ (shared first : ℕ) (at_first : slice_get key_heads.keys 0 ≡ Some first) (filled : get_or key_heads.heads 0 0 ≢ 0)
         (less : shared < key_heads.prefix_len) (passed : is_below first ≡ true)
         (tells : (text : List ℕ) → bytes first ≡ Some text → IsCommonPrefixLen shared text target) where
@@ -201,8 +201,7 @@ module _ (bytes : KeyBytes) (key_heads : KeyHeads) (h : AreHeads bytes key_heads
             | inl empty ↦ subst (λ t. IsCommonPrefixLen shared t target) (sym empty) (tells_empty shared target)
           ])
 
-    -- How far a key that passes and what is looked for begin alike is told by its head, if that isn't the one of what is
-    -- looked for.
+    -- How far a key below the bound and the target begin alike is told by its head, if that isn't the one of the target.
     pub common_at : (index key head count : ℕ) → slice_get key_heads.keys index ≡ Some key → IsTargetHead bytes key_heads target head
         → is_below key ≡ true → get_or key_heads.heads index 0 ≢ head → count ≤ 8
         → take count (to_be_bytes w64 (get_or key_heads.heads index 0)) ≡ take count (to_be_bytes w64 head)
@@ -231,8 +230,8 @@ module _ (bytes : KeyBytes) (key_heads : KeyHeads) (h : AreHeads bytes key_heads
 
 module _ {N : ℕ} (bytes : KeyBytes) (node : Node N) (h : AreHeads bytes (key_heads_of node)) (target : List ℕ) (is_below : ℕ → Bool)
     (order : (key : ℕ) (text : List ℕ) → bytes key ≡ Some text → IsBelowInOrder text target (is_below key)) where
-  -- Where the first key isn't empty and passes, and differs from what is looked for before all keys' common beginning ends,
-  -- all entries pass.
+  -- Where the first key isn't empty and is below the bound, and differs from the target before all keys' common beginning ends, all
+  -- entries are below the bound.
   pub all_pass : (shared : ℕ) (first : Entry) → slice_get (entries_of node) 0 ≡ Some first
       → get_or (key_heads_of node).heads 0 0 ≢ 0 → shared < node.prefix_len → is_below first.key ≡ true → ((text : List ℕ) → bytes first.key ≡ Some text → IsCommonPrefixLen shared text target)
       → filter (λ (e : Entry). is_below e.key) (entries_of node) ≡ entries_of node
@@ -255,7 +254,7 @@ module _ {N : ℕ} (bytes : KeyBytes) (node : Node N) (h : AreHeads bytes (key_h
       let known = knows first.0 first.1 in
       ap length (all_pass shared first.0 first.1 filled (less filled) known.0 known.1)
 
-  -- No more heads are below that of what is looked for than entries pass.
+  -- No more heads are below that of the target than entries are.
   pub few_below : (head : ℕ) → IsTargetHead bytes (key_heads_of node) target head
       → length (filter (λ d. nat_lt d head) (take node.len node.heads))
       ≤ length (filter (λ (e : Entry). is_below e.key) (entries_of node))
@@ -281,7 +280,7 @@ module _ {N : ℕ} (bytes : KeyBytes) (node : Node N) (h : AreHeads bytes (key_h
 
   module _ (head : ℕ) (is : IsTargetHead bytes (key_heads_of node) target head)
       (partitioned : IsPartitioned (λ (e : Entry). is_below e.key) (entries_of node)) where
-    -- Entries behind some that pass do so, too, as far as their heads are below that of what is looked for.
+    -- Entries behind some that pass do so, too, as far as their heads are below that of the target.
     pub many_pass : (from first : ℕ) → from ≤ length (filter (λ (e : Entry). is_below e.key) (entries_of node))
         → first ≤ length (entries_of node)
         → ((index : ℕ) → from ≤ index → index < first → get_or (key_heads_of node).heads index 0 < head)
@@ -299,7 +298,7 @@ module _ {N : ℕ} (bytes : KeyBytes) (node : Node N) (h : AreHeads bytes (key_h
               absurd (omega (arith, passing_inside (λ (e : Entry). is_below e.key) es count e.0 partitioned e.1 passed))
         ]
 
-    -- No more entries pass than stand before one whose head is above that of what is looked for.
+    -- No more entries are below the bound than stand before one whose head is above that of the target.
     pub few_pass : (end : ℕ) → (end < length (entries_of node) → head < get_or (key_heads_of node).heads end 0)
         → length (filter (λ (e : Entry). is_below e.key) (entries_of node)) ≤ end
     few_pass end above =

@@ -1,4 +1,4 @@
--- How many of a list pass, by one test and by another, and where they stand if those that pass come first.
+-- How many of a list pass, by one test and by another, and where they stand if those below the bound come first.
 use Rattle.std.proofs.Common.{◌≡◌, ℕ, zero, suc, ◌+◌, ◌-◌, ◌<◌, ◌≤◌, Bool, true, false, List, [], ◌∷◌, length, map, take, drop, filter, All, slice_get, Some, sym, ap, ◌∙◌, refl, inl, inr, arith}
 use Rattle.std.proofs.lemmas.Bool.{cases_Bool}
 use Rattle.std.proofs.lemmas.List.Elements.{All-head, All-tail, All-take}

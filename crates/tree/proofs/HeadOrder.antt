@@ -1,4 +1,4 @@
--- What the bytes with which a key and what is looked for begin, and the heads of what stands behind, tell of the two.
+-- What the bytes with which a key and the target begin, and the heads of what stands behind, tell of the two.
 use Rattle.std.proofs.Common.{◌≡◌, ◌≢◌, ℕ, zero, suc, ◌+◌, ◌-◌, ◌<◌, ◌≤◌, Bool, nat_lt, List, [], ◌∷◌, ◌++◌, length, get_or, take, drop, replicate, slice_index, refl, sym, ap, subst, ◌∙◌, inl, inr, arith, length-take, get_or-take, lt-ltb, le-ltb}
 use Rattle.std.specs.Int.{w64, to_be_bytes, from_be_bytes}
 use Rattle.std.proofs.lemmas.Bool.{cases_lt, cases_order}
@@ -37,7 +37,7 @@ unfolding head_of
 empty_head zero = refl
 empty_head (suc prefix_len) = refl
 
--- It comes before what is looked for, if that has another head
+-- It comes before the target, if that has another head
 pub empty_before : (prefix_len : ℕ) (target : List ℕ) → head_behind prefix_len target ≢ 0 → IsBefore [] target
 empty_before prefix_len [] differ = absurd (differ (empty_head prefix_len))
 empty_before prefix_len (x ∷ xs) differ = refl
@@ -48,12 +48,12 @@ empty_before_too [] target some not_behind = absurd (omega arith)
 empty_before_too (y ∷ ys) [] some not_behind = absurd (not_behind refl)
 empty_before_too (y ∷ ys) (x ∷ xs) some not_behind = refl
 
--- Nothing is told of how far the empty key begins as what is looked for.
+-- Nothing is told of how far the empty key begins as the target.
 pub tells_empty : (shared : ℕ) (target : List ℕ) → IsCommonPrefixLen shared [] target
 tells_empty shared target zero within = ((λ le. refl), (λ alike. omega arith))
 tells_empty shared target (suc count) within = absurd (omega arith)
 
--- Where the heads behind a common beginning differ, they tell whether the key passes.
+-- Where the heads behind a common beginning differ, they tell whether the key is below the bound.
 pub told_by_heads : (prefix_len : ℕ) (text target : List ℕ) (is_below : Bool) → IsBytes text → IsBytes target
     → prefix_len ≤ length text → take prefix_len text ≡ take prefix_len target → head_behind prefix_len text ≢ head_behind prefix_len target
     → IsBelowInOrder text target is_below → nat_lt (head_behind prefix_len text) (head_behind prefix_len target) ≡ is_below
@@ -80,8 +80,8 @@ told_by_heads prefix_len text target is_below text_bytes sought_bytes long same 
 module _ (shared prefix_len : ℕ) (first text target : List ℕ) (less : shared < prefix_len) (first_long : prefix_len ≤ length first)
     (text_long : prefix_len ≤ length text) (same : take prefix_len text ≡ take prefix_len first)
     (tells : IsCommonPrefixLen shared first target) where
-  -- Where the first key isn't behind what is looked for, and differs from it before all keys' common beginning ends, the
-  -- other keys come before it.
+  -- Where the first key isn't behind the target, and differs from it before all keys' common beginning ends, the other keys come
+  -- before it.
   pub before_too : (IsBefore target first → ⊥) → IsBefore text target
   before_too not_behind =
       let first_same : take shared first ≡ take shared target = (tells shared (omega arith)).0 (omega arith) in
@@ -106,7 +106,7 @@ module _ (shared prefix_len : ℕ) (first text target : List ℕ) (less : shared
         ]
       ]
 
-  -- and what is looked for begins as they do just as far
+  -- and the target begins as they do just as far
   pub tells_too : IsCommonPrefixLen shared text target
   tells_too count within = (
     (λ le. take_fewer count prefix_len text first (omega arith) same ∙ (tells count (omega arith)).0 le),
@@ -192,8 +192,8 @@ whole_eight m a b many few same =
     sym (take-take 8 8 (a ++ replicate 8 0) (omega arith)) ∙ ap (λ k. take k (first_eight a)) (sym all) ∙ same
     ∙ ap (λ k. take k (first_eight b)) all ∙ take-take 8 8 (b ++ replicate 8 0) (omega arith)
 
--- Where the heads behind a common beginning differ, and the key isn't behind what is looked for, the two begin alike as far
--- as the bytes of the heads do.
+-- Where the heads behind a common beginning differ, and the key isn't behind the target, the two begin alike as far as the bytes of
+-- the heads do.
 pub common_by_heads : (prefix_len m : ℕ) (text target : List ℕ) → IsBytes text → IsBytes target → prefix_len ≤ length text
     → take prefix_len text ≡ take prefix_len target → head_behind prefix_len text ≢ head_behind prefix_len target → m ≤ 8
     → take m (to_be_bytes w64 (head_behind prefix_len text)) ≡ take m (to_be_bytes w64 (head_behind prefix_len target))

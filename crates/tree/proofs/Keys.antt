@@ -1,4 +1,4 @@
--- The key of the first item that doesn't pass.
+-- The key of the first item that isn't below the bound.
 use Rattle.std.proofs.Common.{◌≡◌, ℕ, ◌+◌, ◌-◌, Bool, true, false, not, List, [], ◌∷◌, ◌++◌, Option, Some, map, take, drop, filter, flat_map, All, refl, sym, ◌∙◌, ap, subst, inl, inr}
 use Rattle.std.proofs.lemmas.Bool.{cases_Bool}
 use Rattle.std.proofs.lemmas.List.Elements.{All-head, All-drop, filter-append}
@@ -36,7 +36,7 @@ first_key-children below key (e ∷ es) t =
     ap (λ xs. xs ++ flat_map below es) h.items_are in
     ap Some h.key ∙ ap (first_key key) (sym same)
 
--- what stands behind a cut, where all before and none behind a part passes
+-- what stands behind a bound, where all before and none behind a part passes
 pub behind-parts : (is_below : ℕ → Bool) (a c b : List Item) → All (λ x. is_below x.key ≡ true) a
     → All (λ x. is_below x.key ≡ false) b → behind is_below (a ++ (c ++ b)) ≡ behind is_below c ++ b
 behind-parts is_below a c b p f =

@@ -1,4 +1,4 @@
--- A leaf of which a run is thinned that begins with the last item that passes.
+-- A leaf of which a run is swept of expired items that begins with the last item below the bound.
 use Rattle.std.proofs.Common.{◌≡◌, ℕ, zero, suc, ℤ, ◌+◌, ◌-◌, ◌<◌, ◌≤◌, Bool, List, Option, [], ◌∷◌, ◌++◌, length, take, drop, filter, map}
 use Rattle.std.proofs.Common.{sym, ◌∙◌, ap, subst, arith, refl, length-drop}
 use Rattle.std.proofs.lemmas.List.{map-append, length-map, length-take-le, take-append-drop, drop-drop}
@@ -58,7 +58,7 @@ module _ (es : List Entry) (begin end : ℕ) (some : begin < end) (most : end �
       ∙ ap (λ xs. front ++ xs) (map-append item_of (run es begin end) (drop end es))
       ∙ ap (λ xs. front ++ (xs ++ rest)) (sym (all_stay edge before looked none))
 
-  -- the items of the leaf once it is thinned
+  -- the items of the leaf once it is swept of expired items
   pub leaf_unexpired : (p : ℕ → Bool) → IsPartitioned (λ e. p e.key) es → begin + 1 ≡ length (filter (λ e. p e.key) es)
       → (count : ℕ) (edge before : ℤ) (unexpired : Removal) (out : List Item) (next : Option ℕ) (now : List Item)
       → end - begin ≤ count → unexpired.looked_at ≡ end - begin

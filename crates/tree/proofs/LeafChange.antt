@@ -18,7 +18,7 @@ use Rattle.tree.specs.Subtree.{entries_at, items_in, IsSubtree}
 use Rattle.tree.specs.Tree.{IsTree}
 use Rattle.tree.proofs.Headed.{headed_put}
 
--- so many entries pass, and the others stand behind them
+-- so many entries are below the bound, and the others stand behind them
 pub parted : (p : ℕ → Bool) (es : List Entry) (n : ℕ) → IsPartitioned (λ e. p e.key) es → n ≡ length (filter (λ e. p e.key) es)
     → (take n es ≡ filter (λ e. p e.key) es) × (drop n es ≡ filter (λ e. not (p e.key)) es)
 parted p es n partitioned count =

@@ -1,4 +1,4 @@
--- What the leaf that a probe finds says of the items that pass.
+-- What the leaf that a bound finds says of the items below the bound.
 use Rattle.std.proofs.Common.{◌≡◌, ℕ, zero, suc, ◌+◌, ◌-◌, ◌<◌, ◌≤◌, inl, inr, Bool, true, false, not, List, [], ◌∷◌, ◌++◌, Option, Some, length, get_or, slice_get, take, drop, filter, flat_map, map, All, refl, sym, ◌∙◌, ap, subst, arith}
 use Rattle.std.specs.Prelude.{MatchOption}
 use Rattle.std.proofs.lemmas.Bool.{cases_Bool}
@@ -76,7 +76,7 @@ filter-items q (e ∷ es) =
       | inr f ↦ rw f (filter-items q es)
     ]
 
--- entries whose items are cut are cut
+-- entries whose items are partitioned are partitioned
 pub All-from_map : (is_below : ℕ → Bool) (es : List Entry) → All (λ x. is_below x.key ≡ false) (map item_of es) → All (λ e. is_below e.key ≡ false) es
 All-from_map is_below [] a = All-nil (λ (e : Entry). is_below e.key ≡ false)
 All-from_map is_below (e ∷ es) a = All-cons (λ (e : Entry). is_below e.key ≡ false) e es
@@ -102,7 +102,7 @@ pub record IsLeaf (is_below : ℕ → Bool) (items before after : List Item) (es
   pub none : filter (λ e. is_below e.key) es ≡ [] → before ≡ []
 
 module _ (is_below : ℕ → Bool) (items before after : List Item) (es : List Entry) (leaf : IsLeaf is_below items before after es) where
-  -- the items that pass, and the others
+  -- the items below the bound, and the others
   pub passing_is : items_below is_below items ≡ before ++ map item_of (filter (λ e. is_below e.key) es)
   passing_is =
       let p = λ (x : Item). is_below x.key in
@@ -148,7 +148,7 @@ match_last P Q (x ∷ xs) result is none some =
     let e : result ≡ Some r.last = is ∙ ap (slice_get (x ∷ xs)) less ∙ r.read in
     subst (λ o. MatchOption o P Q) (sym e) (some r.last r.is_last)
 
--- The last entry that passes is the last item that does.
+-- The last entry below the bound is the last such item.
 pub last_passing : (is_below : ℕ → Bool) (items before after : List Item) (es passed : List Entry) (result : Option Entry)
     → IsLeaf is_below items before after es → passed ≡ filter (λ e. is_below e.key) es → result ≡ slice_get passed (length passed - 1)
     → MatchOption result (items_below is_below items ≡ []) (λ e. IsLast (item_of e) (items_below is_below items))
@@ -162,7 +162,7 @@ last_passing is_below items before after es passed result leaf same is =
           ∙ sym (append_assoc before (map item_of last.0) (item_of e ∷ [])),
     ))
 
--- the leaf that a probe finds is one
+-- the leaf that a bound finds is one
 pub is_leaf : {N : ℕ} (nodes : Arena (Node N)) (least height slot : ℕ) (is_below : ℕ → Bool) (leaf : ℕ) (es : List Entry)
     → IsSubtree nodes least height slot → IsPartitioned (λ x. is_below x.key) (items_in nodes height slot)
     → leaf ≡ leaf_in nodes height slot is_below → entries_at nodes leaf ≡ es

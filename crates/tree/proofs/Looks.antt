@@ -1,4 +1,4 @@
--- A look at the items from one cut to another, below a node.
+-- A look at the items from one bound to another, below a node.
 use Rattle.std.proofs.Common.{◌≡◌, ℕ, zero, suc, ◌+◌, ◌-◌, ◌<◌, ◌≤◌, Bool, true, false, List, ◌++◌, Option, Some, None, option_map, length, get_or, take, drop, filter, flat_map, map, All, IfSome, sym, refl, not, ◌&&◌, ◌∙◌, ap, subst, arith}
 use Rattle.std.specs.Prelude.{slice_range}
 use Rattle.std.proofs.lemmas.List.{get_or_read}
@@ -15,7 +15,7 @@ use Rattle.tree.proofs.Found.{partitioned-entries, entries_read}
 use Rattle.tree.proofs.Keys.{filter-items}
 use Rattle.tree.proofs.Spans.{IsPartitioned-none, IsPartitioned-all, span, span_range, span_of_child, span_of_two, fewer_before}
 
--- What `requires` says of a probe that may be missing, as a cut, and back.
+-- What `requires` says of a bound that may be missing, as a bound, and back.
 module _ {A : Type 0} (lets : A → ℕ → Bool) (items : List Item) where
   pub from_asked : (o : Option A) → IfSome o (λ p. IsPartitioned (λ x. lets p x.key) items)
       → IsPartitioned (λ x. below_from (option_map lets o) x.key) items
@@ -48,7 +48,7 @@ nested_asked f t None u h key e = absurd (cc)
 nested_asked f t (Some p) None h key e = refl
 nested_asked f t (Some p) (Some q) h key e = h key e
 
--- a node with its entries, and two cuts through its items
+-- a node with its entries, and two bounds through its items
 pub record IsLook {N : ℕ} (nodes : Arena (Node N)) (least height slot : ℕ) (f t : ℕ → Bool) (es : List Entry)
     (begin end : ℕ) : Type 0 where
   pub subtree : IsSubtree nodes least height slot
@@ -59,7 +59,7 @@ pub record IsLook {N : ℕ} (nodes : Arena (Node N)) (least height slot : ℕ) (
   pub begin_is : begin ≡ length (filter (λ e. f e.key) es)
   pub end_is : end ≡ length (filter (λ e. t e.key) es)
 
--- The entries are cut as the items are.
+-- The entries are partitioned as the items are.
 pub look_bound : {N : ℕ} (nodes : Arena (Node N)) (least height slot : ℕ) (is_below : ℕ → Bool) (header : Node N)
     (es : List Entry) → IsSubtree nodes least height slot
     → IsPartitioned (λ x. is_below x.key) (items_in nodes height slot) → header_at nodes slot ≡ Some header

@@ -1,4 +1,4 @@
--- Two cuts in one leaf: what is looked for begins alike, and the first one is no farther on.
+-- Two bounds in one leaf: the target begins alike, and the first one is no farther on.
 use Rattle.std.proofs.Common.{◌≡◌, ℕ, ◌≤◌, Bool, true, false, List, [], ◌∷◌, Option, Some, None, is_some, unwrap_or, length, slice_get, take, filter, sym, ◌∙◌, ap, inl, inr, arith}
 use Rattle.std.specs.Prelude.{IfSome}
 use Rattle.std.specs.List.{All}
@@ -14,7 +14,7 @@ use Rattle.tree.proofs.Overwriting.{entries_put}
 pub fewer_alike : (fewer n : ℕ) (a b : List ℕ) → fewer ≤ n → take n a ≡ take n b → take fewer a ≡ take fewer b
 fewer_alike fewer n a b le same = sym (take-take fewer n a le) ∙ ap (take fewer) same ∙ take-take fewer n b le
 
--- The first key of a leaf and what another probe looks for begin alike as far as it is known.
+-- The first key of a leaf and what another bound looks for begin alike as far as it is known.
 pub begin_alike : (bytes near : KeyBytes) (is_below : ℕ → Bool) (target other : List ℕ) (es : List Entry)
     (known : Option ℕ) (n : ℕ) → IsPrefixLenAt bytes is_below target known es 0 → n ≤ unwrap_or known 0
     → take n other ≡ take n target → ((key : ℕ) → near key ≡ bytes key)
@@ -26,7 +26,7 @@ begin_alike bytes near is_below target other es (Some known) n knows most alike 
     let tells = (knows e is).1 text (sym (same e.key) ∙ there) count within in
     tells.0 (omega (arith, few, most)) ∙ sym (fewer_alike count n other target few alike)
 
--- What begins as far alike as what another probe looks for, which has a head, begins as all keys do.
+-- What begins as far alike as what another bound looks for, which has a head, begins as all keys do.
 pub agrees_too : (bytes near : KeyBytes) (key_heads : KeyHeads) (target other : List ℕ) (shared : ℕ) (head : Option ℕ)
     → ((key : ℕ) → near key ≡ bytes key) → IfSome head (IsTargetHead near key_heads other) → is_some head ≡ true
     → key_heads.prefix_len ≤ shared → take shared other ≡ take shared target → HasPrefix bytes key_heads target
@@ -42,7 +42,7 @@ agrees_too bytes near key_heads target other shared (Some head) same for some sh
       same = a.same ∙ fewer_alike key_heads.prefix_len shared other target short alike;
     }
 
--- Keys whose bytes begin as what another probe looks for do begin as all keys of the leaf do.
+-- Keys whose bytes begin as what another bound looks for do begin as all keys of the leaf do.
 pub agree : (bytes near : KeyBytes) (key_heads : KeyHeads) (own other : List ℕ) (shared : ℕ) (head : Option ℕ)
     → ((key : ℕ) → near key ≡ bytes key) → IfSome head (IsTargetHead near key_heads other)
     → key_heads.prefix_len ≤ shared → take shared other ≡ take shared own → is_some head ≡ true
@@ -68,7 +68,7 @@ both_put P true first second p q = All-cons P first.key [] p (All-nil P)
 both_put P false first second p q =
     All-cons P first.key (second.key ∷ []) p (All-cons P second.key [] q (All-nil P))
 
--- no more pass the first cut than the second
+-- no more are below the first bound than the second
 pub no_more : (p q : ℕ → Bool) → ((key : ℕ) → p key ≡ true → q key ≡ true) → (es : List Entry)
     → length (filter (λ e. p e.key) es) ≤ length (filter (λ e. q e.key) es)
 no_more p q nested [] = omega arith

@@ -22,7 +22,7 @@ pub items_put : (ended : Bool) (first second : Entry) (x : Item) (others : List 
 items_put true first second x others is = refl
 items_put false first second x others is = ap (λ y. item_of first ∷ (y ∷ others)) is
 
--- those that pass the second cut, of those that don't pass the first
+-- those that are below the second bound, of those that aren't below the first
 pub between_is : (q r : ℕ → Bool) (items : List Item)
     → filter (λ (x : Item). not (q x.key) && r x.key) items ≡ items_below r (behind q items)
 between_is q r [] = refl
@@ -56,7 +56,7 @@ first_tells r (x ∷ items) (Some k) post result partitioned is tested says =
           (λ ok. absurd (not_both result ok (told ∙ f)), λ some. absurd (some none))
     ]
 
--- The item behind the first cut tells whether there is one before the second.
+-- The item behind the first bound tells whether there is one before the second.
 pub told_between : (q r : ℕ → Bool) (items : List Item) (key : Option ℕ) (post : ℕ → Type 0) (result : Bool)
     → IsPartitioned (λ x. q x.key) items → IsPartitioned (λ x. r x.key) items → key ≡ first_key None (behind q items)
     → MatchOption key (result ≡ false) post → ((k : ℕ) → post k → result ≡ r k)

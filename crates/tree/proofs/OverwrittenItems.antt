@@ -43,7 +43,7 @@ length-lent (Some n) (Some r) post taken is some says =
     says n some ∙ ap (λ r. length (entries_of r)) there ∙ sym (length-map (entries_of r) item_of)
 
 module _ (p q r : ℕ → Bool) (nested : (key : ℕ) → p key ≡ true → q key ≡ true) where
-  -- Each item passes the first cut, or stands between the two, or fails the second.
+  -- Each item is below the first bound, or stands between the two, or fails the second.
   length-between : (items : List Item)
       → length (items_below p items) + (length (between (Some p) (Some q) items) + length (behind q items)) ≡ length items
   length-between [] = refl
@@ -87,7 +87,7 @@ module _ (p q r : ℕ → Bool) (nested : (key : ℕ) → p key ≡ true → q k
         ),
       )
 
--- Whether the first key behind a cut passes another tells whether an item stands between the two.
+-- Whether the first key behind a bound is below another one tells whether an item stands between the two.
 pub told_by_first : (q r : ℕ → Bool) (items : List Item) (ended : Bool) → IsPartitioned (λ x. q x.key) items
     → IsPartitioned (λ x. r x.key) items → ended ≡ first_is_below r (first_key None (behind q items))
     → (IsTrue ended → between (Some q) (Some r) items ≢ []) × (between (Some q) (Some r) items ≢ [] → IsTrue ended)

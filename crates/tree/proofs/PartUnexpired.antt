@@ -1,4 +1,4 @@
--- Items of which a run is thinned: what is said of a leaf's is said of all of them, and how many stay.
+-- Items of which a run is swept of expired items: what is said of a leaf's is said of all of them, and how many stay.
 use Rattle.std.proofs.Common.{◌≡◌, ◌≢◌, ℕ, ℤ, ◌+◌, ◌≤◌, ◌≤ℤ◌, int_lt, ◌&&◌, Bool, true, false, inl, inr, List, [], ◌∷◌, ◌++◌, Option, None}
 use Rattle.std.proofs.Common.{length, sym, ◌∙◌, ap, subst, arith, append_assoc, length-append, refl}
 use Rattle.std.proofs.lemmas.Int.{ints}
@@ -18,7 +18,7 @@ use Rattle.tree.proofs.Told.{filter_around}
 regroup : (a f t r b : List Item) → a ++ ((f ++ (t ++ r)) ++ b) ≡ (a ++ f) ++ (t ++ (r ++ b))
 regroup a f t r b = simp append_assoc
 
--- What becomes of all items where those of one leaf are thinned.
+-- What becomes of all items where those of one leaf are swept of expired items.
 pub unexpired_all : (p : ℕ → Bool) (count : ℕ) (edge before : ℤ) (unexpired : Removal) (run was now : List Item)
     → IsChangedWithin p (λ _. GivesUnexpired p count edge before unexpired run) true None was now
     → items_below p was ≢ [] → RemovesExpired p count edge before unexpired run None was now

@@ -16,7 +16,7 @@ use Rattle.tree.proofs.Overwriting.{between_is}
 use Rattle.tree.proofs.OverwrittenItems.{told_by_first}
 use Rattle.tree.proofs.Told.{filter_around, none_of_fewer}
 
--- What passes the one cut, or fails the other, is not between them.
+-- What is below the one bound, or fails the other, is not between them.
 first_not : (a b : Bool) → a ≡ true → not a && b ≡ false
 first_not true b t = refl
 first_not false b t = absurd (cc)
@@ -34,7 +34,7 @@ some_pass q xs any none =
 regroup : (a b e h r : List Item) (x : Item) → a ++ ((b ++ (x ∷ e ++ h)) ++ r) ≡ (a ++ b) ++ (x ∷ e ++ (h ++ r))
 regroup a b e h r x = simp append_assoc
 
--- Items in three parts: all of the first pass the second cut, and none of the last does.
+-- Items in three parts: all of the first are below the second bound, and none of the last does.
 module _ (p q : ℕ → Bool) (nested : (key : ℕ) → p key ≡ true → q key ≡ true) (front part back : List Item)
     (pass : All (λ x. q x.key ≡ true) front) (fail : All (λ x. q x.key ≡ false) back) where
   passing_too : items_below q (front ++ (part ++ back)) ≡ front ++ items_below q part
@@ -46,7 +46,7 @@ module _ (p q : ℕ → Bool) (nested : (key : ℕ) → p key ≡ true → q key
   fail_first : All (λ x. p x.key ≡ false) back
   fail_first = none_of_fewer (λ (x : Item). p x.key) (λ (x : Item). q x.key) (λ x. nested x.key) back fail
 
-  -- No item of the last part is between the cuts.
+  -- No item of the last part is between the bounds.
   between_back : between (Some p) (Some q) back ≡ []
   between_back =
       let here = λ (x : Item). not (p x.key) && q x.key in
@@ -54,7 +54,7 @@ module _ (p q : ℕ → Bool) (nested : (key : ℕ) → p key ≡ true → q key
       (All-weaker (λ (x : Item). q x.key ≡ false) (λ (x : Item). here x ≡ false)
       (λ x. second_not (not (p x.key)) (q x.key)) back fail)).0
 
-  -- where an item passes the second cut, one of the middle part does
+  -- where an item is below the second bound, one of the middle part does
   pub some_here : IsFoundAmong q front part → items_below q (front ++ (part ++ back)) ≢ [] → items_below q part ≢ []
   some_here found some none =
       elim found [
@@ -62,7 +62,7 @@ module _ (p q : ℕ → Bool) (nested : (key : ℕ) → p key ≡ true → q key
         | inr any ↦ some_pass q part any none
       ]
 
-  -- All of the first part pass the first cut too.
+  -- All of the first part are below the first bound too.
   module _ (opens : All (λ x. p x.key ≡ true) front) where
     passing_part : items_below p (front ++ (part ++ back)) ≡ front ++ items_below p part
     passing_part = filter_around (λ (x : Item). p x.key) front part back opens fail_first
@@ -95,9 +95,9 @@ module _ (p q : ℕ → Bool) (nested : (key : ℕ) → p key ≡ true → q key
         ∙ ap (λ (x : Item). items_below p (front ++ (part ++ back))
         ++ (first ∷ ends_with x ++ behind q (front ++ (part ++ back)))) same
 
-  -- All items are cut.
+  -- All items are partitioned.
   module _ (partitioned : IsPartitioned (λ x. p x.key) (front ++ (part ++ back))) where
-    -- All of the first part pass the first cut, where one of the middle part does.
+    -- All of the first part are below the first bound, where one of the middle part does.
     opens_front : items_below p part ≢ [] → All (λ x. p x.key ≡ true) front
     opens_front some =
         let here = λ (x : Item). p x.key in
@@ -109,14 +109,14 @@ module _ (p q : ℕ → Bool) (nested : (key : ℕ) → p key ≡ true → q key
     front_is : front ≡ items_below p front ++ behind p front
     front_is = (IsPartitioned-parts (λ (x : Item). p x.key) front (part ++ back) partitioned).0
 
-    -- those of the first part that are between the cuts
+    -- those of the first part that are between the bounds
     between_front : between (Some p) (Some q) front ≡ behind p front
     between_front =
         between_is p q front
         ∙ (none_fail (λ (x : Item). q x.key) (behind p front)
         (All-filter (λ (x : Item). not (p x.key)) (λ (x : Item). q x.key ≡ true) front pass)).0
 
-    -- Where the middle part has none that passes the first cut, those that pass the second are taken out.
+    -- Where the middle part has none that is below the first bound, those that pass the second are taken out.
     part_taken : (last : ℤ) (run : List Item) (is_first : Bool) (now : List Item)
         → GivesPart p q last run is_first part now → (front ≡ [] → IsTrue is_first) → items_below q part ≢ []
         → OverwritesPart p q last run (front ++ (part ++ back)) (front ++ (now ++ back))

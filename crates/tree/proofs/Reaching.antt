@@ -1,4 +1,4 @@
--- The leaf that a probe finds: the items before it and behind it.
+-- The leaf that a bound finds: the items before it and behind it.
 use Rattle.std.proofs.Common.{◌≡◌, ℕ, zero, suc, ◌+◌, Bool, true, false, List, ◌++◌}
 use Rattle.std.proofs.Common.{map, take}
 use Rattle.std.proofs.Common.{drop, flat_map, All, sym, ◌∙◌, ap, subst}
@@ -16,7 +16,7 @@ module _ {N : ℕ} (nodes : Arena (Node N)) where
   regroup : (a b m h r : List Item) → a ++ ((b ++ (m ++ h)) ++ r) ≡ (a ++ b) ++ (m ++ (h ++ r))
   regroup a b m h r = simp append_assoc
 
-  -- what the leaf that a probe finds says of the items of the subtree
+  -- what the leaf that a bound finds says of the items of the subtree
   pub record IsFoundLeaf (height slot leaf : ℕ) (is_below : ℕ → Bool) : Type 0 where
     pub items : items_in nodes height slot ≡ before_leaf nodes height slot is_below
         ++ (map item_of (entries_at nodes leaf) ++ behind_leaf nodes height slot is_below)

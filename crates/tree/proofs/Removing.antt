@@ -1,4 +1,4 @@
--- The thinning of a run, entry by entry.
+-- The removal of the expired items of a run, entry by entry.
 use Rattle.std.proofs.Common.{◌≡◌, ℕ, suc, ◌+◌, ◌-◌, ◌<◌, ◌≤◌, ℤ, int_lt, int_le, ◌&&◌, Bool, true, false, List, [], ◌∷◌, ◌++◌, length, get_or, map, take, drop, set, refl, sym, ◌∙◌, ap, subst, arith, inl, inr, length-append, length-drop, drop-cons, append_assoc}
 use Rattle.std.proofs.lemmas.Int.{ints}
 use Rattle.std.proofs.lemmas.List.{append-nil, map-append, take_more_set, drop-set-lt, length-take-le}
@@ -70,7 +70,7 @@ pub one_not_below : (a b : Bool) → b ≡ false → (a && b) ≡ false
 one_not_below true b f = f
 one_not_below false b f = refl
 
--- the entries of a node that is thinned, up to an index: those that stay, those that go, and those ahead
+-- the entries of a node that is swept of expired items, up to an index: those that stay, those that go, and those ahead
 pub record RemovesExpired (edge before last : ℤ) (es now : List Entry) (out : List Item) (from to index kept : ℕ) : Type 0 where
   pub counted : kept + length out ≡ index
   pub same_length : length now ≡ length es

@@ -1,4 +1,4 @@
--- What lies from one cut to another, in parts.
+-- What lies from one bound to another, in parts.
 use Rattle.std.proofs.Common.{◌≡◌, ℕ, suc, ◌+◌, ◌-◌, ◌<◌, ◌≤◌, Bool, true, false, not, ◌&&◌, List, [], ◌∷◌, ◌++◌, length, get_or, take, drop, filter, flat_map, All, refl, sym, ◌∙◌, ap, subst, inl, inr, arith, drop-cons, take-add, take_at, drop_at, take-append-drop, append-nil, length-drop}
 use Rattle.std.specs.Prelude.{slice_range}
 use Rattle.std.proofs.lemmas.Bool.{cases_Bool}
@@ -95,7 +95,7 @@ module _ {X : Type 0} where
               ]
         ]
 
-  -- what stands before and behind a cut
+  -- what stands before and behind a bound
   pub before_partitioned : (p : X → Bool) (xs : List X) → IsPartitioned p xs
       → All (λ x. p x ≡ true) (take (length (filter p xs)) xs)
   before_partitioned p xs c =
@@ -120,7 +120,7 @@ module _ {X : Type 0} where
       (sym (take-append-drop (j - i) (drop i xs))
       ∙ ap (λ ys. slice_range xs i j ++ ys) (drop-drop (j - i) i xs ∙ ap (λ n. drop n xs) up))
 
-  -- the part of a list from one cut to another
+  -- the part of a list from one bound to another
   pub span_range : (p q : X → Bool) (xs : List X) (i j : ℕ) → IsPartitioned p xs → IsPartitioned q xs → i ≤ j
       → i ≡ length (filter p xs) → j ≡ length (filter q xs) → span p q xs ≡ slice_range xs i j
   span_range p q xs i j c d le m n =
@@ -141,13 +141,13 @@ module _ {X : Type 0} where
       ∙ append-nil (span p q (slice_range xs i j))
       ∙ span_all p q (slice_range xs i j) outside inside
 
--- the items of children from one cut to another
+-- the items of children from one bound to another
 module _ {X : Type 0} (below : Entry → List X) (p q : X → Bool) (es : List Entry) (i j : ℕ) (d : Entry)
     (front : All (λ x. p x ≡ true) (flat_map below (take i es)))
     (later : All (λ x. p x ≡ false) (flat_map below (drop (i + 1) es)))
     (sooner : All (λ x. q x ≡ true) (flat_map below (take j es)))
     (back : All (λ x. q x ≡ false) (flat_map below (drop (j + 1) es))) where
-  -- where both cuts lie in one child
+  -- where both bounds lie in one child
   pub span_of_child : i ≡ j → i < length es → span p q (flat_map below es) ≡ span p q (below (get_or es i d))
   span_of_child same inside =
       let c = below (get_or es i d) in

@@ -21,7 +21,7 @@ use Rattle.tree.proofs.Replacing.{family_loose, step_linked}
 use Rattle.tree.proofs.Storing.{IsStored, moves_own, stored}
 
 module _ {N : ℕ} where
-  -- the node at a slot, and the child at an index, at which a probe goes on
+  -- the node at a slot, and the child at an index, at which a bound goes on
   pub record IsAt (a : Arena (Node N)) (least height slot : ℕ) (is_below : ℕ → Bool) (es : List Entry) (i x : ℕ) (d : Entry) : Type 0 where
     pub read : entries_at a slot ≡ es
     pub slots_are : slots_in a (suc height) slot ≡ slot ∷ slots_of a height es

@@ -1,4 +1,4 @@
--- What a search by hints tells of the items before a cut, of those before another cut the last alone.
+-- What a search by heads tells of the items before a bound, of those before another bound the last alone.
 use Rattle.std.proofs.Common.{◌≡◌, ℕ, zero, suc, ◌+◌, ◌-◌, ◌<◌, ◌≤◌, Bool, true, false, List, [], ◌∷◌, ◌++◌, Option, Some, IfSome, IsTrue, ◌↔◌, length, get_or, slice_get, take, drop, filter, flat_map, map, All, refl, sym, ◌∙◌, ap, subst, inl, inr, arith, append-nil, append_assoc, length-append}
 use Rattle.std.specs.Prelude.{ℤ, ◌<ℤ◌, ◌≤ℤ◌, slice_range, Any}
 use Rattle.std.proofs.Math.Seq.{drop-append-add}
@@ -30,7 +30,7 @@ filter_around p a c b t f =
     (filter-append p c b ∙ ap (λ ys. filter p c ++ ys) (none_pass p b f).0 ∙ append-nil (filter p c))
 
 module _ {X : Type 0} (p q : X → Bool) (n : (x : X) → p x ≡ true → q x ≡ true) where
-  -- Where none passes the second cut, none passes the first.
+  -- Where none is below the second bound, none passes the first.
   pub none_of_fewer : (xs : List X) → All (λ x. q x ≡ false) xs → All (λ x. p x ≡ false) xs
   none_of_fewer xs a = All-weaker (λ x. q x ≡ false) (λ x. p x ≡ false) fewer xs a
     where
@@ -38,8 +38,8 @@ module _ {X : Type 0} (p q : X → Bool) (n : (x : X) → p x ≡ true → q x �
       fewer x f =
           elim (cases_Bool (p x)) [ inl t ↦ absurd (not_both (q x) (n x t) f) | inr h ↦ h ]
 
-  -- From the last one before the first cut to the second one, where one of a part passes, all before it do, and none behind
-  -- it is before the second cut.
+  -- From the last one before the first bound to the second one, where one of a part is below the bound, all before it are, and none
+  -- behind it is before the second bound.
   from_last_part : (a c b : List X) → All (λ x. p x ≡ true) a → 1 ≤ length (filter p c)
       → All (λ x. q x ≡ false) b → from_last_of p q (a ++ (c ++ b)) ≡ from_last_of p q c
   from_last_part a c b before some behind =
@@ -53,7 +53,7 @@ module _ {X : Type 0} (p q : X → Bool) (n : (x : X) → p x ≡ true → q x �
       ∙ ap (λ k. drop k (a ++ filter q c)) count
       ∙ drop-append-add a (filter q c) (length (filter p c) - 1)
 
--- None of these passes the cut.
+-- None of these is below the bound.
 abbrev AllFail : (ℕ → Bool) → List Item → Type 0
 AllFail is_below items = All (λ x. is_below x.key ≡ false) items
 
@@ -108,7 +108,7 @@ module _ (p q : ℕ → Bool) (v : ℤ) (n : (key : ℕ) → p key ≡ true → 
       subst (λ xs. IfSome result (λ told. IsTrue told ↔ IsAbove v (from_last p (Some q) xs))) (sym same)
       (told (before ++ front) (back ++ after) (clears after k last) cp cq)
 
-  -- Where some items pass the first cut and none behind them passes the second one, the others don't count.
+  -- Where some items are below the first bound and none behind them is below the second one, the others don't count.
   told_part : (part : List Item) (clear b : Bool) → 1 ≤ length (filter (λ x. p x.key) part)
       → ((after : List Item) → (IsTrue clear → AllFail q after) → IsPartitioned (λ x. q x.key) (part ++ after) → AllFail q after)
       → (IsTrue b ↔ IsAbove v (from_last_of (λ x. p x.key) (λ x. q x.key) part)) → IsTold p q v clear part (Some b)

@@ -1,4 +1,4 @@
--- What is known of the first keys of nodes, where a search goes on with the last entry that passes.
+-- What is known of the first keys of nodes, where a search goes on with the last entry below the bound.
 use Rattle.std.proofs.Common.{◌≡◌, ℕ, ◌-◌, ◌<◌, ◌≤◌, min, Bool, true, false, List, [], ◌∷◌, Some, None, length, get_or, slice_get, take, filter, flat_map, All, refl, sym, ◌∙◌, ap, subst, arith}
 use Rattle.std.specs.Prelude.{◌≢◌, Option, unwrap_or}
 use Rattle.std.proofs.lemmas.List.{get_or-take, length-take-le, take-take}

@@ -1,4 +1,4 @@
--- What a cut through the items of a subtree says of its entries and of the children's subtrees.
+-- What a bound through the items of a subtree says of its entries and of the children's subtrees.
 use Rattle.std.proofs.Common.{◌≡◌, ℕ, zero, suc, ◌+◌, ◌-◌, ◌<◌, ◌≤◌, ◌⊎◌, Bool, true, false, List, [], ◌∷◌, ◌++◌, Some, length, get_or, slice_get, pos, take, drop, filter, flat_map, All, refl, sym, ◌∙◌, ap, subst, inl, inr, arith}
 use Rattle.std.proofs.lemmas.Bool.{cases_Bool}
 use Rattle.std.proofs.lemmas.Option.{slice_get-get_or}
@@ -64,7 +64,7 @@ module _ (is_below : ℕ → Bool) (below : Entry → List Item) where
       (entries_fail es (All-tail (λ e. Tells e (below e)) e es t)
       (All-back (λ (x : Item). is_below x.key ≡ false) (below e) (flat_map below es) a))
 
-  -- the entries are cut by their keys
+  -- the entries are partitioned by their keys
   pub entries_partitioned : (es : List Entry) → AllTell es → IsPartitioned (λ x. is_below x.key) (flat_map below es)
       → IsPartitioned (λ e. is_below e.key) es
   entries_partitioned [] t c = refl
@@ -145,7 +145,7 @@ module _ (is_below : ℕ → Bool) (below : Entry → List Item) where
                 absurd (omega arith)
           ]
 
-  -- no item behind the last entry that passes, or else behind the first entry, does
+  -- no item behind the last entry below the bound, or else behind the first entry, does
   pub fail_behind_index : (es : List Entry) → AllTell es → IsPartitioned (λ x. is_below x.key) (flat_map below es)
       → AllFail (flat_map below (drop (index_in is_below es + 1) es))
   fail_behind_index es t c =
@@ -160,12 +160,12 @@ module _ (is_below : ℕ → Bool) (below : Entry → List Item) where
   pub index_inside : (es : List Entry) → 1 ≤ length es → index_in is_below es < length es
   index_inside es some = let le = length-items_below (λ (e : Entry). is_below e.key) es in omega arith
 
--- what a cut says of the node of a subtree above its leaves
+-- what a bound says of the node of a subtree above its leaves
 pub record IsWay {N : ℕ} (nodes : Arena (Node N)) (least height slot : ℕ) (is_below : ℕ → Bool) : Type 0 where
-  -- the entries are cut by their keys
+  -- the entries are partitioned by their keys
   pub entries : IsPartitioned (λ e. is_below e.key) (entries_at nodes slot)
   pub inside : index_in is_below (entries_at nodes slot) < length (entries_at nodes slot)
-  -- the entry that the probe finds
+  -- the entry that the bound finds
   pub entry : Entry
   pub is : slice_get (entries_at nodes slot) (index_in is_below (entries_at nodes slot)) ≡ Some entry
   pub child : entry.child ≡ child_in is_below (entries_at nodes slot)

@@ -28,20 +28,20 @@ leaf_alone p es = record {
   none = λ _. refl;
 }
 
--- A part of items that are cut is cut.
+-- A part of items that are partitioned is partitioned.
 pub part_partitioned : (p : ℕ → Bool) (items : List Item) → IsPartOfPartitioned p items → IsPartitioned (λ x. p x.key) items
 part_partitioned p items part =
     let here = λ (x : Item). p x.key in
     (IsPartitioned-parts here items part.1 (IsPartitioned-parts here part.0 (items ++ part.1) part.2).1).0
 
--- Where so many entries pass, some item does.
+-- Where so many entries are below the bound, some item does.
 pub some_item : (p : ℕ → Bool) (es : List Entry) (n : ℕ) → 1 ≤ n → n ≡ length (filter (λ e. p e.key) es)
     → items_below p (map item_of es) ≢ []
 some_item p es n some count none =
     let front = filter (λ (e : Entry). p e.key) es in
     omega (arith, some, count, ap length (filter-items p es), length-map front item_of, ap length none)
 
--- so many entries pass, and the items that do are theirs
+-- so many entries are below the bound, and the items that do are theirs
 pub items_parted : (p : ℕ → Bool) (es : List Entry) (n : ℕ) → IsPartitioned (λ e. p e.key) es
     → n ≡ length (filter (λ e. p e.key) es)
     → (items_below p (map item_of es) ≡ map item_of (take n es)) × (behind p (map item_of es) ≡ map item_of (drop n es))
@@ -54,7 +54,7 @@ items_parted p es n partitioned count =
 module _ (p q : ℕ → Bool) (nested : (key : ℕ) → p key ≡ true → q key ≡ true) (es : List Entry) (begin end : ℕ)
     (first_bound : IsPartitioned (λ e. p e.key) es) (second_bound : IsPartitioned (λ e. q e.key) es) (within : begin ≤ length es)
     (begins : begin ≡ length (filter (λ e. p e.key) es)) (ends : end ≡ length (filter (λ e. q e.key) es)) where
-  -- the entries between two cuts
+  -- the entries between two bounds
   run_here : filter (λ e. q e.key) (drop begin es) ≡ drop begin (take end es)
   run_here =
       let there = λ (e : Entry). q e.key in
@@ -77,7 +77,7 @@ module _ (p q : ℕ → Bool) (nested : (key : ℕ) → p key ≡ true → q key
       between_is p q (map item_of es) ∙ ap (items_below q) (items_parted p es begin first_bound begins).1
       ∙ filter-items q (drop begin es) ∙ ap (map item_of) run_here
 
-  -- what becomes of the items where entries are put in place of those between the cuts
+  -- what becomes of the items where entries are put in place of those between the bounds
   pub replaced : (new now : List Entry) → now ≡ take begin es ++ (new ++ drop end es)
       → map item_of now ≡ items_below p (map item_of es) ++ (map item_of new ++ behind q (map item_of es))
   replaced new now now_is =
@@ -90,7 +90,7 @@ no_last : (xs : List Item) (x : Item) → xs ++ x ∷ [] ≢ []
 no_last [] x e = cc
 no_last (y ∷ xs) x e = cc
 
--- The last entry that passes, where it is lent, has the version of the last item that does.
+-- The last entry below the bound, where it is lent, has the version of the last such item.
 pub last_version : (q : ℕ → Bool) (es passed : List Entry) (lent : Option (Bor Entry)) (version otherwise : ℤ)
     (post : Bor Entry → Type 0) → passed ≡ filter (λ e. q e.key) es
     → option_copied lent ≡ slice_get passed (length passed - 1) → MatchOption lent (version ≡ otherwise) post
@@ -159,7 +159,7 @@ module _ (q r : ℕ → Bool) (es : List Entry) (end : ℕ) (others : drop end e
   behind_end : behind q (map item_of es) ≡ map item_of (drop end es)
   behind_end = filter-items (λ key. not (q key)) es ∙ sym (ap (map item_of) others)
 
-  -- The next entry of the leaf tells whether the first key behind the second cut passes.
+  -- The next entry of the leaf tells whether the first key behind the second bound passes.
   pub ended_in_leaf : end < length es → ((e : Entry) → slice_get es end ≡ Some e → ended ≡ r e.key)
       → ended ≡ first_is_below r (first_key otherwise (behind q (map item_of es)))
   ended_in_leaf within tells = by_entries es within refl

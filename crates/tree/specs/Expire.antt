@@ -1,13 +1,13 @@
--- What becomes of a run of items that is thinned. This project's own.
+-- What becomes of a run of items that is swept of expired items. This project's own.
 use Rattle.std.specs.Prelude.{◌≡◌, ◌≢◌, ◌≤◌, ◌++◌, ◌∷◌, ℕ, ℤ, Bool, List, [], length, map, Option}
 use Rattle.tree.specs.declared.expiring.Removal.{Removal}
 use Rattle.tree.specs.Item.{Item}
 use Rattle.tree.specs.Path.{items_below, behind, first_key}
 use Rattle.tree.specs.Tree.{IsLast, unexpired, expired}
 
--- A run of items was looked at that begins with the last one that passes. Those that tell nothing at or above the edge are
--- gone: each whose version and predecessor's version are below it. `before` is the version of the item before the run, and
--- `next` the key of the first item behind all of these.
+-- A run of items was looked at that begins with the last one below the bound. Those that tell nothing at or above the edge are
+-- gone: each whose version and predecessor's version are below it. `before` is the version of the item before the run, and `next`
+-- the key of the first item behind all of these.
 pub record RemovesExpired (is_below : ℕ → Bool) (count : ℕ) (edge before : ℤ) (removal : Removal) (run : List Item) (next : Option ℕ)
     (was now : List Item) : Type 0 where
   pub front : List Item
@@ -24,7 +24,7 @@ pub record RemovesExpired (is_below : ℕ → Bool) (count : ℕ) (edge before :
   pub last : IsLast removal.last (map (λ x. x.version) looked)
   pub next_is : removal.next ≡ first_key next rest
 
--- That of the items of a leaf, if one of them passes.
+-- That of the items of a leaf, if one of them is below the bound.
 abbrev pub GivesUnexpired : (ℕ → Bool) → ℕ → ℤ → ℤ → Removal → List Item → Option ℕ → List Item → List Item → Type 0
 GivesUnexpired is_below count edge before removal run next was now =
     ((items_below is_below was ≡ []) → (now ≡ was) × (run ≡ []))

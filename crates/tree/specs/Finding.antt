@@ -6,29 +6,29 @@ use Rattle.tree.specs.Heads.{KeyHeads, KeyBytes, IsTargetHead, AreHeads, IsPrefi
 use Rattle.tree.specs.Node.{entries_of, key_heads_of}
 use Rattle.tree.specs.Path.{IsPartitioned, index_in}
 
--- the head of what is looked for, if there is one: then that begins as all keys of the node do
+-- the head of the target, if there is one: then that begins as all keys of the node do
 abbrev pub HasHead : KeyBytes → List ℕ → Option ℕ → KeyHeads → Type 0
 HasHead bytes target head key_heads = IfSome head (λ d. IsTargetHead bytes key_heads target d)
 
--- That, where the first key and what is looked for are known to begin with so many bytes in common. It is missing only where the
--- first key may be empty, or where they don't begin as all keys do.
+-- That, where the first key and the target are known to begin with so many bytes in common. It is missing only where the first key
+-- may be empty, or where they don't begin as all keys do.
 pub record IsOwnHead (bytes : KeyBytes) (target : List ℕ) (known : ℕ) (own : Option ℕ) (key_heads : KeyHeads) : Type 0 where
   pub head : HasHead bytes target own key_heads
   pub none : own ≡ None → get_or key_heads.heads 0 0 ≢ 0 → known < key_heads.prefix_len
 
 module _ {N : ℕ} where
-  -- a node that has entries, of which those that pass come first, and that knows the bytes of their keys
+  -- a node that has entries, of which those below the bound come first, and that knows the bytes of their keys
   pub record CanFind (bytes : KeyBytes) (is_below : ℕ → Bool) (node : Node N) : Type 0 where
     pub headed : AreHeads bytes (key_heads_of node)
     pub partitioned : IsPartitioned (λ e. is_below e.key) (entries_of node)
     pub some : 0 < length (entries_of node)
 
-  -- how many of the entries pass
+  -- how many of the entries are below the bound
   pub record IsLowerBound (is_below : ℕ → Bool) (node : Node N) (count : ℕ) : Type 0 where
     pub within : count ≤ length (entries_of node)
     pub count_is : count ≡ length (filter (λ e. is_below e.key) (entries_of node))
 
-  -- the last entry that passes, or else the first one, and what is known of its key
+  -- the last entry below the bound, or else the first one, and what is known of its key
   pub record IsStep (bytes : KeyBytes) (is_below : ℕ → Bool) (target : List ℕ) (node : Node N) (step : Step) : Type 0 where
     pub index_is : step.index ≡ index_in is_below (entries_of node)
     pub within : step.index < length (entries_of node)

@@ -47,7 +47,7 @@ pub record AreHeads (bytes : KeyBytes) (key_heads : KeyHeads) : Type 0 where
 abbrev pub AllAreHeads : KeyBytes → (ℕ → Option KeyHeads) → Type 0
 AllAreHeads bytes all_heads = (s : ℕ) → IfSome (all_heads s) (AreHeads bytes)
 
--- Whether a key passes goes by its bytes and by those that are looked for.
+-- Whether a key is below a bound goes by its bytes and by those of the target.
 pub record IsBelowInOrder (text target : List ℕ) (is_below : Bool) : Type 0 where
   pub before : IsBefore text target → is_below ≡ true
   pub behind : IsBefore target text → is_below ≡ false
@@ -60,7 +60,7 @@ HaveCommonPrefix shared text target = (count : ℕ) → count ≤ length text �
 abbrev pub IsCommonPrefixLen : ℕ → List ℕ → List ℕ → Type 0
 IsCommonPrefixLen shared text target = (count : ℕ) → count ≤ length text → (count ≤ shared) ↔ (take count text ≡ take count target)
 
--- What is known of a key: how far it and what is looked for begin alike, or that it doesn't pass.
+-- What is known of a key: how far it and the target begin alike, or that it isn't below the bound.
 abbrev pub IsPrefixLen : KeyBytes → (ℕ → Bool) → List ℕ → Option ℕ → ℕ → Type 0
 IsPrefixLen bytes is_below target known key =
     MatchOption known (is_below key ≡ false)
@@ -71,7 +71,7 @@ abbrev pub IsPrefixLenAt : KeyBytes → (ℕ → Bool) → List ℕ → Option �
 IsPrefixLenAt bytes is_below target known entries index =
     (e : Entry) → slice_get entries index ≡ Some e → IsPrefixLen bytes is_below target known e.key
 
--- What is looked for begins as all keys of the node do: as one of them that is long enough, so far as the node tells.
+-- The target begins as all keys of the node do: as one of them that is long enough, so far as the node tells.
 pub record HasPrefix (bytes : KeyBytes) (key_heads : KeyHeads) (target : List ℕ) : Type 0 where
   pub key : ℕ
   pub text : List ℕ
@@ -80,7 +80,7 @@ pub record HasPrefix (bytes : KeyBytes) (key_heads : KeyHeads) (target : List �
   pub long : key_heads.prefix_len ≤ length text
   pub same : take key_heads.prefix_len text ≡ take key_heads.prefix_len target
 
--- The head of what is looked for, which begins as all keys do.
+-- The head of the target, which begins as all keys do.
 pub record IsTargetHead (bytes : KeyBytes) (key_heads : KeyHeads) (target : List ℕ) (head : ℕ) : Type 0 where
   pub agrees : HasPrefix bytes key_heads target
   pub head_is : head ≡ head_behind key_heads.prefix_len target

@@ -7,8 +7,8 @@ use Rattle.tree.specs.Item.{Item}
 use Rattle.tree.specs.Path.{IsPartitioned, items_below, behind, between, first_key}
 use Rattle.tree.specs.Tree.{IsLast, ended_by}
 
--- Items once written over: the first of the new ones comes in place of those from one cut to another. A second one has the version
--- given, or that of the last item before the other cut, unless the run is ended already.
+-- Items once written over: the first of the new ones comes in place of those from one bound to another. A second one has the
+-- version given, or that of the last item before the other bound, unless the run is ended already.
 abbrev pub IsOverwritten : (ℕ → Bool) → (ℕ → Bool) → Item → ℕ → Option ℤ → Bool → List Item → List Item → Type 0
 IsOverwritten from to first second given ended was now =
     (last : Item) → IsLast last (items_below to was)
@@ -21,7 +21,7 @@ put_of (Partly last) = 0
 put_of (Whole true) = 1
 put_of (Whole false) = 2
 
--- Items that are a part of others, which are cut.
+-- Items that are a part of others, which are partitioned.
 abbrev pub IsPartOfPartitioned : (ℕ → Bool) → List Item → Type 0
 IsPartOfPartitioned is_below part = (front back : List Item) × IsPartitioned (λ x. is_below x.key) (front ++ (part ++ back))
 
@@ -37,7 +37,7 @@ part_of_part is_below before items behind part =
     ∙ sym (append_assoc front before (items ++ (behind ++ back))) in
     (front ++ before, behind ++ back, subst (IsPartitioned (λ x. is_below x.key)) regrouped part.2)
 
--- there is such a key, and it passes
+-- there is such a key, and it is below the bound
 abbrev pub first_is_below : (ℕ → Bool) → Option ℕ → Bool
 first_is_below is_below None = false
 first_is_below is_below (Some key) = is_below key

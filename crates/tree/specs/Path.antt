@@ -1,4 +1,4 @@
--- The way from the root to a leaf, by which keys pass. This project's own.
+-- The way from the root to a leaf, by which keys are below a bound. This project's own.
 use Rattle.std.specs.Prelude.{◌≡◌, ◌&&◌, true, false, ◌∷◌, Option, Some, ℕ, zero, suc, ◌+◌, ◌-◌, Bool, not, List, [], ◌++◌, take, drop, filter, slice_get, option_map, unwrap_or, length}
 use Rattle.std.specs.List.{flat_map}
 use Rattle.arena.specs.Arena.{Arena}
@@ -7,11 +7,11 @@ use Rattle.tree.specs.declared.node.Node.{Node}
 use Rattle.tree.specs.Item.{Item}
 use Rattle.tree.specs.Subtree.{entries_at, items_in}
 
--- those that pass come first
+-- those below the bound come first
 abbrev pub IsPartitioned : {X : Type 0} → (X → Bool) → List X → Type 0
 IsPartitioned is_below xs = xs ≡ filter is_below xs ++ filter (λ x. not (is_below x)) xs
 
--- the items whose keys pass, and the others
+-- the items below the bound, and the others
 abbrev pub items_below : (ℕ → Bool) → List Item → List Item
 items_below is_below items = filter (λ x. is_below x.key) items
 
@@ -23,23 +23,23 @@ abbrev pub first_key : Option ℕ → List Item → Option ℕ
 first_key otherwise [] = otherwise
 first_key otherwise (x ∷ xs) = Some x.key
 
--- the cut from which items are looked at: none passes where it is missing
+-- the bound from which items are looked at: none is below it where it is missing
 abbrev pub below_from : Option (ℕ → Bool) → ℕ → Bool
 below_from from = unwrap_or from (λ _. false)
 
--- the cut to which they are: all pass where it is missing
+-- the bound to which they are: all are below it where it is missing
 abbrev pub below_to : Option (ℕ → Bool) → ℕ → Bool
 below_to to = unwrap_or to (λ _. true)
 
--- the items from one cut to another, of which either may be missing
+-- the items from one bound to another, of which either may be missing
 abbrev pub between : Option (ℕ → Bool) → Option (ℕ → Bool) → List Item → List Item
 between from to items = filter (λ x. not (below_from from x.key) && below_to to x.key) items
 
--- the items before the second cut, of those before the first one the last alone
+-- the items before the second bound, of those before the first one the last alone
 abbrev pub from_last : (ℕ → Bool) → Option (ℕ → Bool) → List Item → List Item
 from_last from to items = drop (length (items_below from items) - 1) (filter (λ x. below_to to x.key) items)
 
--- the index of the last entry that passes, or of the first one
+-- the index of the last entry below the bound, or of the first one
 abbrev pub index_in : (ℕ → Bool) → List Entry → ℕ
 index_in is_below entries = length (filter (λ e. is_below e.key) entries) - 1
 

@@ -14,14 +14,14 @@ use Rattle.tree.specs.Path.{IsPartitioned, from_last}
 use Rattle.tree.specs.Reached.{CanReach}
 use Rattle.tree.specs.Subtree.{entries_at, items_in}
 
--- a subtree that a question can be asked of: both cuts go through its items
+-- a subtree that a question can be asked of: both bounds go through its items
 pub record IsAsked {N : ℕ} (nodes : Arena (Node N)) (least height slot : ℕ) (bytes : KeyBytes) (p q : ℕ → Bool) : Type 0 where
   pub can_reach : CanReach bytes p nodes least height slot
   pub to : IsPartitioned (λ x. q x.key) (items_in nodes height slot)
 
--- What is told of some items, if anything is: whether a version of those before the second cut, of those before the first
--- one the last alone, is above this one. That holds whatever stands before them, and behind them. Where `clear` holds, what
--- stands behind them doesn't come before the second cut.
+-- What is told of some items, if anything is: whether a version of those before the second bound, of those before the first one the
+-- last alone, is above this one. That holds whatever stands before them, and behind them. Where `clear` holds, what stands behind
+-- them doesn't come before the second bound.
 abbrev pub IsTold : (ℕ → Bool) → (ℕ → Bool) → ℤ → Bool → List Item → Option Bool → Type 0
 IsTold p q v clear items result =
     (before after : List Item) → (IsTrue clear → All (λ x. q x.key ≡ false) after)
@@ -34,7 +34,7 @@ pub record IsNear {N : ℕ} (nodes : Arena (Node N)) (bytes : KeyBytes) (p : ℕ
   pub some : 1 ≤ length (entries_at nodes near.leaf)
   pub known : IsPrefixLenAt bytes p target (Some near.common_prefix_len) (entries_at nodes near.leaf) 0
 
--- A leaf of a subtree, whose items are cut twice. What is told of them is told of the subtree's.
+-- A leaf of a subtree, whose items are partitioned twice. What is told of them is told of the subtree's.
 pub record IsFor {N : ℕ} (nodes : Arena (Node N)) (height slot : ℕ) (bytes : KeyBytes) (p q : ℕ → Bool) (target : List ℕ)
     (v : ℤ) (clear : Bool) (near : Near) : Type 0 where
   pub near_is : IsNear nodes bytes p target near

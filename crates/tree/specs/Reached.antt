@@ -1,4 +1,4 @@
--- The search for the leaf of a tree where a cut goes through its items. This project's own.
+-- The search for the leaf of a tree where a bound goes through its items. This project's own.
 use Rattle.std.specs.Prelude.{◌≡◌, ◌≤◌, ◌++◌, true, false, ℕ, Bool, List, [], filter, length, map, None}
 use Rattle.std.specs.List.{All}
 use Rattle.arena.specs.Arena.{Arena, IsLive}
@@ -11,14 +11,14 @@ use Rattle.tree.specs.Path.{IsPartitioned, before_leaf, behind_leaf, first_key}
 use Rattle.tree.specs.Subtree.{entries_at, items_in, IsSubtree}
 
 module _ {N : ℕ} where
-  -- a subtree that has items, of which those that pass come first, and whose nodes know the bytes of their keys
+  -- a subtree that has items, of which those below the bound come first, and whose nodes know the bytes of their keys
   pub record CanReach (bytes : KeyBytes) (is_below : ℕ → Bool) (nodes : Arena (Node N)) (least height slot : ℕ) : Type 0 where
     pub subtree : IsSubtree nodes least height slot
     pub some : 1 ≤ length (entries_at nodes slot)
     pub partitioned : IsPartitioned (λ x. is_below x.key) (items_in nodes height slot)
     pub headed : AllAreHeads bytes (all_heads_of nodes)
 
-  -- the leaf that has the last item that passes, or else the first leaf
+  -- the leaf that has the last item below the bound, or else the first leaf
   pub record IsReached (bytes : KeyBytes) (is_below : ℕ → Bool) (target : List ℕ) (nodes : Arena (Node N)) (height slot : ℕ)
       (reached : Reached) : Type 0 where
     pub live : IsLive nodes reached.leaf

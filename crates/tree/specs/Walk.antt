@@ -26,13 +26,13 @@ pub record IsRaised (version : ℤ) (was now : List Item) : Type 0 where
   pub there : Any (λ x. x.version ≡ version) now
   pub others : All (λ x. (x.version ≡ version) ⊎ Any (λ w. x.version ≡ w.version) was) now
 
--- An item that passes stands among them, or none stands before them.
+-- An item below the bound stands among them, or none stands before them.
 abbrev pub IsFoundAmong : (ℕ → Bool) → List Item → List Item → Type 0
 IsFoundAmong is_below before items = (before ≡ []) ⊎ Any (λ x. is_below x.key ≡ true) items
 
--- Items of which those of one leaf were changed: the leaf that has the last item that passes, or else the first one. What is
--- given of the leaf's is a relation of four: whether no item stands before them, the key of the first item behind them, what
--- they were, and what they are.
+-- Items of which those of one leaf were changed: the leaf that has the last item below the bound, or else the first one. What is
+-- given of the leaf's is a relation of four: whether no item stands before them, the key of the first item behind them, what they
+-- were, and what they are.
 pub record IsChangedWithin (is_below : ℕ → Bool) (Gives : Bool → Option ℕ → List Item → List Item → Type 0) (is_first : Bool)
     (next : Option ℕ) (was now : List Item) : Type 0 where
   pub before : List Item
@@ -61,7 +61,7 @@ module _ {N : ℕ} where
     pub keyless : IsKeyless nodes
     pub room : height < spare_of nodes 0
 
-  -- What is known of the way to a subtree, where something is looked for.
+  -- What is known of the way to a subtree, where a bound is sought.
   pub record CanSearch (bytes : KeyBytes) (is_below : ℕ → Bool) (target : List ℕ) (nodes : Arena (Node N)) (height slot : ℕ)
       (shared : Option ℕ) : Type 0 where
     pub partitioned : IsPartitioned (λ x. is_below x.key) (items_in nodes height slot)

@@ -1,4 +1,4 @@
-//! What is looked for in a tree.
+//! Bounds in the order of keys: what is looked for in a tree.
 
 ghost use Rattle.std.specs.Prelude.{◌≡◌, ◌≤◌, ◌↔◌, ℕ, Bool, List, [], length, take, Option, Some, IsTrue};
 ghost use Rattle.keys.specs.Key.{IsBytes};
@@ -6,25 +6,25 @@ ghost use Rattle.tree.specs.Heads.{KeyBytes, head_behind, IsBelowInOrder, IsComm
 
 use arena::Slot;
 
-/// A cut through items in the order of their keys. Those before it pass.
+/// A bound in the order of keys. Items are below it, or they aren't; those below it come first.
 ///
-/// A probe knows the bytes of keys and those that are looked for. Whether an item passes goes by them: those before
-/// what is looked for pass, and those behind it don't.
+/// A bound knows the bytes of keys and its target, the bytes that it lies at. An item whose key comes before the target is below
+/// the bound, and one whose key comes behind it isn't.
 pub trait Bound {
-    // Whether an item of this key passes.
+    // Whether an item of this key is below the bound.
     ghost below: { Self → ℕ → Bool };
 
     // The bytes of keys, of those that are known.
     ghost bytes: { Self → ℕ → Option (List ℕ) };
 
-    // The bytes that are looked for.
+    // The bytes that the bound lies at.
     ghost target: { Self → List ℕ };
 
-    /// Returns whether an item of this key passes.
+    /// Returns whether an item of this key is below the bound.
     fn is_below(&self, key: Slot) -> bool
         ensures is_below { result ≡ below self.now key };
 
-    /// Returns the head of what is looked for, behind so many bytes.
+    /// Returns the head of the target, behind so many bytes.
     fn head(&self, prefix_len: usize) -> u64
         ensures head { result ≡ head_behind prefix_len (target self.now) }
         ensures are_bytes { IsBytes (target self.now) };
@@ -44,11 +44,11 @@ pub trait Bound {
         ensures within { (a b : List ℕ) → bytes self.now one ≡ Some a → bytes self.now other ≡ Some b
             → (result ≤ length a) × (result ≤ length b) };
 
-    /// Returns how many bytes a key and what is looked for begin with in common.
+    /// Returns how many bytes a key and the target begin with in common.
     fn common_prefix_len_with(&self, key: Slot) -> usize
         ensures common { (text : List ℕ) → bytes self.now key ≡ Some text → IsCommonPrefixLen result text (target self.now) };
 
-    // A key that comes before what is looked for passes, and one behind it doesn't.
+    // A key that comes before the target is below the bound, and one behind it isn't.
     ghost order: { (bound : Self) (key : ℕ) (text : List ℕ) → bytes bound key ≡ Some text
         → IsBelowInOrder text (target bound) (below bound key) };
 }

@@ -17,15 +17,13 @@ use arena::{Arena, Slot};
 #[derive(Clone, Copy, Debug)]
 pub struct Reached {
     pub leaf: Slot,
-    /// How many bytes the first key of the leaf and what is looked for begin with in common, or none if that key
-    /// doesn't pass.
+    /// How many bytes the first key of the leaf and the target begin with in common, or none if that key isn't below the bound.
     pub common_prefix_len: Option<usize>,
     /// The key of the first item behind the leaf.
     pub behind: Option<Slot>,
 }
 
-/// Returns how many bytes the first key of a node and what is looked for begin with in common, or none if that key
-/// doesn't pass.
+/// Returns how many bytes the first key of a node and the target begin with in common, or none if that key isn't below the bound.
 pub fn common_prefix_len_at<P: Bound, const N: usize>(
     nodes: &Arena<Node<N>>,
     slot: Slot,
@@ -42,9 +40,9 @@ pub fn common_prefix_len_at<P: Bound, const N: usize>(
     Some(bound.common_prefix_len_with(first))
 }
 
-/// Finds the leaf that has the last item that passes, or else the first leaf. `common_prefix_len` is how many bytes the first key
-/// of the subtree and what is looked for begin with in common, or none if that key doesn't pass. `behind` is the key of
-/// the first item behind the subtree.
+/// Finds the leaf that has the last item below the bound, or else the first leaf. `common_prefix_len` is how many bytes the first
+/// key of the subtree and the target begin with in common, or none if that key isn't below the bound. `behind` is the key of the
+/// first item behind the subtree.
 pub fn find<P: Bound, const N: usize>(
     nodes: &Arena<Node<N>>,
     slot: Slot,

@@ -1,4 +1,4 @@
-//! A run of items thinned: those that tell nothing any more are taken out.
+//! The removal of expired items: those that tell nothing any more.
 
 ghost use Rattle.std.specs.Prelude.{◌≡◌, ◌-◌, ◌≤◌, ◌<◌, ◌++◌, ◌∷◌, [], take, drop, length, map, IsSomeAnd, MatchOption};
 ghost use Rattle.tree.specs.Item.{item_of, version_of};
@@ -15,7 +15,7 @@ use crate::search::key_at;
 use crate::walk::{LeafChange, Outcome, Place};
 use arena::{Arena, Slot};
 
-/// How the thinning of a run ended.
+/// How the removal of expired items ended.
 #[derive(Clone, Copy, Debug)]
 pub struct Removal {
     /// How many items were looked at.
@@ -26,7 +26,7 @@ pub struct Removal {
     pub next: Option<Slot>,
 }
 
-/// A run of a leaf's items that begins with the last one that passes, to be thinned.
+/// A run of a leaf's items that begins with the last one below the bound, of which the expired ones are removed.
 #[derive(Debug, Drop)]
 pub struct Expiring<'a, P: Bound> {
     pub bound: &'a P,

@@ -43,20 +43,20 @@ impl Written {
     }
 }
 
-/// What is written over a run of items: it stands between the first two cuts.
+/// What is written over a run of items: it stands between the first two bounds.
 #[derive(Debug, Drop)]
 pub struct Overwrite<'a, P: Bound, Q: Bound, R: Bound> {
     pub from: &'a P,
     pub to: &'a Q,
-    /// It looks for what the second cut looks for, and lets an item pass that has just this key.
+    /// Its target is that of the second bound, and an item of just this key is below it.
     pub past: &'a R,
-    /// How many bytes what the first two cuts look for begins with in common, or fewer.
+    /// How many bytes the targets of the first two bounds begin with in common, or fewer.
     pub targets_prefix_len: usize,
     /// The entry that comes in place of the run.
     pub first: Entry,
     /// The key of the entry behind it.
     pub second: Slot,
-    /// The version of that entry. If it is missing, that of the last item before the second cut is taken.
+    /// The version of that entry. If it is missing, that of the last item before the second bound is taken.
     pub last: Option<i64>,
     ghost nested: { (key : ℕ) → P.below from.now key ≡ true → Q.below to.now key ≡ true },
     ghost outer: { (key : ℕ) → Q.below to.now key ≡ true → R.below past.now key ≡ true },

@@ -10,13 +10,12 @@ pub const SIDE: usize = 16;
 
 const _: () = prove!(SIDE == 16);
 
-/// Asks whether a version of the items before the second cut, of those before the first one the last alone, is above this
-/// one.
+/// Asks whether a version of the items before the second bound, of those before the first one the last alone, is above this one.
 #[derive(Drop)]
 pub struct Question<P: Bound, Q: Bound> {
     pub from: P,
     pub to: Q,
-    /// How many bytes what the two cuts look for begins with in common, or fewer.
+    /// How many bytes the targets of the two bounds begin with in common, or fewer.
     pub targets_prefix_len: usize,
     pub version: i64,
     ghost nested: { (key : ℕ) → P.below from key ≡ true → Q.below to key ≡ true },

@@ -26,9 +26,9 @@ use arrayvec::ArrayVec;
 #[derive(Clone, Copy, Debug)]
 pub struct Near {
     pub leaf: Slot,
-    /// How many bytes the first key of the leaf and what the first cut looks for begin with in common.
+    /// How many bytes the first key of the leaf and the target of the first bound begin with in common.
     pub common_prefix_len: usize,
-    /// Tells that the items behind the leaf don't come before the second cut.
+    /// Tells that the items behind the leaf don't come before the second bound.
     pub clear: bool,
 }
 
@@ -48,13 +48,13 @@ pub enum Approach {
 #[derive(Clone, Copy, Debug, Default)]
 pub struct Look {
     pub way: Approach,
-    /// The head there of what the first cut looks for, if it is known to begin as all keys of the leaf do.
+    /// The head there of the target of the first bound, if it is known to begin as all keys of the leaf do.
     pub own: Option<u64>,
 }
 
-/// Goes down a subtree to the leaf that answers a question. `common_prefix_len` is how many bytes the first key of the subtree and what
-/// the first cut looks for begin with in common. `clear` tells that the items behind the subtree don't come before the second
-/// cut.
+/// Goes down a subtree to the leaf that answers a question. `common_prefix_len` is how many bytes the first key of the subtree and
+/// the target of the first bound begin with in common. `clear` tells that the items behind the subtree don't come before the second
+/// bound.
 pub fn descend<P: Bound, Q: Bound, const N: usize>(
     nodes: &Arena<Node<N>>,
     slot: Slot,
@@ -196,7 +196,7 @@ pub fn answer<P: Bound, Q: Bound, const N: usize>(
     }
 }
 
-// Answers a question by a way down the tree along each of its cuts.
+// Answers a question by a way down the tree along each of its bounds.
 fn exceeds<P: Bound, Q: Bound, const N: usize>(
     nodes: &Arena<Node<N>>,
     root: Root,

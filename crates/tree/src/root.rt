@@ -32,7 +32,7 @@ pub struct Root {
     pub height: usize,
 }
 
-/// Finds the leaf that has the last item that passes, or else the first leaf.
+/// Finds the leaf that has the last item below the bound, or else the first leaf.
 pub fn reach<P: Bound, const N: usize>(nodes: &Arena<Node<N>>, root: Root, bound: &P) -> Reached
     requires can_reach { CanReach (P.bytes bound.now) (P.below bound.now) nodes.now (least_of N) root.height root.slot }
     ensures reached { IsReached (P.bytes bound.now) (P.below bound.now) (P.target bound.now) nodes.now root.height root.slot result }
@@ -41,7 +41,7 @@ pub fn reach<P: Bound, const N: usize>(nodes: &Arena<Node<N>>, root: Root, bound
     find(nodes, root.slot, root.height, bound, common_prefix_len, None)
 }
 
-/// Returns the last item that passes.
+/// Returns the last item below the bound.
 pub fn last<P: Bound, const N: usize>(
     nodes: &Arena<Node<N>>,
     root: Root,

@@ -13,7 +13,7 @@ use crate::bound::Bound;
 use crate::span::{begin_of, end_of, greater, greatest_of, is_above};
 use arena::{Arena, Slot};
 
-/// Returns how many of the entries pass, which come first.
+/// Returns how many of the entries are below the bound, which come first.
 pub fn lower_bound<P: Bound>(entries: &[Entry], bound: &P) -> usize
     requires partitioned { IsPartitioned (λ e. P.below bound.now e.key) entries.now }
     ensures within { result ≤ length entries.now }
@@ -24,7 +24,7 @@ pub fn lower_bound<P: Bound>(entries: &[Entry], bound: &P) -> usize
     entries.partition_point(|entry| bound.is_below(entry.key))
 }
 
-/// Returns the index of the last entry that passes, or else that of the first one.
+/// Returns the index of the last entry below the bound, or else that of the first one.
 pub fn index_of<P: Bound>(entries: &[Entry], bound: &P) -> usize
     requires partitioned { IsPartitioned (λ e. P.below bound.now e.key) entries.now }
     requires some { 0 < length entries.now }
@@ -34,7 +34,7 @@ pub fn index_of<P: Bound>(entries: &[Entry], bound: &P) -> usize
     lower_bound(entries, bound).saturating_sub(1)
 }
 
-/// Returns the key of the first item that doesn't pass, or `behind` if all of them pass.
+/// Returns the key of the first item that isn't below the bound, or `behind` if all of them are.
 pub fn key_behind<P: Bound, const N: usize>(
     nodes: &Arena<Node<N>>,
     slot: Slot,
@@ -65,7 +65,7 @@ pub fn key_at(entries: &[Entry], index: usize, behind: Option<Slot>) -> Option<S
     }
 }
 
-/// Returns the greatest of a version, which may be missing, and those of the items from one cut to another. Subtrees that have
+/// Returns the greatest of a version, which may be missing, and those of the items from one bound to another. Subtrees that have
 /// none above it are passed over.
 pub fn greatest<'a, P: Bound, Q: Bound, const N: usize>(
     nodes: &Arena<Node<N>>,

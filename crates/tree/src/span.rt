@@ -1,4 +1,4 @@
-//! The entries from one cut to another.
+//! The entries from one bound to another.
 
 ghost use Rattle.std.specs.Prelude.{◌≡◌, ◌≤◌, ◌<ℤ◌, ◌↔◌, [], length, filter, option_map, IfSome, IsTrue, MatchOption};
 ghost use Rattle.std.specs.List.{Any};
@@ -9,7 +9,7 @@ use crate::entry::Entry;
 use crate::bound::Bound;
 use crate::search::lower_bound;
 
-/// Returns how many of the entries stand before the first cut: none where it is missing.
+/// Returns how many of the entries stand before the first bound: none where it is missing.
 pub fn begin_of<P: Bound>(entries: &[Entry], from: Option<&P>) -> usize
     requires partitioned { IsPartitioned (λ e. below_from (option_map (λ p. P.below p.now) from) e.key) entries.now }
     ensures within { result ≤ length entries.now }
@@ -21,7 +21,7 @@ pub fn begin_of<P: Bound>(entries: &[Entry], from: Option<&P>) -> usize
     }
 }
 
-/// Returns how many of the entries stand before the last cut: all where it is missing.
+/// Returns how many of the entries stand before the last bound: all where it is missing.
 pub fn end_of<P: Bound>(entries: &[Entry], to: Option<&P>) -> usize
     requires partitioned { IsPartitioned (λ e. below_to (option_map (λ p. P.below p.now) to) e.key) entries.now }
     ensures within { result ≤ length entries.now }

@@ -120,7 +120,7 @@ impl<const N: usize> Tree<N> {
         self.len
     }
 
-    /// Returns the last item that passes.
+    /// Returns the last item below the bound.
     pub fn last<P: Bound>(&self, bound: &P) -> Option<Entry>
         requires partitioned { IsPartitioned (λ x. P.below bound.now x.key) self.now.items }
         requires headed { AllAreHeads (P.bytes bound.now) (tree_heads self.now) }
@@ -130,7 +130,7 @@ impl<const N: usize> Tree<N> {
         last(&self.nodes, self.root, bound)
     }
 
-    /// Returns the key of the first item that doesn't pass.
+    /// Returns the key of the first item that isn't below the bound.
     pub fn key_behind<P: Bound>(&self, bound: &P) -> Option<Slot>
         requires partitioned { IsPartitioned (λ x. P.below bound.now x.key) self.now.items }
         ensures key { result ≡ first_key None (behind (P.below bound.now) self.now.items) }
@@ -138,7 +138,7 @@ impl<const N: usize> Tree<N> {
         key_behind(&self.nodes, self.root.slot, self.root.height, bound, None)
     }
 
-    /// Returns for each question, in their order, whether a version of the items before its second cut, of those before its first
+    /// Returns for each question, in their order, whether a version of the items before its second bound, of those before its first
     /// one the last alone, is above its own. There are at most [`SIDE`], and they are answered side by side. It takes no memory.
     pub fn exceeds_each<P: Bound, Q: Bound>(
         &self,
@@ -157,7 +157,7 @@ impl<const N: usize> Tree<N> {
         answer_each(&self.nodes, &self.root, questions, looks.as_slice())
     }
 
-    /// Returns the greatest version of the items from one cut to another, or none if there is no item.
+    /// Returns the greatest version of the items from one bound to another, or none if there is no item.
     pub fn greatest<'a, P: Bound, Q: Bound>(&self, from: &'a P, to: &'a Q) -> Option<i64>
         requires from { IsPartitioned (λ x. P.below from.now x.key) self.now.items }
         requires to { IsPartitioned (λ x. Q.below to.now x.key) self.now.items }
@@ -175,10 +175,10 @@ impl<const N: usize> Tree<N> {
         )
     }
 
-    /// Puts an item in place of those from one cut to another. Puts a second one behind it, with the version of the last item
-    /// before the other cut where none is given, unless an item stands between that cut and a third one. Where more than one
-    /// leaf has those items and the one before them, it only takes out those that the last of these leaves has.
-    /// Puts the entries that are taken out into `taken`.
+    /// Puts an item in place of those from one bound to another. Puts a second one behind it, with the version of the last item
+    /// before the other bound where none is given, unless an item stands between that bound and a third one. Where more than one
+    /// leaf has those items and the one before them, it only takes out those that the last of these leaves has. Puts the entries
+    /// that are taken out into `taken`.
     pub fn overwrite<P: Bound, Q: Bound, R: Bound>(
         &mut self,
         new: &Overwrite<'_, P, Q, R>,
@@ -207,7 +207,7 @@ impl<const N: usize> Tree<N> {
         written
     }
 
-    /// Looks at a run of items that begins with the last one that passes, at most `count` of them, and takes out each whose
+    /// Looks at a run of items that begins with the last one below the bound, at most `count` of them, and takes out each whose
     /// version and predecessor's version are below `edge`, into `taken`. `before` is the version of the item before the run.
     pub fn remove_expired<P: Bound>(
         &mut self,

@@ -16,7 +16,7 @@ use arena::{Arena, Slot};
 /// What a walk knows of the subtree that it has come to.
 #[derive(Clone, Copy, Debug)]
 pub struct Place {
-    /// How many bytes its first key and the target begin with in common, or none if that key doesn't pass.
+    /// How many bytes its first key and the target begin with in common, or none if that key isn't below the bound.
     pub common_prefix_len: Option<usize>,
     /// The key of the first item behind it.
     pub behind: Option<Slot>,
@@ -49,7 +49,7 @@ impl Outcome {
     }
 }
 
-/// A change of one leaf: the one that has the last item that passes a target, or else the first leaf.
+/// A change of one leaf: the one that has the last item below a bound, or else the first leaf.
 pub trait LeafChange<const N: usize> {
     /// By what the leaf is found.
     type LeafBound: Bound;

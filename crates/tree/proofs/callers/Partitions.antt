@@ -1,4 +1,4 @@
--- Lemmas for callers: lists in which those that pass come first.
+-- Lemmas for callers: lists in which those below the bound come first.
 use Rattle.std.proofs.Common.{◌≡◌, ℕ, zero, suc, ◌≤◌, ◌⊎◌, Bool, true, false, not, List, [], ◌∷◌, ◌++◌, length, get_or, take, drop, filter, All, refl, sym, ap, subst, inl, inr, arith}
 use Rattle.std.specs.List.Sorted.{IsPartitionedBy, IsPartitionPoint}
 use Rattle.std.proofs.lemmas.Bool.{cases_Bool}
@@ -22,7 +22,7 @@ pub All-back : {X : Type 0} (P : X → Type 0) (xs ys : List X) → All P (xs ++
 All-back P [] ys a = a
 All-back P (x ∷ xs) ys a = All-back P xs ys (All-tail P x (xs ++ ys) a)
 
--- a cut by recursion: behind one that fails all fail
+-- a bound by recursion: behind one that fails all fail
 abbrev pub Falls : {X : Type 0} → (X → Bool) → List X → Type 0
 Falls p [] = Unit {0}
 Falls p (x ∷ xs) = ((p x ≡ true) × Falls p xs) ⊎ ((p x ≡ false) × All (λ y. p y ≡ false) xs)
@@ -108,14 +108,14 @@ module _ {X : Type 0} (p : X → Bool) where
             (inr (h.0, All-front (λ y. p y ≡ false) xs ys h.1), Falls-failing ys b, inr b)
       ]
 
-  -- both parts of a list that is cut are cut, and all of the first pass or none of the second
+  -- both parts of a list that is partitioned are partitioned, and all of the first pass or none of the second
   pub IsPartitioned-parts : (xs ys : List X) → IsPartitioned p (xs ++ ys)
       → IsPartitioned p xs × IsPartitioned p ys × (All (λ x. p x ≡ true) xs ⊎ All (λ x. p x ≡ false) ys)
   IsPartitioned-parts xs ys c =
       let h = Falls-parts xs ys (Falls-below_from (xs ++ ys) c) in
       (IsPartitioned-from_falls xs h.0, IsPartitioned-from_falls ys h.1, h.2)
 
-  -- so many elements from an index on of a list that is cut are cut
+  -- so many elements from an index on of a list that is partitioned are partitioned
   pub IsPartitioned-range : (xs : List X) (from n : ℕ) → IsPartitioned p xs → IsPartitioned p (take n (drop from xs))
   IsPartitioned-range xs from n c =
       let rest = (IsPartitioned-parts (take from xs) (drop from xs) (subst (IsPartitioned p) (sym (take-append-drop from xs)) c)).1 in

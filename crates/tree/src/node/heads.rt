@@ -20,9 +20,9 @@ const FEW: u16 = 6;
 /// Where a search goes on in a node.
 #[derive(Clone, Copy, Debug)]
 pub struct Step {
-    /// The index of the last entry that passes, or of the first one.
+    /// The index of the last entry below the bound, or of the first one.
     pub index: usize,
-    /// How many bytes its key and what is looked for begin with in common, or none if it doesn't pass.
+    /// How many bytes its key and the target begin with in common, or none if it isn't below the bound.
     pub common_prefix_len: Option<usize>,
 }
 
@@ -35,8 +35,8 @@ impl<const N: usize> Node<N> {
         usize::from(self.prefix_len)
     }
 
-    /// Finds the last entry that passes, or else the first one. `common_prefix_len` is how many bytes the first key and what is
-    /// looked for begin with in common, or none if that key doesn't pass.
+    /// Finds the last entry below the bound, or else the first one. `common_prefix_len` is how many bytes the first key and the
+    /// target begin with in common, or none if that key isn't below the bound.
     pub fn step<P: Bound>(&self, bound: &P, common_prefix_len: Option<usize>) -> Step
         requires can_find { CanFind (P.bytes bound.now) (P.below bound.now) self.now }
         requires known { IsPrefixLenAt (P.bytes bound.now) (P.below bound.now) (P.target bound.now) common_prefix_len (entries_of self.now) 0 }
@@ -51,8 +51,8 @@ impl<const N: usize> Node<N> {
         self.step_by(bound, common_prefix_len, self.head_for(bound, common_prefix_len))
     }
 
-    /// Finds the last entry that passes, where the first one does. `common_prefix_len` is how many bytes the first key and what is
-    /// looked for begin with in common. `head` is what `head_for` returns for it.
+    /// Finds the last entry below the bound, where the first one is. `common_prefix_len` is how many bytes the first key and the
+    /// target begin with in common. `head` is what `head_for` returns for it.
     pub fn step_by<P: Bound>(&self, bound: &P, common_prefix_len: usize, head: Option<u64>) -> Step
         requires can_find { CanFind (P.bytes bound.now) (P.below bound.now) self.now }
         requires known { IsPrefixLenAt (P.bytes bound.now) (P.below bound.now) (P.target bound.now) (Some common_prefix_len)
@@ -68,8 +68,8 @@ impl<const N: usize> Node<N> {
         }
     }
 
-    /// Returns how many of the entries pass. `common_prefix_len` is how many bytes the first key and what is looked for begin with
-    /// in common, or none if that key doesn't pass.
+    /// Returns how many of the entries are below the bound. `common_prefix_len` is how many bytes the first key and the target
+    /// begin with in common, or none if that key isn't below the bound.
     pub fn lower_bound<P: Bound>(&self, bound: &P, common_prefix_len: Option<usize>) -> usize
         requires can_find { CanFind (P.bytes bound.now) (P.below bound.now) self.now }
         requires known { IsPrefixLenAt (P.bytes bound.now) (P.below bound.now) (P.target bound.now) common_prefix_len (entries_of self.now) 0 }
@@ -81,7 +81,7 @@ impl<const N: usize> Node<N> {
         self.lower_bound_by_head(bound, self.head_for(bound, common_prefix_len))
     }
 
-    /// Returns how many of the entries pass. `head` is that of what is looked for, if it begins as all keys do.
+    /// Returns how many of the entries are below the bound. `head` is that of the target, if it begins as all keys do.
     pub fn lower_bound_by_head<P: Bound>(&self, bound: &P, head: Option<u64>) -> usize
         requires can_find { CanFind (P.bytes bound.now) (P.below bound.now) self.now }
         requires head { HasHead (P.bytes bound.now) (P.target bound.now) head (key_heads_of self.now) }
@@ -96,7 +96,7 @@ impl<const N: usize> Node<N> {
         self.lower_bound_from(below, bound, Some(head))
     }
 
-    // Returns how many of the entries pass, where the first one does and what is looked for doesn't begin as all keys do.
+    // Returns how many of the entries are below the bound, where the first one is and the target doesn't begin as all keys do.
     fn count_without<P: Bound>(&self, bound: &P) -> usize
         requires can_find { CanFind (P.bytes bound.now) (P.below bound.now) self.now }
         requires all { get_or (key_heads_of self.now).heads 0 0 ≢ 0
@@ -109,8 +109,8 @@ impl<const N: usize> Node<N> {
         self.len()
     }
 
-    // Returns how many bytes the key at an index and what is looked for begin with in common. `common_prefix_len` is the same of
-    // the first key. Both pass. `head` is that of what is looked for, if it begins as all keys do.
+    // Returns how many bytes the key at an index and the target begin with in common. `common_prefix_len` is the same of the first
+    // key. Both are below the bound. `head` is that of the target, if it begins as all keys do.
     fn common_prefix_len_in<P: Bound>(
         &self,
         index: usize,
@@ -143,8 +143,8 @@ impl<const N: usize> Node<N> {
         self.prefix_len() + same_bytes(self.heads[index], head)
     }
 
-    /// Returns the head of what is looked for behind the bytes that all keys begin with, if it begins with them, too.
-    /// The first key and what is looked for begin with `common_prefix_len` bytes in common, at least, unless that key is empty.
+    /// Returns the head of the target behind the bytes that all keys begin with, if it begins with them, too. The first key and the
+    /// target begin with `common_prefix_len` bytes in common, at least, unless that key is empty.
     pub fn head_for<P: Bound>(&self, bound: &P, common_prefix_len: usize) -> Option<u64>
         requires headed { AreHeads (P.bytes bound.now) (key_heads_of self.now) }
         requires some { 0 < length (entries_of self.now) }
@@ -163,8 +163,8 @@ impl<const N: usize> Node<N> {
         Some(bound.head(self.prefix_len()))
     }
 
-    /// Returns the head as `head_for` does. `agrees` tells that what is looked for begins as all keys do, and may be
-    /// false although it does.
+    /// Returns the head as `head_for` does. `agrees` tells that the target begins as all keys do, and may be false although it
+    /// does.
     pub fn head_given<P: Bound>(&self, agrees: bool, bound: &P, common_prefix_len: usize) -> Option<u64>
         requires headed { AreHeads (P.bytes bound.now) (key_heads_of self.now) }
         requires some { 0 < length (entries_of self.now) }
@@ -179,8 +179,8 @@ impl<const N: usize> Node<N> {
         self.head_for(bound, common_prefix_len)
     }
 
-    // Returns whether what is looked for begins as the last key does, as far as all keys begin alike. It may be said that
-    // it doesn't where that key may be empty.
+    // Returns whether the target begins as the last key does, as far as all keys begin alike. It may be said that it doesn't where
+    // that key may be empty.
     fn has_prefix_of_last<P: Bound>(&self, bound: &P) -> bool
         requires headed { AreHeads (P.bytes bound.now) (key_heads_of self.now) }
         requires some { 0 < length (entries_of self.now) }
@@ -190,8 +190,7 @@ impl<const N: usize> Node<N> {
         self.heads[last] != 0 && bound.common_prefix_len_with(self.entries[last].key) >= self.prefix_len()
     }
 
-    /// Returns whether the entry at an index passes. `head` is that of what is looked for, if it begins as all keys
-    /// do.
+    /// Returns whether the entry at an index is below the bound. `head` is that of the target, if it begins as all keys do.
     pub fn is_below_at<P: Bound>(&self, index: usize, bound: &P, head: Option<u64>) -> bool
         requires headed { AreHeads (P.bytes bound.now) (key_heads_of self.now) }
         requires within { index < length (entries_of self.now) }
@@ -205,7 +204,7 @@ impl<const N: usize> Node<N> {
         }
     }
 
-    /// Returns how many of the entries pass, of which at least so many do.
+    /// Returns how many of the entries are below the bound, of which at least so many are.
     pub fn lower_bound_from<P: Bound>(&self, from: usize, bound: &P, head: Option<u64>) -> usize
         requires can_find { CanFind (P.bytes bound.now) (P.below bound.now) self.now }
         requires head { HasHead (P.bytes bound.now) (P.target bound.now) head (key_heads_of self.now) }
@@ -240,8 +239,8 @@ impl<const N: usize> Node<N> {
         (first, end)
     }
 
-    /// Returns how many of the entries pass, of which at most so many do. It looks at these one by one, from the last
-    /// one on.
+    /// Returns how many of the entries are below the bound, of which at most so many are. It looks at these one by one, from the
+    /// last one on.
     pub fn lower_bound_back<P: Bound>(&self, to: usize, bound: &P, head: Option<u64>) -> usize
         requires can_find { CanFind (P.bytes bound.now) (P.below bound.now) self.now }
         requires head { HasHead (P.bytes bound.now) (P.target bound.now) head (key_heads_of self.now) }
@@ -256,7 +255,7 @@ impl<const N: usize> Node<N> {
         count
     }
 
-    /// Takes the hints anew.
+    /// Computes the prefix and the heads.
     pub fn compute_heads<P: Bound>(&mut self, bound: &P)
         requires known { All (IsKnown (P.bytes bound.now)) (keys_of (entries_of self.old)) }
         ensures entries { entries_of self.new ≡ entries_of self.old }
@@ -289,7 +288,7 @@ impl<const N: usize> Node<N> {
         count
     }
 
-    /// Sets the entry at an index, and takes its hints unless its key stays.
+    /// Sets the entry at an index, and its head unless its key stays.
     pub fn set_with_head<P: Bound>(&mut self, index: usize, entry: Entry, bound: &P)
         requires within { index < length (entries_of self.old) }
         requires headed { AreHeads (P.bytes bound.now) (key_heads_of self.old) }
@@ -308,8 +307,8 @@ impl<const N: usize> Node<N> {
         self.heads[index] = bound.head_of(entry.key, self.prefix_len());
     }
 
-    /// Puts these entries in place of those from one index up to another, and takes their hints. `begin` tells that
-    /// their keys begin as all others do.
+    /// Puts these entries in place of those from one index up to another, and sets their heads. `begin` tells that their keys begin
+    /// as all others do.
     pub fn splice_with_heads<P: Bound>(
         &mut self,
         from: usize,
@@ -339,7 +338,7 @@ impl<const N: usize> Node<N> {
         }
     }
 
-    /// Takes the hints of keys that another node has, too, from there, and those of the others anew.
+    /// Copies the heads of keys that another node has, too, and computes those of the others.
     pub fn copy_heads<P: Bound>(&mut self, other: &Node<N>, bound: &P)
         requires headed { AreHeads (P.bytes bound.now) (key_heads_of other.now) }
         requires known { All (IsKnown (P.bytes bound.now)) (keys_of (entries_of self.old)) }
@@ -358,7 +357,7 @@ impl<const N: usize> Node<N> {
         self.lengthen_prefix(bound);
     }
 
-    /// Takes the hints anew where heads behind more bytes tell more.
+    /// Computes the heads anew where heads behind more bytes tell more.
     pub fn lengthen_prefix<P: Bound>(&mut self, bound: &P)
         requires headed { AreHeads (P.bytes bound.now) (key_heads_of self.old) }
         ensures entries { entries_of self.new ≡ entries_of self.old }

@@ -40,7 +40,7 @@ read g t c =
     entries_read c.args.nodes.now c.args.slot c.header_ref-node.result.now c.entries-entries.result.now
     c.header_ref-node.ensures.header c.entries-entries.ensures.entries
 
--- the two cuts of the node
+-- the two bounds of the node
 look : (g : Over) (t : ℕ) (c : After-entries-entries g t) (begin end : ℕ)
     → begin ≡ length (filter (λ e. g.P.Bound.below c.args.question.now.from e.key) c.entries-entries.result.now)
     → end ≡ length (filter (λ e. g.Q.Bound.below c.args.question.now.to e.key) c.entries-entries.result.now)
@@ -80,7 +80,7 @@ headed g t c =
     c.requires.asked.can_reach.headed
     c.header_ref-node.ensures.header
 
--- the other probe knows the same bytes
+-- the other bound knows the same bytes
 headed_too : (g : Over) (t : ℕ) (c : After-entries-entries g t)
     → AreHeads (g.Q.Bound.bytes c.args.question.now.to) (key_heads_of c.header_ref-node.result.now)
 headed_too g t c =

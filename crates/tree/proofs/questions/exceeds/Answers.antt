@@ -11,7 +11,7 @@ use Rattle.tree.proofs.questions.exceeds.Given.{Over}
 use Rattle.tree.proofs.questions.exceeds.Goals as goal
 use Rattle.tree.proofs.questions.exceeds.Goals.{After-unwrap}
 
--- the last item before the first cut
+-- the last item before the first bound
 last : (g : Over) (c : After-unwrap g)
     → IsLast (item_of c.unwrap.result)
     (items_below (g.P.Bound.below c.args.question.now.from) (items_in c.args.nodes.now c.args.root.height c.args.root.slot))

@@ -33,7 +33,7 @@ read g c =
     entries_read c.args.nodes.now c.args.near.leaf c.header_ref-node.result.now c.entries-entries.result.now
     c.header_ref-node.ensures.header c.entries-entries.ensures.entries
 
--- the two cuts of the node
+-- the two bounds of the node
 look : (g : Over) (c : After-entries-entries g) (begin end : ℕ)
     → begin ≡ length (filter (λ e. g.P.Bound.below c.args.question.now.from e.key) c.entries-entries.result.now)
     → end ≡ length (filter (λ e. g.Q.Bound.below c.args.question.now.to e.key) c.entries-entries.result.now)
@@ -73,7 +73,7 @@ headed g c =
     c.requires.asked.can_reach.headed
     c.header_ref-node.ensures.header
 
--- the other probe knows the same bytes
+-- the other bound knows the same bytes
 headed_too : (g : Over) (c : After-entries-entries g)
     → AreHeads (g.Q.Bound.bytes c.args.question.now.to) (key_heads_of c.header_ref-node.result.now)
 headed_too g c =
@@ -202,7 +202,7 @@ lower_bound_from-end-requires g c =
       ),
     )
 
--- the two cuts of a leaf
+-- the two bounds of a leaf
 leaf : (g : Over) (c : After-lower_bound_from-end g)
     → IsLook c.args.nodes.now (least_of g.row.N) 0 c.args.near.leaf (g.P.Bound.below c.args.question.now.from)
     (g.Q.Bound.below c.args.question.now.to) c.entries-entries.result.now c.lower_bound_by_head-begin.result c.lower_bound_from-end.result

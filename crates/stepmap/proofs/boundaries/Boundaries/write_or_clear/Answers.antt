@@ -75,7 +75,7 @@ ready g c =
     one_more_by keys c.place.new.self c.place-2.new.self (first ∷ []) end tt c.end.result.now c.place-2.result begin
     c.end.ensures.bytes c.unwrap-end_key.ensures f.was_free f.placed f.record f.others f.spare f.other_sizes
 
--- what the cuts require
+-- what the bounds require
 bounds : (g : given.Over) (c : After-item g) (up_to : Bool) (key : List ℕ)
     → IsPartitioned (λ x. slot_is_below c.place-2.new.self up_to key x.key) c.self.inside.tree.items
 bounds g c =

@@ -75,7 +75,7 @@ first_known g c =
     subst (λ es. IsPrefixLenAt (g.Q.Bound.bytes to) (g.Q.Bound.below to) (g.Q.Bound.target to) c.args.place.common_prefix_len es 0)
     (entries_are g c) c.requires.searched.known
 
--- the cuts of the leaf
+-- the bounds of the leaf
 below_from : (g : given.Over) (c : After-header_ref-leaf g)
     → IsPartitioned (λ (e : Entry). g.P.Bound.below c.args.self.now.new.now.from.now e.key)
     (entries_of c.header_ref-leaf.result.now)
@@ -140,7 +140,7 @@ lower_bound_back-begin-requires g c =
       ),
     )
 
--- no more entries pass the first cut
+-- no more entries are below the first bound
 ordered : (g : given.Over) (c : After-lower_bound_back-begin g) → c.lower_bound_back-begin.result ≤ c.lower_bound-end.result
 ordered g c =
     let new = c.args.self.now.new.now in
@@ -284,7 +284,7 @@ split_leaf-requires g c =
       },
     )
 
--- what is said of both new keys: they begin as all keys do, so far as the probe tells
+-- what is said of both new keys: they begin as all keys do, so far as the bound tells
 told_alike : (g : given.Over) (c : Joined-is_some g) → c.if-is_some.begin_alike ≡ true
     → ((key_heads_of c.header_ref-leaf.result.now).prefix_len ≤ c.args.self.now.new.now.targets_prefix_len)
     × (is_some c.head_for-head.result ≡ true)
@@ -352,7 +352,7 @@ splice_with_heads-requires g c =
       ),
     )
 
--- the cuts, and the entries of the leaf
+-- the bounds, and the entries of the leaf
 abbrev p : (g : given.Over) → Joined-ended g → ℕ → Bool
 p g c = g.P.Bound.below c.args.self.now.new.now.from.now
 
@@ -387,7 +387,7 @@ told g c others =
           (omega (arith, w.if-end-len.false, c.len.ensures.len)) _ w.is_some_and-ended.ensures (λ k h. search rules))
     ]
 
--- the version of the last item before the second cut
+-- the version of the last item before the second bound
 last_told : (g : given.Over) (c : After-map_or-last g) (x : Item)
     → take c.lower_bound-end.result (entries_of c.header_ref-leaf.result.now)
     ≡ filter (λ (e : Entry). g.Q.Bound.below c.args.self.now.new.now.to.now e.key)

@@ -1,0 +1,129 @@
+//! The answering of many queries: the filter is asked first, and the boundaries for those that it leaves open.
+
+ghost use Rattle.std.specs.Prelude.{◌≡◌, ◌+◌, ◌<◌, ◌≤◌, Bool, List, ◌++◌, length, take, drop, IfOk, OnOk, IsTrue};
+ghost use Rattle.std.specs.List.{AllZip};
+ghost use Rattle.keys.specs.Range.{IsEmpty};
+ghost use Rattle.stepmap.specs.Covers.{IsAbove};
+ghost use Rattle.stepmap.specs.Filtering.{AreMarked, IsBound};
+ghost use Rattle.tree.specs.declared.question.TheConstants.{SIDE};
+
+use super::StepMap;
+use crate::bounding::{bounds_at, cells_from, repeated};
+use crate::left::put_told;
+use crate::query::{QueryList, RangeQuery};
+use crate::single::is_single;
+use arrayvec::ArrayVec;
+use keys::RangeRef;
+use std::alloc::AllocError;
+use tree::SIDE;
+
+impl StepMap {
+    // Answers the next of the queries, and appends the answers. At most `SIDE` of them are looked up, side by side.
+    pub(super) fn answer_some<L: QueryList>(
+        &self,
+        queries: &L,
+        answers: &mut Vec<bool>,
+    ) -> Result<(), AllocError>
+        requires some { length answers.old.items < length (L.queries queries.now) }
+        ensures more { OnOk result (length answers.old.items < length answers.new.items) }
+        ensures within { OnOk result (length answers.new.items ≤ length (L.queries queries.now)) }
+        ensures told { OnOk result (AllZip (λ q above. IsTrue above ↔ IsAbove self.now q.0 q.1)
+            (take (length answers.old.items) (L.queries queries.now)) answers.old.items
+            → AllZip (λ q above. IsTrue above ↔ IsAbove self.now q.0 q.1)
+            (take (length answers.new.items) (L.queries queries.now)) answers.new.items) }
+    {
+        let from = answers.len();
+        let places = self.mark_some(queries, answers)?;
+        let told = self.boundaries.are_above(queries, places.as_slice());
+        put_told(answers, from, told.as_slice());
+        Ok(())
+    }
+
+    // Marks the next of the queries, and appends the marks: true where the filter leaves a query open. Returns the places of
+    // these. There are at most `SIDE`.
+    fn mark_some<L: QueryList>(
+        &self,
+        queries: &L,
+        marks: &mut Vec<bool>,
+    ) -> Result<ArrayVec<usize, SIDE>, AllocError>
+        requires some { length marks.old.items < length (L.queries queries.now) }
+        ensures marked { IfOk result (λ places. (told : List Bool) × (marks.new.items ≡ marks.old.items ++ told)
+            × (1 ≤ length told) × AreMarked self.now (L.queries queries.now) (length marks.old.items) told places.items) }
+    {
+        let count = queries.len();
+        let mut places = ArrayVec::new();
+        while marks.len() < count && !places.is_full() {
+            self.mark_next(queries, marks, &mut places)?;
+        }
+        Ok(places)
+    }
+
+    // Marks the next queries likewise, at least one and as many as there is room for their places, and adds the places.
+    fn mark_next<L: QueryList>(
+        &self,
+        queries: &L,
+        marks: &mut Vec<bool>,
+        places: &mut ArrayVec<usize, SIDE>,
+    ) -> Result<(), AllocError>
+        requires some { length marks.old.items < length (L.queries queries.now) }
+        requires room { length places.old.items < SIDE }
+        ensures more { OnOk result (length marks.old.items < length marks.new.items) }
+        ensures marked { OnOk result ((old told : List Bool) → marks.old.items ≡ old ++ told
+            → AreMarked self.now (L.queries queries.now) (length old) told places.old.items
+            → (more : List Bool) × (marks.new.items ≡ old ++ more)
+            × AreMarked self.now (L.queries queries.now) (length old) more places.new.items) }
+    {
+        let bounds = self.bounds_from(queries, marks.len(), SIDE - places.len());
+        for bound in bounds.as_slice() {
+            let place = marks.len();
+            let is_open = self.is_open(&queries.query(place), *bound);
+            if is_open {
+                places.push(place);
+            }
+            marks.push(is_open)?;
+        }
+        Ok(())
+    }
+
+    // Returns bounds of the ranges of the next queries, at least one and at most as many as is said.
+    fn bounds_from<L: QueryList>(
+        &self,
+        queries: &L,
+        from: usize,
+        most: usize,
+    ) -> ArrayVec<i64, SIDE>
+        requires some { from < length (L.queries queries.now) }
+        requires least { 1 ≤ most }
+        requires few { most ≤ SIDE }
+        ensures bounds { AllZip (λ q bound. IsBound self.now q.0 bound)
+            (take (length result.items) (drop from (L.queries queries.now))) result.items }
+        ensures some { 1 ≤ length result.items }
+        ensures few { length result.items ≤ most }
+        ensures within { from + length result.items ≤ length (L.queries queries.now) }
+    {
+        let count = (queries.len() - from).min(most);
+        if !self.filter.is_useful() {
+            return repeated(self.filter.newest_range(), count);
+        }
+        let cells = cells_from(&self.filter, queries, from, from + count);
+        bounds_at(&self.filter, cells.as_slice())
+    }
+
+    // Returns whether the query is to be looked up: its range isn't empty, and this bound of it leaves it open.
+    fn is_open(&self, query: &RangeQuery<'_>, bound: i64) -> bool
+        requires bound { IsBound self.now query.now.range bound }
+        ensures filled { IsTrue result → ¬ IsEmpty query.now.range }
+        ensures others { ¬ IsTrue result → ¬ IsAbove self.now query.now.range query.now.version }
+    {
+        !query.range.is_empty() && self.may_exceed(&query.range, query.version, bound)
+    }
+
+    // Returns whether this bound of the range leaves open that the version at some key of it is above this one. It tells only of
+    // single keys, and only from the edge on.
+    fn may_exceed(&self, range: &RangeRef<'_>, version: i64, bound: i64) -> bool
+        requires bound { IsBound self.now range.now bound }
+        ensures not_above { ¬ IsTrue result → ¬ IsAbove self.now range.now version }
+    {
+        version < self.edge || version < bound || !is_single(range.begin(), range.end())
+    }
+}

@@ -1,0 +1,93 @@
+//! The room for writes: a whole round is swept where there is none, and memory is taken.
+
+ghost use Rattle.std.specs.Prelude.{◌≡◌, ℕ, ◌+◌, ◌*◌, ◌<◌, ◌≤◌, nat_le, List, [], length, OnOk, OnErr};
+ghost use Rattle.arena.specs.Arena.{wanted_of};
+ghost use Rattle.filter.specs.Filter.{bound};
+ghost use Rattle.stepmap.specs.StepMap.{AreSteps};
+ghost use Rattle.stepmap.specs.Sweeping.{at_front};
+ghost use Rattle.stepmap.specs.Limit.{HasRoomFor, after_round, made_room};
+ghost use Rattle.stepmap.specs.Stored.{spare_in, each_length};
+
+use super::{FAN_OUT, MAX_LIMIT, StepMap};
+use crate::boundaries::Boundaries;
+use crate::key_lengths::{KeyLengths, keep};
+use filter::Filter;
+use std::alloc::AllocError;
+use std::collections::VecDeque;
+
+impl StepMap {
+    // Returns whether the boundaries, and two for each of so many ranges, are within the limit.
+    pub(super) fn has_room_for(&self, ranges: usize) -> bool
+        ensures room { result ≡ nat_le (length self.now.boundaries + 2 * ranges) self.now.limit }
+        ensures steps { AreSteps self.now }
+    {
+        ranges <= (self.limit - self.boundaries.len()) / 2
+    }
+
+    // Sweeps a whole round, unless there is room for so many ranges.
+    pub(super) fn make_room(&mut self, ranges: usize)
+        ensures map { self.new ≡ made_room ranges self.old }
+        ensures steps { AreSteps self.old }
+    {
+        if !self.has_room_for(ranges) {
+            self.sweep_round();
+        }
+    }
+
+    // Sweeps a whole round from the front, wherever the cursor is; the next sweep begins at the front.
+    fn sweep_round(&mut self)
+        ensures map { self.new ≡ after_round self.old }
+    {
+        self.end_round();
+        let count = self.boundaries.len();
+        self.sweep(count);
+    }
+
+    // Ends the round under way, if there is one: the next sweep begins at the front.
+    fn end_round(&mut self)
+        ensures map { self.new ≡ at_front self.old }
+    {
+        self.round = None;
+        self.cursor.clear();
+    }
+
+    // Takes the memory that writing ranges with keys of these lengths needs, in place of what was taken before.
+    pub(super) fn reserve(&mut self, lengths: &[KeyLengths]) -> Result<(), AllocError>
+        requires room { HasRoomFor (length lengths.now) self.old }
+        ensures ok { OnOk result (self.new ≡ record self.old { ready = lengths.now }) }
+        ensures err { OnErr result (self.new ≡ record self.old { ready = [] }) }
+    {
+        let reserved = take_memory(
+            &mut self.boundaries,
+            &mut self.filter,
+            &mut self.ready,
+            lengths,
+        );
+        if reserved.is_err() {
+            self.ready.clear();
+        }
+        reserved
+    }
+}
+
+// Takes the memory that writing ranges with keys of these lengths needs, and keeps these as those that are ready. The filter
+// grows first, to a few cells for each boundary that there may be then.
+fn take_memory(
+    boundaries: &mut Boundaries<FAN_OUT>,
+    filter: &mut Filter,
+    ready: &mut VecDeque<KeyLengths>,
+    lengths: &[KeyLengths],
+) -> Result<(), AllocError>
+    requires few { length boundaries.old.boundaries + 2 * length lengths.now ≤ MAX_LIMIT }
+    ensures ready { OnOk result (ready.new.items ≡ lengths.now) }
+    ensures keys { OnOk result ((size : ℕ) → size < 10
+        → wanted_of (each_length lengths.now) size ≤ spare_in boundaries.new size) }
+    ensures nodes { OnOk result (length boundaries.new.boundaries + 2 * length lengths.now ≤ boundaries.new.room) }
+    ensures boundaries { boundaries.new.boundaries ≡ boundaries.old.boundaries }
+    ensures room { boundaries.old.room ≤ boundaries.new.room }
+    ensures bounds { (key : List ℕ) → bound filter.new key ≡ bound filter.old key }
+{
+    filter.reserve(2 * (boundaries.len() + 2 * lengths.len()))?;
+    keep(ready, lengths)?;
+    boundaries.reserve(lengths)
+}
