@@ -23,9 +23,9 @@ pub unexpired_all : (p : ℕ → Bool) (count : ℕ) (edge before : ℤ) (unexpi
     → IsChangedWithin p (λ _. GivesUnexpired p count edge before unexpired run) true None was now
     → items_below p was ≢ [] → RemovesExpired p count edge before unexpired run None was now
 unexpired_all p count edge before unexpired run was now c some =
-    let pass = filter_around (λ (x : Item). p x.key) c.before c.leaf c.behind c.items_below c.failing in
+    let pass = filter_around (λ (x : Item). p x.key) c.before c.leaf c.behind c.lower_bound c.failing in
     let here : items_below p c.leaf ≢ [] =
-    some_here p p (λ key t. t) c.before c.leaf c.behind c.items_below c.failing c.found
+    some_here p p (λ key t. t) c.before c.leaf c.behind c.lower_bound c.failing c.found
     (λ none. some (ap (items_below p) c.was_is ∙ none)) in
     let h = c.gives.1 here in
     let all = c.before ++ (c.leaf ++ c.behind) in
@@ -36,7 +36,7 @@ unexpired_all p count edge before unexpired run was now c some =
       looked = h.looked;
       rest = h.rest ++ c.behind;
       front_is = pass ∙ ap (λ xs. c.before ++ xs) h.front_is ∙ sym (append_assoc c.before h.front (h.first ∷ []));
-      looked_is = ap (λ xs. h.first ∷ xs) (behind-parts p c.before c.leaf c.behind c.items_below c.failing)
+      looked_is = ap (λ xs. h.first ∷ xs) (behind-parts p c.before c.leaf c.behind c.lower_bound c.failing)
           ∙ ap (λ xs. xs ++ c.behind) h.looked_is ∙ append_assoc h.looked h.rest c.behind;
       looked_at = h.looked_at;
       some = h.some;

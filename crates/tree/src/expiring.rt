@@ -62,11 +62,11 @@ impl<'a, P: Bound, const N: usize> LeafChange<N> for Expiring<'a, P> {
         taken: &mut Option<Node<N>>,
     ) -> Outcome {
         let mut leaf = nodes.header(slot);
-        let passing = leaf.lower_bound(self.bound, place.common_prefix_len);
-        if passing == 0 {
+        let below = leaf.lower_bound(self.bound, place.common_prefix_len);
+        if below == 0 {
             return Outcome::Same;
         }
-        let begin = passing - 1;
+        let begin = below - 1;
         let end = begin + self.count.min(leaf.len() - begin);
         let Expiring { edge, before, .. } = *self;
         self.removal = remove_expired(&mut leaf, begin, end, edge, before, place.behind, taken);

@@ -4,8 +4,8 @@ use Rattle.tree.proofs.Found.{leaf_partitioned, read_partitioned, found, found_s
 use Rattle.tree.proofs.Keys.{key_of_leaf, key_of_child}
 use Rattle.tree.proofs.search.+key_behind.Goals as goal
 
-pub items_below-requires : goal.items_below-requires
-items_below-requires g t c = record {
+pub lower_bound-requires : goal.lower_bound-requires
+lower_bound-requires g t c = record {
   partitioned = leaf_partitioned c.args.nodes.now c.args.height c.args.slot (g.P.Bound.below c.args.bound.now)
       c.header_ref.result.now c.entries-entries.result.now c.if-height-eq0.true c.requires.partitioned
       c.header_ref.ensures.header c.entries-entries.ensures.entries;
@@ -16,7 +16,7 @@ returns-then-height-eq0 g t c = record {
   key = c.key_at.ensures.key
       ∙ key_of_leaf c.args.nodes.now c.args.height c.args.slot (g.P.Bound.below c.args.bound.now)
       c.header_ref.result.now c.entries-entries.result.now _ c.args.behind c.if-height-eq0.true
-      c.header_ref.ensures.header c.entries-entries.ensures.entries c.items_below.ensures.rest;
+      c.header_ref.ensures.header c.entries-entries.ensures.entries c.lower_bound.ensures.rest;
 }
 
 pub index_of-index-requires-clause-partitioned : goal.index_of-index-requires-clause-partitioned

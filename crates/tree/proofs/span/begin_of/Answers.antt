@@ -4,8 +4,8 @@ use Rattle.tree.specs.Path.{IsPartitioned, below_from}
 use Rattle.tree.proofs.Spans.{none_before}
 use Rattle.tree.proofs.span.begin_of.Goals as goal
 
-pub items_below-requires : goal.items_below-requires
-items_below-requires g c = record {
+pub lower_bound-requires : goal.lower_bound-requires
+lower_bound-requires g c = record {
   partitioned = subst (λ o. IsPartitioned (λ (e : Entry). below_from (option_map (λ p. g.P.Bound.below p.now) o) e.key) c.args.entries.now)
       c.in-Some.is c.requires.partitioned;
 }

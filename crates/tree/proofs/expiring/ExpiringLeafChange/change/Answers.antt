@@ -34,9 +34,9 @@ partitioned_is g c =
     subst (λ es. IsPartitioned (λ (e : Entry). p e.key) es) (entries_are g c)
     (entries_of_partitioned p (entries_at c.args.nodes.now c.args.slot) c.requires.searched.partitioned)
 
-pub count-items_below-requires : goal.count-items_below-requires
-count-items_below-requires g c =
-    let h = (goal.at.count-items_below-requires g c).After-header-leaf in
+pub count-lower_bound-requires : goal.count-lower_bound-requires
+count-lower_bound-requires g c =
+    let h = (goal.at.count-lower_bound-requires g c).After-header-leaf in
     let bound = c.args.self.now.bound.now in
     let es = entries_of c.header-leaf.result in
     let some : 0 < length es =
@@ -57,13 +57,13 @@ count-items_below-requires g c =
     )
 
 -- Where no entry passes, no item does.
-pub returns-then-items_below-eq0-clause-items : goal.returns-then-items_below-eq0-clause-items
-returns-then-items_below-eq0-clause-items g c =
-    let h = (goal.at.returns-then-items_below-eq0-clause-items g c).After-header-leaf in
+pub returns-then-below-eq0-clause-items : goal.returns-then-below-eq0-clause-items
+returns-then-below-eq0-clause-items g c =
+    let h = (goal.at.returns-then-below-eq0-clause-items g c).After-header-leaf in
     let p = g.P.Bound.below c.args.self.now.bound.now in
     let es = entries_of c.header-leaf.result in
     let none : items_below p (map item_of es) ≡ [] =
-    (items_parted p es 0 (partitioned_is g h) (omega (arith, c.lower_bound-items_below.ensures.count.count_is, c.if-items_below-eq0.true))).0 in (
+    (items_parted p es 0 (partitioned_is g h) (omega (arith, c.lower_bound-below.ensures.count.count_is, c.if-below-eq0.true))).0 in (
       λ _. (refl, ap items_of_run c.requires.none_taken),
       λ some. absurd (some (ap (λ es. items_below p (map item_of es)) (entries_are g h) ∙ none)),
     )
@@ -79,10 +79,10 @@ module _ (g : given.Over) (c : After-remove_expired-self g) where
   es = entries_of c.header-leaf.result
 
   abbrev begin : ℕ
-  begin = c.lower_bound-items_below.result - 1
+  begin = c.lower_bound-below.result - 1
 
   abbrev end : ℕ
-  end = c.lower_bound-items_below.result - 1 + c.min.result
+  end = c.lower_bound-below.result - 1 + c.min.result
 
   abbrev looked : List Item
   looked = map item_of (run es begin end)
@@ -100,10 +100,10 @@ module _ (g : given.Over) (c : After-remove_expired-self g) where
   before_is = to_z-of_z w64 c.args.self.now.before (search rules)
 
   some_looked : begin < end
-  some_looked = omega (arith, c.min.ensures, c.args.self.now.some, c.len.ensures.len, c.lower_bound-items_below.ensures.count.within, c.if-items_below-eq0.false)
+  some_looked = omega (arith, c.min.ensures, c.args.self.now.some, c.len.ensures.len, c.lower_bound-below.ensures.count.within, c.if-below-eq0.false)
 
   within : end ≤ length es
-  within = omega (arith, c.min.ensures, c.len.ensures.len, c.lower_bound-items_below.ensures.count.within)
+  within = omega (arith, c.min.ensures, c.len.ensures.len, c.lower_bound-below.ensures.count.within)
 
   -- what becomes of the items of the leaf
   unexpired_items : (partitioned : IsPartitioned (λ (e : Entry). g.P.Bound.below c.args.self.now.bound.now e.key) es)
@@ -123,7 +123,7 @@ module _ (g : given.Over) (c : After-remove_expired-self g) where
       (subst (λ b. Removal t.edge b es) before_is
       (subst (λ e. Removal e before es) edge_is
       (leaf_unexpired es begin end some_looked within p partitioned
-      (omega (arith, c.lower_bound-items_below.ensures.count.count_is, c.if-items_below-eq0.false)) t.count edge before c.remove_expired-self.result
+      (omega (arith, c.lower_bound-below.ensures.count.count_is, c.if-below-eq0.false)) t.count edge before c.remove_expired-self.result
       (items_of_run c.remove_expired-self.new.taken) c.args.place.behind now (omega (arith, c.min.ensures)) told.looked_at told.last
       now_is told.taken told.next)))
 
@@ -157,7 +157,7 @@ returns-clause-items g c =
     let after : entries_at b slot ≡ entries_of c.lengthen_prefix.new.self =
     put_entries c.args.nodes.now b slot c.lengthen_prefix.new.self c.set_header.ensures.replaced in
     let some : items_below p (map item_of (es g t)) ≢ [] =
-    some_item p (es g t) c.lower_bound-items_below.result (omega (arith, c.if-items_below-eq0.false)) c.lower_bound-items_below.ensures.count.count_is in (
+    some_item p (es g t) c.lower_bound-below.result (omega (arith, c.if-below-eq0.false)) c.lower_bound-below.ensures.count.count_is in (
       λ none.
           absurd (some (ap (λ es. items_below p (map item_of es)) (sym (entries_are g h)) ∙ none)),
       λ _.

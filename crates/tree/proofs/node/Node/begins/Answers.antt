@@ -14,7 +14,7 @@ returns-in-Some g c =
     ∙ sym {b = slice_get c.entries.result.now (length c.entries.result.now - 1)} c.in-Some.ensures.value in
     record {
       agrees =
-          λ enough. let least : c.prefix_len.result ≤ c.common.result = leb-true c.prefix_len.result c.common.result enough in
-          common_agrees bytes (key_heads_of node) c.requires.headed last.key c.args.key c.common.result
-          (last_there (entries_of node) last get) (omega (arith, least)) c.common.ensures.same c.common.ensures.within;
+          λ enough. let least : c.prefix_len.result ≤ c.common_prefix_len.result = leb-true c.prefix_len.result c.common_prefix_len.result enough in
+          common_agrees bytes (key_heads_of node) c.requires.headed last.key c.args.key c.common_prefix_len.result
+          (last_there (entries_of node) last get) (omega (arith, least)) c.common_prefix_len.ensures.same c.common_prefix_len.ensures.within;
     }

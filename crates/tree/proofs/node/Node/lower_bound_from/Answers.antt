@@ -12,8 +12,8 @@ use Rattle.tree.proofs.node.Node.lower_bound_from.Goals as goal
 use Rattle.tree.proofs.node.Node.lower_bound_from.Goals.{in-Some, in-None, Joined-head}
 use Rattle.tree.proofs.node.Node.lower_bound_from.Given as given
 
-pub items_below-requires : goal.items_below-requires
-items_below-requires g c =
+pub lower_bound-requires : goal.lower_bound-requires
+lower_bound-requires g c =
     let p = λ (e : Entry). g.P.Bound.below c.args.bound.now e.key in
     let range = c.match-head.from in
     let partitioned = subst (IsPartitioned p) (sym c.entries.ensures.entries) c.requires.can_find.partitioned in
@@ -93,9 +93,9 @@ bounds g c =
       )
     ]
 
-pub slice_bounds-items_below-end : goal.slice_bounds-items_below-end
-slice_bounds-items_below-end g c =
-    let b = bounds g (goal.at.slice_bounds-items_below-end g c).Joined-head in
+pub slice_bounds-lower_bound-end : goal.slice_bounds-lower_bound-end
+slice_bounds-lower_bound-end g c =
+    let b = bounds g (goal.at.slice_bounds-lower_bound-end g c).Joined-head in
     omega (arith, b.0, b.1, ap length c.entries.ensures.entries)
 
 pub returns : goal.returns
@@ -103,7 +103,7 @@ returns g c =
     let p = λ (e : Entry). g.P.Bound.below c.args.bound.now e.key in
     let range = c.match-head.from in
     let part = λ (xs : List Entry). length (filter p (take (range.1 - range.0) (drop range.0 xs))) in
-    let found : c.items_below.result ≡ part (entries_of c.args.self.now) =
-    c.items_below.ensures.count ∙ ap part c.entries.ensures.entries in
-    counted (g.P.Bound.below c.args.bound.now) c.args.self.now (c.match-head.from.0 + c.items_below.result)
+    let found : c.lower_bound.result ≡ part (entries_of c.args.self.now) =
+    c.lower_bound.ensures.count ∙ ap part c.entries.ensures.entries in
+    counted (g.P.Bound.below c.args.bound.now) c.args.self.now (c.match-head.from.0 + c.lower_bound.result)
     (omega (arith, found, parts g (goal.at.returns g c).Joined-head))
