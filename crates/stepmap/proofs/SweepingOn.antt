@@ -116,7 +116,7 @@ module _ (edge : ℤ) (cursor : List ℕ) (old : List Boundary) where
           let dropped : drop k (drop n l) ≡ drop (n + k) l = drop-drop k n l in
           let last_here : last ≡ last_version before (take k (drop n l)) =
           last_is ∙ ap (λ xs. last_version before (take k xs)) here in
-          let thin : unexpired edge v (take n l) ++ unexpired edge before (take k (drop n l)) ≡ unexpired edge v (take (n + k) l) =
+          let both : unexpired edge v (take n l) ++ unexpired edge before (take k (drop n l)) ≡ unexpired edge v (take (n + k) l) =
           ap (λ u. unexpired edge v (take n l) ++ unexpired edge u (take k (drop n l))) s.last
           ∙ sym (unexpired-append edge v (take n l) (take k (drop n l))) ∙ ap (unexpired edge v) (sym taken) in
           record {
@@ -130,7 +130,7 @@ module _ (edge : ℤ) (cursor : List ℕ) (old : List Boundary) where
                 (unexpired edge before (take k (drop n l)) ++ drop k (drop n l))
                 ∙ ap (λ xs. passed_to cursor old ++ xs)
                 (sym (append_assoc (unexpired edge v (take n l)) (unexpired edge before (take k (drop n l))) (drop k (drop n l)))
-                ∙ ap (λ xs. xs ++ drop k (drop n l)) thin ∙ ap (λ xs. unexpired edge v (take (n + k) l) ++ xs) dropped);
+                ∙ ap (λ xs. xs ++ drop k (drop n l)) both ∙ ap (λ xs. unexpired edge v (take (n + k) l) ++ xs) dropped);
             last = last_here ∙ ap (λ u. last_version u (take k (drop n l))) s.last
                 ∙ sym (last_version-append v (take n l) (take k (drop n l))) ∙ ap (last_version v) (sym taken);
             next = next_is ∙ ap (λ xs. first_key (drop k xs)) here ∙ ap first_key dropped;

@@ -15,7 +15,7 @@ use Rattle.tree.specs.Heads.{AllAreHeads}
 use Rattle.tree.specs.Item.{Item}
 use Rattle.tree.specs.Path.{IsPartitioned, items_below, behind}
 use Rattle.tree.specs.Expire.{RemovesExpired}
-use Rattle.tree.specs.Tree.{Items, thin, tree_heads, KnowItems}
+use Rattle.tree.specs.Tree.{Items, unexpired as unexpired_items, tree_heads, KnowItems}
 use Rattle.tree.proofs.callers.Partitions.{All-back}
 use Rattle.stepmap.specs.Boundary.{Boundary, AreInOrder, RiseFrom, last_version}
 use Rattle.stepmap.specs.KeyBound.{slot_is_below}
@@ -30,7 +30,7 @@ use Rattle.stepmap.proofs.Order.{rise_middle, rise_swap}
 use Rattle.stepmap.proofs.Passed.{first_bytes, first_has}
 use Rattle.stepmap.proofs.PlacedKeys.{ArePlaced, none_placed}
 use Rattle.stepmap.proofs.Removal.{unexpired_rises}
-use Rattle.stepmap.proofs.Unlinked.{AreParted, slots_of, none_go, thin_parted, parted_beside}
+use Rattle.stepmap.proofs.Unlinked.{AreParted, slots_of, none_go, unexpired_parted, parted_beside}
 
 -- boundaries in order, around one that isn't the first
 record IsInside (xs : List Boundary) (c : Boundary) (cs : List Boundary) : Type 0 where
@@ -92,11 +92,11 @@ last_of_versions keys (x ∷ xs) (v ∷ front) before last e =
 
 module _ {H : Type 0} (keys : Arena H) where
   -- items are swept of expired items as their boundaries are
-  thin_boundaries : (edge before : ℤ) (xs : List Item)
-      → boundaries_of keys (thin edge before xs) ≡ unexpired edge before (boundaries_of keys xs)
-  thin_boundaries edge before [] = refl
-  thin_boundaries edge before (x ∷ xs) =
-      let i = thin_boundaries edge x.version xs in
+  unexpired_boundaries : (edge before : ℤ) (xs : List Item)
+      → boundaries_of keys (unexpired_items edge before xs) ≡ unexpired edge before (boundaries_of keys xs)
+  unexpired_boundaries edge before [] = refl
+  unexpired_boundaries edge before (x ∷ xs) =
+      let i = unexpired_boundaries edge x.version xs in
       let goes = int_lt before edge && int_lt x.version edge in
       elim (cases_Bool goes) [
         | inl t ↦ rw t i
@@ -222,9 +222,9 @@ module _ {H : Type 0} (keys : Arena H) where
         parted : AreParted tree.items next.items run
         parted =
             subst (λ xs. AreParted tree.items xs run) (sym h.now_is)
-            (subst (λ xs. AreParted xs (h.front ++ (thin edge before h.looked ++ h.rest)) run) (sym items_parts)
-            (parted_beside h.front h.looked (thin edge before h.looked) run h.rest
-            (subst (AreParted h.looked (thin edge before h.looked)) (sym h.run_is) (thin_parted edge before h.looked))))
+            (subst (λ xs. AreParted xs (h.front ++ (unexpired_items edge before h.looked ++ h.rest)) run) (sym items_parts)
+            (parted_beside h.front h.looked (unexpired_items edge before h.looked) run h.rest
+            (subst (AreParted h.looked (unexpired_items edge before h.looked)) (sym h.run_is) (unexpired_parted edge before h.looked))))
 
         -- what is taken out may be released
         pub run_live : All (λ x. IsLive keys x.key) run
@@ -237,11 +237,11 @@ module _ {H : Type 0} (keys : Arena H) where
             ≡ boundaries_of keys h.front ++ (unexpired edge before looked ++ unseen)
         now_are =
             let f = boundary_of keys in
-            let kept = thin edge before h.looked in
+            let kept = unexpired_items edge before h.looked in
             ap (boundaries_of keys) h.now_is
             ∙ map-append f h.front (kept ++ h.rest)
             ∙ ap (λ l. map f h.front ++ l)
-            (map-append f kept h.rest ∙ ap (λ l. l ++ map f h.rest) (thin_boundaries edge before h.looked))
+            (map-append f kept h.rest ∙ ap (λ l. l ++ map f h.rest) (unexpired_boundaries edge before h.looked))
 
         now_in_order : AreInOrder (boundaries_of keys next.items)
         now_in_order =

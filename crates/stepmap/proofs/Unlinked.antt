@@ -6,7 +6,7 @@ use Rattle.std.proofs.lemmas.List.{map-append}
 use Rattle.std.proofs.lemmas.List.Elements.{All-head, All-tail}
 use Rattle.arena.specs.Arena.{Arena, IsLive}
 use Rattle.tree.specs.Item.{Item}
-use Rattle.tree.specs.Tree.{thin, expired}
+use Rattle.tree.specs.Tree.{unexpired as unexpired_items, expired}
 use Rattle.tree.proofs.callers.Times.{times, once_same, once_cases, times-append}
 
 -- the slots of items
@@ -56,11 +56,11 @@ pub middle_goes : (front out rest : List Item) → AreParted (front ++ (out ++ r
 middle_goes front out rest = parted_beside front out [] out rest (record { each = λ s. omega arith; count = omega arith })
 
 -- a run is swept of expired items
-pub thin_parted : (edge before : ℤ) (items : List Item)
-    → AreParted items (thin edge before items) (expired edge before items)
-thin_parted edge before [] = record { each = λ s. omega arith; count = omega arith }
-thin_parted edge before (x ∷ xs) =
-    let i = thin_parted edge x.version xs in
+pub unexpired_parted : (edge before : ℤ) (items : List Item)
+    → AreParted items (unexpired_items edge before items) (expired edge before items)
+unexpired_parted edge before [] = record { each = λ s. omega arith; count = omega arith }
+unexpired_parted edge before (x ∷ xs) =
+    let i = unexpired_parted edge x.version xs in
     elim (cases_Bool (int_lt before edge && int_lt x.version edge)) [
       | inl t ↦ rw t (record { each = λ s. omega (arith, i.each s); count = omega (arith, i.count) })
       | inr f ↦ rw f (record { each = λ s. omega (arith, i.each s); count = omega (arith, i.count) })

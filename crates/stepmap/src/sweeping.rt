@@ -99,14 +99,14 @@ impl<const N: usize> Boundaries<N> {
             up_to: true,
         };
         let mut taken = None;
-        let unexpired = self
+        let removal = self
             .tree
             .remove_expired(&from, count, edge, before, &mut taken);
-        move_to(&self.keys, cursor, unexpired.next);
+        move_to(&self.keys, cursor, removal.next);
         release_run(&mut self.keys, &taken);
         Looked {
-            count: unexpired.looked_at,
-            last: unexpired.last,
+            count: removal.looked_at,
+            last: removal.last,
         }
     }
 }

@@ -60,15 +60,15 @@ module _ (es : List Entry) (begin end : ℕ) (some : begin < end) (most : end �
 
   -- the items of the leaf once it is swept of expired items
   pub leaf_unexpired : (p : ℕ → Bool) → IsPartitioned (λ e. p e.key) es → begin + 1 ≡ length (filter (λ e. p e.key) es)
-      → (count : ℕ) (edge before : ℤ) (unexpired : Removal) (out : List Item) (next : Option ℕ) (now : List Item)
-      → end - begin ≤ count → unexpired.looked_at ≡ end - begin
-      → IsLast unexpired.last (map version_of (run es begin end))
+      → (count : ℕ) (edge before : ℤ) (removal : Removal) (out : List Item) (next : Option ℕ) (now : List Item)
+      → end - begin ≤ count → removal.looked_at ≡ end - begin
+      → IsLast removal.last (map version_of (run es begin end))
       → now ≡ map item_of (take begin es)
       ++ (unexpired edge before (map item_of (run es begin end)) ++ map item_of (drop end es))
       → out ≡ expired edge before (map item_of (run es begin end))
-      → unexpired.next ≡ first_key next (map item_of (drop end es))
-      → RemovesExpired p count edge before unexpired out next (map item_of es) now
-  leaf_unexpired p partitioned is_below count edge before unexpired out next now few looked_at last now_is run_is next_is =
+      → removal.next ≡ first_key next (map item_of (drop end es))
+      → RemovesExpired p count edge before removal out next (map item_of es) now
+  leaf_unexpired p partitioned is_below count edge before removal out next now few looked_at last now_is run_is next_is =
       let at = at_index es begin (omega arith) in
       let parts = items_parted p es (begin + 1) partitioned is_below in
       let size : length (run es begin end) ≡ end - begin =
@@ -86,6 +86,6 @@ module _ (es : List Entry) (begin end : ℕ) (some : begin < end) (most : end �
         few = omega (arith, looked_at, few);
         now_is = now_is;
         run_is = run_is;
-        last = subst (IsLast unexpired.last) (sym (versions (run es begin end))) last;
+        last = subst (IsLast removal.last) (sym (versions (run es begin end))) last;
         next_is = next_is;
       }

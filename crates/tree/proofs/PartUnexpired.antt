@@ -19,17 +19,17 @@ regroup : (a f t r b : List Item) → a ++ ((f ++ (t ++ r)) ++ b) ≡ (a ++ f) +
 regroup a f t r b = simp append_assoc
 
 -- What becomes of all items where those of one leaf are swept of expired items.
-pub unexpired_all : (p : ℕ → Bool) (count : ℕ) (edge before : ℤ) (unexpired : Removal) (run was now : List Item)
-    → IsChangedWithin p (λ _. GivesUnexpired p count edge before unexpired run) true None was now
-    → items_below p was ≢ [] → RemovesExpired p count edge before unexpired run None was now
-unexpired_all p count edge before unexpired run was now c some =
-    let pass = filter_around (λ (x : Item). p x.key) c.before c.leaf c.behind c.lower_bound c.failing in
+pub unexpired_all : (p : ℕ → Bool) (count : ℕ) (edge before : ℤ) (removal : Removal) (run was now : List Item)
+    → IsChangedWithin p (λ _. GivesUnexpired p count edge before removal run) true None was now
+    → items_below p was ≢ [] → RemovesExpired p count edge before removal run None was now
+unexpired_all p count edge before removal run was now c some =
+    let pass = filter_around (λ (x : Item). p x.key) c.before c.leaf c.behind c.items_below c.failing in
     let here : items_below p c.leaf ≢ [] =
     some_here p p (λ key t. t) c.before c.leaf c.behind c.lower_bound c.failing c.found
     (λ none. some (ap (items_below p) c.was_is ∙ none)) in
     let h = c.gives.1 here in
     let all = c.before ++ (c.leaf ++ c.behind) in
-    let whole : RemovesExpired p count edge before unexpired run None all (c.before ++ (c.changed ++ c.behind)) =
+    let whole : RemovesExpired p count edge before removal run None all (c.before ++ (c.changed ++ c.behind)) =
     record {
       front = c.before ++ h.front;
       first = h.first;
@@ -47,8 +47,8 @@ unexpired_all p count edge before unexpired run was now c some =
       last = h.last;
       next_is = h.next_is ∙ sym (first_key-append None h.rest c.behind);
     } in
-    subst (λ xs. RemovesExpired p count edge before unexpired run None xs now) (sym c.was_is)
-    (subst (λ xs. RemovesExpired p count edge before unexpired run None all xs) (sym c.now_is) whole)
+    subst (λ xs. RemovesExpired p count edge before removal run None xs now) (sym c.was_is)
+    (subst (λ xs. RemovesExpired p count edge before removal run None all xs) (sym c.now_is) whole)
 
 not_under : (edge before : ℤ) → edge ≤ℤ before → int_lt before edge ≡ false
 not_under edge before h = grind (arith, ints)
@@ -62,10 +62,10 @@ first_stays edge before (x ∷ xs) some h =
     omega (arith, ap length (stays edge before x xs one).0)
 
 -- Each item stays or goes, and one stays.
-pub length-unexpired : (p : ℕ → Bool) (count : ℕ) (edge before : ℤ) (unexpired : Removal) (run was now : List Item)
-    (next : Option ℕ) → RemovesExpired p count edge before unexpired run next was now
+pub length-removal : (p : ℕ → Bool) (count : ℕ) (edge before : ℤ) (removal : Removal) (run was now : List Item)
+    (next : Option ℕ) → RemovesExpired p count edge before removal run next was now
     → (length (items_below p was) ≡ 1 → edge ≤ℤ before) → (length now + length run ≡ length was) × (1 ≤ length now)
-length-unexpired p count edge before unexpired run was now next h first =
+length-removal p count edge before removal run was now next h first =
     let now_is = ap length h.now_is in
     let all = length-append h.front (unexpired edge before h.looked ++ h.rest) in
     let stay = length-append (unexpired edge before h.looked) h.rest in

@@ -167,7 +167,7 @@ overwritten p q r nested first second given written run was now c first_bound se
     partitioned = subst (IsPartitioned (λ (x : Item). p x.key)) c.was_is first_bound
 
     here : items_below q c.leaf ≢ []
-    here = some_here p q nested c.before c.leaf c.behind c.lower_bound c.failing c.found
+    here = some_here p q nested c.before c.leaf c.behind c.items_below c.failing c.found
         (λ none. some (ap (items_below q) c.was_is ∙ none))
 
     opens : (items_below p c.leaf ≢ []) ⊎ IsTrue c.first → All (λ x. p x.key ≡ true) c.before

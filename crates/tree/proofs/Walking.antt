@@ -90,7 +90,7 @@ module _ (front part back now : List Item) where
         behind = c.behind ++ back;
         was_is = ap (λ xs. front ++ (xs ++ back)) c.was_is ∙ regroup front c.before c.leaf c.behind back;
         now_is = ap (λ xs. front ++ (xs ++ back)) c.now_is ∙ regroup front c.before c.changed c.behind back;
-        items_below = All-append P front c.before around.pass c.lower_bound;
+        items_below = All-append P front c.before around.pass c.items_below;
         failing = All-append (λ (x : Item). is_below x.key ≡ false) c.behind back c.failing around.fail;
         found = elim c.found [
           | inl none ↦ elim around.found [

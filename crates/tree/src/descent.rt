@@ -8,8 +8,8 @@ ghost use Rattle.tree.specs.Subtree.{entries_at};
 ghost use Rattle.tree.specs.Tree.{least_of};
 ghost use Rattle.tree.specs.Path.{leaf_in, behind_leaf, first_key};
 
-use crate::node::Node;
 use crate::bound::Bound;
+use crate::node::Node;
 use crate::search::key_at;
 use arena::{Arena, Slot};
 
@@ -70,5 +70,12 @@ pub fn find<P: Bound, const N: usize>(
     let step = node.step(bound, common_prefix_len);
     let next = key_at(node.entries(), step.index + 1, behind);
     let child = node.entries()[step.index].child;
-    find(nodes, child, height - 1, bound, step.common_prefix_len, next)
+    find(
+        nodes,
+        child,
+        height - 1,
+        bound,
+        step.common_prefix_len,
+        next,
+    )
 }

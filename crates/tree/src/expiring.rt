@@ -8,9 +8,9 @@ ghost use Rattle.tree.specs.Path.{first_key};
 ghost use Rattle.tree.specs.Expire.{GivesUnexpired};
 ghost use Rattle.tree.specs.Tree.{IsLast, unexpired, expired};
 
+use crate::bound::Bound;
 use crate::entry::Entry;
 use crate::node::Node;
-use crate::bound::Bound;
 use crate::search::key_at;
 use crate::walk::{LeafChange, Outcome, Place};
 use arena::{Arena, Slot};

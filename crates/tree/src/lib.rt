@@ -5,11 +5,12 @@
 //! and the greatest version of its subtree.
 #![tactic(auto)]
 
+mod bound;
 mod descent;
 mod entry;
+mod expiring;
 mod node;
 mod overwrite;
-mod bound;
 mod question;
 mod questions;
 mod rebalance;
@@ -17,14 +18,13 @@ mod replace;
 mod root;
 mod search;
 mod span;
-mod expiring;
 mod tree;
 mod walk;
 
+pub use bound::Bound;
 pub use entry::Entry;
+pub use expiring::Removal;
 pub use node::Node;
 pub use overwrite::{Overwrite, Written};
-pub use bound::Bound;
 pub use question::{Question, SIDE};
-pub use expiring::Removal;
 pub use tree::{Tree, item};

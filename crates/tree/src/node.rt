@@ -5,8 +5,9 @@ ghost use Rattle.std.specs.Prelude.{◌≤◌};
 use crate::entry::Entry;
 
 mod heads;
+mod lower_bound;
 
-pub use heads::Step;
+pub use lower_bound::Step;
 
 /// Up to `N` entries. Contracts see them as the list `entries_of`.
 #[derive(Clone, Copy, Debug)]

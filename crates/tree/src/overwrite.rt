@@ -13,9 +13,9 @@ ghost use Rattle.tree.specs.Replace.{entries_at_both, Changes, IsKeyless};
 ghost use Rattle.tree.specs.Subtree.{entries_at};
 ghost use Rattle.tree.specs.Tree.{least_of};
 
+use crate::bound::Bound;
 use crate::entry::Entry;
 use crate::node::Node;
-use crate::bound::Bound;
 use crate::replace::place;
 use crate::tree::item;
 use crate::walk::{LeafChange, Outcome, Place};

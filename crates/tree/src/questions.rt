@@ -12,9 +12,9 @@ ghost use Rattle.tree.specs.Subtree.{entries_at, items_in};
 ghost use Rattle.tree.specs.Tree.{least_of};
 ghost use Rattle.tree.specs.declared.question.TheConstants.{SIDE};
 
+use crate::bound::Bound;
 use crate::descent::common_prefix_len_at;
 use crate::node::Node;
-use crate::bound::Bound;
 use crate::question::{Question, SIDE};
 use crate::root::{Root, last};
 use crate::search::greatest;
@@ -82,7 +82,11 @@ pub fn descend<P: Bound, Q: Bound, const N: usize>(
     let entries = node.entries();
     let own = node.head_for(&question.from, common_prefix_len);
     let agrees = own.is_some() && node.prefix_len() <= targets_prefix_len;
-    let head = node.head_given(agrees, &question.to, common_prefix_len.min(targets_prefix_len));
+    let head = node.head_given(
+        agrees,
+        &question.to,
+        common_prefix_len.min(targets_prefix_len),
+    );
     let step = node.step_by(&question.from, common_prefix_len, own);
     let next = step.index + 1;
     let clear = if next < entries.len() {
@@ -101,7 +105,14 @@ pub fn descend<P: Bound, Q: Bound, const N: usize>(
     let Some(common_prefix_len) = step.common_prefix_len else {
         return Approach::Open;
     };
-    descend(nodes, entry.child, height - 1, question, common_prefix_len, clear)
+    descend(
+        nodes,
+        entry.child,
+        height - 1,
+        question,
+        common_prefix_len,
+        clear,
+    )
 }
 
 /// Goes down a tree so.
@@ -161,7 +172,11 @@ fn leaf_told<P: Bound, Q: Bound, const N: usize>(
     let entries = node.entries();
     let begin = node.lower_bound_by_head(&question.from, own);
     let agrees = own.is_some() && node.prefix_len() <= targets_prefix_len;
-    let head = node.head_given(agrees, &question.to, near.common_prefix_len.min(targets_prefix_len));
+    let head = node.head_given(
+        agrees,
+        &question.to,
+        near.common_prefix_len.min(targets_prefix_len),
+    );
     let end = node.lower_bound_from(begin, &question.to, head);
     if end == entries.len() && !near.clear {
         return None;

@@ -10,9 +10,9 @@ ghost use Rattle.tree.specs.Subtree.{entries_at, items_in, IsSubtree};
 ghost use Rattle.tree.specs.Tree.{least_of};
 ghost use Rattle.tree.specs.Replace.{child_at, Changes, IsFamily, IsKeyless, IsRebalanced};
 
+use crate::bound::Bound;
 use crate::entry::Entry;
 use crate::node::Node;
-use crate::bound::Bound;
 use arena::{Arena, Slot};
 
 /// Returns the least number of entries of a node that isn't the root: a quarter, but two at least.

@@ -11,9 +11,9 @@ ghost use Rattle.tree.specs.Subtree.{entries_at};
 ghost use Rattle.tree.specs.Tree.{least_of};
 ghost use Rattle.tree.specs.Replace.{child_at, entries_at_both, entries_with, slot_taken, Changes, IsFamilyAt, IsKeyless, IsLinked, IsRebalancedAt, TellsWritten};
 
+use crate::bound::Bound;
 use crate::entry::Entry;
 use crate::node::Node;
-use crate::bound::Bound;
 use crate::rebalance::{entry_for, least, rebalance};
 use arena::{Arena, Slot};
 

@@ -15,10 +15,10 @@ ghost use Rattle.tree.specs.Replace.{items_with, slots_with, IsKeyless};
 ghost use Rattle.tree.specs.Tree.{least_of, IsLast, IsRooted};
 ghost use Rattle.tree.specs.Walk.{CanChangeTree, IsChangedWithin};
 
-use crate::descent::{Reached, find, common_prefix_len_at};
+use crate::bound::Bound;
+use crate::descent::{Reached, common_prefix_len_at, find};
 use crate::entry::Entry;
 use crate::node::Node;
-use crate::bound::Bound;
 use crate::rebalance::entry_for;
 use crate::replace::place;
 use crate::walk::{LeafChange, Place, change_leaf};
@@ -38,7 +38,14 @@ pub fn reach<P: Bound, const N: usize>(nodes: &Arena<Node<N>>, root: Root, bound
     ensures reached { IsReached (P.bytes bound.now) (P.below bound.now) (P.target bound.now) nodes.now root.height root.slot result }
 {
     let common_prefix_len = common_prefix_len_at(nodes, root.slot, bound);
-    find(nodes, root.slot, root.height, bound, common_prefix_len, None)
+    find(
+        nodes,
+        root.slot,
+        root.height,
+        bound,
+        common_prefix_len,
+        None,
+    )
 }
 
 /// Returns the last item below the bound.

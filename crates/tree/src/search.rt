@@ -7,9 +7,9 @@ ghost use Rattle.tree.specs.Subtree.{entries_at, items_in, IsSubtree};
 ghost use Rattle.tree.specs.Tree.{least_of};
 ghost use Rattle.tree.specs.Path.{IsPartitioned, behind as behind_partitioned, index_in, first_key, between};
 
+use crate::bound::Bound;
 use crate::entry::Entry;
 use crate::node::Node;
-use crate::bound::Bound;
 use crate::span::{begin_of, end_of, greater, greatest_of, is_above};
 use arena::{Arena, Slot};
 

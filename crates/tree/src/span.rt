@@ -5,8 +5,8 @@ ghost use Rattle.std.specs.List.{Any};
 ghost use Rattle.tree.specs.Item.{IsGreatest, version_of, greater_of};
 ghost use Rattle.tree.specs.Path.{IsPartitioned, below_from, below_to};
 
-use crate::entry::Entry;
 use crate::bound::Bound;
+use crate::entry::Entry;
 use crate::search::lower_bound;
 
 /// Returns how many of the entries stand before the first bound: none where it is missing.

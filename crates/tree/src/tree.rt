@@ -11,16 +11,16 @@ ghost use Rattle.tree.specs.Path.{IsPartitioned, items_below, behind, first_key,
 ghost use Rattle.tree.specs.declared.question.TheConstants.{SIDE};
 ghost use Rattle.tree.specs.Tree.{IsLast, tree_heads, KnowItems};
 
+use crate::bound::Bound;
 use crate::entry::Entry;
+use crate::expiring::{Expiring, Removal};
 use crate::node::Node;
 use crate::overwrite::{Overwrite, Overwriting, Written};
-use crate::bound::Bound;
 use crate::question::{Question, SIDE};
 use crate::questions::{answer_each, descend_each, look_at_each};
 use crate::rebalance::least;
 use crate::root::{Root, change, last};
 use crate::search::{greatest, key_behind};
-use crate::expiring::{Removal, Expiring};
 use arena::{Arena, ArenaError, Slot};
 use arrayvec::ArrayVec;
 use std::alloc::Global;

@@ -7,8 +7,8 @@ ghost use Rattle.tree.specs.Replace.{items_with};
 ghost use Rattle.tree.specs.Subtree.{items_in};
 ghost use Rattle.tree.specs.Walk.{added_by, CanChange, CanSearch, IsChanged, IsChangedWithin};
 
-use crate::node::Node;
 use crate::bound::Bound;
+use crate::node::Node;
 use crate::replace::{insert_child, raise_entry, rebalance_child};
 use crate::search::key_at;
 use arena::{Arena, Slot};

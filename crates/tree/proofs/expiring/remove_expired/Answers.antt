@@ -21,7 +21,7 @@ room_left (Some n) some few = omega (arith, few, length-map (entries_of n) item_
 
 pub put_aside-requires : goal.put_aside-requires
 put_aside-requires g c =
-    let inv = c.loop-index.invariant.unexpired in
+    let inv = c.loop-index.invariant.removal in
     let most = c.entries.ensures.most in
     let here = c.loop-index-test.true in
     let within = c.requires.within in (
@@ -34,7 +34,7 @@ pub loop-index-init : goal.loop-index-init
 loop-index-init g c =
     let none : items_of_run c.args.taken.now ≡ [] = ap items_of_run c.requires.none_taken in
     record {
-      unexpired = rw none (record {
+      removal = rw none (record {
         counted = omega arith;
         same_length = refl;
         ahead = refl;
@@ -63,11 +63,11 @@ loop-index-preserved g c =
     let Removal : List Entry → List Item → ℕ → ℤ → Type 0 = λ now out kept v. RemovesExpired edge before v es now out c.args.from c.args.to (i + 1) kept in
     let inv = c.loop-index.invariant in
     let within = c.requires.within in
-    let stays = one_stays edge before last es now out c.args.from c.args.to i kept e inv.unexpired here within is in
-    let goes = one_goes edge before last es now out c.args.from c.args.to i kept e inv.unexpired here within is in
+    let stays = one_stays edge before last es now out c.args.from c.args.to i kept e inv.removal here within is in
+    let goes = one_goes edge before last es now out c.args.from c.args.to i kept e inv.removal here within is in
     elim c.if-version-edge.branch [
       | then-version-edge w ↦
-          let inside : i < length now = omega (arith, inv.unexpired.same_length, within, here) in
+          let inside : i < length now = omega (arith, inv.removal.same_length, within, here) in
           let nodes : entries_of c.if-version-edge.node ≡ set now kept e =
           ap entries_of w.node-is ∙ w.copy.ensures.entries e (slice_get_read now (length now) i e refl inside is) in
           let outs : items_of_run c.if-version-edge.taken ≡ out = ap items_of_run w.taken-is in
@@ -80,7 +80,7 @@ loop-index-preserved g c =
           ] in
           let t : Removal (set now kept e) out (kept + 1) e.version = stays both in
           record {
-            unexpired = rw (nodes, outs, kept_is, same) t;
+            removal = rw (nodes, outs, kept_is, same) t;
             headed = λ bytes h.
                 subst (λ (n : Node g.row.N). AreHeads bytes (key_heads_of n)) (sym w.node-is)
                 (w.copy.ensures.headed bytes (inv.headed bytes h));
@@ -100,7 +100,7 @@ loop-index-preserved g c =
           ] in
           let t : Removal now (out ++ item_of e ∷ []) kept e.version = goes both in
           record {
-            unexpired = rw (nodes, outs, kept_is, same) t;
+            removal = rw (nodes, outs, kept_is, same) t;
             headed = λ bytes h.
                 subst (λ (n : Node g.row.N). AreHeads bytes (key_heads_of n)) (sym w.node-is) (inv.headed bytes h);
           }
@@ -109,7 +109,7 @@ loop-index-preserved g c =
 pub returns-clause-last : goal.returns-clause-last
 returns-clause-last g c =
     let end : c.loop-index.index ≡ c.args.to = omega arith in
-    last_seen _ _ _ _ _ _ _ _ _ _ c.loop-index.invariant.unexpired end c.requires.within c.requires.some
+    last_seen _ _ _ _ _ _ _ _ _ _ c.loop-index.invariant.removal end c.requires.within c.requires.some
 
 pub returns-clause-kept : goal.returns-clause-kept
 returns-clause-kept g c =
@@ -122,7 +122,7 @@ returns-clause-kept g c =
     let Kept : ℤ → ℤ → Type 0 = λ edge before. map item_of (entries_of c.remove.new.self)
     ≡ map item_of (take from es) ++ (unexpired edge before (map item_of (run es from to)) ++ map item_of (drop to es)) in
     subst (λ (e : ℤ). Kept e c.args.before) edge (subst (λ (b : ℤ). Kept (to_z w64 (of_z w64 c.args.edge)) b) before
-    (all_kept _ _ _ _ _ _ _ _ _ _ c.loop-index.invariant.unexpired end c.requires.within (entries_of c.remove.new.self)
+    (all_kept _ _ _ _ _ _ _ _ _ _ c.loop-index.invariant.removal end c.requires.within (entries_of c.remove.new.self)
     c.remove.ensures.entries))
 
 pub returns-clause-taken : goal.returns-clause-taken
@@ -133,4 +133,4 @@ returns-clause-taken g c =
     let looked = map item_of (run (entries_of c.args.node.now) c.args.from c.args.to) in
     let Expired : ℤ → ℤ → Type 0 = λ edge before. items_of_run c.loop-index.taken ≡ expired edge before looked in
     subst (λ (e : ℤ). Expired e c.args.before) edge (subst (λ (b : ℤ). Expired (to_z w64 (of_z w64 c.args.edge)) b) before
-    (all_expired _ _ _ _ _ _ _ _ _ _ c.loop-index.invariant.unexpired end c.requires.within))
+    (all_expired _ _ _ _ _ _ _ _ _ _ c.loop-index.invariant.removal end c.requires.within))

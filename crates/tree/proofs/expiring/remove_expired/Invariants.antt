@@ -6,7 +6,7 @@ use Rattle.tree.proofs.expiring.remove_expired.Given as goal
 abbrev pub invariant-loop-index : goal.invariant-loop-index
 invariant-loop-index g l =
     record {
-      unexpired : RemovesExpired l.edge l.before l.last (entries_of l.initial.node) (entries_of l.node) (items_of_run l.taken)
+      removal : RemovesExpired l.edge l.before l.last (entries_of l.initial.node) (entries_of l.node) (items_of_run l.taken)
           l.from l.to l.index l.kept;
       headed : (bytes : KeyBytes) → AreHeads bytes (key_heads_of l.initial.node) → AreHeads bytes (key_heads_of l.node);
     }

@@ -49,8 +49,8 @@ answer-requires g c =
     (λ q. IsAsked nodes (least_of g.row.N) height slot (g.P.Bound.bytes q.from) (g.P.Bound.below q.from)
     (g.Q.Bound.below q.to))
     qs i q t.0 c.requires.asked in
-    let items_below = All-get_or (λ q. filter (λ (x : Item). g.P.Bound.below q.from x.key) items ≢ []) qs i q t.0
-    c.requires.items_below in
+    let some_below = All-get_or (λ q. filter (λ (x : Item). g.P.Bound.below q.from x.key) items ≢ []) qs i q t.0
+    c.requires.some_below in
     let way : IsApproach nodes height slot (g.P.Bound.bytes q.from) (g.P.Bound.below q.from) (g.Q.Bound.below q.to)
     (g.P.Bound.target q.from) q.version true k.way = AllZip-at _ qs ks i q k t.0 t.2 t.3 c.requires.approach in
     let looked = AllZip-at _ qs ks i q k t.0 t.2 t.3 c.requires.looked in (
@@ -59,7 +59,7 @@ answer-requires g c =
         subst
             (λ q. IsAsked nodes (least_of g.row.N) height slot (g.P.Bound.bytes q.from) (g.P.Bound.below q.from)
             (g.Q.Bound.below q.to)) same asked,
-        (subst (λ q. filter (λ (x : Item). g.P.Bound.below q.from x.key) items ≢ []) same items_below, (way, looked)),
+        (subst (λ q. filter (λ (x : Item). g.P.Bound.below q.from x.key) items ≢ []) same some_below, (way, looked)),
       ),
     )
 

@@ -24,14 +24,14 @@ descend_from-requires g c =
     (λ q. IsAsked nodes (least_of g.row.N) height slot (g.P.Bound.bytes q.from) (g.P.Bound.below q.from)
     (g.Q.Bound.below q.to))
     qs i q inside c.requires.asked in
-    let items_below = All-get_or (λ q. filter (λ (x : Item). g.P.Bound.below q.from x.key) items ≢ []) qs i q inside
-    c.requires.items_below in (
+    let some_below = All-get_or (λ q. filter (λ (x : Item). g.P.Bound.below q.from x.key) items ≢ []) qs i q inside
+    c.requires.some_below in (
       search rules,
       (
         subst
             (λ q. IsAsked nodes (least_of g.row.N) height slot (g.P.Bound.bytes q.from) (g.P.Bound.below q.from)
             (g.Q.Bound.below q.to)) same asked,
-        subst (λ q. filter (λ (x : Item). g.P.Bound.below q.from x.key) items ≢ []) same items_below,
+        subst (λ q. filter (λ (x : Item). g.P.Bound.below q.from x.key) items ≢ []) same some_below,
       ),
     )
 

@@ -14,8 +14,8 @@ descend-requires g c =
     let p = g.P.Bound.below c.args.question.now.from in
     let target = g.P.Bound.target c.args.question.now.from in
     let known = known_where_some nodes (least_of g.row.N) c.args.root.height slot bytes p target c.common_prefix_len_at.result
-    r.asked.can_reach.subtree r.asked.can_reach.partitioned r.items_below c.common_prefix_len_at.ensures.known in
-    let first = subst (λ k. IsPrefixLenAt bytes p target (Some k) (entries_at nodes slot) 0) (sym c.unwrap_or-known.ensures) known in (
+    r.asked.can_reach.subtree r.asked.can_reach.partitioned r.some_below c.common_prefix_len_at.ensures.known in
+    let first = subst (λ k. IsPrefixLenAt bytes p target (Some k) (entries_at nodes slot) 0) (sym c.unwrap_or-common_prefix_len.ensures) known in (
       search rules,
       (r.asked, first),
     )

@@ -58,7 +58,7 @@ knows : (g : Over) (c : After-entries-entries g)
 knows g c =
     subst
     (λ es. IsPrefixLenAt (g.P.Bound.bytes c.args.question.now.from) (g.P.Bound.below c.args.question.now.from)
-    (g.P.Bound.target c.args.question.now.from) (Some c.args.near.common_prefix_len) es 0) (read g c) c.requires.near.common_prefix_len
+    (g.P.Bound.target c.args.question.now.from) (Some c.args.near.common_prefix_len) es 0) (read g c) c.requires.near.known
 
 is_below : (g : Over) (c : After-entries-entries g)
     → 1 ≤ length (filter (λ e. g.P.Bound.below c.args.question.now.from e.key) c.entries-entries.result.now)

@@ -11,8 +11,8 @@ use Rattle.tree.proofs.Headed.{headed_at}
 use Rattle.tree.proofs.Leaves.{IsLeaf, last_passing}
 use Rattle.tree.proofs.root.last.Goals as goal
 
-pub count-count-requires : goal.count-count-requires
-count-count-requires g c =
+pub lower_bound-count-requires : goal.lower_bound-count-requires
+lower_bound-count-requires g c =
     let P = g.P.Bound in
     let bound = c.args.bound.now in
     let nodes = c.args.nodes.now in

@@ -34,9 +34,9 @@ partitioned_is g c =
     subst (λ es. IsPartitioned (λ (e : Entry). p e.key) es) (entries_are g c)
     (entries_of_partitioned p (entries_at c.args.nodes.now c.args.slot) c.requires.searched.partitioned)
 
-pub count-lower_bound-requires : goal.count-lower_bound-requires
-count-lower_bound-requires g c =
-    let h = (goal.at.count-lower_bound-requires g c).After-header-leaf in
+pub lower_bound-below-requires : goal.lower_bound-below-requires
+lower_bound-below-requires g c =
+    let h = (goal.at.lower_bound-below-requires g c).After-header-leaf in
     let bound = c.args.self.now.bound.now in
     let es = entries_of c.header-leaf.result in
     let some : 0 < length es =

@@ -4,8 +4,8 @@ use Rattle.tree.specs.Node.{key_heads_of}
 use Rattle.tree.proofs.HeadAt.{few_below}
 use Rattle.tree.proofs.node.Node.lower_bound_by_head.Goals as goal
 
-pub count_without-requires : goal.count_without-requires
-count_without-requires g c =
+pub lower_bound_by_keys-requires : goal.lower_bound_by_keys-requires
+lower_bound_by_keys-requires g c =
     (search rules, (c.requires.can_find, c.requires.none c.in_default.is))
 
 pub lower_bound_from-requires : goal.lower_bound_from-requires

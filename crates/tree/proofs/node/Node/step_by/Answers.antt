@@ -20,8 +20,8 @@ lower_bound_by_head-requires g c =
       ),
     )
 
-pub common_prefix_len_in-shared-requires : goal.common_prefix_len_in-shared-requires
-common_prefix_len_in-shared-requires g c =
+pub common_prefix_len_in-common_prefix_len-requires : goal.common_prefix_len_in-common_prefix_len-requires
+common_prefix_len_in-common_prefix_len-requires g c =
     let es = entries_of c.args.self.now in
     let bound = c.args.bound.now in
     let is_below = g.P.Bound.below bound in

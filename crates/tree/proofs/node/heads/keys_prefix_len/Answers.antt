@@ -25,12 +25,12 @@ loop-entry-preserved g c =
     let here : e.key ≡ get_or keys i e.key = sym (get_or-map key xs i e e.key inside ∙ ap key (sym c.entry-item.is)) in
     elim c.if-not-is_empty.branch [
       | then-not-is_empty w ↦
-          let less : min count w.common.result ≡ c.if-not-is_empty.count = sym {b = min count w.common.result} (w.count-is ∙ w.min-count.ensures) in
+          let less : min count w.common_prefix_len.result ≡ c.if-not-is_empty.count = sym {b = min count w.common_prefix_len.result} (w.count-is ∙ w.min-count.ensures) in
           record {
-            most = omega (arith, inv.most, less, min-le_left count w.common.result);
+            most = omega (arith, inv.most, less, min-le_left count w.common_prefix_len.result);
             common = subst (λ n. All (BeginsAsFirst bytes c.args.key n) (take (i + 1) keys)) less
-                (first_more bytes c.args.key count w.common.result i keys e.key inside_keys here w.common.ensures.same
-                w.common.ensures.within inv.common);
+                (first_more bytes c.args.key count w.common_prefix_len.result i keys e.key inside_keys here w.common_prefix_len.ensures.same
+                w.common_prefix_len.ensures.within inv.common);
           }
       | else-not-is_empty w ↦ record {
         most = omega (arith, inv.most, w.count-is);

@@ -51,7 +51,7 @@ change-requires g c =
 abbrev Done : (g : given.Over) → After-change g → List Item → Type 0
 Done g c was =
     let n = c.change.new in
-    RemovesExpired (g.P.Bound.below c.args.bound.now) c.args.count c.args.edge c.args.before n.change.unexpired
+    RemovesExpired (g.P.Bound.below c.args.bound.now) c.args.count c.args.edge c.args.before n.change.removal
     (items_of_run n.taken) None was (items_in n.nodes n.root.height n.root.slot)
 
 done : (g : given.Over) (c : After-change g)
@@ -64,7 +64,7 @@ done g c =
     let before : to_z w64 (of_z w64 c.args.before) ≡ c.args.before = to_z-of_z w64 c.args.before c.ranges.before in
     let some : items_below p (items_in t.nodes t.root.height t.root.slot) ≢ [] = λ none.
     c.requires.some (ap (λ (v : Items). items_below p v.items) (sym c.self.view_is) ∙ none) in
-    unexpired_all p c.args.count c.args.edge c.args.before n.change.unexpired (items_of_run n.taken)
+    unexpired_all p c.args.count c.args.edge c.args.before n.change.removal (items_of_run n.taken)
     (items_in t.nodes t.root.height t.root.slot) (items_in n.nodes n.root.height n.root.slot)
     (rw (edge, before) at c.change.ensures.items) some
 
@@ -82,7 +82,7 @@ counted g c =
     let t = c.self.inside in
     let n = c.change.new in
     let p = g.P.Bound.below c.args.bound.now in
-    length-unexpired p c.args.count c.args.edge c.args.before n.change.unexpired (items_of_run n.taken)
+    length-unexpired p c.args.count c.args.edge c.args.before n.change.removal (items_of_run n.taken)
     (items_in t.nodes t.root.height t.root.slot) (items_in n.nodes n.root.height n.root.slot) None (done g c)
     (λ one. c.requires.first (ap (λ (v : Items). length (items_below p v.items)) (sym c.self.view_is) ∙ one))
 
@@ -107,9 +107,9 @@ invariant_of-self g c =
     (omega (arith, count.0, count.1, taken, c.self.invariant.counted))
     (omega (arith, count.0, taken, c.self.invariant.counted, c.self.invariant.within))
 
-pub returns-clause-unexpired : goal.returns-clause-unexpired
-returns-clause-unexpired g c =
-    let at = (goal.at.returns-clause-unexpired g c).After-change in
+pub returns-clause-removal : goal.returns-clause-removal
+returns-clause-removal g c =
+    let at = (goal.at.returns-clause-removal g c).After-change in
     subst (λ (v : Items). Done g at v.items) c.self.view_is (done g at)
 
 pub returns-clause-headed : goal.returns-clause-headed

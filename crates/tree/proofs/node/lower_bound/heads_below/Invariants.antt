@@ -1,5 +1,5 @@
 use Rattle.std.proofs.Common.{◌≡◌, ◌≤◌, length, filter, take, nat_lt}
-use Rattle.tree.proofs.node.heads.heads_below.Given as goal
+use Rattle.tree.proofs.node.lower_bound.heads_below.Given as goal
 
 abbrev pub invariant-loop-other : goal.invariant-loop-other
 invariant-loop-other l =

@@ -1,0 +1,264 @@
+//! The search in a node: by the heads of its keys, and by their bytes where heads are the same.
+
+ghost use Rattle.std.specs.Prelude.{◌≡◌, ◌≢◌, ◌<◌, ◌≤◌, ℕ, List, length, filter, nat_lt, get_or, slice_get, None, Some, IsTrue};
+ghost use Rattle.tree.specs.Finding.{AreTied, CanFind, HasHead, IsLowerBound, IsOwnHead, IsStep};
+ghost use Rattle.tree.specs.Heads.{HasPrefix, HaveCommonPrefix, AreHeads, IsPrefixLenAt};
+ghost use Rattle.tree.specs.Node.{entries_of, key_heads_of};
+
+use super::Node;
+use super::heads::same_bytes;
+use crate::bound::Bound;
+use crate::entry::Entry;
+use crate::search::lower_bound;
+
+/// Where a search goes on in a node.
+#[derive(Clone, Copy, Debug)]
+pub struct Step {
+    /// The index of the last entry below the bound, or of the first one.
+    pub index: usize,
+    /// How many bytes its key and the target begin with in common, or none if it isn't below the bound.
+    pub common_prefix_len: Option<usize>,
+}
+
+impl<const N: usize> Node<N> {
+    /// Finds the last entry below the bound, or else the first one. `common_prefix_len` is how many bytes the first key and the
+    /// target begin with in common, or none if that key isn't below the bound.
+    pub fn step<P: Bound>(&self, bound: &P, common_prefix_len: Option<usize>) -> Step
+        requires can_find { CanFind (P.bytes bound.now) (P.below bound.now) self.now }
+        requires known { IsPrefixLenAt (P.bytes bound.now) (P.below bound.now) (P.target bound.now) common_prefix_len (entries_of self.now) 0 }
+        ensures step { IsStep (P.bytes bound.now) (P.below bound.now) (P.target bound.now) self.now result }
+    {
+        let Some(common_prefix_len) = common_prefix_len else {
+            return Step {
+                index: 0,
+                common_prefix_len: None,
+            };
+        };
+        self.step_by(
+            bound,
+            common_prefix_len,
+            self.head_for(bound, common_prefix_len),
+        )
+    }
+
+    /// Finds the last entry below the bound, where the first one is. `common_prefix_len` is how many bytes the first key and the
+    /// target begin with in common. `head` is what `head_for` returns for it.
+    pub fn step_by<P: Bound>(&self, bound: &P, common_prefix_len: usize, head: Option<u64>) -> Step
+        requires can_find { CanFind (P.bytes bound.now) (P.below bound.now) self.now }
+        requires known { IsPrefixLenAt (P.bytes bound.now) (P.below bound.now) (P.target bound.now) (Some common_prefix_len)
+            (entries_of self.now) 0 }
+        requires head { IsOwnHead (P.bytes bound.now) (P.target bound.now) common_prefix_len head (key_heads_of self.now) }
+        ensures step { IsStep (P.bytes bound.now) (P.below bound.now) (P.target bound.now) self.now result }
+    {
+        let index = self.lower_bound_by_head(bound, head).saturating_sub(1);
+        let common_prefix_len = self.common_prefix_len_in(index, bound, common_prefix_len, head);
+        Step {
+            index,
+            common_prefix_len: Some(common_prefix_len),
+        }
+    }
+
+    /// Returns how many of the entries are below the bound. `common_prefix_len` is how many bytes the first key and the target
+    /// begin with in common, or none if that key isn't below the bound.
+    pub fn lower_bound<P: Bound>(&self, bound: &P, common_prefix_len: Option<usize>) -> usize
+        requires can_find { CanFind (P.bytes bound.now) (P.below bound.now) self.now }
+        requires known { IsPrefixLenAt (P.bytes bound.now) (P.below bound.now) (P.target bound.now) common_prefix_len (entries_of self.now) 0 }
+        ensures count { IsLowerBound (P.below bound.now) self.now result }
+    {
+        let Some(common_prefix_len) = common_prefix_len else {
+            return 0;
+        };
+        self.lower_bound_by_head(bound, self.head_for(bound, common_prefix_len))
+    }
+
+    /// Returns how many of the entries are below the bound. `head` is that of the target, if it begins as all keys do.
+    pub fn lower_bound_by_head<P: Bound>(&self, bound: &P, head: Option<u64>) -> usize
+        requires can_find { CanFind (P.bytes bound.now) (P.below bound.now) self.now }
+        requires head { HasHead (P.bytes bound.now) (P.target bound.now) head (key_heads_of self.now) }
+        requires none { head ≡ None → get_or (key_heads_of self.now).heads 0 0 ≢ 0
+            → length (filter (λ e. P.below bound.now e.key) (entries_of self.now)) ≡ length (entries_of self.now) }
+        ensures count { IsLowerBound (P.below bound.now) self.now result }
+    {
+        let Some(head) = head else {
+            return self.lower_bound_by_keys(bound);
+        };
+        let below = heads_below(&self.heads[..self.len], head);
+        self.lower_bound_from(below, bound, Some(head))
+    }
+
+    // Returns how many of the entries are below the bound, where the first one is and the target doesn't begin as all keys do.
+    fn lower_bound_by_keys<P: Bound>(&self, bound: &P) -> usize
+        requires can_find { CanFind (P.bytes bound.now) (P.below bound.now) self.now }
+        requires all { get_or (key_heads_of self.now).heads 0 0 ≢ 0
+            → length (filter (λ e. P.below bound.now e.key) (entries_of self.now)) ≡ length (entries_of self.now) }
+        ensures count { IsLowerBound (P.below bound.now) self.now result }
+    {
+        if self.heads[0] == 0 {
+            return self.lower_bound_from(0, bound, None);
+        }
+        self.len()
+    }
+
+    // Returns how many bytes the key at an index and the target begin with in common. `common_prefix_len` is the same of the first
+    // key. Both are below the bound. `head` is that of the target, if it begins as all keys do.
+    fn common_prefix_len_in<P: Bound>(
+        &self,
+        index: usize,
+        bound: &P,
+        common_prefix_len: usize,
+        head: Option<u64>,
+    ) -> usize
+        requires headed { AreHeads (P.bytes bound.now) (key_heads_of self.now) }
+        requires within { index < length (entries_of self.now) }
+        requires known { IsPrefixLenAt (P.bytes bound.now) (P.below bound.now) (P.target bound.now) (Some common_prefix_len)
+            (entries_of self.now) 0 }
+        requires is_below { (e : Entry) → slice_get (entries_of self.now) index ≡ Some e → IsTrue (P.below bound.now e.key) }
+        requires head { IsOwnHead (P.bytes bound.now) (P.target bound.now) common_prefix_len head (key_heads_of self.now) }
+        ensures known { IsPrefixLenAt (P.bytes bound.now) (P.below bound.now) (P.target bound.now) (Some result)
+            (entries_of self.now) index }
+    {
+        if index == 0 {
+            return common_prefix_len;
+        }
+        let Some(head) = head else {
+            return if self.heads[0] == 0 {
+                bound.common_prefix_len_with(self.entries[index].key)
+            } else {
+                common_prefix_len
+            };
+        };
+        if self.heads[index] == head {
+            return bound.common_prefix_len_with(self.entries[index].key);
+        }
+        self.prefix_len() + same_bytes(self.heads[index], head)
+    }
+
+    /// Returns the head of the target behind the bytes that all keys begin with, if it begins with them, too. The first key and the
+    /// target begin with `common_prefix_len` bytes in common, at least, unless that key is empty.
+    pub fn head_for<P: Bound>(&self, bound: &P, common_prefix_len: usize) -> Option<u64>
+        requires headed { AreHeads (P.bytes bound.now) (key_heads_of self.now) }
+        requires some { 0 < length (entries_of self.now) }
+        requires shared { (e : Entry) (text : List ℕ) → slice_get (entries_of self.now) 0 ≡ Some e
+            → P.bytes bound.now e.key ≡ Some text → HaveCommonPrefix common_prefix_len text (P.target bound.now) }
+        ensures head { IsOwnHead (P.bytes bound.now) (P.target bound.now) common_prefix_len result (key_heads_of self.now) }
+    {
+        let alike = if self.heads[0] == 0 && self.prefix_len > 0 {
+            self.has_prefix_of_last(bound)
+        } else {
+            common_prefix_len >= self.prefix_len()
+        };
+        if !alike {
+            return None;
+        }
+        Some(bound.head(self.prefix_len()))
+    }
+
+    /// Returns the head as `head_for` does. `agrees` tells that the target begins as all keys do, and may be false although it
+    /// does.
+    pub fn head_given<P: Bound>(
+        &self,
+        agrees: bool,
+        bound: &P,
+        common_prefix_len: usize,
+    ) -> Option<u64>
+        requires headed { AreHeads (P.bytes bound.now) (key_heads_of self.now) }
+        requires some { 0 < length (entries_of self.now) }
+        requires agrees { IsTrue agrees → HasPrefix (P.bytes bound.now) (key_heads_of self.now) (P.target bound.now) }
+        requires shared { (e : Entry) (text : List ℕ) → slice_get (entries_of self.now) 0 ≡ Some e
+            → P.bytes bound.now e.key ≡ Some text → HaveCommonPrefix common_prefix_len text (P.target bound.now) }
+        ensures head { HasHead (P.bytes bound.now) (P.target bound.now) result (key_heads_of self.now) }
+    {
+        if agrees {
+            return Some(bound.head(self.prefix_len()));
+        }
+        self.head_for(bound, common_prefix_len)
+    }
+
+    // Returns whether the target begins as the last key does, as far as all keys begin alike. It may be said that it doesn't where
+    // that key may be empty.
+    fn has_prefix_of_last<P: Bound>(&self, bound: &P) -> bool
+        requires headed { AreHeads (P.bytes bound.now) (key_heads_of self.now) }
+        requires some { 0 < length (entries_of self.now) }
+        ensures agrees { IsTrue result → HasPrefix (P.bytes bound.now) (key_heads_of self.now) (P.target bound.now) }
+    {
+        let last = self.len() - 1;
+        self.heads[last] != 0
+            && bound.common_prefix_len_with(self.entries[last].key) >= self.prefix_len()
+    }
+
+    /// Returns whether the entry at an index is below the bound. `head` is that of the target, if it begins as all keys do.
+    pub fn is_below_at<P: Bound>(&self, index: usize, bound: &P, head: Option<u64>) -> bool
+        requires headed { AreHeads (P.bytes bound.now) (key_heads_of self.now) }
+        requires within { index < length (entries_of self.now) }
+        requires head { HasHead (P.bytes bound.now) (P.target bound.now) head (key_heads_of self.now) }
+        ensures is_below { (e : Entry) → slice_get (entries_of self.now) index ≡ Some e → result ≡ P.below bound.now e.key }
+    {
+        let own = self.heads[index];
+        match head {
+            Some(head) if head != own => own < head,
+            _ => bound.is_below(self.entries[index].key),
+        }
+    }
+
+    /// Returns how many of the entries are below the bound, of which at least so many are.
+    pub fn lower_bound_from<P: Bound>(&self, from: usize, bound: &P, head: Option<u64>) -> usize
+        requires can_find { CanFind (P.bytes bound.now) (P.below bound.now) self.now }
+        requires head { HasHead (P.bytes bound.now) (P.target bound.now) head (key_heads_of self.now) }
+        requires least { from ≤ length (filter (λ e. P.below bound.now e.key) (entries_of self.now)) }
+        ensures count { IsLowerBound (P.below bound.now) self.now result }
+    {
+        let (from, to) = match head {
+            Some(head) => self.tied(from, head),
+            None => (from, self.len()),
+        };
+        if from == to {
+            return from;
+        }
+        from + lower_bound(&self.entries()[from..to], bound)
+    }
+
+    // Returns the index of the first entry, from this index on, whose head isn't below this one, and that of the
+    // first one behind it whose head is above it. So the entries that have this head stand between these two.
+    fn tied(&self, from: usize, head: u64) -> (usize, usize)
+        requires from { from ≤ length (entries_of self.now) }
+        ensures tied { AreTied self.now head from result.0 result.1 }
+    {
+        let len = self.len();
+        let mut first = from;
+        while first < len && self.heads[first] < head {
+            first += 1;
+        }
+        let mut end = first;
+        while end < len && self.heads[end] <= head {
+            end += 1;
+        }
+        (first, end)
+    }
+
+    /// Returns how many of the entries are below the bound, of which at most so many are. It looks at these one by one, from the
+    /// last one on.
+    pub fn lower_bound_back<P: Bound>(&self, to: usize, bound: &P, head: Option<u64>) -> usize
+        requires can_find { CanFind (P.bytes bound.now) (P.below bound.now) self.now }
+        requires head { HasHead (P.bytes bound.now) (P.target bound.now) head (key_heads_of self.now) }
+        requires within { to ≤ length (entries_of self.now) }
+        requires most { length (filter (λ e. P.below bound.now e.key) (entries_of self.now)) ≤ to }
+        ensures count { IsLowerBound (P.below bound.now) self.now result }
+    {
+        let mut count = to;
+        while count > 0 && !self.is_below_at(count - 1, bound, head) {
+            count -= 1;
+        }
+        count
+    }
+}
+
+// Returns how many of the heads are below this one.
+fn heads_below(heads: &[u64], head: u64) -> usize
+    ensures count { result ≡ length (filter (λ d. nat_lt d head) heads.now) }
+{
+    let mut below = 0;
+    for other in heads {
+        below += usize::from(*other < head);
+    }
+    below
+}
