@@ -20,10 +20,10 @@ spare_at spares size = slice_index_or spares size none
 abbrev pub counts_of : List Spare → List ℕ
 counts_of spares = map (λ s. length s.slots) spares
 
--- so many slots in a row, from the first on, behind those that were there
+-- so many slots in a row, from the last down to the first, behind those that were there
 abbrev pub with_row : List ℕ → ℕ → ℕ → List ℕ
 with_row slots first zero = slots
-with_row slots first (suc k) = with_row slots first k ++ (first + k) ∷ []
+with_row slots first (suc k) = with_row slots (suc first) k ++ first ∷ []
 
 -- the same of a size
 abbrev pub with_chunk : Spare → ℕ → ℕ → Spare

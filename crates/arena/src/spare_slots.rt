@@ -1,3 +1,5 @@
+//! The spare slots of one size.
+
 ghost use Rattle.std.specs.Prelude.{◌≡◌, ◌*◌, ◌<◌, ◌≤◌, length, OnOk, OnErr};
 ghost use Rattle.arena.specs.Spares.{none, with_chunk, with_slot};
 
@@ -42,7 +44,7 @@ impl<A: Allocator> SpareSlots<A> {
         self.slots.len()
     }
 
-    /// Adds the slots of the chunk with this number, and makes room for them.
+    /// Adds the slots of the chunk with this number, and makes room for them. The first slot of the chunk is given first.
     pub(crate) fn add(&mut self, number: usize, count: usize) -> Result<(), AllocError>
         requires number { number < 8388608 }
         requires count { count ≤ 512 }
@@ -52,7 +54,7 @@ impl<A: Allocator> SpareSlots<A> {
     {
         self.slots.reserve(self.total - self.slots.len() + count)?;
         self.total += count;
-        for index in 0..count {
+        for index in (0..count).rev() {
             self.slots.push_reserved(Slot::new(number, index));
         }
         Ok(())
