@@ -1,5 +1,5 @@
 -- The entries of a chunk, and the free ones behind them that are not made yet.
-use Rattle.std.proofs.Common.{◌≡◌, ℕ, zero, suc, ◌<◌, ◌≤◌, List, [], ◌∷◌, ◌++◌, length, set, slice_get, Some, IsSome, refl, sym, ap, ◌∙◌, arith}
+use Rattle.std.proofs.Common.{◌≡◌, ℕ, zero, suc, ◌<◌, ◌≤◌, List, [], ◌∷◌, ◌++◌, length, set, slice_get, Some, refl, ap, arith}
 use Rattle.arena.specs.Entry.{IsFree}
 use Rattle.arena.specs.Chunk.{with_free}
 use Rattle.arena.specs.declared.entry.Entry.{Entry}

@@ -5,6 +5,7 @@ use Rattle.arena.specs.Entry.{IsFree}
 use Rattle.arena.specs.declared.entry.Entry.{Entry}
 use Rattle.arena.specs.declared.entry.Entry.TheVariants.{Free, Live}
 use Rattle.arena.specs.declared.entry.Head.{Head}
+use Rattle.arena.specs.declared.size.TheConstants.{CHUNK_BYTES, SIZES}
 
 -- a chunk: the size of its slots, and what each of them holds
 pub record Chunk (H : Type 0) : Type 0 where
@@ -39,12 +40,12 @@ module _ {H : Type 0} where
 
   -- what a chunk keeps: its slots share all its bytes, and there is room for the entries of those that have none
   pub record IsChunk (es : List (Entry (Head H))) (capacity size width : ℕ) (bytes : List ℕ) : Type 0 where
-    pub sized : size < 10
+    pub sized : size < SIZES
     pub wide : width ≡ slice_index sizes size
     pub few : length es ≤ slots_of size
     pub entries_room : slots_of size ≤ capacity
-    pub shared : slots_of size * width ≡ 16384
-    pub room : length bytes ≡ 16384
+    pub shared : slots_of size * width ≡ CHUNK_BYTES
+    pub room : length bytes ≡ CHUNK_BYTES
     pub fit : AllFit (with_free (slots_of size) es) width
 
   -- there are so many slots, and all are free

@@ -5,6 +5,7 @@ ghost use Rattle.std.specs.Option.{is_some};
 ghost use Rattle.std.specs.Borrow.{sem};
 ghost use Rattle.arena.specs.Arena.{sizes, slots_of};
 ghost use Rattle.arena.specs.Chunk.{with_free};
+ghost use Rattle.arena.specs.declared.size.TheConstants.{SIZES};
 
 use crate::entry::{Entry, Head};
 use crate::size::{CHUNK_BYTES, slots_of, width_of};
@@ -76,7 +77,7 @@ impl<H, A: Allocator> Chunk<H, A> {
     /// The index of the slots' size.
     pub(crate) fn size(&self) -> usize
         ensures size { result ≡ self.now.size }
-        ensures in_range { result < 10 }
+        ensures in_range { result < SIZES }
     {
         self.size
     }
@@ -154,7 +155,7 @@ impl<H: Drop, A: Allocator + Copy> Chunk<H, A> {
 
     /// Takes the memory for a chunk. Its slots are free, and none has an entry yet.
     pub(crate) fn new(alloc: A, size: usize) -> Result<Self, AllocError>
-        requires size { size < 10 }
+        requires size { size < SIZES }
         ensures size { IfOk result (λ c. c.size ≡ size) }
         ensures fresh { IfOk result (λ c. IsFresh c.cells (slots_of size)) }
     {

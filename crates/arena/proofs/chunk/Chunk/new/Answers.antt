@@ -1,4 +1,4 @@
-use Rattle.std.proofs.Common.{◌≡◌, ◌*◌, ◌≤◌, length, vec_capacity, arith}
+use Rattle.std.proofs.Common.{◌≡◌, ◌*◌, length, arith}
 use Rattle.arena.specs.Arena.{slots_of}
 use Rattle.arena.proofs.Cells.{IsChunk-new, IsFresh-new}
 use Rattle.arena.proofs.chunk.Chunk.new.Goals as goal
