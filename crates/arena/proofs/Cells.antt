@@ -13,12 +13,13 @@ use Rattle.std.proofs.lemmas.List.{
 use Rattle.std.proofs.lemmas.Option.{slice_get_within, slice_get_read}
 use Rattle.std.proofs.lemmas.Slice.{drop-append-drop}
 use Rattle.std.specs.Option.{option_and_then}
-use Rattle.arena.specs.Arena.{Record, sizes}
+use Rattle.arena.specs.Arena.{Record, sizes, slots_of}
 use Rattle.arena.specs.Entry.{held, held_at, IsFree}
-use Rattle.arena.specs.Chunk.{cell_of, cells_of, Fits, AllFit, IsChunk, IsFresh}
+use Rattle.arena.specs.Chunk.{cell_of, cells_of, with_free, Fits, AllFit, IsChunk, IsFresh}
 use Rattle.arena.specs.declared.entry.Entry.{Entry}
 use Rattle.arena.specs.declared.entry.Entry.TheVariants.{Free, Live}
 use Rattle.arena.specs.declared.entry.Head.{Head}
+use Rattle.arena.proofs.Entries.{length-with_free, with_free-set, with_free-there, with_free-live, with_free-beyond}
 
 next_slot : (i width : ℕ) → width + i * width ≡ suc i * width
 next_slot i width = grind arith
@@ -27,6 +28,11 @@ next_slot i width = grind arith
 pub slot_within : (i n width : ℕ) → i < n → n * width ≡ 16384 → i * width + width ≤ 16384
 slot_within i n width below shared =
     omega (arith, mul-le-mul_right {m = suc i} {n = n} width below, next_slot i width)
+
+-- what holds of a slot
+pub record IsSlot (size width i : ℕ) : Type 0 where
+  pub index : i < slots_of size
+  pub bytes : i * width + width ≤ 16384
 
 -- the bytes with a key written over them, from an index on
 abbrev pub with_key : ℕ → List ℕ → List ℕ → List ℕ
@@ -69,26 +75,35 @@ module _ {H : Type 0} where
   record_of head i width bytes =
       record { header = head.header; key = take head.length (drop (i * width) bytes) }
 
-  pub live_entry : (es : List (Entry (Head H))) (width : ℕ) (bytes : List ℕ) (i : ℕ)
+  live_in : (es : List (Entry (Head H))) (width : ℕ) (bytes : List ℕ) (i : ℕ)
       → IsSome (held_at (cells_of es width bytes) i)
       → (head : Head H) × (slice_get es i ≡ Some (Live head))
       × (slice_get (cells_of es width bytes) i ≡ Some (Live (record_of head i width bytes)))
-  live_entry [] width bytes i live = cc
-  live_entry (Free ∷ es) width bytes zero live = cc
-  live_entry (Live h ∷ es) width bytes zero live = (
+  live_in [] width bytes i live = cc
+  live_in (Free ∷ es) width bytes zero live = cc
+  live_in (Live h ∷ es) width bytes zero live = (
     h,
     refl,
     ap (λ n. Some (Live (record { header = h.header; key = take h.length (drop n bytes) })))
         (sym (zero-mul width)),
   )
-  live_entry (e ∷ es) width bytes (suc i) live =
-      let later = live_entry es width (drop width bytes) i live in (
+  live_in (e ∷ es) width bytes (suc i) live =
+      let later = live_in es width (drop width bytes) i live in (
         later.0,
         later.1,
         later.2
             ∙ ap (λ bs. Some (Live (record { header = later.0.header; key = take later.0.length bs })))
             (drop-drop (i * width) width bytes ∙ ap (λ n. drop n bytes) (next_slot i width)),
       )
+
+  -- a live slot has an entry
+  pub live_entry : (es : List (Entry (Head H))) (size width : ℕ) (bytes : List ℕ) (i : ℕ)
+      → IsSome (held_at (cells_of (with_free (slots_of size) es) width bytes) i)
+      → (head : Head H) × (slice_get es i ≡ Some (Live head))
+      × (slice_get (cells_of (with_free (slots_of size) es) width bytes) i ≡ Some (Live (record_of head i width bytes)))
+  live_entry es size width bytes i live =
+      let found = live_in (with_free (slots_of size) es) width bytes i live in
+      (found.0, with_free-live (slots_of size) es i found.0 found.1, found.2)
 
   -- what a read of an entry finds
   pub entry_at : (es : List (Entry (Head H))) (i : ℕ) (read e : Entry (Head H)) → slice_get es i ≡ Some e
@@ -101,14 +116,14 @@ module _ {H : Type 0} where
       → head ≡ held_head
   held_in e head held_head is live = let same : Some head ≡ Some held_head = sym (ap held is) ∙ live in cc
 
-  pub cells_of-freed : (es : List (Entry (Head H))) (width : ℕ) (bytes : List ℕ) (i : ℕ)
+  cells_of-freed : (es : List (Entry (Head H))) (width : ℕ) (bytes : List ℕ) (i : ℕ)
       → cells_of (set es i Free) width bytes ≡ set (cells_of es width bytes) i Free
   cells_of-freed [] width bytes i = refl
   cells_of-freed (e ∷ es) width bytes zero = refl
   cells_of-freed (e ∷ es) width bytes (suc i) =
       ap (λ cs. cell_of e bytes ∷ cs) (cells_of-freed es width (drop width bytes) i)
 
-  pub cells_of-lent : (es : List (Entry (Head H))) (width : ℕ) (bytes : List ℕ) (i : ℕ) (head : Head H)
+  cells_of-lent : (es : List (Entry (Head H))) (width : ℕ) (bytes : List ℕ) (i : ℕ) (head : Head H)
       → cells_of (set es i (Live head)) width bytes
       ≡ set (cells_of es width bytes) i (Live (record_of head i width bytes))
   cells_of-lent [] width bytes i head = refl
@@ -121,18 +136,23 @@ module _ {H : Type 0} where
       (Live (record { header = head.header; key = take head.length bs })))
       (drop-drop (i * width) width bytes ∙ ap (λ n. drop n bytes) (next_slot i width)))
 
-  pub AllFit-set : (es : List (Entry (Head H))) (width i : ℕ) (e : Entry (Head H)) → AllFit es width
+  AllFit-set : (es : List (Entry (Head H))) (width i : ℕ) (e : Entry (Head H)) → AllFit es width
       → Fits e width → AllFit (set es i e) width
   AllFit-set [] width i e fit fits = fit
   AllFit-set (x ∷ es) width zero e fit fits = (fits, fit.1)
   AllFit-set (x ∷ es) width (suc i) e fit fits = (fit.0, AllFit-set es width i e fit.1 fits)
 
-  pub fits_at : (es : List (Entry (Head H))) (width i : ℕ) (head : Head H) → AllFit es width
+  fits_there : (es : List (Entry (Head H))) (width i : ℕ) (head : Head H) → AllFit es width
       → slice_get es i ≡ Some (Live head) → head.length ≤ width
-  fits_at [] width i head fit is = cc
-  fits_at (Free ∷ es) width zero head fit is = cc
-  fits_at (Live h ∷ es) width zero head fit is = let same : h ≡ head = cc in rw (← same) fit.0
-  fits_at (x ∷ es) width (suc i) head fit is = fits_at es width i head fit.1 is
+  fits_there [] width i head fit is = cc
+  fits_there (Free ∷ es) width zero head fit is = cc
+  fits_there (Live h ∷ es) width zero head fit is = let same : h ≡ head = cc in rw (← same) fit.0
+  fits_there (x ∷ es) width (suc i) head fit is = fits_there es width i head fit.1 is
+
+  pub fits_at : (k : ℕ) (es : List (Entry (Head H))) (width i : ℕ) (head : Head H) → AllFit (with_free k es) width
+      → slice_get es i ≡ Some (Live head) → head.length ≤ width
+  fits_at k es width i head fit is =
+      fits_there (with_free k es) width i head fit (with_free-there k es i (Live head) is)
 
   cell_of-before : (e : Entry (Head H)) (width from : ℕ) (key bytes : List ℕ) → Fits e width → width ≤ from
       → from ≤ length bytes → cell_of e (with_key from key bytes) ≡ cell_of e bytes
@@ -142,7 +162,7 @@ module _ {H : Type 0} where
       (take-with_key h.length from key bytes (omega arith) room)
 
   -- a key written into a slot leaves the others as they are
-  pub cells_of-filled : (es : List (Entry (Head H))) (width : ℕ) (bytes : List ℕ) (i from : ℕ) (header : H)
+  cells_of-filled : (es : List (Entry (Head H))) (width : ℕ) (bytes : List ℕ) (i from : ℕ) (header : H)
       (key : List ℕ)
       → from ≡ i * width → length key ≤ width → AllFit es width → from + width ≤ length bytes
       → cells_of (set es i (Live (record { header = header; length = length key }))) width
@@ -164,158 +184,214 @@ module _ {H : Type 0} where
       ∙ cells_of-filled es width (drop width bytes) i (i * width) header key refl fits fit.1
       (omega (arith, length-drop width bytes))))
 
-  -- what holds of the bytes of a slot
-  pub record IsSlot (es : List (Entry (Head H))) (width i : ℕ) : Type 0 where
-    pub index : i < length es
-    pub bytes : i * width + width ≤ 16384
-
-  pub IsSlot-within : (es : List (Entry (Head H))) (size width : ℕ) (bytes : List ℕ) (i : ℕ)
-      → IsChunk es size width bytes → i < length (cells_of es width bytes) → IsSlot es width i
-  IsSlot-within es size width bytes i chunk within =
-      let index : i < length es = omega (arith, length-cells_of es width bytes) in
-      record { index = index; bytes = slot_within i (length es) width index chunk.shared }
-
-  pub IsChunk-filled : (es : List (Entry (Head H))) (size width : ℕ) (bytes : List ℕ) (i : ℕ) (header : H)
-      (key : List ℕ)
-      → IsChunk es size width bytes → i < length (cells_of es width bytes)
-      → length key ≤ slice_index sizes size
-      → IsChunk (set es i (Live (record { header = header; length = length key }))) size width
-      (with_key (i * width) key bytes)
-  IsChunk-filled es size width bytes i header key chunk within fits =
-      let slot = IsSlot-within es size width bytes i chunk within in
-      let wide = chunk.wide in
-      let room = chunk.room in
-      record {
-        sized = chunk.sized;
-        wide = wide;
-        shared = ap (λ n. n * width) (length-set es i _) ∙ chunk.shared;
-        room = length-with_key (i * width) key bytes (omega (arith, slot.bytes)) ∙ room;
-        fit = AllFit-set es width i _ chunk.fit (omega arith);
-      }
-
-  pub filled : (es : List (Entry (Head H))) (size width : ℕ) (bytes : List ℕ) (i : ℕ) (header : H)
-      (key : List ℕ)
-      → IsChunk es size width bytes → i < length (cells_of es width bytes)
-      → length key ≤ slice_index sizes size
-      → cells_of (set es i (Live (record { header = header; length = length key }))) width
-      (with_key (i * width) key bytes)
-      ≡ set (cells_of es width bytes) i (Live (record { header = header; key = key }))
-  filled es size width bytes i header key chunk within fits =
-      let slot = IsSlot-within es size width bytes i chunk within in
-      let wide = chunk.wide in
-      let room = chunk.room in
-      cells_of-filled es width bytes i (i * width) header key refl (omega arith) chunk.fit
-      (omega (arith, slot.bytes))
-
-  pub IsChunk-freed : (es : List (Entry (Head H))) (size width : ℕ) (bytes : List ℕ) (i : ℕ)
-      → IsChunk es size width bytes → IsChunk (set es i Free) size width bytes
-  IsChunk-freed es size width bytes i chunk =
-      record {
-        sized = chunk.sized;
-        wide = chunk.wide;
-        shared = ap (λ n. n * width) (length-set es i _) ∙ chunk.shared;
-        room = chunk.room;
-        fit = AllFit-set es width i Free chunk.fit tt;
-      }
-
-  pub IsChunk-lent : (es : List (Entry (Head H))) (size width : ℕ) (bytes : List ℕ) (i : ℕ) (head : Head H)
-      → IsChunk es size width bytes → head.length ≤ width → IsChunk (set es i (Live head)) size width bytes
-  IsChunk-lent es size width bytes i head chunk fits =
-      record {
-        sized = chunk.sized;
-        wide = chunk.wide;
-        shared = ap (λ n. n * width) (length-set es i _) ∙ chunk.shared;
-        room = chunk.room;
-        fit = AllFit-set es width i (Live head) chunk.fit fits;
-      }
-
-  -- the key of a live slot lies within the bytes
-  pub key_within : (es : List (Entry (Head H))) (size width : ℕ) (bytes : List ℕ) (i : ℕ) (head : Head H)
-      → IsChunk es size width bytes → slice_get es i ≡ Some (Live head)
-      → i * width + head.length ≤ length bytes
-  key_within es size width bytes i head chunk is =
-      let room = chunk.room in
+  pub IsSlot-within : (es : List (Entry (Head H))) (capacity size width : ℕ) (bytes : List ℕ) (i : ℕ)
+      → IsChunk es capacity size width bytes → i < length (cells_of (with_free (slots_of size) es) width bytes)
+      → IsSlot size width i
+  IsSlot-within es capacity size width bytes i chunk within =
+      let index : i < slots_of size =
       omega (
         arith,
-        slot_within i (length es) width (slice_get_within es i _ is) chunk.shared,
-        fits_at es width i head chunk.fit is,
+        length-cells_of (with_free (slots_of size) es) width bytes,
+        length-with_free (slots_of size) es chunk.few,
+      ) in
+      record { index = index; bytes = slot_within i (slots_of size) width index chunk.shared }
+
+  -- entries that are made change nothing
+  pub record IsMade (es made : List (Entry (Head H))) (capacity size width : ℕ) (bytes : List ℕ) : Type 0 where
+    pub chunk : IsChunk made capacity size width bytes
+    pub cells : cells_of (with_free (slots_of size) made) width bytes
+        ≡ cells_of (with_free (slots_of size) es) width bytes
+
+  pub IsMade-entries : (es made : List (Entry (Head H))) (capacity more size width : ℕ) (bytes : List ℕ) (i : ℕ)
+      → IsChunk es capacity size width bytes → i < length (cells_of (with_free (slots_of size) es) width bytes)
+      → ((count : ℕ) → i < count → with_free count made ≡ with_free count es)
+      → ((count : ℕ) → i < count → length es ≤ count → length made ≤ count)
+      → capacity ≤ more → IsMade es made more size width bytes
+  IsMade-entries es made capacity more size width bytes i chunk within free few room =
+      let index = (IsSlot-within es capacity size width bytes i chunk within).index in
+      let same = free (slots_of size) index in
+      record {
+        chunk = record {
+          sized = chunk.sized;
+          wide = chunk.wide;
+          few = few (slots_of size) index chunk.few;
+          entries_room = omega (arith, chunk.entries_room, room);
+          shared = chunk.shared;
+          room = chunk.room;
+          fit = rw same chunk.fit;
+        };
+        cells = ap (λ xs. cells_of xs width bytes) same;
+      }
+
+  -- a chunk with one of its entries written
+  IsChunk-set : (es : List (Entry (Head H))) (capacity size width : ℕ) (bytes after : List ℕ) (i : ℕ)
+      (e : Entry (Head H))
+      → IsChunk es capacity size width bytes → i < length es → Fits e width → length after ≡ length bytes
+      → IsChunk (set es i e) capacity size width after
+  IsChunk-set es capacity size width bytes after i e chunk there fits same =
+      record {
+        sized = chunk.sized;
+        wide = chunk.wide;
+        few = omega (arith, length-set es i e, chunk.few);
+        entries_room = chunk.entries_room;
+        shared = chunk.shared;
+        room = same ∙ chunk.room;
+        fit = rw (with_free-set (slots_of size) es i e there)
+            (AllFit-set (with_free (slots_of size) es) width i e chunk.fit fits);
+      }
+
+  pub IsChunk-filled : (es : List (Entry (Head H))) (capacity size width : ℕ) (bytes : List ℕ) (i : ℕ) (header : H)
+      (key : List ℕ)
+      → IsChunk es capacity size width bytes → i < length es → length key ≤ slice_index sizes size
+      → IsChunk (set es i (Live (record { header = header; length = length key }))) capacity size width
+      (with_key (i * width) key bytes)
+  IsChunk-filled es capacity size width bytes i header key chunk there fits =
+      let wide = chunk.wide in
+      let room = chunk.room in
+      let inside = slot_within i (slots_of size) width (omega (arith, there, chunk.few)) chunk.shared in
+      IsChunk-set es capacity size width bytes _ i _ chunk there (omega arith)
+      (length-with_key (i * width) key bytes (omega (arith, inside)))
+
+  pub filled : (es : List (Entry (Head H))) (capacity size width : ℕ) (bytes : List ℕ) (i : ℕ) (header : H)
+      (key : List ℕ)
+      → IsChunk es capacity size width bytes → i < length es → length key ≤ slice_index sizes size
+      → cells_of (with_free (slots_of size) (set es i (Live (record { header = header; length = length key })))) width
+      (with_key (i * width) key bytes)
+      ≡ set (cells_of (with_free (slots_of size) es) width bytes) i (Live (record { header = header; key = key }))
+  filled es capacity size width bytes i header key chunk there fits =
+      let wide = chunk.wide in
+      let room = chunk.room in
+      let inside = slot_within i (slots_of size) width (omega (arith, there, chunk.few)) chunk.shared in
+      ap (λ xs. cells_of xs width (with_key (i * width) key bytes)) (with_free-set (slots_of size) es i _ there)
+      ∙ cells_of-filled (with_free (slots_of size) es) width bytes i (i * width) header key refl (omega arith) chunk.fit
+      (omega (arith, inside))
+
+  pub IsChunk-freed : (es : List (Entry (Head H))) (capacity size width : ℕ) (bytes : List ℕ) (i : ℕ)
+      → IsChunk es capacity size width bytes → i < length es → IsChunk (set es i Free) capacity size width bytes
+  IsChunk-freed es capacity size width bytes i chunk there =
+      IsChunk-set es capacity size width bytes bytes i Free chunk there tt refl
+
+  pub freed : (k : ℕ) (es : List (Entry (Head H))) (width : ℕ) (bytes : List ℕ) (i : ℕ) → i < length es
+      → cells_of (with_free k (set es i Free)) width bytes ≡ set (cells_of (with_free k es) width bytes) i Free
+  freed k es width bytes i there =
+      ap (λ xs. cells_of xs width bytes) (with_free-set k es i Free there)
+      ∙ cells_of-freed (with_free k es) width bytes i
+
+  pub IsChunk-lent : (es : List (Entry (Head H))) (capacity size width : ℕ) (bytes : List ℕ) (i : ℕ) (head : Head H)
+      → IsChunk es capacity size width bytes → i < length es → head.length ≤ width
+      → IsChunk (set es i (Live head)) capacity size width bytes
+  IsChunk-lent es capacity size width bytes i head chunk there fits =
+      IsChunk-set es capacity size width bytes bytes i (Live head) chunk there fits refl
+
+  -- the key of a live slot lies within the bytes
+  pub key_within : (es : List (Entry (Head H))) (capacity size width : ℕ) (bytes : List ℕ) (i : ℕ) (head : Head H)
+      → IsChunk es capacity size width bytes → slice_get es i ≡ Some (Live head)
+      → i * width + head.length ≤ length bytes
+  key_within es capacity size width bytes i head chunk is =
+      let room = chunk.room in
+      let there = slice_get_within es i _ is in
+      omega (
+        arith,
+        slot_within i (slots_of size) width (omega (arith, there, chunk.few)) chunk.shared,
+        fits_at (slots_of size) es width i head chunk.fit is,
       )
 
   -- a live slot with another header keeps its key
-  pub lent : (es : List (Entry (Head H))) (width : ℕ) (bytes : List ℕ) (i : ℕ) (head : Head H) (header : H)
-      → slice_get (cells_of es width bytes) i ≡ Some (Live (record_of head i width bytes))
-      → cells_of (set es i (Live (record { header = header; length = head.length }))) width bytes
-      ≡ set (cells_of es width bytes) i
+  pub lent : (k : ℕ) (es : List (Entry (Head H))) (width : ℕ) (bytes : List ℕ) (i : ℕ) (head : Head H) (header : H)
+      → slice_get es i ≡ Some (Live head)
+      → slice_get (cells_of (with_free k es) width bytes) i ≡ Some (Live (record_of head i width bytes))
+      → cells_of (with_free k (set es i (Live (record { header = header; length = head.length })))) width bytes
+      ≡ set (cells_of (with_free k es) width bytes) i
       (Live (record {
         header = header;
         key =
-            unwrap_or (option_map (λ r. r.key) (held_at (cells_of es width bytes) i)) [];
+            unwrap_or (option_map (λ r. r.key) (held_at (cells_of (with_free k es) width bytes) i)) [];
       }))
-  lent es width bytes i head header is =
-      let key : unwrap_or (option_map (λ r. r.key) (held_at (cells_of es width bytes) i)) []
+  lent k es width bytes i head header there is =
+      let key : unwrap_or (option_map (λ r. r.key) (held_at (cells_of (with_free k es) width bytes) i)) []
       ≡ take head.length (drop (i * width) bytes) =
       ap (λ o. unwrap_or (option_map (λ r. r.key) (option_and_then held o)) []) is in
-      cells_of-lent es width bytes i (record { header = header; length = head.length })
-      ∙ ap (λ k. set (cells_of es width bytes) i (Live (record { header = header; key = k }))) (sym key)
+      ap (λ xs. cells_of xs width bytes) (with_free-set k es i _ (slice_get_within es i _ there))
+      ∙ cells_of-lent (with_free k es) width bytes i (record { header = header; length = head.length })
+      ∙ ap (λ k'. set (cells_of (with_free k es) width bytes) i (Live (record { header = header; key = k' }))) (sym key)
 
   -- a free entry is a free slot
-  pub free_slot : (es : List (Entry (Head H))) (width : ℕ) (bytes : List ℕ) (i : ℕ)
+  free_slot : (es : List (Entry (Head H))) (width : ℕ) (bytes : List ℕ) (i : ℕ)
       → slice_get es i ≡ Some Free → IsFree (cells_of es width bytes) i
   free_slot [] width bytes i is = cc
   free_slot (Free ∷ es) width bytes zero is = refl
   free_slot (Live h ∷ es) width bytes zero is = cc
   free_slot (e ∷ es) width bytes (suc i) is = free_slot es width (drop width bytes) i is
 
-  AllFit-free : (es : List (Entry (Head H))) (width : ℕ)
-      → ((k : ℕ) → k < length es → slice_get es k ≡ Some Free) → AllFit es width
-  AllFit-free [] width free = tt
-  AllFit-free (Free ∷ es) width free =
-      (tt, AllFit-free es width (λ k below. free (suc k) (omega arith)))
-  AllFit-free (Live h ∷ es) width free = let is = free 0 (omega arith) in cc
+  AllFit-free : (es : List (Entry (Head H))) (k width : ℕ) → es ≡ [] → AllFit (with_free k es) width
+  AllFit-free [] zero width none = tt
+  AllFit-free [] (suc k) width none = (tt, AllFit-free [] k width refl)
+  AllFit-free (e ∷ es) k width none = cc
 
-  pub IsChunk-new : (es : List (Entry (Head H))) (size width : ℕ) (bytes : List ℕ)
-      → size < 10 → width ≡ slice_index sizes size → length es * width ≡ 16384 → length bytes ≡ 16384
-      → ((k : ℕ) → k < length es → slice_get es k ≡ Some Free) → IsChunk es size width bytes
-  IsChunk-new es size width bytes sized wide shared room free =
+  pub IsChunk-new : (es : List (Entry (Head H))) (capacity size width : ℕ) (bytes : List ℕ)
+      → es ≡ [] → size < 10 → width ≡ slice_index sizes size → slots_of size ≤ capacity
+      → slots_of size * width ≡ 16384 → length bytes ≡ 16384 → IsChunk es capacity size width bytes
+  IsChunk-new es capacity size width bytes none sized wide entries_room shared room =
       record {
         sized = sized;
         wide = wide;
+        few = omega (arith, ap length none);
+        entries_room = entries_room;
         shared = shared;
         room = room;
-        fit =
-            AllFit-free es width free;
+        fit = AllFit-free es (slots_of size) width none;
       }
 
   pub IsFresh-new : (es : List (Entry (Head H))) (width : ℕ) (bytes : List ℕ) (count : ℕ)
-      → length es ≡ count → ((k : ℕ) → k < count → slice_get es k ≡ Some Free)
-      → IsFresh (cells_of es width bytes) count
-  IsFresh-new es width bytes count slots free =
+      → es ≡ [] → IsFresh (cells_of (with_free count es) width bytes) count
+  IsFresh-new es width bytes count none =
       record {
-        slots = length-cells_of es width bytes ∙ slots;
+        slots = length-cells_of (with_free count es) width bytes
+            ∙ length-with_free count es (omega (arith, ap length none));
         free =
-            λ k below. free_slot es width bytes k (free k below);
+            λ k below. free_slot (with_free count es) width bytes k
+            (with_free-beyond count es k (omega (arith, ap length none)) below);
       }
 
   -- a live entry is a live slot
-  pub live_slot : (es : List (Entry (Head H))) (width : ℕ) (bytes : List ℕ) (i : ℕ) (head : Head H)
+  live_there : (es : List (Entry (Head H))) (width : ℕ) (bytes : List ℕ) (i : ℕ) (head : Head H)
       → slice_get es i ≡ Some (Live head) → IsSome (held_at (cells_of es width bytes) i)
-  live_slot [] width bytes i head is = cc
-  live_slot (Free ∷ es) width bytes zero head is = cc
-  live_slot (Live h ∷ es) width bytes zero head is = refl
-  live_slot (e ∷ es) width bytes (suc i) head is = live_slot es width (drop width bytes) i head is
+  live_there [] width bytes i head is = cc
+  live_there (Free ∷ es) width bytes zero head is = cc
+  live_there (Live h ∷ es) width bytes zero head is = refl
+  live_there (e ∷ es) width bytes (suc i) head is = live_there es width (drop width bytes) i head is
+
+  pub live_slot : (k : ℕ) (es : List (Entry (Head H))) (width : ℕ) (bytes : List ℕ) (i : ℕ) (head : Head H)
+      → slice_get es i ≡ Some (Live head) → IsSome (held_at (cells_of (with_free k es) width bytes) i)
+  live_slot k es width bytes i head is =
+      live_there (with_free k es) width bytes i head (with_free-there k es i (Live head) is)
 
 module _ {H : Type 0} where
-  -- beyond the entries nothing is held
-  pub none_beyond : (es : List (Entry (Head H))) (width : ℕ) (bytes : List ℕ) (i : ℕ) → length es ≤ i
+  none_past : (es : List (Entry (Head H))) (width : ℕ) (bytes : List ℕ) (i : ℕ) → length es ≤ i
       → is_some (held_at (cells_of es width bytes) i) ≡ false
-  none_beyond [] width bytes i beyond = refl
-  none_beyond (e ∷ es) width bytes zero beyond = absurd (omega arith)
-  none_beyond (e ∷ es) width bytes (suc i) beyond = none_beyond es width (drop width bytes) i (omega arith)
+  none_past [] width bytes i beyond = refl
+  none_past (e ∷ es) width bytes zero beyond = absurd (omega arith)
+  none_past (e ∷ es) width bytes (suc i) beyond = none_past es width (drop width bytes) i (omega arith)
+
+  -- beyond the entries nothing is held
+  pub none_beyond : (k : ℕ) (es : List (Entry (Head H))) (width : ℕ) (bytes : List ℕ) (i : ℕ) → length es ≤ i
+      → is_some (held_at (cells_of (with_free k es) width bytes) i) ≡ false
+  none_beyond zero es width bytes i beyond = none_past es width bytes i beyond
+  none_beyond (suc k) [] width bytes zero beyond = refl
+  none_beyond (suc k) [] width bytes (suc i) beyond = none_beyond k [] width (drop width bytes) i (omega arith)
+  none_beyond (suc k) (e ∷ es) width bytes zero beyond = absurd (omega arith)
+  none_beyond (suc k) (e ∷ es) width bytes (suc i) beyond =
+      none_beyond k es width (drop width bytes) i (omega arith)
 
   -- nor in a slot that is free
-  pub none_in_free : (es : List (Entry (Head H))) (width : ℕ) (bytes : List ℕ) (i : ℕ)
+  none_there : (es : List (Entry (Head H))) (width : ℕ) (bytes : List ℕ) (i : ℕ)
       → slice_get es i ≡ Some Free → is_some (held_at (cells_of es width bytes) i) ≡ false
-  none_in_free [] width bytes i is = refl
-  none_in_free (Free ∷ es) width bytes zero is = refl
-  none_in_free (Live h ∷ es) width bytes zero is = cc
-  none_in_free (e ∷ es) width bytes (suc i) is = none_in_free es width (drop width bytes) i is
+  none_there [] width bytes i is = refl
+  none_there (Free ∷ es) width bytes zero is = refl
+  none_there (Live h ∷ es) width bytes zero is = cc
+  none_there (e ∷ es) width bytes (suc i) is = none_there es width (drop width bytes) i is
+
+  pub none_in_free : (k : ℕ) (es : List (Entry (Head H))) (width : ℕ) (bytes : List ℕ) (i : ℕ)
+      → slice_get es i ≡ Some Free → is_some (held_at (cells_of (with_free k es) width bytes) i) ≡ false
+  none_in_free k es width bytes i is =
+      none_there (with_free k es) width bytes i (with_free-there k es i Free is)

@@ -1,5 +1,6 @@
 pub mod callers
 pub mod Sizes
+pub mod Entries
 pub mod Cells
 pub mod Slots
 pub mod Lists

@@ -106,53 +106,54 @@ no_longer xs ys distinct within = length-le_from_is_member nat_eq_equiv xs ys di
 pub row_old : (xs : List ℕ) (first k q : ℕ) → is_member nat_eq xs q ≡ true
     → is_member nat_eq (with_row xs first k) q ≡ true
 row_old xs first zero q is = is
-row_old xs first (suc k) q is = pushed_old (with_row xs first k) (first + k) q (row_old xs first k q is)
+row_old xs first (suc k) q is = pushed_old (with_row xs (suc first) k) first q (row_old xs (suc first) k q is)
 
 pub row_new : (xs : List ℕ) (first k q : ℕ) → first ≤ q → q < first + k
     → is_member nat_eq (with_row xs first k) q ≡ true
 row_new xs first zero q from below = absurd (omega arith)
 row_new xs first (suc k) q from below =
-    by_case (same_or_other q (first + k)) (λ before. row_new xs first k q from before)
+    by_case (same_or_other q first) (λ behind. row_new xs (suc first) k q behind (omega arith))
   where
-    by_case : (q ≡ first + k) ⊎ (q ≢ first + k)
-        → (q < first + k → is_member nat_eq (with_row xs first k) q ≡ true)
-        → is_member nat_eq (with_row xs first k ++ (first + k) ∷ []) q ≡ true
-    by_case (inl same) earlier = rw same (pushed_new (with_row xs first k) (first + k))
-    by_case (inr other) earlier = pushed_old (with_row xs first k) (first + k) q (earlier (omega arith))
+    by_case : (q ≡ first) ⊎ (q ≢ first)
+        → (suc first ≤ q → is_member nat_eq (with_row xs (suc first) k) q ≡ true)
+        → is_member nat_eq (with_row xs (suc first) k ++ first ∷ []) q ≡ true
+    by_case (inl same) later = rw same (pushed_new (with_row xs (suc first) k) first)
+    by_case (inr other) later = pushed_old (with_row xs (suc first) k) first q (later (omega arith))
 
 pub row_member : (xs : List ℕ) (first k q : ℕ) → is_member nat_eq (with_row xs first k) q ≡ true
     → (is_member nat_eq xs q ≡ true) ⊎ ((first ≤ q) × (q < first + k))
 row_member xs first zero q is = inl is
 row_member xs first (suc k) q is =
-    by_case (pushed (with_row xs first k) (first + k) q is) (λ before. row_member xs first k q before)
+    by_case (pushed (with_row xs (suc first) k) first q is) (λ behind. row_member xs (suc first) k q behind)
   where
-    further : (is_member nat_eq xs q ≡ true) ⊎ ((first ≤ q) × (q < first + k))
+    further : (is_member nat_eq xs q ≡ true) ⊎ ((suc first ≤ q) × (q < suc first + k))
         → (is_member nat_eq xs q ≡ true) ⊎ ((first ≤ q) × (q < first + suc k))
     further (inl old) = inl old
-    further (inr new) = inr (new.0, omega (arith, new.1))
+    further (inr new) = inr (omega (arith, new.0), omega (arith, new.1))
 
-    by_case : (is_member nat_eq (with_row xs first k) q ≡ true) ⊎ (q ≡ first + k)
-        → (is_member nat_eq (with_row xs first k) q ≡ true
-        → (is_member nat_eq xs q ≡ true) ⊎ ((first ≤ q) × (q < first + k)))
+    by_case : (is_member nat_eq (with_row xs (suc first) k) q ≡ true) ⊎ (q ≡ first)
+        → (is_member nat_eq (with_row xs (suc first) k) q ≡ true
+        → (is_member nat_eq xs q ≡ true) ⊎ ((suc first ≤ q) × (q < suc first + k)))
         → (is_member nat_eq xs q ≡ true) ⊎ ((first ≤ q) × (q < first + suc k))
-    by_case (inl before) earlier = further (earlier before)
-    by_case (inr last) earlier = inr (omega arith, omega arith)
+    by_case (inl behind) later = further (later behind)
+    by_case (inr here) later = inr (omega arith, omega arith)
 
 pub row_distinct : (xs : List ℕ) (first k : ℕ) → IsDistinct nat_eq xs
     → ((q : ℕ) → is_member nat_eq xs q ≡ true → q < first) → IsDistinct nat_eq (with_row xs first k)
 row_distinct xs first zero distinct below = distinct
 row_distinct xs first (suc k) distinct below =
-    push_distinct (with_row xs first k) (first + k) (row_distinct xs first k distinct below)
-    (λ is. by_case (row_member xs first k (first + k) is))
+    push_distinct (with_row xs (suc first) k) first
+    (row_distinct xs (suc first) k distinct (λ q old. omega (arith, below q old)))
+    (λ is. by_case (row_member xs (suc first) k first is))
   where
-    by_case : (is_member nat_eq xs (first + k) ≡ true) ⊎ ((first ≤ first + k) × (first + k < first + k)) → ⊥
-    by_case (inl old) = omega (arith, below (first + k) old)
-    by_case (inr new) = omega (arith, new.1)
+    by_case : (is_member nat_eq xs first ≡ true) ⊎ ((suc first ≤ first) × (first < suc first + k)) → ⊥
+    by_case (inl old) = omega (arith, below first old)
+    by_case (inr new) = omega (arith, new.0)
 
 pub length-with_row : (xs : List ℕ) (first k : ℕ) → length (with_row xs first k) ≡ length xs + k
 length-with_row xs first zero = omega arith
 length-with_row xs first (suc k) =
-    omega (arith, length-append (with_row xs first k) ((first + k) ∷ []), length-with_row xs first k)
+    omega (arith, length-append (with_row xs (suc first) k) (first ∷ []), length-with_row xs (suc first) k)
 
 -- the sizes
 pub spare_at-set_same : (spares : List Spare) (size : ℕ) (s : Spare) → size < length spares

@@ -3,6 +3,8 @@ use Rattle.std.specs.Prelude.{
   ℕ,
   ◌/◌,
   ◌==◌,
+  ◌<◌,
+  ◌≤◌,
   nat_lt,
   List,
   [],
@@ -18,6 +20,7 @@ use Rattle.std.specs.Prelude.{
 use Rattle.std.specs.Ordering.{nat_cmp}
 use Rattle.std.specs.FinMap as map
 use Rattle.std.specs.Coded.{Coded, code_by, coded×, coded_ℕ, coded_list}
+use Rattle.arena.specs.declared.size.TheConstants.{CHUNK_BYTES, SIZES}
 
 -- the ten sizes of slots: how many bytes their keys may have
 abbrev pub sizes : List ℕ
@@ -29,11 +32,15 @@ size_of n = count_by (λ bytes. nat_lt bytes n) sizes
 
 -- how many slots of the size a chunk has
 abbrev pub slots_of : ℕ → ℕ
-slots_of size = 16384 / slice_index sizes size
+slots_of size = CHUNK_BYTES / slice_index sizes size
 
 -- how many of the lengths are of the size
 abbrev pub wanted_of : List ℕ → ℕ → ℕ
 wanted_of lengths size = count_by (λ n. size_of n == size) lengths
+
+-- a slot is spare for a record with a key of each of these lengths, where so many slots of each size are spare
+abbrev pub HasRoomFor : (ℕ → ℕ) → List ℕ → Type 0
+HasRoomFor spare lengths = (size : ℕ) → size < SIZES → wanted_of lengths size ≤ spare size
 
 pub record Record (H : Type 0) : Type 0 where
   pub header : H

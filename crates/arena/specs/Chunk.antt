@@ -1,15 +1,22 @@
 -- What a chunk is seen as: slots of one size, each free or with a record. No public clause cites this module.
-use Rattle.std.specs.Prelude.{◌≡◌, ℕ, ◌*◌, ◌<◌, ◌≤◌, List, [], ◌∷◌, length, take, drop, slice_index}
-use Rattle.arena.specs.Arena.{Record, sizes}
+use Rattle.std.specs.Prelude.{◌≡◌, ℕ, zero, suc, ◌*◌, ◌<◌, ◌≤◌, List, [], ◌∷◌, length, take, drop, slice_index}
+use Rattle.arena.specs.Arena.{Record, sizes, slots_of}
 use Rattle.arena.specs.Entry.{IsFree}
 use Rattle.arena.specs.declared.entry.Entry.{Entry}
 use Rattle.arena.specs.declared.entry.Entry.TheVariants.{Free, Live}
 use Rattle.arena.specs.declared.entry.Head.{Head}
+use Rattle.arena.specs.declared.size.TheConstants.{CHUNK_BYTES, SIZES}
 
 -- a chunk: the size of its slots, and what each of them holds
 pub record Chunk (H : Type 0) : Type 0 where
   pub size : ℕ
   pub cells : List (Entry (Record H))
+
+-- these entries, and free ones behind them up to so many
+abbrev pub with_free : {T : Type 0} → ℕ → List (Entry T) → List (Entry T)
+with_free zero es = es
+with_free (suc k) [] = Free ∷ with_free k []
+with_free (suc k) (e ∷ es) = e ∷ with_free k es
 
 module _ {H : Type 0} where
   -- the slot of this entry, whose key bytes are the first of these
@@ -31,13 +38,15 @@ module _ {H : Type 0} where
   AllFit [] width = Unit {0}
   AllFit (e ∷ es) width = Fits e width × AllFit es width
 
-  -- what a chunk keeps: its slots share all its bytes
-  pub record IsChunk (es : List (Entry (Head H))) (size width : ℕ) (bytes : List ℕ) : Type 0 where
-    pub sized : size < 10
+  -- what a chunk keeps: its slots share all its bytes, and there is room for the entries of those that have none
+  pub record IsChunk (es : List (Entry (Head H))) (capacity size width : ℕ) (bytes : List ℕ) : Type 0 where
+    pub sized : size < SIZES
     pub wide : width ≡ slice_index sizes size
-    pub shared : length es * width ≡ 16384
-    pub room : length bytes ≡ 16384
-    pub fit : AllFit es width
+    pub few : length es ≤ slots_of size
+    pub entries_room : slots_of size ≤ capacity
+    pub shared : slots_of size * width ≡ CHUNK_BYTES
+    pub room : length bytes ≡ CHUNK_BYTES
+    pub fit : AllFit (with_free (slots_of size) es) width
 
   -- there are so many slots, and all are free
   pub record IsFresh (cells : List (Entry (Record H))) (count : ℕ) : Type 0 where

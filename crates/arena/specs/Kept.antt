@@ -35,15 +35,17 @@ use Rattle.arena.specs.Chunk.{Chunk}
 use Rattle.arena.specs.Spares.{Spare, spare_at, counts_of}
 use Rattle.arena.specs.declared.entry.Entry.{Entry}
 use Rattle.arena.specs.declared.entry.Entry.TheVariants.{Free}
+use Rattle.arena.specs.declared.size.TheConstants.{SIZES}
+use Rattle.arena.specs.declared.slot.TheConstants.{CHUNK_SLOTS, MAX_CHUNKS}
 
 module _ {H : Type 0} where
-  -- A slot is a number: 512 times that of its chunk, and its index there.
+  -- A slot is a number: `CHUNK_SLOTS` times that of its chunk, and its index there.
   abbrev pub cell_at : List (Chunk H) → ℕ → Option (Entry (Record H))
-  cell_at chunks slot = option_and_then (λ c. slice_get c.cells (slot % 512)) (slice_get chunks (slot / 512))
+  cell_at chunks slot = option_and_then (λ c. slice_get c.cells (slot % CHUNK_SLOTS)) (slice_get chunks (slot / CHUNK_SLOTS))
 
   -- the size of a slot
   abbrev pub size_at : List (Chunk H) → ℕ → Option ℕ
-  size_at chunks slot = option_map (λ c. c.size) (slice_get chunks (slot / 512))
+  size_at chunks slot = option_map (λ c. c.size) (slice_get chunks (slot / CHUNK_SLOTS))
 
   abbrev pub record_in : List (Chunk H) → ℕ → Option (Record H)
   record_in chunks slot = option_and_then held (cell_at chunks slot)
@@ -59,7 +61,7 @@ module _ {H : Type 0} where
   live_below chunks (suc slot) = entry_of slot (record_in chunks slot) ++ live_below chunks slot
 
   abbrev pub records_of : List (Chunk H) → Records H
-  records_of chunks = map.from_entries (live_below chunks (512 * length chunks))
+  records_of chunks = map.from_entries (live_below chunks (CHUNK_SLOTS * length chunks))
 
   abbrev pub IsFree : List (Chunk H) → ℕ → ℕ → Type 0
   IsFree chunks size slot = (size_at chunks slot ≡ Some size) × (cell_at chunks slot ≡ Some Free)
@@ -76,16 +78,16 @@ module _ {H : Type 0} where
     pub all : List ℕ
     pub counted : length all ≤ s.total
     pub covers : (slot : ℕ) → IsOfSize chunks size slot → is_member nat_eq all slot ≡ true
-    pub bounded : s.total ≤ 512 * length chunks
+    pub bounded : s.total ≤ CHUNK_SLOTS * length chunks
 
   -- what an arena keeps
   pub record IsKept (chunks : List (Chunk H)) (spares : List Spare) (live : ℕ) : Type 0 where
     -- slots can name them all
-    pub few : length chunks ≤ 8388608
-    pub ten : length spares ≡ 10
-    pub lists : (size : ℕ) → size < 10 → IsSpare chunks size (spare_at spares size)
+    pub few : length chunks ≤ MAX_CHUNKS
+    pub ten : length spares ≡ SIZES
+    pub lists : (size : ℕ) → size < SIZES → IsSpare chunks size (spare_at spares size)
     -- each record is in a slot of its key's size
     pub sized : (slot : ℕ) (r : Record H) → record_in chunks slot ≡ Some r
         → size_at chunks slot ≡ Some (size_of (length r.key))
     pub counted : live ≡ map.len (records_of chunks)
-    pub bounded : live + sum (counts_of spares) ≤ 512 * length chunks
+    pub bounded : live + sum (counts_of spares) ≤ CHUNK_SLOTS * length chunks

@@ -1,8 +1,11 @@
+//! The arena.
+
 ghost use Rattle.std.specs.Prelude.{◌≡◌, ◌≢◌, ℕ, ◌+◌, ◌<◌, ◌≤◌, ◌==◌, ◌↔◌, length, Some, None, IsOk, IsSome, IfOk, IfSome, OnOk, OnErr, IsOkUnless, Any, All, if◌then◌else◌};
 ghost use Rattle.std.specs.Option.{is_some};
 ghost use Rattle.std.specs.Borrow.{sem};
 ghost use Rattle.std.specs.FinMap as map;
-ghost use Rattle.arena.specs.Arena.{size_of, slots_of, wanted_of, record_at, header_at, key_at, spare_of, with_header, IsLive};
+ghost use Rattle.arena.specs.Arena.{size_of, slots_of, wanted_of, record_at, header_at, key_at, spare_of, with_header, IsLive, HasRoomFor};
+ghost use Rattle.arena.specs.declared.size.TheConstants.{MAX_LENGTH, SIZES};
 
 use crate::chunk::Chunk;
 use crate::error::ArenaError;
@@ -60,20 +63,18 @@ impl<H: Copy, A: Allocator + Copy> Arena<H, A> {
     /// Takes the memory that records with keys of these lengths need, and none for a size of which enough slots are
     /// spare. No chunk is taken beyond the one that makes the slots of a size enough.
     pub fn reserve(&mut self, lengths: &[usize]) -> Result<(), ArenaError>
-        ensures room { OnOk result ((size : ℕ) → size < 10
-            → wanted_of lengths.now size ≤ spare_of self.new size) }
+        ensures room { OnOk result (HasRoomFor (spare_of self.new) lengths.now) }
         ensures records { self.new.records ≡ self.old.records }
         ensures spare_stays { (size : ℕ) → spare_of self.old size ≤ spare_of self.new size }
         ensures no_more { (size : ℕ) → wanted_of lengths.now size ≤ spare_of self.old size
             → spare_of self.new size ≡ spare_of self.old size }
-        ensures most { (size : ℕ) → size < 10 → spare_of self.old size < wanted_of lengths.now size
+        ensures most { (size : ℕ) → size < SIZES → spare_of self.old size < wanted_of lengths.now size
             → spare_of self.new size < wanted_of lengths.now size + slots_of size }
 
         // It is refused `TooLong` before any memory is taken, and `Memory` only where some is wanted.
-        ensures too_long { (result ≡ Err ArenaError.TooLong) ↔ Any (λ n. 16384 < n) lengths.now }
+        ensures too_long { (result ≡ Err ArenaError.TooLong) ↔ Any (λ n. MAX_LENGTH < n) lengths.now }
         ensures unchanged { result ≡ Err ArenaError.TooLong → self.new ≡ self.old }
-        ensures enough { All (λ n. n ≤ 16384) lengths.now
-            → ((size : ℕ) → size < 10 → wanted_of lengths.now size ≤ spare_of self.old size) → IsOk result }
+        ensures enough { All (λ n. n ≤ MAX_LENGTH) lengths.now → HasRoomFor (spare_of self.old) lengths.now → IsOk result }
     {
         let wanted = count_sizes(lengths)?;
         for size in 0..SIZES {
@@ -85,7 +86,7 @@ impl<H: Copy, A: Allocator + Copy> Arena<H, A> {
     /// Takes the memory that so many records with keys of this length need, and none where enough slots are spare. No chunk
     /// is taken beyond the one that makes them enough.
     pub fn reserve_slots(&mut self, length: usize, count: usize) -> Result<(), ArenaError>
-        requires fits { length ≤ 16384 }
+        requires fits { length ≤ MAX_LENGTH }
         ensures room { OnOk result (count ≤ spare_of self.new (size_of length)) }
         ensures records { self.new.records ≡ self.old.records }
         ensures spare_stays { spare_of self.old (size_of length) ≤ spare_of self.new (size_of length) }
@@ -119,9 +120,9 @@ impl<H: Copy, A: Allocator + Copy> Arena<H, A> {
             → spare_of self.new size ≡ spare_of self.old size) }
 
         // It is refused `TooLong` for a longer key alone, and `Memory` only where no slot of the size is spare.
-        ensures enough { length key.now ≤ 16384 → 0 < spare_of self.old (size_of (length key.now))
+        ensures enough { length key.now ≤ MAX_LENGTH → 0 < spare_of self.old (size_of (length key.now))
             → IsOk result }
-        ensures too_long { (result ≡ Err ArenaError.TooLong) ↔ (16384 < length key.now) }
+        ensures too_long { (result ≡ Err ArenaError.TooLong) ↔ (MAX_LENGTH < length key.now) }
         ensures unchanged { OnErr result (self.new ≡ self.old) }
     {
         if key.len() > MAX_LENGTH {
@@ -213,7 +214,7 @@ impl<H: Copy, A: Allocator + Copy> Arena<H, A> {
 
     // Adds chunks until so many slots of the size are spare.
     fn fill_up(&mut self, size: usize, wanted: usize) -> Result<(), ArenaError>
-        requires size { size < 10 }
+        requires size { size < SIZES }
         ensures room { OnOk result (wanted ≤ spare_of self.new size) }
         ensures records { self.new.records ≡ self.old.records }
         ensures spare_stays { spare_of self.old size ≤ spare_of self.new size }
@@ -231,7 +232,7 @@ impl<H: Copy, A: Allocator + Copy> Arena<H, A> {
 
     // Adds a chunk where no slot of the size is spare.
     fn spare_one(&mut self, size: usize) -> Result<(), ArenaError>
-        requires size { size < 10 }
+        requires size { size < SIZES }
         ensures some { OnOk result (0 < spare_of self.new size) }
         ensures spare { OnOk result (spare_of self.new size
             ≡ (if spare_of self.old size == 0 then slots_of size else spare_of self.old size)) }
@@ -249,7 +250,7 @@ impl<H: Copy, A: Allocator + Copy> Arena<H, A> {
 
     // Adds a chunk of spare slots of the size.
     fn grow(&mut self, size: usize) -> Result<(), ArenaError>
-        requires size { size < 10 }
+        requires size { size < SIZES }
         ensures records { self.new.records ≡ self.old.records }
         ensures spare { OnOk result (spare_of self.new size ≡ spare_of self.old size + slots_of size) }
         ensures more { OnOk result (spare_of self.old size < spare_of self.new size) }
@@ -271,7 +272,7 @@ impl<H: Copy, A: Allocator + Copy> Arena<H, A> {
     // Gives a spare slot of the size to a record.
     fn give(&mut self, size: usize, header: H, key: &[u8]) -> Slot
         requires size { size ≡ size_of (length key.now) }
-        requires fits { length key.now ≤ 16384 }
+        requires fits { length key.now ≤ MAX_LENGTH }
         requires spare { 0 < spare_of self.old size }
         ensures was_free { record_at self.old result ≡ None }
         ensures placed { self.new.records

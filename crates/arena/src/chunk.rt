@@ -1,7 +1,11 @@
-ghost use Rattle.std.specs.Prelude.{◌≡◌, ℕ, ◌+◌, ◌*◌, ◌<◌, ◌≤◌, ◌++◌, List, length, take, drop, slice_index, slice_set, slice_get, Some, IsSome, IsTrue, IfOk, option_map};
+//! A chunk: slots of one size, whose entries are made as they are used.
+
+ghost use Rattle.std.specs.Prelude.{◌≡◌, ℕ, ◌+◌, ◌*◌, ◌<◌, ◌≤◌, ◌++◌, List, length, take, drop, slice_index, slice_set, slice_get, vec_capacity, Some, IsSome, IsTrue, IfOk, option_map};
 ghost use Rattle.std.specs.Option.{is_some};
 ghost use Rattle.std.specs.Borrow.{sem};
 ghost use Rattle.arena.specs.Arena.{sizes, slots_of};
+ghost use Rattle.arena.specs.Chunk.{with_free};
+ghost use Rattle.arena.specs.declared.size.TheConstants.{SIZES};
 
 use crate::entry::{Entry, Head};
 use crate::size::{CHUNK_BYTES, slots_of, width_of};
@@ -11,6 +15,7 @@ use std::marker::Model;
 /// Slots of one size, their headers beside each other, and their key bytes beside each other.
 #[derive(Drop)]
 pub(crate) struct Chunk<H, A: Allocator> {
+    // There is room for an entry for each slot. The slots behind the last entry are free, and their memory is not touched yet.
     entries: Vec<Entry<Head<H>>, A>,
     bytes: Vec<u8, A>,
     size: usize,
@@ -19,13 +24,18 @@ pub(crate) struct Chunk<H, A: Allocator> {
 
 impl<H, A: Allocator> Model for Chunk<H, A> {
     ghost use Rattle.std.specs.Coded.{coded_ℕ};
-    ghost use Rattle.arena.specs.Chunk.{Chunk as Cells, cells_of, IsChunk};
+    ghost use Rattle.std.specs.Prelude.{vec_capacity};
+    ghost use Rattle.arena.specs.Arena.{slots_of};
+    ghost use Rattle.arena.specs.Chunk.{Chunk as Cells, cells_of, with_free, IsChunk};
 
     ghost Value = { Cells H };
 
-    ghost view = { λ c. record { size = c.size; cells = cells_of c.entries.items c.width c.bytes.items } };
+    ghost view = { λ c. record {
+      size = c.size;
+      cells = cells_of (with_free (slots_of c.size) c.entries.items) c.width c.bytes.items;
+    } };
 
-    ghost invariant = { λ c. IsChunk c.entries.items c.size c.width c.bytes.items };
+    ghost invariant = { λ c. IsChunk c.entries.items (vec_capacity c.entries) c.size c.width c.bytes.items };
 }
 
 /// Writes the key over the bytes from an index on.
@@ -34,6 +44,21 @@ fn write_at(bytes: &mut [u8], from: usize, key: &[u8])
     ensures bytes { bytes.new ≡ take from bytes.old ++ (key.now ++ drop (from + length key.now) bytes.old) }
 {
     bytes[from..from + key.len()].copy_from_slice(key);
+}
+
+/// Makes free entries, where there are fewer, up to the one at an index.
+fn make_entries<T, A: Allocator>(entries: &mut Vec<Entry<T>, A>, index: usize)
+    requires room { index < vec_capacity entries.old }
+    ensures made { index < length entries.new.items }
+    ensures free { (count : ℕ) → index < count
+        → with_free count entries.new.items ≡ with_free count entries.old.items }
+    ensures few { (count : ℕ) → index < count → length entries.old.items ≤ count
+        → length entries.new.items ≤ count }
+    ensures capacity { vec_capacity entries.old ≤ vec_capacity entries.new }
+{
+    while entries.len() <= index {
+        entries.push_reserved(Entry::Free);
+    }
 }
 
 /// Returns so many bytes from an index on.
@@ -52,7 +77,7 @@ impl<H, A: Allocator> Chunk<H, A> {
     /// The index of the slots' size.
     pub(crate) fn size(&self) -> usize
         ensures size { result ≡ self.now.size }
-        ensures in_range { result < 10 }
+        ensures in_range { result < SIZES }
     {
         self.size
     }
@@ -87,11 +112,11 @@ impl<H, A: Allocator> Chunk<H, A> {
         }
     }
 
-    /// Frees a slot.
+    /// Frees a live slot.
     pub(crate) fn free(&mut self, index: usize)
     where
         H: Drop,
-        requires inside { index < length self.old.cells }
+        requires live { IsSome (held_at self.old.cells index) }
         ensures freed { self.new ≡ record self.old { cells = slice_set self.old.cells index Free } }
     {
         self.entries[index] = Entry::Free;
@@ -110,6 +135,7 @@ impl<H, A: Allocator> Chunk<H, A> {
     {
         write_at(self.bytes.as_mut_slice(), index * self.width, key);
         let length = key.len() as u16;
+        make_entries(&mut self.entries, index);
         self.entries[index] = Entry::Live(Head { header, length });
     }
 
@@ -127,18 +153,15 @@ impl<H, A: Allocator> Chunk<H, A> {
 impl<H: Drop, A: Allocator + Copy> Chunk<H, A> {
     ghost use Rattle.arena.specs.Chunk.{IsFresh};
 
-    /// Takes the memory for a chunk. Its slots are free.
+    /// Takes the memory for a chunk. Its slots are free, and none has an entry yet.
     pub(crate) fn new(alloc: A, size: usize) -> Result<Self, AllocError>
-        requires size { size < 10 }
+        requires size { size < SIZES }
         ensures size { IfOk result (λ c. c.size ≡ size) }
         ensures fresh { IfOk result (λ c. IsFresh c.cells (slots_of size)) }
     {
         let count = slots_of(size);
         let width = width_of(size);
-        let mut entries = Vec::with_capacity(alloc, count)?;
-        for _ in 0..count {
-            entries.push(Entry::Free)?;
-        }
+        let entries = Vec::with_capacity(alloc, count)?;
         let bytes = Vec::from_elem(alloc, 0, CHUNK_BYTES)?;
         Ok(Chunk {
             entries,

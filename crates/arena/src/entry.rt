@@ -1,3 +1,5 @@
+//! What a slot of a chunk holds.
+
 ghost use Rattle.std.specs.Prelude.{◌≡◌, Some, IsSome};
 ghost use Rattle.std.specs.Borrow.{Lends, sem};
 ghost use Rattle.arena.specs.Entry.{held};

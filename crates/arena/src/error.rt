@@ -1,3 +1,5 @@
+//! Why an arena refuses a call.
+
 ghost use Rattle.std.specs.Prelude.{◌≡◌};
 ghost use Rattle.arena.specs.declared.error.ArenaError.TheVariants.{Memory};
 

@@ -1,5 +1,8 @@
+//! The spare slots of one size.
+
 ghost use Rattle.std.specs.Prelude.{◌≡◌, ◌*◌, ◌<◌, ◌≤◌, length, OnOk, OnErr};
 ghost use Rattle.arena.specs.Spares.{none, with_chunk, with_slot};
+ghost use Rattle.arena.specs.declared.slot.TheConstants.{CHUNK_SLOTS, MAX_CHUNKS};
 
 use crate::slot::Slot;
 use std::alloc::{AllocError, Allocator};
@@ -42,17 +45,17 @@ impl<A: Allocator> SpareSlots<A> {
         self.slots.len()
     }
 
-    /// Adds the slots of the chunk with this number, and makes room for them.
+    /// Adds the slots of the chunk with this number, and makes room for them. The first slot of the chunk is given first.
     pub(crate) fn add(&mut self, number: usize, count: usize) -> Result<(), AllocError>
-        requires number { number < 8388608 }
-        requires count { count ≤ 512 }
-        requires total { self.old.total ≤ 512 * number }
-        ensures added { OnOk result (self.new ≡ with_chunk self.old (number * 512) count) }
+        requires number { number < MAX_CHUNKS }
+        requires count { count ≤ CHUNK_SLOTS }
+        requires total { self.old.total ≤ CHUNK_SLOTS * number }
+        ensures added { OnOk result (self.new ≡ with_chunk self.old (number * CHUNK_SLOTS) count) }
         ensures unchanged { OnErr result (self.new ≡ self.old) }
     {
         self.slots.reserve(self.total - self.slots.len() + count)?;
         self.total += count;
-        for index in 0..count {
+        for index in (0..count).rev() {
             self.slots.push_reserved(Slot::new(number, index));
         }
         Ok(())

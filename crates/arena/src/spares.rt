@@ -1,5 +1,9 @@
+//! The spare slots of all sizes.
+
 ghost use Rattle.std.specs.Prelude.{◌≡◌, ◌*◌, ◌<◌, ◌≤◌, length, replicate, slice_set, IfOk, OnOk, OnErr};
 ghost use Rattle.arena.specs.Spares.{none, spare_at, with_chunk, with_slot};
+ghost use Rattle.arena.specs.declared.size.TheConstants.{SIZES};
+ghost use Rattle.arena.specs.declared.slot.TheConstants.{CHUNK_SLOTS, MAX_CHUNKS};
 
 use crate::size::SIZES;
 use crate::slot::Slot;
@@ -17,18 +21,19 @@ pub(crate) struct Spares<A: Allocator> {
 impl<A: Allocator> Model for Spares<A> {
     ghost use Rattle.std.specs.Prelude.{◌≡◌, ◌⊎◌, List, [], length};
     ghost use Rattle.arena.specs.Spares.{Spare, of_sizes};
+    ghost use Rattle.arena.specs.declared.size.TheConstants.{SIZES};
 
     ghost Value = { List Spare };
 
     ghost view = { λ s. of_sizes s.lists.items };
 
-    ghost invariant = { λ s. (s.lists.items ≡ []) ⊎ (length s.lists.items ≡ 10) };
+    ghost invariant = { λ s. (s.lists.items ≡ []) ⊎ (length s.lists.items ≡ SIZES) };
 }
 
 impl<A: Allocator + Copy> Spares<A> {
     /// Returns the spare slots of an arena without chunks. It takes no memory.
     pub(crate) fn new(alloc: A) -> Self
-        ensures none { result ≡ replicate 10 none }
+        ensures none { result ≡ replicate SIZES none }
     {
         Spares {
             lists: Vec::new(alloc),
@@ -37,7 +42,7 @@ impl<A: Allocator + Copy> Spares<A> {
 
     /// Returns how many slots of the size are spare.
     pub(crate) fn count(&self, size: usize) -> usize
-        requires size { size < 10 }
+        requires size { size < SIZES }
         ensures count { result ≡ length (spare_at self.now size).slots }
     {
         match self.lists.get(size) {
@@ -54,12 +59,12 @@ impl<A: Allocator + Copy> Spares<A> {
         number: usize,
         count: usize,
     ) -> Result<(), AllocError>
-        requires size { size < 10 }
-        requires number { number < 8388608 }
-        requires count { count ≤ 512 }
-        requires total { (spare_at self.old size).total ≤ 512 * number }
+        requires size { size < SIZES }
+        requires number { number < MAX_CHUNKS }
+        requires count { count ≤ CHUNK_SLOTS }
+        requires total { (spare_at self.old size).total ≤ CHUNK_SLOTS * number }
         ensures added { OnOk result (self.new
-            ≡ slice_set self.old size (with_chunk (spare_at self.old size) (number * 512) count)) }
+            ≡ slice_set self.old size (with_chunk (spare_at self.old size) (number * CHUNK_SLOTS) count)) }
         ensures unchanged { OnErr result (self.new ≡ self.old) }
     {
         if self.lists.is_empty() {
@@ -71,7 +76,7 @@ impl<A: Allocator + Copy> Spares<A> {
 
     /// Removes a slot of the size, which is given next.
     pub(crate) fn take(&mut self, size: usize) -> Slot
-        requires size { size < 10 }
+        requires size { size < SIZES }
         requires some { 0 < length (spare_at self.old size).slots }
         ensures count { length self.new ≡ length self.old }
         ensures taken { self.old ≡ slice_set self.new size (with_slot (spare_at self.new size) result) }
@@ -82,7 +87,7 @@ impl<A: Allocator + Copy> Spares<A> {
 
     /// Adds a slot of the size that was not spare.
     pub(crate) fn put(&mut self, size: usize, slot: Slot)
-        requires size { size < 10 }
+        requires size { size < SIZES }
         requires room { length (spare_at self.old size).slots < (spare_at self.old size).total }
         ensures put { self.new ≡ slice_set self.old size (with_slot (spare_at self.old size) slot) }
     {
@@ -93,7 +98,7 @@ impl<A: Allocator + Copy> Spares<A> {
 
 // Returns an empty list for each size.
 fn lists<A: Allocator + Copy>(alloc: A) -> Result<Vec<SpareSlots<A>, A>, AllocError>
-    ensures none { IfOk result (λ lists. lists.items ≡ replicate 10 none) }
+    ensures none { IfOk result (λ lists. lists.items ≡ replicate SIZES none) }
 {
     let mut lists = Vec::with_capacity(alloc, SIZES)?;
     for _ in 0..SIZES {

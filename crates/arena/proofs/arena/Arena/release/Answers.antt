@@ -1,7 +1,7 @@
 use Rattle.std.proofs.Common.{◌≡◌, ◌≢◌, ℕ, ◌+◌, ◌<◌, length, set, slice_index, arith}
 use Rattle.arena.specs.Spares.{spare_at, counts_of, with_slot}
 use Rattle.arena.proofs.Records.{get-freed_other, some_record}
-use Rattle.arena.proofs.Reading.{in_chunks}
+use Rattle.arena.proofs.Reading.{in_chunks, IsRead-within}
 use Rattle.arena.proofs.Releasing.{
   IsReleased-read,
   released_room,
@@ -18,12 +18,13 @@ index_mut-chunk-requires g c =
 
 pub free-requires : goal.free-requires
 free-requires g c = record {
-  inside =
+  live =
       let live = rw (← c.self.view_is) at c.requires.live in
-      let out =
-      IsReleased-read c.self.inside.chunks.items c.args.slot _ _ live c.chunk.ensures.chunk
+      let read =
+      IsRead-within c.self.inside.chunks.items c.args.slot _ _ _
+      (in_chunks c.self.inside.chunks.items c.args.slot live) c.chunk.ensures.chunk c.index.ensures.index
       c.index_mut-chunk.ensures.value in
-      rw c.index.ensures.index out.within;
+      rw read.has at live;
 }
 
 pub put-requires-clause-room : goal.put-requires-clause-room
