@@ -3,7 +3,8 @@ use Rattle.std.proofs.Common.{◌≡◌, ◌≢◌, ℕ, zero, suc, ◌+◌, ◌
 use Rattle.std.specs.Prelude.{IfSome, nat_eq, Result, Ok, OnOk}
 use Rattle.std.proofs.lemmas.Result.{IfOk-at_ok}
 use Rattle.std.proofs.lemmas.Bool.{eq-eqb, ne_eqb}
-use Rattle.arena.specs.Arena.{Arena, key_at, spare_of, size_of, slots_of, wanted_of}
+use Rattle.arena.specs.Arena.{Arena, HasRoomFor, key_at, spare_of, size_of, slots_of, wanted_of}
+use Rattle.arena.specs.declared.size.TheConstants.{MAX_LENGTH, SIZES}
 use Rattle.arena.proofs.callers.Sizes.{size_fits}
 use Rattle.tree.proofs.callers.Times.{once_cases}
 use Rattle.stepmap.proofs.Releasing.{same_or_other}
@@ -76,10 +77,10 @@ module _ {H : Type 0} (a b : Arena H) (key : List ℕ) where
       held P o e h = subst (λ o. IfSome o P) e h
 
 -- where slots are spare for the begin and the end of a range, and the begin's is taken, one is for the end
-module _ (begin end : ℕ) (old : ℕ → ℕ) (keys : (size : ℕ) → size < 10 → wanted_of (begin ∷ end ∷ []) size ≤ old size) where
+module _ (begin end : ℕ) (old : ℕ → ℕ) (keys : HasRoomFor old (begin ∷ end ∷ [])) where
   pub spare_for_end : (begun : ℕ → ℕ) → ((size : ℕ) → old size ≤ begun size + wanted_of (begin ∷ []) size)
-      → end ≤ 16384 → 0 < begun (size_of end)
+      → end ≤ MAX_LENGTH → 0 < begun (size_of end)
   spare_for_end begun used short = spare (size_of end) (size_fits end short).0 (wanted_own end)
     where
-      spare : (size : ℕ) → size < 10 → wanted_of (end ∷ []) size ≡ 1 → 0 < begun size
+      spare : (size : ℕ) → size < SIZES → wanted_of (end ∷ []) size ≡ 1 → 0 < begun size
       spare size lt own = omega (arith, keys size lt, used size, own)

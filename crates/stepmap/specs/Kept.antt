@@ -1,6 +1,6 @@
 -- What a step map keeps beside what it is seen as.
 use Rattle.std.specs.Prelude.{◌≡◌, ℕ, ◌+◌, ◌*◌, ◌<◌, ◌≤◌, ℤ, List, length, Option, Some, None}
-use Rattle.arena.specs.Arena.{wanted_of}
+use Rattle.arena.specs.Arena.{HasRoomFor}
 use Rattle.filter.specs.Filter.{FilterState}
 use Rattle.keys.specs.declared.key.TheConstants.{MAX_KEY_LENGTH}
 use Rattle.stepmap.specs.StepMap.{Round, Steps, AreSteps}
@@ -29,7 +29,7 @@ pub record IsKept (m : Steps) (stored : Stored) (beside : FilterState) (cursor :
   pub tells : FilterTells beside m
   -- for two boundaries of each range that may be written
   pub boundaries : length m.boundaries + 2 * length m.ready ≤ stored.room
-  pub keys : (size : ℕ) → size < 10 → wanted_of (each_length m.ready) size ≤ spare_in stored size
+  pub keys : HasRoomFor (spare_in stored) (each_length m.ready)
   -- for a key of any length
   pub any_key : MAX_KEY_LENGTH ≤ cursor_room
   -- no bytes where no round is under way

@@ -2,7 +2,7 @@
 ghost use Rattle.std.specs.Prelude.{◌≡◌, ℕ, ◌+◌, ◌*◌, ◌<◌, ◌≤◌, ◌<ℤ◌, ◌≤ℤ◌, negsuc, ◌↔◌};
 ghost use Rattle.std.specs.Prelude.{List, [], ◌∷◌, ◌++◌, length, slice_get, IsTrue, IfOk, IfSome, IsSomeAnd, None, OnOk, IsOkUnless, unwrap_or};
 ghost use Rattle.std.specs.List.{All, AllZip};
-ghost use Rattle.arena.specs.Arena.{wanted_of};
+ghost use Rattle.arena.specs.Arena.{wanted_of, HasRoomFor};
 ghost use Rattle.keys.specs.Key.{IsBytes};
 ghost use Rattle.keys.specs.Range.{Holds, IsEmpty};
 ghost use Rattle.stepmap.specs.Asking.{Exceeds};
@@ -136,8 +136,7 @@ impl<const N: usize> Boundaries<N> {
     // Takes the memory for the boundaries of ranges with keys of these lengths.
     pub fn reserve(&mut self, lengths: &[KeyLengths]) -> Result<(), AllocError>
         requires few { length self.old.boundaries + 2 * length lengths.now ≤ MAX_LIMIT }
-        ensures keys { OnOk result ((size : ℕ) → size < 10
-            → wanted_of (each_length lengths.now) size ≤ spare_in self.new size) }
+        ensures keys { OnOk result (HasRoomFor (spare_in self.new) (each_length lengths.now)) }
         ensures nodes { OnOk result (length self.new.boundaries + 2 * length lengths.now ≤ self.new.room) }
         ensures boundaries { self.new.boundaries ≡ self.old.boundaries }
         ensures room { self.old.room ≤ self.new.room }
@@ -152,8 +151,7 @@ impl<const N: usize> Boundaries<N> {
     pub fn write(&mut self, range: &RangeRef<'_>, version: i64)
         requires boundaries { AreBoundaries self.old.boundaries }
         requires filled { ¬ IsEmpty range.now }
-        requires keys { (size : ℕ) → size < 10
-            → wanted_of (length range.now.begin ∷ length range.now.end ∷ []) size ≤ spare_in self.old size }
+        requires keys { HasRoomFor (spare_in self.old) (length range.now.begin ∷ length range.now.end ∷ []) }
         requires nodes { length self.old.boundaries + 2 ≤ self.old.room }
         ensures boundaries { self.new.boundaries ≡ written range.now version self.old.boundaries }
         ensures spare { (size : ℕ) → spare_in self.old size
@@ -177,8 +175,7 @@ impl<const N: usize> Boundaries<N> {
     ) -> Option<i64>
         requires boundaries { AreBoundaries self.old.boundaries }
         requires filled { ¬ IsEmpty range.now }
-        requires keys { (size : ℕ) → size < 10
-            → wanted_of (length range.now.begin ∷ length range.now.end ∷ []) size ≤ spare_in self.old size }
+        requires keys { HasRoomFor (spare_in self.old) (length range.now.begin ∷ length range.now.end ∷ []) }
         requires nodes { length self.old.boundaries + 2 ≤ self.old.room }
         ensures written { result ≡ None → self.new.boundaries
             ≡ written_to range.now version (unwrap_or at_end (value_at self.old.boundaries range.now.end)) self.old.boundaries }

@@ -25,7 +25,7 @@ pub unexpired_all : (p : ℕ → Bool) (count : ℕ) (edge before : ℤ) (remova
 unexpired_all p count edge before removal run was now c some =
     let pass = filter_around (λ (x : Item). p x.key) c.before c.leaf c.behind c.items_below c.failing in
     let here : items_below p c.leaf ≢ [] =
-    some_here p p (λ key t. t) c.before c.leaf c.behind c.lower_bound c.failing c.found
+    some_here p p (λ key t. t) c.before c.leaf c.behind c.items_below c.failing c.found
     (λ none. some (ap (items_below p) c.was_is ∙ none)) in
     let h = c.gives.1 here in
     let all = c.before ++ (c.leaf ++ c.behind) in
@@ -36,7 +36,7 @@ unexpired_all p count edge before removal run was now c some =
       looked = h.looked;
       rest = h.rest ++ c.behind;
       front_is = pass ∙ ap (λ xs. c.before ++ xs) h.front_is ∙ sym (append_assoc c.before h.front (h.first ∷ []));
-      looked_is = ap (λ xs. h.first ∷ xs) (behind-parts p c.before c.leaf c.behind c.lower_bound c.failing)
+      looked_is = ap (λ xs. h.first ∷ xs) (behind-parts p c.before c.leaf c.behind c.items_below c.failing)
           ∙ ap (λ xs. xs ++ c.behind) h.looked_is ∙ append_assoc h.looked h.rest c.behind;
       looked_at = h.looked_at;
       some = h.some;
@@ -62,10 +62,10 @@ first_stays edge before (x ∷ xs) some h =
     omega (arith, ap length (stays edge before x xs one).0)
 
 -- Each item stays or goes, and one stays.
-pub length-removal : (p : ℕ → Bool) (count : ℕ) (edge before : ℤ) (removal : Removal) (run was now : List Item)
+pub length-unexpired : (p : ℕ → Bool) (count : ℕ) (edge before : ℤ) (removal : Removal) (run was now : List Item)
     (next : Option ℕ) → RemovesExpired p count edge before removal run next was now
     → (length (items_below p was) ≡ 1 → edge ≤ℤ before) → (length now + length run ≡ length was) × (1 ≤ length now)
-length-removal p count edge before removal run was now next h first =
+length-unexpired p count edge before removal run was now next h first =
     let now_is = ap length h.now_is in
     let all = length-append h.front (unexpired edge before h.looked ++ h.rest) in
     let stay = length-append (unexpired edge before h.looked) h.rest in

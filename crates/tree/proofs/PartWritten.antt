@@ -173,7 +173,7 @@ overwritten p q r nested first second given written run was now c first_bound se
     opens : (items_below p c.leaf ≢ []) ⊎ IsTrue c.first → All (λ x. p x.key ≡ true) c.before
     opens there =
         elim there [
-          | inl one ↦ opens_front p q nested c.before c.leaf c.behind c.lower_bound c.failing partitioned one
+          | inl one ↦ opens_front p q nested c.before c.leaf c.behind c.items_below c.failing partitioned one
           | inr is_first ↦
               subst (All (λ (x : Item). p x.key ≡ true)) (sym (c.first_is.0 is_first).1)
               (All-nil (λ (x : Item). p x.key ≡ true))
@@ -187,17 +187,17 @@ overwritten p q r nested first second given written run was now c first_bound se
         let key = λ (xs : List Item). first_is_below r (first_key None xs) in
         let ended_is : ended ≡ key (behind q (c.before ++ (c.leaf ++ c.behind))) =
         gives.ended_is ∙ ap (first_is_below r) (sym (first_key-append None (behind q c.leaf) c.behind))
-        ∙ ap key (sym (behind_too p q nested c.before c.leaf c.behind c.lower_bound c.failing)) in
+        ∙ ap key (sym (behind_too p q nested c.before c.leaf c.behind c.items_below c.failing)) in
         record {
           run_is = gives.run_is
-              ∙ sym (between_part p q nested c.before c.leaf c.behind c.lower_bound c.failing (opens gives.there));
+              ∙ sym (between_part p q nested c.before c.leaf c.behind c.items_below c.failing (opens gives.there));
           ended_is = told_by_first q r (c.before ++ (c.leaf ++ c.behind)) ended
               (subst (IsPartitioned (λ (x : Item). q x.key)) c.was_is second_bound)
               (subst (IsPartitioned (λ (x : Item). r x.key)) c.was_is third_bound)
               ended_is;
-          written = written_part p q nested c.before c.leaf c.behind c.lower_bound c.failing (opens gives.there) first
+          written = written_part p q nested c.before c.leaf c.behind c.items_below c.failing (opens gives.there) first
               second given ended c.changed gives.some gives.written;
         }
     by_written (Partly last) gives =
-        part_taken p q nested c.before c.leaf c.behind c.lower_bound c.failing partitioned last run c.first c.changed gives
+        part_taken p q nested c.before c.leaf c.behind c.items_below c.failing partitioned last run c.first c.changed gives
         (λ none. c.first_is.1 (refl, none)) here

@@ -12,6 +12,7 @@ use Rattle.tree.specs.declared.overwrite.Written.TheVariants.{Partly, Whole}
 use Rattle.tree.specs.Overwrite.{Overwrites}
 use Rattle.tree.specs.Path.{IsPartitioned, items_below}
 use Rattle.arena.specs.Arena.{Arena, IsLive, record_at, key_at, spare_of, size_of, wanted_of}
+use Rattle.arena.specs.declared.size.TheConstants.{MAX_LENGTH}
 use Rattle.keys.specs.Key.{IsBefore, IsBytes}
 use Rattle.stepmap.specs.Boundary.{AreBoundaries, value_at}
 use Rattle.stepmap.specs.KeyBound.{slot_is_below}
@@ -34,7 +35,7 @@ unwrap-end_key-requires g c =
     let range = c.args.range.now in
     let begin = length range.begin in
     let end = length range.end in
-    let short : end ≤ 16384 = omega (arith, range.end_is_key.short) in
+    let short : end ≤ MAX_LENGTH = omega (arith, range.end_is_key.short) in
     let keys = c.self.inside.keys in
     let e = c.place.ensures in
     let taken = taken_by_place keys c.place.new.self c.begin.result.now c.place.result c.unwrap-begin_key.result
@@ -46,7 +47,7 @@ unwrap-end_key-requires g c =
     (subst (λ (k : List ℕ). (size : ℕ) → spare_of keys size
     ≤ spare_of c.place.new.self size + wanted_of (length k ∷ []) size) c.begin.ensures.bytes taken)) short in
     let is = sym c.end.ensures.bytes in
-    c.place-2.ensures.enough (subst (λ (k : List ℕ). length k ≤ 16384) is short)
+    c.place-2.ensures.enough (subst (λ (k : List ℕ). length k ≤ MAX_LENGTH) is short)
     (subst (λ (k : List ℕ). 0 < spare_of c.place.new.self (size_of (length k))) is spare)
 
 -- the version that counts at the range's end

@@ -48,7 +48,7 @@ inside g c =
         };
         to = to i q within;
       };
-      some_below = subst (λ (v : Items). All (λ q. filter (λ (x : Item). g.P.Bound.below q.from x.key) v.items ≢ []) qs) view
+      items_below = subst (λ (v : Items). All (λ q. filter (λ (x : Item). g.P.Bound.below q.from x.key) v.items ≢ []) qs) view
           c.requires.some;
       headed = headed;
     }
