@@ -9,11 +9,13 @@ use Rattle.keys.specs.Range.{Holds, IsEmpty}
 use Rattle.keyspace.specs.Writes.{Write, at_version}
 use Rattle.keys.specs.declared.range.Range.{Range}
 use Rattle.stepmap.specs.Boundary.{Boundary, below}
-use Rattle.stepmap.specs.Rooted.{IsEndOf, Ends, AreRooted}
+use Rattle.stepmap.specs.Covers.{MapCovers}
+use Rattle.stepmap.specs.Rooted.{IsEndOf, Ends, AreRooted, Rooted}
+use Rattle.stepmap.specs.StepMap.{Steps}
 use Rattle.keys.specs.Range.{is_filled}
 use Rattle.stepmap.specs.Counting.{filled_count, live_count}
 use Rattle.stepmap.specs.Uniting.{IsEndIn, Unites}
-use Rattle.stepmap.specs.Laws.{UnitingTells, CountedAlong}
+use Rattle.stepmap.specs.Laws.{CountedAlong}
 use Rattle.stepmap.proofs.WrittenMap.{if_some_map}
 use Rattle.stepmap.proofs.Rooting.{OneEnd}
 use Rattle.keys.proofs.callers.SomeElement.{Any-weaker, Any-parts, Any-left, Any-right, Any-map, Any-unmap}
@@ -77,7 +79,20 @@ module _ (united ranges : List Range) (u : Unites united ranges) where
       → IsEndOf (ws ++ at_version version ranges) edge b.key)
       (λ b f n. end_there ws version edge b.key (f n)) bs ends
 
-pub uniting_tells : UnitingTells
+-- writes of united ranges tell what writes of the ranges would
+pub record UnitedTell (united ranges : List Range) : Type 0 where
+  pub covers :
+      (m : Steps) (ws : List Write) (version : ℤ) → MapCovers m (ws ++ at_version version united) →
+      MapCovers m (ws ++ at_version version ranges)
+  pub rooted :
+      (m : Steps) (ws : List Write) (version : ℤ) → Rooted m (ws ++ at_version version united) →
+      Rooted m (ws ++ at_version version ranges)
+  pub ends :
+      (bs : List Boundary) (ws : List Write) (version edge : ℤ)
+      → Ends bs (ws ++ at_version version united) edge →
+      Ends bs (ws ++ at_version version ranges) edge
+
+pub uniting_tells : (united ranges : List Range) → Unites united ranges → UnitedTell united ranges
 uniting_tells united ranges u = record {
   covers = λ m ws version covers key bytes s le.
       let P : Write → Type 0 = λ w. Holds w.range key × (s <ℤ w.version) in

@@ -120,19 +120,3 @@ pub record WritesInTurn (united : List Range) (version : ℤ) : Type 0 where
 
 abbrev pub ApartWriteInTurn : Type 0
 ApartWriteInTurn = (united : List Range) (version : ℤ) → AreApart united → WritesInTurn united version
-
--- writes of united ranges tell what writes of the ranges would
-pub record UnitedTell (united ranges : List Range) : Type 0 where
-  pub covers :
-      (m : Steps) (ws : List Write) (version : ℤ) → MapCovers m (ws ++ at_version version united) →
-      MapCovers m (ws ++ at_version version ranges)
-  pub rooted :
-      (m : Steps) (ws : List Write) (version : ℤ) → Rooted m (ws ++ at_version version united) →
-      Rooted m (ws ++ at_version version ranges)
-  pub ends :
-      (bs : List Boundary) (ws : List Write) (version edge : ℤ)
-      → Ends bs (ws ++ at_version version united) edge →
-      Ends bs (ws ++ at_version version ranges) edge
-
-abbrev pub UnitingTells : Type 0
-UnitingTells = (united ranges : List Range) → Unites united ranges → UnitedTell united ranges

@@ -3,7 +3,7 @@
 
 ghost use Rattle.stepmap.specs.Laws.{TellsHits, GreatestTells};
 ghost use Rattle.stepmap.specs.Laws.{FewBoundaries, CountedAlong};
-ghost use Rattle.stepmap.specs.Laws.{ApartWriteInTurn, UpToLater, UnitingTells};
+ghost use Rattle.stepmap.specs.Laws.{ApartWriteInTurn, UpToLater};
 
 /// The function exceeds a number in a range exactly if a write above that number overlaps the range.
 pub fn hits()
@@ -22,9 +22,4 @@ pub fn counts()
 pub fn writing()
     ensures in_turn { ApartWriteInTurn }
     ensures later { UpToLater }
-{}
-
-/// What writes of united ranges tell, writes of the ranges that they unite would tell too.
-pub fn uniting()
-    ensures tells { UnitingTells }
 {}
