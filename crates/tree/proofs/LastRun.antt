@@ -5,7 +5,7 @@ use Rattle.std.proofs.lemmas.List.{map-append, length-map, length-take-le, take-
 use Rattle.tree.specs.declared.entry.Entry.{Entry}
 use Rattle.tree.specs.declared.expiring.Removal.{Removal}
 use Rattle.tree.specs.Item.{Item, item_of, version_of}
-use Rattle.tree.specs.Path.{IsPartitioned, behind, first_key}
+use Rattle.tree.specs.Path.{IsPartitioned, first_key}
 use Rattle.tree.specs.Expire.{RemovesExpired}
 use Rattle.tree.specs.Tree.{IsLast, unexpired, expired}
 use Rattle.tree.proofs.Removing.{run, all_stay}

@@ -1,5 +1,5 @@
 -- What answers a question: the leaf to which its way leads, or else the keys. This project's own.
-use Rattle.std.specs.Prelude.{◌≡◌, ◌≢◌, ◌≤◌, ◌<◌, ◌<ℤ◌, ◌↔◌, ◌++◌, ◌-◌, ℕ, ℤ, Bool, false, List, filter, length, get_or, slice_get, Option, None, Some, IfSome, IsTrue}
+use Rattle.std.specs.Prelude.{◌≡◌, ◌≤◌, ◌<ℤ◌, ◌↔◌, ◌++◌, ℕ, ℤ, Bool, false, List, length, Option, Some, IfSome, IsTrue}
 use Rattle.std.specs.List.{All, Any}
 use Rattle.arena.specs.Arena.{Arena, IsLive}
 use Rattle.tree.specs.declared.node.Node.{Node}
@@ -7,7 +7,7 @@ use Rattle.tree.specs.declared.questions.Approach.{Approach}
 use Rattle.tree.specs.declared.questions.Approach.TheVariants.{Leaf, Clear, Open}
 use Rattle.tree.specs.declared.questions.Near.{Near}
 use Rattle.tree.specs.Finding.{IsOwnHead}
-use Rattle.tree.specs.Heads.{KeyHeads, KeyBytes, IsTargetHead, IsPrefixLenAt}
+use Rattle.tree.specs.Heads.{KeyBytes, IsPrefixLenAt}
 use Rattle.tree.specs.Item.{Item}
 use Rattle.tree.specs.Node.{all_heads_of}
 use Rattle.tree.specs.Path.{IsPartitioned, from_last}

@@ -1,5 +1,5 @@
 -- What must hold where nodes are changed, and the ones above them made right. This project's own.
-use Rattle.std.specs.Prelude.{◌≡◌, ◌≢◌, ◌≤◌, ◌<◌, ◌+◌, ◌*◌, ◌-◌, ◌∷◌, ℕ, List, [], length, drop, take, nat_eq, Option, Some, IfSome}
+use Rattle.std.specs.Prelude.{◌≡◌, ◌≢◌, ◌≤◌, ◌<◌, ◌+◌, ◌*◌, ◌-◌, ◌∷◌, ℕ, List, [], length, nat_eq, Option, Some, IfSome}
 use Rattle.std.specs.List.{All, IsDistinct}
 use Rattle.std.specs.FinMap as map_of
 use Rattle.arena.specs.Arena.{Arena, IsLive, spare_of}
