@@ -28,7 +28,7 @@ Asks keys a q = AsksFor keys a.0 q.from q.to × (q.version ≡ a.1)
 
 -- whether the key of a slot comes before the bound
 abbrev pub is_below : KeyBound → ℕ → Bool
-is_below partitioned = slot_is_below partitioned.keys.now partitioned.up_to partitioned.key.now
+is_below bound = slot_is_below bound.keys.now bound.up_to bound.key.now
 
 -- an item is above the number, among those that are looked at between two bounds
 abbrev pub IsToldAbove : Items → (ℕ → Bool) → (ℕ → Bool) → ℤ → Bool → Type 0
@@ -49,16 +49,16 @@ from_query None P gives it = absurd it
 from_query (Some a) P gives it = gives a it
 
 module _ (keys : Arena (Unit {0})) (tree : Items) (indexed : AreIndexed keys tree) where
-  pub is_partitioned : (up_to : Bool) (key : List ℕ) (partitioned : KeyBound) → IsAt keys up_to key partitioned
-      → IsPartitioned (λ (x : Item). is_below partitioned x.key) tree.items
-  is_partitioned up_to key partitioned at = rw (at.arena, at.side) (stored_partitioned keys tree indexed.stored up_to partitioned.key.now).partitioned
+  pub is_partitioned : (up_to : Bool) (key : List ℕ) (bound : KeyBound) → IsAt keys up_to key bound
+      → IsPartitioned (λ (x : Item). is_below bound x.key) tree.items
+  is_partitioned up_to key bound at = rw (at.arena, at.side) (stored_partitioned keys tree indexed.stored up_to bound.key.now).partitioned
 
-  pub some_pass : (key : List ℕ) (partitioned : KeyBound) → IsAt keys true key partitioned → items_below (is_below partitioned) tree.items ≢ []
-  some_pass key partitioned at = rw (at.arena, at.side) (some_is_below keys tree indexed.stored partitioned.key.now)
+  pub some_pass : (key : List ℕ) (bound : KeyBound) → IsAt keys true key bound → items_below (is_below bound) tree.items ≢ []
+  some_pass key bound at = rw (at.arena, at.side) (some_is_below keys tree indexed.stored bound.key.now)
 
-  pub are_headed : (up_to : Bool) (key : List ℕ) (partitioned : KeyBound) → IsAt keys up_to key partitioned
-      → AllAreHeads (key_at partitioned.keys.now) (tree_heads tree)
-  are_headed up_to key partitioned at = rw at.arena indexed.headed
+  pub are_headed : (up_to : Bool) (key : List ℕ) (bound : KeyBound) → IsAt keys up_to key bound
+      → AllAreHeads (key_at bound.keys.now) (tree_heads tree)
+  are_headed up_to key bound at = rw at.arena indexed.headed
 
   -- its answer is that of the function
   pub told_above : AreBoundaries (boundaries_of keys tree.items) → (a : Range × ℤ) (q : BoundQuestion) (above : Bool)

@@ -1,6 +1,6 @@
 -- Those that are left open, and the answers that are told for them.
 use Rattle.std.proofs.Common.{◌≡◌, ℕ, zero, suc, ◌+◌, ◌<◌, ◌≤◌, ℤ, Bool, true, false, cond, List, [], ◌∷◌, ◌++◌, length, take, drop, refl, sym, ◌∙◌, ap, subst, arith, append-nil, drop_of_length-le, length-append, length-drop, length-take, map}
-use Rattle.std.specs.Prelude.{◌↔◌, IsTrue, IsSomeAnd, Some, lower_bound_by_head, slice_get}
+use Rattle.std.specs.Prelude.{◌↔◌, IsTrue, IsSomeAnd, Some, count_by, slice_get}
 use Rattle.std.specs.List.{All, AllZip}
 use Rattle.std.proofs.Math.Seq.{take-add}
 use Rattle.std.proofs.lemmas.List.{take_all, get_or-drop, get_or-take, length-take-le}
@@ -33,7 +33,7 @@ module _ (Above : Range × ℤ → Type 0) where
 
 -- as many are left as are marked
 pub length-left_of : (queries : List (Range × ℤ)) (marks : List Bool) → length marks ≤ length queries
-    → length (left_of queries marks) ≡ lower_bound_by_head (λ mark. mark) marks
+    → length (left_of queries marks) ≡ count_by (λ mark. mark) marks
 length-left_of [] [] le = refl
 length-left_of [] (mark ∷ marks) le = absurd (omega (arith, le))
 length-left_of (q ∷ queries) [] le = refl
@@ -119,7 +119,7 @@ module _ (m : Steps) (queries : List (Range × ℤ)) (from : ℕ) where
             (left_of part marks) places told are.left right
 
         -- as many are told as are marked
-        pub told_many : lower_bound_by_head (λ mark. mark) marks ≤ length told
+        pub told_many : count_by (λ mark. mark) marks ≤ length told
         told_many = omega (
           arith,
           length-left_of part marks (omega (arith, long)),

@@ -12,10 +12,10 @@ abbrev pub Exceeds : List Boundary → Range × ℤ → Type 0
 Exceeds bs q = (key : List ℕ) × IsBytes key × Holds q.0 key × (q.1 <ℤ value_at bs key)
 
 -- the bound is the one up to a key, or before it, through boundaries whose keys are in this arena
-pub record IsAt (keys : Arena (Unit {0})) (up_to : Bool) (key : List ℕ) (partitioned : KeyBound) : Type 0 where
-  pub arena : partitioned.keys.now ≡ keys
-  pub side : partitioned.up_to ≡ up_to
-  pub target : partitioned.key.now ≡ key
+pub record IsAt (keys : Arena (Unit {0})) (up_to : Bool) (key : List ℕ) (bound : KeyBound) : Type 0 where
+  pub arena : bound.keys.now ≡ keys
+  pub side : bound.up_to ≡ up_to
+  pub target : bound.key.now ≡ key
 
 -- the bounds are the one up to the begin of a range, which isn't empty, and the one before its end
 pub record AsksFor (keys : Arena (Unit {0})) (range : Range) (from to : KeyBound) : Type 0 where

@@ -82,12 +82,12 @@ impl<const N: usize> Boundaries<N> {
     pub fn version_at(&self, key: &[u8]) -> i64
         ensures value { result ≡ value_at self.now.boundaries key.now }
     {
-        let partitioned = KeyBound {
+        let bound = KeyBound {
             keys: &self.keys,
             key,
             up_to: true,
         };
-        self.tree.last(&partitioned).unwrap().version
+        self.tree.last(&bound).unwrap().version
     }
 
     // Returns the greatest version at a key of the range, which isn't empty.

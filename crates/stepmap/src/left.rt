@@ -1,11 +1,11 @@
 //! The answers to queries that a filter leaves open.
-ghost use Rattle.std.specs.Prelude.{◌≡◌, ◌≤◌, ◌++◌, length, take, drop, lower_bound_by_head};
+ghost use Rattle.std.specs.Prelude.{◌≡◌, ◌≤◌, ◌++◌, length, take, drop, count_by};
 ghost use Rattle.stepmap.specs.Filtering.{with_told};
 
 // Puts the answers that were told in place of the marks from this index on, in order.
 pub fn put_told(marks: &mut [bool], from: usize, told: &[bool])
     requires within { from ≤ length marks.old }
-    requires each { lower_bound_by_head (λ mark. mark) (drop from marks.old) ≤ length told.now }
+    requires each { count_by (λ mark. mark) (drop from marks.old) ≤ length told.now }
     ensures answers { marks.new ≡ take from marks.old ++ with_told (drop from marks.old) told.now }
 {
     let mut next = 0;

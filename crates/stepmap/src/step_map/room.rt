@@ -1,7 +1,7 @@
 //! The room for writes: a whole round is swept where there is none, and memory is taken.
 
 ghost use Rattle.std.specs.Prelude.{◌≡◌, ℕ, ◌+◌, ◌*◌, ◌<◌, ◌≤◌, nat_le, List, [], length, OnOk, OnErr};
-ghost use Rattle.arena.specs.Arena.{HasRoomFor};
+ghost use Rattle.arena.specs.Arena.{HasRoomFor as HasSlotsFor};
 ghost use Rattle.filter.specs.Filter.{bound};
 ghost use Rattle.stepmap.specs.StepMap.{AreSteps};
 ghost use Rattle.stepmap.specs.Sweeping.{at_front};
@@ -80,7 +80,7 @@ fn take_memory(
 ) -> Result<(), AllocError>
     requires few { length boundaries.old.boundaries + 2 * length lengths.now ≤ MAX_LIMIT }
     ensures ready { OnOk result (ready.new.items ≡ lengths.now) }
-    ensures keys { OnOk result (HasRoomFor (spare_in boundaries.new) (each_length lengths.now)) }
+    ensures keys { OnOk result (HasSlotsFor (spare_in boundaries.new) (each_length lengths.now)) }
     ensures nodes { OnOk result (length boundaries.new.boundaries + 2 * length lengths.now ≤ boundaries.new.room) }
     ensures boundaries { boundaries.new.boundaries ≡ boundaries.old.boundaries }
     ensures room { boundaries.old.room ≤ boundaries.new.room }

@@ -1,5 +1,5 @@
 use Rattle.std.proofs.Common.{rules, ◌≡◌, ◌++◌, ℕ, Bool, List, length, take, drop, refl, ap, sym, subst, ◌∙◌, arith, slice_get}
-use Rattle.std.specs.Prelude.{◌↔◌, IsTrue, IsSomeAnd, lower_bound_by_head}
+use Rattle.std.specs.Prelude.{◌↔◌, IsTrue, IsSomeAnd, count_by}
 use Rattle.std.specs.List.{All, AllZip}
 use Rattle.std.proofs.Math.Seq.{take-append_seam, drop-append_seam}
 use Rattle.keys.specs.Range.{IsEmpty}
@@ -54,7 +54,7 @@ put_told-requires-clause-each g c =
     ∙ drop-append_seam old marked.0 in
     let many = told_many c.args.self.now (g.L.QueryList.queries c.args.queries.now) (length old) marked.0
     c.in_ok-places.places.items marked.3 c.are_above-told.result.items (right g at) in
-    omega (arith, many, ap (lower_bound_by_head (λ (mark : Bool). mark)) marks, ap length c.as_slice-2.ensures.value)
+    omega (arith, many, ap (count_by (λ (mark : Bool). mark)) marks, ap length c.as_slice-2.ensures.value)
 
 pub returns-clause-told : goal.returns-clause-told
 returns-clause-told g c = λ before.
