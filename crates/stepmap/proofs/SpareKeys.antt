@@ -4,7 +4,7 @@ use Rattle.std.specs.Prelude.{IfSome, nat_eq, Result, Ok, OnOk}
 use Rattle.std.proofs.lemmas.Result.{IfOk-at_ok}
 use Rattle.std.proofs.lemmas.Bool.{eq-eqb, ne_eqb}
 use Rattle.arena.specs.Arena.{Arena, HasRoomFor, key_at, spare_of, size_of, slots_of, wanted_of}
-use Rattle.arena.specs.declared.size.TheConstants.{MAX_LENGTH, SIZES}
+use Rattle.arena.specs.declared.size.TheConstants.{MAX_LENGTH}
 use Rattle.arena.proofs.callers.Sizes.{size_fits}
 use Rattle.tree.proofs.callers.Times.{once_cases}
 use Rattle.stepmap.proofs.Releasing.{same_or_other}
@@ -80,7 +80,8 @@ module _ {H : Type 0} (a b : Arena H) (key : List ℕ) where
 module _ (begin end : ℕ) (old : ℕ → ℕ) (keys : HasRoomFor old (begin ∷ end ∷ [])) where
   pub spare_for_end : (begun : ℕ → ℕ) → ((size : ℕ) → old size ≤ begun size + wanted_of (begin ∷ []) size)
       → end ≤ MAX_LENGTH → 0 < begun (size_of end)
-  spare_for_end begun used short = spare (size_of end) (size_fits end short).0 (wanted_own end)
+  spare_for_end begun used short =
+      spare (size_of end) (keys (size_of end) (size_fits end short).0) (wanted_own end)
     where
-      spare : (size : ℕ) → size < SIZES → wanted_of (end ∷ []) size ≡ 1 → 0 < begun size
-      spare size lt own = omega (arith, keys size lt, used size, own)
+      spare : (size : ℕ) → wanted_of (begin ∷ end ∷ []) size ≤ old size → wanted_of (end ∷ []) size ≡ 1 → 0 < begun size
+      spare size room own = omega (arith, room, used size, own)

@@ -92,11 +92,11 @@ last_of_versions keys (x ∷ xs) (v ∷ front) before last e =
 
 module _ {H : Type 0} (keys : Arena H) where
   -- items are swept of expired items as their boundaries are
-  unexpired_boundaries : (edge before : ℤ) (xs : List Item)
+  boundaries_unexpired : (edge before : ℤ) (xs : List Item)
       → boundaries_of keys (unexpired_items edge before xs) ≡ unexpired edge before (boundaries_of keys xs)
-  unexpired_boundaries edge before [] = refl
-  unexpired_boundaries edge before (x ∷ xs) =
-      let i = unexpired_boundaries edge x.version xs in
+  boundaries_unexpired edge before [] = refl
+  boundaries_unexpired edge before (x ∷ xs) =
+      let i = boundaries_unexpired edge x.version xs in
       let goes = int_lt before edge && int_lt x.version edge in
       elim (cases_Bool goes) [
         | inl t ↦ rw t i
@@ -241,7 +241,7 @@ module _ {H : Type 0} (keys : Arena H) where
             ap (boundaries_of keys) h.now_is
             ∙ map-append f h.front (kept ++ h.rest)
             ∙ ap (λ l. map f h.front ++ l)
-            (map-append f kept h.rest ∙ ap (λ l. l ++ map f h.rest) (unexpired_boundaries edge before h.looked))
+            (map-append f kept h.rest ∙ ap (λ l. l ++ map f h.rest) (boundaries_unexpired edge before h.looked))
 
         now_in_order : AreInOrder (boundaries_of keys next.items)
         now_in_order =
