@@ -1,5 +1,5 @@
 -- Stored boundaries while keys are placed, and items and slots are exchanged for others.
-use Rattle.std.proofs.Common.{◌≡◌, ℕ, ◌+◌, ◌≤◌, ◌&&◌, Bool, not, List, [], ◌∷◌, ◌++◌, length, get_or, Some, is_some, option_map, map, filter, refl, sym, ◌∙◌, ap, ap₂, subst, inl, inr, arith}
+use Rattle.std.proofs.Common.{◌≡◌, ℕ, ◌≤◌, ◌&&◌, Bool, not, List, [], ◌∷◌, ◌++◌, get_or, Some, is_some, option_map, map, filter, refl, sym, ◌∙◌, ap, ap₂, subst, inl, inr, arith}
 use Rattle.std.specs.Prelude.{nat_eq}
 use Rattle.std.specs.List.{All, IsDistinct}
 use Rattle.std.proofs.lemmas.List.{map-append, length-map}

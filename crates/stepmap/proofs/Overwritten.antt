@@ -1,5 +1,5 @@
 -- A range of stored boundaries is written over in their tree, or some of those at its end are taken out.
-use Rattle.std.proofs.Common.{◌≡◌, ◌≢◌, ℕ, ◌+◌, ◌<◌, ◌≤◌, if◌then◌else◌, arith, Bool, true, false, List, [], ◌∷◌, ◌++◌, length, get_or, Option, None, Some, is_some, map, unwrap_or, refl, sym, ◌∙◌, ap, ap₂, subst, append_assoc}
+use Rattle.std.proofs.Common.{◌≡◌, ◌≢◌, ℕ, ◌<◌, ◌≤◌, if◌then◌else◌, arith, Bool, true, false, List, [], ◌∷◌, ◌++◌, length, get_or, Option, None, Some, is_some, map, unwrap_or, refl, sym, ◌∙◌, ap, ap₂, subst, append_assoc}
 use Rattle.std.specs.Prelude.{ℤ, ◌↔◌, Any, IsTrue, nat_eq}
 use Rattle.std.specs.List.{All, IsDistinct}
 use Rattle.std.proofs.lemmas.List.{map-append}

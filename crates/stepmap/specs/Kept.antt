@@ -1,5 +1,5 @@
 -- What a step map keeps beside what it is seen as.
-use Rattle.std.specs.Prelude.{◌≡◌, ℕ, ◌+◌, ◌*◌, ◌<◌, ◌≤◌, ℤ, List, length, Option, Some, None}
+use Rattle.std.specs.Prelude.{◌≡◌, ℕ, ◌+◌, ◌*◌, ◌≤◌, ℤ, List, length, Option, Some, None}
 use Rattle.arena.specs.Arena.{HasRoomFor}
 use Rattle.filter.specs.Filter.{FilterState}
 use Rattle.keys.specs.declared.key.TheConstants.{MAX_KEY_LENGTH}
