@@ -4,17 +4,19 @@ ghost use Rattle.std.specs.Prelude.{◌≡◌, ◌≢◌, ◌≤◌, map, vec_it
 ghost use Rattle.std.specs.Io.KnownBytes.{Keeps};
 ghost use Rattle.player.specs.Replayed.{FailsToPrint, IsChecked, written};
 ghost use Rattle.player.specs.Checked.{TakesToCompare, check_lines};
-ghost use Rattle.player.specs.declared.form.Form.TheVariants.{Kept};
+ghost use Rattle.player.specs.declared.options.form.Form.TheVariants.{Kept};
 
-use crate::check_report::print_check;
+mod replies;
+mod report;
+
 use crate::failures::Ending;
-use crate::gatekeeper::Gatekeeper;
 use crate::options::Options;
-use crate::outcome::Outcome;
-use crate::running::run;
+use crate::running::{Gatekeeper, Outcome, run};
 use crate::start::fail_to_start;
 use crate::status::Status;
 use keyspace::Reply;
+pub use replies::{RepliesError, fail_to_read_replies, read_replies};
+pub use report::{CheckReport, print_check};
 use resolver::MAX_PROXIES;
 use std::alloc::Global;
 use std::sync::{Arc, Wait};

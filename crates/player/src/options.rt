@@ -5,10 +5,12 @@ ghost use Rattle.keyspace.specs.declared.TheConstants.{WINDOW};
 ghost use Rattle.lane.specs.declared.ends.TheConstants.{MAX_CAPACITY};
 ghost use Rattle.conflict.specs.declared.conflict_set.TheConstants.{MAX_WINDOW};
 ghost use Rattle.stepmap.specs.declared.step_map.TheConstants.{MAX_LIMIT};
-ghost use Rattle.player.specs.declared.form.Form.TheVariants.{Words};
+ghost use Rattle.player.specs.declared.options.form.Form.TheVariants.{Words};
 
-use crate::form::Form;
+mod form;
+
 use conflict::MAX_WINDOW;
+pub use form::Form;
 use keyspace::WINDOW;
 use lane::MAX_CAPACITY;
 use stepmap::MAX_LIMIT;

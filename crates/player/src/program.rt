@@ -8,15 +8,16 @@ ghost use Rattle.player.specs.Program.{ChecksFiles, FailsOnFiles, FailsToCheck, 
 ghost use Rattle.player.specs.Replayed.{IsReplayed, written};
 ghost use Rattle.player.specs.Words.{IsMistaken};
 
-use crate::check::check_over;
-use crate::files::Files;
-use crate::form::Form;
-use crate::opening::{fail_to_open, open_files};
+mod environment;
+
+use crate::check::{check_over, fail_to_read_replies, read_replies};
+use crate::opening::{Files, fail_to_open, open_files};
+use crate::options::Form;
 use crate::replay::replay_over;
-use crate::replies::{fail_to_read_replies, read_replies};
 use crate::start::{StartError, fail_to_start};
 use crate::status::Status;
 use crate::words::{CommandLine, read_words};
+pub use environment::run_in;
 use flow::WaitingRoom;
 use std::alloc::{AllocError, Global};
 use std::sync::{Arc, Wait};
