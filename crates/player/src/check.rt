@@ -6,22 +6,23 @@ ghost use Rattle.player.specs.Replayed.{FailsToPrint, IsChecked, written};
 ghost use Rattle.player.specs.Checked.{TakesToCompare, check_lines};
 ghost use Rattle.player.specs.declared.options.form.Form.TheVariants.{Kept};
 
-mod replies;
-mod report;
-
 use crate::failures::Ending;
 use crate::options::Options;
 use crate::running::{Gatekeeper, Outcome, run};
 use crate::start::fail_to_start;
 use crate::status::Status;
 use keyspace::Reply;
-pub use replies::{RepliesError, fail_to_read_replies, read_replies};
-pub use report::{CheckReport, print_check};
 use resolver::MAX_PROXIES;
 use std::alloc::Global;
 use std::sync::{Arc, Wait};
 use std::thread::Threads;
 use wire::{Sink, Source};
+
+mod replies;
+mod report;
+
+pub use replies::{RepliesError, fail_to_read_replies, read_replies};
+pub use report::{CheckReport, print_check};
 
 /// Replays the files of these readers as [`replay_over`](crate::replay_over) does, and compares the answers with the replies that
 /// were recorded of each proxy, at its place. Prints a line for each difference and a last line to `out`, and one line a failure to

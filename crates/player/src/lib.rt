@@ -1,11 +1,16 @@
 //! Replays recorded files of batch frames: their batches are resolved and the answers printed.
 //!
 //! [`run`] is the program `replay` over any words, files and streams, and [`run_in`] takes the words from an environment.
-//! [`read_words`] reads the command line, [`open_files`] opens the files, and [`replay_over`] does all that follows: `running` runs a worker for each file, in `threads` of their own, and
-//! turns the resolver between them; `report` prints the answers and what failed. The definition of what is printed is
-//! `IsReplayed`, in `specs/Replayed.antt`, and that of how the program ends is in `specs/Program.antt`.
+//! Both are in `program`. Below it, in the order of a run:
 //!
-//! Of the parts, [`work`] is what each worker does, and [`print_report`] and [`print_answers`] are what is printed.
+//! - `words` reads the command line, and `options` has how a run is set up.
+//! - `opening` opens the files.
+//! - `replay` does all that follows where the answers are printed, and `check` where they are compared with recorded replies.
+//! - `running` runs a worker for each file, in a thread of its own, and turns the resolver between them.
+//! - `line` has the line of one answer. `report` prints the lines in order, and `failures` what failed.
+//! - `start` has why a run could not start, and `status` how the program ends.
+//!
+//! What is printed is defined by `IsReplayed`, in `specs/Replayed.antt`, and how the program ends in `specs/Program.antt`.
 #![tactic(auto)]
 
 mod check;

@@ -7,13 +7,14 @@ ghost use Rattle.conflict.specs.declared.conflict_set.TheConstants.{MAX_WINDOW};
 ghost use Rattle.stepmap.specs.declared.step_map.TheConstants.{MAX_LIMIT};
 ghost use Rattle.player.specs.declared.options.form.Form.TheVariants.{Words};
 
-mod form;
-
 use conflict::MAX_WINDOW;
-pub use form::Form;
 use keyspace::WINDOW;
 use lane::MAX_CAPACITY;
 use stepmap::MAX_LIMIT;
+
+mod form;
+
+pub use form::Form;
 
 /// How a run is set up, each option within its range.
 #[derive(Clone, Copy, Debug, PartialEq, Eq)]

@@ -7,14 +7,15 @@ ghost use Rattle.player.specs.Line.{AreLines, TakesToSort, answers_of};
 ghost use Rattle.player.specs.Lines.{lines};
 ghost use Rattle.player.specs.declared.options.form.Form.{Form};
 
-mod lines;
-
 use crate::failures::{Ending, ProxyFailure, note_loss, nothing_failed, print_failures};
 use crate::line::Line;
 use crate::status::Status;
-pub use lines::{PrintError, print_answers};
 use std::alloc::Global;
 use wire::{Failed, Sink};
+
+mod lines;
+
+pub use lines::{PrintError, print_answers};
 
 /// What was printed, and how the program ends.
 #[derive(Debug, Drop)]

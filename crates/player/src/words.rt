@@ -6,15 +6,16 @@ ghost use Rattle.player.specs.Words.{AsksForText, HasFiles, HasForm, HasNumbers,
 ghost use Rattle.clap.specs.declared.error.kind.ErrorKind.{ErrorKind};
 ghost use Rattle.player.specs.declared.options.form.Form.{Form as FormValue};
 
-mod command;
-mod refusal;
-
 use crate::options::{Form, Options};
 use clap::ArgMatches;
 use clap::error::ErrorKind;
-pub use refusal::Refusal;
 use resolver::MAX_PROXIES;
 use std::alloc::{AllocError, Global};
+
+mod command;
+mod refusal;
+
+pub use refusal::Refusal;
 
 /// What the command line asks for. `Options` keeps its numbers within their ranges.
 #[derive(Debug, Drop)]
