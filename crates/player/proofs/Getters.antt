@@ -6,7 +6,7 @@ use Rattle.clap.specs.Values.{bool_text}
 use Rattle.clap.specs.Words.{ReadsOne, Row, all_of, is_simple, one_of, one_text, rows_of}
 use Rattle.clap.specs.declared.parser.matches.Found.{Found}
 use Rattle.player.specs.Words.{HoldsForm, HoldsNumbers, IsFormOf, is_frames, is_json, replay_app}
-use Rattle.player.specs.declared.form.Form.{Form}
+use Rattle.player.specs.declared.options.form.Form.{Form}
 use Rattle.player.specs.declared.options.Options.{Options}
 use Rattle.player.proofs.Numbers.{Some-injective}
 use Rattle.clap.proofs.WalkLemmas.{one_text-rows}

@@ -7,8 +7,8 @@ use Rattle.std.proofs.lemmas.List.{map-append}
 use Rattle.std.proofs.lemmas.List.Elements.{All-push}
 use Rattle.keyspace.specs.declared.answer.Answer.{Answer}
 use Rattle.lane.specs.Lane.{IntakeView, IntakeGoesOn}
-use Rattle.player.specs.declared.form.Form.{Form}
-use Rattle.player.specs.declared.inbox.Inbox.{Inbox}
+use Rattle.player.specs.declared.options.form.Form.{Form}
+use Rattle.player.specs.declared.running.inbox.Inbox.{Inbox}
 use Rattle.player.specs.declared.line.Line.{Line}
 use Rattle.player.specs.Line.{answer_of, answers_of, IsLineOf}
 use Rattle.player.specs.Inbox.{KeepsLines, InboxGoesOn}

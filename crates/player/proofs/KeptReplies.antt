@@ -9,7 +9,7 @@ use Rattle.keyspace.specs.declared.answer.Answer.TheVariants as answer
 use Rattle.keyspace.specs.declared.reply.Reply.{Reply}
 use Rattle.checking.specs.Check.{TakesMemory, check_text, count_at, count_differences}
 use Rattle.checking.specs.Difference.{expected, expected_by}
-use Rattle.player.specs.declared.form.Form.TheVariants.{Kept}
+use Rattle.player.specs.declared.options.form.Form.TheVariants.{Kept}
 use Rattle.player.specs.declared.line.Line.{Line}
 use Rattle.player.specs.Line.{AreLines, IsLineOf, answer_of, answers_of, kept_of}
 use Rattle.player.specs.Checked.{TakesToCompare, check_lines, count_lines, differences_of, replies_kept}

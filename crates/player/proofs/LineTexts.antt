@@ -4,7 +4,7 @@ use Rattle.std.specs.List.{All, flat_map, enumerate_from}
 use Rattle.std.proofs.Common.{refl, ap, ◌∙◌, subst, arith}
 use Rattle.std.proofs.lemmas.List.Elements.{All-head, All-tail}
 use Rattle.keyspace.specs.Answer.{version_of_answer}
-use Rattle.player.specs.declared.form.Form.{Form}
+use Rattle.player.specs.declared.options.form.Form.{Form}
 use Rattle.player.specs.declared.line.Line.{Line}
 use Rattle.player.specs.Line.{answer_of, answers_of, version_of_line, IsLineOf, AreLines, text_of, texts}
 use Rattle.checking.specs.InOrder.{in_order_by}

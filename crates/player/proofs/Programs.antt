@@ -4,11 +4,11 @@ use Rattle.std.specs.Io.KnownBytes.{Keeps}
 use Rattle.std.proofs.Common.{refl, sym, ◌∙◌, subst, inl, inr}
 use Rattle.player.specs.declared.opening.OpeningError.{OpeningError}
 use Rattle.player.specs.declared.opening.OpeningError.TheVariants as opening
-use Rattle.player.specs.declared.form.Form.{Form}
-use Rattle.player.specs.declared.form.Form.TheVariants.{Words, Frames, Json, Kept}
+use Rattle.player.specs.declared.options.form.Form.{Form}
+use Rattle.player.specs.declared.options.form.Form.TheVariants.{Words, Frames, Json, Kept}
 use Rattle.player.specs.declared.options.Options.{Options}
-use Rattle.player.specs.declared.refusal.Refusal.{Refusal}
-use Rattle.player.specs.declared.refusal.Refusal.TheVariants as refusal
+use Rattle.player.specs.declared.words.refusal.Refusal.{Refusal}
+use Rattle.player.specs.declared.words.refusal.Refusal.TheVariants as refusal
 use Rattle.player.specs.declared.start.StartError.TheVariants as start
 use Rattle.player.specs.declared.status.Status.{Status}
 use Rattle.player.specs.declared.status.Status.TheVariants.{Done, Failed, Usage, Differs}

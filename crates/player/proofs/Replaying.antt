@@ -11,8 +11,8 @@ use Rattle.player.specs.declared.failures.Ending.{Ending}
 use Rattle.player.specs.declared.failures.Ending.TheVariants.{Complete, Incomplete, Stopped}
 use Rattle.player.specs.declared.failures.ProxyFailure.{ProxyFailure}
 use Rattle.player.specs.declared.line.Line.{Line}
-use Rattle.player.specs.declared.lines.PrintError.{PrintError}
-use Rattle.player.specs.declared.lines.PrintError.TheVariants as print
+use Rattle.player.specs.declared.report.lines.PrintError.{PrintError}
+use Rattle.player.specs.declared.report.lines.PrintError.TheVariants as print
 use Rattle.player.specs.declared.options.Options.{Options}
 use Rattle.player.specs.Failures.{failure_lines, with_loss, IsClean, NothingFailed}
 use Rattle.player.specs.Line.{answers_of, AreLines}

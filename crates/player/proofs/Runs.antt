@@ -13,8 +13,8 @@ use Rattle.resolver.specs.Settled.{Settled, SettledFor}
 use Rattle.player.specs.declared.failures.ProxyFailure.{ProxyFailure}
 use Rattle.player.specs.declared.line.Line.{Line}
 use Rattle.player.specs.declared.options.Options.{Options}
-use Rattle.player.specs.declared.outcome.Outcome.{Outcome}
-use Rattle.player.specs.declared.worker.Finished.{Finished}
+use Rattle.player.specs.declared.running.outcome.Outcome.{Outcome}
+use Rattle.player.specs.declared.running.worker.Finished.{Finished}
 use Rattle.player.specs.Worker.{HasWorked}
 use Rattle.player.specs.Threads.{given_each, HasWorkedOn, IsOutcomeOf, failure_of}
 use Rattle.player.specs.Run.{IsServed, LeavesBatch, IsRun, is_complete}

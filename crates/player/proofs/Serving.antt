@@ -8,8 +8,8 @@ use Rattle.keyspace.specs.Run.{Step, part}
 use Rattle.resolver.specs.declared.client.Client.{Client}
 use Rattle.resolver.specs.declared.stop.Stop.{Stop}
 use Rattle.resolver.specs.Settled.{SettledFor}
-use Rattle.player.specs.declared.form.Form.{Form}
-use Rattle.player.specs.declared.worker.Finished.{Finished}
+use Rattle.player.specs.declared.options.form.Form.{Form}
+use Rattle.player.specs.declared.running.worker.Finished.{Finished}
 use Rattle.player.specs.Line.{answers_of}
 use Rattle.player.specs.Worker.{HasWorked, TakesFrames}
 use Rattle.player.specs.Threads.{failure_of}

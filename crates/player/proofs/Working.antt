@@ -10,9 +10,9 @@ use Rattle.keyspace.specs.declared.batch.Batch.{Batch}
 use Rattle.lane.specs.Lane.{HasEnded}
 use Rattle.resolver.specs.declared.client.Client.{Client}
 use Rattle.resolver.specs.Resolver.{IsNewClient, SameClients}
-use Rattle.player.specs.declared.form.Form.{Form}
-use Rattle.player.specs.declared.outcome.Outcome.{Outcome}
-use Rattle.player.specs.declared.worker.Finished.{Finished}
+use Rattle.player.specs.declared.options.form.Form.{Form}
+use Rattle.player.specs.declared.running.outcome.Outcome.{Outcome}
+use Rattle.player.specs.declared.running.worker.Finished.{Finished}
 use Rattle.player.specs.Worker.{HasWorked, ClientGoesOn}
 use Rattle.player.specs.Threads.{Given, given_each, HasWorkedOn, HandsBack, IsOutcomeOf, failure_of}
 use Rattle.player.specs.Run.{HasCapacity}

@@ -3,9 +3,9 @@ use Rattle.std.specs.Prelude.{◌≡◌, ℕ, Bool, false, List, [], ◌++◌}
 use Rattle.std.specs.List.{All}
 use Rattle.keyspace.specs.declared.answer.Answer.{Answer}
 use Rattle.lane.specs.Lane.{IntakeGoesOn}
-use Rattle.player.specs.declared.form.Form.{Form}
+use Rattle.player.specs.declared.options.form.Form.{Form}
 use Rattle.player.specs.declared.line.Line.{Line}
-use Rattle.player.specs.declared.inbox.Inbox.{Inbox}
+use Rattle.player.specs.declared.running.inbox.Inbox.{Inbox}
 use Rattle.player.specs.Line.{answers_of, IsLineOf}
 
 -- These lines are of the answers taken since `before`, in order. After a loss the last of them have no line.

@@ -6,8 +6,8 @@ use Rattle.keyspace.specs.declared.answer.Answer.TheVariants as answer
 use Rattle.keyspace.specs.declared.reply.Reply.{Reply}
 use Rattle.keyspace.specs.Answer.{version_of_answer}
 use Rattle.checking.specs.Check.{count_at}
-use Rattle.player.specs.declared.form.Form.{Form}
-use Rattle.player.specs.declared.form.Form.TheVariants.{Words, Frames, Json, Kept}
+use Rattle.player.specs.declared.options.form.Form.{Form}
+use Rattle.player.specs.declared.options.form.Form.TheVariants.{Words, Frames, Json, Kept}
 use Rattle.player.specs.declared.line.Line.{Line}
 use Rattle.player.specs.Lines.{line}
 

@@ -13,8 +13,8 @@ use Rattle.keyspace.specs.declared.reply.Entry.{Entry}
 use Rattle.keyspace.specs.declared.reply.Verdict.{Verdict}
 use Rattle.keyspace.specs.declared.reply.Verdict.TheVariants.{Conflict, TooOld, Committed}
 use Rattle.checking.specs.InOrder.{in_order_by}
-use Rattle.player.specs.declared.form.Form.{Form}
-use Rattle.player.specs.declared.form.Form.TheVariants.{Words, Frames, Json, Kept}
+use Rattle.player.specs.declared.options.form.Form.{Form}
+use Rattle.player.specs.declared.options.form.Form.TheVariants.{Words, Frames, Json, Kept}
 
 -- a conflict, with the places of its report where it has any
 abbrev pub conflict_word : List ℕ → List ℕ

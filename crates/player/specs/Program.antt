@@ -5,9 +5,9 @@ use Rattle.clap.specs.Words.{all_of}
 use Rattle.keyspace.specs.declared.reply.Reply.{Reply}
 use Rattle.resolver.specs.declared.sequential.TheConstants.{MAX_PROXIES}
 use Rattle.player.specs.declared.opening.OpeningError.TheVariants as opening
-use Rattle.player.specs.declared.form.Form.TheVariants.{Kept}
+use Rattle.player.specs.declared.options.form.Form.TheVariants.{Kept}
 use Rattle.player.specs.declared.options.Options.{Options}
-use Rattle.player.specs.declared.replies.RepliesError.{RepliesError}
+use Rattle.player.specs.declared.check.replies.RepliesError.{RepliesError}
 use Rattle.player.specs.declared.start.StartError.TheVariants as start
 use Rattle.player.specs.Opening.{IsFirstRefused, contents_each, opening_line}
 use Rattle.player.specs.Checked.{TakesToCompare, check_lines}

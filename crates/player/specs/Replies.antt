@@ -6,8 +6,8 @@ use Rattle.keyspace.specs.declared.reply.Reply.{Reply}
 use Rattle.wire.specs.declared.error.WireError.{WireError}
 use Rattle.wire.specs.declared.error.WireError.TheVariants as wire
 use Rattle.wire.specs.NextReply.{IsReplyFaultOf, TakesReply}
-use Rattle.player.specs.declared.replies.RepliesError.{RepliesError}
-use Rattle.player.specs.declared.replies.RepliesError.TheVariants.{CannotOpen, Fault, Memory}
+use Rattle.player.specs.declared.check.replies.RepliesError.{RepliesError}
+use Rattle.player.specs.declared.check.replies.RepliesError.TheVariants.{CannotOpen, Fault, Memory}
 use Rattle.player.specs.declared.start.StartError.TheVariants as start
 use Rattle.player.specs.Failures.{fault_name}
 use Rattle.player.specs.Opening.{IsFirstRefused, contents_each}

@@ -14,10 +14,10 @@ use Rattle.resolver.specs.declared.turn.Account.{Account}
 use Rattle.resolver.specs.Books.{IsBeginning}
 use Rattle.resolver.specs.Resolver.{TakesOnlyFrom, FinishesLast}
 use Rattle.player.specs.declared.failures.ProxyFailure.{ProxyFailure}
-use Rattle.player.specs.declared.form.Form.{Form}
+use Rattle.player.specs.declared.options.form.Form.{Form}
 use Rattle.player.specs.declared.line.Line.{Line}
 use Rattle.player.specs.declared.options.Options.{Options}
-use Rattle.player.specs.declared.outcome.Outcome.{Outcome}
+use Rattle.player.specs.declared.running.outcome.Outcome.{Outcome}
 use Rattle.player.specs.Line.{answers_of, IsLineOf}
 use Rattle.player.specs.Stops.{IsStopOf}
 use Rattle.player.specs.Worker.{TakesFrames}

@@ -4,12 +4,12 @@ use Rattle.std.specs.List.{All}
 use Rattle.keyspace.specs.declared.batch.Batch.{Batch}
 use Rattle.resolver.specs.declared.client.Client.{Client}
 use Rattle.player.specs.declared.failures.ProxyFailure.{ProxyFailure}
-use Rattle.player.specs.declared.form.Form.{Form}
-use Rattle.player.specs.declared.outcome.Outcome.{Outcome}
-use Rattle.player.specs.declared.worker.Finished.{Finished}
-use Rattle.player.specs.declared.threads.Task.{Task}
-use Rattle.player.specs.declared.threads.Work.{Work}
-use Rattle.player.specs.declared.threads.Started.{Started}
+use Rattle.player.specs.declared.options.form.Form.{Form}
+use Rattle.player.specs.declared.running.outcome.Outcome.{Outcome}
+use Rattle.player.specs.declared.running.worker.Finished.{Finished}
+use Rattle.player.specs.declared.running.threads.Task.{Task}
+use Rattle.player.specs.declared.running.threads.Work.{Work}
+use Rattle.player.specs.declared.running.threads.Started.{Started}
 use Rattle.player.specs.Worker.{HasWorked}
 
 -- what a worker is given

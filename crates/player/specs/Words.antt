@@ -12,11 +12,11 @@ use Rattle.lane.specs.declared.ends.TheConstants.{MAX_CAPACITY}
 use Rattle.conflict.specs.declared.conflict_set.TheConstants.{MAX_WINDOW}
 use Rattle.stepmap.specs.declared.step_map.TheConstants.{MAX_LIMIT}
 use Rattle.resolver.specs.declared.sequential.TheConstants.{MAX_PROXIES}
-use Rattle.player.specs.declared.form.Form.{Form}
-use Rattle.player.specs.declared.form.Form.TheVariants.{Frames, Json, Kept}
+use Rattle.player.specs.declared.options.form.Form.{Form}
+use Rattle.player.specs.declared.options.form.Form.TheVariants.{Frames, Json, Kept}
 use Rattle.player.specs.declared.options.Options.{Options}
-use Rattle.player.specs.declared.refusal.Refusal.{Refusal}
-use Rattle.player.specs.declared.refusal.Refusal.TheVariants.{Memory, Refused, Shown}
+use Rattle.player.specs.declared.words.refusal.Refusal.{Refusal}
+use Rattle.player.specs.declared.words.refusal.Refusal.TheVariants.{Memory, Refused, Shown}
 
 -- an option `--name N` with this default
 abbrev pub number_rule : List ℕ → List ℕ → ValueParser → Rule

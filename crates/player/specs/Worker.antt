@@ -9,10 +9,10 @@ use Rattle.wire.specs.declared.error.WireError.{WireError}
 use Rattle.wire.specs.declared.error.WireError.TheVariants as wire
 use Rattle.wire.specs.NextFrame.{TakesFrame, IsFaultOf}
 use Rattle.resolver.specs.declared.client.Client.{Client}
-use Rattle.player.specs.declared.form.Form.{Form}
-use Rattle.player.specs.declared.worker.Finished.{Finished}
-use Rattle.player.specs.declared.worker.FileEnd.{FileEnd}
-use Rattle.player.specs.declared.worker.FileEnd.TheVariants.{Reached, Fault, Unsent}
+use Rattle.player.specs.declared.options.form.Form.{Form}
+use Rattle.player.specs.declared.running.worker.Finished.{Finished}
+use Rattle.player.specs.declared.running.worker.FileEnd.{FileEnd}
+use Rattle.player.specs.declared.running.worker.FileEnd.TheVariants.{Reached, Fault, Unsent}
 use Rattle.player.specs.Inbox.{KeepsLines}
 use Rattle.flow.specs.declared.told.Stand.{Stand}
 use Rattle.flow.specs.Share.{unanswered}

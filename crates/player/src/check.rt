@@ -4,14 +4,11 @@ ghost use Rattle.std.specs.Prelude.{◌≡◌, ◌≢◌, ◌≤◌, map, vec_it
 ghost use Rattle.std.specs.Io.KnownBytes.{Keeps};
 ghost use Rattle.player.specs.Replayed.{FailsToPrint, IsChecked, written};
 ghost use Rattle.player.specs.Checked.{TakesToCompare, check_lines};
-ghost use Rattle.player.specs.declared.form.Form.TheVariants.{Kept};
+ghost use Rattle.player.specs.declared.options.form.Form.TheVariants.{Kept};
 
-use crate::check_report::print_check;
 use crate::failures::Ending;
-use crate::gatekeeper::Gatekeeper;
 use crate::options::Options;
-use crate::outcome::Outcome;
-use crate::running::run;
+use crate::running::{Gatekeeper, Outcome, run};
 use crate::start::fail_to_start;
 use crate::status::Status;
 use keyspace::Reply;
@@ -20,6 +17,12 @@ use std::alloc::Global;
 use std::sync::{Arc, Wait};
 use std::thread::Threads;
 use wire::{Sink, Source};
+
+mod replies;
+mod report;
+
+pub use replies::{RepliesError, fail_to_read_replies, read_replies};
+pub use report::{CheckReport, print_check};
 
 /// Replays the files of these readers as [`replay_over`](crate::replay_over) does, and compares the answers with the replies that
 /// were recorded of each proxy, at its place. Prints a line for each difference and a last line to `out`, and one line a failure to

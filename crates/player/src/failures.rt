@@ -1,10 +1,10 @@
 //! What failed, and its lines on standard error.
 
-ghost use Rattle.std.specs.Prelude.{◌≡◌, ◌↔◌, ◌<◌, ◌≤◌, length, IsErr, IsTrue, MatchOption, OnErr, OnOk, if◌then◌else◌};
+ghost use Rattle.std.specs.Prelude.{◌≡◌, ◌↔◌, ◌<◌, ◌≤◌, ◌++◌, codes, decimal, length, IsErr, IsTrue, MatchOption, OnErr, OnOk, if◌then◌else◌};
 ghost use Rattle.std.specs.Io.KnownBytes.{Appends, Keeps};
 ghost use Rattle.player.specs.Failures.{fault_name, stop_name, fault_line, loss_line, lines_of_failure, proxy_lines, ending_line, failure_lines, with_loss, IsClean, NothingFailed};
 
-use crate::begin_line::begin_line;
+use itoa::Buffer;
 use resolver::Stop;
 use wire::{Failed, Sink, WireError, write_all};
 
@@ -85,6 +85,18 @@ pub fn print_failures<W: Sink>(
 {
     print_proxies(error, failures)?;
     print_ending(error, ending)
+}
+
+/// Writes `replay: proxy ` and the number of the proxy. Takes no memory.
+pub fn begin_line<W: Sink>(error: &mut W, proxy: usize) -> Result<(), Failed>
+    ensures text { OnOk result (Appends (W.given error.old) (W.given error.new)
+        (codes "replay: proxy " ++ decimal proxy)) }
+    ensures ok { OnOk result (W.failures error.new ≡ W.failures error.old) }
+    ensures failed { OnErr result (W.failures error.old < W.failures error.new) }
+{
+    let mut buffer = Buffer::new();
+    write_all(error, b"replay: proxy ")?;
+    write_all(error, buffer.format(proxy).as_bytes())
 }
 
 fn print_proxies<W: Sink>(error: &mut W, failures: &[ProxyFailure]) -> Result<(), Failed>

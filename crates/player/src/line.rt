@@ -6,15 +6,17 @@ ghost use Rattle.keyspace.specs.Answer.{version_of_answer};
 ghost use Rattle.player.specs.Lines.{conflict_word, entry_word, words, frame_word, line, outcome, plain_line};
 ghost use Rattle.player.specs.Line.{IsLineOf, answer_of, kept_of, version_of_line};
 
-use crate::form::Form;
-use crate::json::print_json;
+use crate::options::Form;
 use checking::Versioned;
+use json::print_json;
 use keyspace::{Answer, Entry, Reply, Verdict};
 use std::alloc::Global;
 use std::io;
 use std::io::Write;
 use std::snapshot::Snapshot;
 use wire::encode_reply;
+
+mod json;
 
 /// The line of an answer to a proxy, ready to be printed, or the reply where it is kept.
 #[derive(Drop)]

@@ -4,12 +4,15 @@ ghost use Rattle.std.specs.Prelude.{◌≡◌, ◌↔◌, ◌<◌, ◌≤◌, �
 ghost use Rattle.std.specs.Io.KnownBytes.{Appends};
 ghost use Rattle.player.specs.Opening.{IsFirstRefused, contents_each, opening_line};
 
-use crate::begin_line::begin_line;
-use crate::files::{FileError, Files};
+use crate::failures::begin_line;
 use crate::start::{StartError, print_start_error};
 use crate::status::Status;
 use std::alloc::{AllocError, Global};
 use wire::{Failed, Sink, write_all};
+
+mod files;
+
+pub use files::{FileError, Files};
 
 /// Why the files were not opened.
 #[derive(Clone, Copy, Debug, PartialEq, Eq)]

@@ -5,13 +5,16 @@ ghost use Rattle.keyspace.specs.declared.TheConstants.{WINDOW};
 ghost use Rattle.lane.specs.declared.ends.TheConstants.{MAX_CAPACITY};
 ghost use Rattle.conflict.specs.declared.conflict_set.TheConstants.{MAX_WINDOW};
 ghost use Rattle.stepmap.specs.declared.step_map.TheConstants.{MAX_LIMIT};
-ghost use Rattle.player.specs.declared.form.Form.TheVariants.{Words};
+ghost use Rattle.player.specs.declared.options.form.Form.TheVariants.{Words};
 
-use crate::form::Form;
 use conflict::MAX_WINDOW;
 use keyspace::WINDOW;
 use lane::MAX_CAPACITY;
 use stepmap::MAX_LIMIT;
+
+mod form;
+
+pub use form::Form;
 
 /// How a run is set up, each option within its range.
 #[derive(Clone, Copy, Debug, PartialEq, Eq)]

@@ -8,12 +8,10 @@ ghost use Rattle.player.specs.Program.{ChecksFiles, FailsOnFiles, FailsToCheck, 
 ghost use Rattle.player.specs.Replayed.{IsReplayed, written};
 ghost use Rattle.player.specs.Words.{IsMistaken};
 
-use crate::check::check_over;
-use crate::files::Files;
-use crate::form::Form;
-use crate::opening::{fail_to_open, open_files};
+use crate::check::{check_over, fail_to_read_replies, read_replies};
+use crate::opening::{Files, fail_to_open, open_files};
+use crate::options::Form;
 use crate::replay::replay_over;
-use crate::replies::{fail_to_read_replies, read_replies};
 use crate::start::{StartError, fail_to_start};
 use crate::status::Status;
 use crate::words::{CommandLine, read_words};
@@ -22,6 +20,10 @@ use std::alloc::{AllocError, Global};
 use std::sync::{Arc, Wait};
 use std::thread::Threads;
 use wire::Sink;
+
+mod environment;
+
+pub use environment::run_in;
 
 /// Runs the program on the words of its command line, of which the first is the program's name. Help is printed to `out`, and
 /// why words are refused to `error`; else the files are replayed, as [`replay_files`] does.

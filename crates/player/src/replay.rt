@@ -5,11 +5,9 @@ ghost use Rattle.std.specs.Io.KnownBytes.{Keeps};
 ghost use Rattle.player.specs.Replayed.{IsReplayed, FailsToReplay, written};
 
 use crate::failures::Ending;
-use crate::gatekeeper::Gatekeeper;
 use crate::options::Options;
-use crate::outcome::Outcome;
 use crate::report::print_report;
-use crate::running::run;
+use crate::running::{Gatekeeper, Outcome, run};
 use crate::start::fail_to_start;
 use crate::status::Status;
 use resolver::MAX_PROXIES;

@@ -5,14 +5,17 @@ ghost use Rattle.std.specs.Io.KnownBytes.{Appends, Keeps};
 ghost use Rattle.player.specs.Failures.{failure_lines, with_loss, NothingFailed};
 ghost use Rattle.player.specs.Line.{AreLines, TakesToSort, answers_of};
 ghost use Rattle.player.specs.Lines.{lines};
-ghost use Rattle.player.specs.declared.form.Form.{Form};
+ghost use Rattle.player.specs.declared.options.form.Form.{Form};
 
 use crate::failures::{Ending, ProxyFailure, note_loss, nothing_failed, print_failures};
 use crate::line::Line;
-use crate::lines::{PrintError, print_answers};
 use crate::status::Status;
 use std::alloc::Global;
 use wire::{Failed, Sink};
+
+mod lines;
+
+pub use lines::{PrintError, print_answers};
 
 /// What was printed, and how the program ends.
 #[derive(Debug, Drop)]

@@ -10,18 +10,28 @@ ghost use Rattle.resolver.specs.Resolver.{IsResolving, IsThrough};
 ghost use Rattle.player.specs.Run.{HasCapacity, IsRun, is_complete};
 ghost use Rattle.player.specs.Stops.{IsAccountedFor};
 
-use crate::gatekeeper::Gatekeeper;
 use crate::options::Options;
-use crate::outcome::Outcome;
 use crate::start::StartError;
-use crate::threads::{join_all, start_workers};
-use crate::watch::Watch;
 use resolver::{Account, Resolver, Turn, open};
 use std::alloc::Global;
 use std::sync::{Arc, Wait};
 use std::thread;
 use std::thread::Threads;
+use threads::{join_all, start_workers};
+use watch::Watch;
 use wire::Source;
+
+mod gatekeeper;
+mod inbox;
+mod outcome;
+mod pause;
+mod threads;
+mod watch;
+mod worker;
+
+pub use gatekeeper::{AlwaysOpen, Gatekeeper};
+pub use outcome::Outcome;
+pub use worker::{Assignment, Finished, work};
 
 /// Runs a worker for each reader, in a thread of its own, and turns the resolver until it is done or has stopped. Returns what
 /// the workers hand back, and the account of the resolver.

@@ -4,16 +4,18 @@ ghost use Rattle.std.specs.Prelude.{◌≡◌, ◌≢◌, ◌≤◌, IfErr, IfOk
 ghost use Rattle.clap.specs.Words.{all_of, found_of, rows_of};
 ghost use Rattle.player.specs.Words.{AsksForText, HasFiles, HasForm, HasNumbers, HasReplies, HoldsForm, HoldsNumbers, HoldsOptions, IsFormOf, IsMistaken, IsRefusalBy, IsRefusalOf, IsTaken, faults_of, rows_of_words};
 ghost use Rattle.clap.specs.declared.error.kind.ErrorKind.{ErrorKind};
-ghost use Rattle.player.specs.declared.form.Form.{Form as FormValue};
+ghost use Rattle.player.specs.declared.options.form.Form.{Form as FormValue};
 
-use crate::command::command;
-use crate::form::Form;
-use crate::options::Options;
-use crate::refusal::Refusal;
+use crate::options::{Form, Options};
 use clap::ArgMatches;
 use clap::error::ErrorKind;
 use resolver::MAX_PROXIES;
 use std::alloc::{AllocError, Global};
+
+mod command;
+mod refusal;
+
+pub use refusal::Refusal;
 
 /// What the command line asks for. `Options` keeps its numbers within their ranges.
 #[derive(Debug, Drop)]
@@ -69,7 +71,7 @@ pub fn read_words<'a>(alloc: Global, words: &'a [String]) -> Result<CommandLine<
 fn refuse(alloc: Global, kind: ErrorKind, message: &str) -> Result<Refusal, AllocError>
     ensures refusal { IfOk result (IsRefusalOf kind) }
 {
-    let error = command(alloc)?.error(kind, message)?;
+    let error = command::command(alloc)?.error(kind, message)?;
     Refusal::of_clap(alloc, &error)
 }
 
@@ -79,7 +81,7 @@ fn parse<'a>(alloc: Global, words: &'a [String]) -> Result<ArgMatches<'a>, Refus
     ensures taken { OnOk result (IsTaken (map string_bytes words.entry.now)) }
     ensures refusal { IfErr result (IsRefusalBy (faults_of (map string_bytes words.entry.now))) }
 {
-    match command(alloc)?.try_get_matches_from(words) {
+    match command::command(alloc)?.try_get_matches_from(words) {
         Ok(matches) => Ok(matches),
         Err(error) => Err(Refusal::of_clap(alloc, &error)?),
     }

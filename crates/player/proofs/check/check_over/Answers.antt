@@ -4,7 +4,7 @@ use Rattle.std.proofs.lemmas.List.{length-map}
 use Rattle.keyspace.specs.declared.reply.Reply.{Reply}
 use Rattle.player.specs.declared.failures.Ending.{Ending}
 use Rattle.player.specs.declared.failures.ProxyFailure.{ProxyFailure}
-use Rattle.player.specs.declared.form.Form.{Form}
+use Rattle.player.specs.declared.options.form.Form.{Form}
 use Rattle.player.specs.declared.line.Line.{Line}
 use Rattle.player.specs.Checked.{TakesToCompare, check_lines, differences_of}
 use Rattle.player.specs.Failures.{failure_lines, NothingFailed}

@@ -11,8 +11,8 @@ use Rattle.resolver.specs.Resolver.{AreClients, SameClients}
 use Rattle.resolver.specs.Settled.{Settled}
 use Rattle.resolver.specs.Share.{share_of}
 use Rattle.resolver.proofs.callers.Lists.{written_back}
-use Rattle.player.specs.declared.worker.Finished.{Finished}
-use Rattle.player.specs.declared.outcome.Outcome.{Outcome}
+use Rattle.player.specs.declared.running.worker.Finished.{Finished}
+use Rattle.player.specs.declared.running.outcome.Outcome.{Outcome}
 use Rattle.player.specs.Threads.{given_each, given_to, HasWorkedOn, IsOutcomeOf}
 use Rattle.player.specs.Run.{HasCapacity}
 use Rattle.player.specs.Stops.{IsStopOf}
