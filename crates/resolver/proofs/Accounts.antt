@@ -14,14 +14,14 @@ use Rattle.resolver.specs.declared.stop.Stop.{Stop}
 use Rattle.resolver.specs.declared.turn.Account.{Account}
 use Rattle.resolver.specs.declared.client.Client.{Client}
 use Rattle.resolver.specs.Owed.{owed_to, owed_count}
-use Rattle.resolver.specs.Books.{Books, Given, IsBeginning, made_to}
+use Rattle.resolver.specs.Core.{CoreState, Given, IsBeginning, made_to}
 use Rattle.resolver.specs.Stands.{StandsBy}
 use Rattle.resolver.specs.Lanes.{Lanes, all_ended, sent_to}
 use Rattle.resolver.specs.Resolver.{StandsOver, TakesOnlyFrom, FinishesBy, FinishesLast}
 use Rattle.resolver.specs.Links.{LinkView, Parts, AreParts, lanes_of, owed_with, resolver_of}
 use Rattle.resolver.specs.Settled.{Settled, SettledFor, IsComplete}
 use Rattle.resolver.proofs.Growing.{begins_itself, begins_then}
-use Rattle.resolver.proofs.Standing.{AreOf-standing}
+use Rattle.resolver.proofs.Standing.{IsIn-standing}
 use Rattle.resolver.proofs.OnlyFrom.{stands_only}
 use Rattle.resolver.proofs.Settling.{lanes_at}
 use Rattle.resolver.proofs.Unchanged.{LanesHold, slice_get_inside}
@@ -34,13 +34,13 @@ begins_whole xs ys begins same =
     sym (append-nil xs) ∙ ap (λ rest. xs ++ rest) (sym none) ∙ sym begins.1
 
 -- the answers made to a proxy begin those of the reference resolver
-pub made_begins : (stop : Option Stop) (log : List Step) (given : Given) (books : Books)
-    → StandsBy stop log given books → (proxy : ℕ) → proxy < length books.owed
-    → IsBeginning (made_to proxy given books) (answers books.set.window log proxy)
-made_begins None log given books stands proxy inside =
-    subst (IsBeginning (made_to proxy given books)) (stands.answers proxy inside)
-    (begins_itself (made_to proxy given books))
-made_begins (Some stop) log given books stands proxy inside = stands.made.no_others proxy inside
+pub made_begins : (stop : Option Stop) (log : List Step) (given : Given) (core : CoreState)
+    → StandsBy stop log given core → (proxy : ℕ) → proxy < length core.owed
+    → IsBeginning (made_to proxy given core) (answers core.set.window log proxy)
+made_begins None log given core stands proxy inside =
+    subst (IsBeginning (made_to proxy given core)) (stands.answers proxy inside)
+    (begins_itself (made_to proxy given core))
+made_begins (Some stop) log given core stands proxy inside = stands.made.no_others proxy inside
 
 -- where nothing is owed, nothing is owed to the proxy
 owed_none : (owed : List (List Answer)) (proxy : ℕ) → owed_count owed ≡ 0 → proxy < length owed
@@ -74,8 +74,8 @@ module _ (p : Parts) (are : AreParts p) (clients : List Client) (count : length 
   abbrev lanes : List Lanes
   lanes = lanes_of p.links
 
-  abbrev books : Books
-  books = (resolver_of p).core.books
+  abbrev core : CoreState
+  core = (resolver_of p).core
 
   -- a field of a link's lanes, read from the list of that field
   field : (proxy : ℕ) (l : LinkView) → slice_get p.links proxy ≡ Some l → {A : Type 0} (f : Lanes → A) (d : A)
@@ -142,10 +142,10 @@ module _ (p : Parts) (are : AreParts p) (clients : List Client) (count : length 
         subst (λ ended. FinishesBy ended log) (have_ended complete) (stands.finish complete.no_stop)
 
     -- and so no batch is held
-    holds_none : NoneIsHeldAfterFinish → IsComplete (resolver_of p) clients → (run books.set.window log).held ≡ []
+    holds_none : NoneIsHeldAfterFinish → IsComplete (resolver_of p) clients → (run core.set.window log).held ≡ []
     holds_none none complete =
         let last = finishes complete in
-        subst (λ steps. (run books.set.window steps).held ≡ []) (sym last.1) (none books.set.window last.0)
+        subst (λ steps. (run core.set.window steps).held ≡ []) (sym last.1) (none core.set.window last.0)
 
     module _ (proxy : ℕ) (c : Client) (l : LinkView) (c_at : slice_get clients proxy ≡ Some c)
         (l_at : slice_get p.links proxy ≡ Some l) (requests : Lane c.requests l.lanes.requests)
@@ -153,10 +153,10 @@ module _ (p : Parts) (are : AreParts p) (clients : List Client) (count : length 
       at : slice_get lanes proxy ≡ Some l.lanes
       at = lanes_at p.links proxy l l_at
 
-      inside : proxy < length books.owed
+      inside : proxy < length core.owed
       inside =
           let within = slice_get_within p.links proxy l l_at in
-          let many = length-owed_with p.links p.core.books.owed are.count in
+          let many = length-owed_with p.links p.core.owed are.count in
           omega (arith, within, many)
 
       sent_is : sent_to lanes proxy ≡ l.lanes.replies.sent
@@ -165,25 +165,25 @@ module _ (p : Parts) (are : AreParts p) (clients : List Client) (count : length 
       part_is : part log proxy ≡ l.lanes.requests.taken
       part_is = stands.parts proxy ∙ field proxy l l_at (λ k. k.requests.taken) []
 
-      made_is : made_to proxy (sent_to lanes) books ≡ l.lanes.replies.sent ++ owed_to proxy books.owed
-      made_is = ap (λ sent. sent ++ owed_to proxy books.owed) sent_is
+      made_is : made_to proxy (sent_to lanes) core ≡ l.lanes.replies.sent ++ owed_to proxy core.owed
+      made_is = ap (λ sent. sent ++ owed_to proxy core.owed) sent_is
 
       -- what was sent begins the answers of the reference resolver
-      sent_begins : IsBeginning l.lanes.replies.sent (answers books.set.window log proxy)
+      sent_begins : IsBeginning l.lanes.replies.sent (answers core.set.window log proxy)
       sent_begins =
-          begins_then l.lanes.replies.sent (made_to proxy (sent_to lanes) books) (answers books.set.window log proxy)
-          (owed_to proxy books.owed, made_is)
-          (made_begins p.core.stop log (sent_to lanes) books stands.core proxy inside)
+          begins_then l.lanes.replies.sent (made_to proxy (sent_to lanes) core) (answers core.set.window log proxy)
+          (owed_to proxy core.owed, made_is)
+          (made_begins p.core.stop log (sent_to lanes) core stands.core proxy inside)
 
       -- and is all of them, where all is complete
       sent_all : IsComplete (resolver_of p) clients
-          → l.lanes.replies.sent ≡ answers books.set.window log proxy
+          → l.lanes.replies.sent ≡ answers core.set.window log proxy
       sent_all complete =
           let through = are.through (was_closed complete) in
-          let state = AreOf-standing p.core.stop log (sent_to lanes) books complete.no_stop stands.core in
+          let state = IsIn-standing p.core.stop log (sent_to lanes) core complete.no_stop stands.core in
           sym (append-nil l.lanes.replies.sent)
           ∙ ap (λ owed. l.lanes.replies.sent ++ owed)
-          (sym (owed_none books.owed proxy through.nothing_owed inside))
+          (sym (owed_none core.owed proxy through.nothing_owed inside))
           ∙ sym made_is
           ∙ state.answers proxy inside
 
@@ -193,11 +193,11 @@ module _ (p : Parts) (are : AreParts p) (clients : List Client) (count : length 
           (ended.all ∙ requests.all_seen ended.close)
 
       -- each of its batches has its answer, where none is held
-      one_each : EachBatchIsAnswered → (run books.set.window log).held ≡ []
-          → c.replies.taken ≡ answers books.set.window log proxy → part log proxy ≡ c.requests.sent
+      one_each : EachBatchIsAnswered → (run core.set.window log).held ≡ []
+          → c.replies.taken ≡ answers core.set.window log proxy → part log proxy ≡ c.requests.sent
           → length c.replies.taken ≡ length c.requests.sent
       one_each once none received batches =
-          let told = once books.set.window log proxy in
+          let told = once core.set.window log proxy in
           let left = ap (λ held. length (held_of proxy held)) none in
           let as_answers = ap length received in
           let as_batches = ap length batches in
@@ -205,13 +205,13 @@ module _ (p : Parts) (are : AreParts p) (clients : List Client) (count : length 
 
       pub settled_for : EachBatchIsAnswered → NoneIsHeldAfterFinish → (complete : Bool)
           → (complete ≡ true → IsComplete (resolver_of p) clients)
-          → SettledFor books.set.window log (slice_index_or (map (λ k. k.ended) lanes) proxy true) complete proxy c
+          → SettledFor core.set.window log (slice_index_or (map (λ k. k.ended) lanes) proxy true) complete proxy c
       settled_for once none complete is = record {
         batches = subst (λ taken. IsBeginning taken c.requests.sent) (sym part_is) requests.in_order;
         all_batches = all_batches;
         nothing_after = λ ended. requests.seen_close (has_ended ended).close;
         received =
-            begins_then c.replies.taken l.lanes.replies.sent (answers books.set.window log proxy) replies.in_order
+            begins_then c.replies.taken l.lanes.replies.sent (answers core.set.window log proxy) replies.in_order
             sent_begins;
         all_received = all_received;
         all_ended = every_ended;
@@ -228,7 +228,7 @@ module _ (p : Parts) (are : AreParts p) (clients : List Client) (count : length 
           all_batches : slice_index_or (map (λ k. k.ended) lanes) proxy true ≡ true → part log proxy ≡ c.requests.sent
           all_batches ended = part_is ∙ whole (has_ended ended)
 
-          all_received : complete ≡ true → c.replies.taken ≡ answers books.set.window log proxy
+          all_received : complete ≡ true → c.replies.taken ≡ answers core.set.window log proxy
           all_received done = (is done).taken proxy c c_at ∙ sent_is ∙ sent_all (is done)
 
           every_ended : complete ≡ true → slice_index_or (map (λ k. k.ended) lanes) proxy true ≡ true
@@ -238,14 +238,14 @@ module _ (p : Parts) (are : AreParts p) (clients : List Client) (count : length 
     pub settled : LanesHold p.links clients → RunsAreChains → EachBatchIsAnswered → NoneIsHeldAfterFinish
         → (account : Account)
         → (account.complete ≡ true → IsComplete (resolver_of p) clients) → account.stop ≡ p.core.stop
-        → Settled books.set.window log (map (λ k. k.ended) lanes) clients account
+        → Settled core.set.window log (map (λ k. k.ended) lanes) clients account
     settled holds chains once none account is stop = record {
       each = λ proxy c at.
           let l = link_of proxy c at in
           let both = holds proxy l.0 c l.1 at in
           settled_for proxy c l.0 at l.1 both.0 both.1 once none account.complete is;
       proxies = subst (λ many. TakesOnlyFrom many log) as_many (stands_only (resolver_of p) log stands);
-      chain = chains books.set.window log;
+      chain = chains core.set.window log;
       finish = λ yes. finishes (is yes);
       none_held = λ yes. holds_none none (is yes);
       no_stop = λ yes. stop ∙ (is yes).no_stop;

@@ -22,15 +22,15 @@ ClosedOver old new = record {
   closed : (p : ℕ) (l : Lanes) → slice_get new.lanes p ≡ Some l → (l.replies.closed ≡ true) ↔ IsThrough new;
   core : new.core ≡ old.core;
   lanes : Each (λ _ l m. m ≡ record l { replies = record l.replies { closed = m.replies.closed } }) old.lanes new.lanes;
-  count : length new.core.books.owed ≡ length new.lanes;
+  count : length new.core.owed ≡ length new.lanes;
   next : new.next ≡ old.next;
 }
 
 -- a resolver owes answers to as many proxies as it has lanes
 as_many : (parts : Parts) → AreParts parts
-    → length (resolver_of parts).core.books.owed ≡ length (resolver_of parts).lanes
+    → length (resolver_of parts).core.owed ≡ length (resolver_of parts).lanes
 as_many parts are =
-    owed_with-length parts.links parts.core.books.owed ∙ sym are.count
+    owed_with-length parts.links parts.core.owed ∙ sym are.count
     ∙ sym (length-map parts.links (λ l. l.lanes))
 
 -- the parts of a resolver that is through, and its links with their reply lanes closed
@@ -63,14 +63,14 @@ module _ (parts : Parts) (are : AreParts parts) (through : IsThrough (resolver_o
       list_all-same (λ l. l.ended) (lanes_of parts.links) (lanes_of now) each_lane.count
       (λ p l m at_old at_new. ap (λ (x : Lanes). x.ended) (each_lane.each p l m at_old at_new))
 
-  owed_same : owed_with now parts.core.books.owed ≡ owed_with parts.links parts.core.books.owed
+  owed_same : owed_with now parts.core.owed ≡ owed_with parts.links parts.core.owed
   owed_same =
-      owed_with-same parts.links now parts.core.books.owed each.count
+      owed_with-same parts.links now parts.core.owed each.count
       (λ p k n at_old at_new. ap (λ (x : LinkView). x.waiting) (each.each p k n at_old at_new))
 
   core_same : (resolver_of closed_parts).core ≡ (resolver_of parts).core
   core_same =
-      ap (λ owed. record parts.core { books = record parts.core.books { owed = owed } }) owed_same
+      ap (λ owed. record parts.core { owed = owed }) owed_same
 
   still_through : IsThrough (resolver_of closed_parts)
   still_through = record {
@@ -113,9 +113,9 @@ module _ (parts : Parts) (are : AreParts parts) (through : IsThrough (resolver_o
       let none_sent = field_same (λ (l : Lanes). l.replies.sent) old.lanes new.lanes each_lane.count
       (λ p l m at_old at_new. ap (λ (x : Lanes). x.replies.sent) (each_lane.each p l m at_old at_new)) in
       stands_same old new log refl ended_same none_taken stands
-      (StandsBy-moved (sent_to old.lanes) (sent_to new.lanes) old.core.books new.core.books.owed
+      (StandsBy-moved (sent_to old.lanes) (sent_to new.lanes) old.core new.core.owed
       (ap length owed_same)
-      (λ p _. ap (λ xs. xs ++ owed_to p new.core.books.owed) (none_sent p)
+      (λ p _. ap (λ xs. xs ++ owed_to p new.core.owed) (none_sent p)
       ∙ ap (λ owed. sent_to old.lanes p ++ owed_to p owed) owed_same) old.core.stop log stands.core)
       (λ running p m at closed. ended_of running)
 
@@ -136,9 +136,9 @@ module _ (parts : Parts) (are : AreParts parts) (through : IsThrough (resolver_o
 
 -- as the resolver is read after the calls
 pub as_many_seen : {parts : Parts} {old : ResolverState} → AreParts parts → resolver_of parts ≡ old
-    → length old.core.books.owed ≡ length old.lanes
+    → length old.core.owed ≡ length old.lanes
 as_many_seen {parts} are was =
-    subst (λ (r : ResolverState). length r.core.books.owed ≡ length r.lanes) was (as_many parts are)
+    subst (λ (r : ResolverState). length r.core.owed ≡ length r.lanes) was (as_many parts are)
 
 module _ {parts : Parts} {old : ResolverState} {seen now links : List LinkView} where
   pub closed_all : AreParts parts → resolver_of parts ≡ old → IsThrough old → seen ≡ parts.links

@@ -7,21 +7,21 @@ use Rattle.keyspace.specs.declared.answer.Answer.{Answer}
 use Rattle.keyspace.specs.Run.{State, Step, run, leave, admit, answers_to}
 use Rattle.resolver.specs.declared.stop.Stop.{Stop}
 use Rattle.resolver.specs.Owed.{owed_to}
-use Rattle.resolver.specs.Books.{Books, Given, IsBeginning, AreOf, MadeBetween, StopsIn, StopsAtLimit}
-use Rattle.resolver.specs.Stands.{CoreState, StandsBy, Stands}
+use Rattle.resolver.specs.Core.{CoreState, Given, IsBeginning, IsIn, MadeBetween, StopsIn, StopsAtLimit}
+use Rattle.resolver.specs.Stands.{StandsBy, Stands}
 use Rattle.resolver.specs.Lanes.{Lanes, sent_to}
 use Rattle.resolver.specs.Links.{LinkView, lanes_of, owed_with}
 use Rattle.resolver.proofs.Linked.{field_at, lanes_at, owed_with-at, owed_with-length, field_same}
 
-module _ (given given_after : Given) (old : Books) (owed : List (List Answer))
+module _ (given given_after : Given) (old : CoreState) (owed : List (List Answer))
     (many : length owed ≡ length old.owed)
     (made : (p : ℕ) → p < length old.owed
     → given_after p ++ owed_to p owed ≡ given p ++ owed_to p old.owed) where
-  abbrev moved : Books
+  abbrev moved : CoreState
   moved = record old { owed = owed }
 
-  pub AreOf-moved : (state : State) → AreOf state given old → AreOf state given_after moved
-  AreOf-moved state are = record {
+  pub IsIn-moved : (state : State) → IsIn state given old → IsIn state given_after moved
+  IsIn-moved state are = record {
     version = are.version;
     held = are.held;
     kept = are.kept;
@@ -46,7 +46,7 @@ module _ (given given_after : Given) (old : Books) (owed : List (List Answer))
   -- the same log is stood for
   pub StandsBy-moved : (stop : Option Stop) (log : List Step) → StandsBy stop log given old
       → StandsBy stop log given_after moved
-  StandsBy-moved None log are = AreOf-moved (run old.set.window log) are
+  StandsBy-moved None log are = IsIn-moved (run old.set.window log) are
   StandsBy-moved (Some stop) log s = record {
     before = s.before;
     last = s.last;
@@ -105,25 +105,25 @@ made_handed links owed same p inside =
       | inr past ↦ absurd (omega (arith, same, inside, past.0))
     ]
 
-module _ (core : CoreState) (links : List LinkView) (same : length links ≡ length core.books.owed) where
+module _ (core : CoreState) (links : List LinkView) (same : length links ≡ length core.owed) where
   -- the core with what waits owed
   abbrev pub core_with : CoreState
-  core_with = record core { books = record core.books { owed = owed_with links core.books.owed } }
+  core_with = record core { owed = owed_with links core.owed }
 
   -- a resolver stands for a log where its core does
   pub stands_with : (log : List Step) → Stands core log (handed_to links)
       → Stands core_with log (sent_to (lanes_of links))
   stands_with log =
-      StandsBy-moved (handed_to links) (sent_to (lanes_of links)) core.books (owed_with links core.books.owed)
-      (owed_with-length links core.books.owed) (made_handed links core.books.owed same) core.stop log
+      StandsBy-moved (handed_to links) (sent_to (lanes_of links)) core (owed_with links core.owed)
+      (owed_with-length links core.owed) (made_handed links core.owed same) core.stop log
 
   pub stands_without : (log : List Step) → Stands core_with log (sent_to (lanes_of links))
       → Stands core log (handed_to links)
   stands_without log =
-      StandsBy-moved (sent_to (lanes_of links)) (handed_to links) core_with.books core.books.owed
-      (sym (owed_with-length links core.books.owed))
-      (λ p inside. sym (made_handed links core.books.owed same p
-      (omega (arith, inside, owed_with-length links core.books.owed)))) core.stop log
+      StandsBy-moved (sent_to (lanes_of links)) (handed_to links) core_with core.owed
+      (sym (owed_with-length links core.owed))
+      (λ p inside. sym (made_handed links core.owed same p
+      (omega (arith, inside, owed_with-length links core.owed)))) core.stop log
 
 -- what was handed over links with the same replies is the same
 pub handed_same : (old new : List LinkView) → length new ≡ length old

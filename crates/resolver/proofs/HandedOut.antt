@@ -9,8 +9,7 @@ use Rattle.keyspace.specs.declared.answer.Answer.{Answer}
 use Rattle.keyspace.specs.Run.{Step}
 use Rattle.lane.specs.Lane.{PortGoesOn, HasEnded}
 use Rattle.resolver.specs.Owed.{owed_to, owed_count}
-use Rattle.resolver.specs.Books.{made_to}
-use Rattle.resolver.specs.Stands.{CoreState}
+use Rattle.resolver.specs.Core.{CoreState, made_to}
 use Rattle.resolver.specs.Lanes.{Lanes, Each, sent_to, all_ended, IsFull}
 use Rattle.resolver.specs.Resolver.{ResolverState, StandsOver, SameBut, IsThrough}
 use Rattle.resolver.specs.Links.{LinkView, Parts, AreParts, EachLink, HandsOut, OwesOnly, lanes_of, owed_with, made_over, resolver_of}
@@ -126,8 +125,8 @@ module _ (before after : List (List Answer)) (links now : List LinkView) (many :
 abbrev pub HandedOver : ResolverState → ResolverState → Type 0
 HandedOver old new = record {
   stands : (log : List Step) → StandsOver old log → StandsOver new log;
-  made : (p : ℕ) → made_to p (sent_to new.lanes) new.core.books ≡ made_to p (sent_to old.lanes) old.core.books;
-  owed : Each (λ p l m. owed_to p new.core.books.owed ≢ [] → IsFull l m) old.lanes new.lanes;
+  made : (p : ℕ) → made_to p (sent_to new.lanes) new.core ≡ made_to p (sent_to old.lanes) old.core;
+  owed : Each (λ p l m. owed_to p new.core.owed ≢ [] → IsFull l m) old.lanes new.lanes;
   lanes : Each (λ _ l m. (m ≡ record l { replies = m.replies }) × PortGoesOn l.replies m.replies) old.lanes new.lanes;
   same : SameBut old new;
 }
@@ -135,17 +134,17 @@ HandedOver old new = record {
 -- the parts of a resolver, the core that has handed out, and what the links have become
 module _ (parts : Parts) (are : AreParts parts) (core : CoreState) (only : OwesOnly parts.core core)
     (now : List LinkView)
-    (each : EachLink (λ p l m. HandsOut l m (owed_to p parts.core.books.owed) (owed_to p core.books.owed))
+    (each : EachLink (λ p l m. HandsOut l m (owed_to p parts.core.owed) (owed_to p core.owed))
     parts.links now) where
   abbrev before : List (List Answer)
-  before = owed_with parts.links parts.core.books.owed
+  before = owed_with parts.links parts.core.owed
 
   abbrev after : List (List Answer)
-  after = owed_with now core.books.owed
+  after = owed_with now core.owed
 
   abbrev handed_parts : Parts
   handed_parts = record parts {
-    core = record parts.core { books = record parts.core.books { owed = core.books.owed } };
+    core = record parts.core { owed = core.owed };
     links = now;
   }
 
@@ -159,10 +158,10 @@ module _ (parts : Parts) (are : AreParts parts) (core : CoreState) (only : OwesO
 
   each_lane : Each LaneHanded (lanes_of parts.links) (lanes_of now)
   each_lane =
-      each_lanes (λ p l m. HandsOut l m (owed_to p parts.core.books.owed) (owed_to p core.books.owed)) LaneHanded
+      each_lanes (λ p l m. HandsOut l m (owed_to p parts.core.owed) (owed_to p core.owed)) LaneHanded
       parts.links now
       (λ p k n at_old at_new h.
-      let owed_is = owed_with-at now core.books.owed p n at_new
+      let owed_is = owed_with-at now core.owed p n at_new
       (omega (arith, slice_get_within parts.links p k at_old, are.count, only.count)) in (
         ap (λ x. record n.lanes { requests = x }) h.requests
             ∙ ap (λ x. record n.lanes { requests = k.lanes.requests; ended = x }) h.ended,
@@ -188,7 +187,7 @@ module _ (parts : Parts) (are : AreParts parts) (core : CoreState) (only : OwesO
   through : parts.closed ≡ true → IsThrough (resolver_of handed_parts)
   through closed =
       let was = are.through closed in
-      let fewer = count_fewer parts.core.books.owed core.books.owed parts.links now only.count are.count each in
+      let fewer = count_fewer parts.core.owed core.owed parts.links now only.count are.count each in
       record {
         nothing_owed = omega (arith, was.nothing_owed, fewer);
         no_more = elim was.no_more [
@@ -216,10 +215,10 @@ module _ (parts : Parts) (are : AreParts parts) (core : CoreState) (only : OwesO
 
   same_count : length after ≡ length before
   same_count =
-      owed_with-length now core.books.owed ∙ only.count ∙ sym (owed_with-length parts.links parts.core.books.owed)
+      owed_with-length now core.owed ∙ only.count ∙ sym (owed_with-length parts.links parts.core.owed)
 
   made_alike : (p : ℕ) → sent_to (lanes_of now) p ++ owed_to p after ≡ sent_to (lanes_of parts.links) p ++ owed_to p before
-  made_alike = made_same parts.core.books.owed core.books.owed parts.links now only.count are.count each
+  made_alike = made_same parts.core.owed core.owed parts.links now only.count are.count each
 
   stands_after : (log : List Step) → StandsOver (resolver_of parts) log → StandsOver (resolver_of handed_parts) log
   stands_after log stands =
@@ -230,7 +229,7 @@ module _ (parts : Parts) (are : AreParts parts) (core : CoreState) (only : OwesO
       let closed_same = λ (p : ℕ) (l m : Lanes) (at_old : slice_get old.lanes p ≡ Some l)
       (at_new : slice_get new.lanes p ≡ Some m). (each_lane.each p l m at_old at_new).2 in
       stands_same old new log refl ended_same none_taken stands
-      (StandsBy-moved (sent_to old.lanes) (sent_to new.lanes) old.core.books after same_count
+      (StandsBy-moved (sent_to old.lanes) (sent_to new.lanes) old.core after same_count
       (λ p _. made_alike p) old.core.stop log stands.core)
       (λ running p m at closed.
       ended_same ∙ was_closed old new log each_lane.count closed_same running stands p m at closed)
@@ -255,18 +254,18 @@ module _ (parts : Parts) (are : AreParts parts) (core : CoreState) (only : OwesO
           let e = each_lane.each p l m at_old at_new in
           (e.0, e.1);
     };
-    same = record { stop = refl; books = refl; proxies = same_count; next = refl };
+    same = record { stop = refl; core = refl; proxies = same_count; next = refl };
   }
 
 -- as the resolver is read after the calls
 module _ {parts : Parts} {core : CoreState} {old : ResolverState} {seen now links : List LinkView} where
   pub handed : AreParts parts → resolver_of parts ≡ old → OwesOnly parts.core core → seen ≡ parts.links
-      → EachLink (λ p l m. HandsOut l m (owed_to p parts.core.books.owed) (owed_to p core.books.owed)) seen now
+      → EachLink (λ p l m. HandsOut l m (owed_to p parts.core.owed) (owed_to p core.owed)) seen now
       → links ≡ now
       → AreParts (record parts { core = core; links = links })
       × HandedOver old (resolver_of (record parts { core = core; links = links }))
   handed are was only seen_is each links_are =
-      let each_of = subst (λ ls. EachLink (λ p l m. HandsOut l m (owed_to p parts.core.books.owed) (owed_to p core.books.owed)) ls now) seen_is each in
+      let each_of = subst (λ ls. EachLink (λ p l m. HandsOut l m (owed_to p parts.core.owed) (owed_to p core.owed)) ls now) seen_is each in
       subst (λ ls. AreParts (record parts { core = core; links = ls })
       × HandedOver old (resolver_of (record parts { core = core; links = ls }))) (sym links_are)
       (subst (λ k. AreParts (record parts { core = k; links = now })

@@ -3,9 +3,8 @@ use Rattle.std.proofs.Common.{◌≡◌, ◌≢◌, ℕ, ◌<◌, ◌≤◌, ◌
 use Rattle.std.specs.Prelude.{option_to_list}
 use Rattle.keyspace.specs.declared.answer.Answer.{Answer}
 use Rattle.lane.specs.Lane.{PortGoesOn}
-use Rattle.resolver.specs.Books.{IsBeginning}
+use Rattle.resolver.specs.Core.{CoreState, IsBeginning}
 use Rattle.resolver.specs.Owed.{owed_to}
-use Rattle.resolver.specs.Stands.{CoreState}
 use Rattle.resolver.specs.Links.{LinkView, EachLink, HandsOut, OwesOnly, made_over}
 use Rattle.resolver.proofs.Each.{PerLink, EachLink-set}
 
@@ -61,5 +60,5 @@ EachLink-handed {old} {now} i x d before mid after inside unchanged others hands
 pub OwesOnly-then : {old mid now : CoreState} → OwesOnly old mid → OwesOnly mid now → OwesOnly old now
 OwesOnly-then {old} {mid} {now} e f = record {
   count = f.count ∙ e.count;
-  same = f.same ∙ ap (λ (k : CoreState). record k { books = record k.books { owed = now.books.owed } }) e.same;
+  same = f.same ∙ ap (λ (k : CoreState). record k { owed = now.owed }) e.same;
 }

@@ -27,4 +27,4 @@ pub mod Settling
 pub mod Unchanged
 pub mod Accounts
 pub mod Shares
-pub mod NewBooks
+pub mod NewCore

@@ -29,11 +29,11 @@ use Rattle.std.proofs.lemmas.List.Elements.{All-head, All-tail}
 use Rattle.keyspace.specs.declared.answer.Answer.{Answer}
 use Rattle.keyspace.specs.Run.{run}
 use Rattle.resolver.specs.Owed.{owed_to}
-use Rattle.resolver.specs.Books.{Books, Given, AreOf}
-use Rattle.resolver.specs.Stands.{CoreState, Stands, StandsBy}
+use Rattle.resolver.specs.Core.{CoreState, Given, IsIn}
+use Rattle.resolver.specs.Stands.{Stands, StandsBy}
 use Rattle.resolver.specs.Lanes.{Lanes, all_ended, sent_to, taken_from}
 use Rattle.resolver.specs.Links.{LinkView, IsNewLink, lanes_of, owed_with}
-use Rattle.resolver.proofs.Standing.{AreOf-standing}
+use Rattle.resolver.proofs.Standing.{IsIn-standing}
 
 -- what is owed with them is what is owed
 pub owed_with-new : (links : List LinkView) (owed : List (List Answer)) → All IsNewLink links
@@ -76,10 +76,10 @@ new_link_at (m ∷ links) new (suc proxy) l at =
 -- a core stands for the empty log with them, as without
 pub Stands-new : (core : CoreState) (links : List LinkView) → core.stop ≡ None → All IsNewLink links
     → Stands core [] (λ _. [])
-    → Stands (record core { books = record core.books { owed = owed_with links core.books.owed } }) []
+    → Stands (record core { owed = owed_with links core.owed }) []
     (sent_to (lanes_of links))
 Stands-new core links none new stands =
-    subst (λ stop. StandsBy stop [] given books) (sym none) (record {
+    subst (λ stop. StandsBy stop [] given linked) (sym none) (record {
       version = are.version;
       held = are.held;
       kept = are.kept;
@@ -94,13 +94,13 @@ Stands-new core links none new stands =
     given = sent_to (lanes_of links)
 
     owed : List (List Answer)
-    owed = owed_with links core.books.owed
+    owed = owed_with links core.owed
 
-    books : Books
-    books = record core.books { owed = owed }
+    linked : CoreState
+    linked = record core { owed = owed }
 
-    same : owed ≡ core.books.owed
-    same = owed_with-new links core.books.owed new
+    same : owed ≡ core.owed
+    same = owed_with-new links core.owed new
 
-    are : AreOf (run core.books.set.window []) (λ _. []) core.books
-    are = AreOf-standing core.stop [] (λ _. []) core.books none stands
+    are : IsIn (run core.set.window []) (λ _. []) core
+    are = IsIn-standing core.stop [] (λ _. []) core none stands

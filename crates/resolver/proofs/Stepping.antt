@@ -42,9 +42,9 @@ use Rattle.std.proofs.lemmas.Option.{slice_get-get_or, slice_get_within, get_or_
 use Rattle.keyspace.specs.declared.batch.Batch.{Batch}
 use Rattle.keyspace.specs.Run.{Step, Take, Finish, run}
 use Rattle.lane.specs.Lane.{IntakeGoesOn, PortGoesOn, HasEnded}
-use Rattle.resolver.specs.Books.{Books, Given, GoOn, StopsAtLimit}
+use Rattle.resolver.specs.Core.{CoreState, Given, GoesOn, StopsAtLimit}
 use Rattle.resolver.specs.Owed.{owed_to, owed_count}
-use Rattle.resolver.specs.Stands.{CoreState, Stands}
+use Rattle.resolver.specs.Stands.{Stands}
 use Rattle.resolver.specs.Lanes.{
   Lanes,
   Each,
@@ -258,7 +258,7 @@ module _ (taken : ℕ → List Batch) (old new : List LinkView) (e : EachLink (�
       cc (ap (λ r. r.sent) looks.replies, looks.waiting))
 
   -- a core stands over the links as they are now
-  pub stands_now : (core : CoreState) → length old ≡ length core.books.owed → (log : List Step)
+  pub stands_now : (core : CoreState) → length old ≡ length core.owed → (log : List Step)
       → Stands core log (handed_to old) → Stands (resolver_of record {
         core = core;
         links = new;
@@ -268,8 +268,8 @@ module _ (taken : ℕ → List Batch) (old new : List LinkView) (e : EachLink (�
       }).core log (sent_to (lanes_of new))
   stands_now core count log stands =
       stands_with core new (e.count ∙ count) log
-      (StandsBy-moved (handed_to old) (handed_to new) core.books core.books.owed refl
-      (λ p inside. ap (λ xs. xs ++ owed_to p core.books.owed) (handed_on p)) core.stop log stands)
+      (StandsBy-moved (handed_to old) (handed_to new) core core.owed refl
+      (λ p inside. ap (λ xs. xs ++ owed_to p core.owed) (handed_on p)) core.stop log stands)
 
   -- those that had ended had been taken from to the end, and so have those that have ended now
   pub ended_now : ((p : ℕ) (l : Lanes) → slice_get (lanes_of old) p ≡ Some l → l.ended ≡ true → HasEnded l.requests)
@@ -313,15 +313,15 @@ not_all_ended links p k at still =
     (slice_get_within (lanes_of links) p k.lanes at_lanes)
     (ap (λ (l : Lanes). l.ended) (get_or_from_slice_get (lanes_of links) p k.lanes k.lanes at_lanes) ∙ still)
 
--- what stays the same of the core's books does so of the resolver's
-pub go_on_with : (old new : Parts) → GoOn old.core.books new.core.books
-    → GoOn (resolver_of old).core.books (resolver_of new).core.books
+-- what stays the same of the core does so of the resolver's core
+pub go_on_with : (old new : Parts) → GoesOn old.core new.core
+    → GoesOn (resolver_of old).core (resolver_of new).core
 go_on_with old new g = record {
   window = g.window;
   limit = g.limit;
   proxies =
-      owed_with-length new.links new.core.books.owed ∙ g.proxies
-      ∙ sym (owed_with-length old.links old.core.books.owed);
+      owed_with-length new.links new.core.owed ∙ g.proxies
+      ∙ sym (owed_with-length old.links old.core.owed);
 }
 
 -- what is found among the links of a vector, and written back to it
@@ -359,13 +359,13 @@ other_than_false true b is not = refl
 other_than_false false true is not = sym is
 other_than_false false false is not = sym not
 
-pub go_on_itself : (b : Books) → GoOn b b
+pub go_on_itself : (b : CoreState) → GoesOn b b
 go_on_itself b = record { window = refl; limit = refl; proxies = refl }
 
 -- A batch of a proxy was taken and admitted.
 module _ (old new : Parts) (first proxy : ℕ) (batch : Batch)
     (f : FindsOne (λ p. ComesBefore first p proxy) proxy batch old.links new.links)
-    (are : AreParts old) (running : old.core.stop ≡ None) (goes_on : GoOn old.core.books new.core.books)
+    (are : AreParts old) (running : old.core.stop ≡ None) (goes_on : GoesOn old.core new.core)
     (finished : new.finished ≡ old.finished) (closed : new.closed ≡ old.closed) (next : new.next ≡ proxy + 1) where
   looks : LooksFor proxy batch old.links new.links
   looks = looks_for first proxy batch old.links new.links f
@@ -456,18 +456,18 @@ module _ (old new : Parts) (first proxy : ℕ) (batch : Batch)
 
   pub stops_at_limit : (log : List Step) → StandsOver (resolver_of old) log
       → ((log : List Step) (given : Given) → Stands old.core log given
-      → StopsAtLimit old.core.books.set.map.limit old.core.books.set.window proxy batch
-      (run old.core.books.set.window log) given new.core.books)
-      → StopsAtLimit old.core.books.set.map.limit old.core.books.set.window proxy batch
-      (run old.core.books.set.window log) (sent_to (lanes_of new.links)) (resolver_of new).core.books
+      → StopsAtLimit old.core.set.map.limit old.core.set.window proxy batch
+      (run old.core.set.window log) given new.core)
+      → StopsAtLimit old.core.set.map.limit old.core.set.window proxy batch
+      (run old.core.set.window log) (sent_to (lanes_of new.links)) (resolver_of new).core
   stops_at_limit log s stops =
-      let many : length new.links ≡ length new.core.books.owed = looks.count ∙ are.count ∙ sym goes_on.proxies in
-      StopsAtLimit-moved (handed_to old.links) (sent_to (lanes_of new.links)) new.core.books
-      (owed_with new.links new.core.books.owed) (owed_with-length new.links new.core.books.owed)
+      let many : length new.links ≡ length new.core.owed = looks.count ∙ are.count ∙ sym goes_on.proxies in
+      StopsAtLimit-moved (handed_to old.links) (sent_to (lanes_of new.links)) new.core
+      (owed_with new.links new.core.owed) (owed_with-length new.links new.core.owed)
       (λ p inside.
-      made_handed new.links new.core.books.owed many p inside
-      ∙ ap (λ xs. xs ++ owed_to p new.core.books.owed) (handed_on taken old.links new.links looks p))
-      old.core.books.set.map.limit old.core.books.set.window proxy batch (run old.core.books.set.window log)
+      made_handed new.links new.core.owed many p inside
+      ∙ ap (λ xs. xs ++ owed_to p new.core.owed) (handed_on taken old.links new.links looks p))
+      old.core.set.map.limit old.core.set.window proxy batch (run old.core.set.window log)
       (stops log (handed_to old.links) (stands_without old.core old.links are.count log s.core))
 
   pub replies_taken : Each (λ p l m. m.replies ≡ l.replies) (lanes_of old.links) (lanes_of new.links)
@@ -482,7 +482,7 @@ module _ (old new : Parts) (first proxy : ℕ) (batch : Batch)
       (λ p l m. ComesBefore first p proxy → IsLookedThrough l m) old.links new.links
       (λ p k n was is through comes. (through comes).through) f.looked
 
-  pub goes_on_taken : GoOn (resolver_of old).core.books (resolver_of new).core.books
+  pub goes_on_taken : GoesOn (resolver_of old).core (resolver_of new).core
   goes_on_taken = go_on_with old new goes_on
 
 -- a lane that has ended stays so, and so do all
@@ -499,7 +499,7 @@ all_stay (k ∷ old) (n ∷ new) same each all =
 
 -- All lanes were looked at, and no batch was taken.
 module _ (old new : Parts) (f : FindsNone (λ p. p < length old.links) old.links new.links) (are : AreParts old)
-    (running : old.core.stop ≡ None) (goes_on : GoOn old.core.books new.core.books) (closed : new.closed ≡ old.closed)
+    (running : old.core.stop ≡ None) (goes_on : GoesOn old.core new.core) (closed : new.closed ≡ old.closed)
     (next : new.next ≡ old.next) where
   abbrev nothing : ℕ → List Batch
   nothing p = []
@@ -543,7 +543,7 @@ module _ (old new : Parts) (f : FindsNone (λ p. p < length old.links) old.links
       each_lanes (λ p l m. p < length old.links → TakesFromLink None l m) (λ p l m. IsLookedThrough l m) old.links
       new.links (λ p k n was is looked. (looked (slice_get_within old.links p k was)).through) f.looked
 
-  pub goes_on_looked : GoOn (resolver_of old).core.books (resolver_of new).core.books
+  pub goes_on_looked : GoesOn (resolver_of old).core (resolver_of new).core
   goes_on_looked = go_on_with old new goes_on
 
   stands_looked : (log : List Step) → Stands new.core log (handed_to old.links)
@@ -598,8 +598,8 @@ module _ (old new : Parts) (f : FindsNone (λ p. p < length old.links) old.links
         let t = are.through (sym closed ∙ is) in
         record {
           nothing_owed =
-              ap (λ (k : CoreState). owed_count (owed_with new.links k.books.owed)) core
-              ∙ ap owed_count (owed_with-same old.links new.links old.core.books.owed at_all.count
+              ap (λ (k : CoreState). owed_count (owed_with new.links k.owed)) core
+              ∙ ap owed_count (owed_with-same old.links new.links old.core.owed at_all.count
               (λ p k n was is. (at_all.each p k n was is).waiting)) ∙ t.nothing_owed;
           no_more =
               elim t.no_more [

@@ -6,7 +6,7 @@ use Rattle.std.proofs.lemmas.List.{length-map}
 use Rattle.keyspace.specs.declared.answer.Answer.{Answer}
 use Rattle.lane.specs.Lane.{Lane, HasEnded}
 use Rattle.resolver.specs.declared.client.Client.{Client}
-use Rattle.resolver.specs.declared.sequential.TheConstants.{MAX_PROXIES}
+use Rattle.resolver.specs.declared.resolver_core.TheConstants.{MAX_PROXIES}
 use Rattle.resolver.specs.Owed.{owed_count}
 use Rattle.resolver.specs.Lanes.{Lanes, Each, LanesGoOn, AreSameLists, all_ended}
 use Rattle.resolver.specs.Resolver.{IsThrough, SameClients}
@@ -112,8 +112,8 @@ with_links p links = record p { links = links }
 
 module _ (p : Parts) (new : List LinkView) (before after : List Client)
     (each : EachSettled p.links before new after) (count : length before ≡ length (lanes_of p.links)) where
-  owed_same : owed_with new p.core.books.owed ≡ owed_with p.links p.core.books.owed
-  owed_same = owed_with-settled p.links new before after each count p.core.books.owed
+  owed_same : owed_with new p.core.owed ≡ owed_with p.links p.core.owed
+  owed_same = owed_with-settled p.links new before after each count p.core.owed
 
   ended_same : all_ended (lanes_of new) ≡ all_ended (lanes_of p.links)
   ended_same = all_ended-settled p.links new before after each count

@@ -5,9 +5,8 @@ use Rattle.keyspace.specs.declared.batch.Batch.{Batch}
 use Rattle.keyspace.specs.declared.answer.Answer.{Answer}
 use Rattle.lane.specs.Lane.{Lane, IntakeGoesOn, PortGoesOn, HasEnded}
 use Rattle.resolver.specs.declared.client.Client.{Client}
-use Rattle.resolver.specs.declared.sequential.TheConstants.{MAX_PROXIES}
-use Rattle.resolver.specs.Books.{IsBeginning}
-use Rattle.resolver.specs.Stands.{CoreState}
+use Rattle.resolver.specs.declared.resolver_core.TheConstants.{MAX_PROXIES}
+use Rattle.resolver.specs.Core.{CoreState, IsBeginning}
 use Rattle.resolver.specs.Lanes.{Lanes, LanesGoOn, AreSameLists, all_ended, IsLookedThrough, IsFull}
 use Rattle.resolver.specs.Resolver.{ResolverState, IsThrough, SameClient, AreClients, IsNewClient}
 
@@ -40,9 +39,7 @@ pub record Parts : Type 0 where
 -- the resolver of these parts
 abbrev pub resolver_of : Parts → ResolverState
 resolver_of parts = record {
-  core = record parts.core {
-    books = record parts.core.books { owed = owed_with parts.links parts.core.books.owed };
-  };
+  core = record parts.core { owed = owed_with parts.links parts.core.owed };
   lanes = lanes_of parts.links;
   next = parts.next;
 }
@@ -50,7 +47,7 @@ resolver_of parts = record {
 -- what holds of the parts of every resolver
 pub record AreParts (parts : Parts) : Type 0 where
   -- there is a link a proxy
-  pub count : length parts.links ≡ length parts.core.books.owed
+  pub count : length parts.links ≡ length parts.core.owed
   pub few : length parts.links ≤ MAX_PROXIES
   pub some : 1 ≤ length parts.links
   pub in_range : parts.next ≤ length parts.links
@@ -99,8 +96,8 @@ pub record HandsOut (old new : LinkView) (owed_before owed_after : List Answer) 
 
 -- the core is the same but for what it owes
 pub record OwesOnly (old new : CoreState) : Type 0 where
-  pub count : length new.books.owed ≡ length old.books.owed
-  pub same : new ≡ record old { books = record old.books { owed = new.books.owed } }
+  pub count : length new.owed ≡ length old.owed
+  pub same : new ≡ record old { owed = new.owed }
 
 -- The links of these proxies were looked through, and nothing was taken from them. The others are as before.
 pub record FindsNone (Looked : ℕ → Type 0) (old new : List LinkView) : Type 0 where

@@ -7,7 +7,7 @@ ghost use Rattle.resolver.specs.Lanes.{IsFull};
 ghost use Rattle.resolver.specs.Links.{TakesFromLink, HandsOut, OwesOnly, SettlesLink};
 
 use crate::client::Client;
-use crate::sequential::Core;
+use crate::resolver_core::Core;
 use keyspace::{Answer, Batch};
 use lane::{Intake, Port, Refused, Taken, agree};
 use std::marker::Model;
@@ -89,12 +89,12 @@ impl Link {
 
     /// Sends the proxy the answers owed to it, oldest first, while the reply lane accepts them. One that it hands back waits here.
     pub fn hand_out(&mut self, core: &mut Core, proxy: usize)
-        requires known { proxy < length core.old.books.owed }
+        requires known { proxy < length core.old.owed }
         ensures hands_out { HandsOut self.old self.new
-            (owed_to proxy core.old.books.owed) (owed_to proxy core.new.books.owed) }
+            (owed_to proxy core.old.owed) (owed_to proxy core.new.owed) }
         ensures core { OwesOnly core.old core.new }
         ensures others { (other : ℕ) → other ≢ proxy
-            → owed_to other core.new.books.owed ≡ owed_to other core.old.books.owed }
+            → owed_to other core.new.owed ≡ owed_to other core.old.owed }
     {
         while let Some(answer) = self.next_answer(core, proxy) {
             if !self.send(answer) {
@@ -123,14 +123,14 @@ impl Link {
 
     // Removes and returns the answer that is next in the proxy's line.
     fn next_answer(&mut self, core: &mut Core, proxy: usize) -> Option<Answer>
-        requires known { proxy < length core.old.books.owed }
-        ensures next { option_to_list self.old.waiting ++ owed_to proxy core.old.books.owed
-            ≡ option_to_list result ++ owed_to proxy core.new.books.owed }
-        ensures none { IfNone result (owed_to proxy core.new.books.owed ≡ []) }
+        requires known { proxy < length core.old.owed }
+        ensures next { option_to_list self.old.waiting ++ owed_to proxy core.old.owed
+            ≡ option_to_list result ++ owed_to proxy core.new.owed }
+        ensures none { IfNone result (owed_to proxy core.new.owed ≡ []) }
         ensures waiting { self.new ≡ record self.old { waiting = None } }
         ensures core { OwesOnly core.old core.new }
         ensures others { (other : ℕ) → other ≢ proxy
-            → owed_to other core.new.books.owed ≡ owed_to other core.old.books.owed }
+            → owed_to other core.new.owed ≡ owed_to other core.old.owed }
     {
         match self.waiting.take() {
             Some(answer) => Some(answer),

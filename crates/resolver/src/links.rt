@@ -10,7 +10,7 @@ ghost use Rattle.resolver.specs.Links.{LinkView, lanes_of, EachLink, TakesFromLi
 
 use crate::client::Client;
 use crate::link::Link;
-use crate::sequential::Core;
+use crate::resolver_core::Core;
 use keyspace::Batch;
 
 /// Takes a batch of the first proxy that has one, from this proxy on and then of those before it. Each link is looked at once at most.
@@ -57,8 +57,8 @@ pub fn waiting(links: &[Link]) -> usize
 
 /// Sends each proxy the answers owed to it, while its reply lane accepts them.
 pub fn hand_out(links: &mut [Link], core: &mut Core)
-    requires each { length links.old ≡ length core.old.books.owed }
-    ensures each { EachLink (λ proxy l m. HandsOut l m (owed_to proxy core.old.books.owed) (owed_to proxy core.new.books.owed)) links.old links.new }
+    requires each { length links.old ≡ length core.old.owed }
+    ensures each { EachLink (λ proxy l m. HandsOut l m (owed_to proxy core.old.owed) (owed_to proxy core.new.owed)) links.old links.new }
     ensures core { OwesOnly core.old core.new }
 {
     for proxy in 0..links.len() {

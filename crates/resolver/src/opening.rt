@@ -5,15 +5,15 @@ ghost use Rattle.stepmap.specs.declared.step_map.TheConstants.{MAX_LIMIT};
 ghost use Rattle.conflict.specs.declared.conflict_set.TheConstants.{MAX_WINDOW};
 ghost use Rattle.lane.specs.Lane.{SameLane};
 ghost use Rattle.lane.specs.declared.ends.TheConstants.{MAX_CAPACITY};
-ghost use Rattle.resolver.specs.declared.sequential.TheConstants.{MAX_PROXIES};
+ghost use Rattle.resolver.specs.declared.resolver_core.TheConstants.{MAX_PROXIES};
 ghost use Rattle.resolver.specs.Lanes.{Lanes};
 ghost use Rattle.resolver.specs.Resolver.{StandsOver, IsResolving, AreClients, IsNewClient};
 ghost use Rattle.resolver.specs.Links.{IsNewLink, AreConnected};
 
 use crate::client::Client;
 use crate::link::Link;
-use crate::over_lanes::Resolver;
-use crate::sequential::{Core, MAX_PROXIES};
+use crate::resolver::Resolver;
+use crate::resolver_core::{Core, MAX_PROXIES};
 use crate::stop::OpenError;
 use lane::{LaneError, MAX_CAPACITY, lane};
 use std::alloc::Global;
@@ -39,8 +39,8 @@ pub fn open(
     ensures resolving { IfOk result (λ opened. IsResolving opened.0) }
     ensures no_stop { IfOk result (λ opened. opened.0.core.stop ≡ None) }
     ensures next { IfOk result (λ opened. opened.0.next ≡ 0) }
-    ensures window { IfOk result (λ opened. opened.0.core.books.set.window ≡ window) }
-    ensures limit { IfOk result (λ opened. opened.0.core.books.set.map.limit ≡ limit) }
+    ensures window { IfOk result (λ opened. opened.0.core.set.window ≡ window) }
+    ensures limit { IfOk result (λ opened. opened.0.core.set.map.limit ≡ limit) }
     ensures proxies { IfOk result (λ opened. length opened.1.items ≡ proxies) }
     ensures clients { IfOk result (λ opened. AreClients opened.0.lanes opened.1.items) }
     ensures new_clients { IfOk result (λ opened. All (IsNewClient capacity) opened.1.items) }

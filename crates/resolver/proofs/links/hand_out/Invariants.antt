@@ -6,6 +6,6 @@ use Rattle.resolver.proofs.links.hand_out.Given as goal
 
 abbrev pub invariant-loop-proxy : goal.invariant-loop-proxy
 invariant-loop-proxy l =
-    EachLink (HandedBelow l.proxy l.initial.core.books.owed l.core.books.owed) l.initial.links l.links
-    × ((q : ℕ) → l.proxy ≤ q → owed_to q l.core.books.owed ≡ owed_to q l.initial.core.books.owed)
+    EachLink (HandedBelow l.proxy l.initial.core.owed l.core.owed) l.initial.links l.links
+    × ((q : ℕ) → l.proxy ≤ q → owed_to q l.core.owed ≡ owed_to q l.initial.core.owed)
     × OwesOnly l.initial.core l.core

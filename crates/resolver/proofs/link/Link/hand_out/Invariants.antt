@@ -7,12 +7,12 @@ use Rattle.resolver.proofs.link.Link.hand_out.Given as goal
 
 abbrev pub invariant-loop-answer : goal.invariant-loop-answer
 invariant-loop-answer l =
-    HandsOn l.initial.self l.self (owed_to l.proxy l.initial.core.books.owed)
-    (owed_to l.proxy l.core.books.owed)
+    HandsOn l.initial.self l.self (owed_to l.proxy l.initial.core.owed)
+    (owed_to l.proxy l.core.owed)
     × OwesOnly l.initial.core l.core
     × ((other : ℕ) → other ≢ l.proxy
-    → owed_to other l.core.books.owed ≡ owed_to other l.initial.core.books.owed)
+    → owed_to other l.core.owed ≡ owed_to other l.initial.core.owed)
 
 abbrev pub decreases-loop-answer : goal.decreases-loop-answer
 decreases-loop-answer l =
-    length (option_to_list l.self.waiting) + length (owed_to l.proxy l.core.books.owed)
+    length (option_to_list l.self.waiting) + length (owed_to l.proxy l.core.owed)
