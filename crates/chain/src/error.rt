@@ -1,3 +1,5 @@
+//! Why a batch or a reply is not stored.
+
 use thiserror::Error;
 
 /// Why a batch or a reply is not stored. What was stored before stays as it was.

@@ -1,3 +1,5 @@
+//! The batches that wait for their previous version.
+
 ghost use Rattle.std.specs.Prelude.{◌≡◌, ◌+◌, ◌<◌, ◌≤◌, ◌≤ℤ◌, ◌↔◌, [], ◌∷◌, ◌++◌, length, remove, slice_index_or, IfSome, IfNone, OnOk, OnErr, IfErr, IsErrAnd};
 ghost use Rattle.std.specs.Option.{option_map};
 ghost use Rattle.keyspace.specs.Leaving.{Held, least_first, next_due};

@@ -1,3 +1,5 @@
+//! The replies that a proxy may ask for again.
+
 ghost use Rattle.std.specs.Prelude.{◌≡◌, ℕ, ℤ, ◌&&◌, ◌==◌, not, int_le, if◌then◌else◌, option_copied, IfNone, IfSome, IsSome, IsTrue, IsOkUnless, OnErr, OnOk};
 ghost use Rattle.std.specs.Ordering.{int_eq};
 ghost use Rattle.std.specs.BTreeMap as tree;

@@ -2,7 +2,7 @@
 
 use crate::rows::expect;
 use fixtures::{Unmade, key, range};
-use keyspace::{Range, common, digest};
+use keyspace::{Range, common_prefix_len, key_head};
 use std::alloc::Global;
 use std::test::Fail;
 
@@ -70,7 +70,7 @@ fn copies_a_lent_range(rt: HostRuntime) -> Result<(), Fail> {
 }
 
 #[test]
-fn digests_of_short_keys(rt: HostRuntime) {
+fn heads_of_short_keys(rt: HostRuntime) {
     for (key, number) in [
         ("", 0),
         ("a", 0x6100_0000_0000_0000),
@@ -78,7 +78,7 @@ fn digests_of_short_keys(rt: HostRuntime) {
         ("abcdefgh", 0x6162_6364_6566_6768),
         ("abcdefghi", 0x6162_6364_6566_6768),
     ] {
-        assert_eq!(rt; digest(key.as_bytes()), number, "of {key}");
+        assert_eq!(rt; key_head(key.as_bytes()), number, "of {key}");
     }
 }
 
@@ -92,6 +92,10 @@ fn common_of_keys(rt: HostRuntime) {
         ("abc", "abcd", 3),
         ("abcd", "abc", 3),
     ] {
-        assert_eq!(rt; common(one.as_bytes(), other.as_bytes()), count, "of {one}");
+        assert_eq!(rt;
+            common_prefix_len(one.as_bytes(), other.as_bytes()),
+            count,
+            "of {one}"
+        );
     }
 }

@@ -1,5 +1,5 @@
 //! What is asked of the history for a batch: the first read range of each transaction, and then the others of those that this
-//! leaves open.
+//! leaves open. It is what `ConflictBatch::checkReadConflictRanges` of FoundationDB 7.1 asks.
 
 ghost use Rattle.std.specs.Prelude.{◌≡◌, ◌≤◌, ℤ, List, length, map, take, drop, Some, OnOk};
 ghost use Rattle.conflict.specs.Asking.{is_settled, first_asked, then_asked, all_first, all_then, all_parts};

@@ -1,3 +1,5 @@
+//! The conflict set: a batch is judged, what it commits is written, and the sweep goes on.
+
 ghost use Rattle.std.specs.Prelude.{◌≡◌, ◌≤◌, ◌≤ℤ◌, ◌<ℤ◌, pos, ◌++◌, List, [], length, None, Some, Err};
 ghost use Rattle.std.specs.Prelude.{IfOk, IfErr, OnOk, OnErr, IfSome, ◌⊎◌};
 ghost use Rattle.keyspace.specs.declared.reply.Entry.{Entry};

@@ -1,3 +1,5 @@
+//! Why a set stops.
+
 ghost use Rattle.std.specs.Prelude.{◌≡◌};
 ghost use Rattle.conflict.specs.declared.error.SetStop.TheVariants.{Memory};
 

@@ -1,4 +1,5 @@
-//! A set of gaps between neighbouring keys, one bit a gap. Its words are kept from batch to batch.
+//! A set of gaps between neighbouring keys, one bit a gap: `MiniConflictSet` of FoundationDB 7.1. Its words are kept from batch
+//! to batch.
 ghost use Rattle.std.specs.Prelude.{◌≡◌, ◌↔◌, ◌⊎◌, ℕ, ◌≤◌, [], length, IsTrue, OnErr, OnOk};
 ghost use Rattle.conflict.specs.Gaps.{IsInRun, IsMarked, SomeMarked};
 

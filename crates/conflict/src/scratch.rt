@@ -1,3 +1,5 @@
+//! The vectors that a set keeps from batch to batch.
+
 ghost use Rattle.std.specs.Prelude.{◌≡◌, []};
 
 use crate::asking::Asking;

@@ -1,4 +1,4 @@
-//! The union of the ranges that a batch writes.
+//! The union of the ranges that a batch writes: `ConflictBatch::combineWriteConflictRanges` of FoundationDB 7.1.
 
 ghost use Rattle.std.specs.Prelude.{◌≡◌, ◌<◌, ◌++◌, ◌∷◌, List, [], length, All, OnOk, Some, slice_get};
 ghost use Rattle.keys.specs.Key.{IsAtMost};

@@ -1,4 +1,5 @@
-//! The writing of what a batch commits, as ranges apart that hold the same keys.
+//! The writing of what a batch commits, as ranges apart that hold the same keys: `ConflictBatch::mergeWriteConflictRanges` of
+//! FoundationDB 7.1.
 
 ghost use Rattle.std.specs.Prelude.{◌≡◌, ◌+◌, ◌*◌, ◌<◌, ◌≤◌, ◌≤ℤ◌, ◌⊎◌, List, ◌++◌, length, map};
 ghost use Rattle.std.specs.Prelude.{OnOk, OnErr, IfOk, MatchOption, Err, Some, slice_get};

@@ -1,6 +1,6 @@
 -- A number made of a key, by which it finds its cell. This project's own.
 use Rattle.std.specs.Prelude.{ℕ, ◌+◌, ◌-◌, ◌*◌, ◌/◌, ◌%◌, ◌^◌, List, [], ◌∷◌, length, drop, fold}
-use Rattle.keys.specs.Digest.{digest_of}
+use Rattle.keys.specs.Head.{head_of}
 use Rattle.filter.specs.declared.hashing.TheConstants.{FACTOR}
 
 -- a word of eight bytes is mixed in
@@ -20,4 +20,4 @@ places_of key =
 -- the words at these places, mixed into the length
 unfoldable pub hash_of : List ℕ → ℕ
 hash_of key =
-    (fold (λ hash place. mixed hash (digest_of (drop place key))) (length key) (places_of key) * FACTOR) % 2 ^ 64
+    (fold (λ hash place. mixed hash (head_of (drop place key))) (length key) (places_of key) * FACTOR) % 2 ^ 64

@@ -1,3 +1,5 @@
+//! The filter: cells of versions that only rise.
+
 ghost use Rattle.std.specs.Prelude.{◌≡◌, ℕ, ◌≤◌, ◌*◌, ◌<◌, ◌≤ℤ◌, ◌<ℤ◌, ◌↔◌, negsuc, List, get_or, length, IfOk, OnOk, IsTrue, min};
 ghost use Rattle.std.specs.Int.{int_max};
 ghost use Rattle.filter.specs.Filter.{bound, bound_in, cell_of, each_twice};

@@ -1,8 +1,10 @@
+//! The hash of a key, by which its cell is found.
+
 ghost use Rattle.std.specs.Prelude.{◌≡◌, ◌^◌, ◌<◌};
-ghost use Rattle.keys.specs.Digest.{digest_of};
+ghost use Rattle.keys.specs.Head.{head_of};
 ghost use Rattle.filter.specs.Hash.{hash_of, mixed};
 
-use keys::digest;
+use keys::key_head;
 
 // An odd number whose products spread: it is that of SplitMix64.
 const FACTOR: u64 = 0xBF58_476D_1CE4_E5B9;
@@ -28,7 +30,7 @@ pub fn hash(key: &[u8]) -> u64
 
 // Mixes in the first eight bytes.
 fn mix(hash: u64, bytes: &[u8]) -> u64
-    ensures mixed { result ≡ mixed hash (digest_of bytes.now) }
+    ensures mixed { result ≡ mixed hash (head_of bytes.now) }
 {
-    hash.wrapping_mul(FACTOR).wrapping_add(digest(bytes))
+    hash.wrapping_mul(FACTOR).wrapping_add(key_head(bytes))
 }

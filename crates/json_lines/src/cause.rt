@@ -1,3 +1,5 @@
+//! Why a value of a line is refused.
+
 use thiserror::Error;
 
 /// Why a value of a line is refused.

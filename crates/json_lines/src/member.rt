@@ -1,3 +1,5 @@
+//! The members of an object.
+
 ghost use Rattle.std.specs.Prelude.{◌≡◌};
 ghost use Rattle.json_lines.specs.Names.{name_of};
 

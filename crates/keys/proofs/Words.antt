@@ -27,8 +27,8 @@ use Rattle.std.proofs.Math.Seq.{take-add}
 use Rattle.std.proofs.lemmas.List.{take_all, length-take-le}
 use Rattle.std.proofs.lemmas.List.Elements.{All-take, All-drop, All-from_get_or}
 use Rattle.keys.specs.Key.{IsBytes}
-use Rattle.keys.specs.Digest.{digest_of}
-use Rattle.keys.proofs.callers.Digests.{digest_same_long}
+use Rattle.keys.specs.Head.{head_of}
+use Rattle.keys.proofs.callers.KeyHeads.{head_same_long}
 
 -- lists that agree at each of the first words begin alike
 words_alike_from : (n : ℕ) (a b : List ℕ)
@@ -60,18 +60,18 @@ are_bytes a bytes = All-from_get_or (λ byte. byte < 256) a 0 (λ i inside. byte
 word_bytes : (k : ℕ) (a : List ℕ) → IsBytes a → IsBytes (word_at k a)
 word_bytes k a bytes = All-take (λ byte. byte < 256) 8 (drop (k * 8) a) (All-drop (λ byte. byte < 256) (k * 8) a bytes)
 
--- words of eight bytes are told apart by their digests
-same_word : (v w : List ℕ) → IsBytes v → IsBytes w → length v ≡ 8 → length w ≡ 8 → digest_of v ≡ digest_of w → v ≡ w
+-- words of eight bytes are told apart by their heads
+same_word : (v w : List ℕ) → IsBytes v → IsBytes w → length v ≡ 8 → length w ≡ 8 → head_of v ≡ head_of w → v ≡ w
 same_word v w v_bytes w_bytes v_length w_length same =
-    sym (take_all 8 v (omega arith)) ∙ digest_same_long v w v_bytes w_bytes same (omega arith) (omega arith)
+    sym (take_all 8 v (omega arith)) ∙ head_same_long v w v_bytes w_bytes same (omega arith) (omega arith)
     ∙ take_all 8 w (omega arith)
 
--- lists whose first words have the same digests begin alike
-pub alike_by_digests : (n : ℕ) (a b : List ℕ) → ((i : ℕ) → get_or a i 0 < 256) → ((i : ℕ) → get_or b i 0 < 256)
+-- lists whose first words have the same heads begin alike
+pub alike_by_heads : (n : ℕ) (a b : List ℕ) → ((i : ℕ) → get_or a i 0 < 256) → ((i : ℕ) → get_or b i 0 < 256)
     → 8 * n ≤ length a → 8 * n ≤ length b
-    → ((k : ℕ) → k < n → digest_of (take 8 (drop (k * 8) a)) ≡ digest_of (take 8 (drop (k * 8) b)))
+    → ((k : ℕ) → k < n → head_of (take 8 (drop (k * 8) a)) ≡ head_of (take 8 (drop (k * 8) b)))
     → take (8 * n) a ≡ take (8 * n) b
-alike_by_digests n a b a_bytes b_bytes in_a in_b same =
+alike_by_heads n a b a_bytes b_bytes in_a in_b same =
     words_alike n a b (λ k less. same_word (word_at k a) (word_at k b)
     (word_bytes k a (are_bytes a a_bytes)) (word_bytes k b (are_bytes b b_bytes))
     (word_length n k a in_a less) (word_length n k b in_b less) (same k less))

@@ -5,5 +5,5 @@ pub mod Lists
 pub mod SomeElement
 pub mod KeyOrder
 pub mod Meeting
-pub mod Digests
+pub mod KeyHeads
 pub mod Ranks

@@ -2,22 +2,22 @@
 use Rattle.std.specs.Prelude.{◌≡◌, ℕ, ◌<◌, ◌≤◌, ◌↔◌, List, length, take, drop, slice_index}
 use Rattle.keys.specs.declared.range.Range.{Range}
 use Rattle.keys.specs.Key.{IsBytes, is_before, IsBefore, IsAtMost}
-use Rattle.keys.specs.Digest.{first_eight, digest_of}
+use Rattle.keys.specs.Head.{first_eight, head_of}
 use Rattle.keys.specs.Range.{IsEmpty, Meets}
 use Rattle.keys.specs.Ranks.{run, HaveBegin}
 use Rattle.keys.specs.Gaps.{HasGap, HaveCommonGap}
 
--- digests are in the order of the keys, as far as they reach
-pub record DigestsTell (a b : List ℕ) : Type 0 where
-  -- the key with the lesser digest comes first
-  pub less : digest_of a < digest_of b → IsBefore a b
-  pub at_most : IsAtMost a b → digest_of a ≤ digest_of b
-  -- where the digests are the same, so are the first eight bytes, with zeros for those that are missing
-  pub same : digest_of a ≡ digest_of b → first_eight a ≡ first_eight b
-  pub same_long : digest_of a ≡ digest_of b → 8 ≤ length a → 8 ≤ length b → take 8 a ≡ take 8 b
+-- heads are in the order of the keys, as far as they reach
+pub record KeyHeadsTell (a b : List ℕ) : Type 0 where
+  -- the key with the lesser head comes first
+  pub less : head_of a < head_of b → IsBefore a b
+  pub at_most : IsAtMost a b → head_of a ≤ head_of b
+  -- where the heads are the same, so are the first eight bytes, with zeros for those that are missing
+  pub same : head_of a ≡ head_of b → first_eight a ≡ first_eight b
+  pub same_long : head_of a ≡ head_of b → 8 ≤ length a → 8 ≤ length b → take 8 a ≡ take 8 b
 
-abbrev pub DigestsTellOrder : Type 0
-DigestsTellOrder = (a b : List ℕ) → IsBytes a → IsBytes b → DigestsTell a b
+abbrev pub KeyHeadsTellOrder : Type 0
+KeyHeadsTellOrder = (a b : List ℕ) → IsBytes a → IsBytes b → KeyHeadsTell a b
 
 -- two keys begin with the same bytes, so many
 pub record BeginAlike (n : ℕ) (a b : List ℕ) : Type 0 where

@@ -1,6 +1,6 @@
 -- In the order in which one reads them aloud.
 pub mod Key
-pub mod Digest
+pub mod Head
 pub mod Range
 pub mod Ranks
 pub mod Sorting

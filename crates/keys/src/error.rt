@@ -1,3 +1,5 @@
+//! Why bytes are no key, or two keys no range.
+
 use thiserror::Error;
 
 /// Why bytes are no key, or two keys no range.

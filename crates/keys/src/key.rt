@@ -1,3 +1,5 @@
+//! Keys: byte strings of a limited length.
+
 ghost use Rattle.std.specs.Prelude.{◌≡◌, ◌≤◌, ◌<◌, ◌==◌, ◌↔◌, IfOk, IsErrOf, IsOkUnless, length, take, vec_len};
 ghost use Rattle.std.proofs.Common.{rules};
 ghost use Rattle.std.specs.Cmp.{partial_order_from_own_ties};

@@ -1,12 +1,12 @@
 //! Laws about keys and ranges. Each is the contract of a function with an empty body.
 
 ghost use Rattle.keys.specs.declared.range.Range.{Range};
-ghost use Rattle.keys.specs.Laws.{DigestsTellOrder, RestsTellOrder, MeetByEnds, RunsTellMeeting, EmptyHasNoGap, RunsAreWithin};
+ghost use Rattle.keys.specs.Laws.{KeyHeadsTellOrder, RestsTellOrder, MeetByEnds, RunsTellMeeting, EmptyHasNoGap, RunsAreWithin};
 
-/// The key with the lesser digest comes first. Keys with the same digest have the same first eight bytes, where missing
+/// The key with the lesser head comes first. Keys with the same head have the same first eight bytes, where missing
 /// ones count as zeros.
-pub fn digests()
-    ensures order { DigestsTellOrder }
+pub fn key_heads()
+    ensures order { KeyHeadsTellOrder }
 {}
 
 /// Keys that begin with the same bytes are in the order of what stands behind these.

@@ -6,9 +6,9 @@
 //! [`Ranks`] orders ranges by their begins and says which of the gaps between these each of them covers, wherever the ranges lie
 //! ([`RangeList`]).
 //!
-//! [`digest()`] and [`common`] tell keys apart quickly: by the first eight bytes, and by how far two keys begin alike.
+//! [`key_head`] and [`common_prefix_len`] tell keys apart quickly: by the first eight bytes, and by how far two keys begin alike.
 //!
-//! `specs/` says, in reading order, what a key is and which of two comes first (`Key`), what its digest is (`Digest`), and
+//! `specs/` says, in reading order, what a key is and which of two comes first (`Key`), what its head is (`Head`), and
 //! when a range holds a key and when two ranges meet (`Range`). `Laws` ties these together, and the functions of [`laws`]
 //! prove it. The crates above may use the contracts of the types and functions here, and these laws.
 #![tactic(auto)]
@@ -25,7 +25,7 @@ mod ranks;
 
 pub use error::KeyError;
 pub use key::{Key, MAX_KEY_LENGTH};
-pub use prefix::{common, digest};
+pub use prefix::{common_prefix_len, key_head};
 pub use range::Range;
 pub use range_list::RangeList;
 pub use range_ref::RangeRef;

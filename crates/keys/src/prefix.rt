@@ -1,22 +1,24 @@
+//! The first bytes of keys: their heads, and how many bytes two of them begin with in common.
+
 ghost use Rattle.std.specs.Prelude.{◌≡◌, ◌≢◌, ◌<◌, ◌≤◌, ◌*◌, length, take, slice_index};
-ghost use Rattle.keys.specs.Digest.{digest_of};
+ghost use Rattle.keys.specs.Head.{head_of};
 
 /// Returns the first eight bytes as one big-endian number. Missing bytes count as zeros.
 ///
-/// The key with the lesser digest comes first. Keys with the same digest have the same first eight bytes, where missing
-/// ones count as zeros. [`crate::laws::digests`] states both.
-pub fn digest(bytes: &[u8]) -> u64
-    ensures digest { result ≡ digest_of bytes.now }
+/// The key with the lesser head comes first. Keys with the same head have the same first eight bytes, where missing
+/// ones count as zeros. [`crate::laws::key_heads`] states both.
+pub fn key_head(bytes: &[u8]) -> u64
+    ensures key_head { result ≡ head_of bytes.now }
 {
     if let Some(first) = bytes.first_chunk::<8>() {
         return u64::from_be_bytes(*first);
     }
-    short_digest(bytes)
+    short_head(bytes)
 }
 
 // Returns the same of bytes that may be fewer than eight.
-fn short_digest(bytes: &[u8]) -> u64
-    ensures digest { result ≡ digest_of bytes.now }
+fn short_head(bytes: &[u8]) -> u64
+    ensures key_head { result ≡ head_of bytes.now }
 {
     let mut first = [0; 8];
     let length = bytes.len().min(first.len());
@@ -28,7 +30,7 @@ fn short_digest(bytes: &[u8]) -> u64
 ///
 /// Behind these the next bytes differ, or one of the keys ends. So they tell which key comes first, as
 /// [`crate::laws::beginnings`] states.
-pub fn common(a: &[u8], b: &[u8]) -> usize
+pub fn common_prefix_len(a: &[u8], b: &[u8]) -> usize
     ensures within { (result ≤ length a.now) × (result ≤ length b.now) }
     ensures same { take result a.now ≡ take result b.now }
     ensures differ { result < length a.now → result < length b.now
@@ -45,7 +47,7 @@ fn common_words(a: &[u8], b: &[u8]) -> usize
 {
     a.chunks_exact(8)
         .zip(b.chunks_exact(8))
-        .take_while(|(x, y)| digest(x) == digest(y))
+        .take_while(|(x, y)| key_head(x) == key_head(y))
         .count()
 }
 

@@ -1,3 +1,5 @@
+//! Half-open ranges of keys.
+
 ghost use Rattle.std.specs.Prelude.{◌≡◌, ◌↔◌, IfOk, IsErrOf, IsOkUnless, IsTrue};
 ghost use Rattle.keys.specs.Key.{IsKey, IsAtMost, IsBefore};
 

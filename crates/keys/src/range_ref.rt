@@ -1,3 +1,5 @@
+//! Ranges whose keys are borrowed.
+
 ghost use Rattle.std.specs.Prelude.{◌≡◌, ◌≤◌, ◌↔◌, length, IfOk, IsTrue};
 ghost use Rattle.keys.specs.Range.{IsEmpty};
 ghost use Rattle.keys.specs.Key.{IsKey, IsAtMost};

@@ -1,3 +1,5 @@
+//! What a proxy receives for a batch.
+
 use crate::reply::Reply;
 
 /// What a proxy receives for a batch. FoundationDB 7.1 has the first alone, and sends nothing in place of the others,

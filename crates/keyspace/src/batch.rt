@@ -1,3 +1,5 @@
+//! Batches: transactions from one commit proxy, with their versions.
+
 ghost use Rattle.std.specs.Prelude.{◌≡◌, ◌≤◌, ◌<◌, ◌≤ℤ◌, ◌<ℤ◌, ◌↔◌, pos, negsuc, length, vec_len, IfOk, IsErrOf, IsTrue};
 ghost use Rattle.keyspace.specs.Versions.{AreVersions};
 ghost use Rattle.keyspace.specs.declared.batch.TheConstants.{MAX_TXNS};

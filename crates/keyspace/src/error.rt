@@ -1,3 +1,5 @@
+//! Why there is no transaction, or no batch.
+
 ghost use Rattle.std.specs.Prelude.{◌≡◌};
 ghost use Rattle.keyspace.specs.declared.error.LimitError.TheVariants.{Memory};
 

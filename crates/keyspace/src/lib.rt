@@ -29,7 +29,9 @@ mod txns;
 pub use answer::Answer;
 pub use batch::{Batch, MAX_TXNS};
 pub use error::LimitError;
-pub use keys::{Key, KeyError, MAX_KEY_LENGTH, Range, RangeList, RangeRef, Ranks, common, digest};
+pub use keys::{
+    Key, KeyError, MAX_KEY_LENGTH, Range, RangeList, RangeRef, Ranks, common_prefix_len, key_head,
+};
 pub use ranges_ref::RangesRef;
 pub use reply::{Entry, Places, Reply, Verdict};
 pub use row::Row;

@@ -1,3 +1,5 @@
+//! Replies: a verdict on each transaction of a batch, with the places that it asked for.
+
 ghost use Rattle.std.specs.Prelude.{◌≡◌, ◌≢◌, ◌≤◌, ◌≤ℤ◌, [], length, pos, IfOk};
 ghost use Rattle.keyspace.specs.declared.batch.TheConstants.{MAX_TXNS};
 ghost use Rattle.keyspace.specs.Places.{ArePlaces};

@@ -1,3 +1,5 @@
+//! A transaction as a row of the tables of its batch.
+
 /// A transaction whose ranges have their spans among those of its batch, one after the other.
 #[derive(Clone, Copy, Debug, PartialEq, Eq)]
 pub struct Row {

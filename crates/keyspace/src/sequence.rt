@@ -1,3 +1,5 @@
+//! Vectors that contracts see as lists.
+
 ghost use Rattle.std.specs.Prelude.{◌≡◌, ◌↔◌, [], IsTrue, length};
 
 use std::marker::Model;

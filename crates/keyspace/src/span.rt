@@ -1,3 +1,5 @@
+//! Where a range lies in the buffer of its batch.
+
 /// Where the keys of a range lie in a buffer, in bytes. The two may share bytes.
 #[derive(Clone, Copy, Debug, PartialEq, Eq)]
 pub struct Span {

@@ -1,3 +1,5 @@
+//! A transaction that is made by hand.
+
 ghost use Rattle.std.specs.Prelude.{◌≡◌, ◌≤◌, ◌<◌, ◌≤ℤ◌, ◌<ℤ◌, ◌↔◌, ◌⊎◌, pos, length, IfOk, IsErrOf};
 ghost use Rattle.keyspace.specs.declared.txn.TheConstants.{MAX_RANGES};
 

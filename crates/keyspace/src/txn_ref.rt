@@ -1,3 +1,5 @@
+//! Transactions whose keys are borrowed.
+
 ghost use Rattle.std.specs.Prelude.{◌≡◌, ◌≤◌, ◌≤ℤ◌, pos, length};
 ghost use Rattle.keyspace.specs.declared.txn.TheConstants.{MAX_RANGES};
 

@@ -1,3 +1,5 @@
+//! The transactions of a batch, in one buffer with tables beside it.
+
 ghost use Rattle.std.specs.Prelude.{◌≡◌, ◌<◌, ◌≤◌, Some, length, vec_len, map, slice_get, IfOk};
 ghost use Rattle.keys.specs.Ranks.{AreRanked};
 ghost use Rattle.keyspace.specs.BatchRanges.{ranges_in};

@@ -1,3 +1,5 @@
+//! Why a lane was not made.
+
 ghost use Rattle.std.specs.Prelude.{◌≡◌};
 ghost use Rattle.lane.specs.declared.error.LaneError.TheVariants.{Memory};
 

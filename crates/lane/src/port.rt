@@ -1,3 +1,5 @@
+//! The end of a lane that sends.
+
 ghost use Rattle.std.specs.Prelude.{◌≡◌, ◌+◌, ◌^◌, ◌<◌, ◌≤◌, ◌↔◌, true, false, [], ◌∷◌, ◌++◌, length};
 ghost use Rattle.std.specs.Prelude.{Err, IsOk, OnOk, OnErr, IfErr, IsTrue};
 ghost use Rattle.std.specs.Arc.{arc_value};

@@ -4,7 +4,7 @@ use Rattle.std.specs.Prelude.{IfSome}
 use Rattle.std.specs.List.{All, Contains}
 use Rattle.std.proofs.lemmas.List.Elements.{All-contains, All-map, All-head, All-tail, All-cons, All-nil, All-weaker}
 use Rattle.arena.specs.Arena.{Arena, Records, key_at}
-use Rattle.tree.specs.Hints.{KeyBytes, Hint, IsHinted, AreHinted, IsKnown, Begins, digest_at, digest_behind}
+use Rattle.tree.specs.Hints.{KeyBytes, Hint, IsHinted, AreHinted, IsKnown, Begins, head_at, head_behind}
 use Rattle.tree.specs.Item.{Item}
 use Rattle.tree.specs.Tree.{Items, hints_in, KnowItems}
 use Rattle.tree.proofs.callers.Hints.{all_known, hinted_kept}
@@ -15,14 +15,14 @@ use Rattle.stepmap.proofs.PlacedKeys.{Placed, ArePlaced, live_apart, live_by_key
 abbrev Stays : KeyBytes → KeyBytes → ℕ → Type 0
 Stays a b key = (text : List ℕ) → a key ≡ Some text → b key ≡ Some text
 
-digests_left : (a b : KeyBytes) (skip : ℕ) (keys : List ℕ) → All (Stays a b) keys → All (IsKnown a) keys
-    → map (digest_at a skip) keys ≡ map (digest_at b skip) keys
-digests_left a b skip [] stay known = refl
-digests_left a b skip (key ∷ keys) stay known =
+heads_left : (a b : KeyBytes) (skip : ℕ) (keys : List ℕ) → All (Stays a b) keys → All (IsKnown a) keys
+    → map (head_at a skip) keys ≡ map (head_at b skip) keys
+heads_left a b skip [] stay known = refl
+heads_left a b skip (key ∷ keys) stay known =
     let k = All-head (IsKnown a) key keys known in
     let same = All-head (Stays a b) key keys stay k.text k.known in
-    ap₂ (λ x xs. x ∷ xs) (ap (λ o. digest_behind skip (unwrap_or o [])) (k.known ∙ sym same))
-    (digests_left a b skip keys (All-tail (Stays a b) key keys stay) (All-tail (IsKnown a) key keys known))
+    ap₂ (λ x xs. x ∷ xs) (ap (λ o. head_behind skip (unwrap_or o [])) (k.known ∙ sym same))
+    (heads_left a b skip keys (All-tail (Stays a b) key keys stay) (All-tail (IsKnown a) key keys known))
 
 begins_left : (a b : KeyBytes) (beginning keys : List ℕ) → All (Stays a b) keys → All (Begins a beginning) keys
     → All (Begins b beginning) keys
@@ -44,7 +44,7 @@ hint_left a b hint stay h =
       beginning = h.beginning;
       skip = h.skip;
       begins = begins_left a b h.beginning hint.keys stay h.begins;
-      digests = h.digests ∙ digests_left a b hint.skip hint.keys stay (all_known a hint h);
+      heads = h.heads ∙ heads_left a b hint.skip hint.keys stay (all_known a hint h);
     }
 
 module _ {H : Type 0} where

@@ -19,7 +19,7 @@ use crate::release::release_run;
 use crate::step_map::MAX_LIMIT;
 use arena::{Arena, ArenaError};
 use arrayvec::ArrayVec;
-use keys::{Range, RangeRef, common};
+use keys::{Range, RangeRef, common_prefix_len};
 use std::alloc::{AllocError, Global};
 use std::array;
 use std::marker::Model;
@@ -213,7 +213,7 @@ impl<const N: usize> Boundaries<N> {
             from: &begin,
             to: &end,
             past: &past,
-            shared: common(range.begin(), to),
+            shared: common_prefix_len(range.begin(), to),
             first: item(begin_key, version),
             second: end_key,
             last: at_end,

@@ -1,3 +1,5 @@
+//! Bounds by keys, through boundaries whose keys lie in an arena.
+
 ghost use Rattle.arena.specs.Arena.{key_at};
 ghost use Rattle.std.specs.Prelude.{◌≡◌, drop};
 ghost use Rattle.keys.specs.Key.{IsBytes};
@@ -5,7 +7,7 @@ ghost use Rattle.stepmap.specs.Stored.{bytes_at};
 ghost use Rattle.stepmap.specs.Cut.{slot_passes, passes_in_order};
 
 use arena::{Arena, Slot};
-use keys::{common, digest};
+use keys::{common_prefix_len, key_head};
 use std::cmp::Ordering;
 use tree::Probe;
 
@@ -36,12 +38,12 @@ impl<'a> Probe for Cut<'a> {
         }
     }
 
-    fn digest(&self, skip: usize) -> u64 {
-        digest(behind(self.key, skip))
+    fn head(&self, skip: usize) -> u64 {
+        key_head(behind(self.key, skip))
     }
 
-    fn digest_of(&self, slot: Slot, skip: usize) -> u64 {
-        digest(behind(bytes_of(self.keys, slot), skip))
+    fn head_of(&self, slot: Slot, skip: usize) -> u64 {
+        key_head(behind(bytes_of(self.keys, slot), skip))
     }
 
     fn is_empty(&self, slot: Slot) -> bool {
@@ -49,11 +51,11 @@ impl<'a> Probe for Cut<'a> {
     }
 
     fn common(&self, one: Slot, other: Slot) -> usize {
-        common(bytes_of(self.keys, one), bytes_of(self.keys, other))
+        common_prefix_len(bytes_of(self.keys, one), bytes_of(self.keys, other))
     }
 
     fn common_with(&self, slot: Slot) -> usize {
-        common(bytes_of(self.keys, slot), self.key)
+        common_prefix_len(bytes_of(self.keys, slot), self.key)
     }
 
     ghost order = { λ c slot text is. passes_in_order c.keys.now c.up_to c.key.now slot text is };

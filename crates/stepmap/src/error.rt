@@ -1,3 +1,5 @@
+//! Why a step map refuses a call.
+
 ghost use Rattle.std.specs.Prelude.{◌≡◌};
 ghost use Rattle.stepmap.specs.declared.error.StepError.TheVariants.{Memory};
 

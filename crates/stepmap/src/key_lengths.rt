@@ -1,3 +1,5 @@
+//! The lengths of keys that memory is taken for.
+
 ghost use Rattle.std.specs.Prelude.{◌≡◌, OnOk};
 ghost use Rattle.stepmap.specs.StepMap.{lengths};
 ghost use Rattle.stepmap.specs.Stored.{each_length};

@@ -7,7 +7,7 @@ ghost use Rattle.stepmap.specs.Asking.{AsksFor};
 use crate::cut::Cut;
 use crate::query::{QueryList, RangeQuery};
 use arena::Arena;
-use keys::common;
+use keys::common_prefix_len;
 use tree::Question;
 
 // What a tree of an arena's keys is asked.
@@ -32,7 +32,7 @@ pub fn question<'a>(keys: &'a Arena<()>, query: RangeQuery<'a>) -> CutQuestion<'
             key: end,
             up_to: false,
         },
-        shared: common(begin, end),
+        shared: common_prefix_len(begin, end),
         version: query.version,
     }
 }

@@ -1,3 +1,5 @@
+//! The step map: boundaries, a filter before them, an edge, and a limit.
+
 ghost use Rattle.std.specs.Prelude.{◌≡◌, ℕ, ◌+◌, ◌*◌, ◌≤◌, ◌<◌, nat_le, ℤ, negsuc, ◌≤ℤ◌, ◌↔◌};
 ghost use Rattle.std.specs.Prelude.{Bool, List, [], ◌++◌, length, take, drop, slice_get, Some, None, Err};
 ghost use Rattle.std.specs.Prelude.{IfOk, OnOk, OnErr, IfErr, IsTrue};

@@ -9,11 +9,11 @@ use Rattle.keys.specs.Key.{IsBytes, IsBefore}
 use Rattle.tree.specs.declared.entry.Entry.{Entry}
 use Rattle.tree.specs.declared.node.Node.{Node}
 use Rattle.tree.specs.Node.{entries_of, hint_of, keys_of}
-use Rattle.tree.specs.Hints.{KeyBytes, Begins, digest_behind, digest_at, Hint, IsHinted, PassesInOrder, TellsCommon, KnowsAt, Agrees, IsDigestFor}
+use Rattle.tree.specs.Hints.{KeyBytes, Begins, head_behind, head_at, Hint, IsHinted, PassesInOrder, TellsCommon, KnowsAt, Agrees, IsHeadFor}
 use Rattle.tree.specs.Path.{IsCut}
 use Rattle.tree.proofs.callers.Cuts.{length-passing, none_fail, not_both}
 use Rattle.tree.proofs.HintCounts.{fewer_pass, length-filter_map, passing_before, passing_inside}
-use Rattle.tree.proofs.HintOrder.{empty_digest, empty_before, empty_before_too, tells_empty, told_by_digests, before_too, tells_too, common_by_digests}
+use Rattle.tree.proofs.HintOrder.{empty_head, empty_before, empty_before_too, tells_empty, told_by_heads, before_too, tells_too, common_by_heads}
 
 some_same : {X : Type 0} (a b : X) → Some a ≡ Some b → a ≡ b
 some_same a b e = cc
@@ -43,7 +43,7 @@ pub record IsKeyAt (bytes : KeyBytes) (hint : Hint) (beginning : List ℕ) (inde
   pub known : bytes key ≡ Some text
   pub are_bytes : IsBytes text
   pub begins : (text ≡ []) ⊎ ((take hint.skip text ≡ beginning) × (hint.skip ≤ length text))
-  pub digest : get_or hint.digests index 0 ≡ digest_behind hint.skip text
+  pub head : get_or hint.heads index 0 ≡ head_behind hint.skip text
 
 -- a list without an element
 nothing_in : (xs : List ℕ) → length xs ≡ 0 → xs ≡ []
@@ -66,9 +66,9 @@ module _ (bytes : KeyBytes) (hint : Hint) (h : IsHinted bytes hint) where
               let begins : take hint.skip own.text ≡ h.beginning = ap (λ n. take n own.text) (sym h.skip) ∙ same in
               inr (begins, omega (arith, h.skip, ap length begins, length-take hint.skip own.text))
         ];
-        digest = ap (λ (ds : List ℕ). get_or ds index 0) h.digests
-            ∙ get_or-map (digest_at bytes hint.skip) hint.keys index key 0 inside ∙ ap (digest_at bytes hint.skip) read
-            ∙ ap (λ o. digest_behind hint.skip (unwrap_or o [])) own.known;
+        head = ap (λ (ds : List ℕ). get_or ds index 0) h.heads
+            ∙ get_or-map (head_at bytes hint.skip) hint.keys index key 0 inside ∙ ap (head_at bytes hint.skip) read
+            ∙ ap (λ o. head_behind hint.skip (unwrap_or o [])) own.known;
       }
 
   -- what is known of its bytes
@@ -78,9 +78,9 @@ module _ (bytes : KeyBytes) (hint : Hint) (h : IsHinted bytes hint) where
       let k = key_at index key there in
       some_same k.text text (sym k.known ∙ known)
 
-  -- a key whose digest isn't zero isn't empty
+  -- a key whose head isn't zero isn't empty
   long_at : (index key : ℕ) (there : slice_get hint.keys index ≡ Some key)
-      → (hint.skip ≡ 0) ⊎ (get_or hint.digests index 0 ≢ 0) → hint.skip ≤ length (key_at index key there).text
+      → (hint.skip ≡ 0) ⊎ (get_or hint.heads index 0 ≢ 0) → hint.skip ≤ length (key_at index key there).text
   long_at index key there filled =
       let k = key_at index key there in
       elim k.begins [
@@ -88,7 +88,7 @@ module _ (bytes : KeyBytes) (hint : Hint) (h : IsHinted bytes hint) where
         | inl empty ↦ elim filled [
           | inl none ↦ omega (arith, none)
           | inr differ ↦
-              absurd (differ (k.digest ∙ ap (digest_behind hint.skip) empty ∙ empty_digest hint.skip))
+              absurd (differ (k.head ∙ ap (head_behind hint.skip) empty ∙ empty_head hint.skip))
         ]
       ]
 
@@ -108,7 +108,7 @@ module _ (bytes : KeyBytes) (hint : Hint) (h : IsHinted bytes hint) where
 
   -- It does if it begins as one of them that isn't empty.
   pub agrees_at : (index key : ℕ) (sought : List ℕ) → slice_get hint.keys index ≡ Some key
-      → (hint.skip ≡ 0) ⊎ (get_or hint.digests index 0 ≢ 0)
+      → (hint.skip ≡ 0) ⊎ (get_or hint.heads index 0 ≢ 0)
       → ((text : List ℕ) → bytes key ≡ Some text → hint.skip ≤ length text → take hint.skip text ≡ take hint.skip sought)
       → Agrees bytes hint sought
   agrees_at index key sought there filled alike =
@@ -129,39 +129,39 @@ module _ (bytes : KeyBytes) (hint : Hint) (h : IsHinted bytes hint) where
     not_behind key text known passed behind =
         not_both (passes key) passed ((order key text known).behind behind)
 
-    -- Whether the key passes is told by its digest, if that isn't the one of what is looked for.
-    pub told_at : (index key digest : ℕ) → slice_get hint.keys index ≡ Some key → IsDigestFor bytes hint sought digest
-        → digest ≢ get_or hint.digests index 0 → nat_lt (get_or hint.digests index 0) digest ≡ passes key
-    told_at index key digest there is differ =
+    -- Whether the key passes is told by its head, if that isn't the one of what is looked for.
+    pub told_at : (index key head : ℕ) → slice_get hint.keys index ≡ Some key → IsHeadFor bytes hint sought head
+        → head ≢ get_or hint.heads index 0 → nat_lt (get_or hint.heads index 0) head ≡ passes key
+    told_at index key head there is differ =
         let k = key_at index key there in
-        let apart : digest_behind hint.skip k.text ≢ digest_behind hint.skip sought =
-        λ e. differ (is.digest_is ∙ sym e ∙ sym k.digest) in
+        let apart : head_behind hint.skip k.text ≢ head_behind hint.skip sought =
+        λ e. differ (is.head_is ∙ sym e ∙ sym k.head) in
         elim k.begins [
           | inr long ↦
               let same : take hint.skip k.text ≡ take hint.skip sought = long.0 ∙ sought_begins sought is.agrees in
-              ap (λ d. nat_lt d digest) k.digest ∙ ap (nat_lt (digest_behind hint.skip k.text)) is.digest_is
-              ∙ told_by_digests hint.skip k.text sought (passes key) k.are_bytes is.are_bytes long.1 same apart
+              ap (λ d. nat_lt d head) k.head ∙ ap (nat_lt (head_behind hint.skip k.text)) is.head_is
+              ∙ told_by_heads hint.skip k.text sought (passes key) k.are_bytes is.are_bytes long.1 same apart
               (order key k.text k.known)
           | inl empty ↦
-              let own : get_or hint.digests index 0 ≡ 0 =
-              k.digest ∙ ap (digest_behind hint.skip) empty ∙ empty_digest hint.skip in
+              let own : get_or hint.heads index 0 ≡ 0 =
+              k.head ∙ ap (head_behind hint.skip) empty ∙ empty_head hint.skip in
               let before : IsBefore k.text sought =
               subst (λ t. IsBefore t sought) (sym empty)
-              (empty_before hint.skip sought (λ e. differ (is.digest_is ∙ e ∙ sym own))) in
-              lt-ltb (get_or hint.digests index 0) digest (omega (arith, own, differ))
+              (empty_before hint.skip sought (λ e. differ (is.head_is ∙ e ∙ sym own))) in
+              lt-ltb (get_or hint.heads index 0) head (omega (arith, own, differ))
               ∙ sym ((order key k.text k.known).before before)
         ]
 
-    -- A key whose digest is less passes.
-    pub less_passes : (index key digest : ℕ) → slice_get hint.keys index ≡ Some key → IsDigestFor bytes hint sought digest
-        → nat_lt (get_or hint.digests index 0) digest ≡ true → passes key ≡ true
-    less_passes index key digest there is less =
-        sym (told_at index key digest there is (λ e. absurd (omega (arith, ltb-true (get_or hint.digests index 0) digest less))))
+    -- A key whose head is less passes.
+    pub less_passes : (index key head : ℕ) → slice_get hint.keys index ≡ Some key → IsHeadFor bytes hint sought head
+        → nat_lt (get_or hint.heads index 0) head ≡ true → passes key ≡ true
+    less_passes index key head there is less =
+        sym (told_at index key head there is (λ e. absurd (omega (arith, ltb-true (get_or hint.heads index 0) head less))))
         ∙ less
 
     -- Where the first key isn't empty and passes, and differs from what is looked for before all keys' common beginning
     -- ends, all keys pass.
-    module _ (shared first : ℕ) (at_first : slice_get hint.keys 0 ≡ Some first) (filled : get_or hint.digests 0 0 ≢ 0)
+    module _ (shared first : ℕ) (at_first : slice_get hint.keys 0 ≡ Some first) (filled : get_or hint.heads 0 0 ≢ 0)
         (less : shared < hint.skip) (passed : passes first ≡ true)
         (tells : (text : List ℕ) → bytes first ≡ Some text → TellsCommon shared text sought) where
       first_begins : take hint.skip (key_at 0 first at_first).text ≡ h.beginning
@@ -169,7 +169,7 @@ module _ (bytes : KeyBytes) (hint : Hint) (h : IsHinted bytes hint) where
           let f = key_at 0 first at_first in
           elim f.begins [
             | inr long ↦ long.0
-            | inl empty ↦ absurd (filled (f.digest ∙ ap (digest_behind hint.skip) empty ∙ empty_digest hint.skip))
+            | inl empty ↦ absurd (filled (f.head ∙ ap (head_behind hint.skip) empty ∙ empty_head hint.skip))
           ]
 
       pub passes_too : (index key : ℕ) → slice_get hint.keys index ≡ Some key → passes key ≡ true
@@ -201,20 +201,20 @@ module _ (bytes : KeyBytes) (hint : Hint) (h : IsHinted bytes hint) where
             | inl empty ↦ subst (λ t. TellsCommon shared t sought) (sym empty) (tells_empty shared sought)
           ])
 
-    -- How far a key that passes and what is looked for begin alike is told by its digest, if that isn't the one of what is
+    -- How far a key that passes and what is looked for begin alike is told by its head, if that isn't the one of what is
     -- looked for.
-    pub common_at : (index key digest count : ℕ) → slice_get hint.keys index ≡ Some key → IsDigestFor bytes hint sought digest
-        → passes key ≡ true → get_or hint.digests index 0 ≢ digest → count ≤ 8
-        → take count (to_be_bytes w64 (get_or hint.digests index 0)) ≡ take count (to_be_bytes w64 digest)
+    pub common_at : (index key head count : ℕ) → slice_get hint.keys index ≡ Some key → IsHeadFor bytes hint sought head
+        → passes key ≡ true → get_or hint.heads index 0 ≢ head → count ≤ 8
+        → take count (to_be_bytes w64 (get_or hint.heads index 0)) ≡ take count (to_be_bytes w64 head)
         → (count < 8
-        → slice_index (to_be_bytes w64 (get_or hint.digests index 0)) count ≢ slice_index (to_be_bytes w64 digest) count)
+        → slice_index (to_be_bytes w64 (get_or hint.heads index 0)) count ≢ slice_index (to_be_bytes w64 head) count)
         → (text : List ℕ) → bytes key ≡ Some text → TellsCommon (hint.skip + count) text sought
-    common_at index key digest count there is passed apart few alike differ text known =
+    common_at index key head count there is passed apart few alike differ text known =
         let k = key_at index key there in
-        let own = k.digest in
-        let other = is.digest_is in
-        let begin : take count (to_be_bytes w64 (digest_behind hint.skip k.text))
-        ≡ take count (to_be_bytes w64 (digest_behind hint.skip sought)) =
+        let own = k.head in
+        let other = is.head_is in
+        let begin : take count (to_be_bytes w64 (head_behind hint.skip k.text))
+        ≡ take count (to_be_bytes w64 (head_behind hint.skip sought)) =
         sym (ap (λ d. take count (to_be_bytes w64 d)) own) ∙ alike ∙ ap (λ d. take count (to_be_bytes w64 d)) other in
         subst (λ t. TellsCommon (hint.skip + count) t sought) (text_at index key there text known)
         (elim k.begins [
@@ -222,7 +222,7 @@ module _ (bytes : KeyBytes) (hint : Hint) (h : IsHinted bytes hint) where
               subst (λ t. TellsCommon (hint.skip + count) t sought) (sym empty) (tells_empty (hint.skip + count) sought)
           | inr begins ↦
               let same : take hint.skip k.text ≡ take hint.skip sought = begins.0 ∙ sought_begins sought is.agrees in
-              common_by_digests hint.skip count k.text sought k.are_bytes is.are_bytes begins.1 same
+              common_by_heads hint.skip count k.text sought k.are_bytes is.are_bytes begins.1 same
               (λ e. apart (own ∙ e ∙ sym other)) few begin
               (λ less e. differ less (ap (λ d. slice_index (to_be_bytes w64 d) count) own ∙ e
               ∙ sym (ap (λ d. slice_index (to_be_bytes w64 d) count) other)))
@@ -234,7 +234,7 @@ module _ {N : ℕ} (bytes : KeyBytes) (node : Node N) (h : IsHinted bytes (hint_
   -- Where the first key isn't empty and passes, and differs from what is looked for before all keys' common beginning ends,
   -- all entries pass.
   pub all_pass : (shared : ℕ) (first : Entry) → slice_get (entries_of node) 0 ≡ Some first
-      → get_or (hint_of node).digests 0 0 ≢ 0 → shared < node.skip → passes first.key ≡ true → ((text : List ℕ) → bytes first.key ≡ Some text → TellsCommon shared text sought)
+      → get_or (hint_of node).heads 0 0 ≢ 0 → shared < node.skip → passes first.key ≡ true → ((text : List ℕ) → bytes first.key ≡ Some text → TellsCommon shared text sought)
       → filter (λ (e : Entry). passes e.key) (entries_of node) ≡ entries_of node
   all_pass shared first there filled less passed tells =
       let es = entries_of node in
@@ -248,24 +248,24 @@ module _ {N : ℕ} (bytes : KeyBytes) (node : Node N) (h : IsHinted bytes (hint_
 
   -- The same where only that of the first entry is known.
   pub all_known : (shared : ℕ) → 0 < length (entries_of node) → KnowsAt bytes passes sought (Some shared) (entries_of node) 0
-      → (get_or (hint_of node).digests 0 0 ≢ 0 → shared < node.skip) → get_or (hint_of node).digests 0 0 ≢ 0
+      → (get_or (hint_of node).heads 0 0 ≢ 0 → shared < node.skip) → get_or (hint_of node).heads 0 0 ≢ 0
       → length (filter (λ (e : Entry). passes e.key) (entries_of node)) ≡ length (entries_of node)
   all_known shared some knows less filled =
       let first = entry_at (entries_of node) 0 some in
       let known = knows first.0 first.1 in
       ap length (all_pass shared first.0 first.1 filled (less filled) known.0 known.1)
 
-  -- No more digests are below that of what is looked for than entries pass.
-  pub few_below : (digest : ℕ) → IsDigestFor bytes (hint_of node) sought digest
-      → length (filter (λ d. nat_lt d digest) (take node.len node.digests))
+  -- No more heads are below that of what is looked for than entries pass.
+  pub few_below : (head : ℕ) → IsHeadFor bytes (hint_of node) sought head
+      → length (filter (λ d. nat_lt d head) (take node.len node.heads))
       ≤ length (filter (λ (e : Entry). passes e.key) (entries_of node))
-  few_below digest is =
+  few_below head is =
       let es = entries_of node in
       let hint = hint_of node in
-      let own : ℕ → ℕ = digest_at bytes hint.skip in
-      let below : ℕ → Bool = λ d. nat_lt d digest in
-      let of_keys : length (filter below hint.digests) ≡ length (filter (λ k. below (own k)) hint.keys) =
-      ap (λ ds. length (filter below ds)) h.digests ∙ length-filter_map below own hint.keys in
+      let own : ℕ → ℕ = head_at bytes hint.skip in
+      let below : ℕ → Bool = λ d. nat_lt d head in
+      let of_keys : length (filter below hint.heads) ≡ length (filter (λ k. below (own k)) hint.keys) =
+      ap (λ ds. length (filter below ds)) h.heads ∙ length-filter_map below own hint.keys in
       let of_entries : length (filter (λ k. below (own k)) hint.keys)
       ≡ length (filter (λ (e : Entry). below (own e.key)) es) =
       length-filter_map (λ k. below (own k)) (λ (e : Entry). e.key) es in
@@ -274,17 +274,17 @@ module _ {N : ℕ} (bytes : KeyBytes) (node : Node N) (h : IsHinted bytes (hint_
       let e = get_or es i d in
       let there = key_there es i e (slice_get-get_or es i d inside) in
       let k = key_at bytes hint h i e.key there in
-      let is_own : get_or hint.digests i 0 ≡ own e.key =
-      k.digest ∙ sym (ap (λ o. digest_behind hint.skip (unwrap_or o [])) k.known) in
-      less_passes bytes hint h sought passes order i e.key digest there is (ap below is_own ∙ less) in
+      let is_own : get_or hint.heads i 0 ≡ own e.key =
+      k.head ∙ sym (ap (λ o. head_behind hint.skip (unwrap_or o [])) k.known) in
+      less_passes bytes hint h sought passes order i e.key head there is (ap below is_own ∙ less) in
       omega (arith, of_keys, of_entries, fewer_pass (λ (e : Entry). below (own e.key)) (λ (e : Entry). passes e.key) es all)
 
-  module _ (digest : ℕ) (is : IsDigestFor bytes (hint_of node) sought digest)
+  module _ (head : ℕ) (is : IsHeadFor bytes (hint_of node) sought head)
       (cut : IsCut (λ (e : Entry). passes e.key) (entries_of node)) where
-    -- Entries behind some that pass do so, too, as far as their digests are below that of what is looked for.
+    -- Entries behind some that pass do so, too, as far as their heads are below that of what is looked for.
     pub many_pass : (from first : ℕ) → from ≤ length (filter (λ (e : Entry). passes e.key) (entries_of node))
         → first ≤ length (entries_of node)
-        → ((index : ℕ) → from ≤ index → index < first → get_or (hint_of node).digests index 0 < digest)
+        → ((index : ℕ) → from ≤ index → index < first → get_or (hint_of node).heads index 0 < head)
         → first ≤ length (filter (λ (e : Entry). passes e.key) (entries_of node))
     many_pass from first least within below =
         let es = entries_of node in
@@ -293,26 +293,26 @@ module _ {N : ℕ} (bytes : KeyBytes) (node : Node N) (h : IsHinted bytes (hint_
           | inr enough ↦ enough
           | inl few ↦
               let e = entry_at es count (omega arith) in
-              let less = lt-ltb (get_or (hint_of node).digests count 0) digest (below count least few) in
-              let passed = less_passes bytes (hint_of node) h sought passes order count e.0.key digest
+              let less = lt-ltb (get_or (hint_of node).heads count 0) head (below count least few) in
+              let passed = less_passes bytes (hint_of node) h sought passes order count e.0.key head
               (key_there es count e.0 e.1) is less in
               absurd (omega (arith, passing_inside (λ (e : Entry). passes e.key) es count e.0 cut e.1 passed))
         ]
 
-    -- No more entries pass than stand before one whose digest is above that of what is looked for.
-    pub few_pass : (end : ℕ) → (end < length (entries_of node) → digest < get_or (hint_of node).digests end 0)
+    -- No more entries pass than stand before one whose head is above that of what is looked for.
+    pub few_pass : (end : ℕ) → (end < length (entries_of node) → head < get_or (hint_of node).heads end 0)
         → length (filter (λ (e : Entry). passes e.key) (entries_of node)) ≤ end
     few_pass end above =
         let es = entries_of node in
         elim (cases_lt end (length es)) [
           | inr all ↦ omega (arith, length-passing (λ (e : Entry). passes e.key) es)
           | inl inside ↦
-              let own = get_or (hint_of node).digests end 0 in
-              let more : digest < own = above inside in
+              let own = get_or (hint_of node).heads end 0 in
+              let more : head < own = above inside in
               let e = entry_at es end inside in
               let fails : passes e.0.key ≡ false =
-              sym (told_at bytes (hint_of node) h sought passes order end e.0.key digest (key_there es end e.0 e.1) is
+              sym (told_at bytes (hint_of node) h sought passes order end e.0.key head (key_there es end e.0 e.1) is
               (λ same. absurd (omega (arith, same, more))))
-              ∙ le-ltb own digest (omega arith) in
+              ∙ le-ltb own head (omega arith) in
               passing_before (λ (e : Entry). passes e.key) es end e.0 cut e.1 fails
         ]

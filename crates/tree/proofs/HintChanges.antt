@@ -7,7 +7,7 @@ use Rattle.std.proofs.lemmas.List.{get_or-map, get_or-take, length-map, length-t
 use Rattle.std.proofs.lemmas.Option.{slice_get_within, get_or_from_slice_get}
 use Rattle.std.proofs.lemmas.List.Elements.{All-nil, All-append, All-contains, All-drop, All-more, All-set, All-take, All-weaker}
 use Rattle.tree.specs.declared.entry.Entry.{Entry}
-use Rattle.tree.specs.Hints.{KeyBytes, IsKnown, Begins, Hint, IsHinted, Agrees, digest_behind, digest_at}
+use Rattle.tree.specs.Hints.{KeyBytes, IsKnown, Begins, Hint, IsHinted, Agrees, head_behind, head_at}
 use Rattle.tree.specs.Node.{keys_of}
 use Rattle.tree.proofs.Hinted.{all_known, begins_if_long}
 
@@ -125,18 +125,18 @@ module _ (es : List Entry) (len i : ℕ) (e : Entry) (inside : i < len) (most : 
   pub key_there : Contains (keys_of (take len es)) e.key
   key_there = (i, omega (arith, keys_count es len most), sym key_read)
 
-  -- its digest
-  pub digest_there : (f : ℕ → ℕ) (digests : List ℕ) → take len digests ≡ map f (keys_of (take len es)) → get_or digests i 0 ≡ f e.key
-  digest_there f digests right =
-      sym (get_or-take len digests i 0 inside) ∙ ap (λ xs. get_or xs i 0) right
+  -- its head
+  pub head_there : (f : ℕ → ℕ) (heads : List ℕ) → take len heads ≡ map f (keys_of (take len es)) → get_or heads i 0 ≡ f e.key
+  head_there f heads right =
+      sym (get_or-take len heads i 0 inside) ∙ ap (λ xs. get_or xs i 0) right
       ∙ get_or-map f (keys_of (take len es)) i e.key 0 (omega (arith, keys_count es len most)) ∙ ap f (sym key_read)
 
-  -- with its digest one more is right
-  pub digest_next : (f : ℕ → ℕ) (digests : List ℕ) (digest : ℕ) → i < length digests → digest ≡ f e.key
-      → take i digests ≡ map f (take i (keys_of (take len es)))
-      → take (i + 1) (slice_set digests i digest) ≡ map f (take (i + 1) (keys_of (take len es)))
-  digest_next f digests digest room right before =
-      map_further f (keys_of (take len es)) digests i e.key digest (omega (arith, keys_count es len most)) room key_read right before
+  -- with its head one more is right
+  pub head_next : (f : ℕ → ℕ) (heads : List ℕ) (head : ℕ) → i < length heads → head ≡ f e.key
+      → take i heads ≡ map f (take i (keys_of (take len es)))
+      → take (i + 1) (slice_set heads i head) ≡ map f (take (i + 1) (keys_of (take len es)))
+  head_next f heads head room right before =
+      map_further f (keys_of (take len es)) heads i e.key head (omega (arith, keys_count es len most)) room key_read right before
 
   -- another entry of the same key in its place changes no key
   pub key_stays : (new : Entry) → e.key ≡ new.key → keys_of (slice_set (take len es) i new) ≡ keys_of (take len es)
@@ -155,11 +155,11 @@ BeginsAsFirst bytes first count key =
     (a b : List ℕ) → bytes first ≡ Some a → bytes key ≡ Some b → (b ≡ []) ⊎ ((count ≤ length a) × (take count a ≡ take count b))
 
 module _ (bytes : KeyBytes) where
-  -- the digest of a key is that of its bytes
-  pub digest_known : (skip key digest : ℕ) → IsKnown bytes key
-      → ((text : List ℕ) → bytes key ≡ Some text → digest ≡ digest_behind skip text) → digest ≡ digest_at bytes skip key
-  digest_known skip key digest k d =
-      d k.text k.known ∙ ap (λ o. digest_behind skip (unwrap_or o [])) (sym k.known)
+  -- the head of a key is that of its bytes
+  pub head_known : (skip key head : ℕ) → IsKnown bytes key
+      → ((text : List ℕ) → bytes key ≡ Some text → head ≡ head_behind skip text) → head ≡ head_at bytes skip key
+  head_known skip key head k d =
+      d k.text k.known ∙ ap (λ o. head_behind skip (unwrap_or o [])) (sym k.known)
 
   -- A key that begins as all others do for so many bytes begins with these.
   pub agrees_begins : (hint : Hint) (h : IsHinted bytes hint) (key : ℕ) → IsKnown bytes key
@@ -307,18 +307,18 @@ module _ (bytes : KeyBytes) where
   )
 
   -- Another key that begins alike is set.
-  pub hinted_set : (hint new : Hint) (h : IsHinted bytes hint) (i key digest : ℕ) → IsKnown bytes key → BeginsAsThese bytes hint key
-      → digest ≡ digest_at bytes hint.skip key → new.keys ≡ slice_set hint.keys i key → new.skip ≡ hint.skip
-      → new.digests ≡ slice_set hint.digests i digest → IsHinted bytes new
-  hinted_set hint new h i key digest k agrees right keys skip digests =
+  pub hinted_set : (hint new : Hint) (h : IsHinted bytes hint) (i key head : ℕ) → IsKnown bytes key → BeginsAsThese bytes hint key
+      → head ≡ head_at bytes hint.skip key → new.keys ≡ slice_set hint.keys i key → new.skip ≡ hint.skip
+      → new.heads ≡ slice_set hint.heads i head → IsHinted bytes new
+  hinted_set hint new h i key head k agrees right keys skip heads =
       let P = Begins bytes h.beginning in
       record {
         beginning = h.beginning;
         skip = h.skip ∙ sym skip;
         begins = subst (All P) (sym keys) (All-set P hint.keys i key (agrees_begins hint h key k agrees) h.begins);
-        digests = digests ∙ ap₂ (λ xs d. slice_set xs i d) h.digests right
-            ∙ sym (map-set (digest_at bytes hint.skip) hint.keys i key)
-            ∙ ap₂ (λ n xs. map (digest_at bytes n) xs) (sym skip) (sym keys);
+        heads = heads ∙ ap₂ (λ xs d. slice_set xs i d) h.heads right
+            ∙ sym (map-set (head_at bytes hint.skip) hint.keys i key)
+            ∙ ap₂ (λ n xs. map (head_at bytes n) xs) (sym skip) (sym keys);
       }
 
   -- then the keys are known
@@ -341,29 +341,29 @@ module _ (bytes : KeyBytes) where
       subst (All (Begins bytes h.beginning)) (sym is)
       (All-spliced (Begins bytes h.beginning) hint.keys new from to h.begins (all_begin hint h new known begin))
 
-  -- Those from one index up to another are taken out, with their digests.
+  -- Those from one index up to another are taken out, with their heads.
   pub hinted_removed : (hint new : Hint) (h : IsHinted bytes hint) (from to : ℕ)
       → new.keys ≡ take from hint.keys ++ drop to hint.keys → new.skip ≡ hint.skip
-      → new.digests ≡ take from hint.digests ++ drop to hint.digests → IsHinted bytes new
-  hinted_removed hint new h from to keys skip digests =
+      → new.heads ≡ take from hint.heads ++ drop to hint.heads → IsHinted bytes new
+  hinted_removed hint new h from to keys skip heads =
       let P = Begins bytes h.beginning in
-      let f = digest_at bytes hint.skip in
+      let f = head_at bytes hint.skip in
       record {
         beginning = h.beginning;
         skip = h.skip ∙ sym skip;
         begins = subst (All P) (sym keys) (All-spliced P hint.keys [] from to h.begins (All-nil P));
-        digests = digests ∙ ap (λ ds. take from ds ++ drop to ds) h.digests
+        heads = heads ∙ ap (λ ds. take from ds ++ drop to ds) h.heads
             ∙ ap₂ (λ xs ys. xs ++ ys) (take-map f from hint.keys) (drop-map f to hint.keys)
             ∙ sym (map-append f (take from hint.keys) (drop to hint.keys))
-            ∙ ap₂ (λ n xs. map (digest_at bytes n) xs) (sym skip) (sym keys);
+            ∙ ap₂ (λ n xs. map (head_at bytes n) xs) (sym skip) (sym keys);
       }
 
--- The digest of the key of an entry, behind so many bytes, is that of its bytes.
-pub digest_read : (es : List Entry) (len i : ℕ) (e : Entry) → i < len → len ≤ length es → e ≡ get_or es i e
-    → (bytes : KeyBytes) (skip behind digest : ℕ) → behind ≡ skip → All (IsKnown bytes) (keys_of (take len es))
-    → ((text : List ℕ) → bytes (get_or es i e).key ≡ Some text → digest ≡ digest_behind behind text)
-    → digest ≡ digest_at bytes skip e.key
-digest_read es len i e inside most is bytes skip behind digest same known right =
-    digest_known bytes skip e.key digest
+-- The head of the key of an entry, behind so many bytes, is that of its bytes.
+pub head_read : (es : List Entry) (len i : ℕ) (e : Entry) → i < len → len ≤ length es → e ≡ get_or es i e
+    → (bytes : KeyBytes) (skip behind head : ℕ) → behind ≡ skip → All (IsKnown bytes) (keys_of (take len es))
+    → ((text : List ℕ) → bytes (get_or es i e).key ≡ Some text → head ≡ head_behind behind text)
+    → head ≡ head_at bytes skip e.key
+head_read es len i e inside most is bytes skip behind head same known right =
+    head_known bytes skip e.key head
     (All-contains (IsKnown bytes) (keys_of (take len es)) e.key known (key_there es len i e inside most is))
-    (λ text k. right text (ap (λ (x : Entry). bytes x.key) (sym is) ∙ k) ∙ ap (λ n. digest_behind n text) same)
+    (λ text k. right text (ap (λ (x : Entry). bytes x.key) (sym is) ∙ k) ∙ ap (λ n. head_behind n text) same)

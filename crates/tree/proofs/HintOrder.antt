@@ -1,13 +1,13 @@
--- What the bytes with which a key and what is looked for begin, and the digests of what stands behind, tell of the two.
+-- What the bytes with which a key and what is looked for begin, and the heads of what stands behind, tell of the two.
 use Rattle.std.proofs.Common.{◌≡◌, ◌≢◌, ℕ, zero, suc, ◌+◌, ◌-◌, ◌<◌, ◌≤◌, Bool, nat_lt, List, [], ◌∷◌, ◌++◌, length, get_or, take, drop, replicate, slice_index, refl, sym, ap, subst, ◌∙◌, inl, inr, arith, length-take, get_or-take, lt-ltb, le-ltb}
 use Rattle.std.specs.Int.{w64, to_be_bytes, from_be_bytes}
 use Rattle.std.proofs.lemmas.Bool.{cases_lt, cases_order}
 use Rattle.std.proofs.lemmas.List.{take-take, take-append-le, take-append-drop, take_more_same, length-take-le, drop-take, length-drop, get_or_append_left}
 use Rattle.std.proofs.lemmas.List.Elements.{All-drop}
 use Rattle.keys.specs.Key.{IsBytes, IsBefore}
-use Rattle.keys.specs.Digest.{first_eight, digest_of}
-use Rattle.keys.proofs.callers.Digests.{digest_less, digest_of-bytes, behind_common, behind_shorter, behind_differing}
-use Rattle.tree.specs.Hints.{digest_behind, PassesInOrder, TellsCommon}
+use Rattle.keys.specs.Head.{first_eight, head_of}
+use Rattle.keys.proofs.callers.KeyHeads.{head_less, head_of-bytes, behind_common, behind_shorter, behind_differing}
+use Rattle.tree.specs.Hints.{head_behind, PassesInOrder, TellsCommon}
 
 abbrev IsByte : ℕ → Type 0
 IsByte byte = byte < 256
@@ -31,15 +31,15 @@ as_long n a b long same =
     let equal : length (take n a) ≡ length (take n b) = ap length same in
     omega (arith, equal, length-take-le n a long, length-take n b)
 
--- the digest of the empty key
-pub empty_digest : (skip : ℕ) → digest_behind skip [] ≡ 0
-unfolding digest_of
-empty_digest zero = refl
-empty_digest (suc skip) = refl
+-- the head of the empty key
+pub empty_head : (skip : ℕ) → head_behind skip [] ≡ 0
+unfolding head_of
+empty_head zero = refl
+empty_head (suc skip) = refl
 
--- It comes before what is looked for, if that has another digest
-pub empty_before : (skip : ℕ) (sought : List ℕ) → digest_behind skip sought ≢ 0 → IsBefore [] sought
-empty_before skip [] differ = absurd (differ (empty_digest skip))
+-- It comes before what is looked for, if that has another head
+pub empty_before : (skip : ℕ) (sought : List ℕ) → head_behind skip sought ≢ 0 → IsBefore [] sought
+empty_before skip [] differ = absurd (differ (empty_head skip))
 empty_before skip (x ∷ xs) differ = refl
 
 -- or isn't before a key that isn't empty.
@@ -53,27 +53,27 @@ pub tells_empty : (shared : ℕ) (sought : List ℕ) → TellsCommon shared [] s
 tells_empty shared sought zero within = ((λ le. refl), (λ alike. omega arith))
 tells_empty shared sought (suc count) within = absurd (omega arith)
 
--- Where the digests behind a common beginning differ, they tell whether the key passes.
-pub told_by_digests : (skip : ℕ) (text sought : List ℕ) (passes : Bool) → IsBytes text → IsBytes sought
-    → skip ≤ length text → take skip text ≡ take skip sought → digest_behind skip text ≢ digest_behind skip sought
-    → PassesInOrder text sought passes → nat_lt (digest_behind skip text) (digest_behind skip sought) ≡ passes
-told_by_digests skip text sought passes text_bytes sought_bytes long same differ order =
+-- Where the heads behind a common beginning differ, they tell whether the key passes.
+pub told_by_heads : (skip : ℕ) (text sought : List ℕ) (passes : Bool) → IsBytes text → IsBytes sought
+    → skip ≤ length text → take skip text ≡ take skip sought → head_behind skip text ≢ head_behind skip sought
+    → PassesInOrder text sought passes → nat_lt (head_behind skip text) (head_behind skip sought) ≡ passes
+told_by_heads skip text sought passes text_bytes sought_bytes long same differ order =
     let sought_long = as_long skip text sought long same in
     let t = drop skip text in
     let s = drop skip sought in
     let t_bytes = All-drop IsByte skip text text_bytes in
     let s_bytes = All-drop IsByte skip sought sought_bytes in
-    elim (cases_order (digest_of t) (digest_of s)) [
+    elim (cases_order (head_of t) (head_of s)) [
       | inl e ↦ absurd (differ e)
       | inr apart ↦ elim apart [
         | inl less ↦
-            lt-ltb (digest_of t) (digest_of s) less
+            lt-ltb (head_of t) (head_of s) less
             ∙ sym (order.before (behind_common skip text sought long sought_long same
-            ∙ digest_less t s t_bytes s_bytes less))
+            ∙ head_less t s t_bytes s_bytes less))
         | inr more ↦
-            le-ltb (digest_of t) (digest_of s) (omega arith)
+            le-ltb (head_of t) (head_of s) (omega arith)
             ∙ sym (order.behind (behind_common skip sought text sought_long long (sym same)
-            ∙ digest_less s t s_bytes t_bytes more))
+            ∙ head_less s t s_bytes t_bytes more))
       ]
     ]
 
@@ -180,9 +180,9 @@ common_with_behind skip m a b long same tells count within =
           )
     ]
 
-same_digest : (a b : List ℕ) → first_eight a ≡ first_eight b → digest_of a ≡ digest_of b
-unfolding digest_of
-same_digest a b same = ap (from_be_bytes w64) same
+same_head : (a b : List ℕ) → first_eight a ≡ first_eight b → head_of a ≡ head_of b
+unfolding head_of
+same_head a b same = ap (from_be_bytes w64) same
 
 -- all eight
 whole_eight : (m : ℕ) (a b : List ℕ) → 8 ≤ m → m ≤ 8 → take m (first_eight a) ≡ take m (first_eight b)
@@ -192,24 +192,24 @@ whole_eight m a b many few same =
     sym (take-take 8 8 (a ++ replicate 8 0) (omega arith)) ∙ ap (λ k. take k (first_eight a)) (sym all) ∙ same
     ∙ ap (λ k. take k (first_eight b)) all ∙ take-take 8 8 (b ++ replicate 8 0) (omega arith)
 
--- Where the digests behind a common beginning differ, and the key isn't behind what is looked for, the two begin alike as far
--- as the bytes of the digests do.
-pub common_by_digests : (skip m : ℕ) (text sought : List ℕ) → IsBytes text → IsBytes sought → skip ≤ length text
-    → take skip text ≡ take skip sought → digest_behind skip text ≢ digest_behind skip sought → m ≤ 8
-    → take m (to_be_bytes w64 (digest_behind skip text)) ≡ take m (to_be_bytes w64 (digest_behind skip sought))
+-- Where the heads behind a common beginning differ, and the key isn't behind what is looked for, the two begin alike as far
+-- as the bytes of the heads do.
+pub common_by_heads : (skip m : ℕ) (text sought : List ℕ) → IsBytes text → IsBytes sought → skip ≤ length text
+    → take skip text ≡ take skip sought → head_behind skip text ≢ head_behind skip sought → m ≤ 8
+    → take m (to_be_bytes w64 (head_behind skip text)) ≡ take m (to_be_bytes w64 (head_behind skip sought))
     → (m < 8
-    → slice_index (to_be_bytes w64 (digest_behind skip text)) m ≢ slice_index (to_be_bytes w64 (digest_behind skip sought)) m)
+    → slice_index (to_be_bytes w64 (head_behind skip text)) m ≢ slice_index (to_be_bytes w64 (head_behind skip sought)) m)
     → (IsBefore sought text → ⊥) → TellsCommon (skip + m) text sought
-common_by_digests skip m text sought text_bytes sought_bytes long same apart few alike differ not_behind =
+common_by_heads skip m text sought text_bytes sought_bytes long same apart few alike differ not_behind =
     let sought_long = as_long skip text sought long same in
     let t = drop skip text in
     let s = drop skip sought in
-    let t_is = digest_of-bytes t (All-drop IsByte skip text text_bytes) in
-    let s_is = digest_of-bytes s (All-drop IsByte skip sought sought_bytes) in
+    let t_is = head_of-bytes t (All-drop IsByte skip text text_bytes) in
+    let s_is = head_of-bytes s (All-drop IsByte skip sought sought_bytes) in
     let eight : take m (first_eight t) ≡ take m (first_eight s) =
     sym (ap (take m) t_is) ∙ alike ∙ ap (take m) s_is in
     elim (cases_lt m 8) [
-      | inr many ↦ absurd (apart (same_digest t s (whole_eight m t s many few eight)))
+      | inr many ↦ absurd (apart (same_head t s (whole_eight m t s many few eight)))
       | inl less ↦
           let next : get_or (first_eight t) m 0 ≢ get_or (first_eight s) m 0 =
           λ e. differ less (ap (λ (l : List ℕ). get_or l m 0) t_is ∙ e ∙ sym (ap (λ (l : List ℕ). get_or l m 0) s_is)) in

@@ -5,7 +5,7 @@ use Rattle.std.specs.List.{All}
 use Rattle.std.proofs.lemmas.List.Elements.{All-weaker, All-head, All-tail}
 use Rattle.arena.specs.Arena.{Arena, record_at, header_at}
 use Rattle.tree.specs.declared.node.Node.{Node}
-use Rattle.tree.specs.Hints.{KeyBytes, IsKnown, Begins, Hint, IsHinted, AreHinted, digest_at, digest_behind}
+use Rattle.tree.specs.Hints.{KeyBytes, IsKnown, Begins, Hint, IsHinted, AreHinted, head_at, head_behind}
 use Rattle.tree.specs.Node.{entries_of, keys_of, hint_of, hints_of}
 use Rattle.tree.specs.Subtree.{entries_at}
 use Rattle.std.specs.FinMap as finite
@@ -40,13 +40,13 @@ same_or_other s slot =
       | inr other ↦ inr (λ same. other.0 (sym same))
     ]
 
-digests_kept : (a b : KeyBytes) (skip : ℕ) → ((key : ℕ) (text : List ℕ) → a key ≡ Some text → b key ≡ Some text)
-    → (keys : List ℕ) → All (IsKnown a) keys → map (digest_at a skip) keys ≡ map (digest_at b skip) keys
-digests_kept a b skip same [] known = refl
-digests_kept a b skip same (key ∷ keys) known =
+heads_kept : (a b : KeyBytes) (skip : ℕ) → ((key : ℕ) (text : List ℕ) → a key ≡ Some text → b key ≡ Some text)
+    → (keys : List ℕ) → All (IsKnown a) keys → map (head_at a skip) keys ≡ map (head_at b skip) keys
+heads_kept a b skip same [] known = refl
+heads_kept a b skip same (key ∷ keys) known =
     let k = All-head (IsKnown a) key keys known in
-    ap₂ (λ x xs. x ∷ xs) (ap (λ o. digest_behind skip (unwrap_or o [])) (k.known ∙ sym (same key k.text k.known)))
-    (digests_kept a b skip same keys (All-tail (IsKnown a) key keys known))
+    ap₂ (λ x xs. x ∷ xs) (ap (λ o. head_behind skip (unwrap_or o [])) (k.known ∙ sym (same key k.text k.known)))
+    (heads_kept a b skip same keys (All-tail (IsKnown a) key keys known))
 
 -- what a node knows is right for bytes that are the same of the keys that are known
 pub hint_kept : (a b : KeyBytes) → ((key : ℕ) (text : List ℕ) → a key ≡ Some text → b key ≡ Some text)
@@ -58,7 +58,7 @@ hint_kept a b same hint h =
       begins = All-weaker (Begins a h.beginning) (Begins b h.beginning)
           (λ key x. record { text = x.text; known = same key x.text x.known; are_bytes = x.are_bytes; begins = x.begins })
           hint.keys h.begins;
-      digests = h.digests ∙ digests_kept a b hint.skip same hint.keys (all_known a hint h);
+      heads = h.heads ∙ heads_kept a b hint.skip same hint.keys (all_known a hint h);
     }
 
 -- What each node knows is right for bytes that are the same of the keys that are known.

@@ -6,11 +6,11 @@ use Rattle.std.proofs.lemmas.List.Elements.{All-nil, All-cons, All-head, All-tai
 use Rattle.std.specs.FinMap as finite
 use Rattle.std.specs.Ordering.{nat_cmp}
 use Rattle.arena.specs.Arena.{Arena, Record, record_at}
-use Rattle.keys.specs.Digest.{digest_of}
+use Rattle.keys.specs.Head.{head_of}
 use Rattle.keys.specs.Key.{IsBytes}
 use Rattle.tree.specs.declared.entry.Entry.{Entry}
 use Rattle.tree.specs.declared.node.Node.{Node}
-use Rattle.tree.specs.Hints.{KeyBytes, Begins, Hint, IsHinted, AreHinted, digest_behind}
+use Rattle.tree.specs.Hints.{KeyBytes, Begins, Hint, IsHinted, AreHinted, head_behind}
 use Rattle.tree.specs.Item.{item_of}
 use Rattle.tree.specs.Node.{entries_of, hint_of, hints_of, keys_of}
 use Rattle.tree.specs.Path.{IsCut}
@@ -64,29 +64,29 @@ module _ (P : ℕ → Type 0) where
       All-cons P x.key (keys_of (take i es ++ e ∷ drop i es)) (All-head P x.key (keys_of es) a)
       (keys_inserted es i e (All-tail P x.key (keys_of es) a) p)
 
-empty_digest : digest_behind 0 [] ≡ 0
-unfolding digest_of
-empty_digest = refl
+empty_head : head_behind 0 [] ≡ 0
+unfolding head_of
+empty_head = refl
 
 no_bytes : IsBytes []
 no_bytes = search rules
 
--- The empty key is known, and its digest is zero: a node that has no other knows it.
+-- The empty key is known, and its head is zero: a node that has no other knows it.
 hinted_empty : (bytes : KeyBytes) (key : ℕ) → bytes key ≡ Some []
-    → IsHinted bytes (record { keys = key ∷ []; skip = 0; digests = 0 ∷ [] })
+    → IsHinted bytes (record { keys = key ∷ []; skip = 0; heads = 0 ∷ [] })
 hinted_empty bytes key empty =
     let text : unwrap_or (bytes key) [] ≡ [] = ap (λ o. unwrap_or o []) empty in
     record {
       beginning = [];
       skip = refl;
       begins = All-cons (Begins bytes []) key [] (record { text = []; known = empty; are_bytes = no_bytes; begins = inl refl }) (All-nil (Begins bytes []));
-      digests = ap (λ d. d ∷ []) (sym (ap (digest_behind 0) text ∙ empty_digest));
+      heads = ap (λ d. d ∷ []) (sym (ap (head_behind 0) text ∙ empty_head));
     }
 
 -- an arena whose only node has the empty key alone
 pub hinted_alone : {N : ℕ} (bytes : KeyBytes) (a b : Arena (Node N)) (slot : ℕ) (node : Node N) (key : ℕ) → a.records ≡ finite.empty
     → record_at b slot ≡ Some (record { header = node; key = [] }) → ((s : ℕ) → s ≢ slot → record_at b s ≡ record_at a s)
-    → hint_of node ≡ record { keys = key ∷ []; skip = 0; digests = 0 ∷ [] } → bytes key ≡ Some []
+    → hint_of node ≡ record { keys = key ∷ []; skip = 0; heads = 0 ∷ [] } → bytes key ≡ Some []
     → AreHinted bytes (hints_of b)
 hinted_alone {N} bytes a b slot node key none is others hint empty =
     let nothing : AreHinted bytes (hints_of a) = λ s.

@@ -6,7 +6,7 @@ use Rattle.std.proofs.lemmas.Bool.{cases_Bool}
 use Rattle.std.proofs.lemmas.List.{take-take}
 use Rattle.std.proofs.lemmas.List.Elements.{All-nil, All-cons}
 use Rattle.tree.specs.declared.entry.Entry.{Entry}
-use Rattle.tree.specs.Hints.{KeyBytes, BeginAlike, KnowsAt, Hint, Agrees, IsDigestFor}
+use Rattle.tree.specs.Hints.{KeyBytes, BeginAlike, KnowsAt, Hint, Agrees, IsHeadFor}
 use Rattle.tree.specs.Node.{keys_of}
 use Rattle.tree.proofs.Overwriting.{entries_put}
 
@@ -26,12 +26,12 @@ begin_alike bytes near passes sought other es (Some known) n knows most alike sa
     let tells = (knows e is).1 text (sym (same e.key) ∙ there) count within in
     tells.0 (omega (arith, few, most)) ∙ sym (fewer_alike count n other sought few alike)
 
--- What begins as far alike as what another probe looks for, which has a digest, begins as all keys do.
-pub agrees_too : (bytes near : KeyBytes) (hint : Hint) (sought other : List ℕ) (shared : ℕ) (digest : Option ℕ)
-    → ((key : ℕ) → near key ≡ bytes key) → IfSome digest (IsDigestFor near hint other) → is_some digest ≡ true
+-- What begins as far alike as what another probe looks for, which has a head, begins as all keys do.
+pub agrees_too : (bytes near : KeyBytes) (hint : Hint) (sought other : List ℕ) (shared : ℕ) (head : Option ℕ)
+    → ((key : ℕ) → near key ≡ bytes key) → IfSome head (IsHeadFor near hint other) → is_some head ≡ true
     → hint.skip ≤ shared → take shared other ≡ take shared sought → Agrees bytes hint sought
 agrees_too bytes near hint sought other shared None same for some short alike = absurd (let t : false ≡ true = some in cc)
-agrees_too bytes near hint sought other shared (Some digest) same for some short alike =
+agrees_too bytes near hint sought other shared (Some head) same for some short alike =
     let a = for.agrees in
     record {
       key = a.key;
@@ -43,13 +43,13 @@ agrees_too bytes near hint sought other shared (Some digest) same for some short
     }
 
 -- Keys whose bytes begin as what another probe looks for do begin as all keys of the leaf do.
-pub agree : (bytes near : KeyBytes) (hint : Hint) (own other : List ℕ) (shared : ℕ) (digest : Option ℕ)
-    → ((key : ℕ) → near key ≡ bytes key) → IfSome digest (IsDigestFor near hint other)
-    → hint.skip ≤ shared → take shared other ≡ take shared own → is_some digest ≡ true
+pub agree : (bytes near : KeyBytes) (hint : Hint) (own other : List ℕ) (shared : ℕ) (head : Option ℕ)
+    → ((key : ℕ) → near key ≡ bytes key) → IfSome head (IsHeadFor near hint other)
+    → hint.skip ≤ shared → take shared other ≡ take shared own → is_some head ≡ true
     → (key : ℕ) → bytes key ≡ Some own → (text : List ℕ) → bytes key ≡ Some text → Agrees bytes hint text
 agree bytes near hint own other shared None same for short alike some key is text there =
     absurd (let t : false ≡ true = some in cc)
-agree bytes near hint own other shared (Some digest) same for short alike some key is text there =
+agree bytes near hint own other shared (Some head) same for short alike some key is text there =
     let a = for.agrees in
     let e : own ≡ text = let s : Some own ≡ Some text = sym is ∙ there in cc in
     record {

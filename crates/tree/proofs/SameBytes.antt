@@ -37,7 +37,7 @@ use Rattle.std.proofs.lemmas.Nat.{
   xor_lt,
   xor_shr,
 }
-use Rattle.keys.proofs.callers.Digests.{begin_alike}
+use Rattle.keys.proofs.callers.KeyHeads.{begin_alike}
 
 -- a byte is what stands there
 byte_is : (i n : ℕ) → byte_at i n ≡ n / 256 ^ i % 256

@@ -2,7 +2,7 @@
 use Rattle.std.specs.Prelude.{◌≡◌, ◌⊎◌, ◌≤◌, ◌↔◌, ℕ, Bool, true, false, List, [], length, map, take, drop, Option, Some, slice_get, unwrap_or, IfSome, MatchOption}
 use Rattle.std.specs.List.{All, Contains}
 use Rattle.keys.specs.Key.{IsBytes, IsBefore}
-use Rattle.keys.specs.Digest.{digest_of}
+use Rattle.keys.specs.Head.{head_of}
 use Rattle.tree.specs.declared.entry.Entry.{Entry}
 
 -- the bytes of keys, of those that are known
@@ -22,26 +22,26 @@ pub record Begins (bytes : KeyBytes) (beginning : List ℕ) (key : ℕ) : Type 0
   pub are_bytes : IsBytes text
   pub begins : (text ≡ []) ⊎ (take (length beginning) text ≡ beginning)
 
--- the digest of what stands in a key behind so many bytes
-abbrev pub digest_behind : ℕ → List ℕ → ℕ
-digest_behind skip text = digest_of (drop skip text)
+-- the head of what stands in a key behind so many bytes
+abbrev pub head_behind : ℕ → List ℕ → ℕ
+head_behind skip text = head_of (drop skip text)
 
 -- that of a key
-abbrev pub digest_at : KeyBytes → ℕ → ℕ → ℕ
-digest_at bytes skip key = digest_behind skip (unwrap_or (bytes key) [])
+abbrev pub head_at : KeyBytes → ℕ → ℕ → ℕ
+head_at bytes skip key = head_behind skip (unwrap_or (bytes key) [])
 
--- what a node knows: its keys, with how many bytes all of them but an empty one begin, and the digest of each behind these
+-- what a node knows: its keys, with how many bytes all of them but an empty one begin, and the head of each behind these
 pub record Hint : Type 0 where
   pub keys : List ℕ
   pub skip : ℕ
-  pub digests : List ℕ
+  pub heads : List ℕ
 
 -- what it knows is right
 pub record IsHinted (bytes : KeyBytes) (hint : Hint) : Type 0 where
   pub beginning : List ℕ
   pub skip : length beginning ≡ hint.skip
   pub begins : All (Begins bytes beginning) hint.keys
-  pub digests : hint.digests ≡ map (digest_at bytes hint.skip) hint.keys
+  pub heads : hint.heads ≡ map (head_at bytes hint.skip) hint.keys
 
 -- what each node knows is right
 abbrev pub AreHinted : KeyBytes → (ℕ → Option Hint) → Type 0
@@ -80,8 +80,8 @@ pub record Agrees (bytes : KeyBytes) (hint : Hint) (sought : List ℕ) : Type 0 
   pub long : hint.skip ≤ length text
   pub same : take hint.skip text ≡ take hint.skip sought
 
--- The digest of what is looked for, which begins as all keys do.
-pub record IsDigestFor (bytes : KeyBytes) (hint : Hint) (sought : List ℕ) (digest : ℕ) : Type 0 where
+-- The head of what is looked for, which begins as all keys do.
+pub record IsHeadFor (bytes : KeyBytes) (hint : Hint) (sought : List ℕ) (head : ℕ) : Type 0 where
   pub agrees : Agrees bytes hint sought
-  pub digest_is : digest ≡ digest_behind hint.skip sought
+  pub head_is : head ≡ head_behind hint.skip sought
   pub are_bytes : IsBytes sought

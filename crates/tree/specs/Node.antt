@@ -20,13 +20,13 @@ items_of_run (Some run) = map item_of (entries_of run)
 abbrev pub keys_of : List Entry → List ℕ
 keys_of entries = map (λ e. e.key) entries
 
--- the digests for which it has room
-abbrev pub digests_in : {N : ℕ} → Node N → List ℕ
-digests_in node = node.digests
+-- the heads for which it has room
+abbrev pub node_heads : {N : ℕ} → Node N → List ℕ
+node_heads node = node.heads
 
 -- what a node knows of the bytes of its keys
 abbrev pub hint_of : {N : ℕ} → Node N → Hint
-hint_of node = record { keys = keys_of (entries_of node); skip = node.skip; digests = take node.len (digests_in node) }
+hint_of node = record { keys = keys_of (entries_of node); skip = node.skip; heads = take node.len (node_heads node) }
 
 -- what each node knows
 abbrev pub hints_of : {N : ℕ} → Arena (Node N) → ℕ → Option Hint

@@ -7,7 +7,7 @@ use Rattle.tree.specs.declared.questions.Approach.{Approach}
 use Rattle.tree.specs.declared.questions.Approach.TheVariants.{Leaf, Clear, Open}
 use Rattle.tree.specs.declared.questions.Near.{Near}
 use Rattle.tree.specs.Finding.{IsOwn}
-use Rattle.tree.specs.Hints.{Hint, KeyBytes, IsDigestFor, KnowsAt}
+use Rattle.tree.specs.Hints.{Hint, KeyBytes, IsHeadFor, KnowsAt}
 use Rattle.tree.specs.Item.{Item}
 use Rattle.tree.specs.Node.{hints_of}
 use Rattle.tree.specs.Path.{IsCut, from_last}

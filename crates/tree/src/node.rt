@@ -14,8 +14,8 @@ pub struct Node<const N: usize> {
     len: usize,
     // How many bytes the keys begin with in common, or fewer.
     skip: u16,
-    // The digest of each key, behind these.
-    digests: [u64; N],
+    // The head of each key, behind these.
+    heads: [u64; N],
     entries: [Entry; N],
     ghost within: { len ≤ N },
 }
@@ -24,19 +24,19 @@ impl<const N: usize> Node<N> {
     ghost use Rattle.std.specs.Prelude.{◌≡◌, ◌<◌, ◌+◌, ◌-◌, ◌*◌, ◌∷◌, ◌++◌, [], length, take, drop, slice_get, slice_set, Some, None, IfSome, MatchOption};
     ghost use Rattle.tree.specs.Item.{IsGreatest, version_of};
     ghost use Rattle.tree.specs.Hints.{IsHinted, KeyBytes};
-    ghost use Rattle.tree.specs.Node.{digests_in, entries_of, hint_of, keys_of};
+    ghost use Rattle.tree.specs.Node.{node_heads, entries_of, hint_of, keys_of};
 
     /// Returns a node of one entry. What it knows is right if the key is empty.
     pub fn of(entry: Entry) -> Self
         requires room { 1 ≤ N }
         ensures entries { entries_of result ≡ entry ∷ [] }
-        ensures hint { hint_of result ≡ record { keys = entry.key ∷ []; skip = 0; digests = 0 ∷ [] } }
+        ensures hint { hint_of result ≡ record { keys = entry.key ∷ []; skip = 0; heads = 0 ∷ [] } }
     {
         Node {
             len: 1,
             entries: [entry; N],
             skip: 0,
-            digests: [0; N],
+            heads: [0; N],
         }
     }
 
@@ -85,7 +85,7 @@ impl<const N: usize> Node<N> {
         ensures hinted { (bytes : KeyBytes) → IsHinted bytes (hint_of self.old) → IsHinted bytes (hint_of self.new) }
     {
         self.entries[to] = self.entries[from];
-        self.digests[to] = self.digests[from];
+        self.heads[to] = self.heads[from];
     }
 
     /// Removes the entries from one index up to another.
@@ -95,7 +95,7 @@ impl<const N: usize> Node<N> {
         ensures entries { (entries_of self.new) ≡ take from (entries_of self.old) ++ drop to (entries_of self.old) }
         ensures hinted { (bytes : KeyBytes) → IsHinted bytes (hint_of self.old) → IsHinted bytes (hint_of self.new) }
     {
-        self.digests.copy_within(to..self.len, from);
+        self.heads.copy_within(to..self.len, from);
         self.entries.copy_within(to..self.len, from);
         self.len -= to - from;
     }
@@ -107,8 +107,8 @@ impl<const N: usize> Node<N> {
         requires room { from + length new.now + (length (entries_of self.old) - to) ≤ N }
         ensures entries { (entries_of self.new) ≡ take from (entries_of self.old) ++ (new.now ++ drop to (entries_of self.old)) }
         ensures skip { (hint_of self.new).skip ≡ (hint_of self.old).skip }
-        ensures digests { digests_in self.new ≡ digests_in self.old }
-        ensures count { length (hint_of self.new).digests ≡ length (entries_of self.new) }
+        ensures heads { node_heads self.new ≡ node_heads self.old }
+        ensures count { length (hint_of self.new).heads ≡ length (entries_of self.new) }
     {
         let end = from + new.len();
         self.entries.copy_within(to..self.len, end);

@@ -104,8 +104,8 @@ impl<'a, 'b, P: Probe, Q: Probe, R: Probe, const N: usize> LeafChange<N>
         let leaf = nodes.header_ref(slot);
         let end = leaf.count(new.to, place.known);
         let alike = place.known.unwrap_or(0);
-        let digest = leaf.digest_for(new.from, alike.min(new.shared));
-        let begin = leaf.count_back(end, new.from, digest);
+        let head = leaf.head_for(new.from, alike.min(new.shared));
+        let begin = leaf.count_back(end, new.from, head);
         if begin < end {
             hand_out(leaf, begin, end, taken);
         }
@@ -118,13 +118,13 @@ impl<'a, 'b, P: Probe, Q: Probe, R: Probe, const N: usize> LeafChange<N>
             return Outcome::Changed;
         }
         let ended = if end < leaf.len() {
-            let digest = leaf.digest_for(new.past, alike);
-            leaf.passes_at(end, new.past, digest)
+            let head = leaf.head_for(new.past, alike);
+            leaf.passes_at(end, new.past, head)
         } else {
             place.behind.is_some_and(|key| new.past.passes(key))
         };
         self.written = Written::Whole { ended };
-        let begin_alike = digest.is_some() && leaf.skip() <= new.shared;
+        let begin_alike = head.is_some() && leaf.skip() <= new.shared;
         let entries = [new.first, item(new.second, new.last.unwrap_or(last))];
         let entries = if ended { &entries[..1] } else { &entries[..] };
         if begin + entries.len() > N - (leaf.len() - end) {

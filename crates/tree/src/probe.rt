@@ -2,7 +2,7 @@
 
 ghost use Rattle.std.specs.Prelude.{◌≡◌, ◌≤◌, ◌↔◌, ℕ, Bool, List, [], length, take, Option, Some, IsTrue};
 ghost use Rattle.keys.specs.Key.{IsBytes};
-ghost use Rattle.tree.specs.Hints.{KeyBytes, digest_behind, PassesInOrder, TellsCommon};
+ghost use Rattle.tree.specs.Hints.{KeyBytes, head_behind, PassesInOrder, TellsCommon};
 
 use arena::Slot;
 
@@ -24,14 +24,14 @@ pub trait Probe {
     fn passes(&self, key: Slot) -> bool
         ensures passes { result ≡ lets_pass self.now key };
 
-    /// Returns the digest of what is looked for, behind so many bytes.
-    fn digest(&self, skip: usize) -> u64
-        ensures digest { result ≡ digest_behind skip (sought self.now) }
+    /// Returns the head of what is looked for, behind so many bytes.
+    fn head(&self, skip: usize) -> u64
+        ensures head { result ≡ head_behind skip (sought self.now) }
         ensures are_bytes { IsBytes (sought self.now) };
 
-    /// Returns the digest of a key, behind so many bytes.
-    fn digest_of(&self, key: Slot, skip: usize) -> u64
-        ensures digest { (text : List ℕ) → bytes self.now key ≡ Some text → result ≡ digest_behind skip text };
+    /// Returns the head of a key, behind so many bytes.
+    fn head_of(&self, key: Slot, skip: usize) -> u64
+        ensures head { (text : List ℕ) → bytes self.now key ≡ Some text → result ≡ head_behind skip text };
 
     /// Returns whether a key is empty.
     fn is_empty(&self, key: Slot) -> bool

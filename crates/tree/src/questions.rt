@@ -48,7 +48,7 @@ pub enum Approach {
 #[derive(Clone, Copy, Debug, Default)]
 pub struct Look {
     pub way: Approach,
-    /// The digest there of what the first cut looks for, if it is known to begin as all keys of the leaf do.
+    /// The head there of what the first cut looks for, if it is known to begin as all keys of the leaf do.
     pub own: Option<u64>,
 }
 
@@ -80,13 +80,13 @@ pub fn descend<P: Probe, Q: Probe, const N: usize>(
     let shared = question.shared;
     let node = nodes.header_ref(slot);
     let entries = node.entries();
-    let own = node.digest_for(&question.from, known);
+    let own = node.head_for(&question.from, known);
     let agrees = own.is_some() && node.skip() <= shared;
-    let digest = node.digest_given(agrees, &question.to, known.min(shared));
+    let head = node.head_given(agrees, &question.to, known.min(shared));
     let step = node.step_by(&question.from, known, own);
     let next = step.index + 1;
     let clear = if next < entries.len() {
-        !node.passes_at(next, &question.to, digest)
+        !node.passes_at(next, &question.to, head)
     } else {
         clear
     };
@@ -137,7 +137,7 @@ pub fn look_at<P: Probe, const N: usize>(nodes: &Arena<Node<N>>, way: &Approach,
     let leaf = nodes.header_ref(near.leaf);
     Look {
         way: *way,
-        own: leaf.digest_for(from, near.known),
+        own: leaf.head_for(from, near.known),
     }
 }
 
@@ -161,8 +161,8 @@ fn leaf_told<P: Probe, Q: Probe, const N: usize>(
     let entries = node.entries();
     let begin = node.count_by(&question.from, own);
     let agrees = own.is_some() && node.skip() <= shared;
-    let digest = node.digest_given(agrees, &question.to, near.known.min(shared));
-    let end = node.count_on(begin, &question.to, digest);
+    let head = node.head_given(agrees, &question.to, near.known.min(shared));
+    let end = node.count_on(begin, &question.to, head);
     if end == entries.len() && !near.clear {
         return None;
     }

@@ -1,3 +1,5 @@
+//! The reading of a frame of a batch.
+
 ghost use Rattle.std.specs.Prelude.{◌≡◌, ◌≢◌, ◌+◌, ◌≤◌, ◌≤ℤ◌, ◌<ℤ◌, negsuc, length, take, vec_len, IfOk, IfErr, OnOk, Some, None};
 ghost use Rattle.byteorder.specs.Endian.{big_number};
 ghost use Rattle.wire.specs.Fields.{batch_fields};

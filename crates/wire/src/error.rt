@@ -1,3 +1,5 @@
+//! Why bytes are no frame, or a frame was not read or written.
+
 ghost use Rattle.std.specs.Prelude.{◌≡◌};
 ghost use Rattle.wire.specs.declared.error.WireError.TheVariants.{Memory, Read};
 

@@ -1,3 +1,5 @@
+//! The batches of a reader, frame after frame.
+
 ghost use Rattle.std.specs.Prelude.{◌≡◌, ◌≢◌, ◌<◌, ◌↔◌, IfOk, IfErr, IfSome, IfNone, OnOk, IsSome, IsErrOf, Some, None};
 ghost use Rattle.std.specs.Io.KnownBytes.{IsAtEnd};
 ghost use Rattle.wire.specs.NextFrame.{TakesFrame, IsFaultOf};

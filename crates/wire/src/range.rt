@@ -1,3 +1,5 @@
+//! The reading of ranges, in either wire version.
+
 ghost use Rattle.std.specs.Prelude.{◌≡◌, ◌+◌, ◌<◌, ◌≤◌, OnOk, IfOk, length, map, take, drop};
 ghost use Rattle.keyspace.specs.Tables.{bytes_at};
 ghost use Rattle.wire.specs.Lying.{IsRestOf, IsBetween, AreApart, index_of, range_read};

@@ -1,3 +1,5 @@
+//! The reading of a frame of a reply.
+
 ghost use Rattle.std.specs.Prelude.{◌≡◌, ◌≢◌, ◌+◌, ◌<◌, ◌≤◌, [], length, map, take, vec_len, IfOk, IfErr, OnOk, Some, None};
 ghost use Rattle.byteorder.specs.Endian.{big_number};
 ghost use Rattle.keyspace.specs.Places.{ArePlaces};

@@ -1,3 +1,5 @@
+//! The tables that a frame of a batch fills.
+
 ghost use Rattle.wire.specs.Rows.{AreRows};
 
 use keyspace::{Row, Span};

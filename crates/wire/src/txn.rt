@@ -1,3 +1,5 @@
+//! The reading of transactions.
+
 ghost use Rattle.std.specs.Prelude.{◌≡◌, ◌+◌, ◌≤◌, IfOk, OnOk, length, vec_len, map, take};
 ghost use Rattle.keyspace.specs.Tables.{IsRowOf};
 ghost use Rattle.wire.specs.Lying.{IsRestOf, AreApart, index_of, txn_read};

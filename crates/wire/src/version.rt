@@ -1,3 +1,5 @@
+//! The versions of the wire form.
+
 ghost use Rattle.std.specs.Prelude.{◌≡◌};
 ghost use Rattle.wire.specs.Spelling.{batch_kind};
 

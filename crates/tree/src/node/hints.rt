@@ -3,8 +3,8 @@
 ghost use Rattle.std.specs.Prelude.{◌≡◌, ◌≢◌, ◌<◌, ◌≤◌, ◌+◌, ◌-◌, ◌++◌, ◌⊎◌, ℕ, List, [], length, filter, map, take, drop, nat_lt, get_or, slice_get, slice_index, slice_set, None, Some, IfSome, IsTrue};
 ghost use Rattle.std.specs.Int.{w64, to_be_bytes};
 ghost use Rattle.std.specs.List.{All, Contains};
-ghost use Rattle.tree.specs.Finding.{AreTied, CanFind, HasDigest, IsCount, IsOwn, IsStep};
-ghost use Rattle.tree.specs.Hints.{Agrees, BeginAlike, IsDigestFor, IsHinted, IsKnown, KnowsAt, Begins, digest_at};
+ghost use Rattle.tree.specs.Finding.{AreTied, CanFind, HasHead, IsCount, IsOwn, IsStep};
+ghost use Rattle.tree.specs.Hints.{Agrees, BeginAlike, IsHeadFor, IsHinted, IsKnown, KnowsAt, Begins, head_at};
 ghost use Rattle.tree.specs.Node.{entries_of, hint_of, keys_of};
 ghost use Rattle.tree.specs.Path.{IsCut, index_in};
 
@@ -48,20 +48,20 @@ impl<const N: usize> Node<N> {
                 known: None,
             };
         };
-        self.step_by(probe, shared, self.digest_for(probe, shared))
+        self.step_by(probe, shared, self.head_for(probe, shared))
     }
 
     /// Finds the last entry that passes, where the first one does. `shared` is how many bytes the first key and what is
-    /// looked for begin with in common. `digest` is what `digest_for` returns for it.
-    pub fn step_by<P: Probe>(&self, probe: &P, shared: usize, digest: Option<u64>) -> Step
+    /// looked for begin with in common. `head` is what `head_for` returns for it.
+    pub fn step_by<P: Probe>(&self, probe: &P, shared: usize, head: Option<u64>) -> Step
         requires can_find { CanFind (P.bytes probe.now) (P.lets_pass probe.now) self.now }
         requires known { KnowsAt (P.bytes probe.now) (P.lets_pass probe.now) (P.sought probe.now) (Some shared)
             (entries_of self.now) 0 }
-        requires digest { IsOwn (P.bytes probe.now) (P.sought probe.now) shared digest (hint_of self.now) }
+        requires head { IsOwn (P.bytes probe.now) (P.sought probe.now) shared head (hint_of self.now) }
         ensures step { IsStep (P.bytes probe.now) (P.lets_pass probe.now) (P.sought probe.now) self.now result }
     {
-        let index = self.count_by(probe, digest).saturating_sub(1);
-        let shared = self.shared_at(index, probe, shared, digest);
+        let index = self.count_by(probe, head).saturating_sub(1);
+        let shared = self.shared_at(index, probe, shared, head);
         Step {
             index,
             known: Some(shared),
@@ -78,81 +78,81 @@ impl<const N: usize> Node<N> {
         let Some(shared) = known else {
             return 0;
         };
-        self.count_by(probe, self.digest_for(probe, shared))
+        self.count_by(probe, self.head_for(probe, shared))
     }
 
-    /// Returns how many of the entries pass. `digest` is that of what is looked for, if it begins as all keys do.
-    pub fn count_by<P: Probe>(&self, probe: &P, digest: Option<u64>) -> usize
+    /// Returns how many of the entries pass. `head` is that of what is looked for, if it begins as all keys do.
+    pub fn count_by<P: Probe>(&self, probe: &P, head: Option<u64>) -> usize
         requires can_find { CanFind (P.bytes probe.now) (P.lets_pass probe.now) self.now }
-        requires digest { HasDigest (P.bytes probe.now) (P.sought probe.now) digest (hint_of self.now) }
-        requires none { digest ≡ None → get_or (hint_of self.now).digests 0 0 ≢ 0
+        requires head { HasHead (P.bytes probe.now) (P.sought probe.now) head (hint_of self.now) }
+        requires none { head ≡ None → get_or (hint_of self.now).heads 0 0 ≢ 0
             → length (filter (λ e. P.lets_pass probe.now e.key) (entries_of self.now)) ≡ length (entries_of self.now) }
         ensures count { IsCount (P.lets_pass probe.now) self.now result }
     {
-        let Some(digest) = digest else {
+        let Some(head) = head else {
             return self.count_without(probe);
         };
-        let below = count_below(&self.digests[..self.len], digest);
-        self.count_on(below, probe, Some(digest))
+        let below = count_below(&self.heads[..self.len], head);
+        self.count_on(below, probe, Some(head))
     }
 
     // Returns how many of the entries pass, where the first one does and what is looked for doesn't begin as all keys do.
     fn count_without<P: Probe>(&self, probe: &P) -> usize
         requires can_find { CanFind (P.bytes probe.now) (P.lets_pass probe.now) self.now }
-        requires all { get_or (hint_of self.now).digests 0 0 ≢ 0
+        requires all { get_or (hint_of self.now).heads 0 0 ≢ 0
             → length (filter (λ e. P.lets_pass probe.now e.key) (entries_of self.now)) ≡ length (entries_of self.now) }
         ensures count { IsCount (P.lets_pass probe.now) self.now result }
     {
-        if self.digests[0] == 0 {
+        if self.heads[0] == 0 {
             return self.count_on(0, probe, None);
         }
         self.len()
     }
 
     // Returns how many bytes the key at an index and what is looked for begin with in common. `shared` is the same of
-    // the first key. Both pass. `digest` is that of what is looked for, if it begins as all keys do.
+    // the first key. Both pass. `head` is that of what is looked for, if it begins as all keys do.
     fn shared_at<P: Probe>(
         &self,
         index: usize,
         probe: &P,
         shared: usize,
-        digest: Option<u64>,
+        head: Option<u64>,
     ) -> usize
         requires hinted { IsHinted (P.bytes probe.now) (hint_of self.now) }
         requires within { index < length (entries_of self.now) }
         requires known { KnowsAt (P.bytes probe.now) (P.lets_pass probe.now) (P.sought probe.now) (Some shared)
             (entries_of self.now) 0 }
         requires passes { (e : Entry) → slice_get (entries_of self.now) index ≡ Some e → IsTrue (P.lets_pass probe.now e.key) }
-        requires digest { IsOwn (P.bytes probe.now) (P.sought probe.now) shared digest (hint_of self.now) }
+        requires head { IsOwn (P.bytes probe.now) (P.sought probe.now) shared head (hint_of self.now) }
         ensures known { KnowsAt (P.bytes probe.now) (P.lets_pass probe.now) (P.sought probe.now) (Some result)
             (entries_of self.now) index }
     {
         if index == 0 {
             return shared;
         }
-        let Some(digest) = digest else {
-            return if self.digests[0] == 0 {
+        let Some(head) = head else {
+            return if self.heads[0] == 0 {
                 probe.common_with(self.entries[index].key)
             } else {
                 shared
             };
         };
-        if self.digests[index] == digest {
+        if self.heads[index] == head {
             return probe.common_with(self.entries[index].key);
         }
-        self.skip() + same_bytes(self.digests[index], digest)
+        self.skip() + same_bytes(self.heads[index], head)
     }
 
-    /// Returns the digest of what is looked for behind the bytes that all keys begin with, if it begins with them, too.
+    /// Returns the head of what is looked for behind the bytes that all keys begin with, if it begins with them, too.
     /// The first key and what is looked for begin with `shared` bytes in common, at least, unless that key is empty.
-    pub fn digest_for<P: Probe>(&self, probe: &P, shared: usize) -> Option<u64>
+    pub fn head_for<P: Probe>(&self, probe: &P, shared: usize) -> Option<u64>
         requires hinted { IsHinted (P.bytes probe.now) (hint_of self.now) }
         requires some { 0 < length (entries_of self.now) }
         requires shared { (e : Entry) (text : List ℕ) → slice_get (entries_of self.now) 0 ≡ Some e
             → P.bytes probe.now e.key ≡ Some text → BeginAlike shared text (P.sought probe.now) }
-        ensures digest { IsOwn (P.bytes probe.now) (P.sought probe.now) shared result (hint_of self.now) }
+        ensures head { IsOwn (P.bytes probe.now) (P.sought probe.now) shared result (hint_of self.now) }
     {
-        let alike = if self.digests[0] == 0 && self.skip > 0 {
+        let alike = if self.heads[0] == 0 && self.skip > 0 {
             self.agrees_with_last(probe)
         } else {
             shared >= self.skip()
@@ -160,23 +160,23 @@ impl<const N: usize> Node<N> {
         if !alike {
             return None;
         }
-        Some(probe.digest(self.skip()))
+        Some(probe.head(self.skip()))
     }
 
-    /// Returns the digest as `digest_for` does. `agrees` tells that what is looked for begins as all keys do, and may be
+    /// Returns the head as `head_for` does. `agrees` tells that what is looked for begins as all keys do, and may be
     /// false although it does.
-    pub fn digest_given<P: Probe>(&self, agrees: bool, probe: &P, shared: usize) -> Option<u64>
+    pub fn head_given<P: Probe>(&self, agrees: bool, probe: &P, shared: usize) -> Option<u64>
         requires hinted { IsHinted (P.bytes probe.now) (hint_of self.now) }
         requires some { 0 < length (entries_of self.now) }
         requires agrees { IsTrue agrees → Agrees (P.bytes probe.now) (hint_of self.now) (P.sought probe.now) }
         requires shared { (e : Entry) (text : List ℕ) → slice_get (entries_of self.now) 0 ≡ Some e
             → P.bytes probe.now e.key ≡ Some text → BeginAlike shared text (P.sought probe.now) }
-        ensures digest { HasDigest (P.bytes probe.now) (P.sought probe.now) result (hint_of self.now) }
+        ensures head { HasHead (P.bytes probe.now) (P.sought probe.now) result (hint_of self.now) }
     {
         if agrees {
-            return Some(probe.digest(self.skip()));
+            return Some(probe.head(self.skip()));
         }
-        self.digest_for(probe, shared)
+        self.head_for(probe, shared)
     }
 
     // Returns whether what is looked for begins as the last key does, as far as all keys begin alike. It may be said that
@@ -187,33 +187,33 @@ impl<const N: usize> Node<N> {
         ensures agrees { IsTrue result → Agrees (P.bytes probe.now) (hint_of self.now) (P.sought probe.now) }
     {
         let last = self.len() - 1;
-        self.digests[last] != 0 && probe.common_with(self.entries[last].key) >= self.skip()
+        self.heads[last] != 0 && probe.common_with(self.entries[last].key) >= self.skip()
     }
 
-    /// Returns whether the entry at an index passes. `digest` is that of what is looked for, if it begins as all keys
+    /// Returns whether the entry at an index passes. `head` is that of what is looked for, if it begins as all keys
     /// do.
-    pub fn passes_at<P: Probe>(&self, index: usize, probe: &P, digest: Option<u64>) -> bool
+    pub fn passes_at<P: Probe>(&self, index: usize, probe: &P, head: Option<u64>) -> bool
         requires hinted { IsHinted (P.bytes probe.now) (hint_of self.now) }
         requires within { index < length (entries_of self.now) }
-        requires digest { HasDigest (P.bytes probe.now) (P.sought probe.now) digest (hint_of self.now) }
+        requires head { HasHead (P.bytes probe.now) (P.sought probe.now) head (hint_of self.now) }
         ensures passes { (e : Entry) → slice_get (entries_of self.now) index ≡ Some e → result ≡ P.lets_pass probe.now e.key }
     {
-        let own = self.digests[index];
-        match digest {
-            Some(digest) if digest != own => own < digest,
+        let own = self.heads[index];
+        match head {
+            Some(head) if head != own => own < head,
             _ => probe.passes(self.entries[index].key),
         }
     }
 
     /// Returns how many of the entries pass, of which at least so many do.
-    pub fn count_on<P: Probe>(&self, from: usize, probe: &P, digest: Option<u64>) -> usize
+    pub fn count_on<P: Probe>(&self, from: usize, probe: &P, head: Option<u64>) -> usize
         requires can_find { CanFind (P.bytes probe.now) (P.lets_pass probe.now) self.now }
-        requires digest { HasDigest (P.bytes probe.now) (P.sought probe.now) digest (hint_of self.now) }
+        requires head { HasHead (P.bytes probe.now) (P.sought probe.now) head (hint_of self.now) }
         requires least { from ≤ length (filter (λ e. P.lets_pass probe.now e.key) (entries_of self.now)) }
         ensures count { IsCount (P.lets_pass probe.now) self.now result }
     {
-        let (from, to) = match digest {
-            Some(digest) => self.tied(from, digest),
+        let (from, to) = match head {
+            Some(head) => self.tied(from, head),
             None => (from, self.len()),
         };
         if from == to {
@@ -222,19 +222,19 @@ impl<const N: usize> Node<N> {
         from + passing(&self.entries()[from..to], probe)
     }
 
-    // Returns the index of the first entry, from this index on, whose digest isn't below this one, and that of the
-    // first one behind it whose digest is above it. So the entries that have this digest stand between these two.
-    fn tied(&self, from: usize, digest: u64) -> (usize, usize)
+    // Returns the index of the first entry, from this index on, whose head isn't below this one, and that of the
+    // first one behind it whose head is above it. So the entries that have this head stand between these two.
+    fn tied(&self, from: usize, head: u64) -> (usize, usize)
         requires from { from ≤ length (entries_of self.now) }
-        ensures tied { AreTied self.now digest from result.0 result.1 }
+        ensures tied { AreTied self.now head from result.0 result.1 }
     {
         let len = self.len();
         let mut first = from;
-        while first < len && self.digests[first] < digest {
+        while first < len && self.heads[first] < head {
             first += 1;
         }
         let mut end = first;
-        while end < len && self.digests[end] <= digest {
+        while end < len && self.heads[end] <= head {
             end += 1;
         }
         (first, end)
@@ -242,15 +242,15 @@ impl<const N: usize> Node<N> {
 
     /// Returns how many of the entries pass, of which at most so many do. It looks at these one by one, from the last
     /// one on.
-    pub fn count_back<P: Probe>(&self, to: usize, probe: &P, digest: Option<u64>) -> usize
+    pub fn count_back<P: Probe>(&self, to: usize, probe: &P, head: Option<u64>) -> usize
         requires can_find { CanFind (P.bytes probe.now) (P.lets_pass probe.now) self.now }
-        requires digest { HasDigest (P.bytes probe.now) (P.sought probe.now) digest (hint_of self.now) }
+        requires head { HasHead (P.bytes probe.now) (P.sought probe.now) head (hint_of self.now) }
         requires within { to ≤ length (entries_of self.now) }
         requires most { length (filter (λ e. P.lets_pass probe.now e.key) (entries_of self.now)) ≤ to }
         ensures count { IsCount (P.lets_pass probe.now) self.now result }
     {
         let mut count = to;
-        while count > 0 && !self.passes_at(count - 1, probe, digest) {
+        while count > 0 && !self.passes_at(count - 1, probe, head) {
             count -= 1;
         }
         count
@@ -264,7 +264,7 @@ impl<const N: usize> Node<N> {
     {
         self.skip = self.beginning(probe);
         for index in 0..self.len {
-            self.digests[index] = probe.digest_of(self.entries[index].key, self.skip());
+            self.heads[index] = probe.head_of(self.entries[index].key, self.skip());
         }
     }
 
@@ -305,7 +305,7 @@ impl<const N: usize> Node<N> {
         if !begins {
             return self.renew_hints(probe);
         }
-        self.digests[index] = probe.digest_of(entry.key, self.skip());
+        self.heads[index] = probe.head_of(entry.key, self.skip());
     }
 
     /// Puts these entries in place of those from one index up to another, and takes their hints. `begin` tells that
@@ -329,13 +329,13 @@ impl<const N: usize> Node<N> {
         ensures hinted { IsHinted (P.bytes probe.now) (hint_of self.new) }
     {
         let end = from + new.len();
-        self.digests.copy_within(to..self.len, end);
+        self.heads.copy_within(to..self.len, end);
         self.splice(from, to, new);
         if !begin {
             return self.renew_hints(probe);
         }
         for index in from..end {
-            self.digests[index] = probe.digest_of(self.entries[index].key, self.skip());
+            self.heads[index] = probe.head_of(self.entries[index].key, self.skip());
         }
     }
 
@@ -349,16 +349,16 @@ impl<const N: usize> Node<N> {
         self.skip = other.skip;
         let mut guess = 0;
         for index in 0..self.len {
-            let Some((digest, next)) = other.digest_of(self.entries[index].key, guess, probe) else {
+            let Some((head, next)) = other.head_of(self.entries[index].key, guess, probe) else {
                 return self.renew_hints(probe);
             };
-            self.digests[index] = digest;
+            self.heads[index] = head;
             guess = next;
         }
         self.sharpen(probe);
     }
 
-    /// Takes the hints anew where digests behind more bytes tell more.
+    /// Takes the hints anew where heads behind more bytes tell more.
     pub fn sharpen<P: Probe>(&mut self, probe: &P)
         requires hinted { IsHinted (P.bytes probe.now) (hint_of self.old) }
         ensures entries { entries_of self.new ≡ entries_of self.old }
@@ -369,23 +369,23 @@ impl<const N: usize> Node<N> {
         }
     }
 
-    // Returns the digest of a key that is empty or begins as all keys do, and the index where the next key may be. The key is looked
+    // Returns the head of a key that is empty or begins as all keys do, and the index where the next key may be. The key is looked
     // for where it may be first.
-    fn digest_of<P: Probe>(&self, key: Slot, guess: usize, probe: &P) -> Option<(u64, usize)>
+    fn head_of<P: Probe>(&self, key: Slot, guess: usize, probe: &P) -> Option<(u64, usize)>
         requires hinted { IsHinted (P.bytes probe.now) (hint_of self.now) }
         requires known { IsKnown (P.bytes probe.now) key }
-        ensures digest { IfSome result (λ found. found.0 ≡ digest_at (P.bytes probe.now) (hint_of self.now).skip key) }
+        ensures head { IfSome result (λ found. found.0 ≡ head_at (P.bytes probe.now) (hint_of self.now).skip key) }
         ensures agrees { IfSome result (λ _. (text : List ℕ) → P.bytes probe.now key ≡ Some text
             → (text ≡ []) ⊎ Agrees (P.bytes probe.now) (hint_of self.now) text) }
     {
         if guess < self.len && self.entries[guess].key == key {
-            return Some((self.digests[guess], guess + 1));
+            return Some((self.heads[guess], guess + 1));
         }
         if let Some(index) = self.entries().iter().position(|entry| entry.key == key) {
-            return Some((self.digests[index], index + 1));
+            return Some((self.heads[index], index + 1));
         }
         if self.begins(key, probe) {
-            return Some((probe.digest_of(key, self.skip()), guess));
+            return Some((probe.head_of(key, self.skip()), guess));
         }
         None
     }
@@ -402,10 +402,10 @@ impl<const N: usize> Node<N> {
         }
     }
 
-    // Returns whether the first and the last digest begin with six bytes in common. Digests behind more bytes tell more
+    // Returns whether the first and the last head begin with six bytes in common. Heads behind more bytes tell more
     // then.
     fn is_narrow(&self) -> bool {
-        match (self.digests.first(), self.digests[..self.len].last()) {
+        match (self.heads.first(), self.heads[..self.len].last()) {
             (Some(first), Some(last)) => same_bytes(*first, *last) >= 6,
             _ => false,
         }
@@ -429,18 +429,18 @@ fn common_beginning<P: Probe>(entries: &[Entry], key: Slot, probe: &P) -> u16
     count as u16
 }
 
-// Returns how many of the digests are below this one.
-fn count_below(digests: &[u64], digest: u64) -> usize
-    ensures count { result ≡ length (filter (λ d. nat_lt d digest) digests.now) }
+// Returns how many of the heads are below this one.
+fn count_below(heads: &[u64], head: u64) -> usize
+    ensures count { result ≡ length (filter (λ d. nat_lt d head) heads.now) }
 {
     let mut below = 0;
-    for other in digests {
-        below += usize::from(*other < digest);
+    for other in heads {
+        below += usize::from(*other < head);
     }
     below
 }
 
-// Returns how many bytes two digests begin with in common.
+// Returns how many bytes two heads begin with in common.
 fn same_bytes(a: u64, b: u64) -> usize
     ensures within { result ≤ 8 }
     ensures same { take result (to_be_bytes w64 a) ≡ take result (to_be_bytes w64 b) }

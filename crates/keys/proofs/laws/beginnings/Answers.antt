@@ -1,4 +1,4 @@
-use Rattle.keys.proofs.callers.Digests.{behind_common, behind_shorter, behind_differing}
+use Rattle.keys.proofs.callers.KeyHeads.{behind_common, behind_shorter, behind_differing}
 use Rattle.keys.proofs.laws.beginnings.Goals as goal
 
 pub returns : goal.returns

@@ -1,5 +1,5 @@
 use Rattle.std.proofs.Common.{rules}
-use Rattle.keys.proofs.callers.Digests.{begin_alike}
+use Rattle.keys.proofs.callers.KeyHeads.{begin_alike}
 use Rattle.keys.proofs.prefix.common_bytes.Goals as goal
 
 pub returns-clause-same : goal.returns-clause-same

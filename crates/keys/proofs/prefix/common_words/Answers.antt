@@ -1,11 +1,11 @@
 use Rattle.std.proofs.Common.{rules, arith, ap, ◌∙◌, ◌≡◌, ◌*◌, take, drop}
 use Rattle.std.specs.Slice.Iter.{chunks_exact_size, chunks_exact_rest}
 use borrow.Author.Tests.{tests}
-use Rattle.keys.specs.Digest.{digest_of}
-use Rattle.keys.proofs.Words.{alike_by_digests, same_of_pair}
+use Rattle.keys.specs.Head.{head_of}
+use Rattle.keys.proofs.Words.{alike_by_heads, same_of_pair}
 use Rattle.keys.proofs.prefix.common_words.Goals as goal
 
--- At each place that is counted stands a pair of words, one of each list, whose digests are equal.
+-- At each place that is counted stands a pair of words, one of each list, whose heads are equal.
 pub returns-clause-same : goal.returns-clause-same
 returns-clause-same c =
     let a = c.args.a.now in
@@ -22,15 +22,15 @@ returns-clause-same c =
     let left_words = c.chunks_exact.ensures.runs left left.seen (search rules) in
     let right_words = c.chunks_exact-2.ensures.runs right right.seen (search rules) in
     let equal = (taken.2.2 (λ x r q h. search rules)).0 in
-    alike_by_digests c.count.result a b (λ i. omega (arith, c.type_inv.a i)) (λ i. omega (arith, c.type_inv.b i))
+    alike_by_heads c.count.result a b (λ i. omega (arith, c.type_inv.a i)) (λ i. omega (arith, c.type_inv.b i))
     (search rules) (search rules)
-    (λ k less. same_of_pair (counted.0.at k) (left.at k) (right.at k) (λ z. digest_of z.now)
-    (digest_of (take 8 (drop (k * 8) a))) (digest_of (take 8 (drop (k * 8) b)))
+    (λ k less. same_of_pair (counted.0.at k) (left.at k) (right.at k) (λ z. head_of z.now)
+    (head_of (take 8 (drop (k * 8) a))) (head_of (take 8 (drop (k * 8) b)))
     (counted.0.reads k (c.args.a, c.args.b) (search rules))
     (search rules) (search rules)
     (left_words.2 k) (right_words.2 k) (equal k)
-    (λ z h. ap digest_of (h.2.0 ∙ ap (λ n. take n (drop (k * n) (chunks_exact_rest left.from))) left_size
+    (λ z h. ap head_of (h.2.0 ∙ ap (λ n. take n (drop (k * n) (chunks_exact_rest left.from))) left_size
     ∙ ap (λ xs. take 8 (drop (k * 8) xs)) left_rest))
-    (λ z h. ap digest_of (h.2.0 ∙ ap (λ n. take n (drop (k * n) (chunks_exact_rest right.from))) right_size
+    (λ z h. ap head_of (h.2.0 ∙ ap (λ n. take n (drop (k * n) (chunks_exact_rest right.from))) right_size
     ∙ ap (λ xs. take 8 (drop (k * 8) xs)) right_rest))
     (λ z h. search (rules, tests)))

@@ -13,5 +13,5 @@ invariant_of-result c =
     record {
       nested = nested c.args.keys.now true begin end rises;
       bytes = λ key. refl;
-      begin_alike = c.common.ensures.same;
+      begin_alike = c.common_prefix_len.ensures.same;
     }

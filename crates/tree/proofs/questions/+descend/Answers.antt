@@ -122,9 +122,9 @@ known g t c =
     (λ es. KnowsAt (g.P.Probe.bytes c.args.question.now.from) (g.P.Probe.lets_pass c.args.question.now.from)
     (g.P.Probe.sought c.args.question.now.from) (Some c.args.known) es 0) c.entries-entries.ensures.entries (knows g t c)
 
-pub digest_for-own-requires : goal.digest_for-own-requires
-digest_for-own-requires g t c =
-    let at = (goal.at.digest_for-own-requires g t c).After-entries-entries in
+pub head_for-own-requires : goal.head_for-own-requires
+head_for-own-requires g t c =
+    let at = (goal.at.head_for-own-requires g t c).After-entries-entries in
     let a = asked g t at in (
       search rules,
       (
@@ -133,9 +133,9 @@ digest_for-own-requires g t c =
       ),
     )
 
-pub digest_given-digest-requires : goal.digest_given-digest-requires
-digest_given-digest-requires g t c =
-    let at = (goal.at.digest_given-digest-requires g t c).After-entries-entries in
+pub head_given-head-requires : goal.head_given-head-requires
+head_given-head-requires g t c =
+    let at = (goal.at.head_given-head-requires g t c).After-entries-entries in
     let is = c.entries-entries.ensures.entries in
     let sought = g.P.Probe.sought c.args.question.now.from in
     let other = g.Q.Probe.sought c.args.question.now.to in
@@ -148,7 +148,7 @@ digest_given-digest-requires g t c =
           let short : w.skip.result ≤ c.args.question.now.shared = leb-true w.skip.result c.args.question.now.shared
           (sym w.agrees-is ∙ yes) in
           agrees_too near (g.P.Probe.bytes c.args.question.now.from) hint other sought c.args.question.now.shared
-          c.digest_for-own.result c.args.question.now.bytes c.digest_for-own.ensures.digest.digest (sym c.is_some.ensures ∙ w.if-is_some.true)
+          c.head_for-own.result c.args.question.now.bytes c.head_for-own.ensures.head.head (sym c.is_some.ensures ∙ w.if-is_some.true)
           (omega (arith, short, w.skip.ensures.skip)) c.args.question.now.begin_alike
       | else-is_some w ↦ λ yes. absurd (let f : false ≡ true = sym w.if-is_some.false ∙ sym w.agrees-is ∙ yes in cc)
     ] in
@@ -175,7 +175,7 @@ digest_given-digest-requires g t c =
 pub step_by-step-requires : goal.step_by-step-requires
 step_by-step-requires g t c =
     let at = (goal.at.step_by-step-requires g t c).After-entries-entries in
-    (search rules, (asked g t at, (known g t at, c.digest_for-own.ensures.digest)))
+    (search rules, (asked g t at, (known g t at, c.head_for-own.ensures.head)))
 
 -- the entry at which the search goes on is one of them
 within : (g : Over) (t : ℕ) (c : After-index-entries-step g t) → c.step_by-step.result.index < length c.entries-entries.result.now

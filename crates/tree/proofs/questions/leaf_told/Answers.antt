@@ -125,9 +125,9 @@ own g c =
     (IsOwn (g.P.Probe.bytes c.args.question.now.from) (g.P.Probe.sought c.args.question.now.from) c.args.near.known c.args.own))
     c.header_ref-node.ensures.header c.requires.own
 
-pub digest_given-digest-requires : goal.digest_given-digest-requires
-digest_given-digest-requires g c =
-    let at = (goal.at.digest_given-digest-requires g c).After-entries-entries in
+pub head_given-head-requires : goal.head_given-head-requires
+head_given-head-requires g c =
+    let at = (goal.at.head_given-head-requires g c).After-entries-entries in
     let is = c.entries-entries.ensures.entries in
     let sought = g.P.Probe.sought c.args.question.now.from in
     let other = g.Q.Probe.sought c.args.question.now.to in
@@ -140,7 +140,7 @@ digest_given-digest-requires g c =
           let short : w.skip.result ≤ c.args.question.now.shared = leb-true w.skip.result c.args.question.now.shared
           (sym w.agrees-is ∙ yes) in
           agrees_too near (g.P.Probe.bytes c.args.question.now.from) hint other sought c.args.question.now.shared c.args.own
-          c.args.question.now.bytes (own g at).digest (sym c.is_some.ensures ∙ w.if-is_some.true)
+          c.args.question.now.bytes (own g at).head (sym c.is_some.ensures ∙ w.if-is_some.true)
           (omega (arith, short, w.skip.ensures.skip)) c.args.question.now.begin_alike
       | else-is_some w ↦ λ yes. absurd (let f : false ≡ true = sym w.if-is_some.false ∙ sym w.agrees-is ∙ yes in cc)
     ] in
@@ -173,7 +173,7 @@ count_by-begin-requires g c =
       (
         a,
         (
-          (own g at).digest,
+          (own g at).head,
           (λ none. all_known
               (g.P.Probe.bytes probe) c.header_ref-node.result.now a.hinted (g.P.Probe.sought probe) (g.P.Probe.lets_pass probe)
               (g.met.P.Probe.order probe) c.args.near.known a.some (known g at) ((own g at).none none)),
@@ -198,7 +198,7 @@ count_on-end-requires g c =
           cut = subst (IsCut (λ (e : Entry). g.Q.Probe.lets_pass c.args.question.now.to e.key)) is (cut_to g at);
           some = (asked g at).some;
         },
-        (c.digest_given-digest.ensures.digest, most),
+        (c.head_given-head.ensures.head, most),
       ),
     )
 

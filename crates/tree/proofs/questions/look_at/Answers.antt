@@ -8,8 +8,8 @@ use Rattle.tree.proofs.Found.{entries_read}
 use Rattle.tree.proofs.Hinted.{hinted_at}
 use Rattle.tree.proofs.questions.look_at.Goals as goal
 
-pub digest_for-requires : goal.digest_for-requires
-digest_for-requires g c =
+pub head_for-requires : goal.head_for-requires
+head_for-requires g c =
     let nodes = c.args.nodes.now in
     let near = c.in-Leaf.near in
     let bytes = g.P.Probe.bytes c.args.from.now in
@@ -35,7 +35,7 @@ returns-clause-looked g c =
     let near = c.in-Leaf.near in
     let bytes = g.P.Probe.bytes c.args.from.now in
     let sought = g.P.Probe.sought c.args.from.now in
-    let there : IfSome (hints_of nodes near.leaf) (IsOwn bytes sought near.known c.digest_for.result) =
-    subst (λ o. IfSome (option_map hint_of o) (IsOwn bytes sought near.known c.digest_for.result))
-    (sym c.header_ref-leaf.ensures.header) c.digest_for.ensures.digest in
-    subst (λ way. IsLooked nodes bytes sought way c.digest_for.result) (sym c.in-Leaf.is) there
+    let there : IfSome (hints_of nodes near.leaf) (IsOwn bytes sought near.known c.head_for.result) =
+    subst (λ o. IfSome (option_map hint_of o) (IsOwn bytes sought near.known c.head_for.result))
+    (sym c.header_ref-leaf.ensures.header) c.head_for.ensures.head in
+    subst (λ way. IsLooked nodes bytes sought way c.head_for.result) (sym c.in-Leaf.is) there

@@ -15,7 +15,7 @@ returns-then-self-last-ne0 g c = record {
       let within : last < node.len = omega (arith, inside, length-take node.len node.entries) in
       let e = entry_at es last inside in
       let same = entry_there node.entries node.len last e.0 c.index-self-last.result e.1 in
-      let own = get_or-take node.len node.digests last 0 within in
+      let own = get_or-take node.len node.heads last 0 within in
       let least : c.skip.result ≤ c.common_with.result = leb-true c.skip.result c.common_with.result enough in
       agrees_at (g.P.Probe.bytes probe) (hint_of node) c.requires.hinted last e.0.key (g.P.Probe.sought probe)
       (key_there es last e.0 e.1) (inr (λ zero. c.if-self-last-ne0.true (sym own ∙ zero)))

@@ -4,10 +4,10 @@ use Rattle.std.proofs.lemmas.List.{length-take-le, map-set}
 use Rattle.std.proofs.lemmas.List.Elements.{All-contains}
 use Rattle.std.proofs.Math.Seq.{take-set-lt}
 use Rattle.tree.specs.declared.entry.Entry.{Entry}
-use Rattle.tree.specs.Hints.{IsKnown, digest_at}
+use Rattle.tree.specs.Hints.{IsKnown, head_at}
 use Rattle.tree.specs.Node.{entries_of, hint_of, keys_of}
 use Rattle.tree.proofs.HintAt.{entry_there}
-use Rattle.tree.proofs.HintChanges.{digest_there, hinted_set, key_agrees, key_there}
+use Rattle.tree.proofs.HintChanges.{head_there, hinted_set, key_agrees, key_there}
 use Rattle.tree.proofs.Hinted.{all_known}
 use Rattle.tree.proofs.node.Node.copy.Goals as goal
 
@@ -37,10 +37,10 @@ returns-clause-hinted g c bytes h =
     let there = key_there node.entries node.len from e from_inside most is in
     let known = All-contains (IsKnown bytes) hint.keys e.key (all_known bytes hint h) there in
     let read = get_or node.entries from e in
-    hinted_set bytes hint _ h to e.key (get_or node.digests from 0) known (key_agrees bytes hint h e.key there)
-    (digest_there node.entries node.len from e from_inside most is (digest_at bytes node.skip) node.digests h.digests)
+    hinted_set bytes hint _ h to e.key (get_or node.heads from 0) known (key_agrees bytes hint h e.key there)
+    (head_there node.entries node.len from e from_inside most is (head_at bytes node.skip) node.heads h.heads)
     (ap keys_of (take-set-lt node.len node.entries to read to_inside)
     ∙ map-set (λ (x : Entry). x.key) (entries_of node) to read
     ∙ ap (λ (x : Entry). slice_set hint.keys to x.key) (sym is))
     refl
-    (take-set-lt node.len node.digests to (get_or node.digests from 0) to_inside)
+    (take-set-lt node.len node.heads to (get_or node.heads from 0) to_inside)

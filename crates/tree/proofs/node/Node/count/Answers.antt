@@ -27,15 +27,15 @@ knows g c =
     subst (λ o. KnowsAt (g.P.Probe.bytes probe) (g.P.Probe.lets_pass probe) (g.P.Probe.sought probe) o
     (entries_of c.args.self.now) 0) c.in-Some.is c.requires.known
 
-pub digest_for-requires : goal.digest_for-requires
-digest_for-requires g c = (
+pub head_for-requires : goal.head_for-requires
+head_for-requires g c = (
   search rules,
   (
     c.requires.can_find.hinted,
     (
       c.requires.can_find.some,
       (λ e text there known count inside le.
-          ((knows g (goal.at.digest_for-requires g c).In-Some e there).1 text known count inside).0 le),
+          ((knows g (goal.at.head_for-requires g c).In-Some e there).1 text known count inside).0 le),
     ),
   ),
 )
@@ -48,10 +48,10 @@ count_by-requires g c =
       (
         c.requires.can_find,
         (
-          c.digest_for.ensures.digest.digest,
+          c.head_for.ensures.head.head,
           (λ none. all_known
               (g.P.Probe.bytes probe) c.args.self.now c.requires.can_find.hinted (g.P.Probe.sought probe) (g.P.Probe.lets_pass probe)
-              (g.met.P.Probe.order probe) c.in-Some.shared c.requires.can_find.some known (c.digest_for.ensures.digest.none none)),
+              (g.met.P.Probe.order probe) c.in-Some.shared c.requires.can_find.some known (c.head_for.ensures.head.none none)),
         ),
       ),
     )

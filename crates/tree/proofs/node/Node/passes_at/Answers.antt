@@ -1,5 +1,5 @@
 use Rattle.std.proofs.Common.{◌≡◌, ◌<◌, ◌∙◌, sym, ap, nat_lt, get_or, get_or-take, slice_index, length-take, arith, subst, IfSome}
-use Rattle.tree.specs.Hints.{IsDigestFor}
+use Rattle.tree.specs.Hints.{IsHeadFor}
 use Rattle.tree.specs.Node.{entries_of, hint_of}
 use Rattle.tree.proofs.HintAt.{entry_there, key_there, told_at}
 use Rattle.tree.proofs.node.Node.passes_at.Goals as goal
@@ -13,13 +13,13 @@ returns-in-Some g c = record {
       let sought = g.P.Probe.sought probe in
       let hint = hint_of node in
       let inside : c.args.index < node.len = omega (arith, c.requires.within, length-take node.len node.entries) in
-      let own : get_or hint.digests c.args.index 0 ≡ slice_index node.digests c.args.index =
-      get_or-take node.len node.digests c.args.index 0 inside in
-      let is : IsDigestFor bytes hint sought c.in-Some.digest =
-      subst (λ o. IfSome o (IsDigestFor bytes hint sought)) c.in-Some.is c.requires.digest in
-      ap (λ d. nat_lt d c.in-Some.digest) (sym own)
+      let own : get_or hint.heads c.args.index 0 ≡ slice_index node.heads c.args.index =
+      get_or-take node.len node.heads c.args.index 0 inside in
+      let is : IsHeadFor bytes hint sought c.in-Some.head =
+      subst (λ o. IfSome o (IsHeadFor bytes hint sought)) c.in-Some.is c.requires.head in
+      ap (λ d. nat_lt d c.in-Some.head) (sym own)
       ∙ told_at bytes hint c.requires.hinted sought (g.P.Probe.lets_pass probe) (g.met.P.Probe.order probe) c.args.index e.key
-      c.in-Some.digest (key_there (entries_of node) c.args.index e there) is (λ same. c.if-digest-own.true (same ∙ own));
+      c.in-Some.head (key_there (entries_of node) c.args.index e there) is (λ same. c.if-head-own.true (same ∙ own));
 }
 
 pub returns-in_default : goal.returns-in_default

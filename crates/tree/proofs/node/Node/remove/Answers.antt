@@ -17,13 +17,13 @@ returns g c =
     let most : to ≤ node.len = omega arith in
     let left = node.len - (to - from) in
     let entries = c.copy_within-2.new.self in
-    let digests = c.copy_within.new.self in
+    let heads = c.copy_within.new.self in
     let entries_are : take left entries ≡ take from (entries_of node) ++ drop to (entries_of node) =
     take-removed node.entries entries node.len from to (omega arith) ordered most c.copy_within-2.ensures.after in
-    let digests_are : take left digests ≡ take from hint.digests ++ drop to hint.digests =
-    take-removed node.digests digests node.len from to (omega arith) ordered most c.copy_within.ensures.after in
+    let heads_are : take left heads ≡ take from hint.heads ++ drop to hint.heads =
+    take-removed node.heads heads node.len from to (omega arith) ordered most c.copy_within.ensures.after in
     let keys_are = keys_spliced (entries_of node) [] _ from to entries_are in
     record {
       entries = entries_are;
-      hinted = λ bytes h. hinted_removed bytes hint _ h from to keys_are refl digests_are;
+      hinted = λ bytes h. hinted_removed bytes hint _ h from to keys_are refl heads_are;
     }

@@ -1,13 +1,13 @@
 use Rattle.std.proofs.Common.{◌≡◌, ◌<◌, ◌≤◌, ◌∙◌, List, length, take, All, refl, ap, ap₂, sym, subst, arith}
 use Rattle.std.proofs.lemmas.List.{length-set}
 use Rattle.tree.specs.declared.entry.Entry.{Entry}
-use Rattle.tree.specs.Hints.{IsKnown, Begins, digest_at}
+use Rattle.tree.specs.Hints.{IsKnown, Begins, head_at}
 use Rattle.tree.specs.Node.{entries_of, keys_of}
-use Rattle.tree.proofs.HintChanges.{digest_next, digest_read, keys_count, map_whole}
+use Rattle.tree.proofs.HintChanges.{head_next, head_read, keys_count, map_whole}
 use Rattle.tree.proofs.node.Node.renew_hints.Goals as goal
 
 pub loop-index-init : goal.loop-index-init
-loop-index-init g c = record { len = refl; entries = refl; skip = refl; room = omega arith; digests = refl }
+loop-index-init g c = record { len = refl; entries = refl; skip = refl; room = omega arith; heads = refl }
 
 pub loop-index-preserved : goal.loop-index-preserved
 loop-index-preserved g c =
@@ -21,15 +21,15 @@ loop-index-preserved g c =
     let known : All (IsKnown bytes) (keys_of (entries_of node)) = subst (All (IsKnown bytes)) (sym same) c.requires.known in
     let inside : i < node.len = omega (arith, inv.len) in
     let most : node.len ≤ length node.entries = omega (arith, inv.len, ap length inv.entries) in
-    let right = digest_read node.entries node.len i e inside most c.index-self-index.is bytes node.skip c.skip.result c.digest_of.result
-    c.skip.ensures.skip known c.digest_of.ensures.digest in
+    let right = head_read node.entries node.len i e inside most c.index-self-index.is bytes node.skip c.skip.result c.head_of.result
+    c.skip.ensures.skip known c.head_of.ensures.head in
     record {
       len = inv.len;
       entries = inv.entries;
       skip = inv.skip;
-      room = length-set node.digests i c.digest_of.result ∙ inv.room;
-      digests = digest_next node.entries node.len i e inside most c.index-self-index.is (digest_at bytes node.skip) node.digests
-          c.digest_of.result (omega (arith, inv.room, inside)) right inv.digests;
+      room = length-set node.heads i c.head_of.result ∙ inv.room;
+      heads = head_next node.entries node.len i e inside most c.index-self-index.is (head_at bytes node.skip) node.heads
+          c.head_of.result (omega (arith, inv.room, inside)) right inv.heads;
     }
 
 pub returns-clause-entries : goal.returns-clause-entries
@@ -49,6 +49,6 @@ returns-clause-hinted g c =
       beginning = begin.0;
       skip = begin.1 ∙ sym inv.skip;
       begins = subst (All (Begins bytes begin.0)) (sym same) begin.2;
-      digests = map_whole (digest_at bytes node.skip) (keys_of (entries_of node)) node.digests node.len c.loop-index.index
-          (keys_count node.entries node.len most) (omega (arith, inv.len)) inv.digests;
+      heads = map_whole (head_at bytes node.skip) (keys_of (entries_of node)) node.heads node.len c.loop-index.index
+          (keys_count node.entries node.len most) (omega (arith, inv.len)) inv.heads;
     }

@@ -3,9 +3,9 @@ use Rattle.std.proofs.lemmas.Bool.{eqb-true}
 use Rattle.std.proofs.lemmas.List.{length-set, length-take-le, map-set}
 use Rattle.std.proofs.Math.Seq.{take-set-lt}
 use Rattle.tree.specs.declared.entry.Entry.{Entry}
-use Rattle.tree.specs.Hints.{Hint, IsHinted, digest_at}
+use Rattle.tree.specs.Hints.{Hint, IsHinted, head_at}
 use Rattle.tree.specs.Node.{entries_of, hint_of, keys_of}
-use Rattle.tree.proofs.HintChanges.{digest_known, hinted_set, key_stays, known_set}
+use Rattle.tree.proofs.HintChanges.{head_known, hinted_set, key_stays, known_set}
 use Rattle.tree.proofs.node.Node.set_hinted.Goals as goal
 
 pub returns-then-eq-clause-hinted : goal.returns-then-eq-clause-hinted
@@ -21,7 +21,7 @@ returns-then-eq-clause-hinted g c =
     let keys : keys_of (entries_of new) ≡ keys_of (entries_of old) =
     ap keys_of c.set.ensures.entries
     ∙ key_stays old.entries old.len c.args.index e inside most c.index-self-index.is c.args.entry same in
-    let with_keys : List ℕ → Hint = λ ks. record { keys = ks; skip = old.skip; digests = take old.len old.digests } in
+    let with_keys : List ℕ → Hint = λ ks. record { keys = ks; skip = old.skip; heads = take old.len old.heads } in
     subst (IsHinted (g.P.Probe.bytes c.args.probe.now)) (sym (c.set.ensures.hint ∙ ap with_keys keys)) c.requires.hinted
 
 pub renew_hints-requires : goal.renew_hints-requires
@@ -41,18 +41,18 @@ returns-clause-hinted g c =
     let new = c.set-2.new.self in
     let i = c.args.index in
     let key = c.args.entry.key in
-    let digest = c.digest_of.result in
-    let now : Hint = record { keys = keys_of (entries_of new); skip = new.skip; digests = take new.len (slice_set new.digests i digest) } in
+    let head = c.head_of.result in
+    let now : Hint = record { keys = keys_of (entries_of new); skip = new.skip; heads = take new.len (slice_set new.heads i head) } in
     let most : new.len ≤ length new.entries = omega arith in
     let count : new.len ≡ length (entries_of old) =
     sym (length-take-le new.len new.entries most) ∙ ap length c.set-2.ensures.entries ∙ length-set (entries_of old) i c.args.entry in
     let inside : i < new.len = omega (arith, c.requires.within, count) in
     let skip : new.skip ≡ old.skip = ap (λ (h : Hint). h.skip) c.set-2.ensures.hint in
-    let right : digest ≡ digest_at bytes old.skip key =
-    digest_known bytes c.skip.result key digest c.requires.known c.digest_of.ensures.digest
-    ∙ ap (λ n. digest_at bytes n key) (c.skip.ensures.skip ∙ skip) in
-    hinted_set bytes (hint_of old) now c.requires.hinted i key digest c.requires.known
+    let right : head ≡ head_at bytes old.skip key =
+    head_known bytes c.skip.result key head c.requires.known c.head_of.ensures.head
+    ∙ ap (λ n. head_at bytes n key) (c.skip.ensures.skip ∙ skip) in
+    hinted_set bytes (hint_of old) now c.requires.hinted i key head c.requires.known
     (λ text known. inr (c.begins-begins.ensures.agrees c.if-not-begins.false text known)) right
     (ap keys_of c.set-2.ensures.entries ∙ map-set (λ (x : Entry). x.key) (entries_of old) i c.args.entry) skip
-    (take-set-lt new.len new.digests i digest inside
-    ∙ ap (λ (h : Hint). slice_set h.digests i digest) c.set-2.ensures.hint)
+    (take-set-lt new.len new.heads i head inside
+    ∙ ap (λ (h : Hint). slice_set h.heads i head) c.set-2.ensures.hint)

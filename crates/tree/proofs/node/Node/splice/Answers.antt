@@ -21,13 +21,13 @@ returns g c =
     ap (λ xs. take (end + (node.len - to)) (take from moved ++ (xs ++ drop (end - from) (drop from moved)))) written
     ∙ take-spliced node.entries moved new node.len from to (omega arith) c.requires.ordered (omega arith) (omega arith)
     c.copy_within.ensures.after in
-    let count : length (take (end + (node.len - to)) node.digests)
+    let count : length (take (end + (node.len - to)) node.heads)
     ≡ length (take (end + (node.len - to)) (take from moved ++ (c.copy_from_slice.new.self ++ drop (end - from) (drop from moved)))) =
-    length-take-le (end + (node.len - to)) node.digests (omega (arith, len, c.requires.room))
+    length-take-le (end + (node.len - to)) node.heads (omega (arith, len, c.requires.room))
     ∙ omega (arith, len, length_spliced (entries_of node) new _ from to (omega (arith, c.requires.ordered, c.requires.within)) entries_are) in
     record {
       entries = entries_are;
       skip = refl;
-      digests = refl;
+      heads = refl;
       count = count;
     }

@@ -1,5 +1,5 @@
 use Rattle.std.proofs.Common.{◌≡◌, length, take, drop, map}
-use Rattle.tree.specs.Hints.{digest_at}
+use Rattle.tree.specs.Hints.{head_at}
 use Rattle.tree.specs.Node.{entries_of, keys_of}
 use Rattle.tree.proofs.node.Node.splice_hinted.Given as goal
 
@@ -10,7 +10,7 @@ invariant-loop-index g l =
       entries : l.self.entries ≡ l.initial.self.entries;
       skip : l.self.skip ≡ l.initial.self.skip;
       filled : length (entries_of l.self) ≡ l.self.len;
-      room : length l.self.digests ≡ g.row.N;
-      behind : drop l.end l.self.digests ≡ drop l.end l.initial.self.digests;
-      digests : take l.index l.self.digests ≡ map (digest_at (g.P.Probe.bytes l.probe) l.self.skip) (take l.index (keys_of (entries_of l.self)));
+      room : length l.self.heads ≡ g.row.N;
+      behind : drop l.end l.self.heads ≡ drop l.end l.initial.self.heads;
+      heads : take l.index l.self.heads ≡ map (head_at (g.P.Probe.bytes l.probe) l.self.skip) (take l.index (keys_of (entries_of l.self)));
     }

@@ -12,10 +12,10 @@ count_by-requires g c =
       (
         c.requires.can_find,
         (
-          c.requires.digest.digest,
+          c.requires.head.head,
           (λ none. all_known
               (g.P.Probe.bytes probe) c.args.self.now c.requires.can_find.hinted (g.P.Probe.sought probe) (g.P.Probe.lets_pass probe)
-              (g.met.P.Probe.order probe) c.args.shared c.requires.can_find.some c.requires.known (c.requires.digest.none none)),
+              (g.met.P.Probe.order probe) c.args.shared c.requires.can_find.some c.requires.known (c.requires.head.none none)),
         ),
       ),
     )
@@ -41,7 +41,7 @@ shared_at-shared-requires g c =
             c.requires.known,
             (
               (λ e there. passing_at (λ (e : Entry). passes e.key) es i e c.requires.can_find.cut there less),
-              c.requires.digest,
+              c.requires.head,
             ),
           ),
         ),

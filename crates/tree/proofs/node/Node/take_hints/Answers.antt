@@ -2,17 +2,17 @@ use Rattle.std.proofs.Common.{rules, ◌≡◌, ◌<◌, ◌≤◌, ◌∙◌, L
 use Rattle.std.proofs.lemmas.List.{length-set, take_all}
 use Rattle.std.proofs.lemmas.List.Elements.{All-contains, All-more}
 use Rattle.tree.specs.declared.entry.Entry.{Entry}
-use Rattle.tree.specs.Hints.{IsKnown, digest_at}
+use Rattle.tree.specs.Hints.{IsKnown, head_at}
 use Rattle.tree.specs.Node.{entries_of, hint_of, keys_of}
-use Rattle.tree.proofs.HintChanges.{BeginsAsThese, all_begin, digest_next, key_there, key_read, keys_count, map_whole}
+use Rattle.tree.proofs.HintChanges.{BeginsAsThese, all_begin, head_next, key_there, key_read, keys_count, map_whole}
 use Rattle.tree.proofs.node.Node.take_hints.Goals as goal
 
 pub loop-index-init : goal.loop-index-init
 loop-index-init g c =
-    record { len = refl; entries = refl; skip = refl; room = omega arith; digests = refl; begin = λ k d inside. absurd (omega (arith, inside)) }
+    record { len = refl; entries = refl; skip = refl; room = omega arith; heads = refl; begin = λ k d inside. absurd (omega (arith, inside)) }
 
-pub digest_of-requires : goal.digest_of-requires
-digest_of-requires g c =
+pub head_of-requires : goal.head_of-requires
+head_of-requires g c =
     let P = IsKnown (g.P.Probe.bytes c.args.probe.now) in
     let node = c.loop-index.self in
     let inv = c.loop-index.invariant in
@@ -49,19 +49,19 @@ loop-index-preserved g c =
     let i = c.loop-index.index in
     let e = c.index-self-index.result in
     let is = c.index-self-index.is in
-    let d = c.in-Some.digest in
+    let d = c.in-Some.head in
     let inside : i < node.len = omega (arith, c.loop-index-test.true, inv.len) in
     let most : node.len ≤ length node.entries = omega (arith, inv.len, ap length inv.entries) in
-    let right : d ≡ digest_at bytes node.skip e.key =
-    c.in-Some.ensures.digest ∙ ap₂ (λ n (x : Entry). digest_at bytes n x.key) (sym inv.skip) (sym is) in
+    let right : d ≡ head_at bytes node.skip e.key =
+    c.in-Some.ensures.head ∙ ap₂ (λ n (x : Entry). head_at bytes n x.key) (sym inv.skip) (sym is) in
     let agrees : P e.key = subst (λ (x : Entry). P x.key) (sym is) c.in-Some.ensures.agrees in
     record {
       len = inv.len;
       entries = inv.entries;
       skip = inv.skip;
-      room = length-set node.digests i d ∙ inv.room;
-      digests = digest_next node.entries node.len i e inside most is (digest_at bytes node.skip) node.digests d
-          (omega (arith, inv.room, inside, node.within)) right inv.digests;
+      room = length-set node.heads i d ∙ inv.room;
+      heads = head_next node.entries node.len i e inside most is (head_at bytes node.skip) node.heads d
+          (omega (arith, inv.room, inside, node.within)) right inv.heads;
       begin = All-more P keys i e.key (omega (arith, inside, keys_count node.entries node.len most)) inv.begin
           (subst P (key_read node.entries node.len i e inside most is) agrees);
     }
@@ -88,7 +88,7 @@ sharpen-requires g c =
         beginning = hinted.beginning;
         skip = hinted.skip ∙ sym inv.skip;
         begins = all_begin bytes hint hinted keys known begin;
-        digests = map_whole (digest_at bytes node.skip) keys node.digests node.len i count end inv.digests;
+        heads = map_whole (head_at bytes node.skip) keys node.heads node.len i count end inv.heads;
       },
     )
 

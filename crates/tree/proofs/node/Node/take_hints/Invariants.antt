@@ -1,6 +1,6 @@
 use Rattle.std.proofs.Common.{◌≡◌, length, take, map}
 use Rattle.std.specs.List.{All}
-use Rattle.tree.specs.Hints.{digest_at}
+use Rattle.tree.specs.Hints.{head_at}
 use Rattle.tree.specs.Node.{entries_of, hint_of, keys_of}
 use Rattle.tree.proofs.HintChanges.{BeginsAsThese}
 use Rattle.tree.proofs.node.Node.take_hints.Given as goal
@@ -11,7 +11,7 @@ invariant-loop-index g l =
       len : l.self.len ≡ l.fn.self.len;
       entries : l.self.entries ≡ l.fn.self.entries;
       skip : l.self.skip ≡ l.initial.self.skip;
-      room : length l.self.digests ≡ g.row.N;
-      digests : take l.index l.self.digests ≡ map (digest_at (g.P.Probe.bytes l.probe) l.self.skip) (take l.index (keys_of (entries_of l.self)));
+      room : length l.self.heads ≡ g.row.N;
+      heads : take l.index l.self.heads ≡ map (head_at (g.P.Probe.bytes l.probe) l.self.skip) (take l.index (keys_of (entries_of l.self)));
       begin : All (BeginsAsThese (g.P.Probe.bytes l.probe) (hint_of l.other)) (take l.index (keys_of (entries_of l.self)));
     }

@@ -7,7 +7,7 @@ invariant-loop-first g l =
     record {
       first : l.fn.from ≤ l.first;
       within : l.first ≤ length (entries_of l.self);
-      below : (index : ℕ) → l.fn.from ≤ index → index < l.first → get_or (hint_of l.self).digests index 0 < l.digest;
+      below : (index : ℕ) → l.fn.from ≤ index → index < l.first → get_or (hint_of l.self).heads index 0 < l.head;
     }
 
 abbrev pub decreases-loop-first : goal.decreases-loop-first

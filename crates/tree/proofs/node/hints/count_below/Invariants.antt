@@ -3,4 +3,4 @@ use Rattle.tree.proofs.node.hints.count_below.Given as goal
 
 abbrev pub invariant-loop-other : goal.invariant-loop-other
 invariant-loop-other l =
-    (l.below ≤ l.other-index) × (l.below ≡ length (filter (λ d. nat_lt d l.digest) (take l.other-index l.digests)))
+    (l.below ≤ l.other-index) × (l.below ≡ length (filter (λ d. nat_lt d l.head) (take l.other-index l.heads)))

@@ -98,9 +98,9 @@ count-end-requires g c =
     let h = (goal.at.count-end-requires g c).After-header_ref-leaf in
     (omega (arith, c.requires.changeable.few), (record { hinted = leaf_hinted g h; cut = to_cut g h; some = some_entry g h }, first_known g h))
 
-pub digest_for-digest-requires : goal.digest_for-digest-requires
-digest_for-digest-requires g c =
-    let h = (goal.at.digest_for-digest-requires g c).After-header_ref-leaf in
+pub head_for-head-requires : goal.head_for-head-requires
+head_for-head-requires g c =
+    let h = (goal.at.head_for-head-requires g c).After-header_ref-leaf in
     let new = c.args.self.now.new.now in
     let from = g.P.Probe.sought new.from.now in
     let to = g.Q.Probe.sought new.to.now in (
@@ -127,7 +127,7 @@ count_back-begin-requires g c =
       (
         record { hinted = from_hinted g h; cut = from_cut g h; some = some_entry g h },
         (
-          c.digest_for-digest.ensures.digest.digest,
+          c.head_for-head.ensures.head.head,
           (
             c.count-end.ensures.count.within,
             omega (
@@ -152,9 +152,9 @@ ordered g c =
           (entries_of c.header_ref-leaf.result.now),
     )
 
-pub digest_for-digest-requires-then-end-len : goal.digest_for-digest-requires-then-end-len
-digest_for-digest-requires-then-end-len g c =
-    let h = (goal.at.digest_for-digest-requires-then-end-len g c).After-header_ref-leaf in
+pub head_for-head-requires-then-end-len : goal.head_for-head-requires-then-end-len
+head_for-head-requires-then-end-len g c =
+    let h = (goal.at.head_for-head-requires-then-end-len g c).After-header_ref-leaf in
     let new = c.args.self.now.new.now in
     let past = g.R.Probe.sought new.past.now in
     let to = g.Q.Probe.sought new.to.now in (
@@ -287,7 +287,7 @@ split_leaf-requires g c =
 -- what is said of both new keys: they begin as all keys do, so far as the probe tells
 told_alike : (g : given.Over) (c : Joined-is_some g) → c.if-is_some.begin_alike ≡ true
     → ((hint_of c.header_ref-leaf.result.now).skip ≤ c.args.self.now.new.now.shared)
-    × (is_some c.digest_for-digest.result ≡ true)
+    × (is_some c.head_for-head.result ≡ true)
 told_alike g c said =
     let shared = c.args.self.now.new.now.shared in
     elim c.if-is_some.branch [
@@ -308,7 +308,7 @@ splice_hinted-requires g c =
     let from = g.P.Probe.sought new.from.now in
     let to = g.Q.Probe.sought new.to.now in
     let ended = c.if-end-len.ended in
-    let d = c.digest_for-digest in
+    let d = c.head_for-head in
     let read = c.header_ref-leaf.result.now in
     let leaf = c.header_mut-leaf.result.now in
     let there : Some read ≡ Some leaf = sym c.header_ref-leaf.ensures.header ∙ c.header_mut-leaf.ensures.header in
@@ -341,9 +341,9 @@ splice_hinted-requires g c =
                     → Agrees bytes (hint_of node) text) (keys_of c.if-ended.entries.now)) same
                     (subst (λ es. All Agree (keys_of es)) (sym (new_is g j))
                     (both_put Agree ended new.first c.item.result
-                    (agree bytes near (hint_of read) from from new.shared d.result new.bytes d.ensures.digest.digest t.0 refl
+                    (agree bytes near (hint_of read) from from new.shared d.result new.bytes d.ensures.head.head t.0 refl
                     t.1 new.first.key new.first_is)
-                    (agree bytes near (hint_of read) to from new.shared d.result new.bytes d.ensures.digest.digest t.0
+                    (agree bytes near (hint_of read) to from new.shared d.result new.bytes d.ensures.head.head t.0
                     new.begin_alike t.1 c.item.result.key second_is))),
               ),
             ),

@@ -21,23 +21,23 @@ use Rattle.std.proofs.lemmas.Iterator.{IsFirst-from_position, YieldsList-from_sl
 use Rattle.std.proofs.lemmas.List.{get_or-map, get_or-take, length-map, length-take}
 use Rattle.std.proofs.lemmas.Option.{MatchOption-at_some}
 use Rattle.tree.specs.declared.entry.Entry.{Entry}
-use Rattle.tree.specs.Hints.{digest_at}
+use Rattle.tree.specs.Hints.{head_at}
 use Rattle.tree.specs.Node.{entries_of, hint_of, keys_of}
-use Rattle.tree.proofs.HintChanges.{BeginsAsThese, digest_there, key_agrees, key_there}
-use Rattle.tree.proofs.node.Node.digest_of.Goals as goal
+use Rattle.tree.proofs.HintChanges.{BeginsAsThese, head_there, key_agrees, key_there}
+use Rattle.tree.proofs.node.Node.head_of.Goals as goal
 
-pub returns-then-eq-clause-digest : goal.returns-then-eq-clause-digest
-returns-then-eq-clause-digest g c =
+pub returns-then-eq-clause-head : goal.returns-then-eq-clause-head
+returns-then-eq-clause-head g c =
     let node = c.args.self.now in
     let e = c.index-self-guess.result in
-    let f = digest_at (g.P.Probe.bytes c.args.probe.now) node.skip in
+    let f = head_at (g.P.Probe.bytes c.args.probe.now) node.skip in
     let most : node.len ≤ length node.entries = omega arith in
     let same : e.key ≡ c.args.key =
     ap (λ (x : Entry). x.key) c.index-self-guess.is
     ∙ eqb-true (slice_index_or node.entries c.args.guess e).key c.args.key (sym c.eq.ensures ∙ c.if-eq.true) in
-    subst (λ k. slice_index_or node.digests c.args.guess 0 ≡ f k) same
-    (digest_there node.entries node.len c.args.guess e c.if-guess-self.true most c.index-self-guess.is f node.digests
-    c.requires.hinted.digests)
+    subst (λ k. slice_index_or node.heads c.args.guess 0 ≡ f k) same
+    (head_there node.entries node.len c.args.guess e c.if-guess-self.true most c.index-self-guess.is f node.heads
+    c.requires.hinted.heads)
 
 pub returns-then-eq-clause-agrees : goal.returns-then-eq-clause-agrees
 returns-then-eq-clause-agrees g c =
@@ -59,7 +59,7 @@ returns-in-Some g c =
     let i = c.in-Some.index in
     let es = entries_of node in
     let keys = keys_of es in
-    let f = digest_at bytes node.skip in
+    let f = head_at bytes node.skip in
     let Same = λ (e : Entry). e.key ≡ key in
     let Other = λ (e : Entry). ¬ Same e in
     let first = MatchOption-at_some (AllWithin Other es 0 (length es))
@@ -72,7 +72,7 @@ returns-in-Some g c =
     let inside : i < length keys = omega (arith, first.0, length-map es (λ (e : Entry). e.key)) in
     let used : i < node.len = omega (arith, first.0, length-take node.len node.entries) in
     record {
-      digest = sym (get_or-take node.len node.digests i 0 used) ∙ ap (λ ds. get_or ds i 0) c.requires.hinted.digests
+      head = sym (get_or-take node.len node.heads i 0 used) ∙ ap (λ ds. get_or ds i 0) c.requires.hinted.heads
           ∙ get_or-map f keys i key 0 inside ∙ ap f here;
       agrees = key_agrees bytes (hint_of node) c.requires.hinted key (i, inside, here);
     }

@@ -7,5 +7,5 @@ abbrev pub first_eight : List ℕ → List ℕ
 first_eight bytes = take 8 (bytes ++ replicate 8 0)
 
 -- these as one number, the first byte the highest
-unfoldable pub digest_of : List ℕ → ℕ
-digest_of bytes = from_be_bytes w64 (first_eight bytes)
+unfoldable pub head_of : List ℕ → ℕ
+head_of bytes = from_be_bytes w64 (first_eight bytes)

@@ -1,4 +1,4 @@
--- Lemmas for callers: digests and common beginnings tell the order of keys.
+-- Lemmas for callers: heads and common beginnings tell the order of keys.
 use Rattle.std.proofs.Common.{
   ◌≡◌,
   ℕ,
@@ -62,7 +62,7 @@ use Rattle.std.proofs.lemmas.List.Elements.{
 }
 use Rattle.std.proofs.lemmas.Nat.{be_bytes_8}
 use Rattle.keys.specs.Key.{IsBytes, is_before, IsBefore, IsAtMost}
-use Rattle.keys.specs.Digest.{first_eight, digest_of}
+use Rattle.keys.specs.Head.{first_eight, head_of}
 use Rattle.keys.proofs.callers.KeyOrder.{not_both}
 
 abbrev IsByte : ℕ → Type 0
@@ -117,28 +117,28 @@ number_of-less (suc n) (x ∷ a) (y ∷ b) a_bytes b_bytes less =
       ]
     ]
 
-digest_of-number : (a : List ℕ) → digest_of a ≡ number_of 8 a
-unfolding digest_of
-digest_of-number [] = refl
-digest_of-number (p ∷ []) = omega arith
-digest_of-number (p ∷ q ∷ []) = omega arith
-digest_of-number (p ∷ q ∷ r ∷ []) = omega arith
-digest_of-number (p ∷ q ∷ r ∷ s ∷ []) = omega arith
-digest_of-number (p ∷ q ∷ r ∷ s ∷ t ∷ []) = omega arith
-digest_of-number (p ∷ q ∷ r ∷ s ∷ t ∷ u ∷ []) = omega arith
-digest_of-number (p ∷ q ∷ r ∷ s ∷ t ∷ u ∷ v ∷ []) = omega arith
-digest_of-number (p ∷ q ∷ r ∷ s ∷ t ∷ u ∷ v ∷ w ∷ a) = omega arith
+head_of-number : (a : List ℕ) → head_of a ≡ number_of 8 a
+unfolding head_of
+head_of-number [] = refl
+head_of-number (p ∷ []) = omega arith
+head_of-number (p ∷ q ∷ []) = omega arith
+head_of-number (p ∷ q ∷ r ∷ []) = omega arith
+head_of-number (p ∷ q ∷ r ∷ s ∷ []) = omega arith
+head_of-number (p ∷ q ∷ r ∷ s ∷ t ∷ []) = omega arith
+head_of-number (p ∷ q ∷ r ∷ s ∷ t ∷ u ∷ []) = omega arith
+head_of-number (p ∷ q ∷ r ∷ s ∷ t ∷ u ∷ v ∷ []) = omega arith
+head_of-number (p ∷ q ∷ r ∷ s ∷ t ∷ u ∷ v ∷ w ∷ a) = omega arith
 
--- the key with the lesser digest comes first
-pub digest_less : (a b : List ℕ) → IsBytes a → IsBytes b → digest_of a < digest_of b → IsBefore a b
-digest_less a b a_bytes b_bytes less =
-    number_of-less 8 a b a_bytes b_bytes (omega (arith, digest_of-number a, digest_of-number b))
+-- the key with the lesser head comes first
+pub head_less : (a b : List ℕ) → IsBytes a → IsBytes b → head_of a < head_of b → IsBefore a b
+head_less a b a_bytes b_bytes less =
+    number_of-less 8 a b a_bytes b_bytes (omega (arith, head_of-number a, head_of-number b))
 
--- digests never fall from a key to a later one
-pub digest_at_most : (a b : List ℕ) → IsBytes a → IsBytes b → IsAtMost a b → digest_of a ≤ digest_of b
-digest_at_most a b a_bytes b_bytes at_most =
-    elim (cases_lt (digest_of b) (digest_of a)) [
-      | inl less ↦ absurd (not_both b a (digest_less b a b_bytes a_bytes less) at_most)
+-- heads never fall from a key to a later one
+pub head_at_most : (a b : List ℕ) → IsBytes a → IsBytes b → IsAtMost a b → head_of a ≤ head_of b
+head_at_most a b a_bytes b_bytes at_most =
+    elim (cases_lt (head_of b) (head_of a)) [
+      | inl less ↦ absurd (not_both b a (head_less b a b_bytes a_bytes less) at_most)
       | inr not_less ↦ not_less
     ]
 
@@ -180,22 +180,22 @@ filled_up n a is = elim (cases_lt 8 (length a)) [
       ∙ filled_up_short (8 - length a) a (omega arith)
 ]
 
--- the first eight bytes, written anew from the digest
-pub digest_of-bytes : (a : List ℕ) → IsBytes a → to_be_bytes w64 (digest_of a) ≡ first_eight a
-unfolding digest_of
-digest_of-bytes a bytes =
-    be_bytes_8 (first_eight a) (digest_of a) (length-first_eight a) (first_eight-bytes a bytes) refl
+-- the first eight bytes, written anew from the head
+pub head_of-bytes : (a : List ℕ) → IsBytes a → to_be_bytes w64 (head_of a) ≡ first_eight a
+unfolding head_of
+head_of-bytes a bytes =
+    be_bytes_8 (first_eight a) (head_of a) (length-first_eight a) (first_eight-bytes a bytes) refl
 
--- keys of one digest have the same first eight bytes, with zeros for those that are missing
-pub digest_same : (a b : List ℕ) → IsBytes a → IsBytes b → digest_of a ≡ digest_of b
+-- keys of one head have the same first eight bytes, with zeros for those that are missing
+pub head_same : (a b : List ℕ) → IsBytes a → IsBytes b → head_of a ≡ head_of b
     → first_eight a ≡ first_eight b
-digest_same a b a_bytes b_bytes same =
-    sym (digest_of-bytes a a_bytes) ∙ ap (to_be_bytes w64) same ∙ digest_of-bytes b b_bytes
+head_same a b a_bytes b_bytes same =
+    sym (head_of-bytes a a_bytes) ∙ ap (to_be_bytes w64) same ∙ head_of-bytes b b_bytes
 
-pub digest_same_long : (a b : List ℕ) → IsBytes a → IsBytes b → digest_of a ≡ digest_of b
+pub head_same_long : (a b : List ℕ) → IsBytes a → IsBytes b → head_of a ≡ head_of b
     → 8 ≤ length a → 8 ≤ length b → take 8 a ≡ take 8 b
-digest_same_long a b a_bytes b_bytes same a_long b_long =
-    sym (take-append-le 8 a (replicate 8 0) a_long) ∙ digest_same a b a_bytes b_bytes same
+head_same_long a b a_bytes b_bytes same a_long b_long =
+    sym (take-append-le 8 a (replicate 8 0) a_long) ∙ head_same a b a_bytes b_bytes same
     ∙ take-append-le 8 b (replicate 8 0) b_long
 
 -- lists that agree at each of the first places begin alike

@@ -1,15 +1,15 @@
 use Rattle.std.proofs.Common.{◌≡◌, ◌≢◌, ◌⊎◌, ◌≤◌, ◌∙◌, inl, inr, sym, ap, get_or, get_or-take, length-take, arith}
 use Rattle.std.proofs.lemmas.Bool.{leb-true}
-use Rattle.tree.specs.Hints.{Agrees, digest_behind}
+use Rattle.tree.specs.Hints.{Agrees, head_behind}
 use Rattle.tree.specs.Node.{entries_of, hint_of}
 use Rattle.tree.proofs.HintAt.{entry_at, key_there, agrees_at}
-use Rattle.tree.proofs.node.Node.digest_for.Goals.{
+use Rattle.tree.proofs.node.Node.head_for.Goals.{
   then-self-eq0+then-self-gt0,
   else-self-eq0,
   else-self-eq0-via-then-self-eq0+else-self-gt0,
   else-self-eq0-via-else-self-eq0,
 }
-use Rattle.tree.proofs.node.Node.digest_for.Goals as goal
+use Rattle.tree.proofs.node.Node.head_for.Goals as goal
 
 pub returns : goal.returns
 returns g c =
@@ -26,9 +26,9 @@ returns g c =
           let first = entry_at es 0 c.requires.some in
           let enough : w.skip.result ≤ c.args.shared =
           leb-true w.skip.result c.args.shared (sym w.alike-is ∙ c.if-not-alike.false) in
-          let own : get_or (hint_of node).digests 0 0 ≡ get_or node.digests 0 0 =
-          get_or-take node.len node.digests 0 0 (omega (arith, c.requires.some, length-take node.len node.entries)) in
-          let filled : (node.skip ≡ 0) ⊎ (get_or (hint_of node).digests 0 0 ≢ 0) =
+          let own : get_or (hint_of node).heads 0 0 ≡ get_or node.heads 0 0 =
+          get_or-take node.len node.heads 0 0 (omega (arith, c.requires.some, length-take node.len node.entries)) in
+          let filled : (node.skip ≡ 0) ⊎ (get_or (hint_of node).heads 0 0 ≢ 0) =
           elim w.else-self-eq0.branch [
             | else-self-eq0-via-then-self-eq0+else-self-gt0 v ↦ inl (omega (arith, v.if-self-gt0.false))
             | else-self-eq0-via-else-self-eq0 v ↦ inr (λ zero. v.if-self-eq0.false (sym own ∙ zero))
@@ -38,11 +38,11 @@ returns g c =
           c.requires.shared first.0 text first.1 known node.skip long (omega (arith, enough, w.skip.ensures.skip)))
     ] in
     record {
-      digest = record {
-        digest = record {
+      head = record {
+        head = record {
           agrees = agrees;
-          digest_is = c.digest.ensures.digest ∙ ap (λ n. digest_behind n sought) c.skip-2.ensures.skip;
-          are_bytes = c.digest.ensures.are_bytes;
+          head_is = c.head.ensures.head ∙ ap (λ n. head_behind n sought) c.skip-2.ensures.skip;
+          are_bytes = c.head.ensures.are_bytes;
         };
         none = λ none. absurd cc;
       };

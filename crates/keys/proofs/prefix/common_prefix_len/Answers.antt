@@ -1,7 +1,7 @@
 use Rattle.std.proofs.Common.{ap, sym, ◌≡◌, ◌∙◌, ◌++◌, ◌*◌, take, drop}
 use Rattle.std.proofs.Math.Seq.{take-add}
 use Rattle.std.proofs.lemmas.List.{take_rest}
-use Rattle.keys.proofs.prefix.common.Goals as goal
+use Rattle.keys.proofs.prefix.common_prefix_len.Goals as goal
 
 pub returns-clause-same : goal.returns-clause-same
 returns-clause-same c =
