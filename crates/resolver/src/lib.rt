@@ -14,12 +14,12 @@
 //! isn't one that has more unanswered.
 #![tactic(auto)]
 
+mod all_lanes;
 mod client;
 pub mod laws;
-mod link;
-mod links;
 mod opening;
 mod owed;
+mod proxy_lanes;
 mod resolver;
 mod resolver_core;
 mod sharing;

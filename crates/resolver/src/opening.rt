@@ -11,7 +11,7 @@ ghost use Rattle.resolver.specs.Resolver.{StandsOver, IsResolving, AreClients, I
 ghost use Rattle.resolver.specs.Links.{IsNewLink, AreConnected};
 
 use crate::client::Client;
-use crate::link::Link;
+use crate::proxy_lanes::ProxyLanes;
 use crate::resolver::Resolver;
 use crate::resolver_core::{Core, MAX_PROXIES};
 use crate::stop::OpenError;
@@ -55,7 +55,7 @@ fn connect_all(
     alloc: Global,
     proxies: usize,
     capacity: usize,
-) -> Result<(Vec<Link>, Vec<Client>), OpenError>
+) -> Result<(Vec<ProxyLanes>, Vec<Client>), OpenError>
     requires least_capacity { 1 ≤ capacity }
     requires most_capacity { capacity ≤ MAX_CAPACITY }
     ensures connected { IfOk result (λ ends. AreConnected capacity proxies ends.0.items ends.1.items) }
@@ -71,7 +71,7 @@ fn connect_all(
 }
 
 // Makes the two lanes of a proxy.
-fn connect(alloc: Global, capacity: usize) -> Result<(Link, Client), LaneError>
+fn connect(alloc: Global, capacity: usize) -> Result<(ProxyLanes, Client), LaneError>
     requires least_capacity { 1 ≤ capacity }
     requires most_capacity { capacity ≤ MAX_CAPACITY }
     ensures link { IfOk result (λ ends. IsNewLink ends.0) }
@@ -85,5 +85,5 @@ fn connect(alloc: Global, capacity: usize) -> Result<(Link, Client), LaneError>
         requests: send_requests,
         replies: take_replies,
     };
-    Ok((Link::new(take_requests, send_replies), client))
+    Ok((ProxyLanes::new(take_requests, send_replies), client))
 }

@@ -18,8 +18,8 @@ ghost use Rattle.resolver.specs.Share.{share_of, HasMoreUnanswered};
 ghost use Rattle.resolver.specs.Settled.{Settled, IsComplete};
 
 use crate::client::Client;
-use crate::link::Link;
-use crate::links;
+use crate::proxy_lanes::ProxyLanes;
+use crate::all_lanes;
 use crate::resolver_core::Core;
 use crate::stop::Stop;
 use crate::turn::{Account, Turn};
@@ -30,7 +30,7 @@ use std::marker::Model;
 #[derive(Drop)]
 pub struct Resolver {
     core: Core,
-    links: Vec<Link>,
+    links: Vec<ProxyLanes>,
     // the next turn looks for a batch from this link on
     next: usize,
     // all request lanes have ended, and the core was finished
@@ -68,7 +68,7 @@ impl Model for Resolver {
 
 impl Resolver {
     // Puts a resolver together that has taken nothing.
-    pub(crate) fn new(core: Core, links: Vec<Link>) -> Self
+    pub(crate) fn new(core: Core, links: Vec<ProxyLanes>) -> Self
         requires core { Stands core [] (λ _. []) }
         requires no_stop { core.stop ≡ None }
         requires links { All IsNewLink links.items }
@@ -172,7 +172,7 @@ impl Resolver {
     {
         laws::runs_are_chains();
         laws::each_batch_is_answered();
-        let all_taken = links::settle(&mut self.links, clients);
+        let all_taken = all_lanes::settle(&mut self.links, clients);
         Account::new(self.core.stop(), self.closed, all_taken)
     }
 
@@ -180,7 +180,7 @@ impl Resolver {
     pub fn owed(&self) -> usize
         ensures count { result ≡ owed_count self.now.core.owed }
     {
-        self.core.owed() + links::waiting(&self.links)
+        self.core.owed() + all_lanes::waiting(&self.links)
     }
 
     /// Returns how many answers were sent to the proxy, or 0 where there is no such proxy.
@@ -223,14 +223,14 @@ impl Resolver {
         if let Some(stop) = self.core.stop() {
             return Err(stop);
         }
-        match links::take_from(&mut self.links, self.next) {
+        match all_lanes::take_from(&mut self.links, self.next) {
             Some((proxy, batch)) => {
                 self.next = proxy + 1;
                 self.core.admit(proxy, batch)?;
                 Ok(Some(proxy))
             }
             None => {
-                let ended = links::have_ended(&self.links);
+                let ended = all_lanes::have_ended(&self.links);
                 if ended == self.finished {
                     return Ok(None);
                 }
@@ -250,7 +250,7 @@ impl Resolver {
         ensures lanes { Each (λ _ l m. (m ≡ record l { replies = m.replies }) × PortGoesOn l.replies m.replies) self.old.lanes self.new.lanes }
         ensures same { SameBut self.old self.new }
     {
-        links::hand_out(&mut self.links, &mut self.core);
+        all_lanes::hand_out(&mut self.links, &mut self.core);
     }
 
     // Closes the reply lanes where no answer is still to come.
@@ -264,7 +264,7 @@ impl Resolver {
         ensures next { self.new.next ≡ self.old.next }
     {
         if !self.closed && self.is_through() {
-            links::close(&mut self.links);
+            all_lanes::close(&mut self.links);
             self.closed = true;
         }
     }
