@@ -10,7 +10,7 @@ use Rattle.resolver.specs.Core.{CoreState}
 use Rattle.resolver.specs.Stands.{Stands}
 use Rattle.resolver.specs.Lanes.{Lanes, Each, LanesGoOn, AreSameLists, TakesNone, all_ended, sent_to}
 use Rattle.resolver.specs.Resolver.{ResolverState, StandsOver, IsResolving, TakesFrom, Finishes, TakesNoStep, StepsBy}
-use Rattle.resolver.proofs.Linked.{field_same}
+use Rattle.resolver.proofs.AtIndex.{field_same}
 use Rattle.resolver.proofs.Handed.{StandsBy-moved}
 use Rattle.resolver.proofs.HandedOut.{list_all-same}
 use Rattle.resolver.proofs.Logged.{was_closed, stands_same}

@@ -50,7 +50,7 @@ use Rattle.resolver.specs.Lanes.{Lanes, taken_from, sent_to}
 use Rattle.resolver.specs.Resolver.{ResolverState, StandsOver, IsResolving, TakesFrom}
 use Rattle.resolver.specs.Share.{share_of, HasMoreUnanswered, KeepsShare}
 use Rattle.resolver.proofs.Accounts.{made_begins}
-use Rattle.resolver.proofs.Linked.{field_at, field_past}
+use Rattle.resolver.proofs.AtIndex.{field_at, field_past}
 use Rattle.resolver.proofs.Releasing.{All-without, leave_all-none}
 use Rattle.resolver.proofs.Standing.{IsIn-standing, run-more}
 

@@ -31,7 +31,7 @@ use Rattle.keyspace.specs.declared.batch.Batch.{Batch}
 use Rattle.keyspace.specs.Run.{State, Step, admit, leave, step, run_from, run, answers_to, start}
 use Rattle.resolver.specs.declared.stop.Stop.{Stop}
 use Rattle.resolver.specs.Owed.{owed_to, given_oldest}
-use Rattle.resolver.specs.Core.{CoreState, Given, IsBeginning, IsIn, IsCore, MadeBetween, StopsIn, StopsAtLimit, made_to}
+use Rattle.resolver.specs.Core.{CoreState, Given, IsBeginning, IsIn, MadeBetween, StopsIn, StopsAtLimit, made_to}
 use Rattle.resolver.specs.Stands.{StoppedIn, StandsBy, given_also}
 
 run_from-more : (window : ℤ) (log : List Step) (x : Step) (s : State)
@@ -156,12 +156,3 @@ module _ (stop : Option Stop) (given : Given) (core : CoreState) where
             leaves.batch.1 leaves.stops;
       })
   ]
-
-pub IsCore-stopped : (stop : Stop) (core : CoreState) → IsCore core → IsCore (record core { stop = Some stop })
-IsCore-stopped stop core is = record {
-  takes_more = λ none. cc;
-  resolved = is.resolved;
-  remembers = is.remembers;
-  known = is.known;
-  past = is.past;
-}

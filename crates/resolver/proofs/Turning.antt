@@ -15,8 +15,8 @@ use Rattle.resolver.specs.Resolver.{ResolverState, StandsOver, IsThrough, TakesF
 use Rattle.resolver.specs.declared.turn.Turn.{Turn}
 use Rattle.resolver.specs.declared.turn.Turn.TheVariants as turn
 use Rattle.resolver.specs.declared.stop.Stop.{Stop}
-use Rattle.resolver.specs.Links.{Parts, AreParts, resolver_of}
-use Rattle.resolver.proofs.Linked.{field_same, both_at, lanes_at}
+use Rattle.resolver.specs.Parts.{Parts, AreParts, resolver_of}
+use Rattle.resolver.proofs.AtIndex.{field_same, both_at, lanes_at}
 use Rattle.resolver.proofs.HandedOut.{HandedOver, list_all-same}
 use Rattle.resolver.proofs.Closing.{ClosedOver}
 
@@ -227,9 +227,9 @@ pub closed_by : (parts : Parts) (new : ResolverState) → AreParts parts → res
     → ((p : ℕ) (l : Lanes) → slice_get new.lanes p ≡ Some l → (l.replies.closed ≡ true) ↔ IsThrough new)
     → IsThrough new → parts.closed ≡ true
 closed_by parts new are is closed through =
-    elim (slice_get_cases parts.links 0).1 [
+    elim (slice_get_cases parts.all_lanes 0).1 [
       | inl k ↦
-          let at = lanes_at parts.links 0 k.0 k.2 in
+          let at = lanes_at parts.all_lanes 0 k.0 k.2 in
           sym (are.closed 0 k.0.lanes at)
           ∙ (closed 0 k.0.lanes (ap (λ (r : ResolverState). slice_get r.lanes 0) (sym is) ∙ at)).1 through
       | inr past ↦ absurd (omega (arith, past.0, are.some))

@@ -6,5 +6,5 @@ pub mod Stands
 pub mod Lanes
 pub mod Resolver
 pub mod Share
-pub mod Links
+pub mod Parts
 pub mod Settled

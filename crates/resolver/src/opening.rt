@@ -8,7 +8,7 @@ ghost use Rattle.lane.specs.declared.ends.TheConstants.{MAX_CAPACITY};
 ghost use Rattle.resolver.specs.declared.resolver_core.TheConstants.{MAX_PROXIES};
 ghost use Rattle.resolver.specs.Lanes.{Lanes};
 ghost use Rattle.resolver.specs.Resolver.{StandsOver, IsResolving, AreClients, IsNewClient};
-ghost use Rattle.resolver.specs.Links.{IsNewLink, AreConnected};
+ghost use Rattle.resolver.specs.Parts.{AreNewLanes, AreConnected};
 
 use crate::client::Client;
 use crate::proxy_lanes::ProxyLanes;
@@ -46,8 +46,8 @@ pub fn open(
     ensures new_clients { IfOk result (λ opened. All (IsNewClient capacity) opened.1.items) }
 {
     let core = Core::new(alloc, proxies, window, limit)?;
-    let (links, clients) = connect_all(alloc, proxies, capacity)?;
-    Ok((Resolver::new(core, links), clients))
+    let (all_lanes, clients) = connect_all(alloc, proxies, capacity)?;
+    Ok((Resolver::new(core, all_lanes), clients))
 }
 
 // Makes the lanes of so many proxies.
@@ -60,21 +60,21 @@ fn connect_all(
     requires most_capacity { capacity ≤ MAX_CAPACITY }
     ensures connected { IfOk result (λ ends. AreConnected capacity proxies ends.0.items ends.1.items) }
 {
-    let mut links = Vec::with_capacity(alloc, proxies)?;
+    let mut all_lanes = Vec::with_capacity(alloc, proxies)?;
     let mut clients = Vec::with_capacity(alloc, proxies)?;
     for _ in 0..proxies {
-        let (link, client) = connect(alloc, capacity)?;
-        links.push_reserved(link);
+        let (proxy_lanes, client) = connect(alloc, capacity)?;
+        all_lanes.push_reserved(proxy_lanes);
         clients.push_reserved(client);
     }
-    Ok((links, clients))
+    Ok((all_lanes, clients))
 }
 
 // Makes the two lanes of a proxy.
 fn connect(alloc: Global, capacity: usize) -> Result<(ProxyLanes, Client), LaneError>
     requires least_capacity { 1 ≤ capacity }
     requires most_capacity { capacity ≤ MAX_CAPACITY }
-    ensures link { IfOk result (λ ends. IsNewLink ends.0) }
+    ensures proxy_lanes { IfOk result (λ ends. AreNewLanes ends.0) }
     ensures client { IfOk result (λ ends. IsNewClient capacity ends.1) }
     ensures requests { IfOk result (λ ends. SameLane ends.1.requests ends.0.lanes.requests) }
     ensures replies { IfOk result (λ ends. SameLane ends.0.lanes.replies ends.1.replies) }

@@ -4,7 +4,7 @@ ghost use Rattle.std.specs.Prelude.{◌≡◌, ◌≢◌, ◌↔◌, ◌⊎◌, 
 ghost use Rattle.lane.specs.Lane.{SameLane, PortGoesOn};
 ghost use Rattle.resolver.specs.Owed.{owed_to};
 ghost use Rattle.resolver.specs.Lanes.{IsFull};
-ghost use Rattle.resolver.specs.Links.{TakesFromLink, HandsOut, OwesOnly, SettlesLink};
+ghost use Rattle.resolver.specs.Parts.{TakesFromProxy, HandsOut, OwesOnly, SettlesLanes};
 
 use crate::client::Client;
 use crate::resolver_core::Core;
@@ -24,9 +24,9 @@ pub struct ProxyLanes {
 impl Model for ProxyLanes {
     ghost use Rattle.std.specs.Prelude.{◌≡◌, true};
     ghost use Rattle.lane.specs.Lane.{HasEnded};
-    ghost use Rattle.resolver.specs.Links.{LinkView};
+    ghost use Rattle.resolver.specs.Parts.{ProxyLanesView};
 
-    ghost Value = { LinkView };
+    ghost Value = { ProxyLanesView };
 
     ghost view = { λ l. record {
       lanes = record { requests = l.requests; replies = l.replies; ended = l.ended };
@@ -37,9 +37,9 @@ impl Model for ProxyLanes {
 }
 
 impl ProxyLanes {
-    /// Links the resolver's ends of a proxy's lanes.
+    /// Puts the resolver's ends of a proxy's lanes together.
     pub fn new(requests: Intake<Batch>, replies: Port<Answer>) -> Self
-        ensures link { result ≡ record { lanes = record { requests = requests; replies = replies; ended = false }; waiting = None } }
+        ensures proxy_lanes { result ≡ record { lanes = record { requests = requests; replies = replies; ended = false }; waiting = None } }
     {
         ProxyLanes {
             requests,
@@ -51,7 +51,7 @@ impl ProxyLanes {
 
     /// Takes the next batch of the proxy, or returns `None` if there is none to be seen.
     pub fn take(&mut self) -> Option<Batch>
-        ensures takes { TakesFromLink result self.old self.new }
+        ensures takes { TakesFromProxy result self.old self.new }
     {
         if self.ended {
             return None;
@@ -107,7 +107,7 @@ impl ProxyLanes {
     pub fn settle(&mut self, client: &mut Client) -> bool
         requires requests { SameLane client.old.requests self.old.lanes.requests }
         requires replies { SameLane self.old.lanes.replies client.old.replies }
-        ensures settles { SettlesLink self.old client.old self.new client.new }
+        ensures settles { SettlesLanes self.old client.old self.new client.new }
         ensures all_taken { IsTrue result ↔ (client.old.replies.taken ≡ self.old.lanes.replies.sent) }
     {
         agree(&mut client.requests, &mut self.requests);

@@ -10,16 +10,16 @@ ghost use Rattle.resolver.specs.declared.client.Client.{Client as ClientEnds};
 ghost use Rattle.resolver.specs.Owed.{owed_to, owed_count};
 ghost use Rattle.resolver.specs.Core.{GoesOn, StopsAtLimit, made_to};
 ghost use Rattle.resolver.specs.Stands.{Stands};
-ghost use Rattle.resolver.specs.Links.{IsNewLink, lanes_of};
+ghost use Rattle.resolver.specs.Parts.{AreNewLanes, lanes_of};
 ghost use Rattle.resolver.specs.declared.resolver_core.TheConstants.{MAX_PROXIES};
 ghost use Rattle.resolver.specs.Lanes.{Lanes, all_ended, Each, LanesGoOn, IsLookedThrough, ComesBefore, IsFull, TakesNone, AreSameLists, sent_to};
 ghost use Rattle.resolver.specs.Resolver.{ResolverState, StandsOver, IsResolving, TakesFrom, Finishes, TakesNoStep, StepsBy, IfNotTaken, IsThrough, SameBut, AreClients, SameClients};
 ghost use Rattle.resolver.specs.Share.{share_of, HasMoreUnanswered};
 ghost use Rattle.resolver.specs.Settled.{Settled, IsComplete};
 
+use crate::all_lanes;
 use crate::client::Client;
 use crate::proxy_lanes::ProxyLanes;
-use crate::all_lanes;
 use crate::resolver_core::Core;
 use crate::stop::Stop;
 use crate::turn::{Account, Turn};
@@ -30,8 +30,8 @@ use std::marker::Model;
 #[derive(Drop)]
 pub struct Resolver {
     core: Core,
-    links: Vec<ProxyLanes>,
-    // the next turn looks for a batch from this link on
+    all_lanes: Vec<ProxyLanes>,
+    // the next turn looks for a batch from this pair of lanes on
     next: usize,
     // all request lanes have ended, and the core was finished
     finished: bool,
@@ -43,7 +43,7 @@ impl Model for Resolver {
     ghost use Rattle.std.specs.Coded.{codes};
     ghost use Rattle.resolver.specs.contracts.resolver_core.Core as core_type;
     ghost use Rattle.resolver.specs.Resolver.{ResolverState};
-    ghost use Rattle.resolver.specs.Links.{resolver_of, AreParts};
+    ghost use Rattle.resolver.specs.Parts.{resolver_of, AreParts};
 
     ghost Value = { ResolverState };
 
@@ -51,7 +51,7 @@ impl Model for Resolver {
 
     ghost view = { λ r. resolver_of record {
       core = r.core;
-      links = r.links.items;
+      all_lanes = r.all_lanes.items;
       next = r.next;
       finished = r.finished;
       closed = r.closed;
@@ -59,7 +59,7 @@ impl Model for Resolver {
 
     ghost invariant = { λ r. AreParts record {
       core = r.core;
-      links = r.links.items;
+      all_lanes = r.all_lanes.items;
       next = r.next;
       finished = r.finished;
       closed = r.closed;
@@ -68,21 +68,21 @@ impl Model for Resolver {
 
 impl Resolver {
     // Puts a resolver together that has taken nothing.
-    pub(crate) fn new(core: Core, links: Vec<ProxyLanes>) -> Self
+    pub(crate) fn new(core: Core, all_lanes: Vec<ProxyLanes>) -> Self
         requires core { Stands core [] (λ _. []) }
         requires no_stop { core.stop ≡ None }
-        requires links { All IsNewLink links.items }
-        requires count { length links.items ≡ length core.owed }
-        requires some { 1 ≤ length links.items }
-        requires few { length links.items ≤ MAX_PROXIES }
+        requires all_lanes { All AreNewLanes all_lanes.items }
+        requires count { length all_lanes.items ≡ length core.owed }
+        requires some { 1 ≤ length all_lanes.items }
+        requires few { length all_lanes.items ≤ MAX_PROXIES }
         ensures stands { StandsOver result [] }
         ensures core { result.core ≡ core }
-        ensures lanes { result.lanes ≡ lanes_of links.items }
+        ensures lanes { result.lanes ≡ lanes_of all_lanes.items }
         ensures next { result.next ≡ 0 }
     {
         Resolver {
             core,
-            links,
+            all_lanes,
             next: 0,
             finished: false,
             closed: false,
@@ -172,7 +172,7 @@ impl Resolver {
     {
         laws::runs_are_chains();
         laws::each_batch_is_answered();
-        let all_taken = all_lanes::settle(&mut self.links, clients);
+        let all_taken = all_lanes::settle(&mut self.all_lanes, clients);
         Account::new(self.core.stop(), self.closed, all_taken)
     }
 
@@ -180,15 +180,15 @@ impl Resolver {
     pub fn owed(&self) -> usize
         ensures count { result ≡ owed_count self.now.core.owed }
     {
-        self.core.owed() + all_lanes::waiting(&self.links)
+        self.core.owed() + all_lanes::waiting(&self.all_lanes)
     }
 
     /// Returns how many answers were sent to the proxy, or 0 where there is no such proxy.
     pub fn sent(&self, proxy: usize) -> u64
         ensures count { result ≡ length (sent_to self.now.lanes proxy) }
     {
-        match self.links.get(proxy) {
-            Some(link) => link.sent(),
+        match self.all_lanes.get(proxy) {
+            Some(proxy_lanes) => proxy_lanes.sent(),
             None => 0,
         }
     }
@@ -223,14 +223,14 @@ impl Resolver {
         if let Some(stop) = self.core.stop() {
             return Err(stop);
         }
-        match all_lanes::take_from(&mut self.links, self.next) {
+        match all_lanes::take_from(&mut self.all_lanes, self.next) {
             Some((proxy, batch)) => {
                 self.next = proxy + 1;
                 self.core.admit(proxy, batch)?;
                 Ok(Some(proxy))
             }
             None => {
-                let ended = all_lanes::have_ended(&self.links);
+                let ended = all_lanes::have_ended(&self.all_lanes);
                 if ended == self.finished {
                     return Ok(None);
                 }
@@ -250,7 +250,7 @@ impl Resolver {
         ensures lanes { Each (λ _ l m. (m ≡ record l { replies = m.replies }) × PortGoesOn l.replies m.replies) self.old.lanes self.new.lanes }
         ensures same { SameBut self.old self.new }
     {
-        all_lanes::hand_out(&mut self.links, &mut self.core);
+        all_lanes::hand_out(&mut self.all_lanes, &mut self.core);
     }
 
     // Closes the reply lanes where no answer is still to come.
@@ -264,7 +264,7 @@ impl Resolver {
         ensures next { self.new.next ≡ self.old.next }
     {
         if !self.closed && self.is_through() {
-            all_lanes::close(&mut self.links);
+            all_lanes::close(&mut self.all_lanes);
             self.closed = true;
         }
     }

@@ -6,10 +6,10 @@ use Rattle.resolver.proofs.all_lanes.have_ended.Goals as goal
 
 pub returns : goal.returns
 returns c =
-    let links = c.args.links.now in
+    let all_lanes = c.args.all_lanes.now in
     record {
       all =
-          all_from_yields_List (λ l. l.lanes.ended) _ _ _ c.all.ensures.ran (YieldsList-from_slice links cc)
+          all_from_yields_List (λ l. l.lanes.ended) _ _ _ c.all.ensures.ran (YieldsList-from_slice all_lanes cc)
           (λ x b q k. search (rules, tests))
-          ∙ sym (list_all-map (λ l. l.ended) (λ l. l.lanes) links);
+          ∙ sym (list_all-map (λ l. l.ended) (λ l. l.lanes) all_lanes);
     }

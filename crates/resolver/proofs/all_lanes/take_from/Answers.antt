@@ -22,10 +22,10 @@ returns-in-Some-clause-found c =
 pub returns-in-None-clause-found : goal.returns-in-None-clause-found
 returns-in-None-clause-found c =
     let first = c.args.first in
-    let links = c.args.links.now in
+    let all_lanes = c.args.all_lanes.now in
     IfSome_then c.take_between-in-None.result c.take_between-in-None.ensures.found
     (λ x found.
-    FindsOne-as (Either (Between first (length links)) (Between 0 x.0)) (λ q. ComesBefore first q x.0)
+    FindsOne-as (Either (Between first (length all_lanes)) (Between 0 x.0)) (λ q. ComesBefore first q x.0)
     (λ q inside. (
       λ b. elim b [
         | inl one ↦ inr (found.1, inl one.0)
@@ -39,17 +39,17 @@ returns-in-None-clause-found c =
         ]
       ],
     )) x.0 x.1
-    (FindsOne-then (Between first (length links)) (Between 0 x.0)
+    (FindsOne-then (Between first (length all_lanes)) (Between 0 x.0)
     (λ q one two. omega (arith, one.0, two.1, found.1)) x.0 x.1 (λ one. omega (arith, one.0, found.1))
     c.in-None.ensures.none found.2))
 
 pub returns-in-None-clause-none : goal.returns-in-None-clause-none
 returns-in-None-clause-none c =
     let first = c.args.first in
-    let links = c.args.links.now in
+    let all_lanes = c.args.all_lanes.now in
     IfNone_then c.take_between-in-None.result c.take_between-in-None.ensures.none
     (λ none.
-    FindsNone-as (Either (Between first (length links)) (Between 0 first)) (λ q. q < length links)
+    FindsNone-as (Either (Between first (length all_lanes)) (Between 0 first)) (λ q. q < length all_lanes)
     (λ q inside. (
       λ _. inside,
       λ _. elim (cases_lt q first) [
@@ -57,5 +57,5 @@ returns-in-None-clause-none c =
         | inr late ↦ inl (late, inside)
       ],
     ))
-    (FindsNone-then (Between first (length links)) (Between 0 first)
+    (FindsNone-then (Between first (length all_lanes)) (Between 0 first)
     (λ q one two. omega (arith, one.0, two.1)) c.in-None.ensures.none none))

@@ -1,7 +1,7 @@
 use Rattle.std.proofs.Common.{◌≡◌, ◌≢◌, ℕ, ◌+◌, length}
 use Rattle.std.specs.Prelude.{option_to_list}
 use Rattle.resolver.specs.Owed.{owed_to}
-use Rattle.resolver.specs.Links.{OwesOnly}
+use Rattle.resolver.specs.Parts.{OwesOnly}
 use Rattle.resolver.proofs.Handing.{HandsOn}
 use Rattle.resolver.proofs.proxy_lanes.ProxyLanes.hand_out.Given as goal
 

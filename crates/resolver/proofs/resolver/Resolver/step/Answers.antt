@@ -7,7 +7,7 @@ use Rattle.resolver.specs.declared.stop.Stop.TheVariants.{GateFull, ArenaFull}
 use Rattle.resolver.specs.Core.{GoesOn, StopsAtLimit}
 use Rattle.resolver.specs.Lanes.{Each, LanesGoOn, IsLookedThrough, ComesBefore, all_ended, sent_to}
 use Rattle.resolver.specs.Resolver.{ResolverState, StandsOver, TakesFrom, Finishes, TakesNoStep}
-use Rattle.resolver.specs.Links.{Parts, resolver_of, lanes_of, AreParts, FindsOne, FindsNone}
+use Rattle.resolver.specs.Parts.{Parts, resolver_of, lanes_of, AreParts, FindsOne, FindsNone}
 use Rattle.resolver.proofs.Stops.{same_stop, IfErr-always}
 use Rattle.resolver.proofs.Stepping.{
   none_of,
@@ -45,7 +45,7 @@ module _ (c : goal.After-from_residual) where
   abbrev stopped_old : Parts
   stopped_old = record {
     core = c.self.inside.core;
-    links = c.self.inside.links.items;
+    all_lanes = c.self.inside.all_lanes.items;
     next = c.self.inside.next;
     finished = c.self.inside.finished;
     closed = c.self.inside.closed;
@@ -54,7 +54,7 @@ module _ (c : goal.After-from_residual) where
   abbrev stopped_new : Parts
   stopped_new = record {
     core = c.admit.new.self;
-    links = (with_items c.self.inside.links c.take_from.new.links).items;
+    all_lanes = (with_items c.self.inside.all_lanes c.take_from.new.all_lanes).items;
     next = c.in-Some-take_from.proxy + 1;
     finished = c.self.inside.finished;
     closed = c.self.inside.closed;
@@ -65,9 +65,9 @@ module _ (c : goal.After-from_residual) where
 
   stopped_found :
       FindsOne (λ p. ComesBefore c.self.inside.next p c.in-Some-take_from.proxy) c.in-Some-take_from.proxy
-      c.in-Some-take_from.batch c.self.inside.links.items (with_items c.self.inside.links c.take_from.new.links).items
+      c.in-Some-take_from.batch c.self.inside.all_lanes.items (with_items c.self.inside.all_lanes c.take_from.new.all_lanes).items
   stopped_found =
-      found_in c.self.inside.links c.take_from.new.links c.deref_mut.result.now c.deref_mut.ensures.value
+      found_in c.self.inside.all_lanes c.take_from.new.all_lanes c.deref_mut.result.now c.deref_mut.ensures.value
       c.self.inside.next c.in-Some-take_from.proxy c.in-Some-take_from.batch c.in-Some-take_from.ensures.found
 
   stopped_takes : TakesFrom c.in-Some-take_from.proxy c.args.self.now (resolver_of stopped_new)
@@ -82,7 +82,7 @@ module _ (c : goal.In_ok-admit-in-Some-take_from) where
   abbrev admitted_old : Parts
   admitted_old = record {
     core = c.self.inside.core;
-    links = c.self.inside.links.items;
+    all_lanes = c.self.inside.all_lanes.items;
     next = c.self.inside.next;
     finished = c.self.inside.finished;
     closed = c.self.inside.closed;
@@ -91,7 +91,7 @@ module _ (c : goal.In_ok-admit-in-Some-take_from) where
   abbrev admitted_new : Parts
   admitted_new = record {
     core = c.admit.new.self;
-    links = (with_items c.self.inside.links c.take_from.new.links).items;
+    all_lanes = (with_items c.self.inside.all_lanes c.take_from.new.all_lanes).items;
     next = c.in-Some-take_from.proxy + 1;
     finished = c.self.inside.finished;
     closed = c.self.inside.closed;
@@ -102,9 +102,9 @@ module _ (c : goal.In_ok-admit-in-Some-take_from) where
 
   admitted_found :
       FindsOne (λ p. ComesBefore c.self.inside.next p c.in-Some-take_from.proxy) c.in-Some-take_from.proxy
-      c.in-Some-take_from.batch c.self.inside.links.items (with_items c.self.inside.links c.take_from.new.links).items
+      c.in-Some-take_from.batch c.self.inside.all_lanes.items (with_items c.self.inside.all_lanes c.take_from.new.all_lanes).items
   admitted_found =
-      found_in c.self.inside.links c.take_from.new.links c.deref_mut.result.now c.deref_mut.ensures.value
+      found_in c.self.inside.all_lanes c.take_from.new.all_lanes c.deref_mut.result.now c.deref_mut.ensures.value
       c.self.inside.next c.in-Some-take_from.proxy c.in-Some-take_from.batch c.in-Some-take_from.ensures.found
 
   admitted_takes : TakesFrom c.in-Some-take_from.proxy c.args.self.now (resolver_of admitted_new)
@@ -148,7 +148,7 @@ returns-in_err-admit-in-Some-take_from-clause-arena_full c =
     let met = same_stop c.from_residual.result stop ArenaFull c.from_residual.ensures.1 is in
     let limit = c.self.inside.core.set.map.limit in
     let window = c.self.inside.core.set.window in
-    let given = sent_to (lanes_of (stopped_new c).links) in
+    let given = sent_to (lanes_of (stopped_new c).all_lanes) in
     let core = (resolver_of (stopped_new c)).core in
     subst (λ (r : ResolverState). (p : ℕ) × (t : TakesFrom p r (resolver_of (stopped_new c)))
     × StopsAtLimit r.core.set.map.limit r.core.set.window p t.batch (run r.core.set.window log) given core)
@@ -163,13 +163,13 @@ returns-in_err-admit-in-Some-take_from-clause-arena_full c =
 
 pub returns-in_err-admit-in-Some-take_from-clause-replies : goal.returns-in_err-admit-in-Some-take_from-clause-replies
 returns-in_err-admit-in-Some-take_from-clause-replies c =
-    subst (λ (r : ResolverState). Each (λ p l m. m.replies ≡ l.replies) r.lanes (lanes_of (stopped_new c).links)) c.self.view_is
+    subst (λ (r : ResolverState). Each (λ p l m. m.replies ≡ l.replies) r.lanes (lanes_of (stopped_new c).all_lanes)) c.self.view_is
     (replies_taken (stopped_old c) (stopped_new c) c.self.inside.next c.in-Some-take_from.proxy c.in-Some-take_from.batch
     (stopped_found c) c.self.invariant (stopped_running c) c.admit.ensures.goes_on refl refl refl)
 
 pub returns-in_err-admit-in-Some-take_from-clause-lanes : goal.returns-in_err-admit-in-Some-take_from-clause-lanes
 returns-in_err-admit-in-Some-take_from-clause-lanes c =
-    subst (λ (r : ResolverState). Each (λ p l m. LanesGoOn l m) r.lanes (lanes_of (stopped_new c).links)) c.self.view_is
+    subst (λ (r : ResolverState). Each (λ p l m. LanesGoOn l m) r.lanes (lanes_of (stopped_new c).all_lanes)) c.self.view_is
     (lanes_taken (stopped_old c) (stopped_new c) c.self.inside.next c.in-Some-take_from.proxy c.in-Some-take_from.batch
     (stopped_found c) c.self.invariant (stopped_running c) c.admit.ensures.goes_on refl refl refl)
 
@@ -181,13 +181,13 @@ returns-in_err-admit-in-Some-take_from-clause-goes_on c =
 
 pub returns-in_ok-admit-in-Some-take_from-clause-replies : goal.returns-in_ok-admit-in-Some-take_from-clause-replies
 returns-in_ok-admit-in-Some-take_from-clause-replies c =
-    subst (λ (r : ResolverState). Each (λ p l m. m.replies ≡ l.replies) r.lanes (lanes_of (admitted_new c).links)) c.self.view_is
+    subst (λ (r : ResolverState). Each (λ p l m. m.replies ≡ l.replies) r.lanes (lanes_of (admitted_new c).all_lanes)) c.self.view_is
     (replies_taken (admitted_old c) (admitted_new c) c.self.inside.next c.in-Some-take_from.proxy c.in-Some-take_from.batch
     (admitted_found c) c.self.invariant (admitted_running c) c.admit.ensures.goes_on refl refl refl)
 
 pub returns-in_ok-admit-in-Some-take_from-clause-lanes : goal.returns-in_ok-admit-in-Some-take_from-clause-lanes
 returns-in_ok-admit-in-Some-take_from-clause-lanes c =
-    subst (λ (r : ResolverState). Each (λ p l m. LanesGoOn l m) r.lanes (lanes_of (admitted_new c).links)) c.self.view_is
+    subst (λ (r : ResolverState). Each (λ p l m. LanesGoOn l m) r.lanes (lanes_of (admitted_new c).all_lanes)) c.self.view_is
     (lanes_taken (admitted_old c) (admitted_new c) c.self.inside.next c.in-Some-take_from.proxy c.in-Some-take_from.batch
     (admitted_found c) c.self.invariant (admitted_running c) c.admit.ensures.goes_on refl refl refl)
 
@@ -208,9 +208,9 @@ returns-in_ok-admit-in-Some-take_from-clause-passed c =
     λ proxy is.
     let same : c.in-Some-take_from.proxy ≡ proxy = ok_some c.in-Some-take_from.proxy proxy is in
     subst (λ p. Each (λ q l m. ComesBefore c.args.self.now.next q p → IsLookedThrough l m) c.args.self.now.lanes
-    (lanes_of (admitted_new c).links)) same
+    (lanes_of (admitted_new c).all_lanes)) same
     (subst (λ (r : ResolverState). Each (λ q l m. ComesBefore r.next q c.in-Some-take_from.proxy → IsLookedThrough l m) r.lanes
-    (lanes_of (admitted_new c).links)) c.self.view_is
+    (lanes_of (admitted_new c).all_lanes)) c.self.view_is
     (passed_taken (admitted_old c) (admitted_new c) c.self.inside.next c.in-Some-take_from.proxy c.in-Some-take_from.batch
     (admitted_found c) c.self.invariant (admitted_running c) c.admit.ensures.goes_on refl refl refl))
 
@@ -219,7 +219,7 @@ module _ (c : goal.Then-ended-self) where
   abbrev same_old : Parts
   same_old = record {
     core = c.self.inside.core;
-    links = c.self.inside.links.items;
+    all_lanes = c.self.inside.all_lanes.items;
     next = c.self.inside.next;
     finished = c.self.inside.finished;
     closed = c.self.inside.closed;
@@ -228,7 +228,7 @@ module _ (c : goal.Then-ended-self) where
   abbrev same_new : Parts
   same_new = record {
     core = c.self.inside.core;
-    links = (with_items c.self.inside.links c.take_from.new.links).items;
+    all_lanes = (with_items c.self.inside.all_lanes c.take_from.new.all_lanes).items;
     next = c.self.inside.next;
     finished = c.self.inside.finished;
     closed = c.self.inside.closed;
@@ -237,17 +237,17 @@ module _ (c : goal.Then-ended-self) where
   same_running : c.self.inside.core.stop ≡ None
   same_running = sym c.stop.ensures.stop ∙ none_of c.stop.result c.in_default.not-Some
 
-  same_found : FindsNone (λ p. p < length c.self.inside.links.items) c.self.inside.links.items (with_items c.self.inside.links c.take_from.new.links).items
+  same_found : FindsNone (λ p. p < length c.self.inside.all_lanes.items) c.self.inside.all_lanes.items (with_items c.self.inside.all_lanes c.take_from.new.all_lanes).items
   same_found =
-      none_found_in c.self.inside.links c.take_from.new.links c.deref_mut.result.now c.deref_mut.ensures.value c.in-None.ensures.none
+      none_found_in c.self.inside.all_lanes c.take_from.new.all_lanes c.deref_mut.result.now c.deref_mut.ensures.value c.in-None.ensures.none
 
   same_goes_on : GoesOn c.self.inside.core (c.self.inside.core)
   same_goes_on = go_on_itself c.self.inside.core
 
-  same_ended : c.have_ended-ended.result ≡ all_ended (lanes_of (with_items c.self.inside.links c.take_from.new.links).items)
-  same_ended = c.have_ended-ended.ensures.all ∙ ap (λ links. all_ended (lanes_of links)) c.deref.ensures.value
+  same_ended : c.have_ended-ended.result ≡ all_ended (lanes_of (with_items c.self.inside.all_lanes c.take_from.new.all_lanes).items)
+  same_ended = c.have_ended-ended.ensures.all ∙ ap (λ all_lanes. all_ended (lanes_of all_lanes)) c.deref.ensures.value
 
-  same_all : all_ended (lanes_of (with_items c.self.inside.links c.take_from.new.links).items) ≡ c.self.inside.finished
+  same_all : all_ended (lanes_of (with_items c.self.inside.all_lanes c.take_from.new.all_lanes).items) ≡ c.self.inside.finished
   same_all = sym same_ended ∙ same_bools c.have_ended-ended.result c.self.inside.finished c.if-ended-self.true
 
 -- no batch was found, and a stop was met as the core was finished
@@ -255,7 +255,7 @@ module _ (c : goal.After-from_residual-in_err-finish-in-None) where
   abbrev refused_old : Parts
   refused_old = record {
     core = c.self.inside.core;
-    links = c.self.inside.links.items;
+    all_lanes = c.self.inside.all_lanes.items;
     next = c.self.inside.next;
     finished = c.self.inside.finished;
     closed = c.self.inside.closed;
@@ -264,7 +264,7 @@ module _ (c : goal.After-from_residual-in_err-finish-in-None) where
   abbrev refused_new : Parts
   refused_new = record {
     core = c.finish.new.self;
-    links = (with_items c.self.inside.links c.take_from.new.links).items;
+    all_lanes = (with_items c.self.inside.all_lanes c.take_from.new.all_lanes).items;
     next = c.self.inside.next;
     finished = true;
     closed = c.self.inside.closed;
@@ -273,22 +273,22 @@ module _ (c : goal.After-from_residual-in_err-finish-in-None) where
   refused_running : c.self.inside.core.stop ≡ None
   refused_running = sym c.stop.ensures.stop ∙ none_of c.stop.result c.in_default.not-Some
 
-  refused_found : FindsNone (λ p. p < length c.self.inside.links.items) c.self.inside.links.items (with_items c.self.inside.links c.take_from.new.links).items
+  refused_found : FindsNone (λ p. p < length c.self.inside.all_lanes.items) c.self.inside.all_lanes.items (with_items c.self.inside.all_lanes c.take_from.new.all_lanes).items
   refused_found =
-      none_found_in c.self.inside.links c.take_from.new.links c.deref_mut.result.now c.deref_mut.ensures.value c.in-None.ensures.none
+      none_found_in c.self.inside.all_lanes c.take_from.new.all_lanes c.deref_mut.result.now c.deref_mut.ensures.value c.in-None.ensures.none
 
   refused_goes_on : GoesOn c.self.inside.core (c.finish.new.self)
   refused_goes_on = c.finish.ensures.goes_on
 
-  refused_ended : c.have_ended-ended.result ≡ all_ended (lanes_of (with_items c.self.inside.links c.take_from.new.links).items)
-  refused_ended = c.have_ended-ended.ensures.all ∙ ap (λ links. all_ended (lanes_of links)) c.deref.ensures.value
+  refused_ended : c.have_ended-ended.result ≡ all_ended (lanes_of (with_items c.self.inside.all_lanes c.take_from.new.all_lanes).items)
+  refused_ended = c.have_ended-ended.ensures.all ∙ ap (λ all_lanes. all_ended (lanes_of all_lanes)) c.deref.ensures.value
 
   refused_before : c.self.inside.finished ≡ false
   refused_before =
       newly_ended refused_old refused_new refused_found c.self.invariant refused_running refused_goes_on refl refl
       c.have_ended-ended.result refused_ended c.if-ended-self.false
 
-  refused_after : all_ended (lanes_of (with_items c.self.inside.links c.take_from.new.links).items) ≡ true
+  refused_after : all_ended (lanes_of (with_items c.self.inside.all_lanes c.take_from.new.all_lanes).items) ≡ true
   refused_after = sym refused_ended ∙ other_than_false c.have_ended-ended.result c.self.inside.finished refused_before c.if-ended-self.false
 
   refused_finishes : Finishes c.args.self.now (resolver_of refused_new)
@@ -308,7 +308,7 @@ module _ (c : goal.In_ok-finish-in-None) where
   abbrev finished_old : Parts
   finished_old = record {
     core = c.self.inside.core;
-    links = c.self.inside.links.items;
+    all_lanes = c.self.inside.all_lanes.items;
     next = c.self.inside.next;
     finished = c.self.inside.finished;
     closed = c.self.inside.closed;
@@ -317,7 +317,7 @@ module _ (c : goal.In_ok-finish-in-None) where
   abbrev finished_new : Parts
   finished_new = record {
     core = c.finish.new.self;
-    links = (with_items c.self.inside.links c.take_from.new.links).items;
+    all_lanes = (with_items c.self.inside.all_lanes c.take_from.new.all_lanes).items;
     next = c.self.inside.next;
     finished = true;
     closed = c.self.inside.closed;
@@ -326,22 +326,22 @@ module _ (c : goal.In_ok-finish-in-None) where
   finished_running : c.self.inside.core.stop ≡ None
   finished_running = sym c.stop.ensures.stop ∙ none_of c.stop.result c.in_default.not-Some
 
-  finished_found : FindsNone (λ p. p < length c.self.inside.links.items) c.self.inside.links.items (with_items c.self.inside.links c.take_from.new.links).items
+  finished_found : FindsNone (λ p. p < length c.self.inside.all_lanes.items) c.self.inside.all_lanes.items (with_items c.self.inside.all_lanes c.take_from.new.all_lanes).items
   finished_found =
-      none_found_in c.self.inside.links c.take_from.new.links c.deref_mut.result.now c.deref_mut.ensures.value c.in-None.ensures.none
+      none_found_in c.self.inside.all_lanes c.take_from.new.all_lanes c.deref_mut.result.now c.deref_mut.ensures.value c.in-None.ensures.none
 
   finished_goes_on : GoesOn c.self.inside.core (c.finish.new.self)
   finished_goes_on = c.finish.ensures.goes_on
 
-  finished_ended : c.have_ended-ended.result ≡ all_ended (lanes_of (with_items c.self.inside.links c.take_from.new.links).items)
-  finished_ended = c.have_ended-ended.ensures.all ∙ ap (λ links. all_ended (lanes_of links)) c.deref.ensures.value
+  finished_ended : c.have_ended-ended.result ≡ all_ended (lanes_of (with_items c.self.inside.all_lanes c.take_from.new.all_lanes).items)
+  finished_ended = c.have_ended-ended.ensures.all ∙ ap (λ all_lanes. all_ended (lanes_of all_lanes)) c.deref.ensures.value
 
   finished_before : c.self.inside.finished ≡ false
   finished_before =
       newly_ended finished_old finished_new finished_found c.self.invariant finished_running finished_goes_on refl refl
       c.have_ended-ended.result finished_ended c.if-ended-self.false
 
-  finished_after : all_ended (lanes_of (with_items c.self.inside.links c.take_from.new.links).items) ≡ true
+  finished_after : all_ended (lanes_of (with_items c.self.inside.all_lanes c.take_from.new.all_lanes).items) ≡ true
   finished_after = sym finished_ended ∙ other_than_false c.have_ended-ended.result c.self.inside.finished finished_before c.if-ended-self.false
 
   finished_finishes : Finishes c.args.self.now (resolver_of finished_new)
@@ -384,17 +384,17 @@ returns-in_ok-finish-in-None-clause-none c =
 
 pub returns-then-ended-self-clause-looked_through : goal.returns-then-ended-self-clause-looked_through
 returns-then-ended-self-clause-looked_through c =
-    λ _. subst (λ (r : ResolverState). Each (λ p l m. IsLookedThrough l m) r.lanes (lanes_of (same_new c).links)) c.self.view_is
+    λ _. subst (λ (r : ResolverState). Each (λ p l m. IsLookedThrough l m) r.lanes (lanes_of (same_new c).all_lanes)) c.self.view_is
     (all_looked (same_old c) (same_new c) (same_found c) c.self.invariant (same_running c) (same_goes_on c) refl refl)
 
 pub returns-then-ended-self-clause-replies : goal.returns-then-ended-self-clause-replies
 returns-then-ended-self-clause-replies c =
-    subst (λ (r : ResolverState). Each (λ p l m. m.replies ≡ l.replies) r.lanes (lanes_of (same_new c).links)) c.self.view_is
+    subst (λ (r : ResolverState). Each (λ p l m. m.replies ≡ l.replies) r.lanes (lanes_of (same_new c).all_lanes)) c.self.view_is
     (replies_looked (same_old c) (same_new c) (same_found c) c.self.invariant (same_running c) (same_goes_on c) refl refl)
 
 pub returns-then-ended-self-clause-lanes : goal.returns-then-ended-self-clause-lanes
 returns-then-ended-self-clause-lanes c =
-    subst (λ (r : ResolverState). Each (λ p l m. LanesGoOn l m) r.lanes (lanes_of (same_new c).links)) c.self.view_is
+    subst (λ (r : ResolverState). Each (λ p l m. LanesGoOn l m) r.lanes (lanes_of (same_new c).all_lanes)) c.self.view_is
     (lanes_looked (same_old c) (same_new c) (same_found c) c.self.invariant (same_running c) (same_goes_on c) refl refl)
 
 pub returns-then-ended-self-clause-goes_on : goal.returns-then-ended-self-clause-goes_on
@@ -404,12 +404,12 @@ returns-then-ended-self-clause-goes_on c =
 
 pub returns-in_err-finish-in-None-clause-replies : goal.returns-in_err-finish-in-None-clause-replies
 returns-in_err-finish-in-None-clause-replies c =
-    subst (λ (r : ResolverState). Each (λ p l m. m.replies ≡ l.replies) r.lanes (lanes_of (refused_new c).links)) c.self.view_is
+    subst (λ (r : ResolverState). Each (λ p l m. m.replies ≡ l.replies) r.lanes (lanes_of (refused_new c).all_lanes)) c.self.view_is
     (replies_looked (refused_old c) (refused_new c) (refused_found c) c.self.invariant (refused_running c) (refused_goes_on c) refl refl)
 
 pub returns-in_err-finish-in-None-clause-lanes : goal.returns-in_err-finish-in-None-clause-lanes
 returns-in_err-finish-in-None-clause-lanes c =
-    subst (λ (r : ResolverState). Each (λ p l m. LanesGoOn l m) r.lanes (lanes_of (refused_new c).links)) c.self.view_is
+    subst (λ (r : ResolverState). Each (λ p l m. LanesGoOn l m) r.lanes (lanes_of (refused_new c).all_lanes)) c.self.view_is
     (lanes_looked (refused_old c) (refused_new c) (refused_found c) c.self.invariant (refused_running c) (refused_goes_on c) refl refl)
 
 pub returns-in_err-finish-in-None-clause-goes_on : goal.returns-in_err-finish-in-None-clause-goes_on
@@ -419,17 +419,17 @@ returns-in_err-finish-in-None-clause-goes_on c =
 
 pub returns-in_ok-finish-in-None-clause-looked_through : goal.returns-in_ok-finish-in-None-clause-looked_through
 returns-in_ok-finish-in-None-clause-looked_through c =
-    λ _. subst (λ (r : ResolverState). Each (λ p l m. IsLookedThrough l m) r.lanes (lanes_of (finished_new c).links)) c.self.view_is
+    λ _. subst (λ (r : ResolverState). Each (λ p l m. IsLookedThrough l m) r.lanes (lanes_of (finished_new c).all_lanes)) c.self.view_is
     (all_looked (finished_old c) (finished_new c) (finished_found c) c.self.invariant (finished_running c) (finished_goes_on c) refl refl)
 
 pub returns-in_ok-finish-in-None-clause-replies : goal.returns-in_ok-finish-in-None-clause-replies
 returns-in_ok-finish-in-None-clause-replies c =
-    subst (λ (r : ResolverState). Each (λ p l m. m.replies ≡ l.replies) r.lanes (lanes_of (finished_new c).links)) c.self.view_is
+    subst (λ (r : ResolverState). Each (λ p l m. m.replies ≡ l.replies) r.lanes (lanes_of (finished_new c).all_lanes)) c.self.view_is
     (replies_looked (finished_old c) (finished_new c) (finished_found c) c.self.invariant (finished_running c) (finished_goes_on c) refl refl)
 
 pub returns-in_ok-finish-in-None-clause-lanes : goal.returns-in_ok-finish-in-None-clause-lanes
 returns-in_ok-finish-in-None-clause-lanes c =
-    subst (λ (r : ResolverState). Each (λ p l m. LanesGoOn l m) r.lanes (lanes_of (finished_new c).links)) c.self.view_is
+    subst (λ (r : ResolverState). Each (λ p l m. LanesGoOn l m) r.lanes (lanes_of (finished_new c).all_lanes)) c.self.view_is
     (lanes_looked (finished_old c) (finished_new c) (finished_found c) c.self.invariant (finished_running c) (finished_goes_on c) refl refl)
 
 pub returns-in_ok-finish-in-None-clause-goes_on : goal.returns-in_ok-finish-in-None-clause-goes_on

@@ -1,6 +1,6 @@
 use Rattle.resolver.specs.declared.turn.Turn.{Turn}
 use Rattle.resolver.specs.declared.stop.Stop.{Stop}
-use Rattle.resolver.specs.Links.{Parts}
+use Rattle.resolver.specs.Parts.{Parts}
 use Rattle.std.proofs.Common.{◌≡◌, Result, refl, sym, ap, ◌∙◌, Ok, Err, subst, inl, inr}
 use Rattle.keyspace.specs.Run.{run}
 use Rattle.resolver.specs.Lanes.{Each, IsLookedThrough, ComesBefore}
@@ -76,7 +76,7 @@ returns-clause-looked_through c =
 pub returns-clause-done : goal.returns-clause-done
 returns-clause-done c =
     let inside = c.self.inside in
-    let parts : Parts = record { core = inside.core; links = inside.links.items; next = inside.next; finished = inside.finished; closed = inside.closed } in
+    let parts : Parts = record { core = inside.core; all_lanes = inside.all_lanes.items; next = inside.next; finished = inside.finished; closed = inside.closed } in
     let mid = c.step-stepped.new.self in
     let new = c.close.new.self in
     let a = answers_over mid c.hand_out.new.self new c.hand_out.ensures c.close.ensures in

@@ -1,4 +1,4 @@
--- Links and lanes at an index.
+-- The lanes of a proxy and its answer that waits, at an index.
 use Rattle.std.proofs.Common.{◌≡◌, ℕ, zero, suc, ◌+◌, ◌<◌, ◌≤◌, List, [], ◌∷◌, ◌++◌, length, map, Some, sym, ap, subst, ◌∙◌, refl, inl, inr, arith}
 use Rattle.std.specs.Prelude.{◌⊎◌, slice_get, slice_index_or, option_to_list}
 use Rattle.std.proofs.lemmas.Option.{slice_get_cases, same_Some, none-some}
@@ -7,21 +7,21 @@ use Rattle.std.proofs.lemmas.List.Sums.{sum_by-cons}
 use Rattle.keyspace.specs.declared.answer.Answer.{Answer}
 use Rattle.resolver.specs.Owed.{owed_to, owed_count}
 use Rattle.resolver.specs.Lanes.{Lanes, Each}
-use Rattle.resolver.specs.Links.{LinkView, lanes_of, owed_with, waiting_count, EachLink}
+use Rattle.resolver.specs.Parts.{ProxyLanesView, lanes_of, owed_with, waiting_count, EachProxy}
 
--- the lanes of a link stand at its index
-pub lanes_at : (links : List LinkView) (p : ℕ) (k : LinkView) → slice_get links p ≡ Some k
-    → slice_get (lanes_of links) p ≡ Some k.lanes
+-- the lanes of a proxy stand at its index
+pub lanes_at : (all_lanes : List ProxyLanesView) (p : ℕ) (k : ProxyLanesView) → slice_get all_lanes p ≡ Some k
+    → slice_get (lanes_of all_lanes) p ≡ Some k.lanes
 lanes_at [] p k at = absurd (none-some k at)
-lanes_at (l ∷ links) zero k at = ap (λ (x : LinkView). Some x.lanes) (same_Some l k at)
-lanes_at (l ∷ links) (suc p) k at = lanes_at links p k at
+lanes_at (l ∷ all_lanes) zero k at = ap (λ (x : ProxyLanesView). Some x.lanes) (same_Some l k at)
+lanes_at (l ∷ all_lanes) (suc p) k at = lanes_at all_lanes p k at
 
--- and lanes are those of the link at their index
-pub link_at : (links : List LinkView) (p : ℕ) (l : Lanes) → slice_get (lanes_of links) p ≡ Some l
-    → (k : LinkView) × (slice_get links p ≡ Some k) × (k.lanes ≡ l)
-link_at [] p l at = absurd (none-some l at)
-link_at (k ∷ links) zero l at = (k, refl, same_Some k.lanes l at)
-link_at (k ∷ links) (suc p) l at = link_at links p l at
+-- and lanes are those of the proxy at their index
+pub proxy_lanes_at : (all_lanes : List ProxyLanesView) (p : ℕ) (l : Lanes) → slice_get (lanes_of all_lanes) p ≡ Some l
+    → (k : ProxyLanesView) × (slice_get all_lanes p ≡ Some k) × (k.lanes ≡ l)
+proxy_lanes_at [] p l at = absurd (none-some l at)
+proxy_lanes_at (k ∷ all_lanes) zero l at = (k, refl, same_Some k.lanes l at)
+proxy_lanes_at (k ∷ all_lanes) (suc p) l at = proxy_lanes_at all_lanes p l at
 
 -- what a list has of the element at an index, and past its end
 pub field_at : {X Y : Type 0} (f : X → List Y) (xs : List X) (p : ℕ) (x : X) → slice_get xs p ≡ Some x
@@ -62,49 +62,49 @@ field_same f old new many each p =
       | inr past ↦ field_past f new p past.1 ∙ sym (field_past f old p past.0)
     ]
 
--- what holds of each link and says something of its lanes
-pub each_lanes : (P : ℕ → LinkView → LinkView → Type 0) (Q : ℕ → Lanes → Lanes → Type 0) (old new : List LinkView)
-    → ((p : ℕ) (k n : LinkView) → slice_get old p ≡ Some k → slice_get new p ≡ Some n → P p k n → Q p k.lanes n.lanes)
-    → EachLink P old new → Each Q (lanes_of old) (lanes_of new)
+-- what holds of each pair and says something of its lanes
+pub each_lanes : (P : ℕ → ProxyLanesView → ProxyLanesView → Type 0) (Q : ℕ → Lanes → Lanes → Type 0) (old new : List ProxyLanesView)
+    → ((p : ℕ) (k n : ProxyLanesView) → slice_get old p ≡ Some k → slice_get new p ≡ Some n → P p k n → Q p k.lanes n.lanes)
+    → EachProxy P old new → Each Q (lanes_of old) (lanes_of new)
 each_lanes P Q old new says e = record {
   count = length-map new (λ l. l.lanes) ∙ e.count ∙ sym (length-map old (λ l. l.lanes));
   each = λ p l m at_old at_new.
-      let k = link_at old p l at_old in
-      let n = link_at new p m at_new in
+      let k = proxy_lanes_at old p l at_old in
+      let n = proxy_lanes_at new p m at_new in
       subst (Q p l) n.2 (subst (λ x. Q p x n.0.lanes) k.2 (says p k.0 n.0 k.1 n.1 (e.each p k.0 n.0 k.1 n.1)));
 }
 
 -- what is owed with what waits
-pub owed_with-length : (links : List LinkView) (owed : List (List Answer))
-    → length (owed_with links owed) ≡ length owed
+pub owed_with-length : (all_lanes : List ProxyLanesView) (owed : List (List Answer))
+    → length (owed_with all_lanes owed) ≡ length owed
 owed_with-length [] owed = refl
-owed_with-length (l ∷ links) [] = refl
-owed_with-length (l ∷ links) (answers ∷ owed) = ap suc (owed_with-length links owed)
+owed_with-length (l ∷ all_lanes) [] = refl
+owed_with-length (l ∷ all_lanes) (answers ∷ owed) = ap suc (owed_with-length all_lanes owed)
 
-pub owed_with-at : (links : List LinkView) (owed : List (List Answer)) (p : ℕ) (k : LinkView)
-    → slice_get links p ≡ Some k → p < length owed
-    → owed_to p (owed_with links owed) ≡ option_to_list k.waiting ++ owed_to p owed
+pub owed_with-at : (all_lanes : List ProxyLanesView) (owed : List (List Answer)) (p : ℕ) (k : ProxyLanesView)
+    → slice_get all_lanes p ≡ Some k → p < length owed
+    → owed_to p (owed_with all_lanes owed) ≡ option_to_list k.waiting ++ owed_to p owed
 owed_with-at [] owed p k at inside = absurd (none-some k at)
-owed_with-at (l ∷ links) [] p k at inside = absurd (omega (arith, inside))
-owed_with-at (l ∷ links) (answers ∷ owed) zero k at inside =
-    ap (λ (x : LinkView). option_to_list x.waiting ++ answers) (same_Some l k at)
-owed_with-at (l ∷ links) (answers ∷ owed) (suc p) k at inside =
-    owed_with-at links owed p k at (omega (arith, inside))
+owed_with-at (l ∷ all_lanes) [] p k at inside = absurd (omega (arith, inside))
+owed_with-at (l ∷ all_lanes) (answers ∷ owed) zero k at inside =
+    ap (λ (x : ProxyLanesView). option_to_list x.waiting ++ answers) (same_Some l k at)
+owed_with-at (l ∷ all_lanes) (answers ∷ owed) (suc p) k at inside =
+    owed_with-at all_lanes owed p k at (omega (arith, inside))
 
-pub owed_with-count : (links : List LinkView) (owed : List (List Answer)) → length links ≡ length owed
-    → owed_count (owed_with links owed) ≡ owed_count owed + waiting_count links
+pub owed_with-count : (all_lanes : List ProxyLanesView) (owed : List (List Answer)) → length all_lanes ≡ length owed
+    → owed_count (owed_with all_lanes owed) ≡ owed_count owed + waiting_count all_lanes
 owed_with-count [] owed same = omega arith
-owed_with-count (l ∷ links) [] same = absurd (omega (arith, same))
-owed_with-count (l ∷ links) (answers ∷ owed) same =
-    let rest = owed_with-count links owed (omega (arith, same)) in
-    let one = sum_by-cons length (option_to_list l.waiting ++ answers) (owed_with links owed) in
+owed_with-count (l ∷ all_lanes) [] same = absurd (omega (arith, same))
+owed_with-count (l ∷ all_lanes) (answers ∷ owed) same =
+    let rest = owed_with-count all_lanes owed (omega (arith, same)) in
+    let one = sum_by-cons length (option_to_list l.waiting ++ answers) (owed_with all_lanes owed) in
     let plain = sum_by-cons length answers owed in
-    let waits = sum_by-cons (λ (x : LinkView). length (option_to_list x.waiting)) l links in
+    let waits = sum_by-cons (λ (x : ProxyLanesView). length (option_to_list x.waiting)) l all_lanes in
     omega (arith, rest, one, plain, waits, length-append (option_to_list l.waiting) answers)
 
 -- the same answers are owed where the same wait
-pub owed_with-same : (old new : List LinkView) (owed : List (List Answer)) → length new ≡ length old
-    → ((p : ℕ) (k n : LinkView) → slice_get old p ≡ Some k → slice_get new p ≡ Some n → n.waiting ≡ k.waiting)
+pub owed_with-same : (old new : List ProxyLanesView) (owed : List (List Answer)) → length new ≡ length old
+    → ((p : ℕ) (k n : ProxyLanesView) → slice_get old p ≡ Some k → slice_get new p ≡ Some n → n.waiting ≡ k.waiting)
     → owed_with new owed ≡ owed_with old owed
 owed_with-same [] [] owed same each = refl
 owed_with-same [] (n ∷ new) owed same each = absurd (omega (arith, same))
