@@ -4,11 +4,11 @@ use Rattle.std.specs.List.{sum_by}
 use Rattle.keyspace.specs.declared.batch.Batch.{Batch}
 use Rattle.keyspace.specs.declared.answer.Answer.{Answer}
 use Rattle.keyspace.specs.Run.{Step, Take}
-use Rattle.resolver.specs.declared.sequential.TheConstants.{MAX_PROXIES}
+use Rattle.resolver.specs.declared.resolver_core.TheConstants.{MAX_PROXIES}
 use Rattle.resolver.specs.declared.stop.Stop.{Stop as StopValue}
 use Rattle.resolver.specs.Owed.{owed_to, owed_count}
-use Rattle.resolver.specs.Books.{Given}
-use Rattle.resolver.specs.Stands.{CoreState, Stands}
+use Rattle.resolver.specs.Core.{CoreState, Given}
+use Rattle.resolver.specs.Stands.{Stands}
 use Rattle.archcaraway_c.specs.declared.refusal.Refusal.{Refusal}
 use Rattle.archcaraway_c.specs.declared.refusal.Refusal.TheVariants.{Stop, Wire, Version, Argument, Buffer, Behind}
 use Rattle.archcaraway_c.specs.BatchFrame.{IsFrame, IsNoFrame}
@@ -22,13 +22,13 @@ pub record CoreParts : Type 0 where
 
 -- there is a place for an answer a proxy
 pub record AreCoreParts (parts : CoreParts) : Type 0 where
-  pub count : length parts.waiting ≡ length parts.core.books.owed
+  pub count : length parts.waiting ≡ length parts.core.owed
   pub few : length parts.waiting ≤ MAX_PROXIES
 
 -- the answers owed to the proxy, oldest first
 abbrev pub still_owed : ℕ → CoreParts → List Answer
 still_owed proxy parts =
-    option_to_list (slice_index_or parts.waiting proxy None) ++ owed_to proxy parts.core.books.owed
+    option_to_list (slice_index_or parts.waiting proxy None) ++ owed_to proxy parts.core.owed
 
 -- the oldest of them
 abbrev pub next_owed : ℕ → CoreParts → Option Answer
@@ -37,7 +37,7 @@ next_owed proxy parts = slice_get (still_owed proxy parts) 0
 -- how many answers are owed to all proxies
 abbrev pub still_owed_count : CoreParts → ℕ
 still_owed_count parts =
-    owed_count parts.core.books.owed + sum_by (λ answer. length (option_to_list answer)) parts.waiting
+    owed_count parts.core.owed + sum_by (λ answer. length (option_to_list answer)) parts.waiting
 
 -- the batch is taken from the proxy, as the last step of each log that the core stands for
 abbrev pub Admits : CoreState → ℕ → Batch → CoreState → Type 0

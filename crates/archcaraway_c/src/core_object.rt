@@ -2,7 +2,7 @@
 
 ghost use Rattle.std.specs.Prelude.{◌≡◌, ◌≢◌, IfSome, Err, drop, slice_get, ◌<◌, ◌≤◌, ◌⊎◌, ◌∷◌, ◌++◌, ℕ, List, [], length, replicate, None, Some, Ok, IfOk, IfErr};
 ghost use Rattle.keyspace.specs.Run.{Step, Finish};
-ghost use Rattle.resolver.specs.Books.{Given as GivenSoFar};
+ghost use Rattle.resolver.specs.Core.{Given as GivenSoFar};
 ghost use Rattle.resolver.specs.declared.stop.Stop.{Stop as StopValue};
 ghost use Rattle.resolver.specs.Stands.{Stands};
 ghost use Rattle.archcaraway_c.specs.BatchFrame.{IsFrame, IsNoFrame};
@@ -30,7 +30,7 @@ pub struct CoreObject {
 
 impl Model for CoreObject {
     ghost use Rattle.std.specs.Coded.{codes};
-    ghost use Rattle.resolver.specs.contracts.sequential.Core as core_type;
+    ghost use Rattle.resolver.specs.contracts.resolver_core.Core as core_type;
     ghost use Rattle.archcaraway_c.specs.CoreObject.{CoreParts, AreCoreParts};
 
     ghost Value = { CoreParts };

@@ -6,7 +6,7 @@ use Rattle.std.proofs.lemmas.List.{length-map}
 use Rattle.clap.specs.Words.{IsAmong, Kinds, Row, all_of, is_simple_and_free}
 use Rattle.clap.specs.declared.error.kind.ErrorKind.{ErrorKind}
 use Rattle.clap.specs.declared.error.kind.ErrorKind.TheVariants.{DisplayHelp, DisplayVersion, OutOfMemory}
-use Rattle.resolver.specs.declared.sequential.TheConstants.{MAX_PROXIES}
+use Rattle.resolver.specs.declared.resolver_core.TheConstants.{MAX_PROXIES}
 use Rattle.player.specs.declared.words.refusal.Refusal.{Refusal}
 use Rattle.player.specs.declared.words.refusal.Refusal.TheVariants.{Memory, Refused, Shown}
 use Rattle.player.specs.Words.{HasFiles, HasReplies, HasRepliesEach, IsRefusalBy, IsRefusalOf, IsRequest, replay_app}

@@ -8,14 +8,14 @@ use Rattle.resolver.specs.declared.stop.Stop.{Stop}
 use Rattle.resolver.specs.declared.stop.Stop.TheVariants as resolver
 use Rattle.resolver.specs.declared.turn.Turn.{Turn}
 use Rattle.resolver.specs.declared.turn.Turn.TheVariants as turn
-use Rattle.resolver.specs.Books.{Books, Given, GoOn, StopsAtLimit}
+use Rattle.resolver.specs.Core.{CoreState, Given, GoesOn, StopsAtLimit}
 use Rattle.resolver.specs.Lanes.{sent_to}
 use Rattle.resolver.specs.Resolver.{ResolverState, StandsOver, TakesFrom, Finishes, TakesNoStep, StepsBy}
-use Rattle.resolver.proofs.callers.Standing.{AreOf-standing}
+use Rattle.resolver.proofs.callers.Standing.{IsIn-standing}
 use Rattle.player.specs.Stops.{FillsArena, IsStopOf, IsAccountedFor}
 
-pub books_go_on : (a b c : Books) → GoOn a b → GoOn b c → GoOn a c
-books_go_on a b c first second = record {
+pub core_goes_on : (a b c : CoreState) → GoesOn a b → GoesOn b c → GoesOn a c
+core_goes_on a b c first second = record {
   window = second.window ∙ first.window;
   limit = second.limit ∙ first.limit;
   proxies = second.proxies ∙ first.proxies;
@@ -26,13 +26,13 @@ pub accounted_new : (r : ResolverState) → StandsOver r [] → r.core.stop ≡ 
 accounted_new r stands none = record {
   log = [];
   stands = stands;
-  met = subst (λ (stop : Option Stop). IfSome stop (IsStopOf r.core.books.set.map.limit r.core.books.set.window [])) (sym none) tt;
+  met = subst (λ (stop : Option Stop). IfSome stop (IsStopOf r.core.set.map.limit r.core.set.window [])) (sym none) tt;
 }
 
-at_limit : (limit : ℕ) (window : ℤ) (before : List Step) (proxy : ℕ) (batch : Batch) (given : Given) (books : Books)
-    → StopsAtLimit limit window proxy batch (run window before) given books
+at_limit : (limit : ℕ) (window : ℤ) (before : List Step) (proxy : ℕ) (batch : Batch) (given : Given) (core : CoreState)
+    → StopsAtLimit limit window proxy batch (run window before) given core
     → FillsArena limit window (before ++ Take proxy batch ∷ [])
-at_limit limit window before proxy batch given books stops = record {
+at_limit limit window before proxy batch given core stops = record {
   last = record { before = before; proxy = proxy; batch = batch; log_is = refl };
   exceeds = elim stops [
     | inl here ↦ inl (record { next = here.next; over = here.exceeds })
@@ -46,9 +46,9 @@ at_limit limit window before proxy batch given books stops = record {
   ];
 }
 
-module _ (old new : ResolverState) (goes : GoOn old.core.books new.core.books) where
+module _ (old new : ResolverState) (goes : GoesOn old.core new.core) where
   abbrev Met : List Step → Option Stop → Type 0
-  Met log stop = IfSome stop (IsStopOf old.core.books.set.map.limit old.core.books.set.window log)
+  Met log stop = IfSome stop (IsStopOf old.core.set.map.limit old.core.set.window log)
 
   -- the new one stands for this log, by the window and the limit of the old
   accounted : (log : List Step) → StandsOver new log → (stop : Option Stop) → new.core.stop ≡ stop → Met log stop
@@ -57,8 +57,8 @@ module _ (old new : ResolverState) (goes : GoOn old.core.books new.core.books) w
     log = log;
     stands = stands;
     met =
-        subst (λ (limit : ℕ). IfSome new.core.stop (IsStopOf limit new.core.books.set.window log)) (sym goes.limit)
-        (subst (λ (window : ℤ). IfSome new.core.stop (IsStopOf old.core.books.set.map.limit window log)) (sym goes.window)
+        subst (λ (limit : ℕ). IfSome new.core.stop (IsStopOf limit new.core.set.window log)) (sym goes.limit)
+        (subst (λ (window : ℤ). IfSome new.core.stop (IsStopOf old.core.set.map.limit window log)) (sym goes.window)
         (subst (Met log) (sym is) met));
   }
 
@@ -79,13 +79,13 @@ module _ (old new : ResolverState) (goes : GoOn old.core.books new.core.books) w
   abbrev AtFullGate : Type 0
   AtFullGate =
       (proxy : ℕ) × (took : TakesFrom proxy old new)
-      × (old.core.books.version <ℤ took.batch.previous) × (length old.core.books.held ≡ MAX_HELD)
+      × (old.core.version <ℤ took.batch.previous) × (length old.core.held ≡ MAX_HELD)
 
   abbrev AtFullArena : List Step → Type 0
   AtFullArena log =
       (proxy : ℕ) × (took : TakesFrom proxy old new)
-      × StopsAtLimit old.core.books.set.map.limit old.core.books.set.window proxy took.batch
-      (run old.core.books.set.window log) (sent_to new.lanes) new.core.books
+      × StopsAtLimit old.core.set.map.limit old.core.set.window proxy took.batch
+      (run old.core.set.window log) (sent_to new.lanes) new.core
 
   stopped_now : (stop : Stop) → new.core.stop ≡ Some stop → old.core.stop ≡ None
       → ((proxy : ℕ) × TakesFrom proxy old new) ⊎ Finishes old new
@@ -99,7 +99,7 @@ module _ (old new : ResolverState) (goes : GoOn old.core.books new.core.books) w
       accounted (before.log ++ Finish ∷ []) (step.adds before.log before.stands) (Some resolver.Memory) is tt
   stopped_now resolver.GateFull is was met gate arena before =
       let at = gate refl in
-      let state = AreOf-standing old.core.stop before.log (sent_to old.lanes) old.core.books was before.stands.core in
+      let state = IsIn-standing old.core.stop before.log (sent_to old.lanes) old.core was before.stands.core in
       let log = before.log ++ Take at.0 at.1.batch ∷ [] in
       accounted log (at.1.adds before.log before.stands) (Some resolver.GateFull) is (record {
         last = record { before = before.log; proxy = at.0; batch = at.1.batch; log_is = refl };
@@ -110,8 +110,8 @@ module _ (old new : ResolverState) (goes : GoOn old.core.books new.core.books) w
       let at = arena refl before.log before.stands in
       let log = before.log ++ Take at.0 at.1.batch ∷ [] in
       accounted log (at.1.adds before.log before.stands) (Some resolver.ArenaFull) is
-      (at_limit old.core.books.set.map.limit old.core.books.set.window before.log at.0 at.1.batch (sent_to new.lanes)
-      new.core.books at.2)
+      (at_limit old.core.set.map.limit old.core.set.window before.log at.0 at.1.batch (sent_to new.lanes)
+      new.core at.2)
 
   -- after a stop nothing is taken, and the stop is the same
   stopped_before : (was : Option Stop) → old.core.stop ≡ was → IsSome was → (TakesNoStep old new)

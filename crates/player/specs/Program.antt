@@ -3,7 +3,7 @@ use Rattle.std.specs.Prelude.{◌≡◌, ◌≢◌, ◌⊎◌, ℕ, ◌≤◌, f
 use Rattle.std.specs.List.{AllZip}
 use Rattle.clap.specs.Words.{all_of}
 use Rattle.keyspace.specs.declared.reply.Reply.{Reply}
-use Rattle.resolver.specs.declared.sequential.TheConstants.{MAX_PROXIES}
+use Rattle.resolver.specs.declared.resolver_core.TheConstants.{MAX_PROXIES}
 use Rattle.player.specs.declared.opening.OpeningError.TheVariants as opening
 use Rattle.player.specs.declared.options.form.Form.TheVariants.{Kept}
 use Rattle.player.specs.declared.options.Options.{Options}

@@ -11,7 +11,7 @@ use Rattle.wire.specs.NextFrame.{IsFaultOf}
 use Rattle.resolver.specs.declared.client.Client.{Client}
 use Rattle.resolver.specs.declared.stop.Stop.{Stop}
 use Rattle.resolver.specs.declared.turn.Account.{Account}
-use Rattle.resolver.specs.Books.{IsBeginning}
+use Rattle.resolver.specs.Core.{IsBeginning}
 use Rattle.resolver.specs.Resolver.{TakesOnlyFrom, FinishesLast}
 use Rattle.player.specs.declared.failures.ProxyFailure.{ProxyFailure}
 use Rattle.player.specs.declared.options.form.Form.{Form}

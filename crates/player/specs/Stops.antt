@@ -59,4 +59,4 @@ IsStopOf limit window log resolver.ArenaFull = FillsArena limit window log
 pub record IsAccountedFor (r : ResolverState) : Type 0 where
   pub log : List Step
   pub stands : StandsOver r log
-  pub met : IfSome r.core.stop (IsStopOf r.core.books.set.map.limit r.core.books.set.window log)
+  pub met : IfSome r.core.stop (IsStopOf r.core.set.map.limit r.core.set.window log)

@@ -11,7 +11,7 @@ use Rattle.clap.specs.declared.error.kind.ErrorKind.TheVariants.{DisplayHelp, Di
 use Rattle.lane.specs.declared.ends.TheConstants.{MAX_CAPACITY}
 use Rattle.conflict.specs.declared.conflict_set.TheConstants.{MAX_WINDOW}
 use Rattle.stepmap.specs.declared.step_map.TheConstants.{MAX_LIMIT}
-use Rattle.resolver.specs.declared.sequential.TheConstants.{MAX_PROXIES}
+use Rattle.resolver.specs.declared.resolver_core.TheConstants.{MAX_PROXIES}
 use Rattle.player.specs.declared.options.form.Form.{Form}
 use Rattle.player.specs.declared.options.form.Form.TheVariants.{Frames, Json, Kept}
 use Rattle.player.specs.declared.options.Options.{Options}

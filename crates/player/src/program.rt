@@ -2,7 +2,7 @@
 
 ghost use Rattle.std.specs.Prelude.{◌≡◌, ◌≢◌, ◌≤◌, ℕ, List, IfOk, length, map, string_bytes, vec_len};
 ghost use Rattle.std.specs.Io.KnownBytes.{Keeps};
-ghost use Rattle.resolver.specs.declared.sequential.TheConstants.{MAX_PROXIES};
+ghost use Rattle.resolver.specs.declared.resolver_core.TheConstants.{MAX_PROXIES};
 ghost use Rattle.player.specs.Opening.{contents_each};
 ghost use Rattle.player.specs.Program.{ChecksFiles, FailsOnFiles, FailsToCheck, HasDifferences, IsDone, IsFailed, Told};
 ghost use Rattle.player.specs.Replayed.{IsReplayed, written};

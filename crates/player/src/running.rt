@@ -3,8 +3,8 @@
 ghost use Rattle.std.specs.Prelude.{◌≡◌, ℕ, ◌≤◌, true, length, map, vec_items, vec_len, Some, slice_get, IfOk};
 ghost use Rattle.std.specs.List.{All};
 ghost use Rattle.flow.specs.Next.{AllWait, IsNext};
-ghost use Rattle.resolver.specs.declared.sequential.TheConstants.{MAX_PROXIES};
-ghost use Rattle.resolver.specs.Books.{GoOn};
+ghost use Rattle.resolver.specs.declared.resolver_core.TheConstants.{MAX_PROXIES};
+ghost use Rattle.resolver.specs.Core.{GoesOn};
 ghost use Rattle.resolver.specs.Lanes.{Lanes, Each, LanesGoOn};
 ghost use Rattle.resolver.specs.Resolver.{IsResolving, IsThrough};
 ghost use Rattle.player.specs.Run.{HasCapacity, IsRun, is_complete};
@@ -83,7 +83,7 @@ fn turn_to_end<G: Gatekeeper, R: Wait>(
     ensures closed { (proxy : ℕ) (l : Lanes) → slice_get resolver.new.lanes proxy ≡ Some l → l.replies.closed ≡ true }
     ensures accounted { IsAccountedFor resolver.old → IsAccountedFor resolver.new }
     ensures resolving { IsResolving resolver.old → IsResolving resolver.new }
-    ensures goes_on { GoOn resolver.old.core.books resolver.new.core.books }
+    ensures goes_on { GoesOn resolver.old.core resolver.new.core }
     ensures lanes { Each (λ _ l m. LanesGoOn l m) resolver.old.lanes resolver.new.lanes }
 {
     for _ in rt.forever() {

@@ -14,14 +14,14 @@ use Rattle.resolver.specs.declared.stop.Stop.{Stop}
 use Rattle.resolver.specs.declared.turn.Account.{Account}
 use Rattle.resolver.specs.declared.client.Client.{Client}
 use Rattle.resolver.specs.Owed.{owed_to, owed_count}
-use Rattle.resolver.specs.Books.{Books, Given, IsBeginning, made_to}
+use Rattle.resolver.specs.Core.{CoreState, Given, IsBeginning, made_to}
 use Rattle.resolver.specs.Stands.{StandsBy}
 use Rattle.resolver.specs.Lanes.{Lanes, all_ended, sent_to}
 use Rattle.resolver.specs.Resolver.{StandsOver, TakesOnlyFrom, FinishesBy, FinishesLast}
-use Rattle.resolver.specs.Links.{LinkView, Parts, AreParts, lanes_of, owed_with, resolver_of}
+use Rattle.resolver.specs.Parts.{ProxyLanesView, Parts, AreParts, lanes_of, owed_with, resolver_of}
 use Rattle.resolver.specs.Settled.{Settled, SettledFor, IsComplete}
 use Rattle.resolver.proofs.Growing.{begins_itself, begins_then}
-use Rattle.resolver.proofs.Standing.{AreOf-standing}
+use Rattle.resolver.proofs.Standing.{IsIn-standing}
 use Rattle.resolver.proofs.OnlyFrom.{stands_only}
 use Rattle.resolver.proofs.Settling.{lanes_at}
 use Rattle.resolver.proofs.Unchanged.{LanesHold, slice_get_inside}
@@ -34,13 +34,13 @@ begins_whole xs ys begins same =
     sym (append-nil xs) ∙ ap (λ rest. xs ++ rest) (sym none) ∙ sym begins.1
 
 -- the answers made to a proxy begin those of the reference resolver
-pub made_begins : (stop : Option Stop) (log : List Step) (given : Given) (books : Books)
-    → StandsBy stop log given books → (proxy : ℕ) → proxy < length books.owed
-    → IsBeginning (made_to proxy given books) (answers books.set.window log proxy)
-made_begins None log given books stands proxy inside =
-    subst (IsBeginning (made_to proxy given books)) (stands.answers proxy inside)
-    (begins_itself (made_to proxy given books))
-made_begins (Some stop) log given books stands proxy inside = stands.made.no_others proxy inside
+pub made_begins : (stop : Option Stop) (log : List Step) (given : Given) (core : CoreState)
+    → StandsBy stop log given core → (proxy : ℕ) → proxy < length core.owed
+    → IsBeginning (made_to proxy given core) (answers core.set.window log proxy)
+made_begins None log given core stands proxy inside =
+    subst (IsBeginning (made_to proxy given core)) (stands.answers proxy inside)
+    (begins_itself (made_to proxy given core))
+made_begins (Some stop) log given core stands proxy inside = stands.made.no_others proxy inside
 
 -- where nothing is owed, nothing is owed to the proxy
 owed_none : (owed : List (List Answer)) (proxy : ℕ) → owed_count owed ≡ 0 → proxy < length owed
@@ -58,45 +58,45 @@ ended_at lanes proxy l all at =
     ap (λ k. k.ended) (sym (get_or_from_slice_get lanes proxy l l at))
     ∙ AllPass-from_list_all (λ k. k.ended) lanes all proxy l (slice_get_within lanes proxy l at)
 
-length-owed_with : (links : List LinkView) (owed : List (List Answer)) → length links ≡ length owed
-    → length (owed_with links owed) ≡ length links
+length-owed_with : (all_lanes : List ProxyLanesView) (owed : List (List Answer)) → length all_lanes ≡ length owed
+    → length (owed_with all_lanes owed) ≡ length all_lanes
 length-owed_with [] owed same = sym same
-length-owed_with (l ∷ links) [] same = sym same
-length-owed_with (l ∷ links) (answers ∷ owed) same = ap suc (length-owed_with links owed (omega (arith, same)))
+length-owed_with (l ∷ all_lanes) [] same = sym same
+length-owed_with (l ∷ all_lanes) (answers ∷ owed) same = ap suc (length-owed_with all_lanes owed (omega (arith, same)))
 
 -- each client has taken every answer sent to it
-abbrev pub EachTaken : List LinkView → List Client → Type 0
-EachTaken links clients =
-    (proxy : ℕ) (l : LinkView) (c : Client) → slice_get links proxy ≡ Some l → slice_get clients proxy ≡ Some c
+abbrev pub EachTaken : List ProxyLanesView → List Client → Type 0
+EachTaken all_lanes clients =
+    (proxy : ℕ) (l : ProxyLanesView) (c : Client) → slice_get all_lanes proxy ≡ Some l → slice_get clients proxy ≡ Some c
     → c.replies.taken ≡ l.lanes.replies.sent
 
-module _ (p : Parts) (are : AreParts p) (clients : List Client) (count : length clients ≡ length p.links) where
+module _ (p : Parts) (are : AreParts p) (clients : List Client) (count : length clients ≡ length p.all_lanes) where
   abbrev lanes : List Lanes
-  lanes = lanes_of p.links
+  lanes = lanes_of p.all_lanes
 
-  abbrev books : Books
-  books = (resolver_of p).core.books
+  abbrev core : CoreState
+  core = (resolver_of p).core
 
-  -- a field of a link's lanes, read from the list of that field
-  field : (proxy : ℕ) (l : LinkView) → slice_get p.links proxy ≡ Some l → {A : Type 0} (f : Lanes → A) (d : A)
+  -- a field of a proxy's lanes, read from the list of that field
+  field : (proxy : ℕ) (l : ProxyLanesView) → slice_get p.all_lanes proxy ≡ Some l → {A : Type 0} (f : Lanes → A) (d : A)
       → slice_index_or (map f lanes) proxy d ≡ f l.lanes
   field proxy l at f d =
       get_or_from_slice_get (map f lanes) proxy (f l.lanes) d
-      (slice_get-map f lanes proxy ∙ ap (option_map f) (lanes_at p.links proxy l at))
+      (slice_get-map f lanes proxy ∙ ap (option_map f) (lanes_at p.all_lanes proxy l at))
 
-  -- a client's link
-  link_of : (proxy : ℕ) (c : Client) → slice_get clients proxy ≡ Some c
-      → (l : LinkView) × (slice_get p.links proxy ≡ Some l)
-  link_of proxy c at =
+  -- a client's pair of lanes
+  proxy_lanes_of : (proxy : ℕ) (c : Client) → slice_get clients proxy ≡ Some c
+      → (l : ProxyLanesView) × (slice_get p.all_lanes proxy ≡ Some l)
+  proxy_lanes_of proxy c at =
       let inside = slice_get_within clients proxy c at in
-      slice_get_inside p.links proxy (omega (arith, inside, count))
+      slice_get_inside p.all_lanes proxy (omega (arith, inside, count))
 
   -- where all is complete, the reply lanes were closed
   was_closed : IsComplete (resolver_of p) clients → p.closed ≡ true
   was_closed complete =
       let some = are.some in
-      let l = slice_get_inside p.links 0 (omega (arith, some)) in
-      let at = lanes_at p.links 0 l.0 l.1 in
+      let l = slice_get_inside p.all_lanes 0 (omega (arith, some)) in
+      let at = lanes_at p.all_lanes 0 l.0 l.1 in
       sym (are.closed 0 l.0.lanes at) ∙ complete.closed 0 l.0.lanes at
 
   -- and so all request lanes have ended
@@ -107,18 +107,18 @@ module _ (p : Parts) (are : AreParts p) (clients : List Client) (count : length 
   ]
 
   -- all is complete, by the parts
-  pub complete_from : p.core.stop ≡ None → p.closed ≡ true → EachTaken p.links clients
+  pub complete_from : p.core.stop ≡ None → p.closed ≡ true → EachTaken p.all_lanes clients
       → IsComplete (resolver_of p) clients
   complete_from none closed taken = record {
     no_stop = none;
     closed = λ proxy k at. are.closed proxy k at ∙ closed;
     taken = λ proxy c at.
-        let l = link_of proxy c at in
+        let l = proxy_lanes_of proxy c at in
         taken proxy l.0 c l.1 at ∙ sym (field proxy l.0 l.1 (λ k. k.replies.sent) []);
   }
 
   pub complete_then : IsComplete (resolver_of p) clients
-      → (p.core.stop ≡ None) × (p.closed ≡ true) × EachTaken p.links clients
+      → (p.core.stop ≡ None) × (p.closed ≡ true) × EachTaken p.all_lanes clients
   complete_then complete = (
     complete.no_stop,
     was_closed complete,
@@ -126,10 +126,10 @@ module _ (p : Parts) (are : AreParts p) (clients : List Client) (count : length 
   )
 
   -- a client that has taken answers to their end has taken all that were sent
-  pub takes_all : LanesHold p.links clients → (proxy : ℕ) (c : Client) → slice_get clients proxy ≡ Some c
+  pub takes_all : LanesHold p.all_lanes clients → (proxy : ℕ) (c : Client) → slice_get clients proxy ≡ Some c
       → HasEnded c.replies → c.replies.taken ≡ sent_to lanes proxy
   takes_all holds proxy c at ended =
-      let l = link_of proxy c at in
+      let l = proxy_lanes_of proxy c at in
       let replies = (holds proxy l.0 c l.1 at).1 in
       begins_whole c.replies.taken l.0.lanes.replies.sent replies.in_order
       (ended.all ∙ replies.all_seen ended.close)
@@ -142,21 +142,21 @@ module _ (p : Parts) (are : AreParts p) (clients : List Client) (count : length 
         subst (λ ended. FinishesBy ended log) (have_ended complete) (stands.finish complete.no_stop)
 
     -- and so no batch is held
-    holds_none : NoneIsHeldAfterFinish → IsComplete (resolver_of p) clients → (run books.set.window log).held ≡ []
+    holds_none : NoneIsHeldAfterFinish → IsComplete (resolver_of p) clients → (run core.set.window log).held ≡ []
     holds_none none complete =
         let last = finishes complete in
-        subst (λ steps. (run books.set.window steps).held ≡ []) (sym last.1) (none books.set.window last.0)
+        subst (λ steps. (run core.set.window steps).held ≡ []) (sym last.1) (none core.set.window last.0)
 
-    module _ (proxy : ℕ) (c : Client) (l : LinkView) (c_at : slice_get clients proxy ≡ Some c)
-        (l_at : slice_get p.links proxy ≡ Some l) (requests : Lane c.requests l.lanes.requests)
+    module _ (proxy : ℕ) (c : Client) (l : ProxyLanesView) (c_at : slice_get clients proxy ≡ Some c)
+        (l_at : slice_get p.all_lanes proxy ≡ Some l) (requests : Lane c.requests l.lanes.requests)
         (replies : Lane l.lanes.replies c.replies) where
       at : slice_get lanes proxy ≡ Some l.lanes
-      at = lanes_at p.links proxy l l_at
+      at = lanes_at p.all_lanes proxy l l_at
 
-      inside : proxy < length books.owed
+      inside : proxy < length core.owed
       inside =
-          let within = slice_get_within p.links proxy l l_at in
-          let many = length-owed_with p.links p.core.books.owed are.count in
+          let within = slice_get_within p.all_lanes proxy l l_at in
+          let many = length-owed_with p.all_lanes p.core.owed are.count in
           omega (arith, within, many)
 
       sent_is : sent_to lanes proxy ≡ l.lanes.replies.sent
@@ -165,25 +165,25 @@ module _ (p : Parts) (are : AreParts p) (clients : List Client) (count : length 
       part_is : part log proxy ≡ l.lanes.requests.taken
       part_is = stands.parts proxy ∙ field proxy l l_at (λ k. k.requests.taken) []
 
-      made_is : made_to proxy (sent_to lanes) books ≡ l.lanes.replies.sent ++ owed_to proxy books.owed
-      made_is = ap (λ sent. sent ++ owed_to proxy books.owed) sent_is
+      made_is : made_to proxy (sent_to lanes) core ≡ l.lanes.replies.sent ++ owed_to proxy core.owed
+      made_is = ap (λ sent. sent ++ owed_to proxy core.owed) sent_is
 
       -- what was sent begins the answers of the reference resolver
-      sent_begins : IsBeginning l.lanes.replies.sent (answers books.set.window log proxy)
+      sent_begins : IsBeginning l.lanes.replies.sent (answers core.set.window log proxy)
       sent_begins =
-          begins_then l.lanes.replies.sent (made_to proxy (sent_to lanes) books) (answers books.set.window log proxy)
-          (owed_to proxy books.owed, made_is)
-          (made_begins p.core.stop log (sent_to lanes) books stands.core proxy inside)
+          begins_then l.lanes.replies.sent (made_to proxy (sent_to lanes) core) (answers core.set.window log proxy)
+          (owed_to proxy core.owed, made_is)
+          (made_begins p.core.stop log (sent_to lanes) core stands.core proxy inside)
 
       -- and is all of them, where all is complete
       sent_all : IsComplete (resolver_of p) clients
-          → l.lanes.replies.sent ≡ answers books.set.window log proxy
+          → l.lanes.replies.sent ≡ answers core.set.window log proxy
       sent_all complete =
           let through = are.through (was_closed complete) in
-          let state = AreOf-standing p.core.stop log (sent_to lanes) books complete.no_stop stands.core in
+          let state = IsIn-standing p.core.stop log (sent_to lanes) core complete.no_stop stands.core in
           sym (append-nil l.lanes.replies.sent)
           ∙ ap (λ owed. l.lanes.replies.sent ++ owed)
-          (sym (owed_none books.owed proxy through.nothing_owed inside))
+          (sym (owed_none core.owed proxy through.nothing_owed inside))
           ∙ sym made_is
           ∙ state.answers proxy inside
 
@@ -193,11 +193,11 @@ module _ (p : Parts) (are : AreParts p) (clients : List Client) (count : length 
           (ended.all ∙ requests.all_seen ended.close)
 
       -- each of its batches has its answer, where none is held
-      one_each : EachBatchIsAnswered → (run books.set.window log).held ≡ []
-          → c.replies.taken ≡ answers books.set.window log proxy → part log proxy ≡ c.requests.sent
+      one_each : EachBatchIsAnswered → (run core.set.window log).held ≡ []
+          → c.replies.taken ≡ answers core.set.window log proxy → part log proxy ≡ c.requests.sent
           → length c.replies.taken ≡ length c.requests.sent
       one_each once none received batches =
-          let told = once books.set.window log proxy in
+          let told = once core.set.window log proxy in
           let left = ap (λ held. length (held_of proxy held)) none in
           let as_answers = ap length received in
           let as_batches = ap length batches in
@@ -205,13 +205,13 @@ module _ (p : Parts) (are : AreParts p) (clients : List Client) (count : length 
 
       pub settled_for : EachBatchIsAnswered → NoneIsHeldAfterFinish → (complete : Bool)
           → (complete ≡ true → IsComplete (resolver_of p) clients)
-          → SettledFor books.set.window log (slice_index_or (map (λ k. k.ended) lanes) proxy true) complete proxy c
+          → SettledFor core.set.window log (slice_index_or (map (λ k. k.ended) lanes) proxy true) complete proxy c
       settled_for once none complete is = record {
         batches = subst (λ taken. IsBeginning taken c.requests.sent) (sym part_is) requests.in_order;
         all_batches = all_batches;
         nothing_after = λ ended. requests.seen_close (has_ended ended).close;
         received =
-            begins_then c.replies.taken l.lanes.replies.sent (answers books.set.window log proxy) replies.in_order
+            begins_then c.replies.taken l.lanes.replies.sent (answers core.set.window log proxy) replies.in_order
             sent_begins;
         all_received = all_received;
         all_ended = every_ended;
@@ -228,28 +228,28 @@ module _ (p : Parts) (are : AreParts p) (clients : List Client) (count : length 
           all_batches : slice_index_or (map (λ k. k.ended) lanes) proxy true ≡ true → part log proxy ≡ c.requests.sent
           all_batches ended = part_is ∙ whole (has_ended ended)
 
-          all_received : complete ≡ true → c.replies.taken ≡ answers books.set.window log proxy
+          all_received : complete ≡ true → c.replies.taken ≡ answers core.set.window log proxy
           all_received done = (is done).taken proxy c c_at ∙ sent_is ∙ sent_all (is done)
 
           every_ended : complete ≡ true → slice_index_or (map (λ k. k.ended) lanes) proxy true ≡ true
           every_ended done = ended_is ∙ ended_at lanes proxy l.lanes (have_ended (is done)) at
 
     -- the headline, of all clients
-    pub settled : LanesHold p.links clients → RunsAreChains → EachBatchIsAnswered → NoneIsHeldAfterFinish
+    pub settled : LanesHold p.all_lanes clients → RunsAreChains → EachBatchIsAnswered → NoneIsHeldAfterFinish
         → (account : Account)
         → (account.complete ≡ true → IsComplete (resolver_of p) clients) → account.stop ≡ p.core.stop
-        → Settled books.set.window log (map (λ k. k.ended) lanes) clients account
+        → Settled core.set.window log (map (λ k. k.ended) lanes) clients account
     settled holds chains once none account is stop = record {
       each = λ proxy c at.
-          let l = link_of proxy c at in
+          let l = proxy_lanes_of proxy c at in
           let both = holds proxy l.0 c l.1 at in
           settled_for proxy c l.0 at l.1 both.0 both.1 once none account.complete is;
       proxies = subst (λ many. TakesOnlyFrom many log) as_many (stands_only (resolver_of p) log stands);
-      chain = chains books.set.window log;
+      chain = chains core.set.window log;
       finish = λ yes. finishes (is yes);
       none_held = λ yes. holds_none none (is yes);
       no_stop = λ yes. stop ∙ (is yes).no_stop;
     }
       where
         as_many : length lanes ≡ length clients
-        as_many = length-map p.links (λ k. k.lanes) ∙ sym count
+        as_many = length-map p.all_lanes (λ k. k.lanes) ∙ sym count

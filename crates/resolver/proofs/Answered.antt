@@ -32,7 +32,7 @@ use Rattle.std.proofs.lemmas.List.Elements.{filter-append}
 use Rattle.keyspace.specs.declared.answer.Answer.{Answer}
 use Rattle.keyspace.specs.Run.{State, answer, answers_to}
 use Rattle.resolver.specs.Owed.{owed_to, owed_also}
-use Rattle.resolver.specs.Books.{Books, Given, AreOf, made_to}
+use Rattle.resolver.specs.Core.{CoreState, Given, IsIn, made_to}
 
 -- what is answered to a proxy of two lists joined
 pub answers_to-append : (proxy : ℕ) (xs ys : List (ℕ × Answer))
@@ -82,28 +82,28 @@ module _ (proxy : ℕ) (a : Answer) where
       ]
 
   -- and so what was made to it
-  pub made_also : (given : Given) (state : State) (books : Books) (owed : List (List Answer))
-      → proxy < length books.owed → owed ≡ owed_also proxy a books.owed
-      → ((p : ℕ) → p < length books.owed → made_to p given books ≡ answers_to p state.answered)
+  pub made_also : (given : Given) (state : State) (core : CoreState) (owed : List (List Answer))
+      → proxy < length core.owed → owed ≡ owed_also proxy a core.owed
+      → ((p : ℕ) → p < length core.owed → made_to p given core ≡ answers_to p state.answered)
       → (p : ℕ) → p < length owed
       → given p ++ owed_to p owed ≡ answers_to p (answer proxy a state).answered
-  made_also given state books owed known is made p inside =
-      let many = ap length is ∙ length-owed_also books.owed in
+  made_also given state core owed known is made p inside =
+      let many = ap length is ∙ length-owed_also core.owed in
       ap (λ xs. given p ++ owed_to p xs) is
-      ∙ ap (λ xs. given p ++ xs) (owed_to-also books.owed known p)
-      ∙ sym (append_assoc (given p) (owed_to p books.owed) (only_to p))
+      ∙ ap (λ xs. given p ++ xs) (owed_to-also core.owed known p)
+      ∙ sym (append_assoc (given p) (owed_to p core.owed) (only_to p))
       ∙ ap (λ xs. xs ++ only_to p) (made p (omega (arith, many)))
       ∙ sym (answers_to-more p state.answered)
 
--- the books after an answer that changes nothing else
-pub AreOf-answer : (state : State) (given : Given) (books : Books) (proxy : ℕ) (a : Answer)
+-- the core after an answer that changes nothing else
+pub IsIn-answer : (state : State) (given : Given) (core : CoreState) (proxy : ℕ) (a : Answer)
     (owed : List (List Answer))
-    → AreOf state given books → proxy < length books.owed → owed ≡ owed_also proxy a books.owed
-    → AreOf (answer proxy a state) given (record books { owed = owed })
-AreOf-answer state given books proxy a owed are known is = record {
+    → IsIn state given core → proxy < length core.owed → owed ≡ owed_also proxy a core.owed
+    → IsIn (answer proxy a state) given (record core { owed = owed })
+IsIn-answer state given core proxy a owed are known is = record {
   version = are.version;
   held = are.held;
   kept = are.kept;
   remembers = are.remembers;
-  answers = made_also proxy a given state books owed known is are.answers;
+  answers = made_also proxy a given state core owed known is are.answers;
 }

@@ -9,8 +9,8 @@ use Rattle.lane.specs.Lane.{HasEnded}
 use Rattle.resolver.specs.Owed.{owed_to, owed_count}
 use Rattle.resolver.specs.Lanes.{Lanes, Each, sent_to, all_ended}
 use Rattle.resolver.specs.Resolver.{ResolverState, StandsOver, IsThrough}
-use Rattle.resolver.specs.Links.{LinkView, Parts, AreParts, EachLink, lanes_of, owed_with, closed_link, resolver_of}
-use Rattle.resolver.proofs.Linked.{field_same, both_at, each_lanes, owed_with-length, owed_with-same}
+use Rattle.resolver.specs.Parts.{ProxyLanesView, Parts, AreParts, EachProxy, lanes_of, owed_with, closed_proxy_lanes, resolver_of}
+use Rattle.resolver.proofs.AtIndex.{field_same, both_at, each_lanes, owed_with-length, owed_with-same}
 use Rattle.resolver.proofs.Handed.{StandsBy-moved}
 use Rattle.resolver.proofs.HandedOut.{list_all-same}
 use Rattle.resolver.proofs.Logged.{stands_same}
@@ -22,35 +22,35 @@ ClosedOver old new = record {
   closed : (p : ℕ) (l : Lanes) → slice_get new.lanes p ≡ Some l → (l.replies.closed ≡ true) ↔ IsThrough new;
   core : new.core ≡ old.core;
   lanes : Each (λ _ l m. m ≡ record l { replies = record l.replies { closed = m.replies.closed } }) old.lanes new.lanes;
-  count : length new.core.books.owed ≡ length new.lanes;
+  count : length new.core.owed ≡ length new.lanes;
   next : new.next ≡ old.next;
 }
 
 -- a resolver owes answers to as many proxies as it has lanes
 as_many : (parts : Parts) → AreParts parts
-    → length (resolver_of parts).core.books.owed ≡ length (resolver_of parts).lanes
+    → length (resolver_of parts).core.owed ≡ length (resolver_of parts).lanes
 as_many parts are =
-    owed_with-length parts.links parts.core.books.owed ∙ sym are.count
-    ∙ sym (length-map parts.links (λ l. l.lanes))
+    owed_with-length parts.all_lanes parts.core.owed ∙ sym are.count
+    ∙ sym (length-map parts.all_lanes (λ l. l.lanes))
 
--- the parts of a resolver that is through, and its links with their reply lanes closed
-module _ (parts : Parts) (are : AreParts parts) (through : IsThrough (resolver_of parts)) (now : List LinkView)
-    (each : EachLink (λ _ l m. m ≡ closed_link l) parts.links now) where
+-- the parts of a resolver that is through, and its pairs of lanes with their reply lanes closed
+module _ (parts : Parts) (are : AreParts parts) (through : IsThrough (resolver_of parts)) (now : List ProxyLanesView)
+    (each : EachProxy (λ _ l m. m ≡ closed_proxy_lanes l) parts.all_lanes now) where
   abbrev closed_parts : Parts
-  closed_parts = record parts { links = now; closed = true }
+  closed_parts = record parts { all_lanes = now; closed = true }
 
   abbrev LaneClosed : ℕ → Lanes → Lanes → Type 0
   LaneClosed _ l m = m ≡ record l { replies = record l.replies { closed = true } }
 
-  each_lane : Each LaneClosed (lanes_of parts.links) (lanes_of now)
+  each_lane : Each LaneClosed (lanes_of parts.all_lanes) (lanes_of now)
   each_lane =
-      each_lanes (λ _ l m. m ≡ closed_link l) LaneClosed parts.links now
-      (λ p k n at_old at_new is. ap (λ (x : LinkView). x.lanes) is) each
+      each_lanes (λ _ l m. m ≡ closed_proxy_lanes l) LaneClosed parts.all_lanes now
+      (λ p k n at_old at_new is. ap (λ (x : ProxyLanesView). x.lanes) is) each
 
   lane_before : (p : ℕ) (m : Lanes) → slice_get (lanes_of now) p ≡ Some m
-      → (l : Lanes) × (slice_get (lanes_of parts.links) p ≡ Some l) × LaneClosed p l m
+      → (l : Lanes) × (slice_get (lanes_of parts.all_lanes) p ≡ Some l) × LaneClosed p l m
   lane_before p m at =
-      elim (both_at (lanes_of parts.links) (lanes_of now) each_lane.count p) [
+      elim (both_at (lanes_of parts.all_lanes) (lanes_of now) each_lane.count p) [
         | inl both ↦ (both.0, both.2, each_lane.each p both.0 m both.2 at)
         | inr past ↦ absurd (none-some m (sym (slice_get_past (lanes_of now) p past.1) ∙ at))
       ]
@@ -58,19 +58,19 @@ module _ (parts : Parts) (are : AreParts parts) (through : IsThrough (resolver_o
   is_closed : (p : ℕ) (m : Lanes) → slice_get (lanes_of now) p ≡ Some m → m.replies.closed ≡ true
   is_closed p m at = ap (λ (x : Lanes). x.replies.closed) (lane_before p m at).2
 
-  ended_same : all_ended (lanes_of now) ≡ all_ended (lanes_of parts.links)
+  ended_same : all_ended (lanes_of now) ≡ all_ended (lanes_of parts.all_lanes)
   ended_same =
-      list_all-same (λ l. l.ended) (lanes_of parts.links) (lanes_of now) each_lane.count
+      list_all-same (λ l. l.ended) (lanes_of parts.all_lanes) (lanes_of now) each_lane.count
       (λ p l m at_old at_new. ap (λ (x : Lanes). x.ended) (each_lane.each p l m at_old at_new))
 
-  owed_same : owed_with now parts.core.books.owed ≡ owed_with parts.links parts.core.books.owed
+  owed_same : owed_with now parts.core.owed ≡ owed_with parts.all_lanes parts.core.owed
   owed_same =
-      owed_with-same parts.links now parts.core.books.owed each.count
-      (λ p k n at_old at_new. ap (λ (x : LinkView). x.waiting) (each.each p k n at_old at_new))
+      owed_with-same parts.all_lanes now parts.core.owed each.count
+      (λ p k n at_old at_new. ap (λ (x : ProxyLanesView). x.waiting) (each.each p k n at_old at_new))
 
   core_same : (resolver_of closed_parts).core ≡ (resolver_of parts).core
   core_same =
-      ap (λ owed. record parts.core { books = record parts.core.books { owed = owed } }) owed_same
+      ap (λ owed. record parts.core { owed = owed }) owed_same
 
   still_through : IsThrough (resolver_of closed_parts)
   still_through = record {
@@ -113,9 +113,9 @@ module _ (parts : Parts) (are : AreParts parts) (through : IsThrough (resolver_o
       let none_sent = field_same (λ (l : Lanes). l.replies.sent) old.lanes new.lanes each_lane.count
       (λ p l m at_old at_new. ap (λ (x : Lanes). x.replies.sent) (each_lane.each p l m at_old at_new)) in
       stands_same old new log refl ended_same none_taken stands
-      (StandsBy-moved (sent_to old.lanes) (sent_to new.lanes) old.core.books new.core.books.owed
+      (StandsBy-moved (sent_to old.lanes) (sent_to new.lanes) old.core new.core.owed
       (ap length owed_same)
-      (λ p _. ap (λ xs. xs ++ owed_to p new.core.books.owed) (none_sent p)
+      (λ p _. ap (λ xs. xs ++ owed_to p new.core.owed) (none_sent p)
       ∙ ap (λ owed. sent_to old.lanes p ++ owed_to p owed) owed_same) old.core.stop log stands.core)
       (λ running p m at closed. ended_of running)
 
@@ -136,21 +136,21 @@ module _ (parts : Parts) (are : AreParts parts) (through : IsThrough (resolver_o
 
 -- as the resolver is read after the calls
 pub as_many_seen : {parts : Parts} {old : ResolverState} → AreParts parts → resolver_of parts ≡ old
-    → length old.core.books.owed ≡ length old.lanes
+    → length old.core.owed ≡ length old.lanes
 as_many_seen {parts} are was =
-    subst (λ (r : ResolverState). length r.core.books.owed ≡ length r.lanes) was (as_many parts are)
+    subst (λ (r : ResolverState). length r.core.owed ≡ length r.lanes) was (as_many parts are)
 
-module _ {parts : Parts} {old : ResolverState} {seen now links : List LinkView} where
-  pub closed_all : AreParts parts → resolver_of parts ≡ old → IsThrough old → seen ≡ parts.links
-      → EachLink (λ _ l m. m ≡ closed_link l) seen now → links ≡ now
-      → AreParts (record parts { links = links; closed = true })
-      × ClosedOver old (resolver_of (record parts { links = links; closed = true }))
-  closed_all are was through seen_is each links_are =
+module _ {parts : Parts} {old : ResolverState} {seen now all_lanes : List ProxyLanesView} where
+  pub closed_all : AreParts parts → resolver_of parts ≡ old → IsThrough old → seen ≡ parts.all_lanes
+      → EachProxy (λ _ l m. m ≡ closed_proxy_lanes l) seen now → all_lanes ≡ now
+      → AreParts (record parts { all_lanes = all_lanes; closed = true })
+      × ClosedOver old (resolver_of (record parts { all_lanes = all_lanes; closed = true }))
+  closed_all are was through seen_is each all_lanes_are =
       let through_parts = subst IsThrough (sym was) through in
-      let each_of = subst (λ ls. EachLink (λ _ l m. m ≡ closed_link l) ls now) seen_is each in
-      subst (λ ls. AreParts (record parts { links = ls; closed = true })
-      × ClosedOver old (resolver_of (record parts { links = ls; closed = true }))) (sym links_are) (
+      let each_of = subst (λ ls. EachProxy (λ _ l m. m ≡ closed_proxy_lanes l) ls now) seen_is each in
+      subst (λ ls. AreParts (record parts { all_lanes = ls; closed = true })
+      × ClosedOver old (resolver_of (record parts { all_lanes = ls; closed = true }))) (sym all_lanes_are) (
         parts_after parts are through_parts now each_of,
-        subst (λ r. ClosedOver r (resolver_of (record parts { links = now; closed = true }))) was
+        subst (λ r. ClosedOver r (resolver_of (record parts { all_lanes = now; closed = true }))) was
             (closed_over parts are through_parts now each_of),
       )

@@ -1,4 +1,4 @@
--- Links and clients that are made together, one of each for a proxy.
+-- Pairs of lanes and clients that are made together, one of each for a proxy.
 use Rattle.std.proofs.Common.{
   ◌≡◌,
   ℕ,
@@ -26,7 +26,7 @@ use Rattle.std.proofs.lemmas.List.Elements.{All-nil, All-push}
 use Rattle.lane.specs.Lane.{SameLane}
 use Rattle.resolver.specs.declared.client.Client.{Client}
 use Rattle.resolver.specs.Resolver.{AreClients, IsNewClient}
-use Rattle.resolver.specs.Links.{LinkView, IsNewLink, AreConnected, lanes_of}
+use Rattle.resolver.specs.Parts.{ProxyLanesView, AreNewLanes, AreConnected, lanes_of}
 
 module _ {A B : Type 0} (R : A → B → Type 0) where
   -- what holds of the elements at the same index
@@ -46,9 +46,9 @@ module _ {A B : Type 0} (R : A → B → Type 0) where
 
 pub connected_none : (capacity : ℕ) → AreConnected capacity 0 [] []
 connected_none capacity = record {
-  link_count = refl;
+  proxy_lanes_count = refl;
   client_count = refl;
-  new_links = All-nil IsNewLink;
+  new_all_lanes = All-nil AreNewLanes;
   new_clients = All-nil (IsNewClient capacity);
   same = record {
     count = refl;
@@ -57,31 +57,31 @@ connected_none capacity = record {
   };
 }
 
-module _ (capacity count : ℕ) (links : List LinkView) (clients : List Client) (l : LinkView) (c : Client)
-    (are : AreConnected capacity count links clients)
+module _ (capacity count : ℕ) (all_lanes : List ProxyLanesView) (clients : List Client) (l : ProxyLanesView) (c : Client)
+    (are : AreConnected capacity count all_lanes clients)
     (requests : SameLane c.requests l.lanes.requests) (replies : SameLane l.lanes.replies c.replies) where
-  many : length (lanes_of links) ≡ length clients
-  many = length-map links (λ k. k.lanes) ∙ are.link_count ∙ sym are.client_count
+  many : length (lanes_of all_lanes) ≡ length clients
+  many = length-map all_lanes (λ k. k.lanes) ∙ are.proxy_lanes_count ∙ sym are.client_count
 
-  same_more : AreClients (lanes_of links ++ l.lanes ∷ []) (clients ++ c ∷ [])
+  same_more : AreClients (lanes_of all_lanes ++ l.lanes ∷ []) (clients ++ c ∷ [])
   same_more = record {
-    count = length_push clients c ∙ ap (λ n. n + 1) (sym many) ∙ sym (length_push (lanes_of links) l.lanes);
+    count = length_push clients c ∙ ap (λ n. n + 1) (sym many) ∙ sym (length_push (lanes_of all_lanes) l.lanes);
     requests =
-        pairs_push (λ k d. SameLane d.requests k.requests) (lanes_of links) clients l.lanes c many
+        pairs_push (λ k d. SameLane d.requests k.requests) (lanes_of all_lanes) clients l.lanes c many
         are.same.requests requests;
     replies =
-        pairs_push (λ k d. SameLane k.replies d.replies) (lanes_of links) clients l.lanes c many
+        pairs_push (λ k d. SameLane k.replies d.replies) (lanes_of all_lanes) clients l.lanes c many
         are.same.replies replies;
   }
 
   -- one more of each
-  pub connected_more : IsNewLink l → IsNewClient capacity c
-      → AreConnected capacity (count + 1) (links ++ l ∷ []) (clients ++ c ∷ [])
-  connected_more new_link new_client = record {
-    link_count = length_push links l ∙ ap (λ n. n + 1) are.link_count;
+  pub connected_more : AreNewLanes l → IsNewClient capacity c
+      → AreConnected capacity (count + 1) (all_lanes ++ l ∷ []) (clients ++ c ∷ [])
+  connected_more new_proxy_lanes new_client = record {
+    proxy_lanes_count = length_push all_lanes l ∙ ap (λ n. n + 1) are.proxy_lanes_count;
     client_count = length_push clients c ∙ ap (λ n. n + 1) are.client_count;
-    new_links = All-push IsNewLink links l are.new_links new_link;
+    new_all_lanes = All-push AreNewLanes all_lanes l are.new_all_lanes new_proxy_lanes;
     new_clients = All-push (IsNewClient capacity) clients c are.new_clients new_client;
     same =
-        subst (λ lanes. AreClients lanes (clients ++ c ∷ [])) (sym (map_push (λ k. k.lanes) links l)) same_more;
+        subst (λ lanes. AreClients lanes (clients ++ c ∷ [])) (sym (map_push (λ k. k.lanes) all_lanes l)) same_more;
   }

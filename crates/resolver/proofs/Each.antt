@@ -1,4 +1,4 @@
--- What holds of each link before and after a loop over the links by index.
+-- What holds of each pair of lanes before and after a loop over the pairs of lanes by index.
 use Rattle.std.proofs.Common.{◌≡◌, ◌≢◌, ℕ, ◌<◌, inl, inr, List, set, length, get_or, Some, sym, ap, ◌∙◌, subst, arith}
 use Rattle.std.specs.Prelude.{slice_get}
 use Rattle.std.proofs.lemmas.Bool.{cases_eq}
@@ -8,25 +8,25 @@ use Rattle.std.proofs.lemmas.Option.{
   slice_get_within,
   get_or_from_slice_get,
 }
-use Rattle.resolver.specs.Links.{LinkView, EachLink}
+use Rattle.resolver.specs.Parts.{ProxyLanesView, EachProxy}
 
--- a fact of a link by its index, before and after
-abbrev pub PerLink : Type 1
-PerLink = ℕ → LinkView → LinkView → Type 0
+-- a fact of a pair of lanes by its index, before and after
+abbrev pub PerProxy : Type 1
+PerProxy = ℕ → ProxyLanesView → ProxyLanesView → Type 0
 
 -- one fact gives another
-pub EachLink-also : (P Q : PerLink) {old now : List LinkView}
-    → ((q : ℕ) (l m : LinkView) → q < length old → P q l m → Q q l m) → EachLink P old now → EachLink Q old now
-EachLink-also P Q {old} {now} then e = record {
+pub EachProxy-also : (P Q : PerProxy) {old now : List ProxyLanesView}
+    → ((q : ℕ) (l m : ProxyLanesView) → q < length old → P q l m → Q q l m) → EachProxy P old now → EachProxy Q old now
+EachProxy-also P Q {old} {now} then e = record {
   count = e.count;
   each = λ q l m was is. then q l m (slice_get_within old q l was) (e.each q l m was is);
 }
 
 -- one change after another
-pub EachLink-then : (P Q R : PerLink) {old mid now : List LinkView}
-    → ((q : ℕ) (l m n : LinkView) → q < length old → P q l m → Q q m n → R q l n) → EachLink P old mid
-    → EachLink Q mid now → EachLink R old now
-EachLink-then P Q R {old} {mid} {now} then e f = record {
+pub EachProxy-then : (P Q R : PerProxy) {old mid now : List ProxyLanesView}
+    → ((q : ℕ) (l m n : ProxyLanesView) → q < length old → P q l m → Q q m n → R q l n) → EachProxy P old mid
+    → EachProxy Q mid now → EachProxy R old now
+EachProxy-then P Q R {old} {mid} {now} then e f = record {
   count = f.count ∙ e.count;
   each = λ q l n was is.
       let inside = slice_get_within old q l was in
@@ -35,11 +35,11 @@ EachLink-then P Q R {old} {mid} {now} then e f = record {
       then q l m n inside (e.each q l m was between) (f.each q m n between is);
 }
 
--- a link is written at its index
-pub EachLink-set : (P Q : PerLink) {old now : List LinkView} (i : ℕ) (x d : LinkView) → i < length now
-    → ((l : LinkView) → P i l (get_or now i d) → Q i l x)
-    → ((q : ℕ) (l m : LinkView) → q ≢ i → P q l m → Q q l m) → EachLink P old now → EachLink Q old (set now i x)
-EachLink-set P Q {old} {now} i x d inside here others e = record {
+-- a pair of lanes is written at its index
+pub EachProxy-set : (P Q : PerProxy) {old now : List ProxyLanesView} (i : ℕ) (x d : ProxyLanesView) → i < length now
+    → ((l : ProxyLanesView) → P i l (get_or now i d) → Q i l x)
+    → ((q : ℕ) (l m : ProxyLanesView) → q ≢ i → P q l m → Q q l m) → EachProxy P old now → EachProxy Q old (set now i x)
+EachProxy-set P Q {old} {now} i x d inside here others e = record {
   count = length-set now i x ∙ e.count;
   each = λ q l n was is.
       let known = slice_get_within old q l was in

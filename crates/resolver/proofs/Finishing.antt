@@ -25,8 +25,8 @@ use Rattle.keyspace.specs.declared.answer.Answer.TheVariants as told
 use Rattle.keyspace.specs.Leaving.{Held}
 use Rattle.keyspace.specs.Run.{State, Finish, step, answers_to}
 use Rattle.resolver.specs.Owed.{owed_also}
-use Rattle.resolver.specs.Books.{Books, Given, AreBooks, AreOf, MadeBetween}
-use Rattle.resolver.proofs.Answered.{length-owed_also, AreOf-answer}
+use Rattle.resolver.specs.Core.{CoreState, Given, IsCore, IsIn, MadeBetween}
+use Rattle.resolver.proofs.Answered.{length-owed_also, IsIn-answer}
 use Rattle.resolver.proofs.Growing.{begins_itself, MadeBetween-grown}
 
 -- what a batch that is still held is answered
@@ -37,17 +37,18 @@ still_held h = (h.0, told.Held h.1.version)
 abbrev pub part_told : State → List Held → List Held → State
 part_told state said held = record state { held = held; answered = state.answered ++ map still_held said }
 
--- the books after the first of the batches held are answered
-pub record Tells (old now : Books) : Type 0 where
+-- the core after the first of the batches held are answered
+pub record Tells (old now : CoreState) : Type 0 where
   pub said : List Held
   pub held : old.held ≡ said ++ now.held
-  pub are : (state : State) (given : Given) → AreOf state given old
-      → AreOf (part_told state said now.held) given now
-  pub in_order : AreBooks now
+  pub are : (state : State) (given : Given) → IsIn state given old
+      → IsIn (part_told state said now.held) given now
+  pub in_order : IsCore now
   pub set : now.set ≡ old.set
+  pub stop : now.stop ≡ old.stop
   pub proxies : length now.owed ≡ length old.owed
 
-module _ (old now : Books) (h : Held) (others : List Held) (t : Tells old now)
+module _ (old now : CoreState) (h : Held) (others : List Held) (t : Tells old now)
     (first : now.held ≡ h ∷ others) where
   -- what it is answered
   abbrev last : Answer
@@ -58,10 +59,11 @@ module _ (old now : Books) (h : Held) (others : List Held) (t : Tells old now)
       All-head (λ g. g.0 < length now.owed) h others
       (subst (All (λ g. g.0 < length now.owed)) first t.in_order.known)
 
-  -- the books without the first of them are in order
-  pub AreBooks-first : (owed : List (List Answer)) → length owed ≡ length now.owed
-      → AreBooks (record now { held = others; owed = owed })
-  AreBooks-first owed same = record {
+  -- the core without the first of them is in order
+  pub IsCore-first : (owed : List (List Answer)) → length owed ≡ length now.owed
+      → IsCore (record now { held = others; owed = owed })
+  IsCore-first owed same = record {
+    takes_more = t.in_order.takes_more;
     resolved = t.in_order.resolved;
     remembers = t.in_order.remembers;
     known =
@@ -73,10 +75,10 @@ module _ (old now : Books) (h : Held) (others : List Held) (t : Tells old now)
 
   told_first : (state : State) (given : Given) (owed : List (List Answer))
       → owed ≡ owed_also h.0 last now.owed
-      → AreOf (part_told state t.said now.held) given now
-      → AreOf (part_told state (t.said ++ h ∷ []) others) given (record now { held = others; owed = owed })
+      → IsIn (part_told state t.said now.held) given now
+      → IsIn (part_told state (t.said ++ h ∷ []) others) given (record now { held = others; owed = owed })
   told_first state given owed is are =
-      let next = AreOf-answer (part_told state t.said now.held) given now h.0 last owed are first_known is in
+      let next = IsIn-answer (part_told state t.said now.held) given now h.0 last owed are first_known is in
       let answered = append_assoc state.answered (map still_held t.said) (still_held h ∷ [])
       ∙ ap (λ xs. state.answered ++ xs) (sym (map-append still_held t.said (h ∷ []))) in
       record {
@@ -94,25 +96,26 @@ module _ (old now : Books) (h : Held) (others : List Held) (t : Tells old now)
     said = t.said ++ h ∷ [];
     held = t.held ∙ ap (λ hs. t.said ++ hs) first ∙ sym (append_assoc t.said (h ∷ []) others);
     are = λ state given are. told_first state given owed is (t.are state given are);
-    in_order = AreBooks-first owed (ap length is ∙ length-owed_also h.0 last now.owed);
+    in_order = IsCore-first owed (ap length is ∙ length-owed_also h.0 last now.owed);
     set = t.set;
+    stop = t.stop;
     proxies = ap length is ∙ length-owed_also h.0 last now.owed ∙ t.proxies;
   }
 
-module _ (window : ℤ) (old now : Books) (t : Tells old now) (state : State) (given : Given)
-    (are : AreOf state given old) where
+module _ (window : ℤ) (old now : CoreState) (t : Tells old now) (state : State) (given : Given)
+    (are : IsIn state given old) where
   held_is : state.held ≡ t.said ++ now.held
   held_is = sym are.held ∙ t.held
 
   -- all are
-  pub AreOf-finish : now.held ≡ [] → AreOf (step window Finish state) given now
-  AreOf-finish none =
+  pub IsIn-finish : now.held ≡ [] → IsIn (step window Finish state) given now
+  IsIn-finish none =
       let all = held_is ∙ ap (λ hs. t.said ++ hs) none ∙ append-nil t.said in
-      subst (λ hs. AreOf (part_told state hs []) given now) (sym all)
-      (subst (λ hs. AreOf (part_told state t.said hs) given now) none (t.are state given are))
+      subst (λ hs. IsIn (part_told state hs []) given now) (sym all)
+      (subst (λ hs. IsIn (part_told state t.said hs) given now) none (t.are state given are))
 
   -- if it stops there, no other answers were made
-  pub MadeBetween-finish : (new : Books) → new.owed ≡ now.owed
+  pub MadeBetween-finish : (new : CoreState) → new.owed ≡ now.owed
       → MadeBetween state (step window Finish state) given new
   MadeBetween-finish new same =
       MadeBetween-grown state (part_told state t.said now.held) (step window Finish state) given now new

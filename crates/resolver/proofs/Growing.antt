@@ -42,7 +42,7 @@ use Rattle.keyspace.specs.Run.{
   answers_to,
 }
 use Rattle.resolver.specs.Owed.{owed_to}
-use Rattle.resolver.specs.Books.{Books, Given, IsBeginning, AreOf, MadeBetween, made_to}
+use Rattle.resolver.specs.Core.{CoreState, Given, IsBeginning, IsIn, MadeBetween, made_to}
 use Rattle.resolver.proofs.Answered.{answers_to-append}
 use Rattle.resolver.proofs.Admitting.{repeat, admit_now}
 
@@ -127,19 +127,19 @@ grows_step window (Take proxy b) s =
 grows_step window Finish s = record { processed = begins_itself s.processed; answered = (_, refl) }
 
 -- where only what is owed counts
-pub made_then : (state : State) (given : Given) (books new : Books) → AreOf state given books
-    → new.owed ≡ books.owed → (p : ℕ) → p < length new.owed
+pub made_then : (state : State) (given : Given) (core new : CoreState) → IsIn state given core
+    → new.owed ≡ core.owed → (p : ℕ) → p < length new.owed
     → made_to p given new ≡ answers_to p state.answered
-made_then state given books new are same p inside =
+made_then state given core new are same p inside =
     let many = ap length same in
     ap (λ owed. given p ++ owed_to p owed) same ∙ are.answers p (omega (arith, many))
 
--- Of books with the answers of a state between two others, all answers of the first were made, and none but
+-- Of a core with the answers of a state between two others, all answers of the first were made, and none but
 -- those of the last.
-pub MadeBetween-grown : (before now after : State) (given : Given) (books new : Books) → AreOf now given books
-    → new.owed ≡ books.owed → Grows before now → Grows now after → MadeBetween before after given new
-MadeBetween-grown before now after given books new are same more rest =
-    let made = made_then now given books new are same in
+pub MadeBetween-grown : (before now after : State) (given : Given) (core new : CoreState) → IsIn now given core
+    → new.owed ≡ core.owed → Grows before now → Grows now after → MadeBetween before after given new
+MadeBetween-grown before now after given core new are same more rest =
+    let made = made_then now given core new are same in
     record {
       all_before = λ p inside.
           subst (IsBeginning (answers_to p before.answered)) (sym (made p inside))
@@ -150,19 +150,19 @@ MadeBetween-grown before now after given books new are same more rest =
     }
 
 -- where a step has made no answer yet
-pub MadeBetween-step : (window : ℤ) (x : Step) (state : State) (given : Given) (books new : Books)
-    → AreOf state given books → new.owed ≡ books.owed
+pub MadeBetween-step : (window : ℤ) (x : Step) (state : State) (given : Given) (core new : CoreState)
+    → IsIn state given core → new.owed ≡ core.owed
     → MadeBetween state (step window x state) given new
-MadeBetween-step window x state given books new are same =
-    MadeBetween-grown state state (step window x state) given books new are same (grows_itself state)
+MadeBetween-step window x state given core new are same =
+    MadeBetween-grown state state (step window x state) given core new are same (grows_itself state)
     (grows_step window x state)
 
 -- and from an earlier state on
-pub MadeBetween-earlier : (earlier before after : State) (given : Given) (books : Books)
-    → Grows earlier before → MadeBetween before after given books → MadeBetween earlier after given books
-MadeBetween-earlier earlier before after given books more made = record {
+pub MadeBetween-earlier : (earlier before after : State) (given : Given) (core : CoreState)
+    → Grows earlier before → MadeBetween before after given core → MadeBetween earlier after given core
+MadeBetween-earlier earlier before after given core more made = record {
   all_before = λ p inside.
-      begins_then (answers_to p earlier.answered) (answers_to p before.answered) (made_to p given books)
+      begins_then (answers_to p earlier.answered) (answers_to p before.answered) (made_to p given core)
       (begins_answers_to p earlier.answered before.answered more.answered) (made.all_before p inside);
   no_others = made.no_others;
 }

@@ -7,21 +7,21 @@ use Rattle.keyspace.specs.declared.answer.Answer.{Answer}
 use Rattle.keyspace.specs.Run.{State, Step, run, leave, admit, answers_to}
 use Rattle.resolver.specs.declared.stop.Stop.{Stop}
 use Rattle.resolver.specs.Owed.{owed_to}
-use Rattle.resolver.specs.Books.{Books, Given, IsBeginning, AreOf, MadeBetween, StopsIn, StopsAtLimit}
-use Rattle.resolver.specs.Stands.{CoreState, StandsBy, Stands}
+use Rattle.resolver.specs.Core.{CoreState, Given, IsBeginning, IsIn, MadeBetween, StopsIn, StopsAtLimit}
+use Rattle.resolver.specs.Stands.{StandsBy, Stands}
 use Rattle.resolver.specs.Lanes.{Lanes, sent_to}
-use Rattle.resolver.specs.Links.{LinkView, lanes_of, owed_with}
-use Rattle.resolver.proofs.Linked.{field_at, lanes_at, owed_with-at, owed_with-length, field_same}
+use Rattle.resolver.specs.Parts.{ProxyLanesView, lanes_of, owed_with}
+use Rattle.resolver.proofs.AtIndex.{field_at, lanes_at, owed_with-at, owed_with-length, field_same}
 
-module _ (given given_after : Given) (old : Books) (owed : List (List Answer))
+module _ (given given_after : Given) (old : CoreState) (owed : List (List Answer))
     (many : length owed ≡ length old.owed)
     (made : (p : ℕ) → p < length old.owed
     → given_after p ++ owed_to p owed ≡ given p ++ owed_to p old.owed) where
-  abbrev moved : Books
+  abbrev moved : CoreState
   moved = record old { owed = owed }
 
-  pub AreOf-moved : (state : State) → AreOf state given old → AreOf state given_after moved
-  AreOf-moved state are = record {
+  pub IsIn-moved : (state : State) → IsIn state given old → IsIn state given_after moved
+  IsIn-moved state are = record {
     version = are.version;
     held = are.held;
     kept = are.kept;
@@ -46,7 +46,7 @@ module _ (given given_after : Given) (old : Books) (owed : List (List Answer))
   -- the same log is stood for
   pub StandsBy-moved : (stop : Option Stop) (log : List Step) → StandsBy stop log given old
       → StandsBy stop log given_after moved
-  StandsBy-moved None log are = AreOf-moved (run old.set.window log) are
+  StandsBy-moved None log are = IsIn-moved (run old.set.window log) are
   StandsBy-moved (Some stop) log s = record {
     before = s.before;
     last = s.last;
@@ -82,51 +82,51 @@ module _ (given given_after : Given) (old : Books) (owed : List (List Answer))
         }
       ]
 
--- what was sent over a link, and what waits there
-abbrev pub handed : LinkView → List Answer
+-- what was sent over a pair of lanes, and what waits there
+abbrev pub handed : ProxyLanesView → List Answer
 handed l = l.lanes.replies.sent ++ option_to_list l.waiting
 
 -- and to each proxy
-abbrev pub handed_to : List LinkView → Given
-handed_to links p = slice_index_or (map handed links) p []
+abbrev pub handed_to : List ProxyLanesView → Given
+handed_to all_lanes p = slice_index_or (map handed all_lanes) p []
 
 -- what waits counts as owed, or as given
-pub made_handed : (links : List LinkView) (owed : List (List Answer)) → length links ≡ length owed
+pub made_handed : (all_lanes : List ProxyLanesView) (owed : List (List Answer)) → length all_lanes ≡ length owed
     → (p : ℕ) → p < length owed
-    → sent_to (lanes_of links) p ++ owed_to p (owed_with links owed) ≡ handed_to links p ++ owed_to p owed
-made_handed links owed same p inside =
-    elim (slice_get_cases links p).1 [
+    → sent_to (lanes_of all_lanes) p ++ owed_to p (owed_with all_lanes owed) ≡ handed_to all_lanes p ++ owed_to p owed
+made_handed all_lanes owed same p inside =
+    elim (slice_get_cases all_lanes p).1 [
       | inl k ↦
-          ap (λ xs. xs ++ owed_to p (owed_with links owed))
-          (field_at (λ (l : Lanes). l.replies.sent) (lanes_of links) p k.0.lanes (lanes_at links p k.0 k.2))
-          ∙ ap (λ xs. k.0.lanes.replies.sent ++ xs) (owed_with-at links owed p k.0 k.2 inside)
+          ap (λ xs. xs ++ owed_to p (owed_with all_lanes owed))
+          (field_at (λ (l : Lanes). l.replies.sent) (lanes_of all_lanes) p k.0.lanes (lanes_at all_lanes p k.0 k.2))
+          ∙ ap (λ xs. k.0.lanes.replies.sent ++ xs) (owed_with-at all_lanes owed p k.0 k.2 inside)
           ∙ sym (append_assoc k.0.lanes.replies.sent (option_to_list k.0.waiting) (owed_to p owed))
-          ∙ ap (λ xs. xs ++ owed_to p owed) (sym (field_at handed links p k.0 k.2))
+          ∙ ap (λ xs. xs ++ owed_to p owed) (sym (field_at handed all_lanes p k.0 k.2))
       | inr past ↦ absurd (omega (arith, same, inside, past.0))
     ]
 
-module _ (core : CoreState) (links : List LinkView) (same : length links ≡ length core.books.owed) where
+module _ (core : CoreState) (all_lanes : List ProxyLanesView) (same : length all_lanes ≡ length core.owed) where
   -- the core with what waits owed
   abbrev pub core_with : CoreState
-  core_with = record core { books = record core.books { owed = owed_with links core.books.owed } }
+  core_with = record core { owed = owed_with all_lanes core.owed }
 
   -- a resolver stands for a log where its core does
-  pub stands_with : (log : List Step) → Stands core log (handed_to links)
-      → Stands core_with log (sent_to (lanes_of links))
+  pub stands_with : (log : List Step) → Stands core log (handed_to all_lanes)
+      → Stands core_with log (sent_to (lanes_of all_lanes))
   stands_with log =
-      StandsBy-moved (handed_to links) (sent_to (lanes_of links)) core.books (owed_with links core.books.owed)
-      (owed_with-length links core.books.owed) (made_handed links core.books.owed same) core.stop log
+      StandsBy-moved (handed_to all_lanes) (sent_to (lanes_of all_lanes)) core (owed_with all_lanes core.owed)
+      (owed_with-length all_lanes core.owed) (made_handed all_lanes core.owed same) core.stop log
 
-  pub stands_without : (log : List Step) → Stands core_with log (sent_to (lanes_of links))
-      → Stands core log (handed_to links)
+  pub stands_without : (log : List Step) → Stands core_with log (sent_to (lanes_of all_lanes))
+      → Stands core log (handed_to all_lanes)
   stands_without log =
-      StandsBy-moved (sent_to (lanes_of links)) (handed_to links) core_with.books core.books.owed
-      (sym (owed_with-length links core.books.owed))
-      (λ p inside. sym (made_handed links core.books.owed same p
-      (omega (arith, inside, owed_with-length links core.books.owed)))) core.stop log
+      StandsBy-moved (sent_to (lanes_of all_lanes)) (handed_to all_lanes) core_with core.owed
+      (sym (owed_with-length all_lanes core.owed))
+      (λ p inside. sym (made_handed all_lanes core.owed same p
+      (omega (arith, inside, owed_with-length all_lanes core.owed)))) core.stop log
 
--- what was handed over links with the same replies is the same
-pub handed_same : (old new : List LinkView) → length new ≡ length old
-    → ((p : ℕ) (k n : LinkView) → slice_get old p ≡ Some k → slice_get new p ≡ Some n → handed n ≡ handed k)
+-- what was handed over pairs of lanes with the same replies is the same
+pub handed_same : (old new : List ProxyLanesView) → length new ≡ length old
+    → ((p : ℕ) (k n : ProxyLanesView) → slice_get old p ≡ Some k → slice_get new p ≡ Some n → handed n ≡ handed k)
     → (p : ℕ) → handed_to new p ≡ handed_to old p
 handed_same old new many each = field_same handed old new many each

@@ -1,4 +1,4 @@
--- Answers were handed out over the links of a resolver.
+-- Answers were handed out over the pairs of lanes of a resolver.
 use Rattle.std.proofs.Common.{◌≡◌, ◌≢◌, ℕ, zero, suc, ◌<◌, ◌≤◌, Bool, true, List, [], ◌∷◌, ◌++◌, length, Some, sym, ap, subst, ◌∙◌, refl, inl, inr, arith}
 use Rattle.std.specs.Prelude.{◌⊎◌, option_to_list, slice_get}
 use Rattle.std.specs.List.{list_all}
@@ -9,12 +9,11 @@ use Rattle.keyspace.specs.declared.answer.Answer.{Answer}
 use Rattle.keyspace.specs.Run.{Step}
 use Rattle.lane.specs.Lane.{PortGoesOn, HasEnded}
 use Rattle.resolver.specs.Owed.{owed_to, owed_count}
-use Rattle.resolver.specs.Books.{made_to}
-use Rattle.resolver.specs.Stands.{CoreState}
+use Rattle.resolver.specs.Core.{CoreState, made_to}
 use Rattle.resolver.specs.Lanes.{Lanes, Each, sent_to, all_ended, IsFull}
 use Rattle.resolver.specs.Resolver.{ResolverState, StandsOver, SameBut, IsThrough}
-use Rattle.resolver.specs.Links.{LinkView, Parts, AreParts, EachLink, HandsOut, OwesOnly, lanes_of, owed_with, made_over, resolver_of}
-use Rattle.resolver.proofs.Linked.{field_at, field_past, field_same, lanes_at, both_at, each_lanes, owed_with-at, owed_with-length}
+use Rattle.resolver.specs.Parts.{ProxyLanesView, Parts, AreParts, EachProxy, HandsOut, OwesOnly, lanes_of, owed_with, made_over, resolver_of}
+use Rattle.resolver.proofs.AtIndex.{field_at, field_past, field_same, lanes_at, both_at, each_lanes, owed_with-at, owed_with-length}
 use Rattle.resolver.proofs.Handed.{StandsBy-moved}
 use Rattle.resolver.proofs.Logged.{stands_same, was_closed}
 
@@ -48,25 +47,25 @@ owed_to-none (answers ∷ owed) zero none =
 owed_to-none (answers ∷ owed) (suc p) none =
     owed_to-none owed p (omega (arith, none, sum_by-cons length answers owed))
 
--- the answers made to the proxy of a link
-made_at : (links : List LinkView) (owed : List (List Answer)) (p : ℕ) (k : LinkView) → slice_get links p ≡ Some k
+-- the answers made to the proxy of a pair of lanes
+made_at : (all_lanes : List ProxyLanesView) (owed : List (List Answer)) (p : ℕ) (k : ProxyLanesView) → slice_get all_lanes p ≡ Some k
     → p < length owed
-    → sent_to (lanes_of links) p ++ owed_to p (owed_with links owed) ≡ made_over k (owed_to p owed)
-made_at links owed p k at inside =
-    ap (λ xs. xs ++ owed_to p (owed_with links owed))
-    (field_at (λ (l : Lanes). l.replies.sent) (lanes_of links) p k.lanes (lanes_at links p k at))
-    ∙ ap (λ xs. k.lanes.replies.sent ++ xs) (owed_with-at links owed p k at inside)
+    → sent_to (lanes_of all_lanes) p ++ owed_to p (owed_with all_lanes owed) ≡ made_over k (owed_to p owed)
+made_at all_lanes owed p k at inside =
+    ap (λ xs. xs ++ owed_to p (owed_with all_lanes owed))
+    (field_at (λ (l : Lanes). l.replies.sent) (lanes_of all_lanes) p k.lanes (lanes_at all_lanes p k at))
+    ∙ ap (λ xs. k.lanes.replies.sent ++ xs) (owed_with-at all_lanes owed p k at inside)
 
-made_past : (links : List LinkView) (owed : List (List Answer)) (p : ℕ) → length links ≤ p → length owed ≤ p
-    → sent_to (lanes_of links) p ++ owed_to p (owed_with links owed) ≡ []
-made_past links owed p past_links past_owed =
-    ap (λ xs. xs ++ owed_to p (owed_with links owed))
-    (field_past (λ (l : Lanes). l.replies.sent) (lanes_of links) p
-    (omega (arith, past_links, length-map links (λ l. l.lanes))))
-    ∙ get_or_past (owed_with links owed) p [] (omega (arith, past_owed, owed_with-length links owed))
+made_past : (all_lanes : List ProxyLanesView) (owed : List (List Answer)) (p : ℕ) → length all_lanes ≤ p → length owed ≤ p
+    → sent_to (lanes_of all_lanes) p ++ owed_to p (owed_with all_lanes owed) ≡ []
+made_past all_lanes owed p past_all_lanes past_owed =
+    ap (λ xs. xs ++ owed_to p (owed_with all_lanes owed))
+    (field_past (λ (l : Lanes). l.replies.sent) (lanes_of all_lanes) p
+    (omega (arith, past_all_lanes, length-map all_lanes (λ l. l.lanes))))
+    ∙ get_or_past (owed_with all_lanes owed) p [] (omega (arith, past_owed, owed_with-length all_lanes owed))
 
 -- what is owed no more than before, where a beginning of what is sent was
-owed_less : (l m : LinkView) (before after : List Answer) → HandsOut l m before after
+owed_less : (l m : ProxyLanesView) (before after : List Answer) → HandsOut l m before after
     → length (option_to_list m.waiting ++ after) ≤ length (option_to_list l.waiting ++ before)
 owed_less l m before after h =
     omega (
@@ -78,36 +77,36 @@ owed_less l m before after h =
       length-append m.lanes.replies.sent (option_to_list m.waiting ++ after),
     )
 
-module _ (before after : List (List Answer)) (links now : List LinkView) (many : length after ≡ length before)
-    (count : length links ≡ length before)
-    (each : EachLink (λ p l m. HandsOut l m (owed_to p before) (owed_to p after)) links now) where
+module _ (before after : List (List Answer)) (all_lanes now : List ProxyLanesView) (many : length after ≡ length before)
+    (count : length all_lanes ≡ length before)
+    (each : EachProxy (λ p l m. HandsOut l m (owed_to p before) (owed_to p after)) all_lanes now) where
   -- the same answers were made
   made_same : (p : ℕ) → sent_to (lanes_of now) p ++ owed_to p (owed_with now after)
-      ≡ sent_to (lanes_of links) p ++ owed_to p (owed_with links before)
+      ≡ sent_to (lanes_of all_lanes) p ++ owed_to p (owed_with all_lanes before)
   made_same p =
-      elim (both_at links now each.count p) [
+      elim (both_at all_lanes now each.count p) [
         | inl both ↦
-            let inside : p < length before = omega (arith, slice_get_within links p both.0 both.2, count) in
+            let inside : p < length before = omega (arith, slice_get_within all_lanes p both.0 both.2, count) in
             made_at now after p both.1 both.3 (omega (arith, inside, many))
-            ∙ (each.each p both.0 both.1 both.2 both.3).made ∙ sym (made_at links before p both.0 both.2 inside)
+            ∙ (each.each p both.0 both.1 both.2 both.3).made ∙ sym (made_at all_lanes before p both.0 both.2 inside)
         | inr past ↦
             made_past now after p past.1 (omega (arith, past.0, count, many))
-            ∙ sym (made_past links before p past.0 (omega (arith, past.0, count)))
+            ∙ sym (made_past all_lanes before p past.0 (omega (arith, past.0, count)))
       ]
 
   -- and no more is owed
-  owed_fewer : (p : ℕ) → length (owed_to p (owed_with now after)) ≤ length (owed_to p (owed_with links before))
+  owed_fewer : (p : ℕ) → length (owed_to p (owed_with now after)) ≤ length (owed_to p (owed_with all_lanes before))
   owed_fewer p =
-      elim (both_at links now each.count p) [
+      elim (both_at all_lanes now each.count p) [
         | inl both ↦
-            let inside : p < length before = omega (arith, slice_get_within links p both.0 both.2, count) in
+            let inside : p < length before = omega (arith, slice_get_within all_lanes p both.0 both.2, count) in
             let less = owed_less both.0 both.1 (owed_to p before) (owed_to p after)
             (each.each p both.0 both.1 both.2 both.3) in
             omega (
               arith,
               less,
               ap length (owed_with-at now after p both.1 both.3 (omega (arith, inside, many))),
-              ap length (owed_with-at links before p both.0 both.2 inside),
+              ap length (owed_with-at all_lanes before p both.0 both.2 inside),
             )
         | inr past ↦
             omega (
@@ -117,36 +116,36 @@ module _ (before after : List (List Answer)) (links now : List LinkView) (many :
             )
       ]
 
-  count_fewer : owed_count (owed_with now after) ≤ owed_count (owed_with links before)
+  count_fewer : owed_count (owed_with now after) ≤ owed_count (owed_with all_lanes before)
   count_fewer =
-      owed_count-le (owed_with links before) (owed_with now after)
-      (owed_with-length now after ∙ many ∙ sym (owed_with-length links before)) owed_fewer
+      owed_count-le (owed_with all_lanes before) (owed_with now after)
+      (owed_with-length now after ∙ many ∙ sym (owed_with-length all_lanes before)) owed_fewer
 
 -- what a handing out ensures of a resolver
 abbrev pub HandedOver : ResolverState → ResolverState → Type 0
 HandedOver old new = record {
   stands : (log : List Step) → StandsOver old log → StandsOver new log;
-  made : (p : ℕ) → made_to p (sent_to new.lanes) new.core.books ≡ made_to p (sent_to old.lanes) old.core.books;
-  owed : Each (λ p l m. owed_to p new.core.books.owed ≢ [] → IsFull l m) old.lanes new.lanes;
+  made : (p : ℕ) → made_to p (sent_to new.lanes) new.core ≡ made_to p (sent_to old.lanes) old.core;
+  owed : Each (λ p l m. owed_to p new.core.owed ≢ [] → IsFull l m) old.lanes new.lanes;
   lanes : Each (λ _ l m. (m ≡ record l { replies = m.replies }) × PortGoesOn l.replies m.replies) old.lanes new.lanes;
   same : SameBut old new;
 }
 
--- the parts of a resolver, the core that has handed out, and what the links have become
+-- the parts of a resolver, the core that has handed out, and what the pairs of lanes have become
 module _ (parts : Parts) (are : AreParts parts) (core : CoreState) (only : OwesOnly parts.core core)
-    (now : List LinkView)
-    (each : EachLink (λ p l m. HandsOut l m (owed_to p parts.core.books.owed) (owed_to p core.books.owed))
-    parts.links now) where
+    (now : List ProxyLanesView)
+    (each : EachProxy (λ p l m. HandsOut l m (owed_to p parts.core.owed) (owed_to p core.owed))
+    parts.all_lanes now) where
   abbrev before : List (List Answer)
-  before = owed_with parts.links parts.core.books.owed
+  before = owed_with parts.all_lanes parts.core.owed
 
   abbrev after : List (List Answer)
-  after = owed_with now core.books.owed
+  after = owed_with now core.owed
 
   abbrev handed_parts : Parts
   handed_parts = record parts {
-    core = record parts.core { books = record parts.core.books { owed = core.books.owed } };
-    links = now;
+    core = record parts.core { owed = core.owed };
+    all_lanes = now;
   }
 
   -- what is known of each lane
@@ -157,13 +156,13 @@ module _ (parts : Parts) (are : AreParts parts) (core : CoreState) (only : OwesO
       × (m.replies.closed ≡ l.replies.closed)
       × (owed_to p after ≢ [] → (m.replies.closed ≡ true) ⊎ IsFull l m)
 
-  each_lane : Each LaneHanded (lanes_of parts.links) (lanes_of now)
+  each_lane : Each LaneHanded (lanes_of parts.all_lanes) (lanes_of now)
   each_lane =
-      each_lanes (λ p l m. HandsOut l m (owed_to p parts.core.books.owed) (owed_to p core.books.owed)) LaneHanded
-      parts.links now
+      each_lanes (λ p l m. HandsOut l m (owed_to p parts.core.owed) (owed_to p core.owed)) LaneHanded
+      parts.all_lanes now
       (λ p k n at_old at_new h.
-      let owed_is = owed_with-at now core.books.owed p n at_new
-      (omega (arith, slice_get_within parts.links p k at_old, are.count, only.count)) in (
+      let owed_is = owed_with-at now core.owed p n at_new
+      (omega (arith, slice_get_within parts.all_lanes p k at_old, are.count, only.count)) in (
         ap (λ x. record n.lanes { requests = x }) h.requests
             ∙ ap (λ x. record n.lanes { requests = k.lanes.requests; ended = x }) h.ended,
         h.replies,
@@ -171,16 +170,16 @@ module _ (parts : Parts) (are : AreParts parts) (core : CoreState) (only : OwesO
         λ some. h.full (λ none. some (owed_is ∙ none)),
       )) each
 
-  ended_same : all_ended (lanes_of now) ≡ all_ended (lanes_of parts.links)
+  ended_same : all_ended (lanes_of now) ≡ all_ended (lanes_of parts.all_lanes)
   ended_same =
-      list_all-same (λ l. l.ended) (lanes_of parts.links) (lanes_of now) each_lane.count
+      list_all-same (λ l. l.ended) (lanes_of parts.all_lanes) (lanes_of now) each_lane.count
       (λ p l m at_old at_new. ap (λ (x : Lanes). x.ended) (each_lane.each p l m at_old at_new).0)
 
   -- the lane before
   lane_before : (p : ℕ) (m : Lanes) → slice_get (lanes_of now) p ≡ Some m
-      → (l : Lanes) × (slice_get (lanes_of parts.links) p ≡ Some l) × LaneHanded p l m
+      → (l : Lanes) × (slice_get (lanes_of parts.all_lanes) p ≡ Some l) × LaneHanded p l m
   lane_before p m at =
-      elim (both_at (lanes_of parts.links) (lanes_of now) each_lane.count p) [
+      elim (both_at (lanes_of parts.all_lanes) (lanes_of now) each_lane.count p) [
         | inl both ↦ (both.0, both.2, each_lane.each p both.0 m both.2 at)
         | inr past ↦ absurd (none-some m (sym (slice_get_past (lanes_of now) p past.1) ∙ at))
       ]
@@ -188,7 +187,7 @@ module _ (parts : Parts) (are : AreParts parts) (core : CoreState) (only : OwesO
   through : parts.closed ≡ true → IsThrough (resolver_of handed_parts)
   through closed =
       let was = are.through closed in
-      let fewer = count_fewer parts.core.books.owed core.books.owed parts.links now only.count are.count each in
+      let fewer = count_fewer parts.core.owed core.owed parts.all_lanes now only.count are.count each in
       record {
         nothing_owed = omega (arith, was.nothing_owed, fewer);
         no_more = elim was.no_more [
@@ -216,10 +215,10 @@ module _ (parts : Parts) (are : AreParts parts) (core : CoreState) (only : OwesO
 
   same_count : length after ≡ length before
   same_count =
-      owed_with-length now core.books.owed ∙ only.count ∙ sym (owed_with-length parts.links parts.core.books.owed)
+      owed_with-length now core.owed ∙ only.count ∙ sym (owed_with-length parts.all_lanes parts.core.owed)
 
-  made_alike : (p : ℕ) → sent_to (lanes_of now) p ++ owed_to p after ≡ sent_to (lanes_of parts.links) p ++ owed_to p before
-  made_alike = made_same parts.core.books.owed core.books.owed parts.links now only.count are.count each
+  made_alike : (p : ℕ) → sent_to (lanes_of now) p ++ owed_to p after ≡ sent_to (lanes_of parts.all_lanes) p ++ owed_to p before
+  made_alike = made_same parts.core.owed core.owed parts.all_lanes now only.count are.count each
 
   stands_after : (log : List Step) → StandsOver (resolver_of parts) log → StandsOver (resolver_of handed_parts) log
   stands_after log stands =
@@ -230,7 +229,7 @@ module _ (parts : Parts) (are : AreParts parts) (core : CoreState) (only : OwesO
       let closed_same = λ (p : ℕ) (l m : Lanes) (at_old : slice_get old.lanes p ≡ Some l)
       (at_new : slice_get new.lanes p ≡ Some m). (each_lane.each p l m at_old at_new).2 in
       stands_same old new log refl ended_same none_taken stands
-      (StandsBy-moved (sent_to old.lanes) (sent_to new.lanes) old.core.books after same_count
+      (StandsBy-moved (sent_to old.lanes) (sent_to new.lanes) old.core after same_count
       (λ p _. made_alike p) old.core.stop log stands.core)
       (λ running p m at closed.
       ended_same ∙ was_closed old new log each_lane.count closed_same running stands p m at closed)
@@ -255,20 +254,20 @@ module _ (parts : Parts) (are : AreParts parts) (core : CoreState) (only : OwesO
           let e = each_lane.each p l m at_old at_new in
           (e.0, e.1);
     };
-    same = record { stop = refl; books = refl; proxies = same_count; next = refl };
+    same = record { stop = refl; core = refl; proxies = same_count; next = refl };
   }
 
 -- as the resolver is read after the calls
-module _ {parts : Parts} {core : CoreState} {old : ResolverState} {seen now links : List LinkView} where
-  pub handed : AreParts parts → resolver_of parts ≡ old → OwesOnly parts.core core → seen ≡ parts.links
-      → EachLink (λ p l m. HandsOut l m (owed_to p parts.core.books.owed) (owed_to p core.books.owed)) seen now
-      → links ≡ now
-      → AreParts (record parts { core = core; links = links })
-      × HandedOver old (resolver_of (record parts { core = core; links = links }))
-  handed are was only seen_is each links_are =
-      let each_of = subst (λ ls. EachLink (λ p l m. HandsOut l m (owed_to p parts.core.books.owed) (owed_to p core.books.owed)) ls now) seen_is each in
-      subst (λ ls. AreParts (record parts { core = core; links = ls })
-      × HandedOver old (resolver_of (record parts { core = core; links = ls }))) (sym links_are)
-      (subst (λ k. AreParts (record parts { core = k; links = now })
-      × HandedOver old (resolver_of (record parts { core = k; links = now }))) (sym only.same)
+module _ {parts : Parts} {core : CoreState} {old : ResolverState} {seen now all_lanes : List ProxyLanesView} where
+  pub handed : AreParts parts → resolver_of parts ≡ old → OwesOnly parts.core core → seen ≡ parts.all_lanes
+      → EachProxy (λ p l m. HandsOut l m (owed_to p parts.core.owed) (owed_to p core.owed)) seen now
+      → all_lanes ≡ now
+      → AreParts (record parts { core = core; all_lanes = all_lanes })
+      × HandedOver old (resolver_of (record parts { core = core; all_lanes = all_lanes }))
+  handed are was only seen_is each all_lanes_are =
+      let each_of = subst (λ ls. EachProxy (λ p l m. HandsOut l m (owed_to p parts.core.owed) (owed_to p core.owed)) ls now) seen_is each in
+      subst (λ ls. AreParts (record parts { core = core; all_lanes = ls })
+      × HandedOver old (resolver_of (record parts { core = core; all_lanes = ls }))) (sym all_lanes_are)
+      (subst (λ k. AreParts (record parts { core = k; all_lanes = now })
+      × HandedOver old (resolver_of (record parts { core = k; all_lanes = now }))) (sym only.same)
       (parts_after parts are core only now each_of, subst (λ r. HandedOver r (resolver_of (handed_parts parts are core only now each_of))) was (handed_over parts are core only now each_of)))

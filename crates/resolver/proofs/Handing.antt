@@ -3,14 +3,13 @@ use Rattle.std.proofs.Common.{◌≡◌, ◌≢◌, ℕ, ◌<◌, ◌≤◌, ◌
 use Rattle.std.specs.Prelude.{option_to_list}
 use Rattle.keyspace.specs.declared.answer.Answer.{Answer}
 use Rattle.lane.specs.Lane.{PortGoesOn}
-use Rattle.resolver.specs.Books.{IsBeginning}
+use Rattle.resolver.specs.Core.{CoreState, IsBeginning}
 use Rattle.resolver.specs.Owed.{owed_to}
-use Rattle.resolver.specs.Stands.{CoreState}
-use Rattle.resolver.specs.Links.{LinkView, EachLink, HandsOut, OwesOnly, made_over}
-use Rattle.resolver.proofs.Each.{PerLink, EachLink-set}
+use Rattle.resolver.specs.Parts.{ProxyLanesView, EachProxy, HandsOut, OwesOnly, made_over}
+use Rattle.resolver.proofs.Each.{PerProxy, EachProxy-set}
 
 -- answers were handed out so far, whether or not the lane is full
-pub record HandsOn (old now : LinkView) (owed_before owed_now : List Answer) : Type 0 where
+pub record HandsOn (old now : ProxyLanesView) (owed_before owed_now : List Answer) : Type 0 where
   pub made : made_over now owed_now ≡ made_over old owed_before
   pub sent : IsBeginning old.lanes.replies.sent now.lanes.replies.sent
   pub requests : now.lanes.requests ≡ old.lanes.requests
@@ -19,7 +18,7 @@ pub record HandsOn (old now : LinkView) (owed_before owed_now : List Answer) : T
   pub closed : now.lanes.replies.closed ≡ old.lanes.replies.closed
 
 -- and now nothing is left
-pub HandsOut-all : (old now new : LinkView) (before owed left : List Answer) → HandsOn old now before owed
+pub HandsOut-all : (old now new : ProxyLanesView) (before owed left : List Answer) → HandsOn old now before owed
     → option_to_list now.waiting ++ owed ≡ left → new ≡ record now { waiting = None } → left ≡ []
     → HandsOut old new before left
 HandsOut-all old now new before owed left on next is none = record {
@@ -32,19 +31,19 @@ HandsOut-all old now new before owed left on next is none = record {
   closed = ap (λ k. k.lanes.replies.closed) is ∙ on.closed;
 }
 
--- the links before this one have handed out, and the others are as they were
-abbrev pub HandedBelow : ℕ → List (List Answer) → List (List Answer) → PerLink
+-- the pairs of lanes before this one have handed out, and the others are as they were
+abbrev pub HandedBelow : ℕ → List (List Answer) → List (List Answer) → PerProxy
 HandedBelow i before after q old now =
     (q < i → HandsOut old now (owed_to q before) (owed_to q after)) × (i ≤ q → now ≡ old)
 
--- this link hands out too
-pub EachLink-handed : {old now : List LinkView} (i : ℕ) (x d : LinkView) (before mid after : List (List Answer))
+-- this pair of lanes hands out too
+pub EachProxy-handed : {old now : List ProxyLanesView} (i : ℕ) (x d : ProxyLanesView) (before mid after : List (List Answer))
     → i < length now → ((q : ℕ) → i ≤ q → owed_to q mid ≡ owed_to q before)
     → ((q : ℕ) → q ≢ i → owed_to q after ≡ owed_to q mid)
-    → HandsOut (get_or now i d) x (owed_to i mid) (owed_to i after) → EachLink (HandedBelow i before mid) old now
-    → EachLink (HandedBelow (i + 1) before after) old (set now i x)
-EachLink-handed {old} {now} i x d before mid after inside unchanged others hands_out =
-    EachLink-set (HandedBelow i before mid) (HandedBelow (i + 1) before after) i x d inside
+    → HandsOut (get_or now i d) x (owed_to i mid) (owed_to i after) → EachProxy (HandedBelow i before mid) old now
+    → EachProxy (HandedBelow (i + 1) before after) old (set now i x)
+EachProxy-handed {old} {now} i x d before mid after inside unchanged others hands_out =
+    EachProxy-set (HandedBelow i before mid) (HandedBelow (i + 1) before after) i x d inside
     (λ l handed. (
       λ _.
           subst (λ k. HandsOut k x (owed_to i before) (owed_to i after)) (handed.1 (omega arith))
@@ -61,5 +60,5 @@ EachLink-handed {old} {now} i x d before mid after inside unchanged others hands
 pub OwesOnly-then : {old mid now : CoreState} → OwesOnly old mid → OwesOnly mid now → OwesOnly old now
 OwesOnly-then {old} {mid} {now} e f = record {
   count = f.count ∙ e.count;
-  same = f.same ∙ ap (λ (k : CoreState). record k { books = record k.books { owed = now.books.owed } }) e.same;
+  same = f.same ∙ ap (λ (k : CoreState). record k { owed = now.owed }) e.same;
 }

@@ -34,7 +34,7 @@ use Rattle.std.proofs.lemmas.List.Folds.{list_any-append}
 use Rattle.keyspace.specs.declared.reply.Reply.{Reply}
 use Rattle.keyspace.specs.Processed.{Processed}
 use Rattle.keyspace.specs.Found.{is_received, kept}
-use Rattle.resolver.specs.Books.{kept_also}
+use Rattle.resolver.specs.Core.{kept_also}
 
 -- the first, or else the second
 abbrev or_else : Option Reply → Option Reply → Option Reply

@@ -9,7 +9,7 @@ pub mod Processing
 pub mod Releasing
 pub mod Finishing
 pub mod Standing
-pub mod Linked
+pub mod AtIndex
 pub mod Handed
 pub mod Logged
 pub mod OnlyFrom
@@ -21,10 +21,10 @@ pub mod Each
 pub mod Finding
 pub mod Handing
 pub mod Stepping
-pub mod NewLinks
+pub mod NewLanes
 pub mod Connected
 pub mod Settling
 pub mod Unchanged
 pub mod Accounts
 pub mod Shares
-pub mod NewBooks
+pub mod NewCore

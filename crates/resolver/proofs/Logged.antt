@@ -8,7 +8,7 @@ use Rattle.keyspace.specs.Run.{Step, Take, Finish, part}
 use Rattle.resolver.specs.Stands.{Stands}
 use Rattle.resolver.specs.Lanes.{Lanes, sent_to, all_ended, TakesOne, TakesNone}
 use Rattle.resolver.specs.Resolver.{ResolverState, HasNoFinish, FinishesBy, StandsOver}
-use Rattle.resolver.proofs.Linked.{both_at}
+use Rattle.resolver.proofs.AtIndex.{both_at}
 
 -- the part of a proxy, once one batch more was taken
 pub part-taken : (log : List Step) (proxy : ℕ) (batch : Batch) (other : ℕ)

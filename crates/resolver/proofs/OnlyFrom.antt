@@ -4,7 +4,7 @@ use Rattle.std.proofs.lemmas.Bool.{cases_lt, ne_eqb, eq-eqb}
 use Rattle.keyspace.specs.declared.batch.Batch.{Batch}
 use Rattle.keyspace.specs.Run.{Step, Take, Finish, part}
 use Rattle.resolver.specs.Resolver.{ResolverState, TakesOnlyFrom, StandsOver}
-use Rattle.resolver.proofs.Linked.{field_past}
+use Rattle.resolver.proofs.AtIndex.{field_past}
 
 -- the part of a proxy, by whether the first batch is its own
 part_first : (log : List Step) (p : ℕ) (batch : Batch) (proxy : ℕ) (own : Bool) → (p == proxy) ≡ own

@@ -1,4 +1,4 @@
--- The books after one more batch is processed.
+-- The core after one more batch is processed.
 use Rattle.std.proofs.Common.{
   ◌≡◌,
   ℕ,
@@ -30,12 +30,12 @@ use Rattle.keyspace.proofs.callers.Chains.{version_of-more, writes-more}
 use Rattle.chain.specs.Replies.{reply_of}
 use Rattle.conflict.specs.ConflictSet.{Remembers, IsOverLimit}
 use Rattle.resolver.specs.Owed.{owed_also}
-use Rattle.resolver.specs.Books.{Books, Given, AreOf, AreBooks, kept_also}
+use Rattle.resolver.specs.Core.{CoreState, Given, IsIn, IsCore, kept_also}
 use Rattle.resolver.proofs.Answered.{made_also}
 use Rattle.resolver.proofs.Kept.{kept_more, none_kept}
 
--- what the books are after a batch is processed and its reply is kept
-pub record Processes (old : Books) (proxy : ℕ) (batch : Batch) (reply : Reply) (new : Books) : Type 0 where
+-- what the core is after a batch is processed and its reply is kept
+pub record Processes (old : CoreState) (proxy : ℕ) (batch : Batch) (reply : Reply) (new : CoreState) : Type 0 where
   pub version : new.version ≡ batch.version
   pub held : new.held ≡ old.held
   pub kept : (p : ℕ) (v : ℤ) → reply_of new.kept p v
@@ -43,19 +43,20 @@ pub record Processes (old : Books) (proxy : ℕ) (batch : Batch) (reply : Reply)
   pub owed : new.owed ≡ owed_also proxy (told.Reply reply) old.owed
 
 -- no reply is kept of a version to come
-pub absent_later : (books : Books) (proxy : ℕ) (version : ℤ) → AreBooks books → books.version <ℤ version
-    → reply_of books.kept proxy version ≡ None
-absent_later books proxy version are later =
-    none_kept (reply_of books.kept proxy version)
+pub absent_later : (core : CoreState) (proxy : ℕ) (version : ℤ) → IsCore core → core.version <ℤ version
+    → reply_of core.kept proxy version ≡ None
+absent_later core proxy version are later =
+    none_kept (reply_of core.kept proxy version)
     (λ reply is. let past = are.past proxy version reply is in omega (arith, ints))
 
--- The books are in order with a later version, which the conflict set has reached, and with replies up to it.
-pub AreBooks-later : (old new : Books) → AreBooks old → new.set.resolved ≡ new.version
+-- The core is in order with a later version, which the conflict set has reached, and with replies up to it.
+pub IsCore-later : (old new : CoreState) → IsCore old → new.set.stop ≡ None → new.set.resolved ≡ new.version
     → ((ws : List Write) × Remembers new.set ws) → new.held ≡ old.held → length new.owed ≡ length old.owed
     → ((proxy : ℕ) (version : ℤ) (reply : Reply) → reply_of new.kept proxy version ≡ Some reply
     → version ≤ℤ new.version)
-    → AreBooks new
-AreBooks-later old new are reached remembers held proxies past = record {
+    → IsCore new
+IsCore-later old new are takes_more reached remembers held proxies past = record {
+  takes_more = λ _. takes_more;
   resolved = λ _. omega (arith, ints, reached);
   remembers = remembers;
   known =
@@ -64,7 +65,7 @@ AreBooks-later old new are reached remembers held proxies past = record {
   past = past;
 }
 
-module _ (state : State) (given : Given) (old new : Books) (proxy : ℕ) (batch : Batch) where
+module _ (state : State) (given : Given) (old new : CoreState) (proxy : ℕ) (batch : Batch) where
   -- the state with a batch processed and answered by this reply
   abbrev processed_by : Reply → State
   processed_by reply =
@@ -73,12 +74,12 @@ module _ (state : State) (given : Given) (old new : Books) (proxy : ℕ) (batch 
         processed = state.processed ++ record { proxy = proxy; batch = batch; reply = reply } ∷ [];
       })
 
-  AreOf-processed_by : (reply : Reply) → AreOf state given old → proxy < length old.owed
+  IsIn-processed_by : (reply : Reply) → IsIn state given old → proxy < length old.owed
       → reply_of old.kept proxy batch.version ≡ None → reply.version ≡ batch.version
       → Remembers new.set (writes state.processed ++ writes_of batch reply)
       → Processes old proxy batch reply new
-      → AreOf (processed_by reply) given new
-  AreOf-processed_by reply are known absent same remembers made =
+      → IsIn (processed_by reply) given new
+  IsIn-processed_by reply are known absent same remembers made =
       let p : Processed = record { proxy = proxy; batch = batch; reply = reply } in
       record {
         version = made.version ∙ sym (version_of-more state.processed p);
@@ -91,14 +92,14 @@ module _ (state : State) (given : Given) (old new : Books) (proxy : ℕ) (batch 
         answers = made_also proxy (told.Reply reply) given state old new.owed known made.owed are.answers;
       }
 
-  pub AreOf-process : (window : ℤ) (reply : Reply) → AreOf state given old → proxy < length old.owed
+  pub IsIn-process : (window : ℤ) (reply : Reply) → IsIn state given old → proxy < length old.owed
       → reply_of old.kept proxy batch.version ≡ None → reply ≡ judge window (writes state.processed) batch
       → Remembers new.set (writes state.processed ++ writes_of batch reply)
       → Processes old proxy batch reply new
-      → AreOf (process window proxy batch state) given new
-  AreOf-process window reply are known absent is remembers made =
-      subst (λ r. AreOf (processed_by r) given new) is
-      (AreOf-processed_by reply are known absent (ap (λ r. r.version) is) remembers made)
+      → IsIn (process window proxy batch state) given new
+  IsIn-process window reply are known absent is remembers made =
+      subst (λ r. IsIn (processed_by r) given new) is
+      (IsIn-processed_by reply are known absent (ap (λ r. r.version) is) remembers made)
 
 -- writes that exceed the limit with those of a batch do so once it is processed
 pub over_processed : (limit : ℕ) (window : ℤ) (state : State) (proxy : ℕ) (batch : Batch)

@@ -28,7 +28,7 @@ use Rattle.keyspace.specs.Processed.{version_of}
 use Rattle.keyspace.specs.Leaving.{Held, next_due}
 use Rattle.keyspace.specs.Laws.{Leaves}
 use Rattle.keyspace.specs.Run.{State, admit, leave, leave_then, leave_all}
-use Rattle.resolver.specs.Books.{Books, Given, AreBooks, AreOf, GoOn, StopsIn, StopsAsTheyLeave}
+use Rattle.resolver.specs.Core.{CoreState, Given, IsCore, IsIn, GoesOn, StopsIn, StopsAsTheyLeave}
 use Rattle.resolver.proofs.Admitting.{admit-held}
 
 -- where none is due, none leaves
@@ -81,24 +81,24 @@ leave_all-next window s h others next due fewer =
     ∙ ap (λ hs. leave (length hs) window (left window s h others)) (sym same)
 
 -- what stays the same over two changes
-pub GoOn-then : (first second third : Books) → GoOn first second → GoOn second third → GoOn first third
-GoOn-then first second third g h = record {
+pub GoesOn-then : (first second third : CoreState) → GoesOn first second → GoesOn second third → GoesOn first third
+GoesOn-then first second third g h = record {
   window = h.window ∙ g.window;
   limit = h.limit ∙ g.limit;
   proxies = h.proxies ∙ g.proxies;
 }
 
--- the books are those of the state after so many of the batches held in this state have left
-pub record Reaches (window : ℤ) (state : State) (given : Given) (books : Books) : Type 0 where
+-- the core is in the state after so many of the batches held in this state have left
+pub record Reaches (window : ℤ) (state : State) (given : Given) (core : CoreState) : Type 0 where
   pub turns : ℕ
-  pub are : AreOf (leave turns window state) given books
+  pub are : IsIn (leave turns window state) given core
   pub same : leave_all window (leave turns window state) ≡ leave_all window state
 
 -- one of the batches held leaves next, and the others stay
-pub record LeavesNext (books : Books) (h : Held) (others : List Held) : Type 0 where
-  pub next : next_due books.version books.held ≡ Some (h, others)
-  pub due : h.1.previous ≤ℤ books.version
-  pub fewer : length books.held ≡ length others + 1
+pub record LeavesNext (core : CoreState) (h : Held) (others : List Held) : Type 0 where
+  pub next : next_due core.version core.held ≡ Some (h, others)
+  pub due : h.1.previous ≤ℤ core.version
+  pub fewer : length core.held ≡ length others + 1
 
 -- what holds of each holds of each but one, and of that one
 pub All-without : {X : Type 0} (P : X → Type 0) (before : List X) (x : X) (after : List X)
@@ -114,26 +114,27 @@ All-leaves P version held h others l all =
     let both = All-without P l.before h l.after (subst (All P) l.held_is all) in
     (both.0, subst (All P) (sym l.others_are) both.1)
 
-module _ (books : Books) (h : Held) (others : List Held) (version : ℤ)
-    (leaves : Leaves version books.held h others) (are : AreBooks books) where
-  -- the one that leaves is of a proxy that the books know
-  pub leaver_known : h.0 < length books.owed
-  leaver_known = (All-leaves (λ g. g.0 < length books.owed) version books.held h others leaves are.known).0
+module _ (core : CoreState) (h : Held) (others : List Held) (version : ℤ)
+    (leaves : Leaves version core.held h others) (are : IsCore core) where
+  -- the one that leaves is of a proxy that the core knows
+  pub leaver_known : h.0 < length core.owed
+  leaver_known = (All-leaves (λ g. g.0 < length core.owed) version core.held h others leaves are.known).0
 
-  -- and the books are in order without it
-  pub AreBooks-left : AreBooks (record books { held = others })
-  AreBooks-left = record {
+  -- and the core is in order without it
+  pub IsCore-left : IsCore (record core { held = others })
+  IsCore-left = record {
+    takes_more = are.takes_more;
     resolved = are.resolved;
     remembers = are.remembers;
     known =
-        (All-leaves (λ g. g.0 < length books.owed) version books.held h others leaves are.known).1;
+        (All-leaves (λ g. g.0 < length core.owed) version core.held h others leaves are.known).1;
     past = are.past;
   }
 
--- without it, the books are those of the state without it
-pub AreOf-left : (state : State) (given : Given) (books : Books) (others : List Held)
-    → AreOf state given books → AreOf (record state { held = others }) given (record books { held = others })
-AreOf-left state given books others are = record {
+-- without it, the core is in the state without it
+pub IsIn-left : (state : State) (given : Given) (core : CoreState) (others : List Held)
+    → IsIn state given core → IsIn (record state { held = others }) given (record core { held = others })
+IsIn-left state given core others are = record {
   version = are.version;
   held = refl;
   kept = are.kept;
@@ -141,24 +142,24 @@ AreOf-left state given books others are = record {
   answers = are.answers;
 }
 
-module _ (window : ℤ) (state : State) (given : Given) (books : Books)
-    (r : Reaches window state given books) where
+module _ (window : ℤ) (state : State) (given : Given) (core : CoreState)
+    (r : Reaches window state given core) where
   -- the state that is reached
   abbrev pub now : State
   now = leave r.turns window state
 
-  next_now : (l : Option (Held × List Held)) → next_due books.version books.held ≡ l
+  next_now : (l : Option (Held × List Held)) → next_due core.version core.held ≡ l
       → next_due (version_of now.processed) now.held ≡ l
   next_now l next =
       subst (λ v. next_due v now.held ≡ l) r.are.version
-      (subst (λ hs. next_due books.version hs ≡ l) r.are.held next)
+      (subst (λ hs. next_due core.version hs ≡ l) r.are.held next)
 
-  -- where none is due, the books are those of the state that all have left
-  pub AreOf-reached : next_due books.version books.held ≡ None → AreOf (leave_all window state) given books
-  AreOf-reached none =
-      subst (λ s. AreOf s given books) (sym (leave_all-none window now (next_now None none)) ∙ r.same) r.are
+  -- where none is due, the core is in the state that all have left
+  pub IsIn-reached : next_due core.version core.held ≡ None → IsIn (leave_all window state) given core
+  IsIn-reached none =
+      subst (λ s. IsIn s given core) (sym (leave_all-none window now (next_now None none)) ∙ r.same) r.are
 
-  module _ (h : Held) (others : List Held) (l : LeavesNext books h others) where
+  module _ (h : Held) (others : List Held) (l : LeavesNext core h others) where
     leaves : next_due (version_of now.processed) now.held ≡ Some (h, others)
     leaves = next_now (Some (h, others)) l.next
 
@@ -171,16 +172,16 @@ module _ (window : ℤ) (state : State) (given : Given) (books : Books)
     more = leave-more r.turns window state ∙ ap (leave_then (λ t. t) window now) leaves
 
     -- the state with it admitted is reached next
-    pub Reaches-left : (new : Books) → AreOf (left window now h others) given new
+    pub Reaches-left : (new : CoreState) → IsIn (left window now h others) given new
         → Reaches window state given new
     Reaches-left new are = record {
       turns = suc r.turns;
-      are = subst (λ s. AreOf s given new) (sym more) are;
+      are = subst (λ s. IsIn s given new) (sym more) are;
       same = ap (leave_all window) more ∙ leaves_same ∙ r.same;
     }
 
     -- a stop at the one that leaves is one while they leave
-    pub StopsAsTheyLeave-left : (limit : ℕ) (new : Books)
+    pub StopsAsTheyLeave-left : (limit : ℕ) (new : CoreState)
         → StopsIn limit window (record now { held = others }) h.0 h.1 given new
         → StopsAsTheyLeave limit window state given new
     StopsAsTheyLeave-left limit new s = record {

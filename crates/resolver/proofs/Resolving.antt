@@ -6,10 +6,11 @@ use Rattle.resolver.specs.declared.stop.Stop.{Stop}
 use Rattle.resolver.specs.declared.turn.Turn.{Turn}
 use Rattle.resolver.specs.declared.turn.Turn.TheVariants as turn
 use Rattle.resolver.specs.Owed.{owed_to}
-use Rattle.resolver.specs.Stands.{CoreState, Stands}
+use Rattle.resolver.specs.Core.{CoreState}
+use Rattle.resolver.specs.Stands.{Stands}
 use Rattle.resolver.specs.Lanes.{Lanes, Each, LanesGoOn, AreSameLists, TakesNone, all_ended, sent_to}
 use Rattle.resolver.specs.Resolver.{ResolverState, StandsOver, IsResolving, TakesFrom, Finishes, TakesNoStep, StepsBy}
-use Rattle.resolver.proofs.Linked.{field_same}
+use Rattle.resolver.proofs.AtIndex.{field_same}
 use Rattle.resolver.proofs.Handed.{StandsBy-moved}
 use Rattle.resolver.proofs.HandedOut.{list_all-same}
 use Rattle.resolver.proofs.Logged.{was_closed, stands_same}
@@ -75,8 +76,8 @@ module _ (old new : ResolverState) (core : new.core ≡ old.core)
   core_stands : (log : List Step) → StandsOver old log → Stands new.core log (sent_to new.lanes)
   core_stands log stands =
       subst (λ (c : CoreState). Stands c log (sent_to new.lanes)) (sym core)
-      (StandsBy-moved (sent_to old.lanes) (sent_to new.lanes) old.core.books old.core.books.owed refl
-      (λ p _. ap (λ sent. sent ++ owed_to p old.core.books.owed) (none_sent p)) old.core.stop log stands.core)
+      (StandsBy-moved (sent_to old.lanes) (sent_to new.lanes) old.core old.core.owed refl
+      (λ p _. ap (λ sent. sent ++ owed_to p old.core.owed) (none_sent p)) old.core.stop log stands.core)
 
   pub stands_settled : (log : List Step) → StandsOver old log → StandsOver new log
   stands_settled log stands =

@@ -45,14 +45,14 @@ use Rattle.keyspace.proofs.callers.Chains.{each_is_answered, run_quiet, next_due
 use Rattle.lane.specs.Lane.{Lane}
 use Rattle.resolver.specs.declared.client.Client.{Client}
 use Rattle.resolver.specs.Owed.{owed_to}
-use Rattle.resolver.specs.Books.{made_to}
+use Rattle.resolver.specs.Core.{made_to}
 use Rattle.resolver.specs.Lanes.{Lanes, taken_from, sent_to}
 use Rattle.resolver.specs.Resolver.{ResolverState, StandsOver, IsResolving, TakesFrom}
 use Rattle.resolver.specs.Share.{share_of, HasMoreUnanswered, KeepsShare}
 use Rattle.resolver.proofs.Accounts.{made_begins}
-use Rattle.resolver.proofs.Linked.{field_at, field_past}
+use Rattle.resolver.proofs.AtIndex.{field_at, field_past}
 use Rattle.resolver.proofs.Releasing.{All-without, leave_all-none}
-use Rattle.resolver.proofs.Standing.{AreOf-standing, run-more}
+use Rattle.resolver.proofs.Standing.{IsIn-standing, run-more}
 
 -- the first of those held counts for its proxy
 held_first : (q : ℕ) (h : Held) (hs : List Held)
@@ -134,23 +134,23 @@ held_ahead window log proxy b ahead =
     ∙ leave_all-none window (hold proxy b s) (none_due version (hold proxy b s).held wait))
 
 module _ (r : ResolverState) (log : List Step) (stands : StandsOver r log)
-    (count : length r.core.books.owed ≡ length r.lanes) where
+    (count : length r.core.owed ≡ length r.lanes) where
   abbrev held : List Held
-  held = (run r.core.books.set.window log).held
+  held = (run r.core.set.window log).held
 
   -- what is held of a proxy was taken, and no answer to it was made
   unanswered : (q : ℕ) → q < length r.lanes
-      → length (made_to q (sent_to r.lanes) r.core.books) + length (held_of q held) ≤ length (taken_from r.lanes q)
+      → length (made_to q (sent_to r.lanes) r.core) + length (held_of q held) ≤ length (taken_from r.lanes q)
   unanswered q inside =
-      let made = made_begins r.core.stop log (sent_to r.lanes) r.core.books stands.core q (omega (arith, inside, count)) in
-      let long = ap length made.1 ∙ length-append (made_to q (sent_to r.lanes) r.core.books) made.0 in
-      omega (arith, long, each_is_answered r.core.books.set.window log q, ap length (stands.parts q))
+      let made = made_begins r.core.stop log (sent_to r.lanes) r.core stands.core q (omega (arith, inside, count)) in
+      let long = ap length made.1 ∙ length-append (made_to q (sent_to r.lanes) r.core) made.0 in
+      omega (arith, long, each_is_answered r.core.set.window log q, ap length (stands.parts q))
 
   -- and none is held of a proxy that there isn't
   none_unknown : (q : ℕ) → length r.lanes ≤ q → length (held_of q held) ≡ 0
   none_unknown q past =
       let none = ap length (stands.parts q ∙ field_past (λ l. l.requests.taken) r.lanes q past) in
-      omega (arith, each_is_answered r.core.books.set.window log q, none)
+      omega (arith, each_is_answered r.core.set.window log q, none)
 
   -- where more are held than fall to all proxies, one has more than its share unanswered
   pub beyond : MAX_HELD < length held
@@ -163,15 +163,15 @@ module _ (r : ResolverState) (log : List Step) (stands : StandsOver r log)
       (one.0, one.1, omega (arith, unanswered one.0 one.1, one.2))
 
 -- where a batch is taken that is ahead of the version, and the gate is full, one more is held by the log than the gate holds
-pub beyond_share : (old new : ResolverState) → new.core.books.set.window ≡ old.core.books.set.window
-    → length new.core.books.owed ≡ length new.lanes → old.core.stop ≡ None → IsResolving old
-    → (proxy : ℕ) (took : TakesFrom proxy old new) → old.core.books.version <ℤ took.batch.previous
-    → length old.core.books.held ≡ MAX_HELD
+pub beyond_share : (old new : ResolverState) → new.core.set.window ≡ old.core.set.window
+    → length new.core.owed ≡ length new.lanes → old.core.stop ≡ None → IsResolving old
+    → (proxy : ℕ) (took : TakesFrom proxy old new) → old.core.version <ℤ took.batch.previous
+    → length old.core.held ≡ MAX_HELD
     → (q : ℕ) × (q < length new.lanes) × HasMoreUnanswered (share_of (length new.lanes)) q new
 beyond_share old new same count running before proxy took ahead full =
-    let window = old.core.books.set.window in
+    let window = old.core.set.window in
     let log = before.log ++ Take proxy took.batch ∷ [] in
-    let are = AreOf-standing old.core.stop before.log (sent_to old.lanes) old.core.books running before.stands.core in
+    let are = IsIn-standing old.core.stop before.log (sent_to old.lanes) old.core running before.stands.core in
     let is_ahead = subst (λ (version : ℤ). version <ℤ took.batch.previous) are.version ahead in
     let held = ap length (held_ahead window before.log proxy took.batch is_ahead) in
     let more = length-append (run window before.log).held ((proxy, took.batch) ∷ []) in
@@ -185,7 +185,7 @@ pub within_share : (share proxy : ℕ) (r : ResolverState) (c : Client) (l : Lan
 within_share share proxy r c l at requests replies keeps more =
     let taken = ap length (field_at (λ k. k.requests.taken) r.lanes proxy l at) in
     let sent = ap length (field_at (λ k. k.replies.sent) r.lanes proxy l at) in
-    let made = length-append (sent_to r.lanes proxy) (owed_to proxy r.core.books.owed) in
+    let made = length-append (sent_to r.lanes proxy) (owed_to proxy r.core.owed) in
     let batches = ap length requests.in_order.1 ∙ length-append l.requests.taken requests.in_order.0 in
     let answers = ap length replies.in_order.1 ∙ length-append c.replies.taken replies.in_order.0 in
     omega (arith, taken, sent, made, batches, answers, keeps, more)

@@ -27,10 +27,11 @@ use Rattle.std.specs.Prelude.{ℤ, option_to_list}
 use Rattle.std.proofs.lemmas.Bool.{cases_Bool, eqb-true, eqb-false}
 use Rattle.std.proofs.lemmas.List.{get_or-set_other, length-set}
 use Rattle.keyspace.specs.declared.answer.Answer.{Answer}
-use Rattle.keyspace.specs.Run.{State, Step, step, run_from, run, answers_to, start}
+use Rattle.keyspace.specs.declared.batch.Batch.{Batch}
+use Rattle.keyspace.specs.Run.{State, Step, admit, leave, step, run_from, run, answers_to, start}
 use Rattle.resolver.specs.declared.stop.Stop.{Stop}
 use Rattle.resolver.specs.Owed.{owed_to, given_oldest}
-use Rattle.resolver.specs.Books.{Books, Given, IsBeginning, AreOf, MadeBetween, made_to}
+use Rattle.resolver.specs.Core.{CoreState, Given, IsBeginning, IsIn, MadeBetween, StopsIn, StopsAtLimit, made_to}
 use Rattle.resolver.specs.Stands.{StoppedIn, StandsBy, given_also}
 
 run_from-more : (window : ℤ) (log : List Step) (x : Step) (s : State)
@@ -43,20 +44,20 @@ pub run-more : (window : ℤ) (log : List Step) (x : Step)
     → run window (log ++ x ∷ []) ≡ step window x (run window log)
 run-more window log x = run_from-more window log x start
 
--- without a stop the books are those of the state after the log
-pub AreOf-standing : (stop : Option Stop) (log : List Step) (given : Given) (books : Books) → stop ≡ None
-    → StandsBy stop log given books → AreOf (run books.set.window log) given books
-AreOf-standing stop log given books none = subst (λ s. StandsBy s log given books) none
+-- without a stop the core is in the state after the log
+pub IsIn-standing : (stop : Option Stop) (log : List Step) (given : Given) (core : CoreState) → stop ≡ None
+    → StandsBy stop log given core → IsIn (run core.set.window log) given core
+IsIn-standing stop log given core none = subst (λ s. StandsBy s log given core) none
 
-module _ (window : ℤ) (log : List Step) (x : Step) (given : Given) (new : Books)
+module _ (window : ℤ) (log : List Step) (x : Step) (given : Given) (new : CoreState)
     (same : new.set.window ≡ window) where
   -- one step more was taken
-  pub StandsBy-more : (stop : Option Stop) → stop ≡ None → AreOf (step window x (run window log)) given new
+  pub StandsBy-more : (stop : Option Stop) → stop ≡ None → IsIn (step window x (run window log)) given new
       → StandsBy stop (log ++ x ∷ []) given new
   StandsBy-more stop none are =
       subst (λ s. StandsBy s (log ++ x ∷ []) given new) (sym none)
-      (subst (λ w. AreOf (run w (log ++ x ∷ [])) given new) (sym same)
-      (subst (λ s. AreOf s given new) (sym (run-more window log x)) are))
+      (subst (λ w. IsIn (run w (log ++ x ∷ [])) given new) (sym same)
+      (subst (λ s. IsIn s given new) (sym (run-more window log x)) are))
 
   -- a stop was met in one step more
   pub StoppedIn-more : MadeBetween (run window log) (step window x (run window log)) given new
@@ -71,13 +72,13 @@ module _ (window : ℤ) (log : List Step) (x : Step) (given : Given) (new : Book
   }
 
 -- an answer is given
-module _ (proxy : ℕ) (answer : Option Answer) (given : Given) (old : Books)
+module _ (proxy : ℕ) (answer : Option Answer) (given : Given) (old : CoreState)
     (oldest : owed_to proxy old.owed
     ≡ option_to_list answer ++ owed_to proxy (given_oldest proxy old.owed)) where
   abbrev owed : List (List Answer)
   owed = given_oldest proxy old.owed
 
-  abbrev new : Books
+  abbrev new : CoreState
   new = record old { owed = owed }
 
   made_same : (p : ℕ) → made_to p (given_also proxy answer given) new ≡ made_to p given old
@@ -97,8 +98,8 @@ module _ (proxy : ℕ) (answer : Option Answer) (given : Given) (old : Books)
   many : length owed ≡ length old.owed
   many = length-set old.owed proxy (drop 1 (owed_to proxy old.owed))
 
-  pub AreOf-given : (state : State) → AreOf state given old → AreOf state (given_also proxy answer given) new
-  AreOf-given state are = record {
+  pub IsIn-given : (state : State) → IsIn state given old → IsIn state (given_also proxy answer given) new
+  IsIn-given state are = record {
     version = are.version;
     held = are.held;
     kept = are.kept;
@@ -119,10 +120,39 @@ module _ (proxy : ℕ) (answer : Option Answer) (given : Given) (old : Books)
 
   pub StandsBy-given : (stop : Option Stop) (log : List Step) → StandsBy stop log given old
       → StandsBy stop log (given_also proxy answer given) new
-  StandsBy-given None log are = AreOf-given (run old.set.window log) are
+  StandsBy-given None log are = IsIn-given (run old.set.window log) are
   StandsBy-given (Some stop) log s = record {
     before = s.before;
     last = s.last;
     log_is = s.log_is;
     made = MadeBetween-given (run old.set.window s.before) (run old.set.window log) s.made;
   }
+
+-- A stop is kept.
+module _ (stop : Option Stop) (given : Given) (core : CoreState) where
+  abbrev stopped : CoreState
+  stopped = record core { stop = stop }
+
+  pub MadeBetween-stopped : (before after : State) → MadeBetween before after given core
+      → MadeBetween before after given stopped
+  MadeBetween-stopped before after made = record { all_before = made.all_before; no_others = made.no_others }
+
+  StopsIn-stopped : (limit : ℕ) (window : ℤ) (now : State) (proxy : ℕ) (batch : Batch)
+      → StopsIn limit window now proxy batch given core → StopsIn limit window now proxy batch given stopped
+  StopsIn-stopped limit window now proxy batch s = record { next = s.next; made = s.made; exceeds = s.exceeds }
+
+  pub StopsAtLimit-stopped : (limit : ℕ) (window : ℤ) (proxy : ℕ) (batch : Batch) (state : State)
+      → StopsAtLimit limit window proxy batch state given core
+      → StopsAtLimit limit window proxy batch state given stopped
+  StopsAtLimit-stopped limit window proxy batch state s = elim s [
+    | inl own ↦ inl (StopsIn-stopped limit window state proxy batch own)
+    | inr leaves ↦ inr (record {
+        turns = leaves.turns;
+        batch = leaves.batch;
+        others = leaves.others;
+        leaves = leaves.leaves;
+        stops =
+            StopsIn-stopped limit window (leave leaves.turns window (admit window proxy batch state)) leaves.batch.0
+            leaves.batch.1 leaves.stops;
+      })
+  ]

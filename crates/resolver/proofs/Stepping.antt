@@ -42,9 +42,9 @@ use Rattle.std.proofs.lemmas.Option.{slice_get-get_or, slice_get_within, get_or_
 use Rattle.keyspace.specs.declared.batch.Batch.{Batch}
 use Rattle.keyspace.specs.Run.{Step, Take, Finish, run}
 use Rattle.lane.specs.Lane.{IntakeGoesOn, PortGoesOn, HasEnded}
-use Rattle.resolver.specs.Books.{Books, Given, GoOn, StopsAtLimit}
+use Rattle.resolver.specs.Core.{CoreState, Given, GoesOn, StopsAtLimit}
 use Rattle.resolver.specs.Owed.{owed_to, owed_count}
-use Rattle.resolver.specs.Stands.{CoreState, Stands}
+use Rattle.resolver.specs.Stands.{Stands}
 use Rattle.resolver.specs.Lanes.{
   Lanes,
   Each,
@@ -58,21 +58,21 @@ use Rattle.resolver.specs.Lanes.{
   IsLookedThrough,
 }
 use Rattle.resolver.specs.Resolver.{StandsOver, TakesFrom, Finishes, TakesNoStep, IsThrough}
-use Rattle.resolver.specs.Links.{
-  LinkView,
+use Rattle.resolver.specs.Parts.{
+  ProxyLanesView,
   lanes_of,
   Parts,
   resolver_of,
   AreParts,
-  EachLink,
-  TakesFromLink,
+  EachProxy,
+  TakesFromProxy,
   FindsOne,
   FindsNone,
   owed_with,
 }
-use Rattle.resolver.proofs.Linked.{
+use Rattle.resolver.proofs.AtIndex.{
   lanes_at,
-  link_at,
+  proxy_lanes_at,
   both_at,
   field_at,
   field_past,
@@ -104,8 +104,8 @@ intake_same v = record {
 port_same : {T : Type 0} (v : _) → PortGoesOn {T = T} v v
 port_same v = record { lane = refl; capacity = refl; seen_taken = omega arith; looks = omega arith }
 
--- what a look keeps of a link, by the batches that it has taken there
-pub record Looks (batches : List Batch) (l m : LinkView) : Type 0 where
+-- what a look keeps of a pair of lanes, by the batches that it has taken there
+pub record Looks (batches : List Batch) (l m : ProxyLanesView) : Type 0 where
   pub taken : m.lanes.requests.taken ≡ l.lanes.requests.taken ++ batches
   pub requests : IntakeGoesOn l.lanes.requests m.lanes.requests
   pub ended : l.lanes.ended ≡ true → m.lanes.ended ≡ true
@@ -113,7 +113,7 @@ pub record Looks (batches : List Batch) (l m : LinkView) : Type 0 where
   pub replies : m.lanes.replies ≡ l.lanes.replies
   pub waiting : m.waiting ≡ l.waiting
 
-looks_none : (l m : LinkView) → TakesFromLink None l m → Looks [] l m
+looks_none : (l m : ProxyLanesView) → TakesFromProxy None l m → Looks [] l m
 looks_none l m t = record {
   taken = t.taken;
   requests = t.requests;
@@ -123,7 +123,7 @@ looks_none l m t = record {
   waiting = t.waiting;
 }
 
-looks_some : (batch : Batch) (l m : LinkView) → TakesFromLink (Some batch) l m → Looks (batch ∷ []) l m
+looks_some : (batch : Batch) (l m : ProxyLanesView) → TakesFromProxy (Some batch) l m → Looks (batch ∷ []) l m
 looks_some batch l m t = record {
   taken = t.taken;
   requests = t.requests;
@@ -133,8 +133,8 @@ looks_some batch l m t = record {
   waiting = t.waiting;
 }
 
-looks_same : (l m : LinkView) → m ≡ l → Looks [] l m
-looks_same l m is = subst (λ (x : LinkView). Looks [] l x) (sym is) record {
+looks_same : (l m : ProxyLanesView) → m ≡ l → Looks [] l m
+looks_same l m is = subst (λ (x : ProxyLanesView). Looks [] l x) (sym is) record {
   taken = sym (append-nil l.lanes.requests.taken);
   requests = intake_same l.lanes.requests;
   ended = λ e. e;
@@ -143,13 +143,13 @@ looks_same l m is = subst (λ (x : LinkView). Looks [] l x) (sym is) record {
   waiting = refl;
 }
 
--- of each link, where nothing was taken
-abbrev pub LooksAtAll : List LinkView → List LinkView → Type 0
-LooksAtAll = EachLink (λ p l m. Looks [] l m)
+-- of each pair of lanes, where nothing was taken
+abbrev pub LooksAtAll : List ProxyLanesView → List ProxyLanesView → Type 0
+LooksAtAll = EachProxy (λ p l m. Looks [] l m)
 
 -- and where this batch was taken from this proxy
-abbrev pub LooksFor : ℕ → Batch → List LinkView → List LinkView → Type 0
-LooksFor proxy batch = EachLink (λ p l m. Looks (cond (proxy == p) (batch ∷ []) []) l m)
+abbrev pub LooksFor : ℕ → Batch → List ProxyLanesView → List ProxyLanesView → Type 0
+LooksFor proxy batch = EachProxy (λ p l m. Looks (cond (proxy == p) (batch ∷ []) []) l m)
 
 decide_before : (first p q : ℕ) → ComesBefore first p q ⊎ (ComesBefore first p q → ⊥)
 decide_before first p q =
@@ -189,7 +189,7 @@ decide_before first p q =
           ]
     ]
 
-pub looks_for : (first proxy : ℕ) (batch : Batch) (old new : List LinkView)
+pub looks_for : (first proxy : ℕ) (batch : Batch) (old new : List ProxyLanesView)
     → FindsOne (λ p. ComesBefore first p proxy) proxy batch old new → LooksFor proxy batch old new
 looks_for first proxy batch old new f = record {
   count = f.found.count;
@@ -208,14 +208,14 @@ looks_for first proxy batch old new f = record {
       ];
 }
 
-pub looks_at_all : (old new : List LinkView) → FindsNone (λ p. p < length old) old new → LooksAtAll old new
+pub looks_at_all : (old new : List ProxyLanesView) → FindsNone (λ p. p < length old) old new → LooksAtAll old new
 looks_at_all old new f = record {
   count = f.looked.count;
   each = λ p l m was is. looks_none l m (f.looked.each p l m was is (slice_get_within old p l was));
 }
 
 -- what follows for the resolver's parts, whatever was taken
-module _ (taken : ℕ → List Batch) (old new : List LinkView) (e : EachLink (λ p l m. Looks (taken p) l m) old new) where
+module _ (taken : ℕ → List Batch) (old new : List ProxyLanesView) (e : EachProxy (λ p l m. Looks (taken p) l m) old new) where
   count_lanes : length (lanes_of new) ≡ length (lanes_of old)
   count_lanes = length-map new (λ l. l.lanes) ∙ e.count ∙ sym (length-map old (λ l. l.lanes))
 
@@ -257,25 +257,25 @@ module _ (taken : ℕ → List Batch) (old new : List LinkView) (e : EachLink (�
       let looks = e.each p k n was is in
       cc (ap (λ r. r.sent) looks.replies, looks.waiting))
 
-  -- a core stands over the links as they are now
-  pub stands_now : (core : CoreState) → length old ≡ length core.books.owed → (log : List Step)
+  -- a core stands over the pairs of lanes as they are now
+  pub stands_now : (core : CoreState) → length old ≡ length core.owed → (log : List Step)
       → Stands core log (handed_to old) → Stands (resolver_of record {
         core = core;
-        links = new;
+        all_lanes = new;
         next = 0;
         finished = false;
         closed = false;
       }).core log (sent_to (lanes_of new))
   stands_now core count log stands =
       stands_with core new (e.count ∙ count) log
-      (StandsBy-moved (handed_to old) (handed_to new) core.books core.books.owed refl
-      (λ p inside. ap (λ xs. xs ++ owed_to p core.books.owed) (handed_on p)) core.stop log stands)
+      (StandsBy-moved (handed_to old) (handed_to new) core core.owed refl
+      (λ p inside. ap (λ xs. xs ++ owed_to p core.owed) (handed_on p)) core.stop log stands)
 
   -- those that had ended had been taken from to the end, and so have those that have ended now
   pub ended_now : ((p : ℕ) (l : Lanes) → slice_get (lanes_of old) p ≡ Some l → l.ended ≡ true → HasEnded l.requests)
       → (p : ℕ) (m : Lanes) → slice_get (lanes_of new) p ≡ Some m → m.ended ≡ true → HasEnded m.requests
   ended_now before p m at =
-      let n = link_at new p m at in
+      let n = proxy_lanes_at new p m at in
       let k = get_or old p n.0 in
       let inside = slice_get_within new p n.0 n.1 in
       let was = slice_get-get_or old p n.0 (omega (arith, inside, e.count)) in
@@ -286,7 +286,7 @@ module _ (taken : ℕ → List Batch) (old new : List LinkView) (e : EachLink (�
       → ((p : ℕ) (l : Lanes) → slice_get (lanes_of old) p ≡ Some l → l.replies.closed ≡ closed)
       → (p : ℕ) (m : Lanes) → slice_get (lanes_of new) p ≡ Some m → m.replies.closed ≡ closed
   closed_now closed before p m at =
-      let n = link_at new p m at in
+      let n = proxy_lanes_at new p m at in
       let k = get_or old p n.0 in
       let inside = slice_get_within new p n.0 n.1 in
       let was = slice_get-get_or old p n.0 (omega (arith, inside, e.count)) in
@@ -304,42 +304,42 @@ not_eqb p q apart =
       | inr other ↦ other
     ]
 
--- some link hasn't ended
-not_all_ended : (links : List LinkView) (p : ℕ) (k : LinkView) → slice_get links p ≡ Some k
-    → k.lanes.ended ≡ false → all_ended (lanes_of links) ≡ false
-not_all_ended links p k at still =
-    let at_lanes = lanes_at links p k at in
-    list_all_at (λ (l : Lanes). l.ended) (lanes_of links) p k.lanes
-    (slice_get_within (lanes_of links) p k.lanes at_lanes)
-    (ap (λ (l : Lanes). l.ended) (get_or_from_slice_get (lanes_of links) p k.lanes k.lanes at_lanes) ∙ still)
+-- some pair of lanes hasn't ended
+not_all_ended : (all_lanes : List ProxyLanesView) (p : ℕ) (k : ProxyLanesView) → slice_get all_lanes p ≡ Some k
+    → k.lanes.ended ≡ false → all_ended (lanes_of all_lanes) ≡ false
+not_all_ended all_lanes p k at still =
+    let at_lanes = lanes_at all_lanes p k at in
+    list_all_at (λ (l : Lanes). l.ended) (lanes_of all_lanes) p k.lanes
+    (slice_get_within (lanes_of all_lanes) p k.lanes at_lanes)
+    (ap (λ (l : Lanes). l.ended) (get_or_from_slice_get (lanes_of all_lanes) p k.lanes k.lanes at_lanes) ∙ still)
 
--- what stays the same of the core's books does so of the resolver's
-pub go_on_with : (old new : Parts) → GoOn old.core.books new.core.books
-    → GoOn (resolver_of old).core.books (resolver_of new).core.books
+-- what stays the same of the core does so of the resolver's core
+pub go_on_with : (old new : Parts) → GoesOn old.core new.core
+    → GoesOn (resolver_of old).core (resolver_of new).core
 go_on_with old new g = record {
   window = g.window;
   limit = g.limit;
   proxies =
-      owed_with-length new.links new.core.books.owed ∙ g.proxies
-      ∙ sym (owed_with-length old.links old.core.books.owed);
+      owed_with-length new.all_lanes new.core.owed ∙ g.proxies
+      ∙ sym (owed_with-length old.all_lanes old.core.owed);
 }
 
--- what is found among the links of a vector, and written back to it
-module _ {Z : Type 0} (v : Vec LinkView Z) (links seen : List LinkView) (value : seen ≡ v.items) where
-  found_links : length links ≡ length seen → (with_items v links).items ≡ links
-  found_links many = with_items_is v links (many ∙ ap length value ∙ sym v.ok.0)
+-- what is found among the pairs of lanes of a vector, and written back to it
+module _ {Z : Type 0} (v : Vec ProxyLanesView Z) (all_lanes seen : List ProxyLanesView) (value : seen ≡ v.items) where
+  found_all_lanes : length all_lanes ≡ length seen → (with_items v all_lanes).items ≡ all_lanes
+  found_all_lanes many = with_items_is v all_lanes (many ∙ ap length value ∙ sym v.ok.0)
 
-  pub found_in : (first proxy : ℕ) (batch : Batch) → FindsOne (λ p. ComesBefore first p proxy) proxy batch seen links
-      → FindsOne (λ p. ComesBefore first p proxy) proxy batch v.items (with_items v links).items
+  pub found_in : (first proxy : ℕ) (batch : Batch) → FindsOne (λ p. ComesBefore first p proxy) proxy batch seen all_lanes
+      → FindsOne (λ p. ComesBefore first p proxy) proxy batch v.items (with_items v all_lanes).items
   found_in first proxy batch f =
-      subst (FindsOne (λ p. ComesBefore first p proxy) proxy batch v.items) (sym (found_links f.found.count))
-      (subst (λ old. FindsOne (λ p. ComesBefore first p proxy) proxy batch old links) value f)
+      subst (FindsOne (λ p. ComesBefore first p proxy) proxy batch v.items) (sym (found_all_lanes f.found.count))
+      (subst (λ old. FindsOne (λ p. ComesBefore first p proxy) proxy batch old all_lanes) value f)
 
-  pub none_found_in : FindsNone (λ p. p < length seen) seen links
-      → FindsNone (λ p. p < length v.items) v.items (with_items v links).items
+  pub none_found_in : FindsNone (λ p. p < length seen) seen all_lanes
+      → FindsNone (λ p. p < length v.items) v.items (with_items v all_lanes).items
   none_found_in f =
-      subst (FindsNone (λ p. p < length v.items) v.items) (sym (found_links f.looked.count))
-      (subst (λ old. FindsNone (λ p. p < length old) old links) value f)
+      subst (FindsNone (λ p. p < length v.items) v.items) (sym (found_all_lanes f.looked.count))
+      (subst (λ old. FindsNone (λ p. p < length old) old all_lanes) value f)
 
 pub none_of : {T : Type 0} (o : Option T) → ((x : T) → o ≡ Some x → ⊥) → o ≡ None
 none_of None not = refl
@@ -359,29 +359,29 @@ other_than_false true b is not = refl
 other_than_false false true is not = sym is
 other_than_false false false is not = sym not
 
-pub go_on_itself : (b : Books) → GoOn b b
+pub go_on_itself : (b : CoreState) → GoesOn b b
 go_on_itself b = record { window = refl; limit = refl; proxies = refl }
 
 -- A batch of a proxy was taken and admitted.
 module _ (old new : Parts) (first proxy : ℕ) (batch : Batch)
-    (f : FindsOne (λ p. ComesBefore first p proxy) proxy batch old.links new.links)
-    (are : AreParts old) (running : old.core.stop ≡ None) (goes_on : GoOn old.core.books new.core.books)
+    (f : FindsOne (λ p. ComesBefore first p proxy) proxy batch old.all_lanes new.all_lanes)
+    (are : AreParts old) (running : old.core.stop ≡ None) (goes_on : GoesOn old.core new.core)
     (finished : new.finished ≡ old.finished) (closed : new.closed ≡ old.closed) (next : new.next ≡ proxy + 1) where
-  looks : LooksFor proxy batch old.links new.links
-  looks = looks_for first proxy batch old.links new.links f
+  looks : LooksFor proxy batch old.all_lanes new.all_lanes
+  looks = looks_for first proxy batch old.all_lanes new.all_lanes f
 
   abbrev taken : ℕ → List Batch
   taken p = cond (proxy == p) (batch ∷ []) []
 
-  -- the link from which it was taken
-  found : (k : LinkView) × (n : LinkView) × (slice_get old.links proxy ≡ Some k) × (slice_get new.links proxy ≡ Some n)
+  -- the pair of lanes from which it was taken
+  found : (k : ProxyLanesView) × (n : ProxyLanesView) × (slice_get old.all_lanes proxy ≡ Some k) × (slice_get new.all_lanes proxy ≡ Some n)
   found =
-      elim (both_at old.links new.links looks.count proxy) [
+      elim (both_at old.all_lanes new.all_lanes looks.count proxy) [
         | inl at ↦ at
         | inr past ↦ absurd (omega (arith, past.0, f.known))
       ]
 
-  took : TakesFromLink (Some batch) found.0 found.1
+  took : TakesFromProxy (Some batch) found.0 found.1
   took = f.found.each proxy found.0 found.1 found.2 found.3 refl
 
   still_before : found.0.lanes.ended ≡ false
@@ -391,11 +391,11 @@ module _ (old new : Parts) (first proxy : ℕ) (batch : Batch)
         | inr still ↦ still
       ]
 
-  pub some_before : all_ended (lanes_of old.links) ≡ false
-  some_before = not_all_ended old.links proxy found.0 found.2 still_before
+  pub some_before : all_ended (lanes_of old.all_lanes) ≡ false
+  some_before = not_all_ended old.all_lanes proxy found.0 found.2 still_before
 
-  pub some_after : all_ended (lanes_of new.links) ≡ false
-  some_after = not_all_ended new.links proxy found.1 found.3 (took.still_open refl)
+  pub some_after : all_ended (lanes_of new.all_lanes) ≡ false
+  some_after = not_all_ended new.all_lanes proxy found.1 found.3 (took.still_open refl)
 
   pub parts_taken : AreParts new
   parts_taken = record {
@@ -404,8 +404,8 @@ module _ (old new : Parts) (first proxy : ℕ) (batch : Batch)
     some = omega (arith, looks.count, are.some);
     in_range = omega (arith, looks.count, next, f.known);
     finished = λ still. finished ∙ are.finished running ∙ some_before ∙ sym some_after;
-    ended = ended_now taken old.links new.links looks are.ended;
-    closed = closed_now taken old.links new.links looks new.closed (λ p l at. are.closed p l at ∙ sym closed);
+    ended = ended_now taken old.all_lanes new.all_lanes looks are.ended;
+    closed = closed_now taken old.all_lanes new.all_lanes looks new.closed (λ p l at. are.closed p l at ∙ sym closed);
     through = λ is.
         elim (are.through (sym closed ∙ is)).no_more [
           | inl all ↦ absurd (true≢false (sym all ∙ some_before))
@@ -413,32 +413,32 @@ module _ (old new : Parts) (first proxy : ℕ) (batch : Batch)
         ];
   }
 
-  pub takes_one : TakesOne proxy batch (lanes_of old.links) (lanes_of new.links)
+  pub takes_one : TakesOne proxy batch (lanes_of old.all_lanes) (lanes_of new.all_lanes)
   takes_one other =
-      elim (cases_lt other (length (lanes_of old.links))) [
+      elim (cases_lt other (length (lanes_of old.all_lanes))) [
         | inl inside ↦
-            taken_more taken old.links new.links looks other inside
-            ∙ more (proxy == other) (taken_from (lanes_of old.links) other) batch
+            taken_more taken old.all_lanes new.all_lanes looks other inside
+            ∙ more (proxy == other) (taken_from (lanes_of old.all_lanes) other) batch
         | inr past ↦
-            let long = length-map old.links (λ l. l.lanes) in
+            let long = length-map old.all_lanes (λ l. l.lanes) in
             let apart : proxy ≢ other = λ e. absurd (omega (arith, e, past, long, f.known)) in
-            taken_past taken old.links new.links looks other (omega (arith, past))
-            ∙ ap (λ b. cond b (taken_from (lanes_of old.links) other ++ batch ∷ []) (taken_from (lanes_of old.links) other))
+            taken_past taken old.all_lanes new.all_lanes looks other (omega (arith, past))
+            ∙ ap (λ b. cond b (taken_from (lanes_of old.all_lanes) other ++ batch ∷ []) (taken_from (lanes_of old.all_lanes) other))
             (sym (not_eqb proxy other apart))
       ]
 
   pub takes_from : ((log : List Step) (given : Given) → Stands old.core log given
       → Stands new.core (log ++ Take proxy batch ∷ []) given) → TakesFrom proxy (resolver_of old) (resolver_of new)
   takes_from stands = record {
-    known = omega (arith, f.known, length-map old.links (λ l. l.lanes));
+    known = omega (arith, f.known, length-map old.all_lanes (λ l. l.lanes));
     batch = batch;
     taken = takes_one;
     adds = λ log s.
-        stands_taken (resolver_of old) (resolver_of new) log (replies_same taken old.links new.links looks).count
-        (λ p l m was is. ap (λ r. r.closed) ((replies_same taken old.links new.links looks).each p l m was is))
+        stands_taken (resolver_of old) (resolver_of new) log (replies_same taken old.all_lanes new.all_lanes looks).count
+        (λ p l m was is. ap (λ r. r.closed) ((replies_same taken old.all_lanes new.all_lanes looks).each p l m was is))
         running s proxy batch takes_one some_before some_after
-        (stands_now taken old.links new.links looks new.core (are.count ∙ sym goes_on.proxies) (log ++ Take proxy batch ∷ [])
-        (stands log (handed_to old.links) (stands_without old.core old.links are.count log s.core)));
+        (stands_now taken old.all_lanes new.all_lanes looks new.core (are.count ∙ sym goes_on.proxies) (log ++ Take proxy batch ∷ [])
+        (stands log (handed_to old.all_lanes) (stands_without old.core old.all_lanes are.count log s.core)));
   }
 
   -- with what holds of the batch
@@ -456,38 +456,38 @@ module _ (old new : Parts) (first proxy : ℕ) (batch : Batch)
 
   pub stops_at_limit : (log : List Step) → StandsOver (resolver_of old) log
       → ((log : List Step) (given : Given) → Stands old.core log given
-      → StopsAtLimit old.core.books.set.map.limit old.core.books.set.window proxy batch
-      (run old.core.books.set.window log) given new.core.books)
-      → StopsAtLimit old.core.books.set.map.limit old.core.books.set.window proxy batch
-      (run old.core.books.set.window log) (sent_to (lanes_of new.links)) (resolver_of new).core.books
+      → StopsAtLimit old.core.set.map.limit old.core.set.window proxy batch
+      (run old.core.set.window log) given new.core)
+      → StopsAtLimit old.core.set.map.limit old.core.set.window proxy batch
+      (run old.core.set.window log) (sent_to (lanes_of new.all_lanes)) (resolver_of new).core
   stops_at_limit log s stops =
-      let many : length new.links ≡ length new.core.books.owed = looks.count ∙ are.count ∙ sym goes_on.proxies in
-      StopsAtLimit-moved (handed_to old.links) (sent_to (lanes_of new.links)) new.core.books
-      (owed_with new.links new.core.books.owed) (owed_with-length new.links new.core.books.owed)
+      let many : length new.all_lanes ≡ length new.core.owed = looks.count ∙ are.count ∙ sym goes_on.proxies in
+      StopsAtLimit-moved (handed_to old.all_lanes) (sent_to (lanes_of new.all_lanes)) new.core
+      (owed_with new.all_lanes new.core.owed) (owed_with-length new.all_lanes new.core.owed)
       (λ p inside.
-      made_handed new.links new.core.books.owed many p inside
-      ∙ ap (λ xs. xs ++ owed_to p new.core.books.owed) (handed_on taken old.links new.links looks p))
-      old.core.books.set.map.limit old.core.books.set.window proxy batch (run old.core.books.set.window log)
-      (stops log (handed_to old.links) (stands_without old.core old.links are.count log s.core))
+      made_handed new.all_lanes new.core.owed many p inside
+      ∙ ap (λ xs. xs ++ owed_to p new.core.owed) (handed_on taken old.all_lanes new.all_lanes looks p))
+      old.core.set.map.limit old.core.set.window proxy batch (run old.core.set.window log)
+      (stops log (handed_to old.all_lanes) (stands_without old.core old.all_lanes are.count log s.core))
 
-  pub replies_taken : Each (λ p l m. m.replies ≡ l.replies) (lanes_of old.links) (lanes_of new.links)
-  replies_taken = replies_same taken old.links new.links looks
+  pub replies_taken : Each (λ p l m. m.replies ≡ l.replies) (lanes_of old.all_lanes) (lanes_of new.all_lanes)
+  replies_taken = replies_same taken old.all_lanes new.all_lanes looks
 
-  pub lanes_taken : Each (λ p l m. LanesGoOn l m) (lanes_of old.links) (lanes_of new.links)
-  lanes_taken = lanes_go_on taken old.links new.links looks
+  pub lanes_taken : Each (λ p l m. LanesGoOn l m) (lanes_of old.all_lanes) (lanes_of new.all_lanes)
+  lanes_taken = lanes_go_on taken old.all_lanes new.all_lanes looks
 
-  pub passed_taken : Each (λ p l m. ComesBefore first p proxy → IsLookedThrough l m) (lanes_of old.links) (lanes_of new.links)
+  pub passed_taken : Each (λ p l m. ComesBefore first p proxy → IsLookedThrough l m) (lanes_of old.all_lanes) (lanes_of new.all_lanes)
   passed_taken =
-      each_lanes (λ p l m. ComesBefore first p proxy → TakesFromLink None l m)
-      (λ p l m. ComesBefore first p proxy → IsLookedThrough l m) old.links new.links
+      each_lanes (λ p l m. ComesBefore first p proxy → TakesFromProxy None l m)
+      (λ p l m. ComesBefore first p proxy → IsLookedThrough l m) old.all_lanes new.all_lanes
       (λ p k n was is through comes. (through comes).through) f.looked
 
-  pub goes_on_taken : GoOn (resolver_of old).core.books (resolver_of new).core.books
+  pub goes_on_taken : GoesOn (resolver_of old).core (resolver_of new).core
   goes_on_taken = go_on_with old new goes_on
 
 -- a lane that has ended stays so, and so do all
-all_stay : (old new : List LinkView) → length new ≡ length old
-    → ((p : ℕ) (k n : LinkView) → slice_get old p ≡ Some k → slice_get new p ≡ Some n → k.lanes.ended ≡ true
+all_stay : (old new : List ProxyLanesView) → length new ≡ length old
+    → ((p : ℕ) (k n : ProxyLanesView) → slice_get old p ≡ Some k → slice_get new p ≡ Some n → k.lanes.ended ≡ true
     → n.lanes.ended ≡ true) → all_ended (lanes_of old) ≡ true → all_ended (lanes_of new) ≡ true
 all_stay [] [] same each all = refl
 all_stay [] (n ∷ new) same each all = absurd (omega (arith, same))
@@ -498,28 +498,28 @@ all_stay (k ∷ old) (n ∷ new) same each all =
     (all_stay old new (omega (arith, same)) (λ p. each (suc p)) both.1)
 
 -- All lanes were looked at, and no batch was taken.
-module _ (old new : Parts) (f : FindsNone (λ p. p < length old.links) old.links new.links) (are : AreParts old)
-    (running : old.core.stop ≡ None) (goes_on : GoOn old.core.books new.core.books) (closed : new.closed ≡ old.closed)
+module _ (old new : Parts) (f : FindsNone (λ p. p < length old.all_lanes) old.all_lanes new.all_lanes) (are : AreParts old)
+    (running : old.core.stop ≡ None) (goes_on : GoesOn old.core new.core) (closed : new.closed ≡ old.closed)
     (next : new.next ≡ old.next) where
   abbrev nothing : ℕ → List Batch
   nothing p = []
 
-  at_all : LooksAtAll old.links new.links
-  at_all = looks_at_all old.links new.links f
+  at_all : LooksAtAll old.all_lanes new.all_lanes
+  at_all = looks_at_all old.all_lanes new.all_lanes f
 
-  pub takes_none : TakesNone (lanes_of old.links) (lanes_of new.links)
+  pub takes_none : TakesNone (lanes_of old.all_lanes) (lanes_of new.all_lanes)
   takes_none p =
-      elim (cases_lt p (length (lanes_of old.links))) [
+      elim (cases_lt p (length (lanes_of old.all_lanes))) [
         | inl inside ↦
-            taken_more nothing old.links new.links at_all p inside
-            ∙ append-nil (taken_from (lanes_of old.links) p)
-        | inr past ↦ taken_past nothing old.links new.links at_all p (omega (arith, past))
+            taken_more nothing old.all_lanes new.all_lanes at_all p inside
+            ∙ append-nil (taken_from (lanes_of old.all_lanes) p)
+        | inr past ↦ taken_past nothing old.all_lanes new.all_lanes at_all p (omega (arith, past))
       ]
 
-  pub still_all : all_ended (lanes_of old.links) ≡ true → all_ended (lanes_of new.links) ≡ true
-  still_all = all_stay old.links new.links at_all.count (λ p k n was is. (at_all.each p k n was is).ended)
+  pub still_all : all_ended (lanes_of old.all_lanes) ≡ true → all_ended (lanes_of new.all_lanes) ≡ true
+  still_all = all_stay old.all_lanes new.all_lanes at_all.count (λ p k n was is. (at_all.each p k n was is).ended)
 
-  pub parts_looked : (new.core.stop ≡ None → new.finished ≡ all_ended (lanes_of new.links))
+  pub parts_looked : (new.core.stop ≡ None → new.finished ≡ all_ended (lanes_of new.all_lanes))
       → (new.closed ≡ true → IsThrough (resolver_of new)) → AreParts new
   parts_looked finished through = record {
     count = at_all.count ∙ are.count ∙ sym goes_on.proxies;
@@ -527,31 +527,31 @@ module _ (old new : Parts) (f : FindsNone (λ p. p < length old.links) old.links
     some = omega (arith, at_all.count, are.some);
     in_range = omega (arith, at_all.count, next, are.in_range);
     finished = finished;
-    ended = ended_now nothing old.links new.links at_all are.ended;
-    closed = closed_now nothing old.links new.links at_all new.closed (λ p l at. are.closed p l at ∙ sym closed);
+    ended = ended_now nothing old.all_lanes new.all_lanes at_all are.ended;
+    closed = closed_now nothing old.all_lanes new.all_lanes at_all new.closed (λ p l at. are.closed p l at ∙ sym closed);
     through = through;
   }
 
-  pub replies_looked : Each (λ p l m. m.replies ≡ l.replies) (lanes_of old.links) (lanes_of new.links)
-  replies_looked = replies_same nothing old.links new.links at_all
+  pub replies_looked : Each (λ p l m. m.replies ≡ l.replies) (lanes_of old.all_lanes) (lanes_of new.all_lanes)
+  replies_looked = replies_same nothing old.all_lanes new.all_lanes at_all
 
-  pub lanes_looked : Each (λ p l m. LanesGoOn l m) (lanes_of old.links) (lanes_of new.links)
-  lanes_looked = lanes_go_on nothing old.links new.links at_all
+  pub lanes_looked : Each (λ p l m. LanesGoOn l m) (lanes_of old.all_lanes) (lanes_of new.all_lanes)
+  lanes_looked = lanes_go_on nothing old.all_lanes new.all_lanes at_all
 
-  pub all_looked : Each (λ p l m. IsLookedThrough l m) (lanes_of old.links) (lanes_of new.links)
+  pub all_looked : Each (λ p l m. IsLookedThrough l m) (lanes_of old.all_lanes) (lanes_of new.all_lanes)
   all_looked =
-      each_lanes (λ p l m. p < length old.links → TakesFromLink None l m) (λ p l m. IsLookedThrough l m) old.links
-      new.links (λ p k n was is looked. (looked (slice_get_within old.links p k was)).through) f.looked
+      each_lanes (λ p l m. p < length old.all_lanes → TakesFromProxy None l m) (λ p l m. IsLookedThrough l m) old.all_lanes
+      new.all_lanes (λ p k n was is looked. (looked (slice_get_within old.all_lanes p k was)).through) f.looked
 
-  pub goes_on_looked : GoOn (resolver_of old).core.books (resolver_of new).core.books
+  pub goes_on_looked : GoesOn (resolver_of old).core (resolver_of new).core
   goes_on_looked = go_on_with old new goes_on
 
-  stands_looked : (log : List Step) → Stands new.core log (handed_to old.links)
-      → Stands (resolver_of new).core log (sent_to (lanes_of new.links))
-  stands_looked = stands_now nothing old.links new.links at_all new.core (are.count ∙ sym goes_on.proxies)
+  stands_looked : (log : List Step) → Stands new.core log (handed_to old.all_lanes)
+      → Stands (resolver_of new).core log (sent_to (lanes_of new.all_lanes))
+  stands_looked = stands_now nothing old.all_lanes new.all_lanes at_all new.core (are.count ∙ sym goes_on.proxies)
 
   -- where it is found that not the same have ended as when the core was finished, it wasn't
-  pub newly_ended : (ended : Bool) → ended ≡ all_ended (lanes_of new.links) → beq ended old.finished ≡ false
+  pub newly_ended : (ended : Bool) → ended ≡ all_ended (lanes_of new.all_lanes) → beq ended old.finished ≡ false
       → old.finished ≡ false
   newly_ended ended is differs =
       elim (cases_Bool old.finished) [
@@ -562,8 +562,8 @@ module _ (old new : Parts) (f : FindsNone (λ p. p < length old.links) old.links
       ]
 
   -- all have ended now, and the core was finished
-  module _ (before : old.finished ≡ false) (after : all_ended (lanes_of new.links) ≡ true) where
-    not_before : all_ended (lanes_of old.links) ≡ false
+  module _ (before : old.finished ≡ false) (after : all_ended (lanes_of new.all_lanes) ≡ true) where
+    not_before : all_ended (lanes_of old.all_lanes) ≡ false
     not_before = sym (are.finished running) ∙ before
 
     -- so no reply lane is closed
@@ -584,13 +584,13 @@ module _ (old new : Parts) (f : FindsNone (λ p. p < length old.links) old.links
           stands_finished (resolver_of old) (resolver_of new) log replies_looked.count
           (λ p l m was is. ap (λ r. r.closed) (replies_looked.each p l m was is)) running s takes_none not_before after
           (stands_looked (log ++ Finish ∷ [])
-          (stands log (handed_to old.links) (stands_without old.core old.links are.count log s.core)));
+          (stands log (handed_to old.all_lanes) (stands_without old.core old.all_lanes are.count log s.core)));
     }
 
   -- no more have ended than had
   module _ (core : new.core ≡ old.core) (same : new.finished ≡ old.finished)
-      (ended : all_ended (lanes_of new.links) ≡ old.finished) where
-    ended_same : all_ended (lanes_of new.links) ≡ all_ended (lanes_of old.links)
+      (ended : all_ended (lanes_of new.all_lanes) ≡ old.finished) where
+    ended_same : all_ended (lanes_of new.all_lanes) ≡ all_ended (lanes_of old.all_lanes)
     ended_same = ended ∙ are.finished running
 
     pub through_still : new.closed ≡ true → IsThrough (resolver_of new)
@@ -598,8 +598,8 @@ module _ (old new : Parts) (f : FindsNone (λ p. p < length old.links) old.links
         let t = are.through (sym closed ∙ is) in
         record {
           nothing_owed =
-              ap (λ (k : CoreState). owed_count (owed_with new.links k.books.owed)) core
-              ∙ ap owed_count (owed_with-same old.links new.links old.core.books.owed at_all.count
+              ap (λ (k : CoreState). owed_count (owed_with new.all_lanes k.owed)) core
+              ∙ ap owed_count (owed_with-same old.all_lanes new.all_lanes old.core.owed at_all.count
               (λ p k n was is. (at_all.each p k n was is).waiting)) ∙ t.nothing_owed;
           no_more =
               elim t.no_more [
@@ -608,12 +608,12 @@ module _ (old new : Parts) (f : FindsNone (λ p. p < length old.links) old.links
               ];
         }
 
-    was_at : (p : ℕ) (m : Lanes) → slice_get (lanes_of new.links) p ≡ Some m
-        → (l : Lanes) × (slice_get (lanes_of old.links) p ≡ Some l)
+    was_at : (p : ℕ) (m : Lanes) → slice_get (lanes_of new.all_lanes) p ≡ Some m
+        → (l : Lanes) × (slice_get (lanes_of old.all_lanes) p ≡ Some l)
     was_at p m at =
-        let inside = slice_get_within (lanes_of new.links) p m at in (
-          get_or (lanes_of old.links) p m,
-          slice_get-get_or (lanes_of old.links) p m (omega (arith, inside, replies_looked.count)),
+        let inside = slice_get_within (lanes_of new.all_lanes) p m at in (
+          get_or (lanes_of old.all_lanes) p m,
+          slice_get-get_or (lanes_of old.all_lanes) p m (omega (arith, inside, replies_looked.count)),
         )
 
     pub takes_no_step : TakesNoStep (resolver_of old) (resolver_of new)
@@ -623,8 +623,8 @@ module _ (old new : Parts) (f : FindsNone (λ p. p < length old.links) old.links
       adds = λ log s.
           stands_same (resolver_of old) (resolver_of new) log (ap (λ (k : CoreState). k.stop) core)
           ended_same takes_none s
-          (stands_looked log (subst (λ (k : CoreState). Stands k log (handed_to old.links)) (sym core)
-          (stands_without old.core old.links are.count log s.core)))
+          (stands_looked log (subst (λ (k : CoreState). Stands k log (handed_to old.all_lanes)) (sym core)
+          (stands_without old.core old.all_lanes are.count log s.core)))
           (λ still p m at shut. ended_same ∙ s.closed running p _ (was_at p m at).1
           (sym (ap (λ r. r.closed) (replies_looked.each p _ m (was_at p m at).1 at)) ∙ shut));
     }

@@ -7,8 +7,7 @@ use Rattle.keyspace.specs.declared.answer.Answer.{Answer}
 use Rattle.keyspace.specs.Run.{State, Step, Take, Finish}
 use Rattle.lane.specs.Lane.{PortGoesOn, IntakeGoesOn}
 use Rattle.resolver.specs.Owed.{owed_to, owed_count}
-use Rattle.resolver.specs.Books.{Books, StopsAtLimit}
-use Rattle.resolver.specs.Stands.{CoreState}
+use Rattle.resolver.specs.Core.{CoreState, StopsAtLimit}
 use Rattle.keyspace.specs.declared.batch.Batch.{Batch}
 use Rattle.resolver.proofs.Handed.{StopsAtLimit-moved}
 use Rattle.resolver.specs.Lanes.{Lanes, Each, LanesGoOn, taken_from, sent_to, all_ended, IsLookedThrough, IsFull}
@@ -16,8 +15,8 @@ use Rattle.resolver.specs.Resolver.{ResolverState, StandsOver, IsThrough, TakesF
 use Rattle.resolver.specs.declared.turn.Turn.{Turn}
 use Rattle.resolver.specs.declared.turn.Turn.TheVariants as turn
 use Rattle.resolver.specs.declared.stop.Stop.{Stop}
-use Rattle.resolver.specs.Links.{Parts, AreParts, resolver_of}
-use Rattle.resolver.proofs.Linked.{field_same, both_at, lanes_at}
+use Rattle.resolver.specs.Parts.{Parts, AreParts, resolver_of}
+use Rattle.resolver.proofs.AtIndex.{field_same, both_at, lanes_at}
 use Rattle.resolver.proofs.HandedOut.{HandedOver, list_all-same}
 use Rattle.resolver.proofs.Closing.{ClosedOver}
 
@@ -43,7 +42,7 @@ pub record AnswersLane (owed : List Answer) (old new : Lanes) : Type 0 where
 pub record AnswersOver (old new : ResolverState) : Type 0 where
   pub stands : (log : List Step) → StandsOver old log → StandsOver new log
   pub stop : new.core.stop ≡ old.core.stop
-  pub lanes : Each (λ p l m. AnswersLane (owed_to p new.core.books.owed) l m) old.lanes new.lanes
+  pub lanes : Each (λ p l m. AnswersLane (owed_to p new.core.owed) l m) old.lanes new.lanes
 
 -- once it was handed out and then closed
 closed_lane : (owed : List Answer) (l m n : Lanes) → (owed ≢ [] → IsFull l m)
@@ -67,16 +66,16 @@ answers_over old mid new h k = record {
   stop = ap (λ c. c.stop) k.core ∙ h.same.stop;
   lanes =
       Each-then
-      (λ p l m. (owed_to p new.core.books.owed ≢ [] → IsFull l m)
+      (λ p l m. (owed_to p new.core.owed ≢ [] → IsFull l m)
       × ((m ≡ record l { replies = m.replies }) × PortGoesOn l.replies m.replies))
       (λ _ l m. m ≡ record l { replies = record l.replies { closed = m.replies.closed } })
-      (λ p l m. AnswersLane (owed_to p new.core.books.owed) l m)
-      (λ p l m n a b. closed_lane (owed_to p new.core.books.owed) l m n a.0 a.1 b)
+      (λ p l m. AnswersLane (owed_to p new.core.owed) l m)
+      (λ p l m n a b. closed_lane (owed_to p new.core.owed) l m n a.0 a.1 b)
       (record {
         count = h.lanes.count;
         each = λ p l m at_old at_new. (
           λ some. h.owed.each p l m at_old at_new
-              (λ none. some (ap (λ c. owed_to p c.books.owed) k.core ∙ none)),
+              (λ none. some (ap (λ c. owed_to p c.owed) k.core ∙ none)),
           h.lanes.each p l m at_old at_new,
         );
       })
@@ -130,7 +129,7 @@ module _ {before : List Lanes} {mid given new : ResolverState} (h : HandedOver m
   pub looked_on : (Which : ℕ → Type 0) → Each (λ p l m. Which p → IsLookedThrough l m) before mid.lanes
       → Each (λ p l m. Which p → IsLookedThrough l m) before new.lanes
   looked_on Which looked =
-      Each-then (λ p l m. Which p → IsLookedThrough l m) (λ p l m. AnswersLane (owed_to p new.core.books.owed) l m)
+      Each-then (λ p l m. Which p → IsLookedThrough l m) (λ p l m. AnswersLane (owed_to p new.core.owed) l m)
       (λ p l m. Which p → IsLookedThrough l m)
       (λ p l m n first then which.
       elim (first which) [
@@ -141,10 +140,10 @@ module _ {before : List Lanes} {mid given new : ResolverState} (h : HandedOver m
       looked (answers_over mid given new h k).lanes
 
   pub full_on : Each (λ _ l m. m.replies ≡ l.replies) before mid.lanes
-      → Each (λ p l m. owed_to p new.core.books.owed ≢ [] → IsFull l m) before new.lanes
+      → Each (λ p l m. owed_to p new.core.owed ≢ [] → IsFull l m) before new.lanes
   full_on same =
-      Each-then (λ _ l m. m.replies ≡ l.replies) (λ p l m. AnswersLane (owed_to p new.core.books.owed) l m)
-      (λ p l m. owed_to p new.core.books.owed ≢ [] → IsFull l m)
+      Each-then (λ _ l m. m.replies ≡ l.replies) (λ p l m. AnswersLane (owed_to p new.core.owed) l m)
+      (λ p l m. owed_to p new.core.owed ≢ [] → IsFull l m)
       (λ p l m n first then some.
       elim (then.full some) [
         | inl worn ↦ inl worn
@@ -154,7 +153,7 @@ module _ {before : List Lanes} {mid given new : ResolverState} (h : HandedOver m
 
   pub lanes_on : Each (λ _ l m. LanesGoOn l m) before mid.lanes → Each (λ _ l m. LanesGoOn l m) before new.lanes
   lanes_on go_on =
-      Each-then (λ _ l m. LanesGoOn l m) (λ p l m. AnswersLane (owed_to p new.core.books.owed) l m)
+      Each-then (λ _ l m. LanesGoOn l m) (λ p l m. AnswersLane (owed_to p new.core.owed) l m)
       (λ _ l m. LanesGoOn l m)
       (λ p l m n first then. record {
         requests = subst (IntakeGoesOn l.requests) (sym then.requests) first.requests;
@@ -228,9 +227,9 @@ pub closed_by : (parts : Parts) (new : ResolverState) → AreParts parts → res
     → ((p : ℕ) (l : Lanes) → slice_get new.lanes p ≡ Some l → (l.replies.closed ≡ true) ↔ IsThrough new)
     → IsThrough new → parts.closed ≡ true
 closed_by parts new are is closed through =
-    elim (slice_get_cases parts.links 0).1 [
+    elim (slice_get_cases parts.all_lanes 0).1 [
       | inl k ↦
-          let at = lanes_at parts.links 0 k.0 k.2 in
+          let at = lanes_at parts.all_lanes 0 k.0 k.2 in
           sym (are.closed 0 k.0.lanes at)
           ∙ (closed 0 k.0.lanes (ap (λ (r : ResolverState). slice_get r.lanes 0) (sym is) ∙ at)).1 through
       | inr past ↦ absurd (omega (arith, past.0, are.some))
@@ -244,7 +243,7 @@ none_taken_where (Some proxy) not = absurd (not proxy refl)
 module _ (mid new : ResolverState) (a : AnswersOver mid new) (taken : Option ℕ) (closed : Bool)
     (running : mid.core.stop ≡ None) where
   pub done_means : (closed ≡ true → IsThrough new) → told taken closed ≡ turn.Done
-      → (all_ended new.lanes ≡ true) × (owed_count new.core.books.owed ≡ 0)
+      → (all_ended new.lanes ≡ true) × (owed_count new.core.owed ≡ 0)
   done_means through is =
       let ends = through (done-told taken closed is).1 in (
         elim ends.no_more [
@@ -255,7 +254,7 @@ module _ (mid new : ResolverState) (a : AnswersOver mid new) (taken : Option ℕ
       )
 
   pub done_where : (IsThrough new → closed ≡ true) → ((proxy : ℕ) → taken ≡ Some proxy → all_ended mid.lanes ≡ false)
-      → (all_ended new.lanes ≡ true) × (owed_count new.core.books.owed ≡ 0) → told taken closed ≡ turn.Done
+      → (all_ended new.lanes ≡ true) × (owed_count new.core.owed ≡ 0) → told taken closed ≡ turn.Done
   done_where through still_open both =
       let is_closed = through (record { nothing_owed = both.1; no_more = inl both.0 }) in
       let none : taken ≡ None = none_taken_where taken (λ proxy is.
@@ -264,8 +263,8 @@ module _ (mid new : ResolverState) (a : AnswersOver mid new) (taken : Option ℕ
 
 -- the conflict set and the batch at which the core stopped are the same once answers were handed out and lanes closed
 module _ {mid given new : ResolverState} (h : HandedOver mid given) (k : ClosedOver given new) where
-  pub same_set : new.core.books.set ≡ mid.core.books.set
-  same_set = ap (λ (c : CoreState). c.books.set) k.core ∙ ap (λ (b : Books). b.set) h.same.books
+  pub same_set : new.core.set ≡ mid.core.set
+  same_set = ap (λ (c : CoreState). c.set) k.core ∙ ap (λ (b : CoreState). b.set) h.same.core
 
   sent_same : (p : ℕ) → sent_to new.lanes p ≡ sent_to given.lanes p
   sent_same =
@@ -273,11 +272,11 @@ module _ {mid given new : ResolverState} (h : HandedOver mid given) (k : ClosedO
       (λ p l m at_old at_new. ap (λ (x : Lanes). x.replies.sent) (k.lanes.each p l m at_old at_new))
 
   pub stops_on : (limit : ℕ) (window : ℤ) (proxy : ℕ) (batch : Batch) (state : State)
-      → StopsAtLimit limit window proxy batch state (sent_to mid.lanes) mid.core.books
-      → StopsAtLimit limit window proxy batch state (sent_to new.lanes) new.core.books
+      → StopsAtLimit limit window proxy batch state (sent_to mid.lanes) mid.core
+      → StopsAtLimit limit window proxy batch state (sent_to new.lanes) new.core
   stops_on limit window proxy batch state stops =
-      subst (λ (c : CoreState). StopsAtLimit limit window proxy batch state (sent_to new.lanes) c.books) (sym k.core)
-      (subst (StopsAtLimit limit window proxy batch state (sent_to new.lanes)) (sym h.same.books)
-      (StopsAtLimit-moved (sent_to mid.lanes) (sent_to new.lanes) mid.core.books given.core.books.owed h.same.proxies
-      (λ p inside. ap (λ xs. xs ++ owed_to p given.core.books.owed) (sent_same p) ∙ h.made p) limit window proxy batch
+      subst (λ (c : CoreState). StopsAtLimit limit window proxy batch state (sent_to new.lanes) c) (sym k.core)
+      (subst (StopsAtLimit limit window proxy batch state (sent_to new.lanes)) (sym h.same.core)
+      (StopsAtLimit-moved (sent_to mid.lanes) (sent_to new.lanes) mid.core given.core.owed h.same.proxies
+      (λ p inside. ap (λ xs. xs ++ owed_to p given.core.owed) (sent_same p) ∙ h.made p) limit window proxy batch
       state stops))

@@ -1,4 +1,4 @@
--- Links that are settled: no list has changed, and no answer that waits.
+-- Pairs of lanes that are settled: no list has changed, and no answer that waits.
 use Rattle.std.proofs.Common.{◌≡◌, ℕ, zero, suc, ◌<◌, ◌≤◌, ◌&&◌, true, List, [], ◌∷◌, length, Some, refl, sym, ap, ap₂, subst, subst₂, ◌∙◌, inl, inr, arith}
 use Rattle.std.specs.Prelude.{slice_get}
 use Rattle.std.proofs.lemmas.Option.{none-some, same_Some, slice_get_within}
@@ -6,21 +6,21 @@ use Rattle.std.proofs.lemmas.List.{length-map}
 use Rattle.keyspace.specs.declared.answer.Answer.{Answer}
 use Rattle.lane.specs.Lane.{Lane, HasEnded}
 use Rattle.resolver.specs.declared.client.Client.{Client}
-use Rattle.resolver.specs.declared.sequential.TheConstants.{MAX_PROXIES}
+use Rattle.resolver.specs.declared.resolver_core.TheConstants.{MAX_PROXIES}
 use Rattle.resolver.specs.Owed.{owed_count}
 use Rattle.resolver.specs.Lanes.{Lanes, Each, LanesGoOn, AreSameLists, all_ended}
 use Rattle.resolver.specs.Resolver.{IsThrough, SameClients}
-use Rattle.resolver.specs.Links.{
-  LinkView,
+use Rattle.resolver.specs.Parts.{
+  ProxyLanesView,
   Parts,
   AreParts,
-  SettlesLink,
+  SettlesLanes,
   EachSettled,
   lanes_of,
   owed_with,
   resolver_of,
 }
-use Rattle.resolver.proofs.Linked.{owed_with-same}
+use Rattle.resolver.proofs.AtIndex.{owed_with-same}
 use Rattle.resolver.proofs.Settling.{lanes_at}
 
 -- an element stands at each index of a list
@@ -29,15 +29,15 @@ slice_get_inside [] i inside = absurd (omega (arith, inside))
 slice_get_inside (x ∷ xs) zero inside = (x, refl)
 slice_get_inside (x ∷ xs) (suc i) inside = slice_get_inside xs i (omega (arith, inside))
 
--- the lanes at an index are those of the link there
-pub link_at : (links : List LinkView) (proxy : ℕ) (k : Lanes) → slice_get (lanes_of links) proxy ≡ Some k
-    → (l : LinkView) × (slice_get links proxy ≡ Some l) × (l.lanes ≡ k)
-link_at [] proxy k at = absurd (none-some k at)
-link_at (l ∷ links) zero k at = (l, refl, same_Some l.lanes k at)
-link_at (l ∷ links) (suc proxy) k at = link_at links proxy k at
+-- the lanes at an index are those of the proxy there
+pub proxy_lanes_at : (all_lanes : List ProxyLanesView) (proxy : ℕ) (k : Lanes) → slice_get (lanes_of all_lanes) proxy ≡ Some k
+    → (l : ProxyLanesView) × (slice_get all_lanes proxy ≡ Some l) × (l.lanes ≡ k)
+proxy_lanes_at [] proxy k at = absurd (none-some k at)
+proxy_lanes_at (l ∷ all_lanes) zero k at = (l, refl, same_Some l.lanes k at)
+proxy_lanes_at (l ∷ all_lanes) (suc proxy) k at = proxy_lanes_at all_lanes proxy k at
 
-all_ended-same : (old new : List LinkView) → length new ≡ length old
-    → ((proxy : ℕ) (l m : LinkView) → slice_get old proxy ≡ Some l → slice_get new proxy ≡ Some m
+all_ended-same : (old new : List ProxyLanesView) → length new ≡ length old
+    → ((proxy : ℕ) (l m : ProxyLanesView) → slice_get old proxy ≡ Some l → slice_get new proxy ≡ Some m
     → m.lanes.ended ≡ l.lanes.ended)
     → all_ended (lanes_of new) ≡ all_ended (lanes_of old)
 all_ended-same [] [] count same = refl
@@ -47,20 +47,20 @@ all_ended-same (l ∷ old) (m ∷ new) count same =
     ap₂ (λ a b. a && b) (same zero l m refl refl)
     (all_ended-same old new (omega (arith, count)) (λ proxy. same (suc proxy)))
 
--- *Lane* of both lanes of each link and its client
-abbrev pub LanesHold : List LinkView → List Client → Type 0
-LanesHold links clients =
-    (proxy : ℕ) (l : LinkView) (c : Client) → slice_get links proxy ≡ Some l → slice_get clients proxy ≡ Some c
+-- *Lane* of both lanes of each pair, with its client
+abbrev pub LanesHold : List ProxyLanesView → List Client → Type 0
+LanesHold all_lanes clients =
+    (proxy : ℕ) (l : ProxyLanesView) (c : Client) → slice_get all_lanes proxy ≡ Some l → slice_get clients proxy ≡ Some c
     → Lane c.requests l.lanes.requests × Lane l.lanes.replies c.replies
 
-module _ (old new : List LinkView) (before after : List Client) (each : EachSettled old before new after)
+module _ (old new : List ProxyLanesView) (before after : List Client) (each : EachSettled old before new after)
     (count : length before ≡ length (lanes_of old)) where
   many : length before ≡ length old
   many = count ∙ length-map old (λ l. l.lanes)
 
-  -- a link and its client, before and after
-  settles_at : (proxy : ℕ) (l m : LinkView) → slice_get old proxy ≡ Some l → slice_get new proxy ≡ Some m
-      → (c d : Client) × SettlesLink l c m d
+  -- a pair of lanes and its client, before and after
+  settles_at : (proxy : ℕ) (l m : ProxyLanesView) → slice_get old proxy ≡ Some l → slice_get new proxy ≡ Some m
+      → (c d : Client) × SettlesLanes l c m d
   settles_at proxy l m l_at m_at =
       let inside = slice_get_within old proxy l l_at in
       let c = slice_get_inside before proxy (omega (arith, inside, many)) in
@@ -89,8 +89,8 @@ module _ (old new : List LinkView) (before after : List Client) (each : EachSett
   lanes_settled = record {
     count = length-map new (λ l. l.lanes) ∙ each.count ∙ sym (length-map old (λ l. l.lanes));
     each = λ proxy l m l_at m_at.
-        let k = link_at old proxy l l_at in
-        let n = link_at new proxy m m_at in
+        let k = proxy_lanes_at old proxy l l_at in
+        let n = proxy_lanes_at new proxy m m_at in
         let settles = (settles_at proxy k.0 n.0 k.1 n.1).2 in
         subst₂ (λ x y. LanesGoOn x y × AreSameLists x y) k.2 n.2 (settles.goes_on, settles.same);
   }
@@ -106,26 +106,26 @@ module _ (old new : List LinkView) (before after : List Client) (each : EachSett
         (each.each proxy l.0 m.0 c d l.1 m.1 c_at d_at).client;
   }
 
--- the parts of a resolver, with these links
-abbrev pub with_links : Parts → List LinkView → Parts
-with_links p links = record p { links = links }
+-- the parts of a resolver, with these pairs of lanes
+abbrev pub with_all_lanes : Parts → List ProxyLanesView → Parts
+with_all_lanes p all_lanes = record p { all_lanes = all_lanes }
 
-module _ (p : Parts) (new : List LinkView) (before after : List Client)
-    (each : EachSettled p.links before new after) (count : length before ≡ length (lanes_of p.links)) where
-  owed_same : owed_with new p.core.books.owed ≡ owed_with p.links p.core.books.owed
-  owed_same = owed_with-settled p.links new before after each count p.core.books.owed
+module _ (p : Parts) (new : List ProxyLanesView) (before after : List Client)
+    (each : EachSettled p.all_lanes before new after) (count : length before ≡ length (lanes_of p.all_lanes)) where
+  owed_same : owed_with new p.core.owed ≡ owed_with p.all_lanes p.core.owed
+  owed_same = owed_with-settled p.all_lanes new before after each count p.core.owed
 
-  ended_same : all_ended (lanes_of new) ≡ all_ended (lanes_of p.links)
-  ended_same = all_ended-settled p.links new before after each count
+  ended_same : all_ended (lanes_of new) ≡ all_ended (lanes_of p.all_lanes)
+  ended_same = all_ended-settled p.all_lanes new before after each count
 
-  through_settled : IsThrough (resolver_of p) → IsThrough (resolver_of (with_links p new))
+  through_settled : IsThrough (resolver_of p) → IsThrough (resolver_of (with_all_lanes p new))
   through_settled through = record {
     nothing_owed = ap owed_count owed_same ∙ through.nothing_owed;
     no_more = elim through.no_more [ inl ended ↦ inl (ended_same ∙ ended) | inr stop ↦ inr stop ];
   }
 
   -- they are still the parts of a resolver
-  pub AreParts-settled : AreParts p → AreParts (with_links p new)
+  pub AreParts-settled : AreParts p → AreParts (with_all_lanes p new)
   AreParts-settled are = record {
     count = each.count ∙ are.count;
     few = subst (λ n. n ≤ MAX_PROXIES) (sym each.count) are.few;
@@ -133,26 +133,26 @@ module _ (p : Parts) (new : List LinkView) (before after : List Client)
     in_range = subst (λ n. p.next ≤ n) (sym each.count) are.in_range;
     finished = λ none. are.finished none ∙ sym ended_same;
     ended = λ proxy k at.
-        let m = link_at new proxy k at in
-        let l = old_link proxy m.0 m.1 in
+        let m = proxy_lanes_at new proxy k at in
+        let l = old_proxy_lanes proxy m.0 m.1 in
         subst (λ lanes. lanes.ended ≡ true → HasEnded lanes.requests) m.2
-        ((settled proxy l.0 m.0 l.1 m.1).at_end (are.ended proxy l.0.lanes (lanes_at p.links proxy l.0 l.1)));
+        ((settled proxy l.0 m.0 l.1 m.1).at_end (are.ended proxy l.0.lanes (lanes_at p.all_lanes proxy l.0 l.1)));
     closed = λ proxy k at.
-        let m = link_at new proxy k at in
-        let l = old_link proxy m.0 m.1 in
+        let m = proxy_lanes_at new proxy k at in
+        let l = old_proxy_lanes proxy m.0 m.1 in
         ap (λ lanes. lanes.replies.closed) (sym m.2) ∙ (settled proxy l.0 m.0 l.1 m.1).same.closed
-        ∙ are.closed proxy l.0.lanes (lanes_at p.links proxy l.0 l.1);
+        ∙ are.closed proxy l.0.lanes (lanes_at p.all_lanes proxy l.0 l.1);
     through = λ closed. through_settled (are.through closed);
   }
     where
-      old_link : (proxy : ℕ) (m : LinkView) → slice_get new proxy ≡ Some m
-          → (l : LinkView) × (slice_get p.links proxy ≡ Some l)
-      old_link proxy m at =
+      old_proxy_lanes : (proxy : ℕ) (m : ProxyLanesView) → slice_get new proxy ≡ Some m
+          → (l : ProxyLanesView) × (slice_get p.all_lanes proxy ≡ Some l)
+      old_proxy_lanes proxy m at =
           let inside = slice_get_within new proxy m at in
-          slice_get_inside p.links proxy (omega (arith, inside, each.count))
+          slice_get_inside p.all_lanes proxy (omega (arith, inside, each.count))
 
-      settled : (proxy : ℕ) (l m : LinkView) (l_at : slice_get p.links proxy ≡ Some l)
+      settled : (proxy : ℕ) (l m : ProxyLanesView) (l_at : slice_get p.all_lanes proxy ≡ Some l)
           (m_at : slice_get new proxy ≡ Some m)
-          → SettlesLink l (settles_at p.links new before after each count proxy l m l_at m_at).0 m
-          (settles_at p.links new before after each count proxy l m l_at m_at).1
-      settled proxy l m l_at m_at = (settles_at p.links new before after each count proxy l m l_at m_at).2
+          → SettlesLanes l (settles_at p.all_lanes new before after each count proxy l m l_at m_at).0 m
+          (settles_at p.all_lanes new before after each count proxy l m l_at m_at).1
+      settled proxy l m l_at m_at = (settles_at p.all_lanes new before after each count proxy l m l_at m_at).2

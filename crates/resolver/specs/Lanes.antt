@@ -5,7 +5,7 @@ use Rattle.keyspace.specs.declared.batch.Batch.{Batch}
 use Rattle.keyspace.specs.declared.answer.Answer.{Answer}
 use Rattle.lane.specs.declared.port.TheConstants.{MAX_SENT}
 use Rattle.lane.specs.Lane.{IntakeView, PortView, IntakeGoesOn, PortGoesOn}
-use Rattle.resolver.specs.Books.{Given}
+use Rattle.resolver.specs.Core.{Given}
 
 -- the resolver's ends of the two lanes of a proxy
 pub record Lanes : Type 0 where

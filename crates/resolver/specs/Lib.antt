@@ -1,10 +1,10 @@
 -- In the order in which one reads them aloud.
 pub mod Stop
 pub mod Owed
-pub mod Books
+pub mod Core
 pub mod Stands
 pub mod Lanes
 pub mod Resolver
 pub mod Share
-pub mod Links
+pub mod Parts
 pub mod Settled

@@ -7,7 +7,8 @@ use Rattle.resolver.specs.declared.client.Client.{Client}
 use Rattle.resolver.specs.declared.turn.Turn.{Turn}
 use Rattle.resolver.specs.declared.turn.Turn.TheVariants as turn
 use Rattle.resolver.specs.Owed.{owed_count}
-use Rattle.resolver.specs.Stands.{CoreState, Stands}
+use Rattle.resolver.specs.Core.{CoreState}
+use Rattle.resolver.specs.Stands.{Stands}
 use Rattle.resolver.specs.Lanes.{Lanes, taken_from, sent_to, all_ended, TakesOne, TakesNone}
 
 -- a resolver over lanes
@@ -94,7 +95,7 @@ IfNotTaken turn.Done P = P
 
 -- Nothing is owed, and no answer is still to come: all request lanes have ended or a stop was met.
 pub record IsThrough (r : ResolverState) : Type 0 where
-  pub nothing_owed : owed_count r.core.books.owed ≡ 0
+  pub nothing_owed : owed_count r.core.owed ≡ 0
   pub no_more : (all_ended r.lanes ≡ true) ⊎ IsSome r.core.stop
 
 -- the clients are those of these lanes, each at its number
@@ -110,8 +111,8 @@ pub record AreClients (lanes : List Lanes) (clients : List Client) : Type 0 wher
 -- answers were handed out, and nothing else was done
 pub record SameBut (old new : ResolverState) : Type 0 where
   pub stop : new.core.stop ≡ old.core.stop
-  pub books : new.core.books ≡ record old.core.books { owed = new.core.books.owed }
-  pub proxies : length new.core.books.owed ≡ length old.core.books.owed
+  pub core : new.core ≡ record old.core { owed = new.core.owed }
+  pub proxies : length new.core.owed ≡ length old.core.owed
   pub next : new.next ≡ old.next
 
 -- the clients later: as many, each with the same ends and lists

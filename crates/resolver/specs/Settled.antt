@@ -4,7 +4,7 @@ use Rattle.keyspace.specs.Chain.{IsChain}
 use Rattle.keyspace.specs.Run.{Step, run, answers, part}
 use Rattle.resolver.specs.declared.client.Client.{Client}
 use Rattle.resolver.specs.declared.turn.Account.{Account}
-use Rattle.resolver.specs.Books.{IsBeginning}
+use Rattle.resolver.specs.Core.{IsBeginning}
 use Rattle.resolver.specs.Lanes.{Lanes, sent_to}
 use Rattle.resolver.specs.Resolver.{ResolverState, TakesOnlyFrom, FinishesLast}
 

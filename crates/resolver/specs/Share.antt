@@ -2,7 +2,7 @@
 use Rattle.std.specs.Prelude.{ℕ, ◌+◌, ◌/◌, ◌<◌, ◌≤◌, length}
 use Rattle.chain.specs.declared.gate.TheConstants.{MAX_HELD}
 use Rattle.resolver.specs.declared.client.Client.{Client}
-use Rattle.resolver.specs.Books.{made_to}
+use Rattle.resolver.specs.Core.{made_to}
 use Rattle.resolver.specs.Lanes.{taken_from, sent_to}
 use Rattle.resolver.specs.Resolver.{ResolverState}
 
@@ -13,7 +13,7 @@ share_of proxies = MAX_HELD / proxies
 -- more than so many batches of the proxy were taken for which no answer was made
 abbrev pub HasMoreUnanswered : ℕ → ℕ → ResolverState → Type 0
 HasMoreUnanswered share proxy r =
-    length (made_to proxy (sent_to r.lanes) r.core.books) + share < length (taken_from r.lanes proxy)
+    length (made_to proxy (sent_to r.lanes) r.core) + share < length (taken_from r.lanes proxy)
 
 -- the client has at most so many batches sent for which it has received no answer
 abbrev pub KeepsShare : ℕ → Client → Type 0

@@ -14,23 +14,22 @@
 //! isn't one that has more unanswered.
 #![tactic(auto)]
 
-mod books;
+mod all_lanes;
 mod client;
 pub mod laws;
-mod link;
-mod links;
 mod opening;
-mod over_lanes;
 mod owed;
-mod sequential;
+mod proxy_lanes;
+mod resolver;
+mod resolver_core;
 mod sharing;
 mod stop;
 mod turn;
 
 pub use client::Client;
 pub use opening::open;
-pub use over_lanes::Resolver;
-pub use sequential::{Core, MAX_PROXIES};
+pub use resolver::Resolver;
+pub use resolver_core::{Core, MAX_PROXIES};
 pub use sharing::share;
 pub use stop::{OpenError, Stop};
 pub use turn::{Account, Turn};

@@ -5,15 +5,15 @@ ghost use Rattle.stepmap.specs.declared.step_map.TheConstants.{MAX_LIMIT};
 ghost use Rattle.conflict.specs.declared.conflict_set.TheConstants.{MAX_WINDOW};
 ghost use Rattle.lane.specs.Lane.{SameLane};
 ghost use Rattle.lane.specs.declared.ends.TheConstants.{MAX_CAPACITY};
-ghost use Rattle.resolver.specs.declared.sequential.TheConstants.{MAX_PROXIES};
+ghost use Rattle.resolver.specs.declared.resolver_core.TheConstants.{MAX_PROXIES};
 ghost use Rattle.resolver.specs.Lanes.{Lanes};
 ghost use Rattle.resolver.specs.Resolver.{StandsOver, IsResolving, AreClients, IsNewClient};
-ghost use Rattle.resolver.specs.Links.{IsNewLink, AreConnected};
+ghost use Rattle.resolver.specs.Parts.{AreNewLanes, AreConnected};
 
 use crate::client::Client;
-use crate::link::Link;
-use crate::over_lanes::Resolver;
-use crate::sequential::{Core, MAX_PROXIES};
+use crate::proxy_lanes::ProxyLanes;
+use crate::resolver::Resolver;
+use crate::resolver_core::{Core, MAX_PROXIES};
 use crate::stop::OpenError;
 use lane::{LaneError, MAX_CAPACITY, lane};
 use std::alloc::Global;
@@ -39,15 +39,15 @@ pub fn open(
     ensures resolving { IfOk result (λ opened. IsResolving opened.0) }
     ensures no_stop { IfOk result (λ opened. opened.0.core.stop ≡ None) }
     ensures next { IfOk result (λ opened. opened.0.next ≡ 0) }
-    ensures window { IfOk result (λ opened. opened.0.core.books.set.window ≡ window) }
-    ensures limit { IfOk result (λ opened. opened.0.core.books.set.map.limit ≡ limit) }
+    ensures window { IfOk result (λ opened. opened.0.core.set.window ≡ window) }
+    ensures limit { IfOk result (λ opened. opened.0.core.set.map.limit ≡ limit) }
     ensures proxies { IfOk result (λ opened. length opened.1.items ≡ proxies) }
     ensures clients { IfOk result (λ opened. AreClients opened.0.lanes opened.1.items) }
     ensures new_clients { IfOk result (λ opened. All (IsNewClient capacity) opened.1.items) }
 {
     let core = Core::new(alloc, proxies, window, limit)?;
-    let (links, clients) = connect_all(alloc, proxies, capacity)?;
-    Ok((Resolver::new(core, links), clients))
+    let (all_lanes, clients) = connect_all(alloc, proxies, capacity)?;
+    Ok((Resolver::new(core, all_lanes), clients))
 }
 
 // Makes the lanes of so many proxies.
@@ -55,26 +55,26 @@ fn connect_all(
     alloc: Global,
     proxies: usize,
     capacity: usize,
-) -> Result<(Vec<Link>, Vec<Client>), OpenError>
+) -> Result<(Vec<ProxyLanes>, Vec<Client>), OpenError>
     requires least_capacity { 1 ≤ capacity }
     requires most_capacity { capacity ≤ MAX_CAPACITY }
     ensures connected { IfOk result (λ ends. AreConnected capacity proxies ends.0.items ends.1.items) }
 {
-    let mut links = Vec::with_capacity(alloc, proxies)?;
+    let mut all_lanes = Vec::with_capacity(alloc, proxies)?;
     let mut clients = Vec::with_capacity(alloc, proxies)?;
     for _ in 0..proxies {
-        let (link, client) = connect(alloc, capacity)?;
-        links.push_reserved(link);
+        let (proxy_lanes, client) = connect(alloc, capacity)?;
+        all_lanes.push_reserved(proxy_lanes);
         clients.push_reserved(client);
     }
-    Ok((links, clients))
+    Ok((all_lanes, clients))
 }
 
 // Makes the two lanes of a proxy.
-fn connect(alloc: Global, capacity: usize) -> Result<(Link, Client), LaneError>
+fn connect(alloc: Global, capacity: usize) -> Result<(ProxyLanes, Client), LaneError>
     requires least_capacity { 1 ≤ capacity }
     requires most_capacity { capacity ≤ MAX_CAPACITY }
-    ensures link { IfOk result (λ ends. IsNewLink ends.0) }
+    ensures proxy_lanes { IfOk result (λ ends. AreNewLanes ends.0) }
     ensures client { IfOk result (λ ends. IsNewClient capacity ends.1) }
     ensures requests { IfOk result (λ ends. SameLane ends.1.requests ends.0.lanes.requests) }
     ensures replies { IfOk result (λ ends. SameLane ends.0.lanes.replies ends.1.replies) }
@@ -85,5 +85,5 @@ fn connect(alloc: Global, capacity: usize) -> Result<(Link, Client), LaneError>
         requests: send_requests,
         replies: take_replies,
     };
-    Ok((Link::new(take_requests, send_replies), client))
+    Ok((ProxyLanes::new(take_requests, send_replies), client))
 }

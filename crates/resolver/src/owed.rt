@@ -1,8 +1,10 @@
+//! The answers owed to each proxy, in the order in which they were made.
+
 ghost use Rattle.std.specs.Prelude.{◌≡◌, ◌+◌, ◌^◌, ◌<◌, [], ◌∷◌, ◌++◌, length, replicate, IfOk, OnOk, IfNone, IfSome, option_to_list};
 ghost use Rattle.resolver.specs.Owed.{owed_to, owed_also, given_oldest, owed_count, HasRoomFor};
-ghost use Rattle.resolver.specs.declared.sequential.TheConstants.{MAX_PROXIES};
+ghost use Rattle.resolver.specs.declared.resolver_core.TheConstants.{MAX_PROXIES};
 
-use crate::sequential::MAX_PROXIES;
+use crate::resolver_core::MAX_PROXIES;
 use keyspace::Answer;
 use std::alloc::{AllocError, Global};
 use std::collections::VecDeque;

@@ -1,3 +1,5 @@
+//! Why a resolver stops, and why none is made.
+
 ghost use Rattle.std.specs.Prelude.{◌≡◌};
 ghost use Rattle.resolver.specs.Stop.{stop_at_set, stop_at_chain};
 

@@ -11,7 +11,7 @@ use Rattle.keyspace.specs.Run.{Step, answers, part}
 use Rattle.lane.specs.Lane.{PortGoesOn, IntakeGoesOn}
 use Rattle.resolver.specs.declared.client.Client.{Client}
 use Rattle.uses.specs.declared.serving.Served.{Served}
-use Rattle.resolver.specs.Books.{GoOn, IsBeginning}
+use Rattle.resolver.specs.Core.{GoesOn, IsBeginning}
 use Rattle.resolver.specs.Lanes.{Each, LanesGoOn}
 use Rattle.resolver.specs.Resolver.{ResolverState, IsResolving, TakesOnlyFrom, AreClients, IsNewClient}
 use Rattle.resolver.specs.Settled.{Settled, SettledFor}
@@ -34,7 +34,7 @@ both_same x (suc (suc i)) y at = absurd (none-some y at)
 module _ (window : ℤ) (r : ResolverState) (clients : List Client) (sent : List (List Batch))
     (taken : List (List Answer)) (are : AreServing window r clients sent taken) where
   -- and after a turn of the resolver
-  pub serving_turned : (s : ResolverState) → IsResolving s → GoOn r.core.books s.core.books
+  pub serving_turned : (s : ResolverState) → IsResolving s → GoesOn r.core s.core
       → Each (λ _ l m. LanesGoOn l m) r.lanes s.lanes → AreServing window s clients sent taken
   serving_turned s resolving goes_on lanes = record {
     resolving = resolving;
@@ -145,7 +145,7 @@ new_at capacity clients proxy c new at =
 
 -- at the opening nothing was sent or taken
 pub serving_opened : (window : ℤ) (r : ResolverState) (clients : List Client) (capacity : ℕ) → IsResolving r
-    → r.core.books.set.window ≡ window → AreClients r.lanes clients → length clients ≡ 2
+    → r.core.set.window ≡ window → AreClients r.lanes clients → length clients ≡ 2
     → All (IsNewClient capacity) clients → AreServing window r clients ([] ∷ [] ∷ []) ([] ∷ [] ∷ [])
 serving_opened window r clients capacity resolving window_is same count new = record {
   resolving = resolving;
@@ -176,7 +176,7 @@ served_for window log ended complete proxy c batches told settled done = record 
 -- so the account that settles the clients tells of both proxies
 pub serving_settled : (window : ℤ) (r : ResolverState) (clients : List Client) (first second : Batch) (served : Served)
     → (are : AreServing window r clients ((first ∷ []) ∷ (second ∷ []) ∷ []) (served.first.items ∷ served.second.items ∷ []))
-    → ((log : List Step) × Settled r.core.books.set.window log (map (λ l. l.ended) r.lanes) clients served.account)
+    → ((log : List Step) × Settled r.core.set.window log (map (λ l. l.ended) r.lanes) clients served.account)
     → (log : List Step) × AreServed window log first second served
 serving_settled window r clients first second served are settled = (
   log,

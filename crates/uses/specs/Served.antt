@@ -6,7 +6,7 @@ use Rattle.keyspace.specs.Chain.{IsChain}
 use Rattle.keyspace.specs.Run.{Step, run, answers, part}
 use Rattle.resolver.specs.declared.client.Client.{Client}
 use Rattle.uses.specs.declared.serving.Served.{Served}
-use Rattle.resolver.specs.Books.{IsBeginning}
+use Rattle.resolver.specs.Core.{IsBeginning}
 use Rattle.resolver.specs.Resolver.{ResolverState, IsResolving, AreClients, TakesOnlyFrom, FinishesLast}
 
 -- a client that has sent these batches and taken these answers
@@ -18,7 +18,7 @@ pub record HasDone (batches : List Batch) (answers : List Answer) (c : Client) :
 pub record AreServing (window : ℤ) (r : ResolverState) (clients : List Client) (sent : List (List Batch))
     (taken : List (List Answer)) : Type 0 where
   pub resolving : IsResolving r
-  pub window_is : r.core.books.set.window ≡ window
+  pub window_is : r.core.set.window ≡ window
   pub same_lanes : AreClients r.lanes clients
   pub sent_count : length sent ≡ length clients
   pub taken_count : length taken ≡ length clients

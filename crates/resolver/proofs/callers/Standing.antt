@@ -1,2 +1,2 @@
 -- Lemmas for callers: a core that stands for a log.
-pub use Rattle.resolver.proofs.Standing.{AreOf-standing}
+pub use Rattle.resolver.proofs.Standing.{IsIn-standing}

@@ -110,8 +110,8 @@ returns g c =
           (all_ended proxy client (ap (λ (l : List Client). slice_get l proxy) (sym handed_back) ∙ at));
     }) in
     let met = subst (λ (limit : ℕ). IfSome account.stop (IsStopOf limit c.args.options.window told.log)) limit_is
-    (subst (λ (window : ℤ). IfSome account.stop (IsStopOf resolver.core.books.set.map.limit window told.log)) window_is
-    (subst (λ (stop : Option Stop). IfSome stop (IsStopOf resolver.core.books.set.map.limit resolver.core.books.set.window told.log))
+    (subst (λ (window : ℤ). IfSome account.stop (IsStopOf resolver.core.set.map.limit window told.log)) window_is
+    (subst (λ (stop : Option Stop). IfSome stop (IsStopOf resolver.core.set.map.limit resolver.core.set.window told.log))
     (sym c.settle-account.ensures.stop) told.met)) in
     record {
       run = is_run g.S.Source.remaining c.args.options share readers clients worked.0 c.join_all-outcome.result told.log ended

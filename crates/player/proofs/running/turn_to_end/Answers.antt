@@ -1,5 +1,5 @@
 use Rattle.player.proofs.SameLanes.{lanes_go_on}
-use Rattle.player.proofs.Stopping.{accounted_turn, books_go_on}
+use Rattle.player.proofs.Stopping.{accounted_turn, core_goes_on}
 use Rattle.player.proofs.running.turn_to_end.Goals as goal
 
 pub loop-preserved-in-Ok-Took : goal.loop-preserved-in-Ok-Took
@@ -9,7 +9,7 @@ loop-preserved-in-Ok-Took g c = record {
       accounted_turn c.loop.resolver c.turn.new.self c.turn.ensures.goes_on c.turn.result c.turn.ensures.step
       c.turn.ensures.stop_met c.turn.ensures.stopped c.turn.ensures.stop c.turn.ensures.stop_stays c.turn.ensures.no_stop
       c.turn.ensures.gate_full c.turn.ensures.arena_full (c.loop.invariant.accounted first);
-  goes_on = books_go_on _ c.loop.resolver.core.books _ c.loop.invariant.goes_on c.turn.ensures.goes_on;
+  goes_on = core_goes_on _ c.loop.resolver.core _ c.loop.invariant.goes_on c.turn.ensures.goes_on;
   lanes = lanes_go_on _ c.loop.resolver.lanes _ c.loop.invariant.lanes c.turn.ensures.lanes;
 }
 
@@ -20,7 +20,7 @@ loop-preserved-in-Ok-Idle g c = record {
       accounted_turn c.loop.resolver c.turn.new.self c.turn.ensures.goes_on c.turn.result c.turn.ensures.step
       c.turn.ensures.stop_met c.turn.ensures.stopped c.turn.ensures.stop c.turn.ensures.stop_stays c.turn.ensures.no_stop
       c.turn.ensures.gate_full c.turn.ensures.arena_full (c.loop.invariant.accounted first);
-  goes_on = books_go_on _ c.loop.resolver.core.books _ c.loop.invariant.goes_on c.turn.ensures.goes_on;
+  goes_on = core_goes_on _ c.loop.resolver.core _ c.loop.invariant.goes_on c.turn.ensures.goes_on;
   lanes = lanes_go_on _ c.loop.resolver.lanes _ c.loop.invariant.lanes c.turn.ensures.lanes;
 }
 
@@ -31,7 +31,7 @@ loop-preserved g c = record {
       accounted_turn c.loop.resolver c.turn.new.self c.turn.ensures.goes_on c.turn.result c.turn.ensures.step
       c.turn.ensures.stop_met c.turn.ensures.stopped c.turn.ensures.stop c.turn.ensures.stop_stays c.turn.ensures.no_stop
       c.turn.ensures.gate_full c.turn.ensures.arena_full (c.loop.invariant.accounted first);
-  goes_on = books_go_on _ c.loop.resolver.core.books _ c.loop.invariant.goes_on c.turn.ensures.goes_on;
+  goes_on = core_goes_on _ c.loop.resolver.core _ c.loop.invariant.goes_on c.turn.ensures.goes_on;
   lanes = lanes_go_on _ c.loop.resolver.lanes _ c.loop.invariant.lanes c.turn.ensures.lanes;
 }
 

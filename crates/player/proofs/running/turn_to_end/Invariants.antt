@@ -1,4 +1,4 @@
-use Rattle.resolver.specs.Books.{GoOn}
+use Rattle.resolver.specs.Core.{GoesOn}
 use Rattle.resolver.specs.Lanes.{Each, LanesGoOn}
 use Rattle.resolver.specs.Resolver.{IsResolving}
 use Rattle.player.specs.Stops.{IsAccountedFor}
@@ -8,6 +8,6 @@ abbrev pub invariant-loop : goal.invariant-loop
 invariant-loop g l = record {
   resolving : IsResolving l.fn.resolver → IsResolving l.resolver;
   accounted : IsAccountedFor l.fn.resolver → IsAccountedFor l.resolver;
-  goes_on : GoOn l.fn.resolver.core.books l.resolver.core.books;
+  goes_on : GoesOn l.fn.resolver.core l.resolver.core;
   lanes : Each (λ _ l m. LanesGoOn l m) l.fn.resolver.lanes l.resolver.lanes;
 }

@@ -1,0 +1,445 @@
+use Rattle.std.proofs.Common.{◌≡◌, ℕ, ◌+◌, ◌<◌, length, None, Err, sym, ap, subst, ◌∙◌, refl, inl, inr, true, false}
+use Rattle.std.specs.Prelude.{◌<ℤ◌}
+use Rattle.chain.specs.declared.gate.TheConstants.{MAX_HELD}
+use Rattle.std.specs.Vec.{with_items}
+use Rattle.keyspace.specs.Run.{run}
+use Rattle.resolver.specs.declared.stop.Stop.TheVariants.{GateFull, ArenaFull}
+use Rattle.resolver.specs.Core.{GoesOn, StopsAtLimit}
+use Rattle.resolver.specs.Lanes.{Each, LanesGoOn, IsLookedThrough, ComesBefore, all_ended, sent_to}
+use Rattle.resolver.specs.Resolver.{ResolverState, StandsOver, TakesFrom, Finishes, TakesNoStep}
+use Rattle.resolver.specs.Parts.{Parts, resolver_of, lanes_of, AreParts, FindsOne, FindsNone}
+use Rattle.resolver.proofs.Stops.{same_stop, IfErr-always}
+use Rattle.resolver.proofs.Stepping.{
+  none_of,
+  ok_some,
+  same_bools,
+  other_than_false,
+  newly_ended,
+  go_on_itself,
+  found_in,
+  none_found_in,
+  parts_taken,
+  takes_from,
+  takes_when,
+  takes_over,
+  stops_at_limit,
+  replies_taken,
+  lanes_taken,
+  passed_taken,
+  some_after,
+  goes_on_taken,
+  parts_looked,
+  replies_looked,
+  lanes_looked,
+  all_looked,
+  goes_on_looked,
+  open_before,
+  finishes_now,
+  through_still,
+  takes_no_step,
+}
+use Rattle.resolver.proofs.resolver.Resolver.step.Goals as goal
+
+-- a batch was found, and a stop was met as it was admitted
+module _ (c : goal.After-from_residual) where
+  abbrev stopped_old : Parts
+  stopped_old = record {
+    core = c.self.inside.core;
+    all_lanes = c.self.inside.all_lanes.items;
+    next = c.self.inside.next;
+    finished = c.self.inside.finished;
+    closed = c.self.inside.closed;
+  }
+
+  abbrev stopped_new : Parts
+  stopped_new = record {
+    core = c.admit.new.self;
+    all_lanes = (with_items c.self.inside.all_lanes c.take_from.new.all_lanes).items;
+    next = c.in-Some-take_from.proxy + 1;
+    finished = c.self.inside.finished;
+    closed = c.self.inside.closed;
+  }
+
+  stopped_running : c.self.inside.core.stop ≡ None
+  stopped_running = sym c.stop.ensures.stop ∙ none_of c.stop.result c.in_default.not-Some
+
+  stopped_found :
+      FindsOne (λ p. ComesBefore c.self.inside.next p c.in-Some-take_from.proxy) c.in-Some-take_from.proxy
+      c.in-Some-take_from.batch c.self.inside.all_lanes.items (with_items c.self.inside.all_lanes c.take_from.new.all_lanes).items
+  stopped_found =
+      found_in c.self.inside.all_lanes c.take_from.new.all_lanes c.deref_mut.result.now c.deref_mut.ensures.value
+      c.self.inside.next c.in-Some-take_from.proxy c.in-Some-take_from.batch c.in-Some-take_from.ensures.found
+
+  stopped_takes : TakesFrom c.in-Some-take_from.proxy c.args.self.now (resolver_of stopped_new)
+  stopped_takes =
+      subst (λ r. TakesFrom c.in-Some-take_from.proxy r (resolver_of stopped_new)) c.self.view_is
+      (takes_from stopped_old stopped_new c.self.inside.next c.in-Some-take_from.proxy c.in-Some-take_from.batch
+      stopped_found c.self.invariant stopped_running c.admit.ensures.goes_on refl refl refl
+      (c.admit.ensures.stands stopped_running))
+
+-- a batch was found, and it was admitted
+module _ (c : goal.In_ok-admit-in-Some-take_from) where
+  abbrev admitted_old : Parts
+  admitted_old = record {
+    core = c.self.inside.core;
+    all_lanes = c.self.inside.all_lanes.items;
+    next = c.self.inside.next;
+    finished = c.self.inside.finished;
+    closed = c.self.inside.closed;
+  }
+
+  abbrev admitted_new : Parts
+  admitted_new = record {
+    core = c.admit.new.self;
+    all_lanes = (with_items c.self.inside.all_lanes c.take_from.new.all_lanes).items;
+    next = c.in-Some-take_from.proxy + 1;
+    finished = c.self.inside.finished;
+    closed = c.self.inside.closed;
+  }
+
+  admitted_running : c.self.inside.core.stop ≡ None
+  admitted_running = sym c.stop.ensures.stop ∙ none_of c.stop.result c.in_default.not-Some
+
+  admitted_found :
+      FindsOne (λ p. ComesBefore c.self.inside.next p c.in-Some-take_from.proxy) c.in-Some-take_from.proxy
+      c.in-Some-take_from.batch c.self.inside.all_lanes.items (with_items c.self.inside.all_lanes c.take_from.new.all_lanes).items
+  admitted_found =
+      found_in c.self.inside.all_lanes c.take_from.new.all_lanes c.deref_mut.result.now c.deref_mut.ensures.value
+      c.self.inside.next c.in-Some-take_from.proxy c.in-Some-take_from.batch c.in-Some-take_from.ensures.found
+
+  admitted_takes : TakesFrom c.in-Some-take_from.proxy c.args.self.now (resolver_of admitted_new)
+  admitted_takes =
+      subst (λ r. TakesFrom c.in-Some-take_from.proxy r (resolver_of admitted_new)) c.self.view_is
+      (takes_from admitted_old admitted_new c.self.inside.next c.in-Some-take_from.proxy c.in-Some-take_from.batch
+      admitted_found c.self.invariant admitted_running c.admit.ensures.goes_on refl refl refl
+      (c.admit.ensures.stands admitted_running))
+
+pub invariant_of-self : goal.invariant_of-self
+invariant_of-self c =
+    parts_taken (stopped_old c) (stopped_new c) c.self.inside.next c.in-Some-take_from.proxy c.in-Some-take_from.batch
+    (stopped_found c) c.self.invariant (stopped_running c) c.admit.ensures.goes_on refl refl refl
+
+pub invariant_of-self-in-Some-take_from : goal.invariant_of-self-in-Some-take_from
+invariant_of-self-in-Some-take_from c =
+    parts_taken (admitted_old c) (admitted_new c) c.self.inside.next c.in-Some-take_from.proxy c.in-Some-take_from.batch
+    (admitted_found c) c.self.invariant (admitted_running c) c.admit.ensures.goes_on refl refl refl
+
+pub returns-in_err-admit-in-Some-take_from-clause-stop_met : goal.returns-in_err-admit-in-Some-take_from-clause-stop_met
+returns-in_err-admit-in-Some-take_from-clause-stop_met c =
+    IfErr-always c.from_residual.result (λ _. inl (c.in-Some-take_from.proxy, stopped_takes c))
+
+pub returns-in_err-admit-in-Some-take_from-clause-gate_full : goal.returns-in_err-admit-in-Some-take_from-clause-gate_full
+returns-in_err-admit-in-Some-take_from-clause-gate_full c =
+    λ running is.
+    let stop = c.in_err-admit-in-Some-take_from.field-0.0 in
+    let met = same_stop c.from_residual.result stop GateFull c.from_residual.ensures.1 is in
+    let full = (c.admit.ensures.gate_full (stopped_running c)).0 (c.in_err-admit-in-Some-take_from.was ∙ ap Err met) in
+    let took = takes_when (stopped_old c) (stopped_new c) c.self.inside.next c.in-Some-take_from.proxy c.in-Some-take_from.batch
+    (stopped_found c) c.self.invariant (stopped_running c) c.admit.ensures.goes_on refl refl refl (λ b. (c.self.inside.core.version <ℤ b.previous) × (length c.self.inside.core.held ≡ MAX_HELD)) full
+    (c.admit.ensures.stands (stopped_running c)) in
+    subst (λ (r : ResolverState). (p : ℕ) × (t : TakesFrom p r (resolver_of (stopped_new c)))
+    × (r.core.version <ℤ t.batch.previous) × (length r.core.held ≡ MAX_HELD)) c.self.view_is
+    (took.0, took.1, took.2.0, took.2.1)
+
+pub returns-in_err-admit-in-Some-take_from-clause-arena_full : goal.returns-in_err-admit-in-Some-take_from-clause-arena_full
+returns-in_err-admit-in-Some-take_from-clause-arena_full c =
+    λ running is log s.
+    let stop = c.in_err-admit-in-Some-take_from.field-0.0 in
+    let met = same_stop c.from_residual.result stop ArenaFull c.from_residual.ensures.1 is in
+    let limit = c.self.inside.core.set.map.limit in
+    let window = c.self.inside.core.set.window in
+    let given = sent_to (lanes_of (stopped_new c).all_lanes) in
+    let core = (resolver_of (stopped_new c)).core in
+    subst (λ (r : ResolverState). (p : ℕ) × (t : TakesFrom p r (resolver_of (stopped_new c)))
+    × StopsAtLimit r.core.set.map.limit r.core.set.window p t.batch (run r.core.set.window log) given core)
+    c.self.view_is
+    (takes_over (stopped_old c) (stopped_new c) c.self.inside.next c.in-Some-take_from.proxy c.in-Some-take_from.batch
+    (stopped_found c) c.self.invariant (stopped_running c) c.admit.ensures.goes_on refl refl refl (λ p b. StopsAtLimit limit window p b (run window log) given core)
+    (stops_at_limit (stopped_old c) (stopped_new c) c.self.inside.next c.in-Some-take_from.proxy c.in-Some-take_from.batch
+    (stopped_found c) c.self.invariant (stopped_running c) c.admit.ensures.goes_on refl refl refl log
+    (subst (λ r. StandsOver r log) (sym c.self.view_is) s)
+    (c.admit.ensures.arena_full (stopped_running c) (c.in_err-admit-in-Some-take_from.was ∙ ap Err met)))
+    (c.admit.ensures.stands (stopped_running c)))
+
+pub returns-in_err-admit-in-Some-take_from-clause-replies : goal.returns-in_err-admit-in-Some-take_from-clause-replies
+returns-in_err-admit-in-Some-take_from-clause-replies c =
+    subst (λ (r : ResolverState). Each (λ p l m. m.replies ≡ l.replies) r.lanes (lanes_of (stopped_new c).all_lanes)) c.self.view_is
+    (replies_taken (stopped_old c) (stopped_new c) c.self.inside.next c.in-Some-take_from.proxy c.in-Some-take_from.batch
+    (stopped_found c) c.self.invariant (stopped_running c) c.admit.ensures.goes_on refl refl refl)
+
+pub returns-in_err-admit-in-Some-take_from-clause-lanes : goal.returns-in_err-admit-in-Some-take_from-clause-lanes
+returns-in_err-admit-in-Some-take_from-clause-lanes c =
+    subst (λ (r : ResolverState). Each (λ p l m. LanesGoOn l m) r.lanes (lanes_of (stopped_new c).all_lanes)) c.self.view_is
+    (lanes_taken (stopped_old c) (stopped_new c) c.self.inside.next c.in-Some-take_from.proxy c.in-Some-take_from.batch
+    (stopped_found c) c.self.invariant (stopped_running c) c.admit.ensures.goes_on refl refl refl)
+
+pub returns-in_err-admit-in-Some-take_from-clause-goes_on : goal.returns-in_err-admit-in-Some-take_from-clause-goes_on
+returns-in_err-admit-in-Some-take_from-clause-goes_on c =
+    subst (λ (r : ResolverState). GoesOn r.core (resolver_of (stopped_new c)).core) c.self.view_is
+    (goes_on_taken (stopped_old c) (stopped_new c) c.self.inside.next c.in-Some-take_from.proxy c.in-Some-take_from.batch
+    (stopped_found c) c.self.invariant (stopped_running c) c.admit.ensures.goes_on refl refl refl)
+
+pub returns-in_ok-admit-in-Some-take_from-clause-replies : goal.returns-in_ok-admit-in-Some-take_from-clause-replies
+returns-in_ok-admit-in-Some-take_from-clause-replies c =
+    subst (λ (r : ResolverState). Each (λ p l m. m.replies ≡ l.replies) r.lanes (lanes_of (admitted_new c).all_lanes)) c.self.view_is
+    (replies_taken (admitted_old c) (admitted_new c) c.self.inside.next c.in-Some-take_from.proxy c.in-Some-take_from.batch
+    (admitted_found c) c.self.invariant (admitted_running c) c.admit.ensures.goes_on refl refl refl)
+
+pub returns-in_ok-admit-in-Some-take_from-clause-lanes : goal.returns-in_ok-admit-in-Some-take_from-clause-lanes
+returns-in_ok-admit-in-Some-take_from-clause-lanes c =
+    subst (λ (r : ResolverState). Each (λ p l m. LanesGoOn l m) r.lanes (lanes_of (admitted_new c).all_lanes)) c.self.view_is
+    (lanes_taken (admitted_old c) (admitted_new c) c.self.inside.next c.in-Some-take_from.proxy c.in-Some-take_from.batch
+    (admitted_found c) c.self.invariant (admitted_running c) c.admit.ensures.goes_on refl refl refl)
+
+pub returns-in_ok-admit-in-Some-take_from-clause-goes_on : goal.returns-in_ok-admit-in-Some-take_from-clause-goes_on
+returns-in_ok-admit-in-Some-take_from-clause-goes_on c =
+    subst (λ (r : ResolverState). GoesOn r.core (resolver_of (admitted_new c)).core) c.self.view_is
+    (goes_on_taken (admitted_old c) (admitted_new c) c.self.inside.next c.in-Some-take_from.proxy c.in-Some-take_from.batch
+    (admitted_found c) c.self.invariant (admitted_running c) c.admit.ensures.goes_on refl refl refl)
+
+pub returns-in_ok-admit-in-Some-take_from-clause-took : goal.returns-in_ok-admit-in-Some-take_from-clause-took
+returns-in_ok-admit-in-Some-take_from-clause-took c =
+    λ proxy is.
+    let same : c.in-Some-take_from.proxy ≡ proxy = ok_some c.in-Some-take_from.proxy proxy is in
+    subst (λ p. TakesFrom p c.args.self.now (resolver_of (admitted_new c))) same (admitted_takes c)
+
+pub returns-in_ok-admit-in-Some-take_from-clause-passed : goal.returns-in_ok-admit-in-Some-take_from-clause-passed
+returns-in_ok-admit-in-Some-take_from-clause-passed c =
+    λ proxy is.
+    let same : c.in-Some-take_from.proxy ≡ proxy = ok_some c.in-Some-take_from.proxy proxy is in
+    subst (λ p. Each (λ q l m. ComesBefore c.args.self.now.next q p → IsLookedThrough l m) c.args.self.now.lanes
+    (lanes_of (admitted_new c).all_lanes)) same
+    (subst (λ (r : ResolverState). Each (λ q l m. ComesBefore r.next q c.in-Some-take_from.proxy → IsLookedThrough l m) r.lanes
+    (lanes_of (admitted_new c).all_lanes)) c.self.view_is
+    (passed_taken (admitted_old c) (admitted_new c) c.self.inside.next c.in-Some-take_from.proxy c.in-Some-take_from.batch
+    (admitted_found c) c.self.invariant (admitted_running c) c.admit.ensures.goes_on refl refl refl))
+
+-- no batch was found, and nothing was finished
+module _ (c : goal.Then-ended-self) where
+  abbrev same_old : Parts
+  same_old = record {
+    core = c.self.inside.core;
+    all_lanes = c.self.inside.all_lanes.items;
+    next = c.self.inside.next;
+    finished = c.self.inside.finished;
+    closed = c.self.inside.closed;
+  }
+
+  abbrev same_new : Parts
+  same_new = record {
+    core = c.self.inside.core;
+    all_lanes = (with_items c.self.inside.all_lanes c.take_from.new.all_lanes).items;
+    next = c.self.inside.next;
+    finished = c.self.inside.finished;
+    closed = c.self.inside.closed;
+  }
+
+  same_running : c.self.inside.core.stop ≡ None
+  same_running = sym c.stop.ensures.stop ∙ none_of c.stop.result c.in_default.not-Some
+
+  same_found : FindsNone (λ p. p < length c.self.inside.all_lanes.items) c.self.inside.all_lanes.items (with_items c.self.inside.all_lanes c.take_from.new.all_lanes).items
+  same_found =
+      none_found_in c.self.inside.all_lanes c.take_from.new.all_lanes c.deref_mut.result.now c.deref_mut.ensures.value c.in-None.ensures.none
+
+  same_goes_on : GoesOn c.self.inside.core (c.self.inside.core)
+  same_goes_on = go_on_itself c.self.inside.core
+
+  same_ended : c.have_ended-ended.result ≡ all_ended (lanes_of (with_items c.self.inside.all_lanes c.take_from.new.all_lanes).items)
+  same_ended = c.have_ended-ended.ensures.all ∙ ap (λ all_lanes. all_ended (lanes_of all_lanes)) c.deref.ensures.value
+
+  same_all : all_ended (lanes_of (with_items c.self.inside.all_lanes c.take_from.new.all_lanes).items) ≡ c.self.inside.finished
+  same_all = sym same_ended ∙ same_bools c.have_ended-ended.result c.self.inside.finished c.if-ended-self.true
+
+-- no batch was found, and a stop was met as the core was finished
+module _ (c : goal.After-from_residual-in_err-finish-in-None) where
+  abbrev refused_old : Parts
+  refused_old = record {
+    core = c.self.inside.core;
+    all_lanes = c.self.inside.all_lanes.items;
+    next = c.self.inside.next;
+    finished = c.self.inside.finished;
+    closed = c.self.inside.closed;
+  }
+
+  abbrev refused_new : Parts
+  refused_new = record {
+    core = c.finish.new.self;
+    all_lanes = (with_items c.self.inside.all_lanes c.take_from.new.all_lanes).items;
+    next = c.self.inside.next;
+    finished = true;
+    closed = c.self.inside.closed;
+  }
+
+  refused_running : c.self.inside.core.stop ≡ None
+  refused_running = sym c.stop.ensures.stop ∙ none_of c.stop.result c.in_default.not-Some
+
+  refused_found : FindsNone (λ p. p < length c.self.inside.all_lanes.items) c.self.inside.all_lanes.items (with_items c.self.inside.all_lanes c.take_from.new.all_lanes).items
+  refused_found =
+      none_found_in c.self.inside.all_lanes c.take_from.new.all_lanes c.deref_mut.result.now c.deref_mut.ensures.value c.in-None.ensures.none
+
+  refused_goes_on : GoesOn c.self.inside.core (c.finish.new.self)
+  refused_goes_on = c.finish.ensures.goes_on
+
+  refused_ended : c.have_ended-ended.result ≡ all_ended (lanes_of (with_items c.self.inside.all_lanes c.take_from.new.all_lanes).items)
+  refused_ended = c.have_ended-ended.ensures.all ∙ ap (λ all_lanes. all_ended (lanes_of all_lanes)) c.deref.ensures.value
+
+  refused_before : c.self.inside.finished ≡ false
+  refused_before =
+      newly_ended refused_old refused_new refused_found c.self.invariant refused_running refused_goes_on refl refl
+      c.have_ended-ended.result refused_ended c.if-ended-self.false
+
+  refused_after : all_ended (lanes_of (with_items c.self.inside.all_lanes c.take_from.new.all_lanes).items) ≡ true
+  refused_after = sym refused_ended ∙ other_than_false c.have_ended-ended.result c.self.inside.finished refused_before c.if-ended-self.false
+
+  refused_finishes : Finishes c.args.self.now (resolver_of refused_new)
+  refused_finishes =
+      subst (λ r. Finishes r (resolver_of refused_new)) c.self.view_is
+      (finishes_now refused_old refused_new refused_found c.self.invariant refused_running refused_goes_on refl refl refused_before
+      refused_after (c.finish.ensures.stands refused_running))
+
+  refused_parts : AreParts refused_new
+  refused_parts =
+      parts_looked refused_old refused_new refused_found c.self.invariant refused_running refused_goes_on refl refl
+      (λ _. sym refused_after)
+      (open_before refused_old refused_new refused_found c.self.invariant refused_running refused_goes_on refl refl refused_before refused_after)
+
+-- no batch was found, and the core was finished
+module _ (c : goal.In_ok-finish-in-None) where
+  abbrev finished_old : Parts
+  finished_old = record {
+    core = c.self.inside.core;
+    all_lanes = c.self.inside.all_lanes.items;
+    next = c.self.inside.next;
+    finished = c.self.inside.finished;
+    closed = c.self.inside.closed;
+  }
+
+  abbrev finished_new : Parts
+  finished_new = record {
+    core = c.finish.new.self;
+    all_lanes = (with_items c.self.inside.all_lanes c.take_from.new.all_lanes).items;
+    next = c.self.inside.next;
+    finished = true;
+    closed = c.self.inside.closed;
+  }
+
+  finished_running : c.self.inside.core.stop ≡ None
+  finished_running = sym c.stop.ensures.stop ∙ none_of c.stop.result c.in_default.not-Some
+
+  finished_found : FindsNone (λ p. p < length c.self.inside.all_lanes.items) c.self.inside.all_lanes.items (with_items c.self.inside.all_lanes c.take_from.new.all_lanes).items
+  finished_found =
+      none_found_in c.self.inside.all_lanes c.take_from.new.all_lanes c.deref_mut.result.now c.deref_mut.ensures.value c.in-None.ensures.none
+
+  finished_goes_on : GoesOn c.self.inside.core (c.finish.new.self)
+  finished_goes_on = c.finish.ensures.goes_on
+
+  finished_ended : c.have_ended-ended.result ≡ all_ended (lanes_of (with_items c.self.inside.all_lanes c.take_from.new.all_lanes).items)
+  finished_ended = c.have_ended-ended.ensures.all ∙ ap (λ all_lanes. all_ended (lanes_of all_lanes)) c.deref.ensures.value
+
+  finished_before : c.self.inside.finished ≡ false
+  finished_before =
+      newly_ended finished_old finished_new finished_found c.self.invariant finished_running finished_goes_on refl refl
+      c.have_ended-ended.result finished_ended c.if-ended-self.false
+
+  finished_after : all_ended (lanes_of (with_items c.self.inside.all_lanes c.take_from.new.all_lanes).items) ≡ true
+  finished_after = sym finished_ended ∙ other_than_false c.have_ended-ended.result c.self.inside.finished finished_before c.if-ended-self.false
+
+  finished_finishes : Finishes c.args.self.now (resolver_of finished_new)
+  finished_finishes =
+      subst (λ r. Finishes r (resolver_of finished_new)) c.self.view_is
+      (finishes_now finished_old finished_new finished_found c.self.invariant finished_running finished_goes_on refl refl finished_before
+      finished_after (c.finish.ensures.stands finished_running))
+
+  finished_parts : AreParts finished_new
+  finished_parts =
+      parts_looked finished_old finished_new finished_found c.self.invariant finished_running finished_goes_on refl refl
+      (λ _. sym finished_after)
+      (open_before finished_old finished_new finished_found c.self.invariant finished_running finished_goes_on refl refl finished_before finished_after)
+
+pub invariant_of-self-then-ended-self : goal.invariant_of-self-then-ended-self
+invariant_of-self-then-ended-self c =
+    parts_looked (same_old c) (same_new c) (same_found c) c.self.invariant (same_running c) (same_goes_on c) refl refl (λ _. sym (same_all c))
+    (through_still (same_old c) (same_new c) (same_found c) c.self.invariant (same_running c) (same_goes_on c) refl refl refl refl (same_all c))
+
+pub invariant_of-self-in_err-finish-in-None : goal.invariant_of-self-in_err-finish-in-None
+invariant_of-self-in_err-finish-in-None c =
+    refused_parts c
+
+pub invariant_of-self-in-None : goal.invariant_of-self-in-None
+invariant_of-self-in-None c =
+    finished_parts c
+
+pub returns-then-ended-self-clause-none : goal.returns-then-ended-self-clause-none
+returns-then-ended-self-clause-none c =
+    λ _. inr (subst (λ r. TakesNoStep r (resolver_of (same_new c))) c.self.view_is
+    (takes_no_step (same_old c) (same_new c) (same_found c) c.self.invariant (same_running c) (same_goes_on c) refl refl refl refl (same_all c)))
+
+pub returns-in_err-finish-in-None-clause-stop_met : goal.returns-in_err-finish-in-None-clause-stop_met
+returns-in_err-finish-in-None-clause-stop_met c =
+    IfErr-always c.from_residual-in_err-finish-in-None.result (λ _. inr (refused_finishes c))
+
+pub returns-in_ok-finish-in-None-clause-none : goal.returns-in_ok-finish-in-None-clause-none
+returns-in_ok-finish-in-None-clause-none c =
+    λ _. inl (finished_finishes c)
+
+pub returns-then-ended-self-clause-looked_through : goal.returns-then-ended-self-clause-looked_through
+returns-then-ended-self-clause-looked_through c =
+    λ _. subst (λ (r : ResolverState). Each (λ p l m. IsLookedThrough l m) r.lanes (lanes_of (same_new c).all_lanes)) c.self.view_is
+    (all_looked (same_old c) (same_new c) (same_found c) c.self.invariant (same_running c) (same_goes_on c) refl refl)
+
+pub returns-then-ended-self-clause-replies : goal.returns-then-ended-self-clause-replies
+returns-then-ended-self-clause-replies c =
+    subst (λ (r : ResolverState). Each (λ p l m. m.replies ≡ l.replies) r.lanes (lanes_of (same_new c).all_lanes)) c.self.view_is
+    (replies_looked (same_old c) (same_new c) (same_found c) c.self.invariant (same_running c) (same_goes_on c) refl refl)
+
+pub returns-then-ended-self-clause-lanes : goal.returns-then-ended-self-clause-lanes
+returns-then-ended-self-clause-lanes c =
+    subst (λ (r : ResolverState). Each (λ p l m. LanesGoOn l m) r.lanes (lanes_of (same_new c).all_lanes)) c.self.view_is
+    (lanes_looked (same_old c) (same_new c) (same_found c) c.self.invariant (same_running c) (same_goes_on c) refl refl)
+
+pub returns-then-ended-self-clause-goes_on : goal.returns-then-ended-self-clause-goes_on
+returns-then-ended-self-clause-goes_on c =
+    subst (λ (r : ResolverState). GoesOn r.core (resolver_of (same_new c)).core) c.self.view_is
+    (goes_on_looked (same_old c) (same_new c) (same_found c) c.self.invariant (same_running c) (same_goes_on c) refl refl)
+
+pub returns-in_err-finish-in-None-clause-replies : goal.returns-in_err-finish-in-None-clause-replies
+returns-in_err-finish-in-None-clause-replies c =
+    subst (λ (r : ResolverState). Each (λ p l m. m.replies ≡ l.replies) r.lanes (lanes_of (refused_new c).all_lanes)) c.self.view_is
+    (replies_looked (refused_old c) (refused_new c) (refused_found c) c.self.invariant (refused_running c) (refused_goes_on c) refl refl)
+
+pub returns-in_err-finish-in-None-clause-lanes : goal.returns-in_err-finish-in-None-clause-lanes
+returns-in_err-finish-in-None-clause-lanes c =
+    subst (λ (r : ResolverState). Each (λ p l m. LanesGoOn l m) r.lanes (lanes_of (refused_new c).all_lanes)) c.self.view_is
+    (lanes_looked (refused_old c) (refused_new c) (refused_found c) c.self.invariant (refused_running c) (refused_goes_on c) refl refl)
+
+pub returns-in_err-finish-in-None-clause-goes_on : goal.returns-in_err-finish-in-None-clause-goes_on
+returns-in_err-finish-in-None-clause-goes_on c =
+    subst (λ (r : ResolverState). GoesOn r.core (resolver_of (refused_new c)).core) c.self.view_is
+    (goes_on_looked (refused_old c) (refused_new c) (refused_found c) c.self.invariant (refused_running c) (refused_goes_on c) refl refl)
+
+pub returns-in_ok-finish-in-None-clause-looked_through : goal.returns-in_ok-finish-in-None-clause-looked_through
+returns-in_ok-finish-in-None-clause-looked_through c =
+    λ _. subst (λ (r : ResolverState). Each (λ p l m. IsLookedThrough l m) r.lanes (lanes_of (finished_new c).all_lanes)) c.self.view_is
+    (all_looked (finished_old c) (finished_new c) (finished_found c) c.self.invariant (finished_running c) (finished_goes_on c) refl refl)
+
+pub returns-in_ok-finish-in-None-clause-replies : goal.returns-in_ok-finish-in-None-clause-replies
+returns-in_ok-finish-in-None-clause-replies c =
+    subst (λ (r : ResolverState). Each (λ p l m. m.replies ≡ l.replies) r.lanes (lanes_of (finished_new c).all_lanes)) c.self.view_is
+    (replies_looked (finished_old c) (finished_new c) (finished_found c) c.self.invariant (finished_running c) (finished_goes_on c) refl refl)
+
+pub returns-in_ok-finish-in-None-clause-lanes : goal.returns-in_ok-finish-in-None-clause-lanes
+returns-in_ok-finish-in-None-clause-lanes c =
+    subst (λ (r : ResolverState). Each (λ p l m. LanesGoOn l m) r.lanes (lanes_of (finished_new c).all_lanes)) c.self.view_is
+    (lanes_looked (finished_old c) (finished_new c) (finished_found c) c.self.invariant (finished_running c) (finished_goes_on c) refl refl)
+
+pub returns-in_ok-finish-in-None-clause-goes_on : goal.returns-in_ok-finish-in-None-clause-goes_on
+returns-in_ok-finish-in-None-clause-goes_on c =
+    subst (λ (r : ResolverState). GoesOn r.core (resolver_of (finished_new c)).core) c.self.view_is
+    (goes_on_looked (finished_old c) (finished_new c) (finished_found c) c.self.invariant (finished_running c) (finished_goes_on c) refl refl)
+
+pub returns-in_ok-admit-in-Some-take_from-clause-still_open :
+    goal.returns-in_ok-admit-in-Some-take_from-clause-still_open
+returns-in_ok-admit-in-Some-take_from-clause-still_open c = λ proxy is.
+    some_after (admitted_old c) (admitted_new c) c.self.inside.next c.in-Some-take_from.proxy
+    c.in-Some-take_from.batch (admitted_found c) c.self.invariant (admitted_running c) c.admit.ensures.goes_on refl
+    refl refl

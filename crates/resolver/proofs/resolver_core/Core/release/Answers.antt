@@ -1,0 +1,137 @@
+use Rattle.std.proofs.Common.{rules, w64, SFits, Err, sym, ap, subst, ◌∙◌, arith}
+use Rattle.std.proofs.lemmas.Int.{to_z-of_z, ints}
+use Rattle.keyspace.specs.Leaving.{Held, next_due}
+use Rattle.keyspace.specs.Laws.{Leaves}
+use Rattle.keyspace.specs.Run.{State, admit, leave, leave_all}
+use Rattle.resolver.specs.declared.stop.Stop.TheVariants.{ArenaFull}
+use Rattle.resolver.specs.Core.{CoreState, Given, core_of, IsIn, GoesOn, StopsIn}
+use Rattle.resolver.proofs.Growing.{Grows, grows_leave, grows_leave_all, MadeBetween-grown}
+use Rattle.resolver.proofs.Stops.{OnErr-always, same_stop}
+use Rattle.resolver.proofs.Releasing.{
+  LeavesNext,
+  leaver_known,
+  IsCore-left,
+  IsIn-left,
+  GoesOn-then,
+  Reaches,
+  IsIn-reached,
+  Reaches-left,
+  StopsAsTheyLeave-left,
+}
+use Rattle.resolver.proofs.resolver_core.Core.release.Goals as goal
+use Rattle.resolver.proofs.resolver_core.Core.release.Goals.{In-Some}
+
+module _ (c : In-Some) where
+  -- the core before
+  abbrev before : CoreState
+  before = core_of c.self.inside.set c.self.inside.version c.self.inside.gate c.self.inside.replies
+      c.self.inside.owed c.self.inside.stop
+
+  -- the batch that leaves
+  abbrev leaver : Held
+  leaver = (c.in-Some.proxy, c.in-Some.batch)
+
+  leaves_next : LeavesNext before leaver c.next_for.new.self
+  leaves_next =
+      let fits : SFits w64 c.self.inside.version = search rules in
+      record {
+        next =
+            ap (λ v. next_due v c.self.inside.gate) (sym (to_z-of_z w64 c.self.inside.version fits))
+            ∙ c.in-Some.ensures.next;
+        due = omega (arith, ints, c.in-Some.ensures.due);
+        fewer = c.in-Some.ensures.fewer;
+      }
+
+  leaves : Leaves c.self.inside.version c.self.inside.gate leaver c.next_for.new.self
+  leaves =
+      c.leaving.ensures.next_due.some c.self.inside.version c.self.inside.gate leaver c.next_for.new.self
+      leaves_next.next
+
+  -- the core without it
+  abbrev without : CoreState
+  without = record before { held = c.next_for.new.self }
+
+  goes_on : GoesOn c.args.self.now without
+  goes_on =
+      let g = subst (GoesOn c.args.self.now) (sym c.self.view_is) c.loop-proxy.invariant.goes_on in
+      record { window = g.window; limit = g.limit; proxies = g.proxies }
+
+  module _ (state : State) (given : Given) (are : IsIn state given c.args.self.now) where
+    reached : Reaches c.args.self.now.set.window state given before
+    reached =
+        subst (Reaches c.args.self.now.set.window state given) (sym c.self.view_is)
+        (c.loop-proxy.invariant.reaches state given are)
+
+    -- the state that is reached
+    abbrev now : State
+    now = leave reached.turns c.args.self.now.set.window state
+
+    -- the state without it
+    abbrev others : State
+    others = record now { held = c.next_for.new.self }
+
+    are_without : IsIn others given without
+    are_without = IsIn-left now given before c.next_for.new.self reached.are
+
+pub invariant_of-self : goal.invariant_of-self
+invariant_of-self c =
+    let d = (goal.at.invariant_of-self c).In-Some in
+    IsCore-left (before d) (leaver d) c.next_for.new.self c.self.inside.version (leaves d) c.self.invariant
+
+pub answer-requires-clause-known : goal.answer-requires-clause-known
+answer-requires-clause-known c =
+    let d = (goal.at.answer-requires-clause-known c).In-Some in
+    leaver_known (before d) (leaver d) c.next_for.new.self c.self.inside.version (leaves d) c.self.invariant
+
+pub returns-in_err-answer-clause-err : goal.returns-in_err-answer-clause-err
+returns-in_err-answer-clause-err c =
+    OnErr-always c.from_residual.result (λ state given are.
+    let d = (goal.at.returns-in_err-answer-clause-err c).In-Some in
+    let window = c.args.self.now.set.window in
+    let r = reached d state given are in
+    let s = now d state given are in
+    MadeBetween-grown state s (leave_all window state) given (before d) c.answer.new.self r.are
+    c.in_err-answer.ensures.err (grows_leave r.turns window state)
+    (subst (Grows s) r.same (grows_leave_all window s)))
+
+pub returns-in_err-answer-clause-arena_full : goal.returns-in_err-answer-clause-arena_full
+returns-in_err-answer-clause-arena_full c = λ is state given are.
+    let d = (goal.at.returns-in_err-answer-clause-arena_full c).In-Some in
+    let stop = c.in_err-answer.field-0.0 in
+    let full = same_stop c.from_residual.result stop ArenaFull c.from_residual.ensures.1 is in
+    let set = c.args.self.now.set in
+    let s = others d state given are in
+    let new = c.answer.new.self in
+    let stops = c.in_err-answer.ensures.arena_full (ap Err full) s given (are_without d state given are) in
+    StopsAsTheyLeave-left set.window state given (before d) (reached d state given are) (leaver d)
+    c.next_for.new.self (leaves_next d) set.map.limit new
+    (subst (λ w. StopsIn set.map.limit w s c.in-Some.proxy c.in-Some.batch given new) (goes_on d).window
+    (subst (λ n. StopsIn n c.self.inside.set.window s c.in-Some.proxy c.in-Some.batch given new)
+    (goes_on d).limit stops))
+
+pub loop-proxy-preserved : goal.loop-proxy-preserved
+loop-proxy-preserved c =
+    let d = (goal.at.loop-proxy-preserved c).In-Some in
+    let new = c.answer.new.self in
+    record {
+      reaches = λ state given are.
+          let s = others d state given are in
+          Reaches-left c.args.self.now.set.window state given (before d) (reached d state given are)
+          (leaver d) c.next_for.new.self (leaves_next d) new
+          (subst (λ w. IsIn (admit w c.in-Some.proxy c.in-Some.batch s) given new) (goes_on d).window
+          (c.in_ok-answer.ensures.ok s given (are_without d state given are)));
+      goes_on = GoesOn-then c.args.self.now (without d) new (goes_on d) c.answer.ensures.goes_on;
+      still = c.in_ok-answer.ensures.«open»;
+    }
+
+pub returns-clause-ok : goal.returns-clause-ok
+returns-clause-ok c = λ state given are.
+    let fits : SFits w64 c.self.inside.version = search rules in
+    let window = c.args.self.now.set.window in
+    let reached = subst (Reaches window state given) (sym c.self.view_is)
+    (c.loop-proxy.invariant.reaches state given are) in
+    let none = ap (λ v. next_due v c.self.inside.gate) (sym (to_z-of_z w64 c.self.inside.version fits))
+    ∙ c.in_default.ensures.next in
+    subst (λ hs. IsIn (leave_all window state) given (core_of c.self.inside.set c.self.inside.version hs
+    c.self.inside.replies c.self.inside.owed c.self.inside.stop)) (sym c.in_default.ensures.unchanged)
+    (IsIn-reached window state given _ reached none)

@@ -1,0 +1,16 @@
+use Rattle.std.proofs.Common.{◌≡◌, None, length}
+use Rattle.keyspace.specs.Run.{State}
+use Rattle.resolver.specs.Core.{Given, IsIn, GoesOn}
+use Rattle.resolver.proofs.Releasing.{Reaches}
+use Rattle.resolver.proofs.resolver_core.Core.release.Given as goal
+
+abbrev pub invariant-loop-proxy : goal.invariant-loop-proxy
+invariant-loop-proxy l = record {
+  reaches : (state : State) (given : Given) → IsIn state given l.initial.self
+      → Reaches l.initial.self.set.window state given l.self;
+  goes_on : GoesOn l.initial.self l.self;
+  still : l.self.stop ≡ None;
+}
+
+abbrev pub decreases-loop-proxy : goal.decreases-loop-proxy
+decreases-loop-proxy l = length l.self.held

@@ -1,0 +1,278 @@
+//! The resolver over lanes: each turn takes a batch of some proxy, and hands out answers.
+
+ghost use Rattle.std.specs.Prelude.{◌≡◌, ℕ, ◌<◌, ◌≤◌, ◌+◌, ◌⊎◌, ◌↔◌, ◌≢◌, ◌<ℤ◌, ◌≤ℤ◌, pos, true, false, List, [], ◌∷◌, ◌++◌, length, map, All, Option, Some, None, Ok, Err, IsOk, IfOk, IfErr, OnOk, IfSome, IsSome, slice_get, IsTrue};
+ghost use Rattle.keyspace.specs.Run.{Step, Take, Finish, run};
+ghost use Rattle.stepmap.specs.declared.step_map.TheConstants.{MAX_LIMIT};
+ghost use Rattle.conflict.specs.declared.conflict_set.TheConstants.{MAX_WINDOW};
+ghost use Rattle.chain.specs.declared.gate.TheConstants.{MAX_HELD};
+ghost use Rattle.lane.specs.Lane.{PortGoesOn, HasEnded};
+ghost use Rattle.resolver.specs.declared.client.Client.{Client as ClientEnds};
+ghost use Rattle.resolver.specs.Owed.{owed_to, owed_count};
+ghost use Rattle.resolver.specs.Core.{GoesOn, StopsAtLimit, made_to};
+ghost use Rattle.resolver.specs.Stands.{Stands};
+ghost use Rattle.resolver.specs.Parts.{AreNewLanes, lanes_of};
+ghost use Rattle.resolver.specs.declared.resolver_core.TheConstants.{MAX_PROXIES};
+ghost use Rattle.resolver.specs.Lanes.{Lanes, all_ended, Each, LanesGoOn, IsLookedThrough, ComesBefore, IsFull, TakesNone, AreSameLists, sent_to};
+ghost use Rattle.resolver.specs.Resolver.{ResolverState, StandsOver, IsResolving, TakesFrom, Finishes, TakesNoStep, StepsBy, IfNotTaken, IsThrough, SameBut, AreClients, SameClients};
+ghost use Rattle.resolver.specs.Share.{share_of, HasMoreUnanswered};
+ghost use Rattle.resolver.specs.Settled.{Settled, IsComplete};
+
+use crate::all_lanes;
+use crate::client::Client;
+use crate::proxy_lanes::ProxyLanes;
+use crate::resolver_core::Core;
+use crate::stop::Stop;
+use crate::turn::{Account, Turn};
+use keyspace::laws;
+use std::marker::Model;
+
+/// The resolver over lanes: takes the batches of its clients, and sends them the answers of the reference resolver.
+#[derive(Drop)]
+pub struct Resolver {
+    core: Core,
+    all_lanes: Vec<ProxyLanes>,
+    // the next turn looks for a batch from this pair of lanes on
+    next: usize,
+    // all request lanes have ended, and the core was finished
+    finished: bool,
+    // the reply lanes are closed
+    closed: bool,
+}
+
+impl Model for Resolver {
+    ghost use Rattle.std.specs.Coded.{codes};
+    ghost use Rattle.resolver.specs.contracts.resolver_core.Core as core_type;
+    ghost use Rattle.resolver.specs.Resolver.{ResolverState};
+    ghost use Rattle.resolver.specs.Parts.{resolver_of, AreParts};
+
+    ghost Value = { ResolverState };
+
+    ghost coded = { Prim.hlevel (codes, core_type.the_row.coded) };
+
+    ghost view = { λ r. resolver_of record {
+      core = r.core;
+      all_lanes = r.all_lanes.items;
+      next = r.next;
+      finished = r.finished;
+      closed = r.closed;
+    } };
+
+    ghost invariant = { λ r. AreParts record {
+      core = r.core;
+      all_lanes = r.all_lanes.items;
+      next = r.next;
+      finished = r.finished;
+      closed = r.closed;
+    } };
+}
+
+impl Resolver {
+    // Puts a resolver together that has taken nothing.
+    pub(crate) fn new(core: Core, all_lanes: Vec<ProxyLanes>) -> Self
+        requires core { Stands core [] (λ _. []) }
+        requires no_stop { core.stop ≡ None }
+        requires all_lanes { All AreNewLanes all_lanes.items }
+        requires count { length all_lanes.items ≡ length core.owed }
+        requires some { 1 ≤ length all_lanes.items }
+        requires few { length all_lanes.items ≤ MAX_PROXIES }
+        ensures stands { StandsOver result [] }
+        ensures core { result.core ≡ core }
+        ensures lanes { result.lanes ≡ lanes_of all_lanes.items }
+        ensures next { result.next ≡ 0 }
+    {
+        Resolver {
+            core,
+            all_lanes,
+            next: 0,
+            finished: false,
+            closed: false,
+        }
+    }
+
+    /// Takes a batch of some proxy, if there is one to be seen, and hands out answers.
+    ///
+    /// It looks at each request lane that hasn't ended at most once, from the one after the lane last taken from on. Once all
+    /// have ended, it answers what is still held. Then it sends owed answers, while the reply lanes accept them. Where nothing is
+    /// owed and no answer is still to come, it closes the reply lanes.
+    ///
+    /// An error is final: this and every later turn take no more, hand out what the reply lanes accept, and return the same one.
+    ///
+    /// `GateFull` first comes only where more batches of some proxy than its [`share`](crate::share) were taken for which no answer was
+    /// made. So it never comes where each client never has more than the share of batches sent for which it has no answer.
+    pub fn turn(&mut self) -> Result<Turn, Stop>
+        // What the resolver stands for afterwards.
+        ensures step { IfOk result (λ turn. StepsBy turn self.old self.new) }
+        ensures stop_met { IfErr result (λ _. self.old.core.stop ≡ None
+            → ((proxy : ℕ) × TakesFrom proxy self.old self.new) ⊎ Finishes self.old self.new) }
+        ensures stopped { IsSome self.old.core.stop → TakesNoStep self.old self.new }
+        ensures stop { IfErr result (λ stop. self.new.core.stop ≡ Some stop) }
+        ensures stop_stays { IfSome self.old.core.stop (λ stop. result ≡ Err stop) }
+        ensures no_stop { OnOk result (self.new.core.stop ≡ None) }
+        ensures resolving { IsResolving self.old → IsResolving self.new }
+
+        // What it has looked through.
+        ensures looked_through { IfOk result (λ turn. IfNotTaken turn
+            (Each (λ _ l m. IsLookedThrough l m) self.old.lanes self.new.lanes)) }
+        ensures passed { (proxy : ℕ) → result ≡ Ok (Turn.Took proxy)
+            → Each (λ passed l m. ComesBefore self.old.next passed proxy → IsLookedThrough l m) self.old.lanes self.new.lanes }
+        ensures next { (proxy : ℕ) → result ≡ Ok (Turn.Took proxy) → self.new.next ≡ proxy + 1 }
+        ensures next_stays { IfOk result (λ turn. IfNotTaken turn (self.new.next ≡ self.old.next)) }
+
+        // What it has handed out.
+        ensures owed { Each (λ proxy l m. owed_to proxy self.new.core.owed ≢ [] → IsFull l m) self.old.lanes self.new.lanes }
+        ensures closed { (proxy : ℕ) (l : Lanes) → slice_get self.new.lanes proxy ≡ Some l
+            → (l.replies.closed ≡ true) ↔ IsThrough self.new }
+        ensures done { (result ≡ Ok Turn.Done) ↔ (IsOk result × (all_ended self.new.lanes ≡ true)
+            × (owed_count self.new.core.owed ≡ 0)) }
+
+        // Where the stops come.
+        ensures gate_full { self.old.core.stop ≡ None → result ≡ Err Stop.GateFull
+            → (proxy : ℕ) × (took : TakesFrom proxy self.old self.new)
+            × (self.old.core.version <ℤ took.batch.previous) × (length self.old.core.held ≡ MAX_HELD) }
+        ensures beyond_share { self.old.core.stop ≡ None → result ≡ Err Stop.GateFull → IsResolving self.old
+            → (proxy : ℕ) × (proxy < length self.new.lanes)
+            × HasMoreUnanswered (share_of (length self.new.lanes)) proxy self.new }
+        ensures arena_full { self.old.core.stop ≡ None → result ≡ Err Stop.ArenaFull → (log : List Step) → StandsOver self.old log
+            → (proxy : ℕ) × (took : TakesFrom proxy self.old self.new)
+            × StopsAtLimit self.old.core.set.map.limit self.old.core.set.window proxy took.batch
+            (run self.old.core.set.window log) (sent_to self.new.lanes) self.new.core }
+
+        ensures lanes { Each (λ _ l m. LanesGoOn l m) self.old.lanes self.new.lanes }
+        ensures goes_on { GoesOn self.old.core self.new.core }
+    {
+        let stepped = self.step();
+        self.hand_out();
+        self.close();
+        Ok(match stepped? {
+            Some(proxy) => Turn::Took(proxy),
+            None if self.closed => Turn::Done,
+            None => Turn::Idle,
+        })
+    }
+
+    /// Finds what was reached, with all clients of this resolver back in one hand, each at its number. It takes no memory, and no
+    /// batch or answer moves.
+    pub fn settle(&mut self, clients: &mut [Client]) -> Account
+        requires clients { AreClients self.old.lanes clients.old }
+        ensures settled { (log : List Step) → StandsOver self.old log
+            → Settled self.old.core.set.window log (map (λ l. l.ended) self.old.lanes) clients.old result }
+        ensures settled_for_some { IsResolving self.old → (log : List Step)
+            × Settled self.old.core.set.window log (map (λ l. l.ended) self.old.lanes) clients.old result }
+        ensures stands { (log : List Step) → StandsOver self.old log → StandsOver self.new log }
+        ensures resolving { IsResolving self.old → IsResolving self.new }
+        ensures complete { (result.complete ≡ true) ↔ IsComplete self.old clients.old }
+        // A client that has taken answers to their end has taken all that were sent.
+        ensures ended { (proxy : ℕ) (client : ClientEnds) → slice_get clients.old proxy ≡ Some client
+            → HasEnded client.replies → client.replies.taken ≡ sent_to self.old.lanes proxy }
+        ensures stop { result.stop ≡ self.old.core.stop }
+        ensures core { self.new.core ≡ self.old.core }
+        ensures next { self.new.next ≡ self.old.next }
+        ensures lanes { Each (λ _ l m. LanesGoOn l m × AreSameLists l m) self.old.lanes self.new.lanes }
+        ensures clients { SameClients clients.old clients.new }
+    {
+        laws::runs_are_chains();
+        laws::each_batch_is_answered();
+        let all_taken = all_lanes::settle(&mut self.all_lanes, clients);
+        Account::new(self.core.stop(), self.closed, all_taken)
+    }
+
+    /// Returns the number of answers owed to all proxies.
+    pub fn owed(&self) -> usize
+        ensures count { result ≡ owed_count self.now.core.owed }
+    {
+        self.core.owed() + all_lanes::waiting(&self.all_lanes)
+    }
+
+    /// Returns how many answers were sent to the proxy, or 0 where there is no such proxy.
+    pub fn sent(&self, proxy: usize) -> u64
+        ensures count { result ≡ length (sent_to self.now.lanes proxy) }
+    {
+        match self.all_lanes.get(proxy) {
+            Some(proxy_lanes) => proxy_lanes.sent(),
+            None => 0,
+        }
+    }
+
+    // Takes a batch of the next proxy that has one and admits it, and returns the proxy; or finishes the core, once all have ended.
+    fn step(&mut self) -> Result<Option<usize>, Stop>
+        ensures took { (proxy : ℕ) → result ≡ Ok (Some proxy) → TakesFrom proxy self.old self.new }
+        ensures still_open { (proxy : ℕ) → result ≡ Ok (Some proxy) → all_ended self.new.lanes ≡ false }
+        ensures none { result ≡ Ok None → Finishes self.old self.new ⊎ TakesNoStep self.old self.new }
+        ensures stop_met { IfErr result (λ _. self.old.core.stop ≡ None
+            → ((proxy : ℕ) × TakesFrom proxy self.old self.new) ⊎ Finishes self.old self.new) }
+        ensures stopped { IfSome self.old.core.stop (λ stop. (result ≡ Err stop) × (self.new ≡ self.old)) }
+        ensures stop { IfErr result (λ stop. self.new.core.stop ≡ Some stop) }
+        ensures no_stop { OnOk result (self.new.core.stop ≡ None) }
+        ensures looked_through { result ≡ Ok None → Each (λ _ l m. IsLookedThrough l m) self.old.lanes self.new.lanes }
+        ensures passed { (proxy : ℕ) → result ≡ Ok (Some proxy)
+            → Each (λ passed l m. ComesBefore self.old.next passed proxy → IsLookedThrough l m) self.old.lanes self.new.lanes }
+        ensures next { (proxy : ℕ) → result ≡ Ok (Some proxy) → self.new.next ≡ proxy + 1 }
+        ensures next_stays { result ≡ Ok None → self.new.next ≡ self.old.next }
+        ensures gate_full { self.old.core.stop ≡ None → result ≡ Err Stop.GateFull
+            → (proxy : ℕ) × (took : TakesFrom proxy self.old self.new)
+            × (self.old.core.version <ℤ took.batch.previous) × (length self.old.core.held ≡ MAX_HELD) }
+        ensures arena_full { self.old.core.stop ≡ None → result ≡ Err Stop.ArenaFull → (log : List Step) → StandsOver self.old log
+            → (proxy : ℕ) × (took : TakesFrom proxy self.old self.new)
+            × StopsAtLimit self.old.core.set.map.limit self.old.core.set.window proxy took.batch
+            (run self.old.core.set.window log) (sent_to self.new.lanes) self.new.core }
+        ensures replies { Each (λ _ l m. m.replies ≡ l.replies) self.old.lanes self.new.lanes }
+        ensures lanes { Each (λ _ l m. LanesGoOn l m) self.old.lanes self.new.lanes }
+        ensures goes_on { GoesOn self.old.core self.new.core }
+        ensures open { OnOk result (self.old.core.stop ≡ None) }
+    {
+        if let Some(stop) = self.core.stop() {
+            return Err(stop);
+        }
+        match all_lanes::take_from(&mut self.all_lanes, self.next) {
+            Some((proxy, batch)) => {
+                self.next = proxy + 1;
+                self.core.admit(proxy, batch)?;
+                Ok(Some(proxy))
+            }
+            None => {
+                let ended = all_lanes::have_ended(&self.all_lanes);
+                if ended == self.finished {
+                    return Ok(None);
+                }
+                self.finished = true;
+                self.core.finish()?;
+                Ok(None)
+            }
+        }
+    }
+
+    // Sends each proxy the answers owed to it, while its reply lane accepts them.
+    fn hand_out(&mut self)
+        ensures stands { (log : List Step) → StandsOver self.old log → StandsOver self.new log }
+        ensures made { (proxy : ℕ) → made_to proxy (sent_to self.new.lanes) self.new.core
+            ≡ made_to proxy (sent_to self.old.lanes) self.old.core }
+        ensures owed { Each (λ proxy l m. owed_to proxy self.new.core.owed ≢ [] → IsFull l m) self.old.lanes self.new.lanes }
+        ensures lanes { Each (λ _ l m. (m ≡ record l { replies = m.replies }) × PortGoesOn l.replies m.replies) self.old.lanes self.new.lanes }
+        ensures same { SameBut self.old self.new }
+    {
+        all_lanes::hand_out(&mut self.all_lanes, &mut self.core);
+    }
+
+    // Closes the reply lanes where no answer is still to come.
+    fn close(&mut self)
+        ensures stands { (log : List Step) → StandsOver self.old log → StandsOver self.new log }
+        ensures closed { (proxy : ℕ) (l : Lanes) → slice_get self.new.lanes proxy ≡ Some l
+            → (l.replies.closed ≡ true) ↔ IsThrough self.new }
+        ensures core { self.new.core ≡ self.old.core }
+        ensures lanes { Each (λ _ l m. m ≡ record l { replies = record l.replies { closed = m.replies.closed } }) self.old.lanes self.new.lanes }
+        ensures count { length self.new.core.owed ≡ length self.new.lanes }
+        ensures next { self.new.next ≡ self.old.next }
+    {
+        if !self.closed && self.is_through() {
+            all_lanes::close(&mut self.all_lanes);
+            self.closed = true;
+        }
+    }
+
+    // Returns whether nothing is owed and no answer is still to come.
+    fn is_through(&self) -> bool
+        ensures through { (result ≡ true) ↔ IsThrough self.now }
+    {
+        self.owed() == 0 && (self.finished || self.core.stop().is_some())
+    }
+}

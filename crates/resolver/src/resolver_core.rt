@@ -1,0 +1,173 @@
+//! The resolver over values, which stops for good at the first refusal.
+
+ghost use Rattle.std.specs.Prelude.{◌≡◌, ◌<◌, ◌≤◌, ◌≤ℤ◌, ◌<ℤ◌, ◌↔◌, pos, List, [], ◌∷◌, ◌++◌, length, Some, None, Err};
+ghost use Rattle.std.specs.Prelude.{◌+◌, ◌^◌, OnOk, IfOk, IfErr, IfSome, option_to_list};
+ghost use Rattle.keyspace.specs.Run.{Step, Take, Finish, run};
+ghost use Rattle.stepmap.specs.declared.step_map.TheConstants.{MAX_LIMIT};
+ghost use Rattle.conflict.specs.declared.conflict_set.TheConstants.{MAX_WINDOW};
+ghost use Rattle.chain.specs.declared.gate.TheConstants.{MAX_HELD};
+ghost use Rattle.resolver.specs.Owed.{owed_to, given_oldest, owed_count};
+ghost use Rattle.resolver.specs.Core.{Given, GoesOn, StopsAtLimit};
+ghost use Rattle.resolver.specs.Stands.{Stands, given_also};
+
+mod answering;
+
+use crate::owed::Owed;
+use crate::stop::{OpenError, Stop};
+use chain::{Gate, Replies};
+use conflict::ConflictSet;
+use keyspace::{Answer, Batch};
+use std::alloc::Global;
+use std::marker::Model;
+
+/// The greatest number of proxies: this project's own.
+pub const MAX_PROXIES: usize = 64;
+
+const _: () = prove!(MAX_PROXIES == 64);
+
+/// The resolver over values: `Resolver` of FoundationDB 7.1, without its network. It takes batches one after another, and
+/// owes each proxy the answers of the reference resolver.
+#[derive(Debug, Drop)]
+pub struct Core {
+    alloc: Global,
+    set: ConflictSet,
+    // that of the batch processed last, or -1
+    version: i64,
+    // the batches that wait for their previous version
+    gate: Gate,
+    // those that may be asked for again
+    replies: Replies,
+    owed: Owed,
+    // why it takes no more
+    stop: Option<Stop>,
+}
+
+impl Model for Core {
+    ghost use Rattle.std.specs.Coded.{codes};
+    ghost use Rattle.chain.specs.contracts.replies.Replies as replies_type;
+    ghost use Rattle.resolver.specs.Core.{CoreState, IsCore, core_of};
+
+    ghost Value = { CoreState };
+
+    ghost coded = { Prim.hlevel (codes, replies_type.the_row.coded) };
+
+    ghost view = { λ c. core_of c.set c.version c.gate c.replies c.owed c.stop };
+
+    ghost invariant = { λ c. IsCore (core_of c.set c.version c.gate c.replies c.owed c.stop) };
+}
+
+impl Core {
+    /// Creates a resolver for so many proxies, which has taken nothing. `window` is how far back it remembers writes, in
+    /// versions; its conflict set never keeps more boundaries than `limit`.
+    pub fn new(alloc: Global, proxies: usize, window: i64, limit: usize) -> Result<Self, OpenError>
+        requires least_proxies { 1 ≤ proxies }
+        requires most_proxies { proxies ≤ MAX_PROXIES }
+        requires least_window { pos 1 ≤ℤ window }
+        requires most_window { window ≤ℤ MAX_WINDOW }
+        requires least_limit { 1 ≤ limit }
+        requires most_limit { limit ≤ MAX_LIMIT }
+        ensures stands { IfOk result (λ core. Stands core [] (λ _. [])) }
+        ensures open { IfOk result (λ core. core.stop ≡ None) }
+        ensures proxies { IfOk result (λ core. length core.owed ≡ proxies) }
+        ensures window { IfOk result (λ core. core.set.window ≡ window) }
+        ensures limit { IfOk result (λ core. core.set.map.limit ≡ limit) }
+    {
+        let Ok(set) = ConflictSet::new(alloc, window, limit) else {
+            return Err(OpenError::Memory);
+        };
+        Ok(Core {
+            alloc,
+            set,
+            version: -1,
+            gate: Gate::new(alloc),
+            replies: Replies::new(alloc),
+            owed: Owed::new(alloc, proxies)?,
+            stop: None,
+        })
+    }
+
+    /// Takes a batch of a proxy. The batch is held, or it and what it frees are answered.
+    ///
+    /// An error is final: every later call of this and of [`finish`](Self::finish) returns the same one and changes nothing.
+    /// The batch that met it counts as taken, and the answers made before it are still handed out.
+    pub fn admit(&mut self, proxy: usize, batch: Batch) -> Result<(), Stop>
+        requires known { proxy < length self.old.owed }
+        ensures stands { self.old.stop ≡ None → (log : List Step) (given : Given) → Stands self.old log given
+            → Stands self.new (log ++ Take proxy batch ∷ []) given }
+        ensures open { OnOk result ((self.old.stop ≡ None) × (self.new.stop ≡ None)) }
+        ensures stops { IfErr result (λ stop. self.new.stop ≡ Some stop) }
+        ensures stopped { IfSome self.old.stop (λ stop. (result ≡ Err stop) × (self.new ≡ self.old)) }
+        ensures goes_on { GoesOn self.old self.new }
+        ensures gate_full { self.old.stop ≡ None → (result ≡ Err Stop.GateFull)
+            ↔ (self.old.version <ℤ batch.previous) × (length self.old.held ≡ MAX_HELD) }
+        ensures arena_full { self.old.stop ≡ None → result ≡ Err Stop.ArenaFull → (log : List Step) (given : Given)
+            → Stands self.old log given
+            → StopsAtLimit self.old.set.map.limit self.old.set.window proxy batch
+            (run self.old.set.window log) given self.new }
+    {
+        if let Some(stop) = self.stop {
+            return Err(stop);
+        }
+        let taken = self.take(proxy, batch);
+        if let Err(stop) = taken {
+            self.stop = Some(stop);
+        }
+        taken
+    }
+
+    /// Answers every batch that is still held, in order of arrival.
+    ///
+    /// An error is final, as that of [`admit`](Self::admit) is.
+    pub fn finish(&mut self) -> Result<(), Stop>
+        ensures stands { self.old.stop ≡ None → (log : List Step) (given : Given) → Stands self.old log given
+            → Stands self.new (log ++ Finish ∷ []) given }
+        ensures open { OnOk result ((self.old.stop ≡ None) × (self.new.stop ≡ None)) }
+        ensures stops { IfErr result (λ stop. self.new.stop ≡ Some stop) }
+        ensures stopped { IfSome self.old.stop (λ stop. (result ≡ Err stop) × (self.new ≡ self.old)) }
+        ensures memory { self.old.stop ≡ None → IfErr result (λ stop. stop ≡ Stop.Memory) }
+        ensures goes_on { GoesOn self.old self.new }
+    {
+        if let Some(stop) = self.stop {
+            return Err(stop);
+        }
+        let finished = self.answer_held();
+        if let Err(stop) = finished {
+            self.stop = Some(stop);
+        }
+        finished
+    }
+
+    /// Removes and returns the oldest answer owed to the proxy, or returns `None` if none is owed. After an error too.
+    pub fn give(&mut self, proxy: usize) -> Option<Answer>
+        requires known { proxy < length self.old.owed }
+        ensures oldest { owed_to proxy self.old.owed
+            ≡ option_to_list result ++ owed_to proxy self.new.owed }
+        ensures others { self.new ≡ record self.old { owed = given_oldest proxy self.old.owed } }
+        ensures stands { (log : List Step) (given : Given) → Stands self.old log given
+            → Stands self.new log (given_also proxy result given) }
+    {
+        self.owed.pop(proxy)
+    }
+
+    /// Returns the number of answers owed to all proxies.
+    pub fn owed(&self) -> usize
+        ensures count { result ≡ owed_count self.now.owed }
+        ensures few { result + MAX_PROXIES < 2 ^ 64 }
+    {
+        self.owed.count()
+    }
+
+    /// Returns the number of proxies.
+    pub fn proxies(&self) -> usize
+        ensures count { result ≡ length self.now.owed }
+    {
+        self.owed.proxies()
+    }
+
+    /// Returns the stop that was met, if any.
+    pub fn stop(&self) -> Option<Stop>
+        ensures stop { result ≡ self.now.stop }
+    {
+        self.stop
+    }
+}
