@@ -147,12 +147,12 @@ module _ (stop : Option Stop) (given : Given) (core : CoreState) where
   StopsAtLimit-stopped limit window proxy batch state s = elim s [
     | inl own ↦ inl (StopsIn-stopped limit window state proxy batch own)
     | inr leaves ↦ inr (record {
-        turns = leaves.turns;
-        batch = leaves.batch;
-        others = leaves.others;
-        leaves = leaves.leaves;
-        stops =
-            StopsIn-stopped limit window (leave leaves.turns window (admit window proxy batch state)) leaves.batch.0
-            leaves.batch.1 leaves.stops;
-      })
+      turns = leaves.turns;
+      batch = leaves.batch;
+      others = leaves.others;
+      leaves = leaves.leaves;
+      stops =
+          StopsIn-stopped limit window (leave leaves.turns window (admit window proxy batch state)) leaves.batch.0
+          leaves.batch.1 leaves.stops;
+    })
   ]

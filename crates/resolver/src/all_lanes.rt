@@ -52,7 +52,10 @@ pub fn waiting(all_lanes: &[ProxyLanes]) -> usize
     ensures count { result ≡ waiting_count all_lanes.now }
     ensures few { result ≤ length all_lanes.now }
 {
-    all_lanes.iter().filter(|proxy_lanes| proxy_lanes.is_waiting()).count()
+    all_lanes
+        .iter()
+        .filter(|proxy_lanes| proxy_lanes.is_waiting())
+        .count()
 }
 
 /// Sends each proxy the answers owed to it, while its reply lane accepts them.
