@@ -46,6 +46,7 @@ impl Core {
         ensures err { OnErr result ((state : State) (given : Given) → IsIn state given self.old
             → MadeBetween state (step self.old.set.window Finish state) given self.new) }
         ensures memory { IfErr result (λ stop. stop ≡ Stop.Memory) }
+        ensures set { self.new.set ≡ self.old.set }
         ensures stop { self.new.stop ≡ self.old.stop }
         ensures goes_on { GoesOn self.old self.new }
     {
@@ -65,6 +66,7 @@ impl Core {
         ensures err { OnErr result (self.new.owed ≡ self.old.owed) }
         ensures full { (result ≡ Err Stop.GateFull) ↔ (length self.old.held ≡ MAX_HELD) }
         ensures not_arena { result ≢ Err Stop.ArenaFull }
+        ensures set { self.new.set ≡ self.old.set }
         ensures stop { self.new.stop ≡ self.old.stop }
         ensures goes_on { GoesOn self.old self.new }
     {
