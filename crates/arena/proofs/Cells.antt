@@ -1,5 +1,5 @@
 -- The slots of a chunk, as its entries and bytes tell them.
-use Rattle.std.proofs.Common.{◌≡◌, ℕ, zero, suc, ◌+◌, ◌*◌, ◌<◌, ◌≤◌, List, [], ◌∷◌, ◌++◌, length, take, drop, set, get_or, slice_get, Some, IsSome, is_some, false, option_map, unwrap_or, slice_index, refl, sym, ap, ◌∙◌, add_assoc, zero-mul, mul-le-mul_right, arith, length-drop, length-append, length-set}
+use Rattle.std.proofs.Common.{◌≡◌, ℕ, zero, suc, ◌+◌, ◌*◌, ◌<◌, ◌≤◌, List, [], ◌∷◌, ◌++◌, length, take, drop, set, slice_get, Some, IsSome, is_some, false, option_map, unwrap_or, slice_index, refl, sym, ap, ◌∙◌, add_assoc, zero-mul, mul-le-mul_right, arith, length-drop, length-append, length-set}
 use Rattle.std.proofs.Math.Path.{ap₂}
 use Rattle.std.proofs.lemmas.List.{
   drop-drop,
@@ -10,15 +10,12 @@ use Rattle.std.proofs.lemmas.List.{
   drop-take,
   length-take-le,
 }
-use Rattle.std.proofs.lemmas.Option.{slice_get_within, slice_get_read}
+use Rattle.std.proofs.lemmas.Option.{slice_get_within}
 use Rattle.std.proofs.lemmas.Slice.{drop-append-drop}
 use Rattle.std.specs.Option.{option_and_then}
 use Rattle.arena.specs.Arena.{Record, sizes, slots_of}
-use Rattle.arena.specs.Entry.{held, held_at, IsFree}
-use Rattle.arena.specs.Chunk.{cell_of, cells_of, with_free, Fits, AllFit, IsChunk, IsFresh}
-use Rattle.arena.specs.declared.entry.Entry.{Entry}
-use Rattle.arena.specs.declared.entry.Entry.TheVariants.{Free, Live}
-use Rattle.arena.specs.declared.entry.Head.{Head}
+use Rattle.arena.specs.Entry.{Entry, Free, Live, held, held_at, IsFree}
+use Rattle.arena.specs.Chunk.{Head, cell_of, cells_of, with_free, Fits, AllFit, AreEntries, IsFresh}
 use Rattle.arena.proofs.Entries.{length-with_free, with_free-set, with_free-there, with_free-live, with_free-beyond}
 
 next_slot : (i width : ℕ) → width + i * width ≡ suc i * width
@@ -105,17 +102,6 @@ module _ {H : Type 0} where
       let found = live_in (with_free (slots_of size) es) width bytes i live in
       (found.0, with_free-live (slots_of size) es i found.0 found.1, found.2)
 
-  -- what a read of an entry finds
-  pub entry_at : (es : List (Entry (Head H))) (i : ℕ) (read e : Entry (Head H)) → slice_get es i ≡ Some e
-      → read ≡ get_or es i read → read ≡ e
-  entry_at es i read e found is =
-      let there = slice_get_read es (length es) i read refl (slice_get_within es i e found) is in
-      cc
-
-  pub held_in : (e : Entry (Head H)) (head held_head : Head H) → e ≡ Live head → held e ≡ Some held_head
-      → head ≡ held_head
-  held_in e head held_head is live = let same : Some head ≡ Some held_head = sym (ap held is) ∙ live in cc
-
   cells_of-freed : (es : List (Entry (Head H))) (width : ℕ) (bytes : List ℕ) (i : ℕ)
       → cells_of (set es i Free) width bytes ≡ set (cells_of es width bytes) i Free
   cells_of-freed [] width bytes i = refl
@@ -184,10 +170,10 @@ module _ {H : Type 0} where
       ∙ cells_of-filled es width (drop width bytes) i (i * width) header key refl fits fit.1
       (omega (arith, length-drop width bytes))))
 
-  pub IsSlot-within : (es : List (Entry (Head H))) (capacity size width : ℕ) (bytes : List ℕ) (i : ℕ)
-      → IsChunk es capacity size width bytes → i < length (cells_of (with_free (slots_of size) es) width bytes)
+  pub IsSlot-within : (es : List (Entry (Head H))) (size width : ℕ) (bytes : List ℕ) (i : ℕ)
+      → AreEntries es size width bytes → i < length (cells_of (with_free (slots_of size) es) width bytes)
       → IsSlot size width i
-  IsSlot-within es capacity size width bytes i chunk within =
+  IsSlot-within es size width bytes i chunk within =
       let index : i < slots_of size =
       omega (
         arith,
@@ -197,25 +183,24 @@ module _ {H : Type 0} where
       record { index = index; bytes = slot_within i (slots_of size) width index chunk.shared }
 
   -- entries that are made change nothing
-  pub record IsMade (es made : List (Entry (Head H))) (capacity size width : ℕ) (bytes : List ℕ) : Type 0 where
-    pub chunk : IsChunk made capacity size width bytes
+  pub record IsMade (es made : List (Entry (Head H))) (size width : ℕ) (bytes : List ℕ) : Type 0 where
+    pub chunk : AreEntries made size width bytes
     pub cells : cells_of (with_free (slots_of size) made) width bytes
         ≡ cells_of (with_free (slots_of size) es) width bytes
 
-  pub IsMade-entries : (es made : List (Entry (Head H))) (capacity more size width : ℕ) (bytes : List ℕ) (i : ℕ)
-      → IsChunk es capacity size width bytes → i < length (cells_of (with_free (slots_of size) es) width bytes)
+  pub IsMade-entries : (es made : List (Entry (Head H))) (size width : ℕ) (bytes : List ℕ) (i : ℕ)
+      → AreEntries es size width bytes → i < length (cells_of (with_free (slots_of size) es) width bytes)
       → ((count : ℕ) → i < count → with_free count made ≡ with_free count es)
       → ((count : ℕ) → i < count → length es ≤ count → length made ≤ count)
-      → capacity ≤ more → IsMade es made more size width bytes
-  IsMade-entries es made capacity more size width bytes i chunk within free few room =
-      let index = (IsSlot-within es capacity size width bytes i chunk within).index in
+      → IsMade es made size width bytes
+  IsMade-entries es made size width bytes i chunk within free few =
+      let index = (IsSlot-within es size width bytes i chunk within).index in
       let same = free (slots_of size) index in
       record {
         chunk = record {
           sized = chunk.sized;
           wide = chunk.wide;
           few = few (slots_of size) index chunk.few;
-          entries_room = omega (arith, chunk.entries_room, room);
           shared = chunk.shared;
           room = chunk.room;
           fit = rw same chunk.fit;
@@ -223,42 +208,41 @@ module _ {H : Type 0} where
         cells = ap (λ xs. cells_of xs width bytes) same;
       }
 
-  -- a chunk with one of its entries written
-  IsChunk-set : (es : List (Entry (Head H))) (capacity size width : ℕ) (bytes after : List ℕ) (i : ℕ)
+  -- a chunk's entries with one of them written
+  AreEntries-set : (es : List (Entry (Head H))) (size width : ℕ) (bytes after : List ℕ) (i : ℕ)
       (e : Entry (Head H))
-      → IsChunk es capacity size width bytes → i < length es → Fits e width → length after ≡ length bytes
-      → IsChunk (set es i e) capacity size width after
-  IsChunk-set es capacity size width bytes after i e chunk there fits same =
+      → AreEntries es size width bytes → i < length es → Fits e width → length after ≡ length bytes
+      → AreEntries (set es i e) size width after
+  AreEntries-set es size width bytes after i e chunk there fits same =
       record {
         sized = chunk.sized;
         wide = chunk.wide;
         few = omega (arith, length-set es i e, chunk.few);
-        entries_room = chunk.entries_room;
         shared = chunk.shared;
         room = same ∙ chunk.room;
         fit = rw (with_free-set (slots_of size) es i e there)
             (AllFit-set (with_free (slots_of size) es) width i e chunk.fit fits);
       }
 
-  pub IsChunk-filled : (es : List (Entry (Head H))) (capacity size width : ℕ) (bytes : List ℕ) (i : ℕ) (header : H)
+  pub AreEntries-filled : (es : List (Entry (Head H))) (size width : ℕ) (bytes : List ℕ) (i : ℕ) (header : H)
       (key : List ℕ)
-      → IsChunk es capacity size width bytes → i < length es → length key ≤ slice_index sizes size
-      → IsChunk (set es i (Live (record { header = header; length = length key }))) capacity size width
+      → AreEntries es size width bytes → i < length es → length key ≤ slice_index sizes size
+      → AreEntries (set es i (Live (record { header = header; length = length key }))) size width
       (with_key (i * width) key bytes)
-  IsChunk-filled es capacity size width bytes i header key chunk there fits =
+  AreEntries-filled es size width bytes i header key chunk there fits =
       let wide = chunk.wide in
       let room = chunk.room in
       let inside = slot_within i (slots_of size) width (omega (arith, there, chunk.few)) chunk.shared in
-      IsChunk-set es capacity size width bytes _ i _ chunk there (omega arith)
+      AreEntries-set es size width bytes _ i _ chunk there (omega arith)
       (length-with_key (i * width) key bytes (omega (arith, inside)))
 
-  pub filled : (es : List (Entry (Head H))) (capacity size width : ℕ) (bytes : List ℕ) (i : ℕ) (header : H)
+  pub filled : (es : List (Entry (Head H))) (size width : ℕ) (bytes : List ℕ) (i : ℕ) (header : H)
       (key : List ℕ)
-      → IsChunk es capacity size width bytes → i < length es → length key ≤ slice_index sizes size
+      → AreEntries es size width bytes → i < length es → length key ≤ slice_index sizes size
       → cells_of (with_free (slots_of size) (set es i (Live (record { header = header; length = length key })))) width
       (with_key (i * width) key bytes)
       ≡ set (cells_of (with_free (slots_of size) es) width bytes) i (Live (record { header = header; key = key }))
-  filled es capacity size width bytes i header key chunk there fits =
+  filled es size width bytes i header key chunk there fits =
       let wide = chunk.wide in
       let room = chunk.room in
       let inside = slot_within i (slots_of size) width (omega (arith, there, chunk.few)) chunk.shared in
@@ -266,10 +250,10 @@ module _ {H : Type 0} where
       ∙ cells_of-filled (with_free (slots_of size) es) width bytes i (i * width) header key refl (omega arith) chunk.fit
       (omega (arith, inside))
 
-  pub IsChunk-freed : (es : List (Entry (Head H))) (capacity size width : ℕ) (bytes : List ℕ) (i : ℕ)
-      → IsChunk es capacity size width bytes → i < length es → IsChunk (set es i Free) capacity size width bytes
-  IsChunk-freed es capacity size width bytes i chunk there =
-      IsChunk-set es capacity size width bytes bytes i Free chunk there tt refl
+  pub AreEntries-freed : (es : List (Entry (Head H))) (size width : ℕ) (bytes : List ℕ) (i : ℕ)
+      → AreEntries es size width bytes → i < length es → AreEntries (set es i Free) size width bytes
+  AreEntries-freed es size width bytes i chunk there =
+      AreEntries-set es size width bytes bytes i Free chunk there tt refl
 
   pub freed : (k : ℕ) (es : List (Entry (Head H))) (width : ℕ) (bytes : List ℕ) (i : ℕ) → i < length es
       → cells_of (with_free k (set es i Free)) width bytes ≡ set (cells_of (with_free k es) width bytes) i Free
@@ -277,17 +261,17 @@ module _ {H : Type 0} where
       ap (λ xs. cells_of xs width bytes) (with_free-set k es i Free there)
       ∙ cells_of-freed (with_free k es) width bytes i
 
-  pub IsChunk-lent : (es : List (Entry (Head H))) (capacity size width : ℕ) (bytes : List ℕ) (i : ℕ) (head : Head H)
-      → IsChunk es capacity size width bytes → i < length es → head.length ≤ width
-      → IsChunk (set es i (Live head)) capacity size width bytes
-  IsChunk-lent es capacity size width bytes i head chunk there fits =
-      IsChunk-set es capacity size width bytes bytes i (Live head) chunk there fits refl
+  pub AreEntries-lent : (es : List (Entry (Head H))) (size width : ℕ) (bytes : List ℕ) (i : ℕ) (head : Head H)
+      → AreEntries es size width bytes → i < length es → head.length ≤ width
+      → AreEntries (set es i (Live head)) size width bytes
+  AreEntries-lent es size width bytes i head chunk there fits =
+      AreEntries-set es size width bytes bytes i (Live head) chunk there fits refl
 
   -- the key of a live slot lies within the bytes
-  pub key_within : (es : List (Entry (Head H))) (capacity size width : ℕ) (bytes : List ℕ) (i : ℕ) (head : Head H)
-      → IsChunk es capacity size width bytes → slice_get es i ≡ Some (Live head)
+  pub key_within : (es : List (Entry (Head H))) (size width : ℕ) (bytes : List ℕ) (i : ℕ) (head : Head H)
+      → AreEntries es size width bytes → slice_get es i ≡ Some (Live head)
       → i * width + head.length ≤ length bytes
-  key_within es capacity size width bytes i head chunk is =
+  key_within es size width bytes i head chunk is =
       let room = chunk.room in
       let there = slice_get_within es i _ is in
       omega (
@@ -328,15 +312,14 @@ module _ {H : Type 0} where
   AllFit-free [] (suc k) width none = (tt, AllFit-free [] k width refl)
   AllFit-free (e ∷ es) k width none = cc
 
-  pub IsChunk-new : (es : List (Entry (Head H))) (capacity size width : ℕ) (bytes : List ℕ)
-      → es ≡ [] → size < 10 → width ≡ slice_index sizes size → slots_of size ≤ capacity
-      → slots_of size * width ≡ 16384 → length bytes ≡ 16384 → IsChunk es capacity size width bytes
-  IsChunk-new es capacity size width bytes none sized wide entries_room shared room =
+  pub AreEntries-new : (es : List (Entry (Head H))) (size width : ℕ) (bytes : List ℕ)
+      → es ≡ [] → size < 10 → width ≡ slice_index sizes size
+      → slots_of size * width ≡ 16384 → length bytes ≡ 16384 → AreEntries es size width bytes
+  AreEntries-new es size width bytes none sized wide shared room =
       record {
         sized = sized;
         wide = wide;
         few = omega (arith, ap length none);
-        entries_room = entries_room;
         shared = shared;
         room = room;
         fit = AllFit-free es (slots_of size) width none;

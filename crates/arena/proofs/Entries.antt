@@ -1,9 +1,7 @@
 -- The entries of a chunk, and the free ones behind them that are not made yet.
 use Rattle.std.proofs.Common.{◌≡◌, ℕ, zero, suc, ◌<◌, ◌≤◌, List, [], ◌∷◌, ◌++◌, length, set, slice_get, Some, refl, ap, arith}
-use Rattle.arena.specs.Entry.{IsFree}
+use Rattle.arena.specs.Entry.{Entry, Free, Live, IsFree}
 use Rattle.arena.specs.Chunk.{with_free}
-use Rattle.arena.specs.declared.entry.Entry.{Entry}
-use Rattle.arena.specs.declared.entry.Entry.TheVariants.{Free, Live}
 
 module _ {T : Type 0} where
   pub length-with_free : (k : ℕ) (es : List (Entry T)) → length es ≤ k → length (with_free k es) ≡ k

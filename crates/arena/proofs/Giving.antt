@@ -30,7 +30,7 @@ use Rattle.arena.specs.Arena.{sizes, size_of}
 use Rattle.arena.specs.Chunk.{Chunk}
 use Rattle.arena.specs.Spares.{Spare, spare_at, counts_of, with_slot, with_chunk}
 use Rattle.arena.specs.Kept.{IsFree, IsKept}
-use Rattle.arena.specs.declared.entry.Entry.TheVariants.{Free}
+use Rattle.arena.specs.Entry.{Free}
 use Rattle.arena.proofs.Sizes.{size_fits}
 use Rattle.arena.proofs.Lists.{spare_at-set_same, spare_at-set_other, count_of, length-with_row}
 use Rattle.arena.proofs.Keeping.{given_free}

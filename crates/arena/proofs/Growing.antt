@@ -41,11 +41,10 @@ use Rattle.std.specs.Option.{option_and_then}
 use Rattle.std.specs.FinMap as map
 use Rattle.std.specs.Set.{is_member}
 use Rattle.arena.specs.Arena.{Record}
-use Rattle.arena.specs.Entry.{held}
+use Rattle.arena.specs.Entry.{Entry, held}
 use Rattle.arena.specs.Chunk.{Chunk, IsFresh}
 use Rattle.arena.specs.Spares.{Spare, spare_at, with_row, with_chunk}
 use Rattle.arena.specs.Kept.{cell_at, size_at, record_in, records_of, IsFree, IsOfSize, IsSpare, IsKept}
-use Rattle.arena.specs.declared.entry.Entry.{Entry}
 use Rattle.arena.proofs.Slots.{same_or_other}
 use Rattle.arena.proofs.Lists.{
   row_distinct,

@@ -7,12 +7,10 @@ use Rattle.std.specs.FinMap as map
 use Rattle.std.specs.List.{IsDistinct}
 use Rattle.std.specs.Set.{is_member}
 use Rattle.arena.specs.Arena.{Record, size_of}
-use Rattle.arena.specs.Entry.{held}
+use Rattle.arena.specs.Entry.{Entry, Free, Live, held}
 use Rattle.arena.specs.Chunk.{Chunk}
 use Rattle.arena.specs.Spares.{Spare, none, spare_at, counts_of, with_slot}
 use Rattle.arena.specs.Kept.{cell_at, size_at, record_in, records_of, IsOfSize, IsSpare, IsKept}
-use Rattle.arena.specs.declared.entry.Entry.{Entry}
-use Rattle.arena.specs.declared.entry.Entry.TheVariants.{Free, Live}
 use Rattle.arena.proofs.Slots.{same_or_other, Writes}
 use Rattle.arena.proofs.Lists.{
   pushed,

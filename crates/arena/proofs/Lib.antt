@@ -1,7 +1,9 @@
 pub mod callers
 pub mod Sizes
 pub mod Entries
+pub mod Lengths
 pub mod Cells
+pub mod Chunks
 pub mod Slots
 pub mod Lists
 pub mod Records

@@ -26,13 +26,11 @@ use Rattle.std.proofs.lemmas.Option.{slice_get_within, slice_get_read}
 use Rattle.std.specs.Option.{option_and_then}
 use Rattle.std.specs.FinMap as map
 use Rattle.arena.specs.Arena.{Record}
-use Rattle.arena.specs.Entry.{held, held_at}
+use Rattle.arena.specs.Entry.{Entry, Free, Live, held, held_at}
 use Rattle.arena.specs.Chunk.{Chunk}
 use Rattle.arena.specs.ChunkLends as chunk
 use Rattle.arena.specs.Kept.{cell_at, records_of, IsKept}
 use Rattle.arena.specs.Spares.{Spare}
-use Rattle.arena.specs.declared.entry.Entry.{Entry}
-use Rattle.arena.specs.declared.entry.Entry.TheVariants.{Free, Live}
 use Rattle.arena.proofs.Slots.{Writes, Writes-set}
 use Rattle.arena.proofs.Records.{get-records_of, records_of-put}
 use Rattle.arena.proofs.Keeping.{IsKept-lent}

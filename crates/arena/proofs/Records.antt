@@ -40,10 +40,9 @@ use Rattle.std.specs.Ordering.{nat_cmp, eq_by_cmp}
 use Rattle.std.specs.Cmp.{nat_cmp_total, eq_by_cmp_equiv}
 use Rattle.std.specs.FinMap as map
 use Rattle.arena.specs.Arena.{Record, Records}
-use Rattle.arena.specs.Entry.{held}
+use Rattle.arena.specs.Entry.{Free, Live, held}
 use Rattle.arena.specs.Chunk.{Chunk}
 use Rattle.arena.specs.Kept.{cell_at, record_in, entry_of, live_below, records_of}
-use Rattle.arena.specs.declared.entry.Entry.TheVariants.{Free, Live}
 use Rattle.arena.proofs.Slots.{same_or_other, Writes}
 
 same_number : (a b : ℕ) → a ≡ b → eq_by_cmp nat_cmp a b ≡ true

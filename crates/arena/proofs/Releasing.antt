@@ -4,11 +4,10 @@ use Rattle.std.proofs.lemmas.Option.{slice_get_within}
 use Rattle.std.specs.Option.{option_and_then}
 use Rattle.std.specs.FinMap as map
 use Rattle.arena.specs.Arena.{Record, size_of}
-use Rattle.arena.specs.Entry.{held}
+use Rattle.arena.specs.Entry.{Free, Live, held}
 use Rattle.arena.specs.Chunk.{Chunk}
 use Rattle.arena.specs.Spares.{Spare, spare_at, with_slot}
 use Rattle.arena.specs.Kept.{cell_at, size_at, records_of, IsKept}
-use Rattle.arena.specs.declared.entry.Entry.TheVariants.{Free, Live}
 use Rattle.arena.proofs.Slots.{Writes-set, with_cell}
 use Rattle.arena.proofs.Records.{get-records_of, records_of-freed}
 use Rattle.arena.proofs.Keeping.{IsKept-freed, room_for}

@@ -5,7 +5,7 @@ use Rattle.std.specs.Option.{option_and_then}
 use Rattle.arena.specs.Arena.{Record}
 use Rattle.arena.specs.Chunk.{Chunk}
 use Rattle.arena.specs.Kept.{cell_at, size_at}
-use Rattle.arena.specs.declared.entry.Entry.{Entry}
+use Rattle.arena.specs.Entry.{Entry}
 
 pub same_or_other : (a b : ℕ) → (a ≡ b) ⊎ (a ≢ b)
 same_or_other a b = grind arith

@@ -1,10 +1,8 @@
 -- What a chunk is seen as: slots of one size, each free or with a record. No public clause cites this module.
-use Rattle.std.specs.Prelude.{◌≡◌, ℕ, zero, suc, ◌*◌, ◌<◌, ◌≤◌, List, [], ◌∷◌, length, take, drop, slice_index}
+use Rattle.std.specs.Prelude.{◌≡◌, ℕ, zero, suc, ◌*◌, ◌<◌, ◌≤◌, ◌==◌, if◌then◌else◌, List, [], ◌∷◌, length, take, drop, slice_index}
 use Rattle.arena.specs.Arena.{Record, sizes, slots_of}
-use Rattle.arena.specs.Entry.{IsFree}
-use Rattle.arena.specs.declared.entry.Entry.{Entry}
-use Rattle.arena.specs.declared.entry.Entry.TheVariants.{Free, Live}
-use Rattle.arena.specs.declared.entry.Head.{Head}
+use Rattle.arena.specs.Entry.{Entry, Free, Live, IsFree}
+use Rattle.arena.specs.declared.chunk.TheConstants.{FREE}
 use Rattle.arena.specs.declared.size.TheConstants.{CHUNK_BYTES, SIZES}
 
 -- a chunk: the size of its slots, and what each of them holds
@@ -18,7 +16,22 @@ with_free zero es = es
 with_free (suc k) [] = Free ∷ with_free k []
 with_free (suc k) (e ∷ es) = e ∷ with_free k es
 
+-- of a live slot: its header, and how many of its bytes are the key
+pub record Head (H : Type 0) : Type 0 where
+  pub header : H
+  pub length : ℕ
+
 module _ {H : Type 0} where
+  -- the entry of this length and this header
+  abbrev pub entry_of : ℕ → H → Entry (Head H)
+  entry_of n header = if n == FREE then Free else Live (record { header = header; length = n })
+
+  -- the entries of these lengths, each with the header at its place
+  abbrev pub entries_of : List ℕ → List H → List (Entry (Head H))
+  entries_of [] headers = []
+  entries_of (n ∷ lengths) [] = []
+  entries_of (n ∷ lengths) (header ∷ headers) = entry_of n header ∷ entries_of lengths headers
+
   -- the slot of this entry, whose key bytes are the first of these
   abbrev pub cell_of : Entry (Head H) → List ℕ → Entry (Record H)
   cell_of Free bytes = Free
@@ -38,15 +51,22 @@ module _ {H : Type 0} where
   AllFit [] width = Unit {0}
   AllFit (e ∷ es) width = Fits e width × AllFit es width
 
-  -- what a chunk keeps: its slots share all its bytes, and there is room for the entries of those that have none
-  pub record IsChunk (es : List (Entry (Head H))) (capacity size width : ℕ) (bytes : List ℕ) : Type 0 where
+  -- what a chunk keeps of its entries: all its slots share all its bytes
+  pub record AreEntries (es : List (Entry (Head H))) (size width : ℕ) (bytes : List ℕ) : Type 0 where
     pub sized : size < SIZES
     pub wide : width ≡ slice_index sizes size
     pub few : length es ≤ slots_of size
-    pub entries_room : slots_of size ≤ capacity
     pub shared : slots_of size * width ≡ CHUNK_BYTES
     pub room : length bytes ≡ CHUNK_BYTES
     pub fit : AllFit (with_free (slots_of size) es) width
+
+  -- what a chunk keeps: each length has a header, and there is room for those of the slots that have none
+  pub record IsChunk (lengths : List ℕ) (headers : List H)
+      (lengths_capacity headers_capacity size width : ℕ) (bytes : List ℕ) : Type 0 where
+    pub paired : length headers ≡ length lengths
+    pub lengths_room : slots_of size ≤ lengths_capacity
+    pub headers_room : slots_of size ≤ headers_capacity
+    pub entries : AreEntries (entries_of lengths headers) size width bytes
 
   -- there are so many slots, and all are free
   pub record IsFresh (cells : List (Entry (Record H))) (count : ℕ) : Type 0 where

@@ -2,10 +2,9 @@
 use Rattle.std.specs.Prelude.{ℕ, [], option_map, unwrap_or, slice_set}
 use Rattle.std.specs.Borrow.{Lends, Fml, RattleType, MutBor}
 use Rattle.std.specs.declared.alloc.Allocator.{Ghosts}
-use Rattle.arena.specs.Entry.{held_at}
+use Rattle.arena.specs.Entry.{Live, held_at}
 use Rattle.arena.specs.Chunk.{Chunk}
 use Rattle.arena.specs.contracts.chunk.Chunk.{the_row}
-use Rattle.arena.specs.declared.entry.Entry.TheVariants.{Live}
 
 -- the chunk with this header at a live slot
 abbrev pub with_header : {H : Type 0} → Chunk H → ℕ → H → Chunk H

@@ -1,8 +1,11 @@
 -- What the slots of a chunk hold. No public clause cites this module.
 use Rattle.std.specs.Prelude.{◌≡◌, ℕ, List, Option, Some, None, slice_get}
 use Rattle.std.specs.Option.{option_and_then}
-use Rattle.arena.specs.declared.entry.Entry.{Entry}
-use Rattle.arena.specs.declared.entry.Entry.TheVariants.{Free, Live}
+
+-- what a slot holds
+pub data Entry (T : Type 0) : Type 0 where
+  Free : Entry T
+  Live : T → Entry T
 
 module _ {T : Type 0} where
   -- what a live slot holds

@@ -30,11 +30,9 @@ use Rattle.std.specs.Set.{is_member}
 use Rattle.std.specs.Option.{option_and_then}
 use Rattle.std.specs.FinMap as map
 use Rattle.arena.specs.Arena.{Record, Records, size_of}
-use Rattle.arena.specs.Entry.{held}
+use Rattle.arena.specs.Entry.{Entry, Free, held}
 use Rattle.arena.specs.Chunk.{Chunk}
 use Rattle.arena.specs.Spares.{Spare, spare_at, counts_of}
-use Rattle.arena.specs.declared.entry.Entry.{Entry}
-use Rattle.arena.specs.declared.entry.Entry.TheVariants.{Free}
 use Rattle.arena.specs.declared.size.TheConstants.{SIZES}
 use Rattle.arena.specs.declared.slot.TheConstants.{CHUNK_SLOTS, MAX_CHUNKS}
 

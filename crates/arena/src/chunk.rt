@@ -1,22 +1,29 @@
-//! A chunk: slots of one size, whose entries are made as they are used.
+//! A chunk: slots of one size, whose lengths and headers are filled in as the slots are used.
 
 ghost use Rattle.std.specs.Prelude.{◌≡◌, ℕ, ◌+◌, ◌*◌, ◌<◌, ◌≤◌, ◌++◌, List, length, take, drop, slice_index, slice_set, slice_get, vec_capacity, Some, IsSome, IsTrue, IfOk, option_map};
 ghost use Rattle.std.specs.Option.{is_some};
 ghost use Rattle.std.specs.Borrow.{sem};
 ghost use Rattle.arena.specs.Arena.{sizes, slots_of};
-ghost use Rattle.arena.specs.Chunk.{with_free};
+ghost use Rattle.arena.specs.Chunk.{entries_of, with_free};
 ghost use Rattle.arena.specs.declared.size.TheConstants.{SIZES};
 
-use crate::entry::{Entry, Head};
 use crate::size::{CHUNK_BYTES, slots_of, width_of};
 use std::alloc::{AllocError, Allocator};
 use std::marker::Model;
 
+// Stands in place of a length where the slot is free. No key is that long.
+const FREE: u16 = u16::MAX;
+
+const _: () = prove!(FREE == 65_535);
+
 /// Slots of one size, their headers beside each other, and their key bytes beside each other.
 #[derive(Drop)]
 pub(crate) struct Chunk<H, A: Allocator> {
-    // There is room for an entry for each slot. The slots behind the last entry are free, and their memory is not touched yet.
-    entries: Vec<Entry<Head<H>>, A>,
+    // The length of each live slot's key, or `FREE`. There is room for one for each slot. The slots behind the last
+    // length are free, and their memory is not touched yet.
+    lengths: Vec<u16, A>,
+    // The header of each slot that has a length. What stands at a free slot says nothing.
+    headers: Vec<H, A>,
     bytes: Vec<u8, A>,
     size: usize,
     width: usize,
@@ -26,16 +33,17 @@ impl<H, A: Allocator> Model for Chunk<H, A> {
     ghost use Rattle.std.specs.Coded.{coded_ℕ};
     ghost use Rattle.std.specs.Prelude.{vec_capacity};
     ghost use Rattle.arena.specs.Arena.{slots_of};
-    ghost use Rattle.arena.specs.Chunk.{Chunk as Cells, cells_of, with_free, IsChunk};
+    ghost use Rattle.arena.specs.Chunk.{Chunk as Cells, cells_of, entries_of, with_free, IsChunk};
 
     ghost Value = { Cells H };
 
     ghost view = { λ c. record {
       size = c.size;
-      cells = cells_of (with_free (slots_of c.size) c.entries.items) c.width c.bytes.items;
+      cells = cells_of (with_free (slots_of c.size) (entries_of c.lengths.items c.headers.items)) c.width c.bytes.items;
     } };
 
-    ghost invariant = { λ c. IsChunk c.entries.items (vec_capacity c.entries) c.size c.width c.bytes.items };
+    ghost invariant = { λ c. IsChunk c.lengths.items c.headers.items (vec_capacity c.lengths) (vec_capacity c.headers)
+        c.size c.width c.bytes.items };
 }
 
 /// Writes the key over the bytes from an index on.
@@ -46,18 +54,30 @@ fn write_at(bytes: &mut [u8], from: usize, key: &[u8])
     bytes[from..from + key.len()].copy_from_slice(key);
 }
 
-/// Makes free entries, where there are fewer, up to the one at an index.
-fn make_entries<T, A: Allocator>(entries: &mut Vec<Entry<T>, A>, index: usize)
-    requires room { index < vec_capacity entries.old }
-    ensures made { index < length entries.new.items }
+/// Adds lengths and headers, where there are fewer, up to those at an index. Their slots are free, so that a copy of any
+/// header does.
+fn add_free<H: Copy, A: Allocator>(
+    lengths: &mut Vec<u16, A>,
+    headers: &mut Vec<H, A>,
+    index: usize,
+    header: H,
+)
+    requires paired { length headers.old.items ≡ length lengths.old.items }
+    requires lengths_room { index < vec_capacity lengths.old }
+    requires headers_room { index < vec_capacity headers.old }
+    ensures paired { length headers.new.items ≡ length lengths.new.items }
+    ensures made { index < length lengths.new.items }
     ensures free { (count : ℕ) → index < count
-        → with_free count entries.new.items ≡ with_free count entries.old.items }
-    ensures few { (count : ℕ) → index < count → length entries.old.items ≤ count
-        → length entries.new.items ≤ count }
-    ensures capacity { vec_capacity entries.old ≤ vec_capacity entries.new }
+        → with_free count (entries_of lengths.new.items headers.new.items)
+        ≡ with_free count (entries_of lengths.old.items headers.old.items) }
+    ensures few { (count : ℕ) → index < count → length lengths.old.items ≤ count
+        → length lengths.new.items ≤ count }
+    ensures lengths_capacity { vec_capacity lengths.old ≤ vec_capacity lengths.new }
+    ensures headers_capacity { vec_capacity headers.old ≤ vec_capacity headers.new }
 {
-    while entries.len() <= index {
-        entries.push_reserved(Entry::Free);
+    while lengths.len() <= index {
+        lengths.push_reserved(FREE);
+        headers.push_reserved(header);
     }
 }
 
@@ -70,9 +90,8 @@ fn part(bytes: &[u8], from: usize, count: usize) -> &[u8]
 }
 
 impl<H, A: Allocator> Chunk<H, A> {
-    ghost use Rattle.arena.specs.Entry.{held_at};
+    ghost use Rattle.arena.specs.Entry.{Free, Live, held_at};
     ghost use Rattle.arena.specs.ChunkLends.{with_header, lends_header};
-    ghost use Rattle.arena.specs.declared.entry.Entry.TheVariants.{Free, Live};
 
     /// The index of the slots' size.
     pub(crate) fn size(&self) -> usize
@@ -87,7 +106,7 @@ impl<H, A: Allocator> Chunk<H, A> {
         requires live { IsSome (held_at self.now.cells index) }
         ensures header { option_map (λ r. r.header) (held_at self.now.cells index) ≡ Some result.now }
     {
-        &self.entries[index].live().header
+        &self.headers[index]
     }
 
     /// Returns the key of a live slot, where it lies.
@@ -95,7 +114,7 @@ impl<H, A: Allocator> Chunk<H, A> {
         requires live { IsSome (held_at self.now.cells index) }
         ensures key { option_map (λ r. r.key) (held_at self.now.cells index) ≡ Some result.now }
     {
-        let length = self.entries[index].live().length as usize;
+        let length = self.lengths[index] as usize;
         part(&self.bytes, index * self.width, length)
     }
 
@@ -103,29 +122,21 @@ impl<H, A: Allocator> Chunk<H, A> {
     pub(crate) fn is_live(&self, index: usize) -> bool
         ensures live { result ≡ is_some (held_at self.now.cells index) }
     {
-        if index >= self.entries.len() {
-            return false;
-        }
-        match &self.entries[index] {
-            Entry::Live(_) => true,
-            Entry::Free => false,
-        }
+        index < self.lengths.len() && self.lengths[index] != FREE
     }
 
     /// Frees a live slot.
     pub(crate) fn free(&mut self, index: usize)
-    where
-        H: Drop,
         requires live { IsSome (held_at self.old.cells index) }
         ensures freed { self.new ≡ record self.old { cells = slice_set self.old.cells index Free } }
     {
-        self.entries[index] = Entry::Free;
+        self.lengths[index] = FREE;
     }
 
     /// Writes a record into a slot.
     pub(crate) fn fill(&mut self, index: usize, header: H, key: &[u8])
     where
-        H: Drop,
+        H: Copy,
         requires within { index < length self.old.cells }
         requires fits { length key.now ≤ slice_index sizes self.old.size }
         ensures filled { self.new ≡ record self.old {
@@ -134,9 +145,9 @@ impl<H, A: Allocator> Chunk<H, A> {
         } }
     {
         write_at(self.bytes.as_mut_slice(), index * self.width, key);
-        let length = key.len() as u16;
-        make_entries(&mut self.entries, index);
-        self.entries[index] = Entry::Live(Head { header, length });
+        add_free(&mut self.lengths, &mut self.headers, index, header);
+        self.lengths[index] = key.len() as u16;
+        self.headers[index] = header;
     }
 
     /// Lends the header of a live slot for writing.
@@ -145,15 +156,14 @@ impl<H, A: Allocator> Chunk<H, A> {
         ensures* lends { sem 𝓛 (lends_header H.row A.row A.Allocator self.entry index result) }
         ensures value { option_map (λ r. r.header) (held_at self.old.cells index) ≡ Some result.now }
     {
-        let head = self.entries[index].live_mut();
-        &mut head.header
+        &mut self.headers[index]
     }
 }
 
 impl<H: Drop, A: Allocator + Copy> Chunk<H, A> {
     ghost use Rattle.arena.specs.Chunk.{IsFresh};
 
-    /// Takes the memory for a chunk. Its slots are free, and none has an entry yet.
+    /// Takes the memory for a chunk. Its slots are free, and none has a length yet.
     pub(crate) fn new(alloc: A, size: usize) -> Result<Self, AllocError>
         requires size { size < SIZES }
         ensures size { IfOk result (λ c. c.size ≡ size) }
@@ -161,10 +171,12 @@ impl<H: Drop, A: Allocator + Copy> Chunk<H, A> {
     {
         let count = slots_of(size);
         let width = width_of(size);
-        let entries = Vec::with_capacity(alloc, count)?;
+        let lengths = Vec::with_capacity(alloc, count)?;
+        let headers = Vec::with_capacity(alloc, count)?;
         let bytes = Vec::from_elem(alloc, 0, CHUNK_BYTES)?;
         Ok(Chunk {
-            entries,
+            lengths,
+            headers,
             bytes,
             size,
             width,

@@ -10,7 +10,6 @@
 
 mod arena;
 mod chunk;
-mod entry;
 mod error;
 mod size;
 mod slot;
