@@ -1,5 +1,5 @@
 -- What a node's heads tells of the key at an index.
-use Rattle.std.proofs.Common.{◌≡◌, ◌≢◌, ◌⊎◌, ℕ, ◌+◌, ◌<◌, ◌≤◌, Bool, true, false, nat_lt, List, [], ◌∷◌, length, filter, get_or, take, slice_get, slice_index, option_map, Some, All, refl, sym, ap, subst, ◌∙◌, inl, inr, arith, length-take, get_or-take, lt-ltb, le-ltb, ltb-true}
+use Rattle.std.proofs.Common.{◌≡◌, ◌≢◌, ◌⊎◌, ℕ, ◌+◌, ◌-◌, ◌<◌, ◌≤◌, Bool, true, false, nat_lt, List, [], ◌∷◌, length, filter, get_or, take, slice_get, slice_index, option_map, Some, All, refl, sym, ap, subst, ◌∙◌, inl, inr, arith, length-take, get_or-take, lt-ltb, le-ltb, ltb-true}
 use Rattle.std.specs.Prelude.{unwrap_or}
 use Rattle.std.specs.Int.{w64, to_be_bytes}
 use Rattle.std.proofs.lemmas.Bool.{cases_lt}
@@ -12,7 +12,7 @@ use Rattle.tree.specs.Node.{entries_of, key_heads_of, keys_of}
 use Rattle.tree.specs.Heads.{KeyBytes, Begins, head_behind, head_at, KeyHeads, AreHeads, IsBelowInOrder, IsCommonPrefixLen, IsPrefixLenAt, HasPrefix, IsTargetHead}
 use Rattle.tree.specs.Path.{IsPartitioned}
 use Rattle.tree.proofs.callers.Partitions.{length-items_below, none_fail, not_both}
-use Rattle.tree.proofs.HeadCounts.{fewer_pass, length-filter_map, passing_before, passing_inside}
+use Rattle.tree.proofs.HeadCounts.{passing_before, passing_inside}
 use Rattle.tree.proofs.HeadOrder.{empty_head, empty_before, empty_before_too, tells_empty, told_by_heads, before_too, tells_too, common_by_heads}
 
 some_same : {X : Type 0} (a b : X) → Some a ≡ Some b → a ≡ b
@@ -254,30 +254,6 @@ module _ {N : ℕ} (bytes : KeyBytes) (node : Node N) (h : AreHeads bytes (key_h
       let known = knows first.0 first.1 in
       ap length (all_pass shared first.0 first.1 filled (less filled) known.0 known.1)
 
-  -- No more heads are below that of the target than entries are.
-  pub few_below : (head : ℕ) → IsTargetHead bytes (key_heads_of node) target head
-      → length (filter (λ d. nat_lt d head) (take node.len node.heads))
-      ≤ length (filter (λ (e : Entry). is_below e.key) (entries_of node))
-  few_below head is =
-      let es = entries_of node in
-      let key_heads = key_heads_of node in
-      let own : ℕ → ℕ = head_at bytes key_heads.prefix_len in
-      let below : ℕ → Bool = λ d. nat_lt d head in
-      let of_keys : length (filter below key_heads.heads) ≡ length (filter (λ k. below (own k)) key_heads.keys) =
-      ap (λ ds. length (filter below ds)) h.heads ∙ length-filter_map below own key_heads.keys in
-      let of_entries : length (filter (λ k. below (own k)) key_heads.keys)
-      ≡ length (filter (λ (e : Entry). below (own e.key)) es) =
-      length-filter_map (λ k. below (own k)) (λ (e : Entry). e.key) es in
-      let all : All (λ (e : Entry). below (own e.key) ≡ true → is_below e.key ≡ true) es =
-      λ i d inside less.
-      let e = get_or es i d in
-      let there = key_there es i e (slice_get-get_or es i d inside) in
-      let k = key_at bytes key_heads h i e.key there in
-      let is_own : get_or key_heads.heads i 0 ≡ own e.key =
-      k.head ∙ sym (ap (λ o. head_behind key_heads.prefix_len (unwrap_or o [])) k.known) in
-      less_passes bytes key_heads h target is_below order i e.key head there is (ap below is_own ∙ less) in
-      omega (arith, of_keys, of_entries, fewer_pass (λ (e : Entry). below (own e.key)) (λ (e : Entry). is_below e.key) es all)
-
   module _ (head : ℕ) (is : IsTargetHead bytes (key_heads_of node) target head)
       (partitioned : IsPartitioned (λ (e : Entry). is_below e.key) (entries_of node)) where
     -- Entries behind some that pass do so, too, as far as their heads are below that of the target.
@@ -314,4 +290,22 @@ module _ {N : ℕ} (bytes : KeyBytes) (node : Node N) (h : AreHeads bytes (key_h
               (λ same. absurd (omega (arith, same, more))))
               ∙ le-ltb own head (omega arith) in
               passing_before (λ (e : Entry). is_below e.key) es end e.0 partitioned e.1 fails
+        ]
+
+    -- Entries pass up to one whose head is below that of the target.
+    pub few_below : (count : ℕ) → count ≤ length (entries_of node) → (0 < count → get_or node.heads (count - 1) 0 < head)
+        → count ≤ length (filter (λ (e : Entry). is_below e.key) (entries_of node))
+    few_below count within below =
+        let es = entries_of node in
+        elim (cases_lt 0 count) [
+          | inr none ↦ omega (arith, none)
+          | inl some ↦
+              let last = count - 1 in
+              let e = entry_at es last (omega arith) in
+              let inside : last < node.len = omega (arith, length-take node.len node.entries) in
+              let less : get_or (key_heads_of node).heads last 0 < head =
+              subst (λ d. d < head) (sym (get_or-take node.len node.heads last 0 inside)) (below some) in
+              let passed = less_passes bytes (key_heads_of node) h target is_below order last e.0.key head (key_there es last e.0 e.1) is
+              (lt-ltb (get_or (key_heads_of node).heads last 0) head less) in
+              omega (arith, passing_inside (λ (e : Entry). is_below e.key) es last e.0 partitioned e.1 passed)
         ]

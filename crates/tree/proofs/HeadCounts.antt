@@ -1,31 +1,10 @@
--- How many of a list pass, by one test and by another, and where they stand if those below the bound come first.
-use Rattle.std.proofs.Common.{◌≡◌, ℕ, zero, suc, ◌+◌, ◌-◌, ◌<◌, ◌≤◌, Bool, true, false, List, [], ◌∷◌, length, map, take, drop, filter, All, slice_get, Some, sym, ap, ◌∙◌, refl, inl, inr, arith}
+-- Where those of a list stand that pass, if they come first.
+use Rattle.std.proofs.Common.{◌≡◌, ℕ, zero, suc, ◌+◌, ◌-◌, ◌<◌, ◌≤◌, Bool, true, false, List, [], ◌∷◌, length, take, drop, filter, slice_get, Some, sym, ap, ◌∙◌, refl, inl, inr, arith}
 use Rattle.std.proofs.lemmas.Bool.{cases_Bool}
-use Rattle.std.proofs.lemmas.List.Elements.{All-head, All-tail, All-take}
+use Rattle.std.proofs.lemmas.List.Elements.{All-take}
 use Rattle.std.proofs.lemmas.Option.{get_or_from_slice_get, slice_get_within}
 use Rattle.tree.specs.Path.{IsPartitioned}
 use Rattle.tree.proofs.callers.Partitions.{Falls, Falls-below_from, none_pass, not_both}
-
--- a test of what a function gives
-pub length-filter_map : {X Y : Type 0} (p : Y → Bool) (f : X → Y) (xs : List X)
-    → length (filter p (map f xs)) ≡ length (filter (λ x. p (f x)) xs)
-length-filter_map p f [] = refl
-length-filter_map p f (x ∷ xs) =
-    let rest = length-filter_map p f xs in
-    elim (cases_Bool (p (f x))) [ inl t ↦ rw t (omega arith) | inr h ↦ rw h rest ]
-
-module _ {X : Type 0} (p q : X → Bool) where
-  -- no more pass a test than another that they pass, too
-  pub fewer_pass : (xs : List X) → All (λ x. p x ≡ true → q x ≡ true) xs
-      → length (filter p xs) ≤ length (filter q xs)
-  fewer_pass [] all = omega arith
-  fewer_pass (x ∷ xs) all =
-      let own = All-head (λ y. p y ≡ true → q y ≡ true) x xs all in
-      let rest = fewer_pass xs (All-tail (λ y. p y ≡ true → q y ≡ true) x xs all) in
-      elim (cases_Bool (q x)) [
-        | inl t ↦ elim (cases_Bool (p x)) [ inl s ↦ rw (s, t) (omega arith) | inr h ↦ rw (h, t) (omega arith) ]
-        | inr f ↦ elim (cases_Bool (p x)) [ inl s ↦ absurd (not_both (q x) (own s) f) | inr h ↦ rw (h, f) rest ]
-      ]
 
 module _ {X : Type 0} (p : X → Bool) where
   before_failing : (xs : List X) (i : ℕ) (x : X) → Falls p xs → slice_get xs i ≡ Some x → p x ≡ false

@@ -20,6 +20,7 @@ mod search;
 mod span;
 mod tree;
 mod walk;
+mod way;
 
 pub use bound::Bound;
 pub use entry::Entry;

@@ -22,6 +22,7 @@ use crate::node::Node;
 use crate::rebalance::entry_for;
 use crate::replace::place;
 use crate::walk::{LeafChange, Place, change_leaf};
+use crate::way::Way;
 use arena::{Arena, Slot};
 
 /// Where a tree begins.
@@ -71,6 +72,7 @@ pub fn change<C: LeafChange<N>, const N: usize>(
     root: &mut Root,
     change: &mut C,
     taken: &mut Option<Node<N>>,
+    way: &mut Way,
 )
     requires changeable { CanChangeTree nodes.old root.old.slot root.old.height }
     requires partitioned { IsPartitioned (λ x. C.LeafBound.below (C.bound_of change.old) x.key) (items_in nodes.old root.old.height root.old.slot) }
@@ -89,7 +91,7 @@ pub fn change<C: LeafChange<N>, const N: usize>(
         behind: None,
         is_first: true,
     };
-    match change_leaf(nodes, root.slot, root.height, change, place, taken).added() {
+    match change_leaf(nodes, root.slot, root.height, change, place, taken, way).added() {
         Some(added) => *root = grow(nodes, *root, added, change.leaf_bound()),
         None => *root = shrink(nodes, *root),
     }

@@ -21,6 +21,7 @@ use crate::questions::{answer_each, descend_each, look_at_each};
 use crate::rebalance::least;
 use crate::root::{Root, change, last};
 use crate::search::{greatest, key_behind};
+use crate::way::Way;
 use arena::{Arena, ArenaError, Slot};
 use arrayvec::ArrayVec;
 use std::alloc::Global;
@@ -39,6 +40,7 @@ pub struct Tree<const N: usize> {
     len: usize,
     // for how many items nodes are reserved
     room: usize,
+    way: Way,
 }
 
 impl<const N: usize> Model for Tree<N> {
@@ -86,6 +88,7 @@ impl<const N: usize> Tree<N> {
             root: Root { slot, height: 0 },
             len: 1,
             room: 1,
+            way: Way::new(),
         })
     }
 
@@ -201,7 +204,13 @@ impl<const N: usize> Tree<N> {
             new,
             written: Written::Partly { last: 0 },
         };
-        change(&mut self.nodes, &mut self.root, &mut overwriting, taken);
+        change(
+            &mut self.nodes,
+            &mut self.root,
+            &mut overwriting,
+            taken,
+            &mut self.way,
+        );
         let written = overwriting.written;
         self.len = self.len + written.put() - taken.as_ref().map_or(0, Node::len);
         written
@@ -241,7 +250,13 @@ impl<const N: usize> Tree<N> {
                 next: None,
             },
         };
-        change(&mut self.nodes, &mut self.root, &mut expiring, taken);
+        change(
+            &mut self.nodes,
+            &mut self.root,
+            &mut expiring,
+            taken,
+            &mut self.way,
+        );
         self.len -= taken.as_ref().map_or(0, Node::len);
         expiring.removal
     }

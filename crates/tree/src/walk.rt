@@ -11,6 +11,7 @@ use crate::bound::Bound;
 use crate::node::Node;
 use crate::replace::{insert_child, raise_entry, rebalance_child};
 use crate::search::key_at;
+use crate::way::Way;
 use arena::{Arena, Slot};
 
 /// What a walk knows of the subtree that it has come to.
@@ -54,7 +55,7 @@ pub trait LeafChange<const N: usize> {
     /// By what the leaf is found.
     type LeafBound: Bound;
 
-    // the target
+    // the bound by which the leaf is found
     ghost bound_of: { Self → Self.LeafBound };
 
     // What is wanted of the items of the leaf.
@@ -64,7 +65,7 @@ pub trait LeafChange<const N: usize> {
     // leaf's, the key of the first item behind them, what they were, and what they are.
     ghost gives: { Self → Self → List Item → Bool → Option ℕ → List Item → List Item → Type 0 };
 
-    /// Returns the target.
+    /// Returns the bound by which the leaf is found.
     fn leaf_bound(&self) -> &Self::LeafBound
         ensures leaf_bound { result.now ≡ bound_of self.now };
 
@@ -92,7 +93,7 @@ pub trait LeafChange<const N: usize> {
 }
 
 /// Changes a leaf of a subtree, puts the entries that are taken out into `taken`, and rebalances the nodes above it. Takes at
-/// most one slot at each height.
+/// most one slot at each height. It tries the way that it is given first, which may be any, and remembers its own there.
 pub fn change_leaf<C: LeafChange<N>, const N: usize>(
     nodes: &mut Arena<Node<N>>,
     slot: Slot,
@@ -100,6 +101,7 @@ pub fn change_leaf<C: LeafChange<N>, const N: usize>(
     change: &mut C,
     place: Place,
     taken: &mut Option<Node<N>>,
+    way: &mut Way,
 ) -> Outcome
     requires changeable { CanChange nodes.old height slot }
     requires searched { CanSearch (C.LeafBound.bytes (C.bound_of change.old)) (C.LeafBound.below (C.bound_of change.old))
@@ -115,7 +117,8 @@ pub fn change_leaf<C: LeafChange<N>, const N: usize>(
         return change.change(nodes, slot, place, taken);
     }
     let node = nodes.header_ref(slot);
-    let step = node.step(change.leaf_bound(), place.common_prefix_len);
+    let step = node.step_by_guess(change.leaf_bound(), place.common_prefix_len, way.at(height));
+    way.set(height, step.index);
     let entries = node.entries();
     let child = entries[step.index].child;
     let below = Place {
@@ -123,7 +126,7 @@ pub fn change_leaf<C: LeafChange<N>, const N: usize>(
         behind: key_at(entries, step.index + 1, place.behind),
         is_first: place.is_first && step.index == 0,
     };
-    match change_leaf(nodes, child, height - 1, change, below, taken) {
+    match change_leaf(nodes, child, height - 1, change, below, taken, way) {
         Outcome::Same => Outcome::Same,
         Outcome::Raised(version) => {
             raise_entry(nodes, slot, step.index, version, change.leaf_bound());

@@ -1,6 +1,6 @@
 //! The search in a node: by the heads of its keys, and by their bytes where heads are the same.
 
-ghost use Rattle.std.specs.Prelude.{◌≡◌, ◌≢◌, ◌<◌, ◌≤◌, ℕ, List, length, filter, nat_lt, get_or, slice_get, None, Some, IsTrue};
+ghost use Rattle.std.specs.Prelude.{◌≡◌, ◌≢◌, ◌<◌, ◌≤◌, ◌+◌, ℕ, ◌-◌, List, length, filter, get_or, slice_get, None, Some, IsTrue};
 ghost use Rattle.tree.specs.Finding.{AreTied, CanFind, HasHead, IsLowerBound, IsOwnHead, IsStep};
 ghost use Rattle.tree.specs.Heads.{HasPrefix, HaveCommonPrefix, AreHeads, IsPrefixLenAt};
 ghost use Rattle.tree.specs.Node.{entries_of, key_heads_of};
@@ -10,6 +10,11 @@ use super::heads::same_bytes;
 use crate::bound::Bound;
 use crate::entry::Entry;
 use crate::search::lower_bound;
+
+// How many heads a search looks at side by side.
+const BLOCK: usize = 8;
+
+const _: () = prove!(BLOCK == 8);
 
 /// Where a search goes on in a node.
 #[derive(Clone, Copy, Debug)]
@@ -39,6 +44,52 @@ impl<const N: usize> Node<N> {
             common_prefix_len,
             self.head_for(bound, common_prefix_len),
         )
+    }
+
+    /// Finds the last entry below the bound, or else the first one, as `step` does. It tries the entry at `guess` first, which may be
+    /// any number.
+    pub fn step_by_guess<P: Bound>(
+        &self,
+        bound: &P,
+        common_prefix_len: Option<usize>,
+        guess: usize,
+    ) -> Step
+        requires can_find { CanFind (P.bytes bound.now) (P.below bound.now) self.now }
+        requires known { IsPrefixLenAt (P.bytes bound.now) (P.below bound.now) (P.target bound.now) common_prefix_len (entries_of self.now) 0 }
+        ensures step { IsStep (P.bytes bound.now) (P.below bound.now) (P.target bound.now) self.now result }
+    {
+        let Some(common_prefix_len) = common_prefix_len else {
+            return Step {
+                index: 0,
+                common_prefix_len: None,
+            };
+        };
+        let head = self.head_for(bound, common_prefix_len);
+        let Some(own) = head else {
+            return self.step_by(bound, common_prefix_len, None);
+        };
+        if !self.falls_behind(guess, own) {
+            return self.step_by(bound, common_prefix_len, Some(own));
+        }
+        let known = self.common_prefix_len_in(guess, bound, common_prefix_len, Some(own));
+        Step {
+            index: guess,
+            common_prefix_len: Some(known),
+        }
+    }
+
+    // Returns whether a head falls behind that of the entry at an index, and before the next one, if there is one.
+    fn falls_behind(&self, index: usize, head: u64) -> bool
+        ensures within { IsTrue result → index < length (entries_of self.now) }
+        ensures behind { IsTrue result → get_or (key_heads_of self.now).heads index 0 < head }
+        ensures before { IsTrue result → index + 1 < length (entries_of self.now)
+            → head < get_or (key_heads_of self.now).heads (index + 1) 0 }
+    {
+        let len = self.len();
+        if index >= len || self.heads[index] >= head {
+            return false;
+        }
+        index + 1 == len || head < self.heads[index + 1]
     }
 
     /// Finds the last entry below the bound, where the first one is. `common_prefix_len` is how many bytes the first key and the
@@ -82,7 +133,8 @@ impl<const N: usize> Node<N> {
         let Some(head) = head else {
             return self.lower_bound_by_keys(bound);
         };
-        let below = heads_below(&self.heads[..self.len], head);
+        let len = self.len();
+        let below = heads_below(&self.heads, len, head);
         self.lower_bound_from(below, bound, Some(head))
     }
 
@@ -252,13 +304,28 @@ impl<const N: usize> Node<N> {
     }
 }
 
-// Returns how many of the heads are below this one.
-fn heads_below(heads: &[u64], head: u64) -> usize
-    ensures count { result ≡ length (filter (λ d. nat_lt d head) heads.now) }
+// Returns an index behind a head that is below this one, of the first `len` heads, or 0. Where the heads are in order and blocks hold
+// all of them, it is how many are below. It looks at the first head of each block, and then at one block, each time at all of them
+// and without a branch that a processor could guess wrong.
+fn heads_below<const N: usize>(heads: &[u64; N], len: usize, head: u64) -> usize
+    ensures within { result ≤ len }
+    ensures below { 0 < result → get_or heads.now (result - 1) 0 < head }
 {
+    if N < BLOCK {
+        return 0;
+    }
+    let mut begin = 0;
+    for block in 1..N / BLOCK {
+        let index = BLOCK * block;
+        if (heads[index] < head) & (index < len) {
+            begin = index;
+        }
+    }
     let mut below = 0;
-    for other in heads {
-        below += usize::from(*other < head);
+    for index in begin..begin + BLOCK {
+        if (heads[index] < head) & (index < len) {
+            below = index + 1;
+        }
     }
     below
 }

@@ -14,6 +14,8 @@ lower_bound_from-requires g c =
     let bound = c.args.bound.now in
     let is = subst (λ o. IfSome o (IsTargetHead (g.P.Bound.bytes bound) (key_heads_of node) (g.P.Bound.target bound)))
     c.in-Some.is c.requires.head in
+    let tells = c.heads_below-below.ensures in
     let least = few_below (g.P.Bound.bytes bound) node c.requires.can_find.headed (g.P.Bound.target bound)
-    (g.P.Bound.below bound) (g.met.P.Bound.order bound) c.in-Some.head is in
-    (search rules, (c.requires.can_find, (is, omega (arith, c.heads_below-below.ensures.count, least))))
+    (g.P.Bound.below bound) (g.met.P.Bound.order bound) c.in-Some.head is c.requires.can_find.partitioned
+    c.heads_below-below.result (omega (arith, tells.within, c.len-len.ensures.len)) tells.below in
+    (search rules, (c.requires.can_find, (is, least)))

@@ -1,6 +1,9 @@
-use Rattle.std.proofs.Common.{◌≡◌, ◌≤◌, length, filter, take, nat_lt}
+use Rattle.std.proofs.Common.{◌<◌, ◌≤◌, ◌+◌, ◌-◌, ◌*◌, get_or}
 use Rattle.tree.proofs.node.lower_bound.heads_below.Given as goal
 
-abbrev pub invariant-loop-other : goal.invariant-loop-other
-invariant-loop-other l =
-    (l.below ≤ l.other-index) × (l.below ≡ length (filter (λ d. nat_lt d l.head) (take l.other-index l.heads)))
+-- The block that begins there is among those looked at.
+abbrev pub invariant-loop-block : goal.invariant-loop-block
+invariant-loop-block g l = l.begin + 8 ≤ 8 * l.block
+
+abbrev pub invariant-loop-index : goal.invariant-loop-index
+invariant-loop-index g l = (l.below ≤ l.len) × (0 < l.below → get_or l.heads (l.below - 1) 0 < l.head)

@@ -1,0 +1,120 @@
+use Rattle.std.proofs.Common.{rules, ◌+◌, get_or, lt-ltb, refl, Some, subst, arith}
+use Rattle.tree.specs.declared.entry.Entry.{Entry}
+use Rattle.tree.specs.Heads.{IsPrefixLen, IsPrefixLenAt}
+use Rattle.tree.specs.Node.{entries_of, key_heads_of}
+use Rattle.tree.proofs.HeadAt.{entry_at, few_pass, key_there, less_passes}
+use Rattle.tree.proofs.HeadCounts.{passing_before, passing_inside}
+use Rattle.tree.proofs.node.Node.step_by_guess.Goals.{In-Some}
+use Rattle.tree.proofs.node.Node.step_by_guess.Given as given
+use Rattle.tree.proofs.node.Node.step_by_guess.Goals as goal
+
+pub returns-in_default : goal.returns-in_default
+returns-in_default g c =
+    let es = entries_of c.args.self.now in
+    let bound = c.args.bound.now in
+    let e = entry_at es 0 c.requires.can_find.some in
+    let fails = subst (λ o. IsPrefixLen (g.P.Bound.bytes bound) (g.P.Bound.below bound) (g.P.Bound.target bound) o e.0.key)
+    c.in_default.is (c.requires.known e.0 e.1) in
+    let none = passing_before (λ (e : Entry). g.P.Bound.below bound e.key) es 0 e.0 c.requires.can_find.partitioned e.1 fails in
+    record {
+      step = record {
+        index_is = omega (arith, none);
+        within = c.requires.can_find.some;
+        knows = subst (λ o. IsPrefixLenAt (g.P.Bound.bytes bound) (g.P.Bound.below bound) (g.P.Bound.target bound) o es 0) c.in_default.is
+            c.requires.known;
+      };
+    }
+
+-- what is known of the first key
+knows : (g : given.Over) (c : In-Some g)
+    → IsPrefixLenAt (g.P.Bound.bytes c.args.bound.now) (g.P.Bound.below c.args.bound.now) (g.P.Bound.target c.args.bound.now)
+    (Some c.in-Some.common_prefix_len) (entries_of c.args.self.now) 0
+knows g c =
+    let bound = c.args.bound.now in
+    subst (λ o. IsPrefixLenAt (g.P.Bound.bytes bound) (g.P.Bound.below bound) (g.P.Bound.target bound) o
+    (entries_of c.args.self.now) 0) c.in-Some.is c.requires.known
+
+pub head_for-head-requires : goal.head_for-head-requires
+head_for-head-requires g c = (
+  search rules,
+  (
+    c.requires.can_find.headed,
+    (
+      c.requires.can_find.some,
+      (λ e text there known count inside le.
+          ((knows g (goal.at.head_for-head-requires g c).In-Some e there).1 text known count inside).0 le),
+    ),
+  ),
+)
+
+pub step_by-requires : goal.step_by-requires
+step_by-requires g c = (
+  search rules,
+  (
+    c.requires.can_find,
+    (knows g (goal.at.step_by-requires g c).In-Some, c.in_default-head.ensures.head),
+  ),
+)
+
+pub step_by-requires-then-not-falls_behind : goal.step_by-requires-then-not-falls_behind
+step_by-requires-then-not-falls_behind g c = (
+  search rules,
+  (
+    c.requires.can_find,
+    (knows g (goal.at.step_by-requires-then-not-falls_behind g c).In-Some, c.in-Some-head.ensures.head),
+  ),
+)
+
+pub common_prefix_len_in-known-requires : goal.common_prefix_len_in-known-requires
+common_prefix_len_in-known-requires g c =
+    let node = c.args.self.now in
+    let es = entries_of node in
+    let bound = c.args.bound.now in
+    let guess = c.args.guess in
+    let tells = c.if-not-falls_behind.ensures in
+    let own = c.in-Some-head.own in (
+      search rules,
+      (
+        c.requires.can_find.headed,
+        (
+          tells.within refl,
+          (
+            knows g (goal.at.common_prefix_len_in-known-requires g c).In-Some,
+            (
+              (λ e there. less_passes (g.P.Bound.bytes bound) (key_heads_of node) c.requires.can_find.headed (g.P.Bound.target bound)
+                  (g.P.Bound.below bound) (g.met.P.Bound.order bound) guess e.key own (key_there es guess e there)
+                  c.in-Some-head.ensures.head.head (lt-ltb (get_or (key_heads_of node).heads guess 0) own (tells.behind refl))),
+              c.in-Some-head.ensures.head,
+            ),
+          ),
+        ),
+      ),
+    )
+
+pub returns : goal.returns
+returns g c =
+    let node = c.args.self.now in
+    let es = entries_of node in
+    let bound = c.args.bound.now in
+    let is_below = g.P.Bound.below bound in
+    let bytes = g.P.Bound.bytes bound in
+    let target = g.P.Bound.target bound in
+    let order = g.met.P.Bound.order bound in
+    let headed = c.requires.can_find.headed in
+    let partitioned = c.requires.can_find.partitioned in
+    let guess = c.args.guess in
+    let own = c.in-Some-head.own in
+    let is = c.in-Some-head.ensures.head.head in
+    let tells = c.if-not-falls_behind.ensures in
+    let e = entry_at es guess (tells.within refl) in
+    let passed = less_passes bytes (key_heads_of node) headed target is_below order guess e.0.key own (key_there es guess e.0 e.1) is
+    (lt-ltb (get_or (key_heads_of node).heads guess 0) own (tells.behind refl)) in
+    let many = passing_inside (λ (e : Entry). is_below e.key) es guess e.0 partitioned e.1 passed in
+    let few = few_pass bytes node headed target is_below order own is partitioned (guess + 1) (λ less. tells.before refl less) in
+    record {
+      step = record {
+        index_is = omega (arith, many, few);
+        within = tells.within refl;
+        knows = c.common_prefix_len_in-known.ensures.known;
+      };
+    }
