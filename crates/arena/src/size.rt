@@ -21,6 +21,11 @@ pub(crate) const SIZES: usize = 10;
 
 const _: () = prove!(SIZES == 10);
 
+// How many bytes the key of a slot of the least size may have.
+const LEAST_WIDTH: usize = 32;
+
+const _: () = prove!(LEAST_WIDTH == 32);
+
 const WIDTHS: [usize; SIZES] = [32, 64, 128, 256, 512, 1024, 2048, 4096, 8192, 16_384];
 
 /// Returns how many bytes the key of a slot of the size may have.
@@ -47,6 +52,9 @@ pub(crate) fn slots_of(size: usize) -> usize
 pub(crate) fn size_of(length: usize) -> usize
     ensures size { result ≡ size_of length }
 {
+    if length <= LEAST_WIDTH {
+        return 0;
+    }
     WIDTHS.iter().filter(|width| **width < length).count()
 }
 

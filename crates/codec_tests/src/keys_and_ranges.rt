@@ -2,6 +2,7 @@
 
 use crate::rows::expect;
 use fixtures::{Unmade, key, range};
+use keys::same_bytes;
 use keyspace::{Range, common_prefix_len, key_head};
 use std::alloc::Global;
 use std::test::Fail;
@@ -83,6 +84,17 @@ fn heads_of_short_keys(rt: HostRuntime) {
 }
 
 #[test]
+fn common_of_heads(rt: HostRuntime) {
+    for (one, other, count) in [("", "a", 0), ("ab", "ac", 1), ("abcdefgh", "abcdefghi", 8)] {
+        assert_eq!(rt;
+            same_bytes(key_head(one.as_bytes()), key_head(other.as_bytes())),
+            count,
+            "of {one}"
+        );
+    }
+}
+
+#[test]
 fn common_of_keys(rt: HostRuntime) {
     for (one, other, count) in [
         ("", "a", 0),
@@ -91,6 +103,11 @@ fn common_of_keys(rt: HostRuntime) {
         ("abc", "abc", 3),
         ("abc", "abcd", 3),
         ("abcd", "abc", 3),
+        ("abcdefgh", "abcdefgh", 8),
+        ("abcdefghijk", "abcdefgh", 8),
+        ("abcdefghijkl", "abcdefgXijkl", 7),
+        ("abcdefghijkl", "abcdefghijXl", 10),
+        ("abcdefghijklmnopq", "abcdefghijklmnopr", 16),
     ] {
         assert_eq!(rt;
             common_prefix_len(one.as_bytes(), other.as_bytes()),

@@ -1,5 +1,6 @@
 pub mod callers
 pub mod Words
+pub mod FirstWord
 pub mod Values
 pub mod Heads
 pub mod Sorting
@@ -12,4 +13,5 @@ pub mod Reaching
 pub mod Galloping
 pub mod Filled
 pub mod Ranked
+pub mod SameBytes
 pub mod Runs

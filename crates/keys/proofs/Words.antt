@@ -54,7 +54,7 @@ word_at k a = take 8 (drop (k * 8) a)
 word_length : (n k : ℕ) (a : List ℕ) → 8 * n ≤ length a → k < n → length (word_at k a) ≡ 8
 word_length n k a in_a less = length-take-le 8 (drop (k * 8) a) (omega (arith, length-drop (k * 8) a))
 
-are_bytes : (a : List ℕ) → ((i : ℕ) → get_or a i 0 < 256) → IsBytes a
+pub are_bytes : (a : List ℕ) → ((i : ℕ) → get_or a i 0 < 256) → IsBytes a
 are_bytes a bytes = All-from_get_or (λ byte. byte < 256) a 0 (λ i inside. bytes i)
 
 word_bytes : (k : ℕ) (a : List ℕ) → IsBytes a → IsBytes (word_at k a)

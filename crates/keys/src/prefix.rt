@@ -1,6 +1,7 @@
 //! The first bytes of keys: their heads, and how many bytes two of them begin with in common.
 
-ghost use Rattle.std.specs.Prelude.{◌≡◌, ◌≢◌, ◌<◌, ◌≤◌, ◌*◌, length, take, slice_index};
+ghost use Rattle.std.specs.Prelude.{◌≡◌, ◌≢◌, ◌<◌, ◌≤◌, ◌+◌, ◌*◌, length, take, drop, slice_index};
+ghost use Rattle.std.specs.Int.{w64, to_be_bytes};
 ghost use Rattle.keys.specs.Head.{head_of};
 
 /// Returns the first eight bytes as one big-endian number. Missing bytes count as zeros.
@@ -36,19 +37,48 @@ pub fn common_prefix_len(a: &[u8], b: &[u8]) -> usize
     ensures differ { result < length a.now → result < length b.now
         → slice_index a.now result ≢ slice_index b.now result }
 {
-    let from = 8 * common_words(a, b);
-    from + common_bytes(&a[from..], &b[from..])
+    let least = a.len().min(b.len());
+    if least < 8 {
+        return common_bytes(a, b);
+    }
+    let from = (8 * common_words(a, b)).min(least - 8);
+    from + common_in_word(&a[from..], &b[from..])
 }
 
-// Returns how many words of eight bytes both begin with.
+// Returns how many of the first eight bytes both begin with.
+fn common_in_word(a: &[u8], b: &[u8]) -> usize
+    requires long { (8 ≤ length a.now) × (8 ≤ length b.now) }
+    ensures within { result ≤ 8 }
+    ensures same { take result a.now ≡ take result b.now }
+    ensures differ { result < 8 → slice_index a.now result ≢ slice_index b.now result }
+{
+    same_bytes(key_head(a), key_head(b))
+}
+
+/// Returns how many bytes two heads begin with in common.
+pub fn same_bytes(a: u64, b: u64) -> usize
+    ensures within { result ≤ 8 }
+    ensures same { take result (to_be_bytes w64 a) ≡ take result (to_be_bytes w64 b) }
+    ensures differ { result < 8 → slice_index (to_be_bytes w64 a) result ≢ slice_index (to_be_bytes w64 b) result }
+{
+    (a ^ b).leading_zeros() as usize / 8
+}
+
+// Returns how many words of eight bytes both begin with. The next words differ, if both have one.
 fn common_words(a: &[u8], b: &[u8]) -> usize
     ensures within { (8 * result ≤ length a.now) × (8 * result ≤ length b.now) }
     ensures same { take (8 * result) a.now ≡ take (8 * result) b.now }
+    ensures differ { 8 * result + 8 ≤ length a.now → 8 * result + 8 ≤ length b.now
+        → take 8 (drop (8 * result) a.now) ≢ take 8 (drop (8 * result) b.now) }
 {
-    a.chunks_exact(8)
-        .zip(b.chunks_exact(8))
-        .take_while(|(x, y)| key_head(x) == key_head(y))
-        .count()
+    let words = a.len().min(b.len()) / 8;
+    for index in 0..words {
+        let from = 8 * index;
+        if key_head(&a[from..]) != key_head(&b[from..]) {
+            return index;
+        }
+    }
+    words
 }
 
 // Returns how many bytes both begin with, one after the other.

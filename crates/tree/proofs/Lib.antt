@@ -56,4 +56,3 @@ pub mod Walked
 pub mod Walking
 pub mod Ways
 pub mod WrittenLeaf
-pub mod SameBytes

@@ -117,8 +117,7 @@ pub fn change_leaf<C: LeafChange<N>, const N: usize>(
         return change.change(nodes, slot, place, taken);
     }
     let node = nodes.header_ref(slot);
-    let step = node.step_by_guess(change.leaf_bound(), place.common_prefix_len, way.at(height));
-    way.set(height, step.index);
+    let step = way.step(node, height, change.leaf_bound(), place.common_prefix_len);
     let entries = node.entries();
     let child = entries[step.index].child;
     let below = Place {

@@ -1,40 +1,50 @@
-//! The way of the last change, from the root towards a leaf: a guess for the next one.
+//! The way of the last walk, from the root towards a leaf: a guess for the next one.
+
+ghost use Rattle.tree.specs.Finding.{CanFind, IsStep};
+ghost use Rattle.tree.specs.Heads.{IsPrefixLenAt};
+ghost use Rattle.tree.specs.Node.{entries_of};
+
+use crate::bound::Bound;
+use crate::node::{Node, Step};
 
 // How many heights are remembered. No tree is higher than 63 nodes above a leaf.
 const HEIGHTS: usize = 64;
 
-// A number that no index of a node is.
-const NO_GUESS: usize = usize::MAX;
-
-/// Through which entry the last change went at each height, but for the nodes right above the leaves.
+/// Through which entry the last walk went at each height.
 ///
-/// The changes of a batch come in the order of keys, so that the next one often goes through the same entries of upper nodes. Of
-/// the lowest of them it seldom does.
+/// The changes of a batch come in the order of keys, so that the next walk often goes through the same entries of upper nodes. No
+/// contract says anything of these indices: they may be any.
 #[derive(Clone, Copy, Debug)]
 pub struct Way {
     indices: [usize; HEIGHTS],
 }
 
 impl Way {
-    /// Returns a way that guesses nothing.
+    /// Returns a way through the first entries.
     pub fn new() -> Self {
         Way {
-            indices: [NO_GUESS; HEIGHTS],
+            indices: [0; HEIGHTS],
         }
     }
 
-    /// Returns the index that was remembered for a height. It is a guess: it may be any number.
-    pub fn at(&self, height: usize) -> usize {
-        match self.indices.get(height) {
-            Some(index) => *index,
-            None => NO_GUESS,
+    /// Finds the last entry of a node below the bound, or else the first one, as `Node::step` does. It tries the entry that the last
+    /// walk went through at this height first, unless the node stands right above the leaves: there it is seldom the same.
+    pub fn step<P: Bound, const N: usize>(
+        &mut self,
+        node: &Node<N>,
+        height: usize,
+        bound: &P,
+        common_prefix_len: Option<usize>,
+    ) -> Step
+        requires can_find { CanFind (P.bytes bound.now) (P.below bound.now) node.now }
+        requires known { IsPrefixLenAt (P.bytes bound.now) (P.below bound.now) (P.target bound.now) common_prefix_len (entries_of node.now) 0 }
+        ensures step { IsStep (P.bytes bound.now) (P.below bound.now) (P.target bound.now) node.now result }
+    {
+        if height < 2 || height >= HEIGHTS {
+            return node.step(bound, common_prefix_len);
         }
-    }
-
-    /// Remembers the index at a height, unless its nodes stand right above the leaves.
-    pub fn set(&mut self, height: usize, index: usize) {
-        if height > 1 && height < HEIGHTS {
-            self.indices[height] = index;
-        }
+        let step = node.step_by_guess(bound, common_prefix_len, self.indices[height]);
+        self.indices[height] = step.index;
+        step
     }
 }

@@ -10,6 +10,7 @@ use super::Node;
 use crate::bound::Bound;
 use crate::entry::Entry;
 use arena::Slot;
+use keys::same_bytes;
 
 // Where one key is empty, so few bytes with which the others begin in common don't count.
 const FEW: u16 = 6;
@@ -194,13 +195,4 @@ fn keys_prefix_len<P: Bound>(entries: &[Entry], key: Slot, bound: &P) -> u16
         }
     }
     count as u16
-}
-
-/// Returns how many bytes two heads begin with in common.
-pub fn same_bytes(a: u64, b: u64) -> usize
-    ensures within { result ≤ 8 }
-    ensures same { take result (to_be_bytes w64 a) ≡ take result (to_be_bytes w64 b) }
-    ensures differ { result < 8 → slice_index (to_be_bytes w64 a) result ≢ slice_index (to_be_bytes w64 b) result }
-{
-    (a ^ b).leading_zeros() as usize / 8
 }

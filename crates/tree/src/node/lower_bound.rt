@@ -6,10 +6,10 @@ ghost use Rattle.tree.specs.Heads.{HasPrefix, HaveCommonPrefix, AreHeads, IsPref
 ghost use Rattle.tree.specs.Node.{entries_of, key_heads_of};
 
 use super::Node;
-use super::heads::same_bytes;
 use crate::bound::Bound;
 use crate::entry::Entry;
 use crate::search::lower_bound;
+use keys::same_bytes;
 
 // How many heads a search looks at side by side.
 const BLOCK: usize = 8;

@@ -60,8 +60,8 @@ returns-then-height-eq0-clause-items g t c =
     (items_with c.change.new.nodes n c.args.slot (added_by c.change.result)))
     (sym c.if-height-eq0.true) c.change.ensures.items)
 
-pub step_by_guess-step-requires : goal.step_by_guess-step-requires
-step_by_guess-step-requires g t c =
+pub step-step-requires : goal.step-step-requires
+step-step-requires g t c =
     let a = c.args.nodes.now in
     let slot = c.args.slot in
     let leaf_bound = g.C.LeafChange.bound_of c.args.change.now in
@@ -91,19 +91,19 @@ one_up n some = omega (arith, some)
 at_child : (g : Over) (t : ℕ) (c : After-index-entries-step g t)
     → IsAt c.args.nodes.now (least_of g.row.N) (c.args.height - 1) c.args.slot
     (g.C.LeafBound.Bound.below (g.C.LeafChange.bound_of c.args.change.now))
-    (entries_of c.header_ref-node.result.now) c.step_by_guess-step.result.index
-    (get_or c.entries-entries.result.now c.step_by_guess-step.result.index c.index-entries-step.result).child
+    (entries_of c.header_ref-node.result.now) c.step-step.result.index
+    (get_or c.entries-entries.result.now c.step-step.result.index c.index-entries-step.result).child
     c.index-entries-step.result
 at_child g t c =
     let is_below = g.C.LeafBound.Bound.below (g.C.LeafChange.bound_of c.args.change.now) in
     let es = entries_of c.header_ref-node.result.now in
     is_at c.args.nodes.now (least_of g.row.N) c.args.height (c.args.height - 1) c.args.slot is_below
-    c.header_ref-node.result.now es c.entries-entries.result.now c.step_by_guess-step.result.index c.index-entries-step.result
+    c.header_ref-node.result.now es c.entries-entries.result.now c.step-step.result.index c.index-entries-step.result
     (one_up c.args.height c.if-height-eq0.false) c.requires.changeable.subtree c.requires.changeable.distinct
     c.header_ref-node.ensures.header refl c.entries-entries.ensures.entries
-    (subst (λ p. c.step_by_guess-step.result.index ≡ index_in (g.C.LeafBound.Bound.below p) es) c.leaf_bound.ensures.leaf_bound
-    c.step_by_guess-step.ensures.step.index_is)
-    c.step_by_guess-step.ensures.step.within
+    (subst (λ p. c.step-step.result.index ≡ index_in (g.C.LeafBound.Bound.below p) es) c.leaf_bound.ensures.leaf_bound
+    c.step-step.ensures.step.index_is)
+    c.step-step.ensures.step.within
 
 pub change_leaf-requires : goal.change_leaf-requires
 change_leaf-requires g t c κs within =
@@ -119,13 +119,13 @@ change_leaf-requires g t c κs within =
     let target = g.C.LeafBound.Bound.target leaf_bound in
     let node = c.header_ref-node.result.now in
     let es = entries_of node in
-    let i = c.step_by_guess-step.result.index in
+    let i = c.step-step.result.index in
     let d = c.index-entries-step.result in
     let vs = c.entries-entries.result.now in
     let x = (get_or vs i d).child in
     let step = subst (λ p. (i ≡ index_in (g.C.LeafBound.Bound.below p) es)
-    × IsPrefixLenAt (g.C.LeafBound.Bound.bytes p) (g.C.LeafBound.Bound.below p) (g.C.LeafBound.Bound.target p) c.step_by_guess-step.result.common_prefix_len es i)
-    c.leaf_bound.ensures.leaf_bound (c.step_by_guess-step.ensures.step.index_is, c.step_by_guess-step.ensures.step.knows) in
+    × IsPrefixLenAt (g.C.LeafBound.Bound.bytes p) (g.C.LeafBound.Bound.below p) (g.C.LeafBound.Bound.target p) c.step-step.result.common_prefix_len es i)
+    c.leaf_bound.ensures.leaf_bound (c.step-step.ensures.step.index_is, c.step-step.ensures.step.knows) in
     let f = found a L n slot is_below node vs i d c.if-height-eq0.false c.requires.changeable.subtree
     c.requires.searched.partitioned c.header_ref-node.ensures.header c.entries-entries.ensures.entries
     (step.0 ∙ ap (index_in is_below) (sym c.entries-entries.ensures.entries)) in
@@ -141,10 +141,10 @@ change_leaf-requires g t c κs within =
       keyless = c.requires.changeable.keyless;
       room = omega (arith, c.requires.changeable.room);
     } in
-    let search_on : CanSearch bytes is_below target a h x c.step_by_guess-step.result.common_prefix_len = record {
+    let search_on : CanSearch bytes is_below target a h x c.step-step.result.common_prefix_len = record {
       partitioned = found_partitioned a L n slot is_below x f;
       headed = c.requires.searched.headed;
-      known = known_below a L n slot is_below x f bytes target c.step_by_guess-step.result.common_prefix_len node i
+      known = known_below a L n slot is_below x f bytes target c.step-step.result.common_prefix_len node i
           c.header_ref-node.ensures.header step.0 step.1;
     } in
     let split = items_split a L n h slot is_below es i x d (one_up n c.if-height-eq0.false) at in
@@ -165,7 +165,7 @@ raise_entry-requires g t c =
     let slot = c.args.slot in
     let is_below = g.C.LeafBound.Bound.below (g.C.LeafChange.bound_of c.args.change.now) in
     let es = entries_of c.header_ref-node.result.now in
-    let i = c.step_by_guess-step.result.index in
+    let i = c.step-step.result.index in
     let d = c.index-entries-step.result in
     let x = (get_or c.entries-entries.result.now i d).child in
     let put = c.in-Raised.ensures.changed in
@@ -198,7 +198,7 @@ rebalance_child-requires g t c =
     let slot = c.args.slot in
     let is_below = g.C.LeafBound.Bound.below (g.C.LeafChange.bound_of c.args.change.now) in
     let es = entries_of c.header_ref-node.result.now in
-    let i = c.step_by_guess-step.result.index in
+    let i = c.step-step.result.index in
     let d = c.index-entries-step.result in
     let x = (get_or c.entries-entries.result.now i d).child in
     let put = c.in-Changed.ensures.changed in
@@ -230,7 +230,7 @@ insert_child-requires g t c =
     let slot = c.args.slot in
     let is_below = g.C.LeafBound.Bound.below (g.C.LeafChange.bound_of c.args.change.now) in
     let es = entries_of c.header_ref-node.result.now in
-    let i = c.step_by_guess-step.result.index in
+    let i = c.step-step.result.index in
     let d = c.index-entries-step.result in
     let x = (get_or c.entries-entries.result.now i d).child in
     let s = c.in-Split.added in
@@ -259,20 +259,20 @@ insert_child-requires g t c =
 -- A leaf of the child is changed.
 within : (g : Over) (t : ℕ) (c : After-index-entries-step g t) (below : Bool) (key : Option ℕ)
     (Gives : Bool → Option ℕ → List Item → List Item → Type 0) (now all : List Item)
-    → (below ≡ true → (c.args.place.is_first ≡ true) × (c.step_by_guess-step.result.index ≡ 0))
-    → (below ≡ false → ((c.args.place.is_first ≡ true) × (c.step_by_guess-step.result.index ≡ 0 → ⊥)) ⊎ (c.args.place.is_first ≡ false))
-    → key ≡ first_key c.args.place.behind (map item_of (drop (c.step_by_guess-step.result.index + 1) c.entries-entries.result.now))
+    → (below ≡ true → (c.args.place.is_first ≡ true) × (c.step-step.result.index ≡ 0))
+    → (below ≡ false → ((c.args.place.is_first ≡ true) × (c.step-step.result.index ≡ 0 → ⊥)) ⊎ (c.args.place.is_first ≡ false))
+    → key ≡ first_key c.args.place.behind (map item_of (drop (c.step-step.result.index + 1) c.entries-entries.result.now))
     → all ≡ items_of c.args.nodes.now (c.args.height - 1)
-    (take c.step_by_guess-step.result.index (entries_of c.header_ref-node.result.now))
+    (take c.step-step.result.index (entries_of c.header_ref-node.result.now))
     ++ (now ++ items_of c.args.nodes.now (c.args.height - 1)
-    (drop (c.step_by_guess-step.result.index + 1) (entries_of c.header_ref-node.result.now)))
+    (drop (c.step-step.result.index + 1) (entries_of c.header_ref-node.result.now)))
     → IsChangedWithin (g.C.LeafBound.Bound.below (g.C.LeafChange.bound_of c.args.change.now)) Gives below key
     (items_in c.args.nodes.now (c.args.height - 1)
-    (get_or c.entries-entries.result.now c.step_by_guess-step.result.index c.index-entries-step.result).child) now
+    (get_or c.entries-entries.result.now c.step-step.result.index c.index-entries-step.result).child) now
     → IsChangedWithin (g.C.LeafBound.Bound.below (g.C.LeafChange.bound_of c.args.change.now)) Gives
     c.args.place.is_first c.args.place.behind (items_in c.args.nodes.now c.args.height c.args.slot) all
 within g t c below key Gives now all both one key_is all_is changed =
-    let i = c.step_by_guess-step.result.index in
+    let i = c.step-step.result.index in
     within_at c.args.nodes.now (least_of g.row.N) c.args.height (c.args.height - 1) c.args.slot
     (g.C.LeafBound.Bound.below (g.C.LeafChange.bound_of c.args.change.now))
     (entries_of c.header_ref-node.result.now) i
@@ -298,7 +298,7 @@ returns-in-Same-clause-items g t c =
     let h = n - 1 in
     let slot = c.args.slot in
     let es = entries_of c.header_ref-node.result.now in
-    let i = c.step_by_guess-step.result.index in
+    let i = c.step-step.result.index in
     let x = (get_or c.entries-entries.result.now i c.index-entries-step.result).child in
     let split = items_split a (least_of g.row.N) n h slot _ es i x _ (one_up n c.if-height-eq0.false) at in
     within g t here.After-index-entries-step _ _ _ _ _ c.if-place.below-true c.if-place.below-false c.key_at.ensures.key
@@ -309,8 +309,8 @@ returns-in-Same-clause-items g t c =
 raised_entry : (g : Over) (t : ℕ) (c : After-raise_entry g t)
     → IsAt c.args.nodes.now (least_of g.row.N) (c.args.height - 1) c.args.slot
     (g.C.LeafBound.Bound.below (g.C.LeafChange.bound_of c.args.change.now))
-    (entries_of c.header_ref-node.result.now) c.step_by_guess-step.result.index
-    (get_or c.entries-entries.result.now c.step_by_guess-step.result.index c.index-entries-step.result).child
+    (entries_of c.header_ref-node.result.now) c.step-step.result.index
+    (get_or c.entries-entries.result.now c.step-step.result.index c.index-entries-step.result).child
     c.index-entries-step.result
     → IsRebalancedAt c.change_leaf.new.nodes c.raise_entry.new.nodes (least_of g.row.N) (c.args.height - 1) c.args.slot
 raised_entry g t c at =
@@ -322,7 +322,7 @@ raised_entry g t c at =
     let slot = c.args.slot in
     let is_below = g.C.LeafBound.Bound.below (g.C.LeafChange.bound_of c.args.change.now) in
     let es = entries_of c.header_ref-node.result.now in
-    let i = c.step_by_guess-step.result.index in
+    let i = c.step-step.result.index in
     let d = c.index-entries-step.result in
     let x = (get_or c.entries-entries.result.now i d).child in
     let next = one_up n c.if-height-eq0.false in
@@ -362,8 +362,8 @@ returns-in-Raised-clause-items g t c =
 rebalanced : (g : Over) (t : ℕ) (c : After-rebalance_child g t)
     → IsAt c.args.nodes.now (least_of g.row.N) (c.args.height - 1) c.args.slot
     (g.C.LeafBound.Bound.below (g.C.LeafChange.bound_of c.args.change.now))
-    (entries_of c.header_ref-node.result.now) c.step_by_guess-step.result.index
-    (get_or c.entries-entries.result.now c.step_by_guess-step.result.index c.index-entries-step.result).child
+    (entries_of c.header_ref-node.result.now) c.step-step.result.index
+    (get_or c.entries-entries.result.now c.step-step.result.index c.index-entries-step.result).child
     c.index-entries-step.result
     → IsRebalancedAt c.change_leaf.new.nodes c.rebalance_child.new.nodes (least_of g.row.N) (c.args.height - 1) c.args.slot
 rebalanced g t c at =
