@@ -305,8 +305,8 @@ impl<const N: usize> Node<N> {
 }
 
 // Returns an index behind a head that is below this one, of the first `len` heads, or 0. Where the heads are in order and blocks hold
-// all of them, it is how many are below. It looks at the first head of each block, and then at one block, each time at all of them
-// and without a branch that a processor could guess wrong.
+// all of them, it is how many are below. It looks at the first head of each block, and then at one block, each time at all of them,
+// and is written without a branch that depends on a head.
 fn heads_below<const N: usize>(heads: &[u64; N], len: usize, head: u64) -> usize
     ensures within { result ≤ len }
     ensures below { 0 < result → get_or heads.now (result - 1) 0 < head }
