@@ -1,6 +1,7 @@
 pub mod callers
 pub mod Words
 pub mod FirstWord
+pub mod ShiftedHead
 pub mod Values
 pub mod Heads
 pub mod Sorting

@@ -25,7 +25,7 @@ mod ranks;
 
 pub use error::KeyError;
 pub use key::{Key, MAX_KEY_LENGTH};
-pub use prefix::{common_prefix_len, key_head, same_bytes};
+pub use prefix::{common_prefix_len, head_behind, key_head, same_bytes};
 pub use range::Range;
 pub use range_list::RangeList;
 pub use range_ref::RangeRef;

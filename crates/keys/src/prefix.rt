@@ -3,6 +3,7 @@
 ghost use Rattle.std.specs.Prelude.{◌≡◌, ◌≢◌, ◌<◌, ◌≤◌, ◌+◌, ◌*◌, length, take, drop, slice_index};
 ghost use Rattle.std.specs.Int.{w64, to_be_bytes};
 ghost use Rattle.keys.specs.Head.{head_of};
+ghost use Rattle.keys.specs.Key.{IsBytes};
 
 /// Returns the first eight bytes as one big-endian number. Missing bytes count as zeros.
 ///
@@ -15,6 +16,23 @@ pub fn key_head(bytes: &[u8]) -> u64
         return u64::from_be_bytes(*first);
     }
     short_head(bytes)
+}
+
+/// Returns the head of what stands behind so many bytes of a key: that of no byte where the key ends before.
+///
+/// Where fewer than eight bytes stand there, it is found in the last eight of the key, if there are so many.
+pub fn head_behind(key: &[u8], prefix_len: usize) -> u64
+    ensures key_head { result ≡ head_of (drop prefix_len key.now) }
+    ensures are_bytes { IsBytes key.now }
+{
+    if prefix_len >= key.len() {
+        return 0;
+    }
+    let count = key.len() - prefix_len;
+    if count >= 8 || key.len() < 8 {
+        return key_head(&key[prefix_len..]);
+    }
+    key_head(&key[key.len() - 8..]) << (8 * (8 - count))
 }
 
 // Returns the same of bytes that may be fewer than eight.

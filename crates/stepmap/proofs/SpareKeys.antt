@@ -78,6 +78,13 @@ module _ {H : Type 0} (a b : Arena H) (key : List ℕ) where
 
 -- where slots are spare for the begin and the end of a range, and the begin's is taken, one is for the end
 module _ (begin end : ℕ) (old : ℕ → ℕ) (keys : HasRoomFor old (begin ∷ end ∷ [])) where
+  pub spare_for_begin : begin ≤ MAX_LENGTH → 0 < old (size_of begin)
+  spare_for_begin short =
+      spare (size_of begin) (keys (size_of begin) (size_fits begin short).0) (wanted_own begin)
+    where
+      spare : (size : ℕ) → wanted_of (begin ∷ end ∷ []) size ≤ old size → wanted_of (begin ∷ []) size ≡ 1 → 0 < old size
+      spare size room own = omega (arith, room, own)
+
   pub spare_for_end : (begun : ℕ → ℕ) → ((size : ℕ) → old size ≤ begun size + wanted_of (begin ∷ []) size)
       → end ≤ MAX_LENGTH → 0 < begun (size_of end)
   spare_for_end begun used short =

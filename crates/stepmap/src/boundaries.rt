@@ -23,7 +23,7 @@ use keys::{Range, RangeRef, common_prefix_len};
 use std::alloc::{AllocError, Global};
 use std::array;
 use std::marker::Model;
-use tree::{Overwrite, SIDE, Tree, Written, item};
+use tree::{Node, Overwrite, SIDE, Tree, Written, item};
 
 // The boundaries of a step function, in the order of their keys, the empty key first. Contracts see them, and for how
 // many more there is memory.
@@ -33,6 +33,9 @@ pub struct Boundaries<const N: usize> {
     pub wanted: Vec<usize>,
     pub keys: Arena<()>,
     pub tree: Tree<N>,
+    // Where the tree puts what it takes out. It lies here since a node is large: a new one for each write would be cleared each time.
+    pub taken: Option<Node<N>>,
+    ghost none_taken: { taken ≡ None },
     // A node that is taken out of the tree fits into memory.
     ghost few: { N ≤ 65536 },
 }
@@ -67,6 +70,7 @@ impl<const N: usize> Boundaries<N> {
             wanted: Vec::new(alloc),
             keys,
             tree,
+            taken: None,
         })
     }
 
@@ -215,9 +219,8 @@ impl<const N: usize> Boundaries<N> {
             second: end_key,
             last: at_end,
         };
-        let mut taken = None;
-        let written = self.tree.overwrite(&new, &mut taken);
-        release_run(&mut self.keys, &taken);
+        let written = self.tree.overwrite(&new, &mut self.taken);
+        release_run(&mut self.keys, &mut self.taken);
         match written {
             Written::Whole { ended } => {
                 if ended {

@@ -1,13 +1,12 @@
 //! Bounds by keys, through boundaries whose keys lie in an arena.
 
 ghost use Rattle.arena.specs.Arena.{key_at};
-ghost use Rattle.std.specs.Prelude.{◌≡◌, drop};
-ghost use Rattle.keys.specs.Key.{IsBytes};
+ghost use Rattle.std.specs.Prelude.{◌≡◌};
 ghost use Rattle.stepmap.specs.Stored.{bytes_at};
 ghost use Rattle.stepmap.specs.KeyBound.{slot_is_below, is_below_in_order};
 
 use arena::{Arena, Slot};
-use keys::{common_prefix_len, key_head};
+use keys::{common_prefix_len, head_behind};
 use std::cmp::Ordering;
 use tree::Bound;
 
@@ -39,11 +38,11 @@ impl<'a> Bound for KeyBound<'a> {
     }
 
     fn head(&self, prefix_len: usize) -> u64 {
-        key_head(behind(self.key, prefix_len))
+        head_behind(self.key, prefix_len)
     }
 
     fn head_of(&self, slot: Slot, prefix_len: usize) -> u64 {
-        key_head(behind(bytes_of(self.keys, slot), prefix_len))
+        head_behind(bytes_of(self.keys, slot), prefix_len)
     }
 
     fn is_empty(&self, slot: Slot) -> bool {
@@ -69,15 +68,4 @@ fn bytes_of(keys: &Arena<()>, slot: Slot) -> &[u8]
         return &[];
     }
     keys.key(slot)
-}
-
-// Returns the bytes behind so many, if there are any.
-fn behind(key: &[u8], prefix_len: usize) -> &[u8]
-    ensures behind { result.now ≡ drop prefix_len key.now }
-    ensures are_bytes { IsBytes key.now }
-{
-    match key.get(prefix_len..) {
-        Some(rest) => rest,
-        None => &[],
-    }
 }

@@ -98,12 +98,11 @@ impl<const N: usize> Boundaries<N> {
             key: cursor,
             up_to: true,
         };
-        let mut taken = None;
         let removal = self
             .tree
-            .remove_expired(&from, count, edge, before, &mut taken);
+            .remove_expired(&from, count, edge, before, &mut self.taken);
         move_to(&self.keys, cursor, removal.next);
-        release_run(&mut self.keys, &taken);
+        release_run(&mut self.keys, &mut self.taken);
         Looked {
             count: removal.looked_at,
             last: removal.last,

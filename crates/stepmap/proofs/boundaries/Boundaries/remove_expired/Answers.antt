@@ -1,4 +1,4 @@
-use Rattle.std.proofs.Common.{arith, ◌≡◌, ℕ, ◌≤◌, List, [], ◌++◌, length, take, drop, All, Any, refl, sym, ◌∙◌, ap, subst, w64, SFits, rules, None, true, ◌≢◌, vec_capacity}
+use Rattle.std.proofs.Common.{arith, ◌≡◌, ℕ, ◌≤◌, List, [], ◌++◌, length, take, drop, All, Any, sym, ◌∙◌, ap, subst, w64, SFits, rules, None, true, ◌≢◌, vec_capacity}
 use Rattle.std.proofs.lemmas.Int.{to_z-of_z}
 use Rattle.std.proofs.lemmas.List.Elements.{All-weaker}
 use Rattle.arena.specs.Arena.{IsLive}
@@ -57,7 +57,7 @@ remove_expired-removal-requires g c =
               c.requires.count,
               (
                 c.self.invariant.headed,
-                ((λ one. absurd (not_alone keys tree c.self.invariant.stored key (later g at) (there g at) one)), refl),
+                ((λ one. absurd (not_alone keys tree c.self.invariant.stored key (later g at) (there g at) one)), c.self.inside.none_taken),
               ),
             ),
           ),

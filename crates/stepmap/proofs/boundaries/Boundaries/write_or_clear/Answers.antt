@@ -23,12 +23,24 @@ use Rattle.stepmap.proofs.Exchanged.{partitioned_still}
 use Rattle.stepmap.proofs.Indexed.{headed_with}
 use Rattle.stepmap.proofs.Overwritten.{at_begin, at_end, both, used_at_most, unless_ended, some_before, run_was_live, run_live, run_distinct, whole_boundaries, whole_indexed, part_fewer, part_boundaries, part_written, part_indexed}
 use Rattle.stepmap.proofs.PlacedKeys.{Placed, ArePlaced, none_placed, one_more_by, first_released, second_released, run_released, placed_live}
-use Rattle.stepmap.proofs.SpareKeys.{taken_by_place, spare_for_end}
+use Rattle.stepmap.proofs.SpareKeys.{taken_by_place, spare_for_begin, spare_for_end}
 use Rattle.stepmap.proofs.Unlinked.{slots_of}
 use Rattle.stepmap.proofs.WritingValues.{begins_before_end}
 use Rattle.stepmap.proofs.boundaries.Boundaries.write_or_clear.Goals as goal
 use Rattle.stepmap.proofs.boundaries.Boundaries.write_or_clear.Given as given
 use Rattle.stepmap.proofs.boundaries.Boundaries.write_or_clear.Goals.{After-item, After-overwrite-written, After-release_run}
+
+pub unwrap-begin_key-requires : goal.unwrap-begin_key-requires
+unwrap-begin_key-requires g c =
+    let range = c.args.range.now in
+    let begin = length range.begin in
+    let short : begin ≤ MAX_LENGTH = omega (arith, range.begin_is_key.short) in
+    let spare : 0 < spare_of c.self.inside.keys (size_of begin) =
+    subst (λ (v : Stored). 0 < spare_in v (size_of begin)) (sym c.self.view_is)
+    (spare_for_begin begin (length range.end) (spare_in c.args.self.now) c.requires.keys short) in
+    let is = sym c.begin.ensures.bytes in
+    c.place.ensures.enough (subst (λ (k : List ℕ). length k ≤ MAX_LENGTH) is short)
+    (subst (λ (k : List ℕ). 0 < spare_of c.self.inside.keys (size_of (length k))) is spare)
 
 pub unwrap-end_key-requires : goal.unwrap-end_key-requires
 unwrap-end_key-requires g c =
@@ -149,7 +161,7 @@ overwrite-written-requires g c =
                   omega (arith, room g at),
                   (
                     headed_with keys c.place-2.new.self (placed g at) (ready g at) tree c.self.invariant.headed,
-                    refl,
+                    c.self.inside.none_taken,
                   ),
                 ),
               ),
