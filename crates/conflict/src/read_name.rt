@@ -1,6 +1,7 @@
 //! The read ranges of the transactions of a batch, by indices, and the queries that they are.
 
-ghost use Rattle.std.specs.Prelude.{◌≡◌, ◌<◌, ◌≤◌, ◌++◌, List, length, map, slice_get, slice_range, Some, OnOk};
+ghost use Rattle.std.specs.Prelude.{◌≡◌, ◌<◌, ◌≤◌, ◌++◌, List, length, map, slice_get, slice_range, Some, OnOk, IsSomeAnd};
+ghost use Rattle.keys.specs.Hash.{IsHashOf};
 ghost use Rattle.keyspace.specs.declared.txn.Txn.{Txn};
 ghost use Rattle.conflict.specs.Asking.{asked_at, query_named, queries_named, AreNamed};
 
@@ -70,18 +71,21 @@ impl QueryList for AskedReads<'_> {
     fn query(&self, index: usize) -> RangeQuery<'_> {
         let name = self.names[index];
         let txn = self.txns.txn(name.txn as usize);
-        query_of(&txn, name.read as usize)
+        let hash = self.txns.read_hash(name.txn as usize, name.read as usize);
+        query_of(&txn, name.read as usize, hash)
     }
 }
 
-// Returns the query for the read range at the index, at the snapshot of the transaction.
-fn query_of<'a>(txn: &TxnRef<'a>, read: usize) -> RangeQuery<'a>
+// Returns the query for the read range at the index, which has this hash, at the snapshot of the transaction.
+fn query_of<'a>(txn: &TxnRef<'a>, read: usize, hash: Option<u32>) -> RangeQuery<'a>
     requires within { read < length txn.now.reads }
+    requires hash { IsSomeAnd (slice_get txn.now.reads read) (λ range. IsHashOf range hash) }
     ensures range { slice_get txn.now.reads read ≡ Some result.range }
     ensures version { result.version ≡ txn.now.snapshot }
 {
     RangeQuery {
         range: txn.reads.get(read),
         version: txn.snapshot,
+        hash,
     }
 }

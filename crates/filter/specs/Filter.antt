@@ -2,7 +2,7 @@
 use Rattle.std.specs.Prelude.{ℕ, ℤ, negsuc, ◌*◌, ◌/◌, ◌^◌, List, [], ◌∷◌, length, get_or}
 use Rattle.std.specs.List.{flat_map}
 use Rattle.std.specs.Int.{int_max}
-use Rattle.filter.specs.Hash.{hash_of}
+use Rattle.keys.specs.Hash.{hash_of}
 
 pub record FilterState : Type 0 where
   -- the version of each cell
@@ -12,10 +12,14 @@ pub record FilterState : Type 0 where
   -- that of the newest key
   pub newest_key : ℤ
 
--- Which of so many cells a key falls into. The cells part the numbers of 64 bits in their order, so that each is two where there
--- are twice as many.
+-- Which of so many cells the keys of a hash fall into. The cells part the numbers of 32 bits in their order, so that each is two
+-- where there are twice as many.
+abbrev pub cell_at : ℕ → ℕ → ℕ
+cell_at count hash = hash * count / 2 ^ 32
+
+-- that of a key
 abbrev pub cell_of : ℕ → List ℕ → ℕ
-cell_of count key = (hash_of key / 2 ^ 32) * count / 2 ^ 32
+cell_of count key = cell_at count (hash_of key)
 
 -- the version of a cell, or that of the newest range, whichever is greater
 unfoldable pub bound_in : FilterState → ℕ → ℤ

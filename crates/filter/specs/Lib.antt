@@ -1,3 +1,2 @@
 -- In the order in which one reads them aloud.
-pub mod Hash
 pub mod Filter

@@ -2,9 +2,9 @@
 
 ghost use Rattle.std.specs.Prelude.{◌≡◌, ℕ, ◌≤◌, ◌*◌, ◌<◌, ◌≤ℤ◌, ◌<ℤ◌, ◌↔◌, negsuc, List, get_or, length, IfOk, OnOk, IsTrue, min};
 ghost use Rattle.std.specs.Int.{int_max};
-ghost use Rattle.filter.specs.Filter.{bound, bound_in, cell_of, each_twice};
+ghost use Rattle.filter.specs.Filter.{bound, bound_in, cell_at, each_twice};
 
-use crate::hashing::hash;
+use keys::key_hash;
 use std::alloc::{AllocError, Global};
 use std::marker::Model;
 
@@ -16,7 +16,7 @@ const _: () = prove!(MAX_CELLS == 134_217_728);
 // How many cells there are at first.
 const FIRST_CELLS: usize = 1024;
 
-// Two to the power of 32: a number of 64 bits divided by it is its high half.
+// Two to the power of 32: how many hashes there are.
 const HALF: u64 = 0x1_0000_0000;
 
 /// A filter of writes: cells with versions, and the versions of the newest range and the newest key. Contracts see these, and
@@ -61,7 +61,7 @@ impl Filter {
     pub fn bound(&self, key: &[u8]) -> i64
         ensures bound { result ≡ bound self.now key.now }
     {
-        self.bound_at(self.cell(key))
+        self.bound_at(self.cell(key_hash(key)))
     }
 
     /// Returns the bound of the keys of a cell. Where many keys are asked for, their cells come first and the bounds then, so that the
@@ -97,7 +97,7 @@ impl Filter {
         ensures range { self.new.newest_range ≡ self.old.newest_range }
         ensures newest { self.new.newest_key ≡ int_max version self.old.newest_key }
     {
-        let cell = self.cell(key);
+        let cell = self.cell(key_hash(key));
         self.cells[cell] = self.raised(cell, version);
         self.newest_key = self.newest_key.max(version);
     }
@@ -158,13 +158,13 @@ impl Filter {
         }
     }
 
-    /// Returns the cell that the key falls into.
-    pub fn cell(&self, key: &[u8]) -> usize
-        ensures cell { result ≡ cell_of (length self.now.versions) key.now }
+    /// Returns the cell into which the keys of this hash fall, as [`key_hash`] returns it.
+    pub fn cell(&self, hash: u32) -> usize
+        ensures cell { result ≡ cell_at (length self.now.versions) hash }
         ensures within { result < length self.now.versions }
     {
         let count = self.cells.len() as u64;
-        (hash(key) / HALF * count / HALF) as usize
+        (u64::from(hash) * count / HALF) as usize
     }
 }
 

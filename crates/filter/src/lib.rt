@@ -5,11 +5,9 @@
 //! is greater is the bound of the key: no write of it is above that. Nothing is ever taken out, so that a bound only rises.
 //!
 //! The layer above may use the contracts of [`Filter`], which see it as the versions of its cells and those of the newest
-//! range and the newest key, and say of each call what becomes of the bounds; and [`hash()`].
+//! range and the newest key, and say of each call what becomes of the bounds.
 #![tactic(auto)]
 
 mod filter;
-mod hashing;
 
 pub use filter::{Filter, MAX_CELLS};
-pub use hashing::hash;

@@ -2,6 +2,7 @@
 pub mod Key
 pub mod Head
 pub mod Range
+pub mod Hash
 pub mod Ranks
 pub mod Sorting
 pub mod Counting

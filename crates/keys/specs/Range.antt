@@ -1,11 +1,15 @@
 -- Ranges of keys, and when two of them meet. Source: the half-open key ranges of `KeyRangeRef`, FoundationDB 7.1.
-use Rattle.std.specs.Prelude.{◌≡◌, ◌&&◌, ℕ, Bool, List}
+use Rattle.std.specs.Prelude.{◌≡◌, ◌&&◌, ℕ, Bool, List, [], ◌∷◌, ◌++◌}
 use Rattle.keys.specs.Key.{IsBytes, is_before, IsBefore, IsAtMost}
 use Rattle.keys.specs.declared.range.Range.{Range}
 
 -- begin equals end, so no key lies in the range
 abbrev pub IsEmpty : Range → Type 0
 IsEmpty range = range.begin ≡ range.end
+
+-- the range holds its begin alone: it ends with the key right after that
+abbrev pub IsSingle : Range → Type 0
+IsSingle range = range.end ≡ range.begin ++ 0 ∷ []
 
 -- the half-open range holds the keys from its begin on, below its end
 abbrev pub Holds : Range → List ℕ → Type 0

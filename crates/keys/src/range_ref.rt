@@ -1,10 +1,12 @@
 //! Ranges whose keys are borrowed.
 
 ghost use Rattle.std.specs.Prelude.{◌≡◌, ◌≤◌, ◌↔◌, length, IfOk, IsTrue};
-ghost use Rattle.keys.specs.Range.{IsEmpty};
+ghost use Rattle.keys.specs.Hash.{IsHashOf};
+ghost use Rattle.keys.specs.Range.{IsEmpty, IsSingle};
 ghost use Rattle.keys.specs.Key.{IsKey, IsAtMost};
 ghost use Rattle.keys.specs.declared.key.TheConstants.{MAX_KEY_LENGTH};
 
+use crate::hashing::key_hash;
 use crate::key::Key;
 use crate::range::Range;
 use std::alloc::{AllocError, Global};
@@ -55,6 +57,27 @@ impl<'a> RangeRef<'a> {
         ensures empty { IsTrue result ↔ IsEmpty self.now }
     {
         self.begin == self.end
+    }
+
+    /// Returns `true` if the range holds its begin alone: it ends with the key right after that.
+    pub fn is_single(&self) -> bool
+        ensures single { IsTrue result ↔ IsSingle self.now }
+    {
+        match self.end.split_last() {
+            Some((0, front)) => front == self.begin,
+            _ => false,
+        }
+    }
+
+    /// Returns the hash of the key that the range holds alone, as [`key_hash`](crate::key_hash) does, or `None` if it holds none
+    /// or several.
+    pub fn single_hash(&self) -> Option<u32>
+        ensures hash { IsHashOf self.now result }
+    {
+        if !self.is_single() {
+            return None;
+        }
+        Some(key_hash(self.begin))
     }
 
     /// Returns the bytes of the begin, at most [`MAX_KEY_LENGTH`](crate::MAX_KEY_LENGTH).

@@ -1,11 +1,14 @@
 //! The transactions of a batch, in one buffer with tables beside it.
 
-ghost use Rattle.std.specs.Prelude.{◌≡◌, ◌<◌, ◌≤◌, Some, length, vec_len, map, slice_get, IfOk};
+ghost use Rattle.std.specs.Prelude.{◌≡◌, ◌<◌, ◌≤◌, Some, length, vec_len, map, slice_get, IfOk, IsSomeAnd};
+ghost use Rattle.keys.specs.Hash.{IsHashOf};
 ghost use Rattle.keys.specs.Ranks.{AreRanked};
+ghost use Rattle.keys.specs.declared.range.Range.{Range};
 ghost use Rattle.keyspace.specs.BatchRanges.{ranges_in};
 ghost use Rattle.keyspace.specs.Fields.{txn_fields};
 ghost use Rattle.keyspace.specs.Tables.{txns_told, AreTables};
 ghost use Rattle.keyspace.specs.declared.batch.TheConstants.{MAX_TXNS};
+ghost use Rattle.keyspace.specs.declared.txn.Txn.{Txn as TxnValue};
 
 use crate::ranges_ref::RangesRef;
 use crate::row::Row;
@@ -13,7 +16,7 @@ use crate::span::Span;
 use crate::tables::Tables;
 use crate::txn::Txn;
 use crate::txn_ref::TxnRef;
-use keys::Ranks;
+use keys::{Ranks, single_hashes};
 use std::alloc::{AllocError, Global};
 use std::marker::Model;
 
@@ -21,18 +24,22 @@ use std::marker::Model;
 ///
 /// They lie in one buffer with the bytes of all keys, a table of spans that says where each range lies in it, and a table
 /// with a row for each transaction. What doesn't depend on other batches is computed once, where the transactions are put
-/// together: the order of their ranges by begins, and which of the gaps between these each range covers.
+/// together: the order of their ranges by begins, which of the gaps between these each range covers, and the hashes of single keys.
 #[derive(Debug, Drop)]
 pub struct Txns {
     buffer: Vec<u8>,
     spans: Vec<Span>,
     rows: Vec<Row>,
     ranks: Ranks,
+    // Of each range that is a single key.
+    hashes: Vec<Option<u32>>,
     ghost tables: { AreTables buffer.items spans.items rows.items },
 }
 
 impl Model for Txns {
     ghost use Rattle.std.specs.Prelude.{List};
+    ghost use Rattle.std.specs.List.{AllZip};
+    ghost use Rattle.keys.specs.Hash.{IsHashOf};
     ghost use Rattle.keys.specs.Ranks.{AreRanked};
     ghost use Rattle.keyspace.specs.BatchRanges.{ranges_in};
     ghost use Rattle.keyspace.specs.Fields.{txns_with};
@@ -43,8 +50,10 @@ impl Model for Txns {
 
     ghost view = { λ t. txns_with (txns_told t.buffer.items t.spans.items t.rows.items) t.tables.holds };
 
-    ghost invariant = { λ t. AreRanked
-        (ranges_in (txns_with (txns_told t.buffer.items t.spans.items t.rows.items) t.tables.holds)) t.ranks };
+    ghost invariant = { λ t.
+        AreRanked (ranges_in (txns_with (txns_told t.buffer.items t.spans.items t.rows.items) t.tables.holds)) t.ranks
+        × AllZip IsHashOf (ranges_in (txns_with (txns_told t.buffer.items t.spans.items t.rows.items) t.tables.holds))
+        t.hashes.items };
 }
 
 impl Txns {
@@ -69,12 +78,15 @@ impl Txns {
         requires few { vec_len rows ≤ MAX_TXNS }
         ensures fields { IfOk result (λ txns. map txn_fields txns ≡ txns_told buffer.items spans.items rows.items) }
     {
-        let ranks = Ranks::new(alloc, &RangesRef::new(&buffer, &spans))?;
+        let ranges = RangesRef::new(&buffer, &spans);
+        let ranks = Ranks::new(alloc, &ranges)?;
+        let hashes = single_hashes(alloc, &ranges)?;
         Ok(Txns {
             buffer,
             spans,
             rows,
             ranks,
+            hashes,
         })
     }
 
@@ -98,6 +110,16 @@ impl Txns {
             reads: ranges.slice(row.reads as usize, row.writes as usize),
             writes: ranges.slice(row.writes as usize, row.end as usize),
         }
+    }
+
+    /// Returns what [`RangeRef::single_hash`](keys::RangeRef::single_hash) returns for a read range of a transaction, by their
+    /// indices, and looks at no key.
+    pub fn read_hash(&self, index: usize, read: usize) -> Option<u32>
+        requires within { IsSomeAnd (slice_get self.now index) (λ txn. read < length txn.reads) }
+        ensures hash { (txn : TxnValue) (range : Range) → slice_get self.now index ≡ Some txn
+            → slice_get txn.reads read ≡ Some range → IsHashOf range result }
+    {
+        self.hashes[self.rows[index].reads as usize + read]
     }
 
     /// Returns the ranges of the transactions as one list: those of each transaction, its read ranges before its write

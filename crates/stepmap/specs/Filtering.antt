@@ -3,7 +3,7 @@ use Rattle.std.specs.Prelude.{◌≡◌, ℕ, ℤ, ◌+◌, ◌≤◌, ◌≤ℤ
 use Rattle.std.specs.List.{AllZip}
 use Rattle.filter.specs.Filter.{FilterState, bound}
 use Rattle.keys.specs.Key.{IsBytes}
-use Rattle.keys.specs.Range.{IsEmpty}
+use Rattle.keys.specs.Range.{IsEmpty, IsSingle}
 use Rattle.keys.specs.declared.range.Range.{Range}
 use Rattle.stepmap.specs.Boundary.{value_at}
 use Rattle.stepmap.specs.Covers.{IsAbove}
@@ -14,14 +14,10 @@ abbrev pub FilterTells : FilterState → Steps → Type 0
 FilterTells f m =
     (key : List ℕ) → IsBytes key → (s : ℤ) → m.edge ≤ℤ s → s <ℤ value_at m.boundaries key → s <ℤ bound f key
 
--- the second key is the one right after the first
-abbrev pub IsSingle : List ℕ → List ℕ → Type 0
-IsSingle begin end = end ≡ begin ++ 0 ∷ []
-
 -- a bound of the range: if this is a single key, the function isn't above any number from the bound and the edge on
 abbrev pub IsBound : Steps → Range → ℤ → Type 0
 IsBound m range bound =
-    IsSingle range.begin range.end → (s : ℤ) → m.edge ≤ℤ s → bound ≤ℤ s → ¬ IsAbove m range s
+    IsSingle range → (s : ℤ) → m.edge ≤ℤ s → bound ≤ℤ s → ¬ IsAbove m range s
 
 -- those of the queries that are marked, in order
 abbrev pub left_of : List (Range × ℤ) → List Bool → List (Range × ℤ)

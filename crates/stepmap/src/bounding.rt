@@ -3,7 +3,9 @@
 //! The cells of their keys are found first, and read then: so the memory of all these cells is waited for at once.
 
 ghost use Rattle.std.specs.Prelude.{◌≡◌, ◌+◌, ◌-◌, ◌<◌, ◌≤◌, All, length, map, take, drop};
+ghost use Rattle.std.specs.List.{AllZip};
 ghost use Rattle.filter.specs.Filter.{cell_of, bound_in};
+ghost use Rattle.keys.specs.Range.{IsSingle};
 ghost use Rattle.tree.specs.declared.question.TheConstants.{SIDE};
 
 use crate::query::QueryList;
@@ -11,7 +13,8 @@ use arrayvec::ArrayVec;
 use filter::Filter;
 use tree::SIDE;
 
-/// Returns the cells of the begins of the queries from one index up to another.
+/// Returns a cell for each of the queries from one index up to another: that into which its key falls, if its range is a single
+/// key. It looks at no key.
 pub fn cells_from<L: QueryList>(
     filter: &Filter,
     queries: &L,
@@ -21,14 +24,13 @@ pub fn cells_from<L: QueryList>(
     requires ordered { from ≤ to }
     requires within { to ≤ length (L.queries queries.now) }
     requires few { to ≤ from + SIDE }
-    ensures cells { result.items ≡ map (λ q. cell_of (length filter.now.versions) q.0.begin)
-        (take (to - from) (drop from (L.queries queries.now))) }
+    ensures cells { AllZip (λ q cell. IsSingle q.0 → cell ≡ cell_of (length filter.now.versions) q.0.begin)
+        (take (to - from) (drop from (L.queries queries.now))) result.items }
     ensures inside { All (λ cell. cell < length filter.now.versions) result.items }
 {
     let mut cells = ArrayVec::new();
     for index in from..to {
-        let query = queries.query(index);
-        cells.push(filter.cell(query.range.begin()));
+        cells.push(filter.cell(queries.query(index).hash.unwrap_or(0)));
     }
     cells
 }

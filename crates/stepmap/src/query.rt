@@ -1,5 +1,6 @@
 //! What a step map is asked.
 ghost use Rattle.std.specs.Prelude.{◌≡◌, ◌<◌, ℤ, List, length, [], ◌∷◌, Some, slice_get};
+ghost use Rattle.keys.specs.Hash.{IsHashOf};
 ghost use Rattle.keys.specs.declared.range.Range.{Range as RangeValue};
 
 use keys::{Range, RangeRef};
@@ -9,6 +10,9 @@ use keys::{Range, RangeRef};
 pub struct RangeQuery<'a> {
     pub range: RangeRef<'a>,
     pub version: i64,
+    /// What [`RangeRef::single_hash`] returns for the range.
+    pub hash: Option<u32>,
+    ghost hashed: { IsHashOf range hash },
 }
 
 /// Queries that are lent by their index, wherever their keys lie.
@@ -44,6 +48,7 @@ impl<'a> QueryList for OneQuery<'a> {
         RangeQuery {
             range: self.range.as_ref(),
             version: self.version,
+            hash: self.range.as_ref().single_hash(),
         }
     }
 }

@@ -11,9 +11,7 @@ use super::StepMap;
 use crate::bounding::{bounds_at, cells_from, repeated};
 use crate::left::put_told;
 use crate::query::{QueryList, RangeQuery};
-use crate::single::is_single;
 use arrayvec::ArrayVec;
-use keys::RangeRef;
 use std::alloc::AllocError;
 use tree::SIDE;
 
@@ -109,21 +107,16 @@ impl StepMap {
         bounds_at(&self.filter, cells.as_slice())
     }
 
-    // Returns whether the query is to be looked up: its range isn't empty, and this bound of it leaves it open.
+    // Returns whether the query is to be looked up: its range isn't empty, and this bound of it leaves it open. The bound tells
+    // only of single keys, and only from the edge on.
     fn is_open(&self, query: &RangeQuery<'_>, bound: i64) -> bool
         requires bound { IsBound self.now query.now.range bound }
         ensures filled { IsTrue result → ¬ IsEmpty query.now.range }
         ensures others { ¬ IsTrue result → ¬ IsAbove self.now query.now.range query.now.version }
     {
-        !query.range.is_empty() && self.may_exceed(&query.range, query.version, bound)
-    }
-
-    // Returns whether this bound of the range leaves open that the version at some key of it is above this one. It tells only of
-    // single keys, and only from the edge on.
-    fn may_exceed(&self, range: &RangeRef<'_>, version: i64, bound: i64) -> bool
-        requires bound { IsBound self.now range.now bound }
-        ensures not_above { ¬ IsTrue result → ¬ IsAbove self.now range.now version }
-    {
-        version < self.edge || version < bound || !is_single(range.begin(), range.end())
+        if query.hash.is_none() {
+            return !query.range.is_empty();
+        }
+        query.version < self.edge || query.version < bound
     }
 }

@@ -1,10 +1,10 @@
 use Rattle.std.proofs.lemmas.List.{take_rest}
-use Rattle.filter.specs.Hash.{hash_of}
-use Rattle.filter.proofs.hashing.hash.Goals as goal
+use Rattle.keys.specs.Hash.{mixture_of}
+use Rattle.keys.proofs.hashing.mixture.Goals as goal
 
-pub returns-clause-hash : goal.returns-clause-hash
-unfolding hash_of
-returns-clause-hash c =
+pub returns-clause-mixture : goal.returns-clause-mixture
+unfolding mixture_of
+returns-clause-mixture c =
     rw (
       c.mix.ensures.mixed,
       c.mix-fourth.ensures.mixed,

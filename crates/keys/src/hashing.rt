@@ -1,0 +1,63 @@
+//! The hash of a key, by which a filter tells of it.
+
+ghost use Rattle.std.specs.Prelude.{◌≡◌, ◌^◌, ◌<◌, IfOk};
+ghost use Rattle.std.specs.List.{AllZip};
+ghost use Rattle.keys.specs.Head.{head_of};
+ghost use Rattle.keys.specs.Hash.{hash_of, mixed, mixture_of, IsHashOf};
+
+use crate::prefix::key_head;
+use crate::range_list::RangeList;
+use std::alloc::{AllocError, Global};
+
+// An odd number whose products spread: it is that of SplitMix64.
+const FACTOR: u64 = 0xBF58_476D_1CE4_E5B9;
+
+const _: () = prove!(FACTOR == 0xBF58_476D_1CE4_E5B9);
+
+// Two to the power of 32: a number of 64 bits divided by it is its high half.
+const HALF: u64 = 0x1_0000_0000;
+
+/// Returns a number of 32 bits made of the length of the key and of five times eight of its bytes, which begin at its first,
+/// last and middle ones and halfway between these. Up to 38 bytes all of a key tells. It takes no loop.
+pub fn key_hash(key: &[u8]) -> u32
+    ensures hash { result ≡ hash_of key.now }
+{
+    // Keys that differ in a few bytes differ in the high half.
+    (mixture(key) / HALF) as u32
+}
+
+/// Returns for each of the ranges, in order, what [`RangeRef::single_hash`](crate::RangeRef::single_hash) returns for it, or an
+/// error if memory is refused.
+pub fn single_hashes<L: RangeList>(
+    alloc: Global,
+    ranges: &L,
+) -> Result<Vec<Option<u32>>, AllocError>
+    ensures hashes { IfOk result (λ hashes. AllZip IsHashOf (L.ranges ranges.now) hashes.items) }
+{
+    let mut hashes = Vec::with_capacity(alloc, ranges.len())?;
+    for index in 0..ranges.len() {
+        hashes.push(ranges.range(index).single_hash())?;
+    }
+    Ok(hashes)
+}
+
+// Returns the words mixed into the length, in 64 bits.
+fn mixture(key: &[u8]) -> u64
+    ensures mixture { result ≡ mixture_of key.now }
+    ensures bits { result < 2 ^ 64 }
+{
+    let last = key.len().saturating_sub(8);
+    let quarter = last / 4;
+    let first = mix(key.len() as u64, key);
+    let second = mix(first, &key[quarter..]);
+    let third = mix(second, &key[last / 2..]);
+    let fourth = mix(third, &key[last - quarter..]);
+    mix(fourth, &key[last..]).wrapping_mul(FACTOR)
+}
+
+// Mixes in the first eight bytes.
+fn mix(hash: u64, bytes: &[u8]) -> u64
+    ensures mixed { result ≡ mixed hash (head_of bytes.now) }
+{
+    hash.wrapping_mul(FACTOR).wrapping_add(key_head(bytes))
+}
