@@ -5,7 +5,7 @@ use Rattle.std.proofs.lemmas.Int.{ints, clamps}
 use Rattle.std.proofs.Math.ListN.{length-set}
 use mir.Syntax.{w64}
 use mir.Val.{to_z, of_z}
-use Rattle.filter.specs.Filter.{FilterState, bound, cell_of}
+use Rattle.filter.specs.Filter.{FilterState, bound, cell_at, cell_of}
 use Rattle.filter.proofs.Bounds.{IsRaised, raised, set_none_newer, written}
 use Rattle.filter.proofs.filter.Filter.write_key.Goals as goal
 use Rattle.filter.proofs.filter.Filter.write_key.Goals.{After-max-self-inside}
@@ -40,10 +40,11 @@ unfolding state
 returns-clause-written c =
     let at = (goal.at.returns-clause-written c).After-max-self-inside in
     let cell = c.cell-cell.ensures.cell in
+    let hash = ap (cell_at (length c.args.self.now.versions)) c.key_hash.ensures.hash in
     let count = ap (λ (f : FilterState). cell_of (length f.versions) c.args.key.now) c.self.view_is in
     subst (λ (f : FilterState). bound (state at) c.args.key.now ≡ int_max c.args.version (bound f c.args.key.now)) c.self.view_is
     (written _ (state at) c.cell-cell.result c.args.version (within at)
-    (ap (set c.self.inside.cells.items c.cell-cell.result) (new at)) refl c.args.key.now (omega (arith, cell, count)))
+    (ap (set c.self.inside.cells.items c.cell-cell.result) (new at)) refl c.args.key.now (omega (arith, cell, hash, count)))
 
 pub returns-clause-raised : goal.returns-clause-raised
 unfolding state
