@@ -89,14 +89,10 @@ fn common_words(a: &[u8], b: &[u8]) -> usize
     ensures differ { 8 * result + 8 ≤ length a.now → 8 * result + 8 ≤ length b.now
         → take 8 (drop (8 * result) a.now) ≢ take 8 (drop (8 * result) b.now) }
 {
-    let words = a.len().min(b.len()) / 8;
-    for index in 0..words {
-        let from = 8 * index;
-        if key_head(&a[from..]) != key_head(&b[from..]) {
-            return index;
-        }
-    }
-    words
+    a.chunks_exact(8)
+        .zip(b.chunks_exact(8))
+        .take_while(|(x, y)| key_head(x) == key_head(y))
+        .count()
 }
 
 // Returns how many bytes both begin with, one after the other.
