@@ -11,5 +11,6 @@ pub mod Slices
 pub mod RangesTold
 pub mod TablesRanges
 pub mod TablesTxns
+pub mod ReadHashes
 pub mod Putting
 pub mod TablesPut

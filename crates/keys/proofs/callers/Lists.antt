@@ -1,10 +1,10 @@
 -- Lemmas for callers: a part of a list with one element more.
-use Rattle.std.proofs.Common.{◌≡◌, ℕ, suc, ◌+◌, ◌-◌, ◌<◌, ◌≤◌, List, [], ◌∷◌, ◌++◌, length, take, drop, ap, sym, subst, ◌∙◌, arith, length-drop}
+use Rattle.std.proofs.Common.{◌≡◌, ℕ, zero, suc, ◌+◌, ◌-◌, ◌<◌, ◌≤◌, List, [], ◌∷◌, ◌++◌, length, get_or, take, drop, refl, ap, sym, subst, ◌∙◌, arith, length-drop, length-take}
 use Rattle.std.specs.Prelude.{Some, slice_get, slice_range}
 use Rattle.std.specs.List.{AllZip}
 use Rattle.std.proofs.Math.Seq.{take-suc}
-use Rattle.std.proofs.lemmas.List.{get_or-drop}
-use Rattle.std.proofs.lemmas.Option.{get_or_from_slice_get, slice_get_within}
+use Rattle.std.proofs.lemmas.List.{get_or-drop, get_or-take}
+use Rattle.std.proofs.lemmas.Option.{get_or_from_slice_get, slice_get-get_or, slice_get_within}
 use Rattle.std.proofs.lemmas.Slice.Zip.{all_zipped_more}
 
 -- by the first index and the number of the elements
@@ -32,3 +32,30 @@ pub AllZip-more : {X Y : Type 0} (R : X → Y → Type 0) (xs : List X) (i : ℕ
 AllZip-more R xs i ys x y is all it =
     let at : 0 + i ≡ i = omega arith in
     subst (λ front. AllZip R front (ys ++ y ∷ [])) (sym (part_more xs 0 i x (ap (slice_get xs) at ∙ is))) (all_zipped_more R (take i xs) ys x y all it)
+
+-- something stands at each index
+pub some_at : {X : Type 0} (xs : List X) (i : ℕ) → i < length xs → (x : X) × (slice_get xs i ≡ Some x)
+some_at [] i within = absurd (omega (arith, within))
+some_at (x ∷ xs) zero within = (x, refl)
+some_at (x ∷ xs) (suc i) within = some_at xs i (omega (arith, within))
+
+-- what stands in a part stands in the whole
+pub part_get : {X : Type 0} (xs : List X) (from to i : ℕ) (x : X) → slice_get (slice_range xs from to) i ≡ Some x
+    → slice_get xs (from + i) ≡ Some x
+part_get xs from to i x is =
+    let part = take (to - from) (drop from xs) in
+    let within = slice_get_within part i x is in
+    let short : i < to - from = omega (arith, within, length-take (to - from) (drop from xs)) in
+    let inside : from + i < length xs = omega (arith, within, length-take (to - from) (drop from xs), length-drop from xs) in
+    slice_get-get_or xs (from + i) x inside
+    ∙ ap (λ y. Some y)
+    (sym (get_or-drop from xs i x) ∙ sym (get_or-take (to - from) (drop from xs) i x short) ∙ get_or_from_slice_get part i x x is)
+
+-- what holds of two elements at the same place
+pub AllZip-at : {X Y : Type 0} (R : X → Y → Type 0) (xs : List X) (ys : List Y) (i : ℕ) (x : X) (d : Y) → slice_get xs i ≡ Some x
+    → AllZip R xs ys → R x (get_or ys i d)
+AllZip-at R [] ys i x d is all = absurd cc
+AllZip-at R (first ∷ xs) [] i x d is all = absurd all
+AllZip-at {X} R (first ∷ xs) (other ∷ ys) zero x d is all =
+    let same : first ≡ x = cc in subst (λ (e : X). R e other) same all.0
+AllZip-at R (first ∷ xs) (other ∷ ys) (suc i) x d is all = AllZip-at R xs ys i x d is all.1

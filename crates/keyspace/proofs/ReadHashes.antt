@@ -1,0 +1,50 @@
+-- The read ranges of a transaction, among all ranges of a batch.
+use Rattle.std.proofs.Common.{◌≡◌, ◌+◌, ◌<◌, ℕ, List, length, map, refl, sym, ap, ◌∙◌, subst, Some, slice_get, slice_range, get_or}
+use Rattle.std.proofs.lemmas.List.{length-map, get_or-map}
+use Rattle.std.proofs.lemmas.Option.{get_or_from_slice_get, slice_get_within}
+use Rattle.keys.specs.declared.range.Range.{Range}
+use Rattle.keys.proofs.callers.Lists.{part_get}
+use Rattle.keyspace.specs.declared.txn.Txn.{Txn}
+use Rattle.keyspace.specs.declared.span.Span.{Span}
+use Rattle.keyspace.specs.declared.row.Row.{Row}
+use Rattle.keyspace.specs.BatchRanges.{ranges_in}
+use Rattle.keyspace.specs.Fields.{TxnFields, range_fields, txn_fields, txns_with}
+use Rattle.keyspace.specs.Tables.{txn_told, txns_told, AreTables}
+use Rattle.keyspace.proofs.callers.SameFields.{same_ranges}
+use Rattle.keyspace.proofs.FieldsBack.{fields_of_txns}
+use Rattle.keyspace.proofs.RangesTold.{part_told}
+use Rattle.keyspace.proofs.TablesRanges.{ranges_told}
+use Rattle.keyspace.proofs.TablesTxns.{length-txns}
+
+module _ (buffer : List ℕ) (spans : List Span) (rows : List Row) (tables : AreTables buffer spans rows) where
+  abbrev txns : List Txn
+  txns = txns_with (txns_told buffer spans rows) tables.holds
+
+  pub row_within : (index : ℕ) (txn : Txn) → slice_get txns index ≡ Some txn → index < length rows
+  row_within index txn is =
+      subst (λ n. index < n) (length-txns buffer spans rows tables.holds) (slice_get_within txns index txn is)
+
+  fields_at : (index : ℕ) (row : Row) (txn : Txn) → slice_get txns index ≡ Some txn → row ≡ get_or rows index row
+      → txn_fields txn ≡ txn_told buffer spans row
+  fields_at index row txn is at =
+      sym (ap txn_fields (get_or_from_slice_get txns index txn txn is))
+      ∙ sym (get_or-map txn_fields txns index txn (txn_fields txn) (slice_get_within txns index txn is))
+      ∙ ap (λ (fs : List TxnFields). get_or fs index (txn_fields txn)) (fields_of_txns (txns_told buffer spans rows) tables.holds)
+      ∙ get_or-map (txn_told buffer spans) rows index row (txn_fields txn) (row_within index txn is)
+      ∙ ap (txn_told buffer spans) (sym at)
+
+  reads_are : (index : ℕ) (row : Row) (txn : Txn) → slice_get txns index ≡ Some txn → row ≡ get_or rows index row
+      → txn.reads ≡ slice_range (ranges_in txns) row.reads row.writes
+  reads_are index row txn is at =
+      let part = slice_range (ranges_in txns) row.reads row.writes in
+      same_ranges txn.reads part
+      (ap (λ (f : TxnFields). f.reads) (fields_at index row txn is at)
+      ∙ sym (part_told buffer spans (ranges_in txns) part row.reads row.writes (ranges_told buffer spans rows tables tables.holds) refl))
+
+  -- where a read range stands among all ranges
+  pub read_at : (index read : ℕ) (row : Row) (txn : Txn) (range : Range) → slice_get txns index ≡ Some txn
+      → row ≡ get_or rows index row → slice_get txn.reads read ≡ Some range
+      → slice_get (ranges_in txns) (row.reads + read) ≡ Some range
+  read_at index read row txn range is at there =
+      part_get (ranges_in txns) row.reads row.writes read range
+      (ap (λ (reads : List Range). slice_get reads read) (sym (reads_are index row txn is at)) ∙ there)
