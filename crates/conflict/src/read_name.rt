@@ -1,7 +1,6 @@
 //! The read ranges of the transactions of a batch, by indices, and the queries that they are.
 
-ghost use Rattle.std.specs.Prelude.{◌≡◌, ◌<◌, ◌≤◌, ◌++◌, List, length, map, slice_get, slice_range, Some, OnOk, IsSomeAnd};
-ghost use Rattle.keys.specs.Hash.{IsHashOf};
+ghost use Rattle.std.specs.Prelude.{◌≡◌, ◌<◌, ◌≤◌, ◌++◌, List, length, map, slice_get, slice_range, Some, OnOk};
 ghost use Rattle.keyspace.specs.declared.txn.Txn.{Txn};
 ghost use Rattle.conflict.specs.Asking.{asked_at, query_named, queries_named, AreNamed};
 
@@ -79,9 +78,9 @@ impl QueryList for AskedReads<'_> {
 // Returns the query for the read range at the index, which has this hash, at the snapshot of the transaction.
 fn query_of<'a>(txn: &TxnRef<'a>, read: usize, hash: Option<u32>) -> RangeQuery<'a>
     requires within { read < length txn.now.reads }
-    requires hash { IsSomeAnd (slice_get txn.now.reads read) (λ range. IsHashOf range hash) }
     ensures range { slice_get txn.now.reads read ≡ Some result.range }
     ensures version { result.version ≡ txn.now.snapshot }
+    ensures hash { result.hash ≡ hash }
 {
     RangeQuery {
         range: txn.reads.get(read),

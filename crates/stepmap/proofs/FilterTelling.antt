@@ -9,12 +9,13 @@ use Rattle.keys.proofs.callers.KeyOrder.{not_both, before_or_at_most}
 use Rattle.stepmap.specs.Boundary.{value_at}
 use Rattle.stepmap.specs.StepMap.{Steps}
 use Rattle.stepmap.specs.Covers.{SameFrom, IsAbove}
-use Rattle.stepmap.specs.Filtering.{FilterTells, IsSingle}
+use Rattle.keys.specs.Range.{IsSingle}
+use Rattle.stepmap.specs.Filtering.{FilterTells}
 use Rattle.stepmap.proofs.SingleKeys.{single_holds}
 
 -- the function isn't above a number at a single key whose bound isn't
 pub not_above : (f : FilterState) (m : Steps) (range : Range) (s : ℤ) → FilterTells f m → m.edge ≤ℤ s
-    → IsSingle range.begin range.end → bound f range.begin ≤ℤ s → ¬ IsAbove m range s
+    → IsSingle range → bound f range.begin ≤ℤ s → ¬ IsAbove m range s
 not_above f m range s tells from single low above =
     let key = above.0 in
     let higher : s <ℤ bound f key = tells key above.1 s from above.3 in

@@ -162,11 +162,13 @@ is_false false e h = absurd (different h)
     different : false ≡ true → ⊥
     different e = cc
 
--- what two functions make of each, one after the other, is so related to it
-pub AllZip-mapped : {X Y Z : Type 0} (R : X → Y → Type 0) (f : Z → Y) (g : X → Z) → ((x : X) → R x (f (g x))) → (xs : List X)
-    → AllZip R xs (map f (map g xs))
-AllZip-mapped R f g each [] = tt
-AllZip-mapped R f g each (x ∷ xs) = (each x, AllZip-mapped R f g each xs)
+-- what a function makes of each is so related to its partner
+pub AllZip-mapped : {X Y Z : Type 0} (R : X → Y → Type 0) (S : X → Z → Type 0) (f : Y → Z)
+    → ((x : X) (y : Y) → R x y → S x (f y)) → (xs : List X) (ys : List Y) → AllZip R xs ys → AllZip S xs (map f ys)
+AllZip-mapped R S f each [] [] all = tt
+AllZip-mapped R S f each [] (y ∷ ys) all = absurd all
+AllZip-mapped R S f each (x ∷ xs) [] all = absurd all
+AllZip-mapped R S f each (x ∷ xs) (y ∷ ys) all = (each x y all.0, AllZip-mapped R S f each xs ys all.1)
 
 -- equal ones are related to all, if that one is
 pub AllZip-equal : {X Y : Type 0} (R : X → Y → Type 0) (y : Y) → ((x : X) → R x y) → (xs : List X) (ys : List Y)

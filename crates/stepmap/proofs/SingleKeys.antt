@@ -9,7 +9,7 @@ use Rattle.keys.specs.Key.{is_before, IsBefore, IsAtMost}
 use Rattle.keys.specs.Range.{Holds}
 use Rattle.keys.specs.declared.range.Range.{Range}
 use Rattle.keys.proofs.callers.KeyOrder.{not_both, before_at_most_same}
-use Rattle.stepmap.specs.Filtering.{IsSingle}
+use Rattle.keys.specs.Range.{IsSingle}
 
 -- the lesser first byte comes first
 before_by_first : (x y : ℕ) (a b : List ℕ) → x < y → IsBefore (x ∷ a) (y ∷ b)
@@ -58,7 +58,7 @@ squeezed (x ∷ a) (y ∷ key) at_most before =
       ]
     ]
 
-pub single_holds : (range : Range) (key : List ℕ) → IsSingle range.begin range.end → Holds range key
+pub single_holds : (range : Range) (key : List ℕ) → IsSingle range → Holds range key
     → key ≡ range.begin
 single_holds range key single holds =
     squeezed range.begin key holds.0 (subst (λ end. IsBefore key end) single holds.1)

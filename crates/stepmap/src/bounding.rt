@@ -27,6 +27,7 @@ pub fn cells_from<L: QueryList>(
     ensures cells { AllZip (λ q cell. IsSingle q.0 → cell ≡ cell_of (length filter.now.versions) q.0.begin)
         (take (to - from) (drop from (L.queries queries.now))) result.items }
     ensures inside { All (λ cell. cell < length filter.now.versions) result.items }
+    ensures count { length result.items ≡ to - from }
 {
     let mut cells = ArrayVec::new();
     for index in from..to {

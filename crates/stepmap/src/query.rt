@@ -12,7 +12,6 @@ pub struct RangeQuery<'a> {
     pub version: i64,
     /// What [`RangeRef::single_hash`] returns for the range.
     pub hash: Option<u32>,
-    ghost hashed: { IsHashOf range hash },
 }
 
 /// Queries that are lent by their index, wherever their keys lie.
@@ -27,7 +26,8 @@ pub trait QueryList {
     /// Returns the query at the index, without copying its keys.
     fn query(&self, index: usize) -> RangeQuery<'_>
         requires within { index < length (queries self.now) }
-        ensures query { slice_get (queries self.now) index ≡ Some (result.range, result.version) };
+        ensures query { slice_get (queries self.now) index ≡ Some (result.range, result.version) }
+        ensures hash { IsHashOf result.range result.hash };
 }
 
 // One query alone.

@@ -2,6 +2,7 @@
 
 ghost use Rattle.std.specs.Prelude.{◌≡◌, ◌+◌, ◌<◌, ◌≤◌, ◌↔◌, Bool, List, ◌++◌, length, take, drop, IfOk, OnOk, IsTrue};
 ghost use Rattle.std.specs.List.{AllZip};
+ghost use Rattle.keys.specs.Hash.{IsHashOf};
 ghost use Rattle.keys.specs.Range.{IsEmpty};
 ghost use Rattle.stepmap.specs.Covers.{IsAbove};
 ghost use Rattle.stepmap.specs.Filtering.{AreMarked, IsBound};
@@ -110,6 +111,7 @@ impl StepMap {
     // Returns whether the query is to be looked up: its range isn't empty, and this bound of it leaves it open. The bound tells
     // only of single keys, and only from the edge on.
     fn is_open(&self, query: &RangeQuery<'_>, bound: i64) -> bool
+        requires hash { IsHashOf query.now.range query.now.hash }
         requires bound { IsBound self.now query.now.range bound }
         ensures filled { IsTrue result → ¬ IsEmpty query.now.range }
         ensures others { ¬ IsTrue result → ¬ IsAbove self.now query.now.range query.now.version }

@@ -1,10 +1,19 @@
-use Rattle.std.proofs.Common.{◌≡◌, ◌+◌, ◌-◌, ◌<◌, ℕ, ℤ, All, [], ◌∷◌, ◌++◌, length, map, take, drop, slice_get, Some, ap, sym, subst, ◌∙◌, arith}
-use Rattle.std.proofs.lemmas.List.{map-append}
+use Rattle.std.proofs.Common.{◌≡◌, ◌+◌, ◌-◌, ◌<◌, ℕ, ℤ, All, [], ◌∷◌, ◌++◌, length, take, drop, slice_get, Some, ap, sym, subst, ◌∙◌, arith, length-append}
+use Rattle.std.specs.List.{AllZip}
+use Rattle.std.specs.Prelude.{Option, None, unwrap_or}
 use Rattle.std.proofs.lemmas.List.Elements.{All-append, All-cons, All-nil}
-use Rattle.filter.specs.Filter.{cell_of}
+use Rattle.std.proofs.lemmas.Slice.Zip.{all_zipped_more}
+use Rattle.filter.specs.Filter.{cell_at, cell_of}
+use Rattle.keys.specs.Hash.{hash_of, IsHashOf}
+use Rattle.keys.specs.Range.{IsSingle}
 use Rattle.keys.specs.declared.range.Range.{Range}
 use Rattle.keys.proofs.callers.Lists.{part_more}
 use Rattle.stepmap.proofs.bounding.cells_from.Goals as goal
+
+-- the hash of a single key is there
+found : (range : Range) (hash : Option ℕ) → IsHashOf range hash → IsSingle range → unwrap_or hash 0 ≡ hash_of range.begin
+found range None none single = absurd (none single)
+found range (Some hash) is single = is.1
 
 pub loop-index-preserved : goal.loop-index-preserved
 loop-index-preserved g c =
@@ -12,21 +21,30 @@ loop-index-preserved g c =
     let from = c.args.from in
     let index = c.loop-index.index in
     let n = index - from in
-    let q : Range × ℤ = (c.query-query.result.range, c.query-query.result.version) in
-    let cell = λ (q : Range × ℤ). cell_of (length c.args.filter.now.versions) q.0.begin in
+    let range = c.query.result.range in
+    let q : Range × ℤ = (range, c.query.result.version) in
+    let count = length c.args.filter.now.versions in
+    let IsCell = λ (q : Range × ℤ) (cell : ℕ). IsSingle q.0 → cell ≡ cell_of count q.0.begin in
     let place : from + n ≡ index = omega (arith, c.loop-index.invariant.from) in
-    let is : slice_get queries (from + n) ≡ Some q = ap (slice_get queries) place ∙ c.query-query.ensures.query in
+    let is : slice_get queries (from + n) ≡ Some q = ap (slice_get queries) place ∙ c.query.ensures.query in
     let more : (index + 1) - from ≡ n + 1 = omega (arith, c.loop-index.invariant.from) in
-    let next = ap (map cell) (ap (λ k. take k (drop from queries)) more ∙ part_more queries from n q is)
-    ∙ map-append cell (take n (drop from queries)) (q ∷ []) in
-    let found : c.cell.result ≡ cell q = c.cell.ensures.cell ∙ ap (cell_of (length c.args.filter.now.versions)) c.begin.ensures.bytes in
-    let old = c.loop-index.invariant.cells in
-    let Inside = λ (cell : ℕ). cell < length c.args.filter.now.versions in
+    let next = ap (λ k. take k (drop from queries)) more ∙ part_more queries from n q is in
+    let cell : IsCell q c.cell.result =
+    λ single. c.cell.ensures.cell ∙ ap (cell_at count) (c.unwrap_or.ensures ∙ found range c.query.result.hash c.query.ensures.hash single) in
+    let Inside = λ (cell : ℕ). cell < count in
     record {
-      cells = c.push.ensures.items ∙ ap (λ cells. cells ++ c.cell.result ∷ []) old
-          ∙ ap (λ x. map cell (take n (drop from queries)) ++ x ∷ []) found ∙ sym next;
+      cells = subst (λ cells. AllZip IsCell (take ((index + 1) - from) (drop from queries)) cells) (sym c.push.ensures.items)
+          (subst (λ part. AllZip IsCell part (c.loop-index.cells.items ++ c.cell.result ∷ [])) (sym next)
+          (all_zipped_more IsCell (take n (drop from queries)) c.loop-index.cells.items q c.cell.result c.loop-index.invariant.cells cell));
       inside = subst (All Inside) (sym c.push.ensures.items)
           (All-append Inside c.loop-index.cells.items (c.cell.result ∷ []) c.loop-index.invariant.inside
           (All-cons Inside c.cell.result [] c.cell.ensures.within (All-nil Inside)));
+      count = omega (
+        arith,
+        ap length c.push.ensures.items,
+        length-append c.loop-index.cells.items (c.cell.result ∷ []),
+        c.loop-index.invariant.count,
+        c.loop-index.invariant.from,
+      );
       from = omega (arith, c.loop-index.invariant.from);
     }

@@ -1,10 +1,13 @@
-use Rattle.std.proofs.Common.{◌≡◌, ◌≤◌, ◌+◌, ◌-◌, ℤ, length, map, take, drop, length-drop, ap, sym, subst, ◌∙◌, arith}
+use Rattle.std.proofs.Common.{◌≡◌, ◌≤◌, ◌+◌, ◌-◌, ℕ, ℤ, length, map, take, drop, length-drop, ap, sym, subst, ◌∙◌, arith}
 use Rattle.std.specs.List.{AllZip}
 use Rattle.std.proofs.lemmas.Int.{ints}
+use Rattle.std.specs.Prelude.{◌≤ℤ◌}
 use Rattle.std.proofs.lemmas.List.{length-map, length-take-le}
+use Rattle.std.proofs.lemmas.Slice.Zip.{AllZip-long}
 use mir.Syntax.{w64}
 use mir.Val.{to_z, of_z}
 use Rattle.filter.specs.Filter.{bound, bound_in, cell_of}
+use Rattle.keys.specs.Range.{IsSingle}
 use Rattle.keys.specs.declared.range.Range.{Range}
 use Rattle.stepmap.specs.Filtering.{FilterTells, IsBound}
 use Rattle.stepmap.proofs.FilterTelling.{not_above}
@@ -42,18 +45,21 @@ returns-clause-bounds g c =
     let queries = g.L.QueryList.queries c.args.queries.now in
     let rest = drop c.args.from queries in
     let items = c.bounds_at.result.items in
+    let cells = c.cells_from-cells.result.items in
     let tells = subst (FilterTells f) c.self.view_is c.self.invariant.tells in
-    let cell = λ (q : Range × ℤ). cell_of (length f.versions) q.0.begin in
-    let each : (q : Range × ℤ) → IsBound m q.0 (bound_in f (cell q)) =
-    λ q single s from low. not_above f m q.0 s tells from single low in
+    let IsCell = λ (q : Range × ℤ) (cell : ℕ). IsSingle q.0 → cell ≡ cell_of (length f.versions) q.0.begin in
+    let Bounds = λ (q : Range × ℤ) (bound : ℤ). IsBound m q.0 bound in
+    let each : (q : Range × ℤ) (cell : ℕ) → IsCell q cell → Bounds q (bound_in f cell) =
+    λ q cell is single s from low.
+    not_above f m q.0 s tells from single (subst (λ (cell : ℕ). bound_in f cell ≤ℤ s) (is single) low) in
     let count = c.min-count.result in
     let n = (c.args.from + count) - c.args.from in
-    let is : items ≡ map (bound_in f) (map cell (take n rest)) =
-    c.bounds_at.ensures.bounds ∙ ap (map (bound_in f)) (c.as_slice.ensures.value ∙ c.cells_from-cells.ensures.cells) in
+    let is : items ≡ map (bound_in f) cells = c.bounds_at.ensures.bounds ∙ ap (map (bound_in f)) c.as_slice.ensures.value in
     let few : n ≤ length rest =
     omega (arith, c.min-count.ensures, c.len.ensures.count, length-drop c.args.from queries) in
     let many : length items ≡ n =
-    ap length is ∙ length-map (map cell (take n rest)) (bound_in f) ∙ length-map (take n rest) cell ∙ length-take-le n rest few in
-    subst (λ k. AllZip (λ q bound. IsBound m q.0 bound) (take k rest) items) (sym many)
-    (subst (AllZip (λ q bound. IsBound m q.0 bound) (take n rest)) (sym is)
-    (AllZip-mapped (λ q bound. IsBound m q.0 bound) (bound_in f) cell each (take n rest)))
+    ap length is ∙ length-map cells (bound_in f) ∙ AllZip-long IsCell (take n rest) cells c.cells_from-cells.ensures.cells
+    ∙ length-take-le n rest few in
+    subst (λ k. AllZip Bounds (take k rest) items) (sym many)
+    (subst (AllZip Bounds (take n rest)) (sym is)
+    (AllZip-mapped IsCell Bounds (bound_in f) each (take n rest) cells c.cells_from-cells.ensures.cells))

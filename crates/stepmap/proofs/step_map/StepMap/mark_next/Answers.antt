@@ -26,6 +26,7 @@ is_open-is_open-requires g c =
     let at : slice_get items k ≡ Some bound =
     ap (λ xs. slice_get xs k) (sym c.as_slice-bound-items.ensures.value) ∙ slice_get-get_or slice k (pos 0) c.loop-bound-test.true in
     record {
+      hash = c.query.ensures.hash;
       bound = subst (λ b. IsBound m c.query.result.range b) (sym (to_z-of_z w64 bound fits))
           (AllZip-part R queries c.len.result items c.bounds_from-bounds.ensures.bounds k q bound is at);
     }
