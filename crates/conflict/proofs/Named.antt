@@ -4,7 +4,7 @@ use Rattle.std.specs.Prelude.{Option, Some, None, option_to_list, option_and_the
 use Rattle.std.proofs.lemmas.List.{map-append, map_push, length-map, take_all}
 use Rattle.std.proofs.lemmas.Option.{slice_get-map}
 use Rattle.keys.specs.declared.range.Range.{Range}
-use Rattle.keys.proofs.callers.Lists.{range_more}
+use Rattle.keys.proofs.callers.Lists.{range_more, some_at}
 use Rattle.keyspace.specs.declared.txn.Txn.{Txn}
 use Rattle.conflict.specs.declared.read_name.ReadName.{ReadName}
 use Rattle.conflict.specs.Asking.{asked_at, query_named, queries_named, AreNamed}
@@ -31,12 +31,6 @@ pub named_more : (txns : List Txn) (names before : List ReadName) (queries more 
     → map (query_named txns) names ≡ map Some (queries ++ more)
 named_more txns names before queries more appended is =
     appended ∙ ap (λ os. os ++ map Some more) is ∙ sym (map-append Some queries more)
-
--- there is an element at each index
-pub some_at : {X : Type 0} (xs : List X) (i : ℕ) → i < length xs → (x : X) × (slice_get xs i ≡ Some x)
-some_at [] i inside = absurd (omega (arith, inside))
-some_at (x ∷ xs) zero inside = (x, refl)
-some_at (x ∷ xs) (suc i) inside = some_at xs i (omega (arith, inside))
 
 -- the first of a list, and those from an index on
 pub range_first : {X : Type 0} (xs : List X) (n : ℕ) → slice_range xs 0 n ≡ take n xs

@@ -1,10 +1,13 @@
 use Rattle.std.proofs.Common.{◌≡◌, ◌<◌, ℕ, ℤ, List, ap, sym, subst, ◌∙◌, length, slice_get, slice_index_or, Some, arith}
+use Rattle.std.specs.Prelude.{Option, IsSomeAnd}
 use Rattle.std.proofs.lemmas.Option.{slice_get-get_or, slice_get_within}
 use Rattle.keys.specs.declared.range.Range.{Range}
+use Rattle.keys.specs.Hash.{IsHashOf}
+use Rattle.keys.proofs.callers.Lists.{some_at}
 use Rattle.keyspace.specs.declared.txn.Txn.{Txn}
 use Rattle.conflict.specs.Asking.{queries_named, AreNamed}
 use Rattle.conflict.specs.declared.read_name.ReadName.{ReadName}
-use Rattle.conflict.proofs.Named.{some_at, name_count, named_at, read_found}
+use Rattle.conflict.proofs.Named.{name_count, named_at, read_found}
 use Rattle.conflict.proofs.read_name.AskedReadsQueryList.query.Goals as goal
 
 -- the name at an index
@@ -27,6 +30,20 @@ txn-txn-requires c =
     let a = c.args.self.now in
     let f = found a.txns.now a.names.now a.named c.args.index c.requires.within in
     record { within = slice_get_within a.txns.now (name a.names.now c.args.index).txn f.2.0 f.2.1 }
+
+-- what holds of what is found
+held : {X : Type 0} (P : X → Type 0) (o : Option X) (x : X) → o ≡ Some x → P x → IsSomeAnd o P
+held P o x is h = subst (λ o. IsSomeAnd o P) (sym is) h
+
+pub read_hash-hash-requires : goal.read_hash-hash-requires
+read_hash-hash-requires c =
+    let a = c.args.self.now in
+    let f = found a.txns.now a.names.now a.named c.args.index c.requires.within in
+    let at = name a.names.now c.args.index in
+    record {
+      within = held (λ (t : Txn). at.read < length t.reads) (slice_get a.txns.now at.txn) f.2.0 f.2.1
+          (slice_get_within f.2.0.reads at.read f.0.0 f.2.2);
+    }
 
 pub query_of-requires : goal.query_of-requires
 query_of-requires c =
@@ -52,4 +69,6 @@ returns c =
     record {
       query = f.1 ∙ ap (λ (r : Range). Some (r, f.0.1)) (sym range)
           ∙ ap (λ (s : ℤ). Some (c.query_of.result.range, s)) (sym snapshot);
+      hash = subst (IsHashOf c.query_of.result.range) (sym c.query_of.ensures.hash)
+          (subst (λ r. IsHashOf r c.read_hash-hash.result) (sym range) (c.read_hash-hash.ensures.hash f.2.0 f.0.0 f.2.1 f.2.2));
     }
