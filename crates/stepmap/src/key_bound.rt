@@ -57,6 +57,20 @@ impl<'a> Bound for KeyBound<'a> {
         common_prefix_len(bytes_of(self.keys, slot), self.key)
     }
 
+    // The empty key is most often asked for: that of the first boundary.
+    fn prefix_len_below(&self, slot: Slot) -> Option<usize> {
+        if !self.keys.is_live(slot) {
+            return None;
+        }
+        if self.keys.key(slot).is_empty() && !self.key.is_empty() {
+            return Some(0);
+        }
+        if !self.is_below(slot) {
+            return None;
+        }
+        Some(self.common_prefix_len_with(slot))
+    }
+
     ghost order = { λ c slot text is. is_below_in_order c.keys.now c.up_to c.key.now slot text is };
 }
 

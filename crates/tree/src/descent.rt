@@ -33,11 +33,7 @@ pub fn common_prefix_len_at<P: Bound, const N: usize>(
     requires some { 1 ≤ length (entries_at nodes.now slot) }
     ensures known { IsPrefixLenAt (P.bytes bound.now) (P.below bound.now) (P.target bound.now) result (entries_at nodes.now slot) 0 }
 {
-    let first = nodes.header_ref(slot).entries()[0].key;
-    if !bound.is_below(first) {
-        return None;
-    }
-    Some(bound.common_prefix_len_with(first))
+    bound.prefix_len_below(nodes.header_ref(slot).entries()[0].key)
 }
 
 /// Finds the leaf that has the last item below the bound, or else the first leaf. `common_prefix_len` is how many bytes the first
