@@ -3,7 +3,7 @@
 ghost use Rattle.std.specs.Prelude.{◌≡◌, ◌-◌, ◌≤◌, ◌<◌, ◌++◌, ◌∷◌, [], take, drop, length, map, IsSomeAnd, MatchOption};
 ghost use Rattle.tree.specs.Item.{item_of, version_of};
 ghost use Rattle.tree.specs.Heads.{AreHeads, KeyBytes};
-ghost use Rattle.tree.specs.Node.{entries_of, key_heads_of, items_of_run};
+ghost use Rattle.tree.specs.Node.{entries_of, key_heads_of};
 ghost use Rattle.tree.specs.Path.{first_key};
 ghost use Rattle.tree.specs.Expire.{GivesUnexpired};
 ghost use Rattle.tree.specs.Tree.{IsLast, unexpired, expired};
@@ -14,6 +14,7 @@ use crate::node::Node;
 use crate::search::key_at;
 use crate::walk::{LeafChange, Outcome, Place};
 use arena::{Arena, Slot};
+use arrayvec::ArrayVec;
 
 /// How the removal of expired items ended.
 #[derive(Clone, Copy, Debug)]
@@ -59,7 +60,7 @@ impl<'a, P: Bound, const N: usize> LeafChange<N> for Expiring<'a, P> {
         nodes: &mut Arena<Node<N>>,
         slot: Slot,
         place: Place,
-        taken: &mut Option<Node<N>>,
+        taken: &mut ArrayVec<Entry, N>,
     ) -> Outcome {
         let mut leaf = nodes.header(slot);
         let below = leaf.lower_bound(self.bound, place.common_prefix_len);
@@ -70,7 +71,7 @@ impl<'a, P: Bound, const N: usize> LeafChange<N> for Expiring<'a, P> {
         let end = begin + self.count.min(leaf.len() - begin);
         let Expiring { edge, before, .. } = *self;
         self.removal = remove_expired(&mut leaf, begin, end, edge, before, place.behind, taken);
-        if taken.is_none() {
+        if taken.is_empty() {
             return Outcome::Same;
         }
         leaf.lengthen_prefix(self.bound);
@@ -91,9 +92,9 @@ fn remove_expired<const N: usize>(
     edge: i64,
     before: i64,
     behind: Option<Slot>,
-    taken: &mut Option<Node<N>>,
+    taken: &mut ArrayVec<Entry, N>,
 ) -> Removal
-    requires none_taken { taken.old ≡ None }
+    requires none_taken { taken.old.items ≡ [] }
     requires some { from < to }
     requires within { to ≤ length (entries_of node.old) }
     ensures looked_at { result.looked_at ≡ to - from }
@@ -101,7 +102,7 @@ fn remove_expired<const N: usize>(
     ensures kept { map item_of (entries_of node.new) ≡ map item_of (take from (entries_of node.old))
         ++ (unexpired edge before (map item_of (take (to - from) (drop from (entries_of node.old))))
         ++ map item_of (drop to (entries_of node.old))) }
-    ensures taken { items_of_run taken.new ≡ expired edge before (map item_of (take (to - from) (drop from (entries_of node.old)))) }
+    ensures taken { map item_of taken.new.items ≡ expired edge before (map item_of (take (to - from) (drop from (entries_of node.old)))) }
     ensures next { result.next ≡ first_key behind (map item_of (drop to (entries_of node.old))) }
     ensures headed { (bytes : KeyBytes) → AreHeads bytes (key_heads_of node.old) → AreHeads bytes (key_heads_of node.new) }
 {
@@ -114,7 +115,7 @@ fn remove_expired<const N: usize>(
             node.copy(index, kept);
             kept += 1;
         } else {
-            put_aside(taken, entry);
+            taken.push(entry);
         }
         last = version;
     }
@@ -124,19 +125,5 @@ fn remove_expired<const N: usize>(
         looked_at: to - from,
         last,
         next,
-    }
-}
-
-// Puts an entry behind those of a node, or into a new one where there is none.
-fn put_aside<const N: usize>(node: &mut Option<Node<N>>, entry: Entry)
-    requires room { MatchOption node.old (1 ≤ N) (λ n. length (entries_of n) < N) }
-    ensures items { items_of_run node.new ≡ items_of_run node.old ++ item_of entry ∷ [] }
-{
-    match node {
-        Some(node) => {
-            let len = node.len();
-            node.insert(len, entry);
-        }
-        None => *node = Some(Node::of(entry)),
     }
 }

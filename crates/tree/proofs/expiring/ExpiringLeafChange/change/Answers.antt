@@ -1,11 +1,11 @@
-use Rattle.std.proofs.Common.{rules, Option, Some, false, not, is_some, ℕ, ℤ, ◌≡◌, ◌≢◌, ◌≤◌, ◌<◌, ◌+◌, ◌-◌, ◌∙◌, ◌++◌, ap, sym, subst, refl, List, [], None, length, take, drop, map, arith, to_z, of_z, w64}
+use Rattle.std.proofs.Common.{rules, true, ◌==◌, ◌∷◌, ℕ, ℤ, ◌≡◌, ◌≢◌, ◌≤◌, ◌<◌, ◌+◌, ◌-◌, ◌∙◌, ◌++◌, ap, sym, subst, refl, List, [], length, take, drop, map, arith, to_z, of_z, w64}
+use Rattle.std.proofs.lemmas.Bool.{eqb-true}
 use Rattle.std.proofs.lemmas.Int.{to_z-of_z}
 use Rattle.tree.specs.declared.entry.Entry.{Entry}
-use Rattle.tree.specs.declared.node.Node.{Node}
 use Rattle.tree.specs.declared.walk.Outcome.TheVariants.{Changed}
 use Rattle.tree.specs.Heads.{IsPrefixLenAt}
 use Rattle.tree.specs.Item.{Item, item_of}
-use Rattle.tree.specs.Node.{entries_of, items_of_run}
+use Rattle.tree.specs.Node.{entries_of}
 use Rattle.tree.specs.Path.{IsPartitioned, items_below}
 use Rattle.tree.specs.Subtree.{entries_at}
 use Rattle.tree.specs.Expire.{RemovesExpired}
@@ -64,14 +64,21 @@ returns-then-below-eq0-clause-items g c =
     let es = entries_of c.header-leaf.result in
     let none : items_below p (map item_of es) ≡ [] =
     (items_parted p es 0 (partitioned_is g h) (omega (arith, c.lower_bound-below.ensures.count.count_is, c.if-below-eq0.true))).0 in (
-      λ _. (refl, ap items_of_run c.requires.none_taken),
+      λ _. (refl, ap (λ (l : List Entry). map item_of l) c.requires.none_taken),
       λ some. absurd (some (ap (λ es. items_below p (map item_of es)) (entries_are g h) ∙ none)),
     )
 
--- Where there is no node of those that went, none went.
-no_run : {N : ℕ} (run : Option (Node N)) → is_some run ≡ false → items_of_run run ≡ []
-no_run None none = refl
-no_run (Some n) none = absurd (cc)
+-- Where no entry went, no item did.
+no_run : (entries : List Entry) → (length entries == 0) ≡ true → map item_of entries ≡ []
+no_run [] none = refl
+no_run (e ∷ entries) none = absurd (omega (arith, eqb-true (length (e ∷ entries)) 0 none))
+
+pub lengthen_prefix-requires : goal.lengthen_prefix-requires
+lengthen_prefix-requires g c =
+    let bytes = g.P.Bound.bytes c.args.self.now.bound.now in
+    let was = headed_at bytes c.args.nodes.now c.args.slot c.header-leaf.result c.requires.searched.headed
+    c.header-leaf.ensures.header in
+    (search rules, c.remove_expired-self.ensures.headed bytes was)
 
 -- where the run stands that is looked at
 module _ (g : given.Over) (c : After-remove_expired-self g) where
@@ -110,30 +117,30 @@ module _ (g : given.Over) (c : After-remove_expired-self g) where
       → entries_at c.args.nodes.now c.args.slot ≡ es → (now : List Item)
       → now ≡ map item_of (take begin es) ++ (unexpired edge before looked ++ map item_of (drop end es))
       → RemovesExpired (g.P.Bound.below c.args.self.now.bound.now) c.args.self.now.count c.args.self.now.edge
-      c.args.self.now.before c.remove_expired-self.result (items_of_run c.remove_expired-self.new.taken) c.args.place.behind
+      c.args.self.now.before c.remove_expired-self.result (map item_of c.remove_expired-self.new.taken.items) c.args.place.behind
       (map item_of (entries_at c.args.nodes.now c.args.slot)) now
   unexpired_items partitioned read now now_is =
       let t = c.args.self.now in
       let p = g.P.Bound.below t.bound.now in
       let told = c.remove_expired-self.ensures in
       let Removal : ℤ → ℤ → List Entry → Type 0 = λ edge before es.
-      RemovesExpired p t.count edge before c.remove_expired-self.result (items_of_run c.remove_expired-self.new.taken) c.args.place.behind
+      RemovesExpired p t.count edge before c.remove_expired-self.result (map item_of c.remove_expired-self.new.taken.items) c.args.place.behind
       (map item_of es) now in
       subst (Removal t.edge t.before) (sym read)
       (subst (λ b. Removal t.edge b es) before_is
       (subst (λ e. Removal e before es) edge_is
       (leaf_unexpired es begin end some_looked within p partitioned
       (omega (arith, c.lower_bound-below.ensures.count.count_is, c.if-below-eq0.false)) t.count edge before c.remove_expired-self.result
-      (items_of_run c.remove_expired-self.new.taken) c.args.place.behind now (omega (arith, c.min.ensures)) told.looked_at told.last
+      (map item_of c.remove_expired-self.new.taken.items) c.args.place.behind now (omega (arith, c.min.ensures)) told.looked_at told.last
       now_is told.taken told.next)))
 
 -- Where none goes, all stay.
-pub returns-then-is_none-clause-items : goal.returns-then-is_none-clause-items
-returns-then-is_none-clause-items g c =
-    let at = goal.at.returns-then-is_none-clause-items g c in
+pub returns-then-is_empty-clause-items : goal.returns-then-is_empty-clause-items
+returns-then-is_empty-clause-items g c =
+    let at = goal.at.returns-then-is_empty-clause-items g c in
     let t = at.After-remove_expired-self in
     let h = at.After-header-leaf in
-    let out = no_run c.remove_expired-self.new.taken (c.is_none.ensures ∙ ap not c.if-is_none.true) in
+    let out = no_run c.remove_expired-self.new.taken.items (sym c.is_empty.ensures ∙ c.if-is_empty.true) in
     let expired_is : expired (edge g t) (before g t) (looked g t) ≡ [] = sym c.remove_expired-self.ensures.taken ∙ out in
     let same = ap (map item_of) (entries_are g h)
     ∙ untouched (es g t) (begin g t) (end g t) (some_looked g t) (within g t) (edge g t) (before g t) expired_is in
