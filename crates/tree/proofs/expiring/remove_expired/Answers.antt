@@ -9,7 +9,7 @@ use Rattle.tree.specs.declared.node.Node.{Node}
 use Rattle.tree.specs.Heads.{AreHeads}
 use Rattle.tree.specs.Node.{entries_of, key_heads_of}
 use Rattle.tree.specs.Tree.{unexpired, expired}
-use Rattle.tree.proofs.Removing.{RemovesExpired, run, one_stays, one_goes, not_below, is_below, one_not_below, last_seen, all_kept, all_expired}
+use Rattle.tree.proofs.Removing.{RemovesExpired, run, one_stays, one_goes, not_below, is_below, one_not_below, all_kept, all_expired}
 use Rattle.tree.proofs.expiring.remove_expired.Goals as goal
 use Rattle.tree.proofs.expiring.remove_expired.Goals.{then-last-edge, else-last-edge, then-version-edge, else-version-edge}
 
@@ -34,7 +34,6 @@ loop-index-init g c =
         counted = omega arith;
         same_length = refl;
         ahead = refl;
-        last_is = refl;
         stayed = refl;
         went = refl;
       });
@@ -102,11 +101,6 @@ loop-index-preserved g c =
                 subst (λ (n : Node g.row.N). AreHeads bytes (key_heads_of n)) (sym w.node-is) (inv.headed bytes h);
           }
     ]
-
-pub returns-clause-last : goal.returns-clause-last
-returns-clause-last g c =
-    let end : c.loop-index.index ≡ c.args.to = omega arith in
-    last_seen _ _ _ _ _ _ _ _ _ _ c.loop-index.invariant.removal end c.requires.within c.requires.some
 
 pub returns-clause-kept : goal.returns-clause-kept
 returns-clause-kept g c =
