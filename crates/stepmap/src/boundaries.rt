@@ -23,7 +23,7 @@ use keys::{Range, RangeRef, common_prefix_len};
 use std::alloc::{AllocError, Global};
 use std::array;
 use std::marker::Model;
-use tree::{Node, Overwrite, SIDE, Tree, Written, item};
+use tree::{Entry, Overwrite, SIDE, Tree, Written, item};
 
 // The boundaries of a step function, in the order of their keys, the empty key first. Contracts see them, and for how
 // many more there is memory.
@@ -33,11 +33,10 @@ pub struct Boundaries<const N: usize> {
     pub wanted: Vec<usize>,
     pub keys: Arena<()>,
     pub tree: Tree<N>,
-    // Where the tree puts what it takes out. It lies here since a node is large: a new one for each write would be cleared each time.
-    pub taken: Option<Node<N>>,
-    ghost none_taken: { taken ≡ None },
-    // A node that is taken out of the tree fits into memory.
-    ghost few: { N ≤ 65536 },
+    // Where the tree puts the entries that it takes out: empty between calls. It lies here since a new one for each write would be
+    // cleared each time.
+    pub taken: ArrayVec<Entry, N>,
+    ghost none_taken: { taken.items ≡ [] },
 }
 
 impl<const N: usize> Model for Boundaries<N> {
@@ -70,7 +69,7 @@ impl<const N: usize> Boundaries<N> {
             wanted: Vec::new(alloc),
             keys,
             tree,
-            taken: None,
+            taken: ArrayVec::new(),
         })
     }
 

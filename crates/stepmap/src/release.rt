@@ -1,29 +1,27 @@
 //! The keys of boundaries that were taken out are released.
 
-ghost use Rattle.std.specs.Prelude.{◌≡◌, ℕ, ◌+◌, ◌≤◌, List, length, map, nat_eq, None};
+ghost use Rattle.std.specs.Prelude.{◌≡◌, ℕ, ◌+◌, ◌≤◌, List, length, map, nat_eq, []};
 ghost use Rattle.std.specs.List.{All, Contains, IsDistinct};
 ghost use Rattle.std.specs.FinMap as finite;
 ghost use Rattle.arena.specs.Arena.{IsLive, record_at, spare_of};
-ghost use Rattle.tree.specs.Node.{items_of_run};
+ghost use Rattle.tree.specs.Item.{item_of};
 
 use arena::Arena;
-use tree::{Entry, Node};
+use arrayvec::ArrayVec;
+use tree::Entry;
 
-// Releases the keys of a leaf's entries that were taken out of a tree, if there are any, and leaves none.
-pub fn release_run<const N: usize>(keys: &mut Arena<()>, taken: &mut Option<Node<N>>)
-    requires few { N ≤ 65536 }
-    requires live { All (λ x. IsLive keys.old x.key) (items_of_run taken.old) }
-    requires distinct { IsDistinct nat_eq (map (λ x. x.key) (items_of_run taken.old)) }
-    ensures none { taken.new ≡ None }
-    ensures others { (slot : ℕ) → ¬ Contains (map (λ x. x.key) (items_of_run taken.old)) slot
+// Releases the keys of entries that were taken out of a tree, and leaves none.
+pub fn release_run<const N: usize>(keys: &mut Arena<()>, taken: &mut ArrayVec<Entry, N>)
+    requires live { All (λ x. IsLive keys.old x.key) (map item_of taken.old.items) }
+    requires distinct { IsDistinct nat_eq (map (λ x. x.key) (map item_of taken.old.items)) }
+    ensures none { taken.new.items ≡ [] }
+    ensures others { (slot : ℕ) → ¬ Contains (map (λ x. x.key) (map item_of taken.old.items)) slot
         → record_at keys.new slot ≡ record_at keys.old slot }
-    ensures counted { finite.len keys.new.records + length (items_of_run taken.old) ≡ finite.len keys.old.records }
+    ensures counted { finite.len keys.new.records + length (map item_of taken.old.items) ≡ finite.len keys.old.records }
     ensures spare { (size : ℕ) → spare_of keys.old size ≤ spare_of keys.new size }
 {
-    if let Some(run) = taken {
-        release(keys, run.entries());
-        *taken = None;
-    }
+    release(keys, taken.as_slice());
+    taken.clear();
 }
 
 // Releases the keys of entries that were taken out of a tree.

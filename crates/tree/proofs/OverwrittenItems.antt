@@ -1,15 +1,11 @@
 -- How many items there are once a run is written over, and what tells whether the run was ended.
 use Rattle.std.proofs.Common.{◌≡◌, ◌≢◌, ℕ, ℤ, ◌+◌, ◌≤◌, inl, inr, Bool, true, false, List}
 use Rattle.std.proofs.Common.{[], ◌∷◌, ◌++◌, Option, Some, None, IsTrue, MatchOption, length, refl, unwrap_or}
-use Rattle.std.proofs.Common.{Bor, ◌∙◌, ap, sym, arith, length-append}
+use Rattle.std.proofs.Common.{ap, arith, length-append}
 use Rattle.std.proofs.lemmas.Bool.{cases_Bool}
-use Rattle.std.proofs.lemmas.List.{length-map}
-use Rattle.std.specs.Prelude.{option_copied}
-use Rattle.tree.specs.declared.node.Node.{Node}
 use Rattle.tree.specs.declared.overwrite.Written.{Written}
 use Rattle.tree.specs.declared.overwrite.Written.TheVariants.{Partly, Whole}
-use Rattle.tree.specs.Item.{Item, item_of}
-use Rattle.tree.specs.Node.{entries_of, items_of_run}
+use Rattle.tree.specs.Item.{Item}
 use Rattle.tree.specs.Overwrite.{Overwrites, first_is_below, put_of}
 use Rattle.tree.specs.Path.{IsPartitioned, items_below, behind, between, first_key}
 use Rattle.tree.specs.Tree.{ended_by}
@@ -30,17 +26,6 @@ length-put false x = refl
 some_left : (xs : List Item) → xs ≢ [] → 1 ≤ length xs
 some_left [] some = absurd (some refl)
 some_left (x ∷ xs) some = omega arith
-
--- how many entries a lent run has, if it is there
-pub length-lent : {N : ℕ} (lent : Option (Bor (Node N))) (run : Option (Node N)) (post : Bor (Node N) → Type 0)
-    (taken : ℕ) → option_copied lent ≡ run → MatchOption lent (taken ≡ 0) post
-    → ((n : Bor (Node N)) → post n → taken ≡ length (entries_of n.now)) → taken ≡ length (items_of_run run)
-length-lent None None post taken is none says = none
-length-lent None (Some r) post taken is none says = absurd (cc)
-length-lent (Some n) None post taken is some says = absurd (cc)
-length-lent (Some n) (Some r) post taken is some says =
-    let there : n.now ≡ r = cc in
-    says n some ∙ ap (λ r. length (entries_of r)) there ∙ sym (length-map (entries_of r) item_of)
 
 module _ (p q r : ℕ → Bool) (nested : (key : ℕ) → p key ≡ true → q key ≡ true) where
   -- Each item is below the first bound, or stands between the two, or fails the second.

@@ -1,17 +1,12 @@
 -- The removal of the expired items of a run, entry by entry.
-use Rattle.std.proofs.Common.{◌≡◌, ℕ, suc, ◌+◌, ◌-◌, ◌<◌, ◌≤◌, ℤ, int_lt, int_le, ◌&&◌, Bool, true, false, List, [], ◌∷◌, ◌++◌, length, get_or, map, take, drop, set, refl, sym, ◌∙◌, ap, subst, arith, inl, inr, length-append, length-drop, drop-cons, append_assoc}
+use Rattle.std.proofs.Common.{◌≡◌, ◌≢◌, ℕ, suc, ◌+◌, ◌-◌, ◌<◌, ◌≤◌, ℤ, int_lt, int_le, ◌&&◌, Bool, true, false, List, [], ◌∷◌, ◌++◌, length, get_or, map, take, drop, set, refl, sym, ◌∙◌, ap, subst, arith, inl, inr, length-append, length-drop, drop-cons, append_assoc}
 use Rattle.std.proofs.lemmas.Int.{ints}
-use Rattle.std.proofs.lemmas.List.{append-nil, map-append, take_more_set, drop-set-lt, length-take-le}
+use Rattle.std.proofs.lemmas.List.{append-nil, get_or-drop, map-append, take_more, take_more_set, drop-set-lt}
 use Rattle.std.proofs.Math.ListN.{length-set}
 use Rattle.std.proofs.lemmas.Bool.{cases_Bool}
 use Rattle.tree.specs.declared.entry.Entry.{Entry}
 use Rattle.tree.specs.Item.{Item, item_of, version_of}
 use Rattle.tree.specs.Tree.{IsLast, unexpired, expired}
-
--- the version of the last of them, or the one before
-abbrev pub last_version : ℤ → List Entry → ℤ
-last_version before [] = before
-last_version before (e ∷ es) = last_version e.version es
 
 -- the entries from an index up to another
 abbrev pub run : List Entry → ℕ → ℕ → List Entry
@@ -37,6 +32,13 @@ expired_or_kept edge before (x ∷ xs) =
       | inr f ↦ rw f (omega arith)
     ]
 
+-- the entries from an index on
+from_index : (es : List Entry) (index : ℕ) (e : Entry) → index < length es → e ≡ get_or es index e
+    → drop index es ≡ e ∷ drop (index + 1) es
+from_index es index e inside is =
+    let one : index + 1 ≡ suc index = omega arith in
+    drop-cons es index e inside ∙ ap (λ x. x ∷ drop (suc index) es) (sym is) ∙ ap (λ n. e ∷ drop n es) (sym one)
+
 -- where none goes, all stay
 pub all_stay : (edge before : ℤ) (xs : List Item) → expired edge before xs ≡ [] → unexpired edge before xs ≡ xs
 all_stay edge before [] none = refl
@@ -48,16 +50,37 @@ all_stay edge before (x ∷ xs) none =
           s.0 ∙ ap (λ l. x ∷ l) (all_stay edge x.version xs (sym s.1 ∙ none))
     ]
 
--- the version of the last of a run is the last of the versions
-last_from : (before : ℤ) (e : Entry) (es : List Entry) → IsLast (last_version before (e ∷ es)) (map version_of (e ∷ es))
-last_from before e [] = ([], refl)
-last_from before e (f ∷ es) =
-    let r = last_from e.version f es in
-    (e.version ∷ r.0, ap (λ l. e.version ∷ l) r.1)
+-- Where the entry at an index stays, those that go are behind it.
+pub one_passed : (edge last : ℤ) (es : List Entry) (index : ℕ) (e : Entry) → index < length es → e ≡ get_or es index e
+    → (int_lt last edge && int_lt e.version edge) ≡ false
+    → expired edge last (map item_of (drop index es)) ≡ expired edge e.version (map item_of (drop (index + 1) es))
+one_passed edge last es index e inside is f =
+    ap (λ l. expired edge last (map item_of l)) (from_index es index e inside is)
+    ∙ (stays edge last (item_of e) (map item_of (drop (index + 1) es)) f).1
 
-last_of : (before : ℤ) (es : List Entry) → 0 < length es → IsLast (last_version before es) (map version_of es)
-last_of before [] some = absurd (omega arith)
-last_of before (e ∷ es) some = last_from before e es
+-- Where the entry at an index goes, one goes.
+pub one_found : (edge last : ℤ) (es : List Entry) (index : ℕ) (e : Entry) → index < length es → e ≡ get_or es index e
+    → (int_lt last edge && int_lt e.version edge) ≡ true → expired edge last (map item_of (drop index es)) ≢ []
+one_found edge last es index e inside is t none =
+    let found : item_of e ∷ expired edge e.version (map item_of (drop (index + 1) es)) ≡ [] =
+    sym (goes edge last (item_of e) (map item_of (drop (index + 1) es)) t).1
+    ∙ ap (λ l. expired edge last (map item_of l)) (sym (from_index es index e inside is)) ∙ none in
+    absurd (cc)
+
+-- the version of the last entry of a run is the last of the versions
+pub last_at : (es : List Entry) (from to : ℕ) (e : Entry) → from < to → to ≤ length es → e ≡ get_or es (to - 1) e
+    → IsLast e.version (map version_of (run es from to))
+last_at es from to e some within is =
+    let n = to - 1 - from in
+    let behind = drop from es in
+    let count : to - from ≡ n + 1 = omega (arith, some) in
+    let inside : n < length behind = omega (arith, some, within, length-drop from es) in
+    let here : get_or behind n e ≡ e =
+    get_or-drop from es n e ∙ ap (λ k. get_or es k e) (omega (arith, some)) ∙ sym is in (
+      map version_of (take n behind),
+      ap (λ k. map version_of (take k behind)) count ∙ ap (map version_of) (take_more behind n e inside)
+          ∙ ap (λ x. map version_of (take n behind ++ x ∷ [])) here ∙ map-append version_of (take n behind) (e ∷ []),
+    )
 
 -- a version that isn't below the edge
 pub not_below : (edge v : ℤ) → int_le edge v ≡ true → int_lt v edge ≡ false
@@ -75,7 +98,6 @@ pub record RemovesExpired (edge before last : ℤ) (es now : List Entry) (out : 
   pub counted : kept + length out ≡ index
   pub same_length : length now ≡ length es
   pub ahead : drop index now ≡ drop index es
-  pub last_is : last_version last (run es index to) ≡ last_version before (run es from to)
   pub stayed : map item_of (take kept now) ++ unexpired edge last (map item_of (run es index to))
       ≡ map item_of (take from es) ++ unexpired edge before (map item_of (run es from to))
   pub went : out ++ expired edge last (map item_of (run es index to)) ≡ expired edge before (map item_of (run es from to))
@@ -117,7 +139,6 @@ module _ (edge before last : ℤ) (es now : List Entry) (out : List Item) (from 
         counted = omega (arith, t.counted);
         same_length = length-set now kept e ∙ t.same_length;
         ahead = drop-set-lt (index + 1) now kept e (omega (arith, t.counted)) ∙ n.1;
-        last_is = ap (last_version last) (sym n.0) ∙ t.last_is;
         stayed = ap (λ l. l ++ unexpired edge e.version (map item_of rest)) taken
             ∙ append_assoc front (item_of e ∷ []) (unexpired edge e.version (map item_of rest))
             ∙ ap (λ l. front ++ l) (sym s.0) ∙ ap (λ l. front ++ unexpired edge last (map item_of l)) (sym n.0) ∙ t.stayed;
@@ -137,7 +158,6 @@ module _ (edge before last : ℤ) (es now : List Entry) (out : List Item) (from 
         counted = omega (arith, t.counted, length-append out (item_of e ∷ []));
         same_length = t.same_length;
         ahead = n.1;
-        last_is = ap (last_version last) (sym n.0) ∙ t.last_is;
         stayed = ap (λ l. front ++ l) (sym s.0) ∙ ap (λ l. front ++ unexpired edge last (map item_of l)) (sym n.0) ∙ t.stayed;
         went = append_assoc out (item_of e ∷ []) more ∙ ap (λ l. out ++ l) (sym s.1)
             ∙ ap (λ l. out ++ expired edge last (map item_of l)) (sym n.0) ∙ t.went;
@@ -149,12 +169,6 @@ module _ (edge before last : ℤ) (es now : List Entry) (out : List Item) (from 
   none_ahead = let none : to - index ≡ 0 = omega arith in ap (λ n. take n (drop index es)) none
 
   -- at the end of the run
-  pub last_seen : from < to → IsLast last (map version_of (run es from to))
-  last_seen some =
-      let many : 0 < length (run es from to) = omega (arith, length-take-le (to - from) (drop from es) (omega (arith, length-drop from es))) in
-      let is : last ≡ last_version before (run es from to) = ap (last_version last) (sym none_ahead) ∙ t.last_is in
-      subst (λ v. IsLast v (map version_of (run es from to))) (sym is) (last_of before (run es from to) many)
-
   pub all_kept : (after : List Entry) → after ≡ take kept now ++ drop to now
       → map item_of after ≡ map item_of (take from es) ++ (unexpired edge before (map item_of (run es from to)) ++ map item_of (drop to es))
   all_kept after is =

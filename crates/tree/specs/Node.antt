@@ -1,20 +1,14 @@
 -- What a contract sees of a node. This project's own.
-use Rattle.std.specs.Prelude.{ℕ, List, [], map, take, Option, None, Some, option_map}
+use Rattle.std.specs.Prelude.{ℕ, List, map, take, Option, option_map}
 use Rattle.std.specs.FinMap as finite
 use Rattle.arena.specs.Arena.{Arena, header_at}
 use Rattle.tree.specs.declared.entry.Entry.{Entry}
 use Rattle.tree.specs.declared.node.Node.{Node}
 use Rattle.tree.specs.Heads.{KeyHeads}
-use Rattle.tree.specs.Item.{Item, item_of}
 
 -- its entries
 abbrev pub entries_of : {N : ℕ} → Node N → List Entry
 entries_of node = take node.len node.entries
-
--- the items of a leaf that entries were taken out to, none where it is missing
-abbrev pub items_of_run : {N : ℕ} → Option (Node N) → List Item
-items_of_run None = []
-items_of_run (Some run) = map item_of (entries_of run)
 
 -- the keys of entries
 abbrev pub keys_of : List Entry → List ℕ

@@ -3,7 +3,7 @@
 use arena::Slot;
 
 /// What a node knows of an item, or of the subtree of a child.
-#[derive(Clone, Copy, Debug, PartialEq, Eq)]
+#[derive(Clone, Copy, Debug, Default, PartialEq, Eq)]
 pub struct Entry {
     /// The key of the item, or of the first item of the subtree.
     pub key: Slot,

@@ -1,9 +1,9 @@
 //! The removal of expired items: those that tell nothing any more.
 
-ghost use Rattle.std.specs.Prelude.{◌≡◌, ◌-◌, ◌≤◌, ◌<◌, ◌++◌, ◌∷◌, [], take, drop, length, map, IsSomeAnd, MatchOption};
+ghost use Rattle.std.specs.Prelude.{◌≡◌, ◌≢◌, ◌-◌, ◌≤◌, ◌<◌, ◌++◌, ◌↔◌, [], take, drop, length, map, IsTrue};
 ghost use Rattle.tree.specs.Item.{item_of, version_of};
 ghost use Rattle.tree.specs.Heads.{AreHeads, KeyBytes};
-ghost use Rattle.tree.specs.Node.{entries_of, key_heads_of, items_of_run};
+ghost use Rattle.tree.specs.Node.{entries_of, key_heads_of};
 ghost use Rattle.tree.specs.Path.{first_key};
 ghost use Rattle.tree.specs.Expire.{GivesUnexpired};
 ghost use Rattle.tree.specs.Tree.{IsLast, unexpired, expired};
@@ -14,6 +14,7 @@ use crate::node::Node;
 use crate::search::key_at;
 use crate::walk::{LeafChange, Outcome, Place};
 use arena::{Arena, Slot};
+use arrayvec::ArrayVec;
 
 /// How the removal of expired items ended.
 #[derive(Clone, Copy, Debug)]
@@ -59,9 +60,9 @@ impl<'a, P: Bound, const N: usize> LeafChange<N> for Expiring<'a, P> {
         nodes: &mut Arena<Node<N>>,
         slot: Slot,
         place: Place,
-        taken: &mut Option<Node<N>>,
+        taken: &mut ArrayVec<Entry, N>,
     ) -> Outcome {
-        let mut leaf = nodes.header(slot);
+        let leaf = nodes.header_ref(slot);
         let below = leaf.lower_bound(self.bound, place.common_prefix_len);
         if below == 0 {
             return Outcome::Same;
@@ -69,40 +70,67 @@ impl<'a, P: Bound, const N: usize> LeafChange<N> for Expiring<'a, P> {
         let begin = below - 1;
         let end = begin + self.count.min(leaf.len() - begin);
         let Expiring { edge, before, .. } = *self;
-        self.removal = remove_expired(&mut leaf, begin, end, edge, before, place.behind, taken);
-        if taken.is_none() {
+        self.removal = look_at(leaf.entries(), begin, end, place.behind);
+        if !has_expired(&leaf.entries()[begin..end], edge, before) {
             return Outcome::Same;
         }
+        let leaf = nodes.header_mut(slot);
+        remove_expired(leaf, begin, end, edge, before, taken);
         leaf.lengthen_prefix(self.bound);
-        nodes.set_header(slot, leaf);
         Outcome::Changed
     }
 
     ghost part = { λ t before items behind wanted. wanted };
 }
 
-/// Looks at the entries of a leaf from one index up to another, and takes out each whose version and predecessor's
-/// version are below `edge`, into `taken`. `before` is the version of the entry before the first of them, and `behind` the key
-/// of the item behind the leaf.
+// Looks at the entries of a leaf from one index up to another, and returns what a removal tells of them. `behind` is the key of the
+// item behind the leaf.
+fn look_at(entries: &[Entry], from: usize, to: usize, behind: Option<Slot>) -> Removal
+    requires some { from < to }
+    requires within { to ≤ length entries.now }
+    ensures looked_at { result.looked_at ≡ to - from }
+    ensures last { IsLast result.last (map version_of (take (to - from) (drop from entries.now))) }
+    ensures next { result.next ≡ first_key behind (map item_of (drop to entries.now)) }
+{
+    Removal {
+        looked_at: to - from,
+        last: entries[to - 1].version,
+        next: key_at(entries, to, behind),
+    }
+}
+
+// Returns whether the version of one of these entries and that of its predecessor are below `edge`. `before` is the version of
+// the entry before the first of them.
+fn has_expired(entries: &[Entry], edge: i64, before: i64) -> bool
+    ensures expired { IsTrue result ↔ (expired edge before (map item_of entries.now) ≢ []) }
+{
+    let mut last = before;
+    for entry in entries {
+        if last < edge && entry.version < edge {
+            return true;
+        }
+        last = entry.version;
+    }
+    false
+}
+
+// Takes out those of the entries of a leaf from one index up to another whose version and predecessor's version are below `edge`,
+// into `taken`. `before` is the version of the entry before the first of them.
 fn remove_expired<const N: usize>(
     node: &mut Node<N>,
     from: usize,
     to: usize,
     edge: i64,
     before: i64,
-    behind: Option<Slot>,
-    taken: &mut Option<Node<N>>,
-) -> Removal
-    requires none_taken { taken.old ≡ None }
+    taken: &mut ArrayVec<Entry, N>,
+)
+    requires none_taken { taken.old.items ≡ [] }
     requires some { from < to }
     requires within { to ≤ length (entries_of node.old) }
-    ensures looked_at { result.looked_at ≡ to - from }
-    ensures last { IsLast result.last (map version_of (take (to - from) (drop from (entries_of node.old)))) }
     ensures kept { map item_of (entries_of node.new) ≡ map item_of (take from (entries_of node.old))
         ++ (unexpired edge before (map item_of (take (to - from) (drop from (entries_of node.old))))
         ++ map item_of (drop to (entries_of node.old))) }
-    ensures taken { items_of_run taken.new ≡ expired edge before (map item_of (take (to - from) (drop from (entries_of node.old)))) }
-    ensures next { result.next ≡ first_key behind (map item_of (drop to (entries_of node.old))) }
+    ensures taken { map item_of taken.new.items ≡ expired edge before (map item_of (take (to - from) (drop from (entries_of node.old)))) }
     ensures headed { (bytes : KeyBytes) → AreHeads bytes (key_heads_of node.old) → AreHeads bytes (key_heads_of node.new) }
 {
     let mut last = before;
@@ -114,29 +142,9 @@ fn remove_expired<const N: usize>(
             node.copy(index, kept);
             kept += 1;
         } else {
-            put_aside(taken, entry);
+            taken.push(entry);
         }
         last = version;
     }
-    let next = key_at(node.entries(), to, behind);
     node.remove(kept, to);
-    Removal {
-        looked_at: to - from,
-        last,
-        next,
-    }
-}
-
-// Puts an entry behind those of a node, or into a new one where there is none.
-fn put_aside<const N: usize>(node: &mut Option<Node<N>>, entry: Entry)
-    requires room { MatchOption node.old (1 ≤ N) (λ n. length (entries_of n) < N) }
-    ensures items { items_of_run node.new ≡ items_of_run node.old ++ item_of entry ∷ [] }
-{
-    match node {
-        Some(node) => {
-            let len = node.len();
-            node.insert(len, entry);
-        }
-        None => *node = Some(Node::of(entry)),
-    }
 }

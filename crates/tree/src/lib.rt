@@ -25,7 +25,6 @@ mod way;
 pub use bound::Bound;
 pub use entry::Entry;
 pub use expiring::Removal;
-pub use node::Node;
 pub use overwrite::{Overwrite, Written};
 pub use question::{Question, SIDE};
 pub use tree::{Tree, item};

@@ -176,18 +176,6 @@ impl<const N: usize> Node<N> {
         right
     }
 
-    /// Returns a node of the entries from one index up to another.
-    pub fn run(&self, from: usize, to: usize) -> Node<N>
-        requires ordered { from ≤ to }
-        requires within { to ≤ length (entries_of self.now) }
-        ensures entries { entries_of result ≡ drop from (take to (entries_of self.now)) }
-    {
-        let mut run = *self;
-        run.remove(to, self.len());
-        run.remove(0, from);
-        run
-    }
-
     /// Inserts an entry at an index. A full node is split: the entries of its second half are returned.
     pub fn insert_or_split(&mut self, index: usize, entry: Entry) -> Option<Node<N>>
         requires within { index ≤ length (entries_of self.old) }

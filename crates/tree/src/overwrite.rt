@@ -7,7 +7,7 @@ ghost use Rattle.keys.specs.Key.{IsBytes};
 ghost use Rattle.tree.specs.Heads.{AllAreHeads, IsKnown};
 ghost use Rattle.tree.specs.Item.{item_of};
 ghost use Rattle.tree.specs.Rebalancing.{CanSplit, IsStored};
-ghost use Rattle.tree.specs.Node.{entries_of, all_heads_of, items_of_run, keys_of};
+ghost use Rattle.tree.specs.Node.{entries_of, all_heads_of, keys_of};
 ghost use Rattle.tree.specs.Overwrite.{GivesWritten, IsPartOfPartitioned, part_of_part, put_of};
 ghost use Rattle.tree.specs.Replace.{entries_at_both, Changes, IsKeyless};
 ghost use Rattle.tree.specs.Subtree.{entries_at};
@@ -20,6 +20,7 @@ use crate::replace::place;
 use crate::tree::item;
 use crate::walk::{LeafChange, Outcome, Place};
 use arena::{Arena, Slot};
+use arrayvec::ArrayVec;
 
 /// How far the writing over a run has come.
 #[derive(Clone, Copy, Debug)]
@@ -98,7 +99,7 @@ impl<'a, 'b, P: Bound, Q: Bound, R: Bound, const N: usize> LeafChange<N>
         nodes: &mut Arena<Node<N>>,
         slot: Slot,
         place: Place,
-        taken: &mut Option<Node<N>>,
+        taken: &mut ArrayVec<Entry, N>,
     ) -> Outcome {
         let new = self.new;
         let leaf = nodes.header_ref(slot);
@@ -106,9 +107,9 @@ impl<'a, 'b, P: Bound, Q: Bound, R: Bound, const N: usize> LeafChange<N>
         let alike = place.common_prefix_len.unwrap_or(0);
         let head = leaf.head_for(new.from, alike.min(new.targets_prefix_len));
         let begin = leaf.lower_bound_back(end, new.from, head);
-        if begin < end {
-            hand_out(leaf, begin, end, taken);
-        }
+        taken
+            .try_extend_from_slice(&leaf.entries()[begin..end])
+            .unwrap();
         let last = leaf.entries()[..end]
             .last()
             .map_or(0, |entry| entry.version);
@@ -139,15 +140,6 @@ impl<'a, 'b, P: Bound, Q: Bound, R: Bound, const N: usize> LeafChange<N>
     }
 
     ghost part = { λ o. part_of_part (P.below o.new.now.from.now) };
-}
-
-// Puts the entries of a leaf from one index up to another into `taken`.
-fn hand_out<const N: usize>(leaf: &Node<N>, from: usize, to: usize, taken: &mut Option<Node<N>>)
-    requires ordered { from ≤ to }
-    requires within { to ≤ length (entries_of leaf.now) }
-    ensures taken { items_of_run taken.new ≡ map item_of (drop from (take to (entries_of leaf.now))) }
-{
-    *taken = Some(leaf.run(from, to));
 }
 
 // Puts entries in place of those of a leaf from one index up to another, which is split for it. Returns the slot of its

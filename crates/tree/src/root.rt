@@ -1,13 +1,13 @@
 //! The root of a tree, and what becomes of it where a leaf changes.
 
-ghost use Rattle.std.specs.Prelude.{◌≡◌, ◌+◌, [], None, MatchOption, Some, true};
+ghost use Rattle.std.specs.Prelude.{◌≡◌, ◌+◌, [], map, None, MatchOption, Some, true};
 ghost use Rattle.std.specs.List.{All, IsDistinct};
 ghost use Rattle.std.specs.FinMap as map_of;
 ghost use Rattle.arena.specs.Arena.{IsLive, spare_of};
 ghost use Rattle.tree.specs.Item.{item_of};
 ghost use Rattle.tree.specs.Heads.{AllAreHeads, KeyBytes};
 ghost use Rattle.tree.specs.Rebalancing.{CanGrow, CanShrink};
-ghost use Rattle.tree.specs.Node.{all_heads_of, items_of_run};
+ghost use Rattle.tree.specs.Node.{all_heads_of};
 ghost use Rattle.tree.specs.Subtree.{entries_at, items_in, slots_in, IsSubtree};
 ghost use Rattle.tree.specs.Path.{IsPartitioned, items_below};
 ghost use Rattle.tree.specs.Reached.{CanReach, IsReached};
@@ -24,6 +24,7 @@ use crate::replace::place;
 use crate::walk::{LeafChange, Place, change_leaf};
 use crate::way::Way;
 use arena::{Arena, Slot};
+use arrayvec::ArrayVec;
 
 /// Where a tree begins.
 #[derive(Clone, Copy, Debug)]
@@ -71,15 +72,15 @@ pub fn change<C: LeafChange<N>, const N: usize>(
     nodes: &mut Arena<Node<N>>,
     root: &mut Root,
     change: &mut C,
-    taken: &mut Option<Node<N>>,
+    taken: &mut ArrayVec<Entry, N>,
     way: &mut Way,
 )
     requires changeable { CanChangeTree nodes.old root.old.slot root.old.height }
     requires partitioned { IsPartitioned (λ x. C.LeafBound.below (C.bound_of change.old) x.key) (items_in nodes.old root.old.height root.old.slot) }
     requires headed { AllAreHeads (C.LeafBound.bytes (C.bound_of change.old)) (all_heads_of nodes.old) }
     requires wanted { C.wants change.old (items_in nodes.old root.old.height root.old.slot) }
-    requires none_taken { taken.old ≡ None }
-    ensures items { IsChangedWithin (C.LeafBound.below (C.bound_of change.old)) (C.gives change.old change.new (items_of_run taken.new))
+    requires none_taken { taken.old.items ≡ [] }
+    ensures items { IsChangedWithin (C.LeafBound.below (C.bound_of change.old)) (C.gives change.old change.new (map item_of taken.new.items))
         true None
         (items_in nodes.old root.old.height root.old.slot) (items_in nodes.new root.new.height root.new.slot) }
     ensures rooted { IsRooted nodes.new root.new.slot root.new.height }

@@ -4,7 +4,7 @@ ghost use Rattle.std.specs.Prelude.{◌≡◌, ◌≢◌, ◌<◌, ◌≤◌, �
 ghost use Rattle.std.specs.List.{All, AllZip, Any};
 ghost use Rattle.tree.specs.Item.{Item, item_of, IsGreatest};
 ghost use Rattle.tree.specs.Heads.{AllAreHeads, AreHeads, IsKnown, KeyBytes};
-ghost use Rattle.tree.specs.Node.{key_heads_of, items_of_run};
+ghost use Rattle.tree.specs.Node.{key_heads_of};
 ghost use Rattle.tree.specs.Overwrite.{Overwrites};
 ghost use Rattle.tree.specs.Expire.{RemovesExpired};
 ghost use Rattle.tree.specs.Path.{IsPartitioned, items_below, behind, first_key, between, from_last};
@@ -185,7 +185,7 @@ impl<const N: usize> Tree<N> {
     pub fn overwrite<P: Bound, Q: Bound, R: Bound>(
         &mut self,
         new: &Overwrite<'_, P, Q, R>,
-        taken: &mut Option<Node<N>>,
+        taken: &mut ArrayVec<Entry, N>,
     ) -> Written
         requires from { IsPartitioned (λ x. P.below new.now.from.now x.key) self.old.items }
         requires to { IsPartitioned (λ x. Q.below new.now.to.now x.key) self.old.items }
@@ -193,9 +193,9 @@ impl<const N: usize> Tree<N> {
         requires some { items_below (Q.below new.now.to.now) self.old.items ≢ [] }
         requires room { length self.old.items + 2 ≤ self.old.room }
         requires headed { AllAreHeads (Q.bytes new.now.to.now) (tree_heads self.old) }
-        requires none_taken { taken.old ≡ None }
+        requires none_taken { taken.old.items ≡ [] }
         ensures items { Overwrites (P.below new.now.from.now) (Q.below new.now.to.now) (R.below new.now.past.now)
-            (item_of new.now.first) new.now.second new.now.last result (items_of_run taken.new) self.old.items self.new.items }
+            (item_of new.now.first) new.now.second new.now.last result (map item_of taken.new.items) self.old.items self.new.items }
         ensures room { self.new.room ≡ self.old.room }
         ensures headed { AllAreHeads (Q.bytes new.now.to.now) (tree_heads self.new) }
         ensures known { KnowItems self.new }
@@ -212,7 +212,7 @@ impl<const N: usize> Tree<N> {
             &mut self.way,
         );
         let written = overwriting.written;
-        self.len = self.len + written.put() - taken.as_ref().map_or(0, Node::len);
+        self.len = self.len + written.put() - taken.len();
         written
     }
 
@@ -224,7 +224,7 @@ impl<const N: usize> Tree<N> {
         count: usize,
         edge: i64,
         before: i64,
-        taken: &mut Option<Node<N>>,
+        taken: &mut ArrayVec<Entry, N>,
     ) -> Removal
         requires partitioned { IsPartitioned (λ x. P.below bound.now x.key) self.old.items }
         requires some { items_below (P.below bound.now) self.old.items ≢ [] }
@@ -232,8 +232,8 @@ impl<const N: usize> Tree<N> {
         requires headed { AllAreHeads (P.bytes bound.now) (tree_heads self.old) }
         // The first item of all stays.
         requires first { length (items_below (P.below bound.now) self.old.items) ≡ 1 → edge ≤ℤ before }
-        requires none_taken { taken.old ≡ None }
-        ensures removal { RemovesExpired (P.below bound.now) count edge before result (items_of_run taken.new) None
+        requires none_taken { taken.old.items ≡ [] }
+        ensures removal { RemovesExpired (P.below bound.now) count edge before result (map item_of taken.new.items) None
             self.old.items self.new.items }
         ensures room { self.new.room ≡ self.old.room }
         ensures headed { AllAreHeads (P.bytes bound.now) (tree_heads self.new) }
@@ -257,7 +257,7 @@ impl<const N: usize> Tree<N> {
             taken,
             &mut self.way,
         );
-        self.len -= taken.as_ref().map_or(0, Node::len);
+        self.len -= taken.len();
         expiring.removal
     }
 }

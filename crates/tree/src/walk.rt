@@ -1,18 +1,19 @@
 //! The one way into a tree: a walk to a leaf, a change of the leaf where it lies, and the rebalancing of the nodes above it.
 
-ghost use Rattle.std.specs.Prelude.{◌≡◌, ◌++◌, ℕ, Bool, List, Option, None};
-ghost use Rattle.tree.specs.Item.{Item};
-ghost use Rattle.tree.specs.Node.{items_of_run};
+ghost use Rattle.std.specs.Prelude.{◌≡◌, ◌++◌, ℕ, Bool, List, Option, [], map};
+ghost use Rattle.tree.specs.Item.{Item, item_of};
 ghost use Rattle.tree.specs.Replace.{items_with};
 ghost use Rattle.tree.specs.Subtree.{items_in};
 ghost use Rattle.tree.specs.Walk.{added_by, CanChange, CanSearch, IsChanged, IsChangedWithin};
 
 use crate::bound::Bound;
+use crate::entry::Entry;
 use crate::node::Node;
 use crate::replace::{insert_child, raise_entry, rebalance_child};
 use crate::search::key_at;
 use crate::way::Way;
 use arena::{Arena, Slot};
+use arrayvec::ArrayVec;
 
 /// What a walk knows of the subtree that it has come to.
 #[derive(Clone, Copy, Debug)]
@@ -75,15 +76,15 @@ pub trait LeafChange<const N: usize> {
         nodes: &mut Arena<Node<N>>,
         slot: Slot,
         place: Place,
-        taken: &mut Option<Node<N>>,
+        taken: &mut ArrayVec<Entry, N>,
     ) -> Outcome
         requires changeable { CanChange nodes.old 0 slot }
         requires searched { CanSearch (Self.LeafBound.bytes (bound_of self.old)) (Self.LeafBound.below (bound_of self.old))
             (Self.LeafBound.target (bound_of self.old)) nodes.old 0 slot place.common_prefix_len }
         requires wanted { wants self.old (items_in nodes.old 0 slot) }
-        requires none_taken { taken.old ≡ None }
+        requires none_taken { taken.old.items ≡ [] }
         ensures changed { IsChanged (Self.LeafBound.bytes (bound_of self.old)) nodes.old nodes.new 0 slot result }
-        ensures items { gives self.old self.new (items_of_run taken.new) place.is_first place.behind (items_in nodes.old 0 slot)
+        ensures items { gives self.old self.new (map item_of taken.new.items) place.is_first place.behind (items_in nodes.old 0 slot)
             (items_with nodes.new 0 slot (added_by result)) }
         ensures leaf_bound { bound_of self.new ≡ bound_of self.old };
 
@@ -100,16 +101,16 @@ pub fn change_leaf<C: LeafChange<N>, const N: usize>(
     height: usize,
     change: &mut C,
     place: Place,
-    taken: &mut Option<Node<N>>,
+    taken: &mut ArrayVec<Entry, N>,
     way: &mut Way,
 ) -> Outcome
     requires changeable { CanChange nodes.old height slot }
     requires searched { CanSearch (C.LeafBound.bytes (C.bound_of change.old)) (C.LeafBound.below (C.bound_of change.old))
         (C.LeafBound.target (C.bound_of change.old)) nodes.old height slot place.common_prefix_len }
     requires wanted { C.wants change.old (items_in nodes.old height slot) }
-    requires none_taken { taken.old ≡ None }
+    requires none_taken { taken.old.items ≡ [] }
     ensures changed { IsChanged (C.LeafBound.bytes (C.bound_of change.old)) nodes.old nodes.new height slot result }
-    ensures items { IsChangedWithin (C.LeafBound.below (C.bound_of change.old)) (C.gives change.old change.new (items_of_run taken.new))
+    ensures items { IsChangedWithin (C.LeafBound.below (C.bound_of change.old)) (C.gives change.old change.new (map item_of taken.new.items))
         place.is_first place.behind (items_in nodes.old height slot) (items_with nodes.new height slot (added_by result)) }
     ensures leaf_bound { C.bound_of change.new ≡ C.bound_of change.old }
 {

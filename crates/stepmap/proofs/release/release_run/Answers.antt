@@ -6,8 +6,9 @@ use Rattle.std.proofs.lemmas.Simd.{map-map}
 use Rattle.arena.specs.Arena.{Arena, IsLive}
 use Rattle.tree.specs.declared.entry.Entry.{Entry}
 use Rattle.tree.specs.Item.{Item, item_of}
-use Rattle.tree.specs.Node.{items_of_run}
+use Rattle.stepmap.proofs.release.release_run.Given as given
 use Rattle.stepmap.proofs.release.release_run.Goals as goal
+use Rattle.stepmap.proofs.release.release_run.Goals.{After-as_slice}
 
 -- entries whose items are live are live
 entries_live : {H : Type 0} (keys : Arena H) (es : List Entry) → All (λ x. IsLive keys x.key) (map item_of es)
@@ -23,20 +24,25 @@ slots_are : (items : List Item) (es : List Entry) → items ≡ map item_of es
     → map (λ (x : Item). x.key) items ≡ map (λ (e : Entry). e.key) es
 slots_are items es is = ap (map (λ (x : Item). x.key)) is ∙ map-map (λ (x : Item). x.key) item_of es
 
+-- the items that are taken out are those of the entries that are released
+items_are : (g : given.Over) (c : After-as_slice g) → map item_of c.args.taken.now.items ≡ map item_of c.as_slice.result.now
+items_are g c = ap (map item_of) (sym c.as_slice.ensures.value)
+
 pub release-requires-clause-live : goal.release-requires-clause-live
 release-requires-clause-live g c =
-    let is = ap items_of_run c.in-Some.is ∙ ap (map item_of) (sym c.entries.ensures.entries) in
-    entries_live c.args.keys.now c.entries.result.now
-    (subst (All (λ (x : Item). IsLive c.args.keys.now x.key)) is c.requires.live)
+    let at = (goal.at.release-requires-clause-live g c).After-as_slice in
+    entries_live c.args.keys.now c.as_slice.result.now
+    (subst (All (λ (x : Item). IsLive c.args.keys.now x.key)) (items_are g at) c.requires.live)
 
 pub release-requires-clause-distinct : goal.release-requires-clause-distinct
 release-requires-clause-distinct g c =
-    let is = ap items_of_run c.in-Some.is ∙ ap (map item_of) (sym c.entries.ensures.entries) in
-    subst (IsDistinct nat_eq) (slots_are (items_of_run c.args.taken.now) c.entries.result.now is) c.requires.distinct
+    let at = (goal.at.release-requires-clause-distinct g c).After-as_slice in
+    subst (IsDistinct nat_eq) (slots_are (map item_of c.args.taken.now.items) c.as_slice.result.now (items_are g at))
+    c.requires.distinct
 
-pub returns-in-Some-clause-others : goal.returns-in-Some-clause-others
-returns-in-Some-clause-others g c = λ slot without.
-    let is = ap items_of_run c.in-Some.is ∙ ap (map item_of) (sym c.entries.ensures.entries) in
+pub returns-clause-others : goal.returns-clause-others
+returns-clause-others g c = λ slot without.
+    let at = (goal.at.returns-clause-others g c).After-as_slice in
     c.release.ensures.others slot
     (λ has. without (subst (λ (xs : List ℕ). Contains xs slot)
-    (sym (slots_are (items_of_run c.args.taken.now) c.entries.result.now is)) has))
+    (sym (slots_are (map item_of c.args.taken.now.items) c.as_slice.result.now (items_are g at))) has))

@@ -1,44 +1,39 @@
-use Rattle.std.proofs.Common.{rules, ◌≡◌, ◌<◌, ◌≤◌, ◌++◌, ◌∷◌, [], take, drop, map, get_or, set, ℕ, ◌+◌, ◌∙◌, ap, sym, subst, true, false, List, w64, ℤ, to_z, of_z, SFits, ◌&&◌, int_lt, int_le, arith, refl, length, Option, Some, None}
-use Rattle.std.specs.Prelude.{MatchOption}
+use Rattle.std.proofs.Common.{rules, ◌≡◌, ◌<◌, ◌++◌, ◌∷◌, [], take, drop, map, get_or, set, ℕ, ◌+◌, ◌∙◌, ap, sym, subst, true, false, List, w64, ℤ, to_z, of_z, SFits, ◌&&◌, int_lt, int_le, arith, refl, length}
 use Rattle.std.proofs.lemmas.Int.{to_z-of_z}
-use Rattle.std.proofs.lemmas.List.{length-map}
+use Rattle.std.proofs.lemmas.List.{length-map, map-append}
 use Rattle.std.proofs.lemmas.Option.{slice_get_read}
+use Rattle.arrayvec.specs.ArrayVec.{ArrayVec}
 use Rattle.tree.specs.declared.entry.Entry.{Entry}
 use Rattle.tree.specs.Item.{Item, item_of}
 use Rattle.tree.specs.declared.node.Node.{Node}
 use Rattle.tree.specs.Heads.{AreHeads}
-use Rattle.tree.specs.Node.{entries_of, key_heads_of, items_of_run}
+use Rattle.tree.specs.Node.{entries_of, key_heads_of}
 use Rattle.tree.specs.Tree.{unexpired, expired}
-use Rattle.tree.proofs.Removing.{RemovesExpired, run, one_stays, one_goes, not_below, is_below, one_not_below, last_seen, all_kept, all_expired}
+use Rattle.tree.proofs.Removing.{RemovesExpired, run, one_stays, one_goes, not_below, is_below, one_not_below, all_kept, all_expired}
 use Rattle.tree.proofs.expiring.remove_expired.Goals as goal
 use Rattle.tree.proofs.expiring.remove_expired.Goals.{then-last-edge, else-last-edge, then-version-edge, else-version-edge}
 
--- A run of fewer items than a node has room for isn't full.
-room_left : {N : ℕ} (run : Option (Node N)) → 1 ≤ N → length (items_of_run run) < N
-    → MatchOption run (1 ≤ N) (λ n. length (entries_of n) < N)
-room_left None some few = some
-room_left (Some n) some few = omega (arith, few, length-map (entries_of n) item_of)
-
-pub put_aside-requires : goal.put_aside-requires
-put_aside-requires g c =
+pub push-requires : goal.push-requires
+push-requires g c =
     let inv = c.loop-index.invariant.removal in
-    let most = c.entries.ensures.most in
-    let here = c.loop-index-test.true in
-    let within = c.requires.within in (
-      search rules,
-      room_left c.loop-index.taken (omega (arith, most, inv.same_length, within, here))
-          (omega (arith, most, inv.same_length, inv.counted, within, here)),
+    omega (
+      arith,
+      length-map c.loop-index.taken.items item_of,
+      c.entries.ensures.most,
+      inv.same_length,
+      inv.counted,
+      c.loop-index-test.true,
+      c.requires.within,
     )
 
 pub loop-index-init : goal.loop-index-init
 loop-index-init g c =
-    let none : items_of_run c.args.taken.now ≡ [] = ap items_of_run c.requires.none_taken in
+    let none : map item_of c.args.taken.now.items ≡ [] = ap (λ (l : List Entry). map item_of l) c.requires.none_taken in
     record {
       removal = rw none (record {
         counted = omega arith;
         same_length = refl;
         ahead = refl;
-        last_is = refl;
         stayed = refl;
         went = refl;
       });
@@ -49,7 +44,7 @@ pub loop-index-preserved : goal.loop-index-preserved
 loop-index-preserved g c =
     let es = entries_of c.args.node.now in
     let now = entries_of c.loop-index.node in
-    let out = items_of_run c.loop-index.taken in
+    let out = map item_of c.loop-index.taken.items in
     let edge = to_z w64 (of_z w64 c.args.edge) in
     let before = to_z w64 (of_z w64 c.args.before) in
     let last = to_z w64 c.loop-index.last-bits in
@@ -70,7 +65,7 @@ loop-index-preserved g c =
           let inside : i < length now = omega (arith, inv.removal.same_length, within, here) in
           let nodes : entries_of c.if-version-edge.node ≡ set now kept e =
           ap entries_of w.node-is ∙ w.copy.ensures.entries e (slice_get_read now (length now) i e refl inside is) in
-          let outs : items_of_run c.if-version-edge.taken ≡ out = ap items_of_run w.taken-is in
+          let outs : map item_of c.if-version-edge.taken.items ≡ out = ap (λ (v : ArrayVec Entry). map item_of v.items) w.taken-is in
           let kept_is : c.if-version-edge.kept ≡ kept + 1 = w.kept-is in
           let both : (int_lt last edge && int_lt e.version edge) ≡ false = elim c.if-last-edge.branch [
             | then-last-edge u ↦ rw (not_below edge last u.if-last-edge.true) refl
@@ -87,8 +82,9 @@ loop-index-preserved g c =
           }
       | else-version-edge w ↦
           let nodes : entries_of c.if-version-edge.node ≡ now = ap entries_of w.node-is in
-          let outs : items_of_run c.if-version-edge.taken ≡ out ++ item_of e ∷ [] =
-          ap items_of_run w.taken-is ∙ w.put_aside.ensures.items in
+          let outs : map item_of c.if-version-edge.taken.items ≡ out ++ item_of e ∷ [] =
+          ap (λ (v : ArrayVec Entry). map item_of v.items) w.taken-is ∙ ap (λ (l : List Entry). map item_of l) w.push.ensures.items
+          ∙ map-append item_of c.loop-index.taken.items (e ∷ []) in
           let kept_is : c.if-version-edge.kept ≡ kept = w.kept-is in
           let both : (int_lt last edge && int_lt e.version edge) ≡ true = elim c.if-last-edge.branch [
             | then-last-edge u ↦ let k : true ≡ false = sym u.if-last-edge.true ∙ sym u.value-is ∙ w.if-version-edge.false in absurd (cc)
@@ -105,11 +101,6 @@ loop-index-preserved g c =
                 subst (λ (n : Node g.row.N). AreHeads bytes (key_heads_of n)) (sym w.node-is) (inv.headed bytes h);
           }
     ]
-
-pub returns-clause-last : goal.returns-clause-last
-returns-clause-last g c =
-    let end : c.loop-index.index ≡ c.args.to = omega arith in
-    last_seen _ _ _ _ _ _ _ _ _ _ c.loop-index.invariant.removal end c.requires.within c.requires.some
 
 pub returns-clause-kept : goal.returns-clause-kept
 returns-clause-kept g c =
@@ -131,6 +122,6 @@ returns-clause-taken g c =
     let edge : to_z w64 (of_z w64 c.args.edge) ≡ c.args.edge = to_z-of_z w64 c.args.edge c.ranges.edge in
     let before : to_z w64 (of_z w64 c.args.before) ≡ c.args.before = to_z-of_z w64 c.args.before c.ranges.before in
     let looked = map item_of (run (entries_of c.args.node.now) c.args.from c.args.to) in
-    let Expired : ℤ → ℤ → Type 0 = λ edge before. items_of_run c.loop-index.taken ≡ expired edge before looked in
+    let Expired : ℤ → ℤ → Type 0 = λ edge before. map item_of c.loop-index.taken.items ≡ expired edge before looked in
     subst (λ (e : ℤ). Expired e c.args.before) edge (subst (λ (b : ℤ). Expired (to_z w64 (of_z w64 c.args.edge)) b) before
     (all_expired _ _ _ _ _ _ _ _ _ _ c.loop-index.invariant.removal end c.requires.within))

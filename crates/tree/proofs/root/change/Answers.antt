@@ -1,6 +1,7 @@
-use Rattle.std.proofs.Common.{rules, ◌≤◌, true, None, IfSome, length, sym, ap, subst, ◌∙◌, arith}
+use Rattle.std.proofs.Common.{rules, ◌≤◌, true, None, IfSome, length, map, sym, ap, subst, ◌∙◌, arith}
 use Rattle.tree.specs.Heads.{AllAreHeads, IsPrefixLenAt}
-use Rattle.tree.specs.Node.{all_heads_of, items_of_run}
+use Rattle.tree.specs.Item.{item_of}
+use Rattle.tree.specs.Node.{all_heads_of}
 use Rattle.tree.specs.Replace.{items_with, slots_with, Changes}
 use Rattle.tree.specs.Subtree.{entries_at, items_in, slots_in, IsSubtree}
 use Rattle.tree.specs.Tree.{least_of}
@@ -41,7 +42,7 @@ change_leaf-requires g c =
       known = subst (λ p. IsPrefixLenAt (g.C.LeafBound.Bound.bytes p) (g.C.LeafBound.Bound.below p) (g.C.LeafBound.Bound.target p)
           c.common_prefix_len_at.result (entries_at a root.slot) 0) c.leaf_bound.ensures.leaf_bound c.common_prefix_len_at.ensures.known;
     } in
-    (search rules, (changeable, (searched, (c.requires.wanted, c.requires.none_taken))))
+    (search rules, (search rules, (changeable, (searched, (c.requires.wanted, c.requires.none_taken)))))
 
 pub grow-requires : goal.grow-requires
 grow-requires g c =
@@ -93,7 +94,7 @@ returns-in-Some-clause-items g c =
     let root = c.args.root.now in
     let change = c.args.change.now in
     subst (IsChangedWithin (g.C.LeafBound.Bound.below (g.C.LeafChange.bound_of change))
-    (g.C.LeafChange.gives change c.change_leaf.new.change (items_of_run c.change_leaf.new.taken)) true None
+    (g.C.LeafChange.gives change c.change_leaf.new.change (map item_of c.change_leaf.new.taken.items)) true None
     (items_in c.args.nodes.now root.height root.slot))
     (ap (items_with c.change_leaf.new.nodes root.height root.slot) (sym c.in-Some.ensures.added) ∙ sym c.grow.ensures.items)
     c.change_leaf.ensures.items
@@ -111,7 +112,7 @@ returns-in-None-clause-items g c =
     let root = c.args.root.now in
     let change = c.args.change.now in
     subst (IsChangedWithin (g.C.LeafBound.Bound.below (g.C.LeafChange.bound_of change))
-    (g.C.LeafChange.gives change c.change_leaf.new.change (items_of_run c.change_leaf.new.taken)) true None
+    (g.C.LeafChange.gives change c.change_leaf.new.change (map item_of c.change_leaf.new.taken.items)) true None
     (items_in c.args.nodes.now root.height root.slot))
     (ap (items_with c.change_leaf.new.nodes root.height root.slot) (sym c.in-None.ensures.added) ∙ sym c.shrink.ensures.items)
     c.change_leaf.ensures.items

@@ -2,7 +2,7 @@ use Rattle.std.proofs.Common.{◌≡◌, ◌≤◌, ◌<◌, ◌+◌, ◌-◌, �
 use Rattle.std.proofs.lemmas.Int.{to_z-of_z}
 use Rattle.tree.specs.Item.{Item, item_of}
 use Rattle.tree.specs.Heads.{AllAreHeads, IsPrefixLenAt}
-use Rattle.tree.specs.Node.{entries_of, all_heads_of, items_of_run}
+use Rattle.tree.specs.Node.{entries_of, all_heads_of}
 use Rattle.tree.specs.Path.{index_in, first_key}
 use Rattle.tree.specs.Subtree.{entries_at, items_in, slots_in}
 use Rattle.tree.specs.Tree.{least_of}
@@ -31,13 +31,16 @@ change-requires g t c =
     let lowest = c.if-height-eq0.true in (
       search rules,
       (
-        subst (λ n. CanChange a n slot) lowest c.requires.changeable,
+        search rules,
         (
-          subst (λ n. CanSearch (g.C.LeafBound.Bound.bytes leaf_bound) (g.C.LeafBound.Bound.below leaf_bound)
-              (g.C.LeafBound.Bound.target leaf_bound) a n slot c.args.place.common_prefix_len) lowest c.requires.searched,
+          subst (λ n. CanChange a n slot) lowest c.requires.changeable,
           (
-            subst (λ n. g.C.LeafChange.wants change (items_in a n slot)) lowest c.requires.wanted,
-            c.requires.none_taken,
+            subst (λ n. CanSearch (g.C.LeafBound.Bound.bytes leaf_bound) (g.C.LeafBound.Bound.below leaf_bound)
+                (g.C.LeafBound.Bound.target leaf_bound) a n slot c.args.place.common_prefix_len) lowest c.requires.searched,
+            (
+              subst (λ n. g.C.LeafChange.wants change (items_in a n slot)) lowest c.requires.wanted,
+              c.requires.none_taken,
+            ),
           ),
         ),
       ),
@@ -52,10 +55,10 @@ pub returns-then-height-eq0-clause-items : goal.returns-then-height-eq0-clause-i
 returns-then-height-eq0-clause-items g t c =
     let change = c.args.change.now in
     within_leaf (g.C.LeafBound.Bound.below (g.C.LeafChange.bound_of change))
-    (g.C.LeafChange.gives change c.change.new.self (items_of_run c.change.new.taken)) c.args.place.is_first
+    (g.C.LeafChange.gives change c.change.new.self (map item_of c.change.new.taken.items)) c.args.place.is_first
     c.args.place.behind (items_in c.args.nodes.now c.args.height c.args.slot)
     (items_with c.change.new.nodes c.args.height c.args.slot (added_by c.change.result))
-    (subst (λ n. g.C.LeafChange.gives change c.change.new.self (items_of_run c.change.new.taken) c.args.place.is_first
+    (subst (λ n. g.C.LeafChange.gives change c.change.new.self (map item_of c.change.new.taken.items) c.args.place.is_first
     c.args.place.behind (items_in c.args.nodes.now n c.args.slot)
     (items_with c.change.new.nodes n c.args.slot (added_by c.change.result)))
     (sym c.if-height-eq0.true) c.change.ensures.items)
@@ -151,7 +154,7 @@ change_leaf-requires g t c κs within =
     let wanted = g.met.C.LeafChange.part c.args.change.now (items_of a h (take i es)) (items_in a h x)
     (items_of a h (drop (i + 1) es)) (subst (g.C.LeafChange.wants c.args.change.now) split c.requires.wanted) in (
       search rules,
-      (search rules, (search rules, (search rules, (search rules, (can, (search_on, (wanted, c.requires.none_taken))))))),
+      (search rules, (search rules, (search rules, (search rules, (search rules, (can, (search_on, (wanted, c.requires.none_taken)))))))),
     )
 
 pub raise_entry-requires : goal.raise_entry-requires

@@ -1,10 +1,9 @@
-use Rattle.std.proofs.Common.{arith, ◌≡◌, ℕ, ◌≤◌, List, [], ◌++◌, length, take, drop, All, Any, sym, ◌∙◌, ap, subst, w64, SFits, rules, None, true, ◌≢◌, vec_capacity}
+use Rattle.std.proofs.Common.{arith, ◌≡◌, ℕ, ◌≤◌, List, [], ◌++◌, length, take, drop, All, Any, sym, ◌∙◌, ap, subst, map, w64, SFits, rules, None, true, ◌≢◌, vec_capacity}
 use Rattle.std.proofs.lemmas.Int.{to_z-of_z}
 use Rattle.std.proofs.lemmas.List.Elements.{All-weaker}
 use Rattle.arena.specs.Arena.{IsLive}
 use Rattle.keys.specs.Key.{IsKey}
-use Rattle.tree.specs.Item.{Item}
-use Rattle.tree.specs.Node.{items_of_run}
+use Rattle.tree.specs.Item.{Item, item_of}
 use Rattle.tree.specs.Expire.{RemovesExpired}
 use Rattle.stepmap.specs.Boundary.{Boundary, last_version}
 use Rattle.stepmap.specs.KeyBound.{slot_is_below}
@@ -33,7 +32,7 @@ later g c none = c.requires.later (sym c.deref.ensures.value ∙ none)
 -- the run that was looked at, and what was taken out of it
 run_of : (g : given.Over) (c : After-remove_expired-removal g)
     → RemovesExpired (slot_is_below c.self.inside.keys true c.deref.result.now) c.args.count c.args.edge c.args.before
-    c.remove_expired-removal.result (items_of_run c.remove_expired-removal.new.taken) None c.self.inside.tree.items
+    c.remove_expired-removal.result (map item_of c.remove_expired-removal.new.taken.items) None c.self.inside.tree.items
     c.remove_expired-removal.new.self.items
 run_of g c =
     let edge = to_z-of_z w64 c.args.edge c.ranges.edge in
@@ -48,7 +47,7 @@ remove_expired-removal-requires g c =
     let at = (goal.at.remove_expired-removal-requires g c).After-deref in (
       omega arith,
       (
-        omega (arith, c.self.inside.few),
+        search rules,
         (
           key_is_partitioned keys tree c.self.invariant.stored key,
           (
@@ -74,7 +73,7 @@ move_to-requires-clause-live g c =
     let tree = c.self.inside.tree in
     let key = c.deref.result.now in
     let next = c.remove_expired-removal.new.self in
-    let run = items_of_run c.remove_expired-removal.new.taken in
+    let run = map item_of c.remove_expired-removal.new.taken.items in
     next_has keys tree c.self.invariant.stored key (later g at) (there g at) c.args.count c.args.edge c.args.before
     c.remove_expired-removal.result run next (run_of g now) (IsLive keys)
     c.self.invariant.stored.live
@@ -88,7 +87,7 @@ move_to-requires-clause-fits g c =
     let tree = c.self.inside.tree in
     let key = c.deref.result.now in
     let next = c.remove_expired-removal.new.self in
-    let run = items_of_run c.remove_expired-removal.new.taken in
+    let run = map item_of c.remove_expired-removal.new.taken.items in
     let all : All (λ b. IsKey b.key) (boundaries_of keys tree.items) =
     subst (λ (v : Stored). All (λ b. IsKey b.key) v.boundaries) (sym c.self.view_is) c.requires.keys in
     next_has keys tree c.self.invariant.stored key (later g at) (there g at) c.args.count c.args.edge c.args.before
@@ -107,12 +106,12 @@ release_run-requires g c =
     let tree = c.self.inside.tree in
     let key = c.deref.result.now in
     let next = c.remove_expired-removal.new.self in
-    let run = items_of_run c.remove_expired-removal.new.taken in
+    let run = map item_of c.remove_expired-removal.new.taken.items in
     let live = run_live keys tree c.self.invariant.stored key (later g at) (there g at) c.args.count c.args.edge c.args.before
     c.remove_expired-removal.result run next (run_of g now) in
     let distinct = run_distinct keys tree c.self.invariant.stored key (later g at) (there g at) c.args.count c.args.edge c.args.before
     c.remove_expired-removal.result run next (run_of g now) in
-    (omega (arith, c.self.inside.few), (c.self.inside.few, (live, distinct)))
+    (search rules, (live, distinct))
 
 pub invariant_of-self : goal.invariant_of-self
 invariant_of-self g c =
@@ -123,7 +122,7 @@ invariant_of-self g c =
     let tree = c.self.inside.tree in
     let key = c.deref.result.now in
     let next = c.remove_expired-removal.new.self in
-    let run = items_of_run c.remove_expired-removal.new.taken in
+    let run = map item_of c.remove_expired-removal.new.taken.items in
     let e = c.release_run.ensures in
     let new = c.release_run.new.keys in
     let live = run_live keys tree c.self.invariant.stored key (later g at) (there g at) c.args.count c.args.edge c.args.before
@@ -146,7 +145,7 @@ returns-clause-within g c =
     let tree = c.self.inside.tree in
     let key = c.deref.result.now in
     let next = c.remove_expired-removal.new.self in
-    let run = items_of_run c.remove_expired-removal.new.taken in
+    let run = map item_of c.remove_expired-removal.new.taken.items in
     let n = c.remove_expired-removal.result.looked_at in
     let is = ap (λ k. length (left_from k (boundaries_of keys tree.items))) c.deref.ensures.value
     ∙ ap (λ v. length (left_from c.args.cursor.now.items v.boundaries)) c.self.view_is in
@@ -163,7 +162,7 @@ returns-clause-last g c =
     let tree = c.self.inside.tree in
     let key = c.deref.result.now in
     let next = c.remove_expired-removal.new.self in
-    let run = items_of_run c.remove_expired-removal.new.taken in
+    let run = map item_of c.remove_expired-removal.new.taken.items in
     let n = c.remove_expired-removal.result.looked_at in
     let last = c.remove_expired-removal.result.last in
     let fits : SFits w64 last = search rules in
@@ -182,7 +181,7 @@ returns-clause-boundaries g c =
     let tree = c.self.inside.tree in
     let key = c.deref.result.now in
     let next = c.remove_expired-removal.new.self in
-    let run = items_of_run c.remove_expired-removal.new.taken in
+    let run = map item_of c.remove_expired-removal.new.taken.items in
     let e = c.release_run.ensures in
     let new = c.release_run.new.keys in
     let live = run_live keys tree c.self.invariant.stored key (later g at) (there g at) c.args.count c.args.edge c.args.before
@@ -206,7 +205,7 @@ returns-clause-cursor g c =
     let tree = c.self.inside.tree in
     let key = c.deref.result.now in
     let next = c.remove_expired-removal.new.self in
-    let run = items_of_run c.remove_expired-removal.new.taken in
+    let run = map item_of c.remove_expired-removal.new.taken.items in
     let n = c.remove_expired-removal.result.looked_at in
     c.move_to.ensures.cursor
     ∙ next_bytes keys tree c.self.invariant.stored key (later g at) (there g at) c.args.count c.args.edge c.args.before

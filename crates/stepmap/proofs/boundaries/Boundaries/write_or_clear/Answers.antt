@@ -1,4 +1,4 @@
-use Rattle.std.proofs.Common.{arith, true, false, refl, take, ℕ, ◌≤◌, ◌<◌, ◌+◌, ◌≡◌, ◌≢◌, ◌∙◌, ap, sym, subst, List, [], ◌∷◌, length, Some, Bool, unwrap_or, w64, SFits, rules, to_z, of_z}
+use Rattle.std.proofs.Common.{arith, true, false, refl, take, ℕ, ◌≤◌, ◌<◌, ◌+◌, ◌≡◌, ◌≢◌, ◌∙◌, ap, sym, subst, List, [], ◌∷◌, length, map, Some, Bool, unwrap_or, w64, SFits, rules, to_z, of_z}
 use Rattle.std.specs.Prelude.{ℤ, IfSome, nat_eq}
 use Rattle.std.proofs.lemmas.Int.{to_z-of_z}
 use Rattle.std.proofs.lemmas.List.{length-map}
@@ -6,7 +6,6 @@ use Rattle.std.proofs.lemmas.List.Elements.{All-head, All-tail}
 use Rattle.std.specs.List.{All, IsDistinct}
 use Rattle.std.specs.FinMap as finite
 use Rattle.tree.specs.Item.{Item, item_of}
-use Rattle.tree.specs.Node.{items_of_run}
 use Rattle.tree.specs.declared.overwrite.Written.{Written}
 use Rattle.tree.specs.declared.overwrite.Written.TheVariants.{Partly, Whole}
 use Rattle.tree.specs.Overwrite.{Overwrites}
@@ -148,7 +147,7 @@ overwrite-written-requires g c =
     some in (
       omega arith,
       (
-        omega (arith, c.self.inside.few),
+        search rules,
         (
           bounds g at false begin,
           (
@@ -176,14 +175,14 @@ told : (g : given.Over) (c : After-overwrite-written g)
     → Overwrites (slot_is_below c.place-2.new.self false c.args.range.now.begin)
     (slot_is_below c.place-2.new.self false c.args.range.now.end) (slot_is_below c.place-2.new.self true c.args.range.now.end)
     (record { key = c.unwrap-begin_key.result; version = c.args.version }) c.unwrap-end_key.result c.args.at_end
-    c.overwrite-written.result (items_of_run c.overwrite-written.new.taken) c.self.inside.tree.items
+    c.overwrite-written.result (map item_of c.overwrite-written.new.taken.items) c.self.inside.tree.items
     c.overwrite-written.new.self.items
 told g c =
     let range = c.args.range.now in
     let now = c.place-2.new.self in
     let Told = λ (begin end : List ℕ) (first : Item).
     Overwrites (slot_is_below now false begin) (slot_is_below now false end) (slot_is_below now true end) first
-    c.unwrap-end_key.result c.args.at_end c.overwrite-written.result (items_of_run c.overwrite-written.new.taken)
+    c.unwrap-end_key.result c.args.at_end c.overwrite-written.result (map item_of c.overwrite-written.new.taken.items)
     c.self.inside.tree.items c.overwrite-written.new.self.items in
     let first_is : item_of c.item.result ≡ record { key = c.unwrap-begin_key.result; version = c.args.version } =
     c.item.ensures.item
@@ -205,12 +204,12 @@ IsTold g c written =
     Overwrites (slot_is_below c.place-2.new.self false c.args.range.now.begin)
     (slot_is_below c.place-2.new.self false c.args.range.now.end) (slot_is_below c.place-2.new.self true c.args.range.now.end)
     (record { key = c.unwrap-begin_key.result; version = c.args.version }) c.unwrap-end_key.result c.args.at_end
-    written (items_of_run c.overwrite-written.new.taken) c.self.inside.tree.items
+    written (map item_of c.overwrite-written.new.taken.items) c.self.inside.tree.items
     c.overwrite-written.new.self.items
 
 -- those of the items that were taken out are released
 abbrev IsLeft : (g : given.Over) → After-release_run g → Arena (Unit {0}) → List Placed → Type 0
-IsLeft g c final ps = ArePlaced c.self.inside.keys final (slots_of (items_of_run c.overwrite-written.new.taken)) ps
+IsLeft g c final ps = ArePlaced c.self.inside.keys final (slots_of (map item_of c.overwrite-written.new.taken.items)) ps
 
 left_at : (g : given.Over) (c : After-release_run g) → IsReady g c → IsTold g c c.overwrite-written.result
     → IsLeft g c c.release_run.new.keys (both c.args.range.now c.args.version (unwrap_or c.args.at_end (value_at (boundaries_of c.self.inside.keys c.self.inside.tree.items) c.args.range.now.end))
@@ -220,12 +219,12 @@ left_at g c ready told =
     run_released c.self.inside.keys c.place-2.new.self c.release_run.new.keys
     (both c.args.range.now c.args.version (unwrap_or c.args.at_end (value_at (boundaries_of c.self.inside.keys c.self.inside.tree.items) c.args.range.now.end))
     c.unwrap-begin_key.result (Some c.unwrap-end_key.result))
-    (items_of_run c.overwrite-written.new.taken) ready
+    (map item_of c.overwrite-written.new.taken.items) ready
     (run_was_live c.self.inside.keys c.self.inside.tree c.self.invariant.stored c.args.range.now c.requires.filled
     c.args.version (unwrap_or c.args.at_end (value_at (boundaries_of c.self.inside.keys c.self.inside.tree.items) c.args.range.now.end))
     c.unwrap-begin_key.result c.unwrap-end_key.result c.place-2.new.self ready
     (record { key = c.unwrap-begin_key.result; version = c.args.version }) c.args.at_end c.overwrite-written.result
-    (items_of_run c.overwrite-written.new.taken) c.overwrite-written.new.self told)
+    (map item_of c.overwrite-written.new.taken.items) c.overwrite-written.new.self told)
     e.others e.counted e.spare
 
 -- the range is written over
@@ -250,13 +249,13 @@ written_at g c ready ended told final left =
       indexed = whole_indexed c.self.inside.keys c.self.inside.tree c.self.invariant.stored c.args.range.now c.requires.filled
           c.args.version (unwrap_or c.args.at_end (value_at (boundaries_of c.self.inside.keys c.self.inside.tree.items) c.args.range.now.end))
           c.unwrap-begin_key.result c.unwrap-end_key.result c.place-2.new.self ready
-          c.args.at_end refl ended (items_of_run c.overwrite-written.new.taken) c.overwrite-written.new.self told
+          c.args.at_end refl ended (map item_of c.overwrite-written.new.taken.items) c.overwrite-written.new.self told
           final left e.known e.headed;
       boundaries =
           whole_boundaries c.self.inside.keys c.self.inside.tree c.self.invariant.stored c.args.range.now c.requires.filled
           c.args.version (unwrap_or c.args.at_end (value_at (boundaries_of c.self.inside.keys c.self.inside.tree.items) c.args.range.now.end))
           c.unwrap-begin_key.result c.unwrap-end_key.result c.place-2.new.self ready
-          c.args.at_end refl ended (items_of_run c.overwrite-written.new.taken) c.overwrite-written.new.self told
+          c.args.at_end refl ended (map item_of c.overwrite-written.new.taken.items) c.overwrite-written.new.self told
           final left
           ∙ ap (λ (v : Stored). written_to range c.args.version (unwrap_or c.args.at_end (value_at v.boundaries range.end))
           v.boundaries) c.self.view_is;
@@ -292,19 +291,19 @@ cleared_at g c ready last told final left =
       indexed = part_indexed c.self.inside.keys c.self.inside.tree c.self.invariant.stored c.args.range.now c.requires.filled
           c.args.version (unwrap_or c.args.at_end (value_at (boundaries_of c.self.inside.keys c.self.inside.tree.items) c.args.range.now.end))
           c.unwrap-begin_key.result c.unwrap-end_key.result c.place-2.new.self ready
-          last (items_of_run c.overwrite-written.new.taken) c.overwrite-written.new.self told final left e.known e.headed;
+          last (map item_of c.overwrite-written.new.taken.items) c.overwrite-written.new.self told final left e.known e.headed;
       cleared =
           part_written c.self.inside.keys c.self.inside.tree c.self.invariant.stored c.args.range.now c.requires.filled
           c.args.version (unwrap_or c.args.at_end (value_at (boundaries_of c.self.inside.keys c.self.inside.tree.items) c.args.range.now.end))
           c.unwrap-begin_key.result c.unwrap-end_key.result c.place-2.new.self ready
-          last (items_of_run c.overwrite-written.new.taken) c.overwrite-written.new.self told final left c.args.at_end c.args.version
+          last (map item_of c.overwrite-written.new.taken.items) c.overwrite-written.new.self told final left c.args.at_end c.args.version
           ∙ ap (λ (v : Stored). written_to range c.args.version (unwrap_or c.args.at_end (value_at v.boundaries range.end))
           v.boundaries) c.self.view_is;
       boundaries =
           part_boundaries c.self.inside.keys c.self.inside.tree c.self.invariant.stored c.args.range.now c.requires.filled
           c.args.version (unwrap_or c.args.at_end (value_at (boundaries_of c.self.inside.keys c.self.inside.tree.items) c.args.range.now.end))
           c.unwrap-begin_key.result c.unwrap-end_key.result c.place-2.new.self ready
-          last (items_of_run c.overwrite-written.new.taken) c.overwrite-written.new.self told final left
+          last (map item_of c.overwrite-written.new.taken.items) c.overwrite-written.new.self told final left
           (subst (λ (v : Stored). AreBoundaries v.boundaries) (sym c.self.view_is) c.requires.boundaries);
       fewer =
           subst (λ (v : Stored). length (boundaries_of final c.overwrite-written.new.self.items) < length v.boundaries)
@@ -312,7 +311,7 @@ cleared_at g c ready last told final left =
           (part_fewer c.self.inside.keys c.self.inside.tree c.self.invariant.stored c.args.range.now c.requires.filled
           c.args.version (unwrap_or c.args.at_end (value_at (boundaries_of c.self.inside.keys c.self.inside.tree.items) c.args.range.now.end))
           c.unwrap-begin_key.result c.unwrap-end_key.result c.place-2.new.self ready
-          last (items_of_run c.overwrite-written.new.taken) c.overwrite-written.new.self told final left);
+          last (map item_of c.overwrite-written.new.taken.items) c.overwrite-written.new.self told final left);
       none_used = λ size. subst (λ (v : Stored). spare_in v size ≤ spare_of final size) c.self.view_is
           (omega (arith, left.spare size));
     }
@@ -321,32 +320,32 @@ run_is_live : (g : given.Over) (c : After-overwrite-written g)
     → ArePlaced c.self.inside.keys c.place-2.new.self []
     (both c.args.range.now c.args.version (unwrap_or c.args.at_end (value_at (boundaries_of c.self.inside.keys c.self.inside.tree.items) c.args.range.now.end))
     c.unwrap-begin_key.result (Some c.unwrap-end_key.result))
-    → All (λ x. IsLive c.place-2.new.self x.key) (items_of_run c.overwrite-written.new.taken)
+    → All (λ x. IsLive c.place-2.new.self x.key) (map item_of c.overwrite-written.new.taken.items)
 run_is_live g c ready =
     run_live c.self.inside.keys c.self.inside.tree c.self.invariant.stored c.args.range.now c.requires.filled
     c.args.version (unwrap_or c.args.at_end (value_at (boundaries_of c.self.inside.keys c.self.inside.tree.items) c.args.range.now.end))
     c.unwrap-begin_key.result c.unwrap-end_key.result c.place-2.new.self ready
     (record { key = c.unwrap-begin_key.result; version = c.args.version }) c.args.at_end c.overwrite-written.result
-    (items_of_run c.overwrite-written.new.taken) c.overwrite-written.new.self (told g c)
+    (map item_of c.overwrite-written.new.taken.items) c.overwrite-written.new.self (told g c)
 
 run_is_distinct : (g : given.Over) (c : After-overwrite-written g)
     → ArePlaced c.self.inside.keys c.place-2.new.self []
     (both c.args.range.now c.args.version (unwrap_or c.args.at_end (value_at (boundaries_of c.self.inside.keys c.self.inside.tree.items) c.args.range.now.end))
     c.unwrap-begin_key.result (Some c.unwrap-end_key.result))
-    → IsDistinct nat_eq (slots_of (items_of_run c.overwrite-written.new.taken))
+    → IsDistinct nat_eq (slots_of (map item_of c.overwrite-written.new.taken.items))
 run_is_distinct g c ready =
     run_distinct c.self.inside.keys c.self.inside.tree c.self.invariant.stored c.args.range.now c.requires.filled
     c.args.version (unwrap_or c.args.at_end (value_at (boundaries_of c.self.inside.keys c.self.inside.tree.items) c.args.range.now.end))
     c.unwrap-begin_key.result c.unwrap-end_key.result c.place-2.new.self ready
     (record { key = c.unwrap-begin_key.result; version = c.args.version }) c.args.at_end c.overwrite-written.result
-    (items_of_run c.overwrite-written.new.taken) c.overwrite-written.new.self (told g c)
+    (map item_of c.overwrite-written.new.taken.items) c.overwrite-written.new.self (told g c)
 
 pub release_run-requires : goal.release_run-requires
 release_run-requires g c =
     let t = goal.at.release_run-requires g c in
     let at = t.After-overwrite-written in (
-      omega (arith, c.self.inside.few),
-      (c.self.inside.few, (run_is_live g at (ready g t.After-item), run_is_distinct g at (ready g t.After-item))),
+      search rules,
+      (run_is_live g at (ready g t.After-item), run_is_distinct g at (ready g t.After-item)),
     )
 
 -- both keys are live then
@@ -356,7 +355,7 @@ keys_live : (g : given.Over) (c : After-release_run g)
     → All (λ p. IsLive c.release_run.new.keys p.slot) (both c.args.range.now c.args.version (unwrap_or c.args.at_end (value_at (boundaries_of c.self.inside.keys c.self.inside.tree.items) c.args.range.now.end))
     c.unwrap-begin_key.result (Some c.unwrap-end_key.result))
 keys_live g c left =
-    placed_live c.self.inside.keys c.release_run.new.keys (slots_of (items_of_run c.overwrite-written.new.taken))
+    placed_live c.self.inside.keys c.release_run.new.keys (slots_of (map item_of c.overwrite-written.new.taken.items))
     (both c.args.range.now c.args.version (unwrap_or c.args.at_end (value_at (boundaries_of c.self.inside.keys c.self.inside.tree.items) c.args.range.now.end))
     c.unwrap-begin_key.result (Some c.unwrap-end_key.result)) left
 
@@ -380,7 +379,7 @@ end_released g c left ended is final removed others more same =
     let slot = c.unwrap-begin_key.result in
     let end = c.unwrap-end_key.result in
     subst (λ t. IsLeft g c final (both range c.args.version w slot (unless_ended t end))) (sym is)
-    (second_released c.self.inside.keys c.release_run.new.keys final (slots_of (items_of_run c.overwrite-written.new.taken))
+    (second_released c.self.inside.keys c.release_run.new.keys final (slots_of (map item_of c.overwrite-written.new.taken.items))
     (at_begin range c.args.version w slot) (record { slot = end; key = range.end; version = w }) left removed others more same)
 
 pub release-requires : goal.release-requires
@@ -479,7 +478,7 @@ release-requires-in-Partly g c =
     let left = left_at g run here tell in
     let first = at_begin c.args.range.now c.args.version (end_version g t.After-item) c.unwrap-begin_key.result in
     let end : Placed = record { slot = c.unwrap-end_key.result; key = c.args.range.now.end; version = end_version g t.After-item } in
-    let run_slots = slots_of (items_of_run c.overwrite-written.new.taken) in
+    let run_slots = slots_of (map item_of c.overwrite-written.new.taken.items) in
     let Live = λ (p : Placed). IsLive c.release_run.new.keys p.slot in
     record { live = All-head Live first (end ∷ []) (keys_live g run left) }
 
@@ -492,7 +491,7 @@ release-requires-in-Partly-2 g c =
     let left = left_at g run here tell in
     let first = at_begin c.args.range.now c.args.version (end_version g t.After-item) c.unwrap-begin_key.result in
     let end : Placed = record { slot = c.unwrap-end_key.result; key = c.args.range.now.end; version = end_version g t.After-item } in
-    let run_slots = slots_of (items_of_run c.overwrite-written.new.taken) in
+    let run_slots = slots_of (map item_of c.overwrite-written.new.taken.items) in
     let e = c.release-in-Partly.ensures in
     let mid = c.release-in-Partly.new.self in
     let end_left = first_released c.self.inside.keys c.release_run.new.keys mid run_slots first (end ∷ []) left e.released
@@ -509,7 +508,7 @@ invariant_of-self-in-Partly g c =
     let left = left_at g run here tell in
     let first = at_begin c.args.range.now c.args.version (end_version g t.After-item) c.unwrap-begin_key.result in
     let end : Placed = record { slot = c.unwrap-end_key.result; key = c.args.range.now.end; version = end_version g t.After-item } in
-    let run_slots = slots_of (items_of_run c.overwrite-written.new.taken) in
+    let run_slots = slots_of (map item_of c.overwrite-written.new.taken.items) in
     let e = c.release-in-Partly.ensures in
     let mid = c.release-in-Partly.new.self in
     let end_left = first_released c.self.inside.keys c.release_run.new.keys mid run_slots first (end ∷ []) left e.released
@@ -530,7 +529,7 @@ returns-in-Partly-clause-cleared g c =
     let left = left_at g run here tell in
     let first = at_begin c.args.range.now c.args.version (end_version g t.After-item) c.unwrap-begin_key.result in
     let end : Placed = record { slot = c.unwrap-end_key.result; key = c.args.range.now.end; version = end_version g t.After-item } in
-    let run_slots = slots_of (items_of_run c.overwrite-written.new.taken) in
+    let run_slots = slots_of (map item_of c.overwrite-written.new.taken.items) in
     let e = c.release-in-Partly.ensures in
     let mid = c.release-in-Partly.new.self in
     let end_left = first_released c.self.inside.keys c.release_run.new.keys mid run_slots first (end ∷ []) left e.released
@@ -557,7 +556,7 @@ returns-in-Partly-clause-boundaries g c =
     let left = left_at g run here tell in
     let first = at_begin c.args.range.now c.args.version (end_version g t.After-item) c.unwrap-begin_key.result in
     let end : Placed = record { slot = c.unwrap-end_key.result; key = c.args.range.now.end; version = end_version g t.After-item } in
-    let run_slots = slots_of (items_of_run c.overwrite-written.new.taken) in
+    let run_slots = slots_of (map item_of c.overwrite-written.new.taken.items) in
     let e = c.release-in-Partly.ensures in
     let mid = c.release-in-Partly.new.self in
     let end_left = first_released c.self.inside.keys c.release_run.new.keys mid run_slots first (end ∷ []) left e.released
@@ -578,7 +577,7 @@ returns-in-Partly-clause-fewer g c =
     let left = left_at g run here tell in
     let first = at_begin c.args.range.now c.args.version (end_version g t.After-item) c.unwrap-begin_key.result in
     let end : Placed = record { slot = c.unwrap-end_key.result; key = c.args.range.now.end; version = end_version g t.After-item } in
-    let run_slots = slots_of (items_of_run c.overwrite-written.new.taken) in
+    let run_slots = slots_of (map item_of c.overwrite-written.new.taken.items) in
     let e = c.release-in-Partly.ensures in
     let mid = c.release-in-Partly.new.self in
     let end_left = first_released c.self.inside.keys c.release_run.new.keys mid run_slots first (end ∷ []) left e.released
@@ -599,7 +598,7 @@ returns-in-Partly-clause-none_used g c =
     let left = left_at g run here tell in
     let first = at_begin c.args.range.now c.args.version (end_version g t.After-item) c.unwrap-begin_key.result in
     let end : Placed = record { slot = c.unwrap-end_key.result; key = c.args.range.now.end; version = end_version g t.After-item } in
-    let run_slots = slots_of (items_of_run c.overwrite-written.new.taken) in
+    let run_slots = slots_of (map item_of c.overwrite-written.new.taken.items) in
     let e = c.release-in-Partly.ensures in
     let mid = c.release-in-Partly.new.self in
     let end_left = first_released c.self.inside.keys c.release_run.new.keys mid run_slots first (end ∷ []) left e.released

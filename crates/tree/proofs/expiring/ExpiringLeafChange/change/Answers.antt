@@ -1,16 +1,16 @@
-use Rattle.std.proofs.Common.{rules, Option, Some, false, not, is_some, ℕ, ℤ, ◌≡◌, ◌≢◌, ◌≤◌, ◌<◌, ◌+◌, ◌-◌, ◌∙◌, ◌++◌, ap, sym, subst, refl, List, [], None, length, take, drop, map, arith, to_z, of_z, w64}
+use Rattle.std.proofs.Common.{rules, Bool, false, IsTrue, ◌∷◌, ℕ, ℤ, ◌≡◌, ◌≢◌, ◌≤◌, ◌<◌, ◌+◌, ◌-◌, ◌∙◌, ◌++◌, ap, sym, subst, refl, List, [], length, take, drop, map, arith, to_z, of_z, w64}
 use Rattle.std.proofs.lemmas.Int.{to_z-of_z}
+use Rattle.arena.specs.Arena.{with_header}
 use Rattle.tree.specs.declared.entry.Entry.{Entry}
-use Rattle.tree.specs.declared.node.Node.{Node}
 use Rattle.tree.specs.declared.walk.Outcome.TheVariants.{Changed}
 use Rattle.tree.specs.Heads.{IsPrefixLenAt}
-use Rattle.tree.specs.Item.{Item, item_of}
-use Rattle.tree.specs.Node.{entries_of, items_of_run}
-use Rattle.tree.specs.Path.{IsPartitioned, items_below}
+use Rattle.tree.specs.Item.{Item, item_of, version_of}
+use Rattle.tree.specs.Node.{entries_of}
+use Rattle.tree.specs.Path.{IsPartitioned, first_key, items_below}
 use Rattle.tree.specs.Subtree.{entries_at}
 use Rattle.tree.specs.Expire.{RemovesExpired}
-use Rattle.tree.specs.Tree.{unexpired, expired}
-use Rattle.tree.proofs.ChangedLeaf.{leaf_put}
+use Rattle.tree.specs.Tree.{IsLast, unexpired, expired}
+use Rattle.tree.proofs.ChangedLeaf.{leaf_put, unchanged}
 use Rattle.tree.proofs.Headed.{headed_at}
 use Rattle.tree.proofs.LastRun.{leaf_unexpired, untouched}
 use Rattle.tree.proofs.Leaves.{entries_of_partitioned}
@@ -19,16 +19,16 @@ use Rattle.tree.proofs.Removing.{run}
 use Rattle.tree.proofs.WrittenLeaf.{items_parted, some_item}
 use Rattle.tree.proofs.expiring.ExpiringLeafChange.change.Given as given
 use Rattle.tree.proofs.expiring.ExpiringLeafChange.change.Goals as goal
-use Rattle.tree.proofs.expiring.ExpiringLeafChange.change.Goals.{After-header-leaf, After-remove_expired-self}
+use Rattle.tree.proofs.expiring.ExpiringLeafChange.change.Goals.{After-header_ref-leaf, After-has_expired}
 
 -- the entries of the leaf
-entries_are : (g : given.Over) (c : After-header-leaf g)
-    → entries_at c.args.nodes.now c.args.slot ≡ entries_of c.header-leaf.result
+entries_are : (g : given.Over) (c : After-header_ref-leaf g)
+    → entries_at c.args.nodes.now c.args.slot ≡ entries_of c.header_ref-leaf.result.now
 entries_are g c =
-    entries_from_header c.args.nodes.now c.args.slot c.header-leaf.result c.header-leaf.ensures.header
+    entries_from_header c.args.nodes.now c.args.slot c.header_ref-leaf.result.now c.header_ref-leaf.ensures.header
 
-partitioned_is : (g : given.Over) (c : After-header-leaf g)
-    → IsPartitioned (λ (e : Entry). g.P.Bound.below c.args.self.now.bound.now e.key) (entries_of c.header-leaf.result)
+partitioned_is : (g : given.Over) (c : After-header_ref-leaf g)
+    → IsPartitioned (λ (e : Entry). g.P.Bound.below c.args.self.now.bound.now e.key) (entries_of c.header_ref-leaf.result.now)
 partitioned_is g c =
     let p = g.P.Bound.below c.args.self.now.bound.now in
     subst (λ es. IsPartitioned (λ (e : Entry). p e.key) es) (entries_are g c)
@@ -36,9 +36,9 @@ partitioned_is g c =
 
 pub lower_bound-below-requires : goal.lower_bound-below-requires
 lower_bound-below-requires g c =
-    let h = (goal.at.lower_bound-below-requires g c).After-header-leaf in
+    let h = (goal.at.lower_bound-below-requires g c).After-header_ref-leaf in
     let bound = c.args.self.now.bound.now in
-    let es = entries_of c.header-leaf.result in
+    let es = entries_of c.header_ref-leaf.result.now in
     let some : 0 < length es =
     omega (arith, ap (λ (es : List Entry). length es) (entries_are g h), c.requires.changeable.some) in
     let known =
@@ -47,8 +47,8 @@ lower_bound-below-requires g c =
       omega (arith, c.requires.changeable.few),
       (
         record {
-          headed = headed_at (g.P.Bound.bytes bound) c.args.nodes.now c.args.slot c.header-leaf.result c.requires.searched.headed
-              c.header-leaf.ensures.header;
+          headed = headed_at (g.P.Bound.bytes bound) c.args.nodes.now c.args.slot c.header_ref-leaf.result.now c.requires.searched.headed
+              c.header_ref-leaf.ensures.header;
           partitioned = partitioned_is g h;
           some = some;
         },
@@ -59,24 +59,24 @@ lower_bound-below-requires g c =
 -- Where no entry passes, no item does.
 pub returns-then-below-eq0-clause-items : goal.returns-then-below-eq0-clause-items
 returns-then-below-eq0-clause-items g c =
-    let h = (goal.at.returns-then-below-eq0-clause-items g c).After-header-leaf in
+    let h = (goal.at.returns-then-below-eq0-clause-items g c).After-header_ref-leaf in
     let p = g.P.Bound.below c.args.self.now.bound.now in
-    let es = entries_of c.header-leaf.result in
+    let es = entries_of c.header_ref-leaf.result.now in
     let none : items_below p (map item_of es) ≡ [] =
     (items_parted p es 0 (partitioned_is g h) (omega (arith, c.lower_bound-below.ensures.count.count_is, c.if-below-eq0.true))).0 in (
-      λ _. (refl, ap items_of_run c.requires.none_taken),
+      λ _. (refl, ap (λ (l : List Entry). map item_of l) c.requires.none_taken),
       λ some. absurd (some (ap (λ es. items_below p (map item_of es)) (entries_are g h) ∙ none)),
     )
 
--- Where there is no node of those that went, none went.
-no_run : {N : ℕ} (run : Option (Node N)) → is_some run ≡ false → items_of_run run ≡ []
-no_run None none = refl
-no_run (Some n) none = absurd (cc)
+-- Where it isn't told that some item goes, none does.
+none_goes : (out : List Item) (told : Bool) → (out ≢ [] → IsTrue told) → told ≡ false → out ≡ []
+none_goes [] told some said = refl
+none_goes (x ∷ out) told some said = absurd (let t = some (λ e. absurd (cc)) in cc)
 
 -- where the run stands that is looked at
-module _ (g : given.Over) (c : After-remove_expired-self g) where
+module _ (g : given.Over) (c : After-has_expired g) where
   abbrev es : List Entry
-  es = entries_of c.header-leaf.result
+  es = entries_of c.header_ref-leaf.result.now
 
   abbrev begin : ℕ
   begin = c.lower_bound-below.result - 1
@@ -106,61 +106,90 @@ module _ (g : given.Over) (c : After-remove_expired-self g) where
   within = omega (arith, c.min.ensures, c.len.ensures.len, c.lower_bound-below.ensures.count.within)
 
   -- what becomes of the items of the leaf
-  unexpired_items : (partitioned : IsPartitioned (λ (e : Entry). g.P.Bound.below c.args.self.now.bound.now e.key) es)
-      → entries_at c.args.nodes.now c.args.slot ≡ es → (now : List Item)
+  unexpired_items : IsPartitioned (λ (e : Entry). g.P.Bound.below c.args.self.now.bound.now e.key) es
+      → entries_at c.args.nodes.now c.args.slot ≡ es → (now out : List Item)
       → now ≡ map item_of (take begin es) ++ (unexpired edge before looked ++ map item_of (drop end es))
+      → out ≡ expired edge before looked
       → RemovesExpired (g.P.Bound.below c.args.self.now.bound.now) c.args.self.now.count c.args.self.now.edge
-      c.args.self.now.before c.remove_expired-self.result (items_of_run c.remove_expired-self.new.taken) c.args.place.behind
-      (map item_of (entries_at c.args.nodes.now c.args.slot)) now
-  unexpired_items partitioned read now now_is =
+      c.args.self.now.before c.look_at-self.result out c.args.place.behind (map item_of (entries_at c.args.nodes.now c.args.slot)) now
+  unexpired_items partitioned read now out now_is out_is =
       let t = c.args.self.now in
       let p = g.P.Bound.below t.bound.now in
-      let told = c.remove_expired-self.ensures in
+      let told = c.look_at-self.ensures in
+      let last = subst (λ xs. IsLast c.look_at-self.result.last (map version_of (run xs begin end))) c.entries.ensures.entries told.last in
+      let next = told.next ∙ ap (λ xs. first_key c.args.place.behind (map item_of (drop end xs))) c.entries.ensures.entries in
       let Removal : ℤ → ℤ → List Entry → Type 0 = λ edge before es.
-      RemovesExpired p t.count edge before c.remove_expired-self.result (items_of_run c.remove_expired-self.new.taken) c.args.place.behind
-      (map item_of es) now in
+      RemovesExpired p t.count edge before c.look_at-self.result out c.args.place.behind (map item_of es) now in
       subst (Removal t.edge t.before) (sym read)
       (subst (λ b. Removal t.edge b es) before_is
       (subst (λ e. Removal e before es) edge_is
       (leaf_unexpired es begin end some_looked within p partitioned
-      (omega (arith, c.lower_bound-below.ensures.count.count_is, c.if-below-eq0.false)) t.count edge before c.remove_expired-self.result
-      (items_of_run c.remove_expired-self.new.taken) c.args.place.behind now (omega (arith, c.min.ensures)) told.looked_at told.last
-      now_is told.taken told.next)))
+      (omega (arith, c.lower_bound-below.ensures.count.count_is, c.if-below-eq0.false)) t.count edge before c.look_at-self.result
+      out c.args.place.behind now (omega (arith, c.min.ensures)) told.looked_at last now_is out_is next)))
+
+pub returns-then-not-has_expired-clause-changed : goal.returns-then-not-has_expired-clause-changed
+returns-then-not-has_expired-clause-changed g c =
+    unchanged (g.P.Bound.bytes c.args.self.now.bound.now) c.args.nodes.now 0 c.args.slot c.requires.changeable c.requires.searched.headed
 
 -- Where none goes, all stay.
-pub returns-then-is_none-clause-items : goal.returns-then-is_none-clause-items
-returns-then-is_none-clause-items g c =
-    let at = goal.at.returns-then-is_none-clause-items g c in
-    let t = at.After-remove_expired-self in
-    let h = at.After-header-leaf in
-    let out = no_run c.remove_expired-self.new.taken (c.is_none.ensures ∙ ap not c.if-is_none.true) in
-    let expired_is : expired (edge g t) (before g t) (looked g t) ≡ [] = sym c.remove_expired-self.ensures.taken ∙ out in
+pub returns-then-not-has_expired-clause-items : goal.returns-then-not-has_expired-clause-items
+returns-then-not-has_expired-clause-items g c =
+    let at = goal.at.returns-then-not-has_expired-clause-items g c in
+    let t = at.After-has_expired in
+    let h = at.After-header_ref-leaf in
+    let out : map item_of c.args.taken.now.items ≡ [] = ap (λ (l : List Entry). map item_of l) c.requires.none_taken in
+    let looked_is : expired (edge g t) (before g t) (map item_of (run c.entries-2.result.now (begin g t) (end g t)))
+    ≡ expired (edge g t) (before g t) (looked g t) =
+    ap (λ xs. expired (edge g t) (before g t) (map item_of (run xs (begin g t) (end g t)))) c.entries-2.ensures.entries in
+    let expired_is : expired (edge g t) (before g t) (looked g t) ≡ [] =
+    sym looked_is ∙ none_goes _ c.has_expired.result c.has_expired.ensures.expired.1 c.if-not-has_expired.true in
     let same = ap (map item_of) (entries_are g h)
-    ∙ untouched (es g t) (begin g t) (end g t) (some_looked g t) (within g t) (edge g t) (before g t) expired_is in
-    (λ none. (refl, out), λ some. unexpired_items g t (partitioned_is g h) (entries_are g h) (map item_of (entries_at c.args.nodes.now c.args.slot)) same)
+    ∙ untouched (es g t) (begin g t) (end g t) (some_looked g t) (within g t) (edge g t) (before g t) expired_is in (
+      λ none. (refl, out),
+      λ some.
+          unexpired_items g t (partitioned_is g h) (entries_are g h) (map item_of (entries_at c.args.nodes.now c.args.slot))
+          (map item_of c.args.taken.now.items) same (out ∙ sym expired_is),
+    )
+
+pub lengthen_prefix-requires : goal.lengthen_prefix-requires
+lengthen_prefix-requires g c =
+    let bytes = g.P.Bound.bytes c.args.self.now.bound.now in
+    let was = headed_at bytes c.args.nodes.now c.args.slot c.header_mut-leaf.result.now c.requires.searched.headed
+    c.header_mut-leaf.ensures.header in
+    (omega (arith, c.requires.changeable.few), c.remove_expired.ensures.headed bytes was)
 
 pub returns-clause-changed : goal.returns-clause-changed
 returns-clause-changed g c =
     let bytes = g.P.Bound.bytes c.args.self.now.bound.now in
-    leaf_put bytes c.args.nodes.now c.set_header.new.self c.args.slot c.lengthen_prefix.new.self Changed
-    c.set_header.ensures.replaced c.requires.changeable c.requires.searched.headed c.lengthen_prefix.ensures.headed refl
-    (λ e. absurd (cc)) (λ version e. absurd (cc))
+    let node = c.lengthen_prefix.new.self in
+    leaf_put bytes c.args.nodes.now (with_header c.args.nodes.now c.args.slot node) c.args.slot node Changed refl
+    c.requires.changeable c.requires.searched.headed c.lengthen_prefix.ensures.headed refl (λ e. absurd (cc))
+    (λ version e. absurd (cc))
 
 pub returns-clause-items : goal.returns-clause-items
 returns-clause-items g c =
     let at = goal.at.returns-clause-items g c in
-    let t = at.After-remove_expired-self in
-    let h = at.After-header-leaf in
+    let t = at.After-has_expired in
+    let h = at.After-header_ref-leaf in
     let p = g.P.Bound.below c.args.self.now.bound.now in
+    let old = c.args.nodes.now in
     let slot = c.args.slot in
-    let b = c.set_header.new.self in
-    let after : entries_at b slot ≡ entries_of c.lengthen_prefix.new.self =
-    put_entries c.args.nodes.now b slot c.lengthen_prefix.new.self c.set_header.ensures.replaced in
+    let node = c.lengthen_prefix.new.self in
+    let new = with_header old slot node in
+    let there : entries_of c.header_mut-leaf.result.now ≡ es g t =
+    sym (entries_from_header old slot c.header_mut-leaf.result.now c.header_mut-leaf.ensures.header) ∙ entries_are g h in
+    let kept = subst (λ xs. map item_of (entries_of c.remove_expired.new.node) ≡ map item_of (take (begin g t) xs)
+    ++ (unexpired (edge g t) (before g t) (map item_of (run xs (begin g t) (end g t))) ++ map item_of (drop (end g t) xs)))
+    there c.remove_expired.ensures.kept in
+    let after : entries_at new slot ≡ entries_of c.remove_expired.new.node =
+    put_entries old new slot node refl ∙ c.lengthen_prefix.ensures.entries in
+    let out = c.remove_expired.ensures.taken
+    ∙ ap (λ xs. expired (edge g t) (before g t) (map item_of (run xs (begin g t) (end g t)))) there in
     let some : items_below p (map item_of (es g t)) ≢ [] =
     some_item p (es g t) c.lower_bound-below.result (omega (arith, c.if-below-eq0.false)) c.lower_bound-below.ensures.count.count_is in (
       λ none.
           absurd (some (ap (λ es. items_below p (map item_of es)) (sym (entries_are g h)) ∙ none)),
       λ _.
-          unexpired_items g t (partitioned_is g h) (entries_are g h) (map item_of (entries_at b slot))
-          (ap (map item_of) (after ∙ c.lengthen_prefix.ensures.entries) ∙ c.remove_expired-self.ensures.kept),
+          unexpired_items g t (partitioned_is g h) (entries_are g h) (map item_of (entries_at new slot))
+          (map item_of c.remove_expired.new.taken.items) (ap (map item_of) after ∙ kept) out,
     )

@@ -1,17 +1,17 @@
-use Rattle.std.proofs.Common.{rules, ℕ, ◌≡◌, ◌≤◌, ◌<◌, ◌∙◌, ap, sym, subst, refl, Bool, List, []}
+use Rattle.std.proofs.Common.{rules, ℕ, ◌+◌, ◌-◌, ◌≡◌, ◌≤◌, ◌<◌, ◌∙◌, ap, sym, subst, refl, Bool, List, []}
 use Rattle.std.proofs.Common.{true, false, is_some, None, Option, Some, ◌++◌, length, take, drop, filter, map, arith}
 use Rattle.std.proofs.Common.{ℤ, SFits, w64, to_z, of_z, nat_eq, inl, inr, ◌⊎◌, IsTrue, not, unwrap_or}
 use Rattle.arena.specs.Arena.{with_header}
-use Rattle.std.specs.Prelude.{◌≢◌}
+use Rattle.std.specs.Prelude.{◌≢◌, slice_range, Result, Ok, OnOk}
 use Rattle.std.specs.List.{All}
 use Rattle.std.proofs.lemmas.Bool.{leb-true, not-false}
 use Rattle.std.proofs.lemmas.Int.{to_z-of_z}
-use Rattle.std.proofs.lemmas.List.{drop_all, length-take-le, map-append}
+use Rattle.std.proofs.lemmas.List.{drop-take, map-append}
 use Rattle.tree.specs.declared.entry.Entry.{Entry}
 use Rattle.tree.specs.declared.node.Node.{Node}
 use Rattle.tree.specs.Heads.{AreHeads, IsKnown, IsPrefixLenAt, HasPrefix}
 use Rattle.tree.specs.Item.{Item, item_of}
-use Rattle.tree.specs.Node.{entries_of, key_heads_of, keys_of, items_of_run}
+use Rattle.tree.specs.Node.{entries_of, key_heads_of, keys_of}
 use Rattle.tree.specs.declared.walk.Outcome.TheVariants.{Changed, Raised}
 use Rattle.tree.specs.Overwrite.{IsOverwritten, GivesWhole, first_is_below}
 use Rattle.tree.specs.Walk.{IsRaised}
@@ -28,8 +28,8 @@ use Rattle.tree.proofs.Placing.{entries_from_header, put_entries}
 use Rattle.tree.proofs.ChangedLeaf.{leaf_put}
 use Rattle.tree.proofs.WrittenLeaf.{some_item, part_partitioned, items_parted, last_version, between_entries, replaced, raised, ended_in_leaf, ended_behind}
 use Rattle.tree.proofs.overwrite.OverwritingLeafChange.change.Goals.{After-header_ref-leaf, After-lower_bound_back-begin, After-map_or-last}
-use Rattle.tree.proofs.overwrite.OverwritingLeafChange.change.Goals.{Joined-begin-end, Joined-else-begin-eq0, Joined-ended, Joined-is_some}
-use Rattle.tree.proofs.overwrite.OverwritingLeafChange.change.Goals.{then-begin-end, else-begin-end, then-end-len, else-end-len}
+use Rattle.tree.proofs.overwrite.OverwritingLeafChange.change.Goals.{After-unwrap, Joined-else-begin-eq0, Joined-ended, Joined-is_some}
+use Rattle.tree.proofs.overwrite.OverwritingLeafChange.change.Goals.{then-end-len, else-end-len}
 use Rattle.tree.proofs.overwrite.OverwritingLeafChange.change.Goals.{then-ended, else-ended, then-is_some, else-is_some}
 use Rattle.tree.proofs.overwrite.OverwritingLeafChange.change.Goals.{else-begin-eq0-via-then-begin-eq0+else-not-place, then-end-eq0, else-end-eq0, else-begin-eq0-via-else-begin-eq0}
 use Rattle.tree.proofs.overwrite.OverwritingLeafChange.change.Given as given
@@ -140,6 +140,11 @@ lower_bound_back-begin-requires g c =
       ),
     )
 
+pub is_below_at-ended-requires : goal.is_below_at-ended-requires
+is_below_at-ended-requires g c =
+    let h = (goal.at.is_below_at-ended-requires g c).After-header_ref-leaf in
+    (search rules, (past_headed g h, (search rules, search rules)))
+
 -- no more entries are below the first bound
 ordered : (g : given.Over) (c : After-lower_bound_back-begin g) → c.lower_bound_back-begin.result ≤ c.lower_bound-end.result
 ordered g c =
@@ -171,22 +176,35 @@ head_for-head-requires-then-end-len g c =
       ),
     )
 
+pub slice_bounds-try_extend_from_slice-count : goal.slice_bounds-try_extend_from_slice-count
+slice_bounds-try_extend_from_slice-count g c =
+    ordered g (goal.at.slice_bounds-try_extend_from_slice-count g c).After-lower_bound_back-begin
+
+pub slice_bounds-try_extend_from_slice-start : goal.slice_bounds-try_extend_from_slice-start
+slice_bounds-try_extend_from_slice-start g c =
+    ordered g (goal.at.slice_bounds-try_extend_from_slice-start g c).After-lower_bound_back-begin
+
+if_ok : {X E : Type 0} (P : Type 0) (r : Result X E) (x : X) → r ≡ Ok x → OnOk r P → P
+if_ok P r x e h = subst (λ r. OnOk r P) e h
+
 -- the items that are taken out
-taken_out : (g : given.Over) (c : Joined-begin-end g)
-    → items_of_run c.if-begin-end.taken
+taken_out : (g : given.Over) (c : After-unwrap g) → c.lower_bound_back-begin.result ≤ c.lower_bound-end.result
+    → map item_of c.try_extend_from_slice.new.self.items
     ≡ map item_of (drop c.lower_bound_back-begin.result (take c.lower_bound-end.result (entries_of c.header_ref-leaf.result.now)))
-taken_out g c =
+taken_out g c in_order =
     let begin = c.lower_bound_back-begin.result in
     let end = c.lower_bound-end.result in
     let es = entries_of c.header_ref-leaf.result.now in
-    elim c.if-begin-end.branch [
-      | then-begin-end w ↦ ap items_of_run w.taken-is ∙ w.hand_out.ensures.taken
-      | else-begin-end w ↦
-          let size : length (take end es) ≡ end = length-take-le end es c.lower_bound-end.ensures.count.within in
-          let none : drop begin (take end es) ≡ [] =
-          drop_all begin (take end es) (omega (arith, size, w.if-begin-end.false)) in
-          ap items_of_run (w.taken-is ∙ c.requires.none_taken) ∙ sym (ap (map item_of) none)
-    ]
+    let out = c.entries.result.now in
+    let now = c.try_extend_from_slice.new.self.items in
+    let put : now ≡ c.args.taken.now.items ++ slice_range out begin end =
+    if_ok (now ≡ c.args.taken.now.items ++ slice_range out begin end) c.try_extend_from_slice.result c.unwrap.result
+    c.unwrap.ensures c.try_extend_from_slice.ensures.ok in
+    let all : begin + (end - begin) ≡ end = omega (arith, in_order) in
+    let run_is : slice_range es begin end ≡ drop begin (take end es) =
+    sym (drop-take begin (end - begin) es) ∙ ap (λ n. drop begin (take n es)) all in
+    ap (λ (l : List Entry). map item_of l) (put ∙ ap (λ (l : List Entry). l ++ slice_range out begin end) c.requires.none_taken
+    ∙ ap (λ (l : List Entry). slice_range l begin end) c.entries.ensures.entries ∙ run_is)
 
 -- An item before the run is in the leaf, or none stands before the leaf's, of which one passes.
 entered : (g : given.Over) (c : Joined-else-begin-eq0 g)
@@ -398,8 +416,8 @@ last_told : (g : given.Over) (c : After-map_or-last g) (x : Item)
 last_told g c x first last =
     let es = entries_of c.header_ref-leaf.result.now in
     let end = c.lower_bound-end.result in
-    last_version (g.Q.Bound.below c.args.self.now.new.now.to.now) es (take end c.entries.result.now) c.last.result
-    c.map_or-last.result _ _ (ap (take end) c.entries.ensures.entries ∙ first) c.last.ensures.value
+    last_version (g.Q.Bound.below c.args.self.now.new.now.to.now) es (take end c.entries-2.result.now) c.last.result
+    c.map_or-last.result _ _ (ap (take end) c.entries-2.ensures.entries ∙ first) c.last.ensures.value
     c.map_or-last.ensures (λ e h. search rules) x last
 
 -- what is given of a leaf of which the run is written over
@@ -407,11 +425,11 @@ abbrev GivenLeaf : (g : given.Over) → Joined-ended g → List Item → List It
 GivenLeaf g c was now =
     let new = c.args.self.now.new.now in
     GivesWhole (p g c) (q g c) (past g c) (item_of new.first) new.second new.last c.if-end-len.ended
-    (items_of_run c.if-begin-end.taken) c.args.place.is_first c.args.place.behind was now
+    (map item_of c.try_extend_from_slice.new.self.items) c.args.place.is_first c.args.place.behind was now
 
 whole : (g : given.Over) (c : Joined-ended g) → IsPartitioned (λ (e : Entry). p g c e.key) (es g c)
     → IsPartitioned (λ (e : Entry). q g c e.key) (es g c) → c.lower_bound_back-begin.result ≤ c.lower_bound-end.result
-    → items_of_run c.if-begin-end.taken
+    → map item_of c.try_extend_from_slice.new.self.items
     ≡ map item_of (drop c.lower_bound_back-begin.result (take c.lower_bound-end.result (es g c)))
     → (1 ≤ c.lower_bound_back-begin.result) ⊎ (IsTrue c.args.place.is_first × (1 ≤ c.lower_bound-end.result))
     → ((x : Item) → IsLast x (items_below (q g c) (map item_of (es g c))) → c.map_or-last.result ≡ x.version)
@@ -487,9 +505,9 @@ returns-then-not-place-clause-items g c =
     sym (entries_from_header old slot c.header_mut.result.now c.header_mut.ensures.header) ∙ read in
     let left : entries_at (with_header old slot node) slot ≡ drop end es =
     put_entries old (with_header old slot node) slot node refl ∙ c.remove.ensures.entries ∙ ap (drop end) there in
-    let run_is : items_of_run c.if-begin-end.taken ≡ items_below q (map item_of es) =
-    taken_out g at.Joined-begin-end ∙ ap (λ n. map item_of (drop n (take end es))) c.if-begin-eq0.true
-    ∙ sym parts.0 in
+    let run_is : map item_of c.try_extend_from_slice.new.self.items ≡ items_below q (map item_of es) =
+    taken_out g at.After-unwrap (ordered g at.After-lower_bound_back-begin)
+    ∙ ap (λ n. map item_of (drop n (take end es))) c.if-begin-eq0.true ∙ sym parts.0 in
     let passing_is : items_below q (map item_of (entries_at old slot)) ≡ items_below q (map item_of es) =
     ap (λ es. items_below q (map item_of es)) read in
     let behind_is : behind q (map item_of (entries_at old slot)) ≡ behind q (map item_of es) =
@@ -547,7 +565,8 @@ returns-then-begin-entries-clause-items g c =
     subst (λ xs. GivenLeaf g j (map item_of xs) (map item_of (entries_at b slot) ++ map item_of (entries_at b added)))
     (sym read)
     (subst (GivenLeaf g j (map item_of (es g j))) (map-append item_of (entries_at b slot) (entries_at b added))
-    (whole g j (below_from g h) (below_to g h) (ordered g at.After-lower_bound_back-begin) (taken_out g at.Joined-begin-end)
+    (whole g j (below_from g h) (below_to g h) (ordered g at.After-lower_bound_back-begin)
+    (taken_out g at.After-unwrap (ordered g at.After-lower_bound_back-begin))
     (entered g at.Joined-else-begin-eq0) (λ x last. last_told g at.After-map_or-last x
     (parted (q g j) (es g j) end (below_to g h) c.lower_bound-end.ensures.count.count_is).0 last) (new_is g j) now now_is))
 
@@ -581,7 +600,8 @@ returns-then-begin-eq0-2-clause-items g c =
     put_entries old (with_header old slot node) slot node refl ∙ c.splice_with_heads.ensures.entries
     ∙ ap (λ xs. take begin xs ++ (c.if-ended.entries.now ++ drop end xs)) there in
     subst (λ xs. GivenLeaf g j (map item_of xs) (map item_of now)) (sym read)
-    (whole g j (below_from g h) (below_to g h) (ordered g at.After-lower_bound_back-begin) (taken_out g at.Joined-begin-end)
+    (whole g j (below_from g h) (below_to g h) (ordered g at.After-lower_bound_back-begin)
+    (taken_out g at.After-unwrap (ordered g at.After-lower_bound_back-begin))
     (entered g at.Joined-else-begin-eq0) (λ x last. last_told g at.After-map_or-last x
     (parted (q g j) (es g j) end (below_to g h) c.lower_bound-end.ensures.count.count_is).0 last) (new_is g j) now now_is)
 
@@ -607,7 +627,8 @@ returns-clause-items g c =
     put_entries old (with_header old slot node) slot node refl ∙ c.splice_with_heads.ensures.entries
     ∙ ap (λ xs. take begin xs ++ (c.if-ended.entries.now ++ drop end xs)) there in
     subst (λ xs. GivenLeaf g j (map item_of xs) (map item_of now)) (sym read)
-    (whole g j (below_from g h) (below_to g h) (ordered g at.After-lower_bound_back-begin) (taken_out g at.Joined-begin-end)
+    (whole g j (below_from g h) (below_to g h) (ordered g at.After-lower_bound_back-begin)
+    (taken_out g at.After-unwrap (ordered g at.After-lower_bound_back-begin))
     (inl (omega (arith, c.if-begin-eq0-2.false))) (λ x last. last_told g at.After-map_or-last x
     (parted (q g j) (es g j) end (below_to g h) c.lower_bound-end.ensures.count.count_is).0 last) (new_is g j) now now_is)
 

@@ -1,9 +1,8 @@
 use Rattle.std.proofs.Common.{rules, ◌≡◌, ◌≢◌, ◌≤◌, ◌+◌, ◌-◌, ◌∙◌, ℕ, Bool, length, ap, sym, subst, arith}
-use Rattle.std.proofs.Common.{List, [], Fits, w64}
-use Rattle.std.proofs.lemmas.List.{append-nil}
+use Rattle.std.proofs.Common.{List, [], map, Fits, w64}
+use Rattle.std.proofs.lemmas.List.{append-nil, length-map}
 use Rattle.tree.specs.Heads.{AllAreHeads}
 use Rattle.tree.specs.Item.{Item, item_of}
-use Rattle.tree.specs.Node.{items_of_run}
 use Rattle.tree.specs.Overwrite.{Overwrites, put_of}
 use Rattle.tree.specs.Path.{IsPartitioned, items_below}
 use Rattle.tree.specs.Subtree.{items_in}
@@ -13,11 +12,11 @@ use Rattle.tree.proofs.HeadList.{headed_from_list, headed_in_list}
 use Rattle.tree.proofs.Inserting.{tree_put}
 use Rattle.tree.proofs.KnownItems.{know_items}
 use Rattle.tree.proofs.LeafChange.{root_some}
-use Rattle.tree.proofs.OverwrittenItems.{length-overwritten, length-lent, put_most}
+use Rattle.tree.proofs.OverwrittenItems.{length-overwritten, put_most}
 use Rattle.tree.proofs.PartWritten.{overwritten}
 use Rattle.tree.proofs.tree.Tree.overwrite.Given as given
 use Rattle.tree.proofs.tree.Tree.overwrite.Goals as goal
-use Rattle.tree.proofs.tree.Tree.overwrite.Goals.{After-change, After-map_or}
+use Rattle.tree.proofs.tree.Tree.overwrite.Goals.{After-change, After-len}
 
 pub change-requires : goal.change-requires
 change-requires g c =
@@ -32,22 +31,25 @@ change-requires g c =
     let from = g.P.Bound.below new.from.now in (
       omega (arith, c.self.invariant.few),
       (
-        record {
-          fan_out = c.self.invariant.fan_out;
-          few = c.self.invariant.few;
-          low = height;
-          rooted = c.self.invariant.rooted;
-          some = root_some t.nodes t.root.slot t.root.height t.len t.room c.self.invariant;
-          room = omega (arith, height, spare);
-        },
+        omega (arith, c.self.invariant.few),
         (
-          subst (KeyBound (g.Q.Bound.below new.to.now)) items_are c.requires.to,
+          record {
+            fan_out = c.self.invariant.fan_out;
+            few = c.self.invariant.few;
+            low = height;
+            rooted = c.self.invariant.rooted;
+            some = root_some t.nodes t.root.slot t.root.height t.len t.room c.self.invariant;
+            room = omega (arith, height, spare);
+          },
           (
-            headed_from_list bytes t.nodes
-                (subst (λ (v : Items). AllAreHeads bytes (tree_heads v)) (sym c.self.view_is) c.requires.headed),
+            subst (KeyBound (g.Q.Bound.below new.to.now)) items_are c.requires.to,
             (
-              ([], [], subst (KeyBound from) (sym (append-nil items)) (subst (KeyBound from) items_are c.requires.from)),
-              c.requires.none_taken,
+              headed_from_list bytes t.nodes
+                  (subst (λ (v : Items). AllAreHeads bytes (tree_heads v)) (sym c.self.view_is) c.requires.headed),
+              (
+                ([], [], subst (KeyBound from) (sym (append-nil items)) (subst (KeyBound from) items_are c.requires.from)),
+                c.requires.none_taken,
+              ),
             ),
           ),
         ),
@@ -61,7 +63,7 @@ Done g c =
     let n = c.change.new in
     let new = c.args.new.now in
     Overwrites (g.P.Bound.below new.from.now) (g.Q.Bound.below new.to.now) (g.R.Bound.below new.past.now)
-    (item_of new.first) new.second new.last n.change.written (items_of_run n.taken)
+    (item_of new.first) new.second new.last n.change.written (map item_of n.taken.items)
     (items_in t.nodes t.root.height t.root.slot) (items_in n.nodes n.root.height n.root.slot)
 
 some_pass : (g : given.Over) (c : After-change g)
@@ -81,7 +83,7 @@ done g c =
     let past = g.R.Bound.below new.past.now in
     let KeyBound : (ℕ → Bool) → List Item → Type 0 = λ is_below items. IsPartitioned (λ (x : Item). is_below x.key) items in
     let items_are = sym (ap (λ v. v.items) c.self.view_is) in
-    overwritten p q past new.nested (item_of new.first) new.second new.last n.change.written (items_of_run n.taken)
+    overwritten p q past new.nested (item_of new.first) new.second new.last n.change.written (map item_of n.taken.items)
     (items_in t.nodes t.root.height t.root.slot) (items_in n.nodes n.root.height n.root.slot) c.change.ensures.items
     (subst (KeyBound p) items_are c.requires.from) (subst (KeyBound q) items_are c.requires.to)
     (subst (KeyBound past) items_are c.requires.past) (some_pass g c)
@@ -91,7 +93,7 @@ abbrev Counted : (g : given.Over) → After-change g → Type 0
 Counted g c =
     let t = c.self.inside in
     let n = c.change.new in
-    (length (items_in n.nodes n.root.height n.root.slot) + length (items_of_run n.taken)
+    (length (items_in n.nodes n.root.height n.root.slot) + length (map item_of n.taken.items)
     ≡ length (items_in t.nodes t.root.height t.root.slot) + put_of n.change.written)
     × (1 ≤ length (items_in n.nodes n.root.height n.root.slot))
 
@@ -102,16 +104,14 @@ counted g c =
     let new = c.args.new.now in
     length-overwritten (g.P.Bound.below new.from.now) (g.Q.Bound.below new.to.now)
     (g.R.Bound.below new.past.now) new.nested (item_of new.first) new.second new.last n.change.written
-    (items_of_run n.taken) (items_in t.nodes t.root.height t.root.slot) (items_in n.nodes n.root.height n.root.slot)
+    (map item_of n.taken.items) (items_in t.nodes t.root.height t.root.slot) (items_in n.nodes n.root.height n.root.slot)
     (some_pass g c) (done g c)
 
-taken_is : (g : given.Over) (c : After-map_or g) → c.map_or.result ≡ length (items_of_run c.change.new.taken)
-taken_is g c =
-    length-lent c.as_ref.result c.change.new.taken _ c.map_or.result c.as_ref.ensures.value c.map_or.ensures
-    (λ n h. search rules)
+taken_is : (g : given.Over) (c : After-len g) → c.len.result ≡ length (map item_of c.change.new.taken.items)
+taken_is g c = c.len.ensures.value ∙ sym (length-map c.change.new.taken.items item_of)
 
 -- there is room for one or two more
-room_left : (g : given.Over) (c : After-map_or g)
+room_left : (g : given.Over) (c : After-len g)
     → length (items_in c.self.inside.nodes c.self.inside.root.height c.self.inside.root.slot) + 2 ≤ c.self.inside.room
 room_left g c = subst (λ (v : Items). length v.items + 2 ≤ v.room) (sym c.self.view_is) c.requires.room
 
@@ -128,7 +128,7 @@ overflow_sub-self g c =
     let at = goal.at.overflow_sub-self g c in
     omega (
       arith,
-      taken_is g at.After-map_or,
+      taken_is g at.After-len,
       c.put.ensures.put,
       (counted g at.After-change).0,
       c.self.invariant.counted,
@@ -140,12 +140,12 @@ invariant_of-self g c =
     let t = c.self.inside in
     let n = c.change.new in
     let count = counted g at.After-change in
-    let taken = taken_is g at.After-map_or in
+    let taken = taken_is g at.After-len in
     let put = c.put.ensures.put in
-    let room = room_left g at.After-map_or in
+    let room = room_left g at.After-len in
     let most = put_most n.change.written in
     tree_put t.nodes n.nodes t.root.slot t.root.height n.root.slot n.root.height t.len
-    (t.len + c.put.result - c.map_or.result) t.room c.self.invariant c.change.ensures.rooted
+    (t.len + c.put.result - c.len.result) t.room c.self.invariant c.change.ensures.rooted
     c.change.ensures.spare (omega (arith, count.0, taken, put, c.self.invariant.counted))
     (omega (arith, count.0, count.1, taken, put, c.self.invariant.counted))
     (omega (arith, room, count.0, taken, put, most, c.self.invariant.counted))
@@ -157,7 +157,7 @@ returns-clause-items g c =
     let new = c.args.new.now in
     subst (λ (v : Items). Overwrites (g.P.Bound.below new.from.now) (g.Q.Bound.below new.to.now)
     (g.R.Bound.below new.past.now) (item_of new.first) new.second new.last n.change.written
-    (items_of_run n.taken) v.items (items_in n.nodes n.root.height n.root.slot)) c.self.view_is (done g at)
+    (map item_of n.taken.items) v.items (items_in n.nodes n.root.height n.root.slot)) c.self.view_is (done g at)
 
 pub returns-clause-headed : goal.returns-clause-headed
 returns-clause-headed g c =

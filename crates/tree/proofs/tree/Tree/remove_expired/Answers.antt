@@ -1,9 +1,9 @@
-use Rattle.std.proofs.Common.{◌≡◌, ◌≢◌, ◌≤◌, ◌+◌, ◌-◌, ◌∙◌, None, length, ap, sym, subst, arith, rules, to_z, of_z, w64}
-use Rattle.std.proofs.Common.{List, []}
+use Rattle.std.proofs.Common.{◌≡◌, ◌≢◌, ◌≤◌, ◌+◌, ◌-◌, ◌∙◌, None, length, ap, sym, subst, arith, to_z, of_z, w64}
+use Rattle.std.proofs.Common.{List, [], map}
 use Rattle.std.proofs.lemmas.Int.{to_z-of_z}
+use Rattle.std.proofs.lemmas.List.{length-map}
 use Rattle.tree.specs.Heads.{AllAreHeads}
-use Rattle.tree.specs.Item.{Item}
-use Rattle.tree.specs.Node.{items_of_run}
+use Rattle.tree.specs.Item.{Item, item_of}
 use Rattle.tree.specs.Path.{IsPartitioned, items_below}
 use Rattle.tree.specs.Subtree.{items_in}
 use Rattle.tree.specs.Expire.{RemovesExpired}
@@ -13,7 +13,6 @@ use Rattle.tree.proofs.HeadList.{headed_from_list, headed_in_list}
 use Rattle.tree.proofs.Inserting.{tree_put}
 use Rattle.tree.proofs.KnownItems.{know_items}
 use Rattle.tree.proofs.LeafChange.{root_some}
-use Rattle.tree.proofs.OverwrittenItems.{length-lent}
 use Rattle.tree.proofs.PartUnexpired.{unexpired_all, length-unexpired}
 use Rattle.tree.proofs.tree.Tree.remove_expired.Given as given
 use Rattle.tree.proofs.tree.Tree.remove_expired.Goals as goal
@@ -28,20 +27,23 @@ change-requires g c =
     let spare = enough_spare t.nodes t.root.slot t.root.height t.len t.room c.self.invariant in (
       omega (arith, c.self.invariant.few),
       (
-        record {
-          fan_out = c.self.invariant.fan_out;
-          few = c.self.invariant.few;
-          low = height;
-          rooted = c.self.invariant.rooted;
-          some = root_some t.nodes t.root.slot t.root.height t.len t.room c.self.invariant;
-          room = omega (arith, height, spare);
-        },
+        omega (arith, c.self.invariant.few),
         (
-          subst (λ items. IsPartitioned (λ (x : Item). p x.key) items) (sym (ap (λ v. v.items) c.self.view_is)) c.requires.partitioned,
+          record {
+            fan_out = c.self.invariant.fan_out;
+            few = c.self.invariant.few;
+            low = height;
+            rooted = c.self.invariant.rooted;
+            some = root_some t.nodes t.root.slot t.root.height t.len t.room c.self.invariant;
+            room = omega (arith, height, spare);
+          },
           (
-            headed_from_list bytes t.nodes
-                (subst (λ (v : Items). AllAreHeads bytes (tree_heads v)) (sym c.self.view_is) c.requires.headed),
-            (tt, c.requires.none_taken),
+            subst (λ items. IsPartitioned (λ (x : Item). p x.key) items) (sym (ap (λ v. v.items) c.self.view_is)) c.requires.partitioned,
+            (
+              headed_from_list bytes t.nodes
+                  (subst (λ (v : Items). AllAreHeads bytes (tree_heads v)) (sym c.self.view_is) c.requires.headed),
+              (tt, c.requires.none_taken),
+            ),
           ),
         ),
       ),
@@ -52,7 +54,7 @@ abbrev Done : (g : given.Over) → After-change g → List Item → Type 0
 Done g c was =
     let n = c.change.new in
     RemovesExpired (g.P.Bound.below c.args.bound.now) c.args.count c.args.edge c.args.before n.change.removal
-    (items_of_run n.taken) None was (items_in n.nodes n.root.height n.root.slot)
+    (map item_of n.taken.items) None was (items_in n.nodes n.root.height n.root.slot)
 
 done : (g : given.Over) (c : After-change g)
     → Done g c (items_in c.self.inside.nodes c.self.inside.root.height c.self.inside.root.slot)
@@ -64,7 +66,7 @@ done g c =
     let before : to_z w64 (of_z w64 c.args.before) ≡ c.args.before = to_z-of_z w64 c.args.before c.ranges.before in
     let some : items_below p (items_in t.nodes t.root.height t.root.slot) ≢ [] = λ none.
     c.requires.some (ap (λ (v : Items). items_below p v.items) (sym c.self.view_is) ∙ none) in
-    unexpired_all p c.args.count c.args.edge c.args.before n.change.removal (items_of_run n.taken)
+    unexpired_all p c.args.count c.args.edge c.args.before n.change.removal (map item_of n.taken.items)
     (items_in t.nodes t.root.height t.root.slot) (items_in n.nodes n.root.height n.root.slot)
     (rw (edge, before) at c.change.ensures.items) some
 
@@ -73,7 +75,7 @@ abbrev Counted : (g : given.Over) → After-change g → Type 0
 Counted g c =
     let t = c.self.inside in
     let n = c.change.new in
-    (length (items_in n.nodes n.root.height n.root.slot) + length (items_of_run n.taken)
+    (length (items_in n.nodes n.root.height n.root.slot) + length (map item_of n.taken.items)
     ≡ length (items_in t.nodes t.root.height t.root.slot))
     × (1 ≤ length (items_in n.nodes n.root.height n.root.slot))
 
@@ -82,15 +84,14 @@ counted g c =
     let t = c.self.inside in
     let n = c.change.new in
     let p = g.P.Bound.below c.args.bound.now in
-    length-unexpired p c.args.count c.args.edge c.args.before n.change.removal (items_of_run n.taken)
+    length-unexpired p c.args.count c.args.edge c.args.before n.change.removal (map item_of n.taken.items)
     (items_in t.nodes t.root.height t.root.slot) (items_in n.nodes n.root.height n.root.slot) None (done g c)
     (λ one. c.requires.first (ap (λ (v : Items). length (items_below p v.items)) (sym c.self.view_is) ∙ one))
 
 pub overflow_sub-self : goal.overflow_sub-self
 overflow_sub-self g c =
     let at = (goal.at.overflow_sub-self g c).After-change in
-    let taken = length-lent c.as_ref.result c.change.new.taken _ c.map_or.result c.as_ref.ensures.value
-    c.map_or.ensures (λ n h. search rules) in
+    let taken = c.len.ensures.value ∙ sym (length-map c.change.new.taken.items item_of) in
     omega (arith, taken, counted g at, c.self.invariant.counted)
 
 pub invariant_of-self : goal.invariant_of-self
@@ -98,10 +99,9 @@ invariant_of-self g c =
     let at = (goal.at.invariant_of-self g c).After-change in
     let t = c.self.inside in
     let n = c.change.new in
-    let taken = length-lent c.as_ref.result n.taken _ c.map_or.result c.as_ref.ensures.value c.map_or.ensures
-    (λ n h. search rules) in
+    let taken = c.len.ensures.value ∙ sym (length-map n.taken.items item_of) in
     let count = counted g at in
-    tree_put t.nodes n.nodes t.root.slot t.root.height n.root.slot n.root.height t.len (t.len - c.map_or.result) t.room
+    tree_put t.nodes n.nodes t.root.slot t.root.height n.root.slot n.root.height t.len (t.len - c.len.result) t.room
     c.self.invariant c.change.ensures.rooted c.change.ensures.spare
     (omega (arith, count.0, taken, c.self.invariant.counted))
     (omega (arith, count.0, count.1, taken, c.self.invariant.counted))
