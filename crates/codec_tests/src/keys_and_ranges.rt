@@ -2,7 +2,7 @@
 
 use crate::rows::expect;
 use fixtures::{Unmade, key, range};
-use keys::same_bytes;
+use keys::{head_behind, key_hash, same_bytes};
 use keyspace::{Range, common_prefix_len, key_head};
 use std::alloc::Global;
 use std::test::Fail;
@@ -81,6 +81,57 @@ fn heads_of_short_keys(rt: HostRuntime) {
     ] {
         assert_eq!(rt; key_head(key.as_bytes()), number, "of {key}");
     }
+}
+
+#[test]
+fn heads_behind_prefixes(rt: HostRuntime) {
+    for (key, prefix_len, number) in [
+        ("abcdefghij", 0, 0x6162_6364_6566_6768),
+        ("abcdefghij", 2, 0x6364_6566_6768_696a),
+        ("abcdefghij", 3, 0x6465_6667_6869_6a00),
+        ("abcdefghij", 9, 0x6a00_0000_0000_0000),
+        ("abcdefghij", 10, 0),
+        ("abcdefghij", 11, 0),
+        ("abc", 1, 0x6263_0000_0000_0000),
+        ("abc", 3, 0),
+    ] {
+        assert_eq!(rt;
+            head_behind(key.as_bytes(), prefix_len),
+            number,
+            "of {key} behind {prefix_len}"
+        );
+    }
+}
+
+// Computed by hand from the definition, with another program.
+#[test]
+fn hashes_of_keys(rt: HostRuntime) {
+    for (key, number) in [
+        ("", 0),
+        ("a", 0xf916_ab45),
+        ("user/000001", 0x7a68_6317),
+        ("user/000002", 0xcc8b_c6f8),
+        ("0123456789abcdefghijklmnopqrstuvwxyzABCD", 0x1489_20b3),
+        ("0123456789abcdefghijklmnopqrstuvwxyzABCE", 0xd3e1_6820),
+    ] {
+        assert_eq!(rt; key_hash(key.as_bytes()), number, "of {key}");
+    }
+}
+
+// What the range between two keys has for a hash.
+fn hash_between(alloc: Global, begin: &[u8], end: &[u8]) -> Result<Option<u32>, Unmade> {
+    Ok(range(alloc, begin, end)?.as_ref().single_hash())
+}
+
+#[test]
+fn single_keys_alone_have_hashes(rt: HostRuntime) -> Result<(), Fail> {
+    let alloc = rt.alloc();
+    assert_eq!(rt; hash_between(alloc, b"a", b"a\0")?, Some(0xf916_ab45));
+    assert_eq!(rt; hash_between(alloc, b"", b"\0")?, Some(0));
+    assert_eq!(rt; hash_between(alloc, b"a", b"a")?, None);
+    assert_eq!(rt; hash_between(alloc, b"a", b"a\0\0")?, None);
+    assert_eq!(rt; hash_between(alloc, b"a", b"b")?, None);
+    Ok(())
 }
 
 #[test]

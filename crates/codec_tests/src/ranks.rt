@@ -1,7 +1,7 @@
 //! Tests of the ranks of a batch's ranges: by hand, at random compared with a plain count, and where memory is refused.
 
 use crate::rows::expect;
-use fixtures::{Random, Unmade, batch, batch_of, txn};
+use fixtures::{Random, Unmade, batch, batch_of, ranges, single_key, txn};
 use keys::Range;
 use keyspace::{Batch, Txn, Txns};
 use std::alloc::{AllocError, Global};
@@ -172,12 +172,41 @@ fn agrees(alloc: Global, txns: &Txns) -> Result<bool, AllocError> {
     )
 }
 
+// Whether the hash of each read range is that which the range itself gives.
+fn hashes_agree(txns: &Txns) -> bool {
+    for index in 0..txns.len() {
+        let reads = txns.txn(index).reads;
+        for read in 0..reads.len() {
+            if txns.read_hash(index, read) != reads.get(read).single_hash() {
+                return false;
+            }
+        }
+    }
+    true
+}
+
+// A single key stands between other ranges.
+#[test]
+fn hashes_of_reads(rt: HostRuntime) -> Result<(), Fail> {
+    let alloc = rt.alloc();
+    let mut reads = ranges(alloc, &[(b"b", b"d"), (b"m", b"m")])?;
+    reads.push(single_key(alloc, b"a")?)?;
+    let writes = ranges(alloc, &[(b"a", b"c")])?;
+    let txns = vec![in alloc; txn(0, false, reads, writes)?]?;
+    let batch = batch_of(alloc, -1, 0, -1, txns)?;
+    assert_eq!(rt; batch.txns.read_hash(0, 1), None);
+    assert_eq!(rt; batch.txns.read_hash(0, 2), Some(0xf916_ab45));
+    assert!(rt; hashes_agree(&batch.txns));
+    Ok(())
+}
+
 #[test]
 fn ranks_of_random_txns(rt: HostRuntime) -> Result<(), Fail> {
     let mut random = Random::new(1);
     for _ in 0..400u32 {
         let batch = random_batch(rt.alloc(), &mut random)?;
         assert!(rt; agrees(rt.alloc(), &batch.txns)?);
+        assert!(rt; hashes_agree(&batch.txns));
     }
     Ok(())
 }

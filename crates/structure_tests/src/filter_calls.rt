@@ -1,6 +1,7 @@
 //! The calls of the filter: bounds, cells that grow, and the hash.
 
-use filter::{Filter, hash};
+use filter::Filter;
+use keys::key_hash;
 use std::alloc::{AllocError, Global};
 use std::test::Fail;
 
@@ -62,7 +63,7 @@ fn hash_spreads(rt: HostRuntime) -> Result<(), Fail> {
     let mut is_filled = vec![in rt.alloc(); false; 4_096]?;
     for number in 0..1_000 {
         let key = format!(in rt.alloc(); "user/{number:06}")?;
-        let cell = hash(key.as_bytes()) / 0x10_0000_0000_0000;
+        let cell = key_hash(key.as_bytes()) / 0x10_0000;
         if let Some(is_filled) = is_filled.get_mut(cell as usize) {
             *is_filled = true;
         }

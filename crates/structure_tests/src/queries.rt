@@ -23,6 +23,7 @@ impl QueryList for Queries<'_> {
         RangeQuery {
             range: range.as_ref(),
             version,
+            hash: range.as_ref().single_hash(),
         }
     }
 }
