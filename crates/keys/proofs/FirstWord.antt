@@ -1,6 +1,6 @@
 -- What heads tell of the first eight bytes, where there are so many.
 use Rattle.std.proofs.Common.{◌≡◌, ◌≢◌, ℕ, ◌+◌, ◌<◌, ◌≤◌, List, ◌++◌, length, get_or, take, drop, replicate, slice_index, sym, ap, ◌∙◌, get_or-take}
-use Rattle.std.specs.Int.{w64, to_be_bytes, from_be_bytes}
+use Rattle.std.specs.Int.{w64, to_be_bytes}
 use Rattle.std.proofs.Math.Seq.{take-add}
 use Rattle.std.proofs.lemmas.List.{take-append-le, take-take}
 use Rattle.keys.specs.Key.{IsBytes}
@@ -26,14 +26,8 @@ module _ (a b : List ℕ) (a_bytes : IsBytes a) (b_bytes : IsBytes b) (a_long : 
       differ (ap (λ (l : List ℕ). get_or l n 0) (word a a_bytes a_long) ∙ get_or-take 8 a n 0 less ∙ same
       ∙ sym (get_or-take 8 b n 0 less) ∙ sym (ap (λ (l : List ℕ). get_or l n 0) (word b b_bytes b_long)))
 
--- words that are the same have one head
-pub heads_alike : (a b : List ℕ) → 8 ≤ length a → 8 ≤ length b → take 8 a ≡ take 8 b → head_of a ≡ head_of b
-unfolding head_of
-heads_alike a b a_long b_long same =
-    ap (from_be_bytes w64) (take-append-le 8 a (replicate 8 0) a_long ∙ same ∙ sym (take-append-le 8 b (replicate 8 0) b_long))
-
 -- What both begin with, and then what stands behind it.
-pub take_both : (from n : ℕ) (a b a_rest b_rest : List ℕ) → take from a ≡ take from b → a_rest ≡ drop from a → b_rest ≡ drop from b
+take_both : (from n : ℕ) (a b a_rest b_rest : List ℕ) → take from a ≡ take from b → a_rest ≡ drop from a → b_rest ≡ drop from b
     → take n a_rest ≡ take n b_rest → take (from + n) a ≡ take (from + n) b
 take_both from n a b a_rest b_rest same a_is b_is rest =
     take-add from n a ∙ ap (λ front. front ++ take n (drop from a)) same

@@ -1,6 +1,5 @@
 -- The head of the last bytes of a word is the word's, shifted.
-use Rattle.std.proofs.Common.{◌≡◌, ℕ, zero, suc, ◌+◌, ◌-◌, ◌*◌, ◌%◌, ◌^◌, ◌<◌, ◌≤◌, List, [], ◌∷◌, length, get_or, drop, refl, arith}
-use Rattle.keys.specs.Key.{IsBytes}
+use Rattle.std.proofs.Common.{◌≡◌, ℕ, zero, suc, ◌*◌, ◌%◌, ◌^◌, ◌<◌, ◌≤◌, List, [], ◌∷◌, length, get_or, drop, refl, arith}
 use Rattle.keys.specs.Head.{head_of}
 
 module _ (a b c d e f g h : ℕ) (a8 : a < 256) (b8 : b < 256) (c8 : c < 256) (d8 : d < 256) (e8 : e < 256) (f8 : f < 256) (g8 : g < 256) (h8 : h < 256) where

@@ -1,6 +1,6 @@
 -- The read ranges of a transaction, among all ranges of a batch.
-use Rattle.std.proofs.Common.{◌≡◌, ◌+◌, ◌<◌, ℕ, List, length, map, refl, sym, ap, ◌∙◌, subst, Some, slice_get, slice_range, get_or}
-use Rattle.std.proofs.lemmas.List.{length-map, get_or-map}
+use Rattle.std.proofs.Common.{◌≡◌, ◌+◌, ◌<◌, ℕ, List, length, refl, sym, ap, ◌∙◌, subst, Some, slice_get, slice_range, get_or}
+use Rattle.std.proofs.lemmas.List.{get_or-map}
 use Rattle.std.proofs.lemmas.Option.{get_or_from_slice_get, slice_get_within}
 use Rattle.keys.specs.declared.range.Range.{Range}
 use Rattle.keys.proofs.callers.Lists.{part_get}
@@ -8,7 +8,7 @@ use Rattle.keyspace.specs.declared.txn.Txn.{Txn}
 use Rattle.keyspace.specs.declared.span.Span.{Span}
 use Rattle.keyspace.specs.declared.row.Row.{Row}
 use Rattle.keyspace.specs.BatchRanges.{ranges_in}
-use Rattle.keyspace.specs.Fields.{TxnFields, range_fields, txn_fields, txns_with}
+use Rattle.keyspace.specs.Fields.{TxnFields, txn_fields, txns_with}
 use Rattle.keyspace.specs.Tables.{txn_told, txns_told, AreTables}
 use Rattle.keyspace.proofs.callers.SameFields.{same_ranges}
 use Rattle.keyspace.proofs.FieldsBack.{fields_of_txns}

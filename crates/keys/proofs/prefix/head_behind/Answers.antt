@@ -1,4 +1,4 @@
-use Rattle.std.proofs.Common.{◌≡◌, ◌+◌, ◌-◌, ◌*◌, ◌^◌, ◌%◌, ap, sym, ◌∙◌, refl, arith, length, drop, drop-drop, drop_of_length-le, length-drop}
+use Rattle.std.proofs.Common.{◌≡◌, ◌+◌, ◌-◌, ◌*◌, ◌^◌, ◌%◌, ap, sym, ◌∙◌, arith, length, drop, drop-drop, drop_of_length-le, length-drop}
 use Rattle.std.proofs.lemmas.List.{take_rest, get_or-drop}
 use Rattle.keys.specs.Head.{head_of}
 use Rattle.keys.proofs.ShiftedHead.{no_head, shifted}

@@ -1,10 +1,10 @@
-use Rattle.std.proofs.Common.{◌≡◌, length, get_or, subst, arith}
-use Rattle.std.specs.Prelude.{◌≤ℤ◌, int_lt, negsuc}
-use Rattle.std.proofs.lemmas.Int.{ints, clamps}
+use Rattle.std.proofs.Common.{◌≡◌, subst, arith}
+use Rattle.std.specs.Prelude.{int_lt}
+use Rattle.std.proofs.lemmas.Int.{ints}
 use mir.Syntax.{w64}
 use mir.Val.{to_z, of_z}
 use Rattle.keys.proofs.callers.Booleans.{false_unless}
-use Rattle.filter.specs.Filter.{FilterState, bound, cell_of}
+use Rattle.filter.specs.Filter.{FilterState, bound}
 use Rattle.filter.proofs.Bounds.{bound_of_range}
 use Rattle.keys.proofs.callers.Numbers.{not_less}
 use Rattle.filter.proofs.filter.Filter.is_useful.Goals as goal
