@@ -1,5 +1,5 @@
 -- What names of read ranges ask for.
-use Rattle.std.proofs.Common.{◌≡◌, ℕ, zero, suc, ◌+◌, ◌-◌, ◌<◌, ◌≤◌, ℤ, List, [], ◌∷◌, ◌++◌, length, map, get_or, take, drop, refl, sym, ap, ◌∙◌, arith, append_assoc, length-drop}
+use Rattle.std.proofs.Common.{◌≡◌, ℕ, ◌+◌, ◌-◌, ◌<◌, ◌≤◌, ℤ, List, [], ◌∷◌, ◌++◌, length, map, get_or, take, drop, refl, sym, ap, ◌∙◌, arith, append_assoc, length-drop}
 use Rattle.std.specs.Prelude.{Option, Some, None, option_to_list, option_and_then, option_map, slice_get, slice_range, unwrap_or}
 use Rattle.std.proofs.lemmas.List.{map-append, map_push, length-map, take_all}
 use Rattle.std.proofs.lemmas.Option.{slice_get-map}

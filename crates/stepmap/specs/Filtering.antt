@@ -1,5 +1,5 @@
 -- What a filter tells beside a step map, and who is asked instead where it tells nothing. This project's own.
-use Rattle.std.specs.Prelude.{◌≡◌, ℕ, ℤ, ◌+◌, ◌≤◌, ◌≤ℤ◌, ◌<ℤ◌, if◌then◌else◌, Bool, true, false, IsTrue, List, [], ◌∷◌, ◌++◌, length, take, drop, Some, slice_get}
+use Rattle.std.specs.Prelude.{◌≡◌, ℕ, ℤ, ◌+◌, ◌≤◌, ◌≤ℤ◌, ◌<ℤ◌, if◌then◌else◌, Bool, true, false, IsTrue, List, [], ◌∷◌, length, take, drop, Some, slice_get}
 use Rattle.std.specs.List.{AllZip}
 use Rattle.filter.specs.Filter.{FilterState, bound}
 use Rattle.keys.specs.Key.{IsBytes}

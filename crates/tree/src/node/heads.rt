@@ -138,7 +138,7 @@ impl<const N: usize> Node<N> {
     }
 
     // Returns the head of a key that is empty or begins as all keys do, and the index where the next key may be. The key is looked
-    // for where it may be first.
+    // for where it may be first, and not at all where that is behind all entries.
     fn head_of<P: Bound>(&self, key: Slot, guess: usize, bound: &P) -> Option<(u64, usize)>
         requires headed { AreHeads (P.bytes bound.now) (key_heads_of self.now) }
         requires known { IsKnown (P.bytes bound.now) key }
@@ -146,11 +146,13 @@ impl<const N: usize> Node<N> {
         ensures agrees { IfSome result (λ _. (text : List ℕ) → P.bytes bound.now key ≡ Some text
             → (text ≡ []) ⊎ HasPrefix (P.bytes bound.now) (key_heads_of self.now) text) }
     {
-        if guess < self.len && self.entries[guess].key == key {
-            return Some((self.heads[guess], guess + 1));
-        }
-        if let Some(index) = self.entries().iter().position(|entry| entry.key == key) {
-            return Some((self.heads[index], index + 1));
+        if guess < self.len {
+            if self.entries[guess].key == key {
+                return Some((self.heads[guess], guess + 1));
+            }
+            if let Some(index) = self.entries().iter().position(|entry| entry.key == key) {
+                return Some((self.heads[index], index + 1));
+            }
         }
         if self.begins(key, bound) {
             return Some((bound.head_of(key, self.prefix_len()), guess));
