@@ -185,19 +185,44 @@ fn hashes_agree(txns: &Txns) -> bool {
     true
 }
 
-// A single key stands between other ranges.
+// The hashes of the read ranges, in hexadecimal, and a dash for each range that isn't a single key.
+fn show_hashes(alloc: Global, txns: &Txns) -> Result<String, Unmade> {
+    let mut text = String::from_str(alloc, "hashes")?;
+    for index in 0..txns.len() {
+        for read in 0..txns.txn(index).reads.len() {
+            match txns.read_hash(index, read) {
+                Some(hash) => write!(text, " {hash:x}")?,
+                None => text.push_str(" -")?,
+            }
+        }
+    }
+    Ok(text)
+}
+
+// Of two transactions, of which the first reads a single key behind other ranges.
+fn hashes_by_hand(alloc: Global) -> Result<String, Unmade> {
+    let mut first = ranges(alloc, &[(b"b", b"d"), (b"m", b"m")])?;
+    first
+        .push(single_key(alloc, b"a")?)
+        .map_err(AllocError::from)?;
+    let second = ranges(alloc, &[(b"a", b"c")])?;
+    let none = Vec::new(alloc);
+    let mut txns = Vec::new(alloc);
+    txns.push(txn(0, false, first, second)?)
+        .map_err(AllocError::from)?;
+    let mut reads = Vec::new(alloc);
+    reads
+        .push(single_key(alloc, b"user/000001")?)
+        .map_err(AllocError::from)?;
+    txns.push(txn(0, false, reads, none)?)
+        .map_err(AllocError::from)?;
+    show_hashes(alloc, &batch_of(alloc, -1, 0, -1, txns)?.txns)
+}
+
 #[test]
 fn hashes_of_reads(rt: HostRuntime) -> Result<(), Fail> {
-    let alloc = rt.alloc();
-    let mut reads = ranges(alloc, &[(b"b", b"d"), (b"m", b"m")])?;
-    reads.push(single_key(alloc, b"a")?)?;
-    let writes = ranges(alloc, &[(b"a", b"c")])?;
-    let txns = vec![in alloc; txn(0, false, reads, writes)?]?;
-    let batch = batch_of(alloc, -1, 0, -1, txns)?;
-    assert_eq!(rt; batch.txns.read_hash(0, 1), None);
-    assert_eq!(rt; batch.txns.read_hash(0, 2), Some(0xf916_ab45));
-    assert!(rt; hashes_agree(&batch.txns));
-    Ok(())
+    let text = hashes_by_hand(rt.alloc());
+    expect(&rt, text, "hashes - - f916ab45 7a686317")
 }
 
 #[test]
