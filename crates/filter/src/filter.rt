@@ -3,6 +3,7 @@
 ghost use Rattle.std.specs.Prelude.{◌≡◌, ℕ, ◌≤◌, ◌*◌, ◌<◌, ◌≤ℤ◌, ◌<ℤ◌, ◌↔◌, negsuc, List, get_or, length, IfOk, OnOk, IsTrue, min};
 ghost use Rattle.std.specs.Int.{int_max};
 ghost use Rattle.filter.specs.Filter.{bound, bound_in, cell_at, each_twice};
+ghost use Rattle.keys.specs.Hash.{hash_of};
 
 use keys::key_hash;
 use std::alloc::{AllocError, Global};
@@ -89,15 +90,15 @@ impl Filter {
         self.newest_range < self.newest_key
     }
 
-    /// Notes that the key is written at the version. It takes no memory.
-    pub fn write_key(&mut self, key: &[u8], version: i64)
-        ensures written { bound self.new key.now ≡ int_max version (bound self.old key.now) }
+    /// Notes that a key of this hash, as [`key_hash`] returns it, is written at the version. It takes no memory.
+    pub fn write_key(&mut self, hash: u32, version: i64)
+        ensures written { (key : List ℕ) → hash ≡ hash_of key → bound self.new key ≡ int_max version (bound self.old key) }
         ensures raised { (other : List ℕ) → bound self.old other ≤ℤ bound self.new other }
         ensures no_higher { (other : List ℕ) → bound self.new other ≤ℤ int_max version (bound self.old other) }
         ensures range { self.new.newest_range ≡ self.old.newest_range }
         ensures newest { self.new.newest_key ≡ int_max version self.old.newest_key }
     {
-        let cell = self.cell(key_hash(key));
+        let cell = self.cell(hash);
         self.cells[cell] = self.raised(cell, version);
         self.newest_key = self.newest_key.max(version);
     }

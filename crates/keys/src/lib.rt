@@ -7,7 +7,7 @@
 //! ([`RangeList`]).
 //!
 //! [`key_head`] and [`common_prefix_len`] tell keys apart quickly: by the first eight bytes, and by how far two keys begin alike.
-//! [`key_hash`] and [`RangeRef::single_hash`] are for a filter of keys.
+//! [`key_hash`], [`RangeRef::single_hash`] and [`HashedRange`] are for a filter of keys.
 //!
 //! `specs/` says, in reading order, what a key is and which of two comes first (`Key`), what its head is (`Head`), and
 //! when a range holds a key and when two ranges meet (`Range`). `Laws` ties these together, and the functions of [`laws`]
@@ -16,6 +16,7 @@
 
 mod bytes;
 mod error;
+mod hashed_range;
 mod hashing;
 mod key;
 pub mod laws;
@@ -26,6 +27,7 @@ mod range_ref;
 mod ranks;
 
 pub use error::KeyError;
+pub use hashed_range::HashedRange;
 pub use hashing::{key_hash, single_hashes};
 pub use key::{Key, MAX_KEY_LENGTH};
 pub use prefix::{common_prefix_len, head_behind, key_head, same_bytes};

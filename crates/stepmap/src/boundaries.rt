@@ -16,10 +16,11 @@ use crate::key_lengths::{KeyLengths, put_each_length};
 use crate::query::QueryList;
 use crate::questions::{BoundQuestion, no_question, put_questions};
 use crate::release::release_run;
+use crate::single::keys_prefix_len;
 use crate::step_map::MAX_LIMIT;
 use arena::{Arena, ArenaError};
 use arrayvec::ArrayVec;
-use keys::{Range, RangeRef, common_prefix_len};
+use keys::{HashedRange, Range};
 use std::alloc::{AllocError, Global};
 use std::array;
 use std::marker::Model;
@@ -151,7 +152,7 @@ impl<const N: usize> Boundaries<N> {
     }
 
     // Writes the version on the range, which isn't empty. It takes no memory.
-    pub fn write(&mut self, range: &RangeRef<'_>, version: i64)
+    pub fn write(&mut self, range: &HashedRange<'_>, version: i64)
         requires boundaries { AreBoundaries self.old.boundaries }
         requires filled { ¬ IsEmpty range.now }
         requires keys { HasRoomFor (spare_in self.old) (length range.now.begin ∷ length range.now.end ∷ []) }
@@ -172,7 +173,7 @@ impl<const N: usize> Boundaries<N> {
     // out, not the first of all, and returns the version at the range's end.
     fn write_or_clear(
         &mut self,
-        range: &RangeRef<'_>,
+        range: &HashedRange<'_>,
         version: i64,
         at_end: Option<i64>,
     ) -> Option<i64>
@@ -213,7 +214,7 @@ impl<const N: usize> Boundaries<N> {
             from: &begin,
             to: &end,
             past: &past,
-            targets_prefix_len: common_prefix_len(range.begin(), to),
+            targets_prefix_len: keys_prefix_len(range),
             first: item(begin_key, version),
             second: end_key,
             last: at_end,

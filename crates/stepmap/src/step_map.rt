@@ -25,7 +25,7 @@ use crate::key_lengths::KeyLengths;
 use crate::query::{OneQuery, QueryList};
 use crate::single::note;
 use filter::Filter;
-use keys::{MAX_KEY_LENGTH, Range, RangeRef};
+use keys::{HashedRange, MAX_KEY_LENGTH, Range};
 use std::alloc::{AllocError, Global};
 use std::collections::VecDeque;
 use std::marker::Model;
@@ -200,7 +200,7 @@ impl StepMap {
 
     /// Sets the version on the range; elsewhere the function stays as it is. The range's keys have the lengths that were
     /// prepared next. It takes no memory: the keys are copied into what was taken.
-    pub fn write(&mut self, range: RangeRef<'_>, version: i64)
+    pub fn write(&mut self, range: HashedRange<'_>, version: i64)
         requires filled { ¬ IsEmpty range }
         requires ready { slice_get self.old.ready 0 ≡ Some (lengths range) }
         requires newest { AreUpTo version self.old.boundaries }

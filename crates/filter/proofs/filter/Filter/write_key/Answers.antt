@@ -37,14 +37,14 @@ each c key =
 
 pub returns-clause-written : goal.returns-clause-written
 unfolding state
-returns-clause-written c =
+returns-clause-written c = λ key hashed.
     let at = (goal.at.returns-clause-written c).After-max-self-inside in
     let cell = c.cell-cell.ensures.cell in
-    let hash = ap (cell_at (length c.args.self.now.versions)) c.key_hash.ensures.hash in
-    let count = ap (λ (f : FilterState). cell_of (length f.versions) c.args.key.now) c.self.view_is in
-    subst (λ (f : FilterState). bound (state at) c.args.key.now ≡ int_max c.args.version (bound f c.args.key.now)) c.self.view_is
+    let hash = ap (cell_at (length c.args.self.now.versions)) hashed in
+    let count = ap (λ (f : FilterState). cell_of (length f.versions) key) c.self.view_is in
+    subst (λ (f : FilterState). bound (state at) key ≡ int_max c.args.version (bound f key)) c.self.view_is
     (written _ (state at) c.cell-cell.result c.args.version (within at)
-    (ap (set c.self.inside.cells.items c.cell-cell.result) (new at)) refl c.args.key.now (omega (arith, cell, hash, count)))
+    (ap (set c.self.inside.cells.items c.cell-cell.result) (new at)) refl key (omega (arith, cell, hash, count)))
 
 pub returns-clause-raised : goal.returns-clause-raised
 unfolding state

@@ -119,13 +119,13 @@ invariant_of-new g c =
     let end_at : key_at keys c.unwrap-end_key.result ≡ Some range.end =
     All-head Keeps (record { slot = c.unwrap-end_key.result; key = range.end; version = w }) []
     (All-tail Keeps first rest all) in
-    let n = c.common_prefix_len.result in
+    let n = c.keys_prefix_len.result in
     record {
       nested = nested keys false begin end (rises g at);
       outer = nested_around keys end;
       bytes = λ key. refl;
       past_bytes = λ key. refl;
-      begin_alike = ap (take n) (c.begin-2.ensures.bytes ∙ sym c.begin-3.ensures.bytes) ∙ c.common_prefix_len.ensures.same;
+      begin_alike = ap (take n) c.begin-2.ensures.bytes ∙ c.keys_prefix_len.ensures.same ∙ sym (ap (take n) c.end-to.ensures.bytes);
       past_target = refl;
       first_is = begin_at ∙ ap (λ k. Some k) (sym c.begin-2.ensures.bytes);
       second_is = end_at ∙ ap (λ k. Some k) (sym c.end-to.ensures.bytes);
