@@ -16,7 +16,7 @@ use crate::span::Span;
 use crate::tables::Tables;
 use crate::txn::Txn;
 use crate::txn_ref::TxnRef;
-use keys::{Ranks, single_hashes};
+use keys::{HashedRange, Ranks, single_hashes};
 use std::alloc::{AllocError, Global};
 use std::marker::Model;
 
@@ -120,6 +120,15 @@ impl Txns {
             → slice_get txn.reads read ≡ Some range → IsHashOf range result }
     {
         self.hashes[self.rows[index].reads as usize + read]
+    }
+
+    /// Returns the range at the index in [`Txns::ranges`], without copying its keys, and with its hash, without looking at them.
+    pub fn hashed_range(&self, index: usize) -> HashedRange<'_>
+        requires within { index < length (ranges_in self.now) }
+        ensures range { slice_get (ranges_in self.now) index ≡ Some result }
+    {
+        let hash = self.hashes[index];
+        HashedRange::new(self.ranges().get(index), hash)
     }
 
     /// Returns the ranges of the transactions as one list: those of each transaction, its read ranges before its write
