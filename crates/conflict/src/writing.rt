@@ -4,6 +4,7 @@
 ghost use Rattle.std.specs.Prelude.{◌≡◌, ◌+◌, ◌*◌, ◌<◌, ◌≤◌, ◌≤ℤ◌, ◌⊎◌, List, ◌++◌, length, map};
 ghost use Rattle.std.specs.Prelude.{OnOk, OnErr, IfOk, MatchOption, Err, Some, slice_get};
 ghost use Rattle.keys.specs.declared.range.Range.{Range};
+ghost use Rattle.keyspace.specs.BatchRanges.{ranges_in};
 ghost use Rattle.keyspace.specs.Writes.{Write, at_version, committed};
 ghost use Rattle.stepmap.specs.declared.step_map.TheConstants.{MAX_LIMIT};
 ghost use Rattle.stepmap.specs.StepMap as map_of;
@@ -23,8 +24,8 @@ use crate::error::SetStop;
 use crate::marking::mark_written;
 use crate::scratch::Scratch;
 use crate::union::Span;
-use keys::{RangeList, RangeRef};
-use keyspace::{Batch, Entry};
+use keys::{HashedRange, RangeList, RangeRef};
+use keyspace::{Batch, Entry, Txns};
 use std::alloc::AllocError;
 use stepmap::{KeyLengths, StepMap, laws};
 
@@ -79,7 +80,7 @@ pub fn write_batch(
     let spans = scratch.union.spans();
     gather_lengths(&mut scratch.lengths, &ranges, spans)?;
     steps.prepare(&scratch.lengths)?;
-    write_prepared(steps, &ranges, spans, batch.version);
+    write_prepared(steps, &batch.txns, spans, batch.version);
     Ok(spans.len())
 }
 
@@ -103,36 +104,49 @@ fn gather_lengths<L: RangeList>(
 
 // Writes the united ranges one after the other, where none is written yet. Takes no memory. The next range is looked up
 // before each write, so that its keys are read while the write goes on.
-fn write_prepared<L: RangeList>(steps: &mut StepMap, ranges: &L, spans: &[Span], version: i64)
-    requires spanned { (united : List Range) × AreSpanned (L.ranges ranges.now) spans.now united }
-    requires apart { (united : List Range) → AreSpanned (L.ranges ranges.now) spans.now united → AreApart united }
-    requires start { (united : List Range) → AreSpanned (L.ranges ranges.now) spans.now united
+fn write_prepared(steps: &mut StepMap, txns: &Txns, spans: &[Span], version: i64)
+    requires spanned { (united : List Range) × AreSpanned (ranges_in txns.now) spans.now united }
+    requires apart { (united : List Range) → AreSpanned (ranges_in txns.now) spans.now united → AreApart united }
+    requires start { (united : List Range) → AreSpanned (ranges_in txns.now) spans.now united
         → IsWriting united version 0 steps.old steps.old }
-    ensures written { (united : List Range) → AreSpanned (L.ranges ranges.now) spans.now united
+    ensures written { (united : List Range) → AreSpanned (ranges_in txns.now) spans.now united
         → IsWriting united version (length united) steps.old steps.new }
     ensures edge { steps.new.edge ≡ steps.old.edge }
     ensures limit { steps.new.limit ≡ steps.old.limit }
 {
     laws::writing();
     let mut index = 0;
-    let mut next = range_at(ranges, spans, index);
+    let mut next = range_at(txns, spans, index);
     while let Some(range) = next {
         index += 1;
-        next = range_at(ranges, spans, index);
+        next = range_at(txns, spans, index);
         steps.write(range, version);
     }
 }
 
 // Returns the united range at an index, or none where there is none.
-fn range_at<'a, L: RangeList>(ranges: &'a L, spans: &[Span], index: usize) -> Option<RangeRef<'a>>
-    requires spanned { (united : List Range) × AreSpanned (L.ranges ranges.now) spans.now united }
+fn range_at<'a>(txns: &'a Txns, spans: &[Span], index: usize) -> Option<HashedRange<'a>>
+    requires spanned { (united : List Range) × AreSpanned (ranges_in txns.now) spans.now united }
     ensures range { MatchOption result (length spans.now ≤ index) (λ range. (span : span_type.Span)
-        × (slice_get spans.now index ≡ Some span) × Spans (L.ranges ranges.now) span range) }
+        × (slice_get spans.now index ≡ Some span) × Spans (ranges_in txns.now) span range) }
 {
     match spans.get(index) {
-        Some(span) => Some(range_of(ranges, *span)),
+        Some(span) => Some(hashed_of(txns, *span)),
         None => None,
     }
+}
+
+// Returns the united range of the span with its hash, which is known where it is one of the batch's ranges.
+fn hashed_of<'a>(txns: &'a Txns, span: Span) -> HashedRange<'a>
+    requires spans { (range : Range) × Spans (ranges_in txns.now) span range }
+    ensures spans { Spans (ranges_in txns.now) span result }
+{
+    if span.begin == span.end {
+        return txns.hashed_range(span.begin);
+    }
+    let ranges = txns.ranges();
+    let (first, last) = (ranges.get(span.begin), ranges.get(span.end));
+    HashedRange::of(RangeRef::new(first.begin(), last.end()))
 }
 
 // Returns the united range of the span.

@@ -7,6 +7,7 @@ use Rattle.stepmap.specs.StepMap.{Steps}
 use Rattle.stepmap.specs.Laws.{IsWriting, IsWritten}
 use Rattle.stepmap.specs.Sweeping.{rest}
 use Rattle.stepmap.specs.Uniting.{Unites}
+use Rattle.stepmap.specs.Writing.{AreApart}
 use Rattle.conflict.specs.Union.{AreSpanned, picked}
 use Rattle.conflict.proofs.Spanned.{spanned_count}
 use Rattle.conflict.proofs.UnionWritten.{IsUnion, apart, all_written, over_limit, full_of, of_err}
@@ -45,11 +46,15 @@ returns-in_err-prepare-clause-full c = λ full ws rooted.
 
 pub write_prepared-requires-clause-apart : goal.write_prepared-requires-clause-apart
 write_prepared-requires-clause-apart c =
-    apart c.ranges-ranges.result c.spans-spans.result.now (committed c.args.batch.now.txns c.args.entries.now)
-    (union (goal.at.write_prepared-requires-clause-apart c).After-spans-spans)
+    subst (λ (ranges : List Range). (united : List Range) → AreSpanned ranges c.spans-spans.result.now united → AreApart united)
+    c.ranges-ranges.ensures.ranges
+    (apart c.ranges-ranges.result c.spans-spans.result.now (committed c.args.batch.now.txns c.args.entries.now)
+    (union (goal.at.write_prepared-requires-clause-apart c).After-spans-spans))
 
 pub write_prepared-requires-clause-start : goal.write_prepared-requires-clause-start
-write_prepared-requires-clause-start c = λ united spans.
+write_prepared-requires-clause-start c = λ united told_spans.
+    let spans = subst (λ (ranges : List Range). AreSpanned ranges c.spans-spans.result.now united)
+    (sym c.ranges-ranges.ensures.ranges) told_spans in
     let version = c.args.batch.now.version in
     let fits : SFits w64 version = search rules in
     let one = union (goal.at.write_prepared-requires-clause-start c).After-spans-spans in
@@ -71,7 +76,8 @@ wrote c united spans =
     let version = c.args.batch.now.version in
     let fits : SFits w64 version = search rules in
     subst (λ v. IsWriting united v (length united) c.prepare.new.self c.write_prepared.new.steps)
-    (to_z-of_z w64 version fits) (c.write_prepared.ensures.written united spans)
+    (to_z-of_z w64 version fits) (c.write_prepared.ensures.written united
+    (subst (λ (ranges : List Range). AreSpanned ranges c.spans-spans.result.now united) c.ranges-ranges.ensures.ranges spans))
 
 -- and so what the batch commits is
 all : (c : After-write_prepared) → IsUnion c.ranges-ranges.result c.spans-spans.result.now
