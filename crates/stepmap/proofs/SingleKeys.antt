@@ -1,15 +1,16 @@
 -- The range from a key to the one right after it holds that key alone.
-use Rattle.std.proofs.Common.{◌≡◌, ℕ, ◌<◌, List, [], ◌∷◌, ◌++◌, refl, sym, ◌∙◌, ap, subst, inl, inr, arith}
+use Rattle.std.proofs.Common.{◌≡◌, ℕ, ◌<◌, true, false, List, [], ◌∷◌, ◌++◌, Option, None, Some, option_map, unwrap_or, refl, sym, ◌∙◌, ap, subst, inl, inr, arith}
 use Rattle.std.specs.Ordering.{nat_cmp, is_lt, ordering_then}
 use Rattle.std.specs.Cmp.{nat_cmp_is}
 use Rattle.std.specs.Cmp.Lexicographic.{slice_cmp}
 use Rattle.std.specs.declared.cmp.Ordering.TheVariants.{Less, Equal}
 use Rattle.std.proofs.lemmas.Bool.{cases_order}
+use Rattle.arena.specs.Arena.{Arena, key_at}
 use Rattle.keys.specs.Key.{is_before, IsBefore, IsAtMost}
-use Rattle.keys.specs.Range.{Holds}
+use Rattle.keys.specs.Range.{Holds, IsSingle}
 use Rattle.keys.specs.declared.range.Range.{Range}
-use Rattle.keys.proofs.callers.KeyOrder.{not_both, before_at_most_same}
-use Rattle.keys.specs.Range.{IsSingle}
+use Rattle.keys.proofs.callers.KeyOrder.{not_both, at_most_itself, before_at_most_same, before_or_at_most}
+use Rattle.stepmap.specs.KeyBound.{is_below_at, slot_is_below}
 
 -- the lesser first byte comes first
 before_by_first : (x y : ℕ) (a b : List ℕ) → x < y → IsBefore (x ∷ a) (y ∷ b)
@@ -62,3 +63,19 @@ pub single_holds : (range : Range) (key : List ℕ) → IsSingle range → Holds
     → key ≡ range.begin
 single_holds range key single holds =
     squeezed range.begin key holds.0 (subst (λ end. IsBefore key end) single holds.1)
+
+-- A slot that is below the bound before the key right after another is below the bound up to that.
+pub nested_single : {H : Type 0} (keys : Arena H) (range : Range) → IsSingle range → (slot : ℕ)
+    → slot_is_below keys false range.end slot ≡ true → slot_is_below keys true range.begin slot ≡ true
+nested_single keys range single slot = of_key (key_at keys slot)
+  where
+    of_key : (k : Option (List ℕ)) → unwrap_or (option_map (is_below_at false range.end) k) false ≡ true
+        → unwrap_or (option_map (is_below_at true range.begin) k) false ≡ true
+    of_key None h = h
+    of_key (Some k) h =
+        elim (before_or_at_most range.begin k) [
+          | inl later ↦
+              let same = single_holds range k single (before_at_most_same range.begin k later, h) in
+              absurd (not_both range.begin k later (subst (λ b. IsAtMost k b) same (at_most_itself k)))
+          | inr at_most ↦ at_most
+        ]

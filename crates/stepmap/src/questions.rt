@@ -1,6 +1,7 @@
 //! What the tree of boundaries is asked for queries.
 ghost use Rattle.std.specs.Prelude.{◌≡◌, ◌≤◌, length, take, slice_get, IsSomeAnd};
 ghost use Rattle.std.specs.List.{All, AllZip};
+ghost use Rattle.keys.specs.Hash.{IsHashOf};
 ghost use Rattle.keys.specs.Range.{IsEmpty};
 ghost use Rattle.stepmap.specs.Asking.{AsksFor};
 
@@ -13,14 +14,22 @@ use tree::Question;
 // What a tree of an arena's keys is asked.
 pub type BoundQuestion<'a> = Question<KeyBound<'a>, KeyBound<'a>>;
 
-// Returns what a tree of this arena's keys is asked for the query, whose range isn't empty.
+// Returns what a tree of this arena's keys is asked for the query, whose range isn't empty. It has a hash if that holds one key alone.
 pub fn question<'a>(keys: &'a Arena<()>, query: RangeQuery<'a>) -> BoundQuestion<'a>
     requires filled { ¬ IsEmpty query.range }
+    requires hash { IsHashOf query.range query.hash }
     ensures asks { AsksFor keys.now query.entry.range result.from result.to }
     ensures version { result.version ≡ query.entry.version }
 {
     let begin = query.range.begin();
     let end = query.range.end();
+    let is_single = query.hash.is_some();
+    // A key and the one right after it begin alike to the end of the former.
+    let targets_prefix_len = if is_single {
+        begin.len()
+    } else {
+        common_prefix_len(begin, end)
+    };
     Question {
         from: KeyBound {
             keys,
@@ -32,7 +41,8 @@ pub fn question<'a>(keys: &'a Arena<()>, query: RangeQuery<'a>) -> BoundQuestion
             key: end,
             up_to: false,
         },
-        targets_prefix_len: common_prefix_len(begin, end),
+        targets_prefix_len,
+        is_single,
         version: query.version,
     }
 }
@@ -51,6 +61,7 @@ pub fn no_question(keys: &Arena<()>) -> BoundQuestion<'_> {
             up_to: false,
         },
         targets_prefix_len: 0,
+        is_single: false,
         version: 0,
     }
 }

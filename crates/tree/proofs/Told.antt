@@ -63,31 +63,24 @@ Clears q clear next back =
     (after : List Item) → (IsTrue clear → All (λ x. q x.key ≡ false) after) → IsPartitioned (λ x. q x.key) (back ++ after)
     → IsTrue next → All (λ x. q x.key ≡ false) (back ++ after)
 
--- No item of these children passes if the first entry doesn't.
+-- No item of these children passes if the first entry doesn't. Where there is none, it is told of the items behind them.
 pub clears_behind : (q : ℕ → Bool) (below : Entry → List Item) (es : List Entry) (i : ℕ) (clear next : Bool)
-    → All (λ e. Tells e (below e)) es → i < length es
-    → ((e : Entry) → slice_get es i ≡ Some e → next ≡ true → q e.key ≡ false)
-    → Clears q clear next (flat_map below (drop i es))
-clears_behind q below [] i clear next tell inside fails = absurd (omega arith)
-clears_behind q below (e ∷ es) zero clear next tell inside fails = λ after k partitioned t.
+    → All (λ e. Tells e (below e)) es → (IsTrue next → (e : Entry) → slice_get es i ≡ Some e → q e.key ≡ false)
+    → (IsTrue next → length es ≤ i → IsTrue clear) → Clears q clear next (flat_map below (drop i es))
+clears_behind q below [] zero clear next tell fails last = λ after k partitioned t. k (last t (omega arith))
+clears_behind q below [] (suc i) clear next tell fails last = λ after k partitioned t. k (last t (omega arith))
+clears_behind q below (e ∷ es) zero clear next tell fails last = λ after k partitioned t.
     let h = All-head (λ e. Tells e (below e)) e es tell in
     let rest = flat_map below es in
     let same : (below e ++ rest) ++ after ≡ h.first ∷ (h.others ++ rest) ++ after =
     ap (λ xs. (xs ++ rest) ++ after) h.items_are in
-    let first : q h.first.key ≡ false = subst (λ k. q k ≡ false) h.key (fails e refl t) in
+    let first : q h.first.key ≡ false = subst (λ k. q k ≡ false) h.key (fails t e refl) in
     subst (AllFail q) (sym same)
     (rest_fails (λ (x : Item). q x.key) h.first ((h.others ++ rest) ++ after)
     (subst (IsPartitioned (λ (x : Item). q x.key)) same partitioned) first)
-clears_behind q below (e ∷ es) (suc i) clear next tell inside fails =
-    clears_behind q below es i clear next (All-tail (λ e. Tells e (below e)) e es tell) (omega arith) fails
-
--- Where there are none, it is the same.
-pub clears_same : (q : ℕ → Bool) (below : Entry → List Item) (es : List Entry) (i : ℕ) (clear next : Bool) → length es ≤ i
-    → next ≡ clear → Clears q clear next (flat_map below (drop i es))
-clears_same q below [] zero clear next le same = λ after k partitioned t. k (sym same ∙ t)
-clears_same q below [] (suc i) clear next le same = λ after k partitioned t. k (sym same ∙ t)
-clears_same q below (d ∷ es) zero clear next le same = absurd (omega arith)
-clears_same q below (d ∷ es) (suc i) clear next le same = clears_same q below es i clear next (omega arith) same
+clears_behind q below (e ∷ es) (suc i) clear next tell fails last =
+    clears_behind q below es i clear next (All-tail (λ e. Tells e (below e)) e es tell) fails
+    (λ t le. last t (omega (arith, le)))
 
 module _ (p q : ℕ → Bool) (v : ℤ) (n : (key : ℕ) → p key ≡ true → q key ≡ true) where
   regroup : (before front part back after : List Item)

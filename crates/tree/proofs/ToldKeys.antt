@@ -1,17 +1,18 @@
 -- What is known of the first keys of nodes, where a search goes on with the last entry below the bound.
-use Rattle.std.proofs.Common.{◌≡◌, ℕ, ◌-◌, ◌<◌, ◌≤◌, min, Bool, true, false, List, [], ◌∷◌, Some, None, length, get_or, slice_get, take, filter, flat_map, All, refl, sym, ◌∙◌, ap, subst, arith}
+use Rattle.std.proofs.Common.{◌≡◌, ℕ, ◌+◌, ◌-◌, ◌<◌, ◌≤◌, min, Bool, true, false, List, [], ◌∷◌, Some, None, length, get_or, slice_get, take, drop, filter, flat_map, All, refl, sym, ◌∙◌, ap, subst, arith}
 use Rattle.std.specs.Prelude.{◌≢◌, Option, unwrap_or}
-use Rattle.std.proofs.lemmas.List.{get_or-take, length-take-le, take-take}
+use Rattle.std.proofs.lemmas.List.{get_or-drop, get_or-take, length-drop, length-take-le, take-take}
+use Rattle.std.proofs.lemmas.Option.{get_or_from_slice_get, slice_get_within}
 use Rattle.arena.specs.Arena.{Arena}
 use Rattle.tree.specs.declared.entry.Entry.{Entry}
 use Rattle.tree.specs.declared.node.Node.{Node}
 use Rattle.tree.specs.Heads.{KeyBytes, HaveCommonPrefix, IsCommonPrefixLen, IsPrefixLenAt}
 use Rattle.tree.specs.Item.{Item, Tells}
-use Rattle.tree.specs.Path.{IsPartitioned}
+use Rattle.tree.specs.Path.{IsPartitioned, index_in}
 use Rattle.tree.specs.Subtree.{entries_at, items_in, IsSubtree}
 use Rattle.tree.proofs.callers.Partitions.{none_pass, rest_fails, length-items_below}
 use Rattle.tree.proofs.FirstKeys.{first_tells, items_under, node_items, node_tells}
-use Rattle.tree.proofs.Spans.{before_partitioned}
+use Rattle.tree.proofs.Spans.{before_partitioned, behind_partitioned}
 
 -- What begins alike with one text begins alike with another one as far as the two do.
 pub alike_for_other : (known shared : ℕ) (text from to : List ℕ) → IsCommonPrefixLen known text from
@@ -38,6 +39,18 @@ last_passes is_below es i e partitioned some at is =
     let within : i < length (take count es) = omega (arith, length-take-le count es le) in
     let here = before_partitioned (λ (e : Entry). is_below e.key) es partitioned i e within in
     subst (λ (e : Entry). is_below e.key ≡ true) (get_or-take count es i e less ∙ sym is) here
+
+-- The one behind it doesn't.
+pub next_fails : (is_below : ℕ → Bool) (es : List Entry) (i : ℕ) (e : Entry) → IsPartitioned (λ e. is_below e.key) es
+    → i ≡ index_in is_below es → slice_get es (i + 1) ≡ Some e → is_below e.key ≡ false
+next_fails is_below es i e partitioned at there =
+    let count = length (filter (λ (e : Entry). is_below e.key) es) in
+    let least : count + (i + 1 - count) ≡ i + 1 = omega arith in
+    let inside : i + 1 < length es = slice_get_within es (i + 1) e there in
+    let within : i + 1 - count < length (drop count es) = omega (arith, length-drop count es) in
+    let here = behind_partitioned (λ (e : Entry). is_below e.key) es partitioned (i + 1 - count) e within in
+    subst (λ (e : Entry). is_below e.key ≡ false)
+    (get_or-drop count es (i + 1 - count) e ∙ ap (λ n. get_or es n e) least ∙ get_or_from_slice_get es (i + 1) e e there) here
 
 -- Where the first entry doesn't pass, no item does.
 none_from_first : (is_below : ℕ → Bool) (under : Entry → List Item) (es : List Entry) (e : Entry) → slice_get es 0 ≡ Some e

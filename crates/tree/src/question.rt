@@ -17,8 +17,12 @@ pub struct Question<P: Bound, Q: Bound> {
     pub to: Q,
     /// How many bytes the targets of the two bounds begin with in common, or fewer.
     pub targets_prefix_len: usize,
+    /// Tells that each item below the second bound is below the first one, too, so that the last of these alone tells the answer.
+    /// It may be false although it is so.
+    pub is_single: bool,
     pub version: i64,
     ghost nested: { (key : ℕ) → P.below from key ≡ true → Q.below to key ≡ true },
+    ghost single: { is_single ≡ true → (key : ℕ) → Q.below to key ≡ true → P.below from key ≡ true },
     ghost bytes: { (key : ℕ) → P.bytes from key ≡ Q.bytes to key },
     ghost begin_alike: { take targets_prefix_len (P.target from) ≡ take targets_prefix_len (Q.target to) },
 }

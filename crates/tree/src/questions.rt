@@ -1,15 +1,16 @@
 //! How questions are answered side by side. The way of each is gone down to its leaf, then each leaf is looked at for the
 //! first time, and then each question is answered. So the memory of the leaves is waited for at once.
 
-ghost use Rattle.std.specs.Prelude.{◌≡◌, ◌≢◌, ◌≤◌, ◌<ℤ◌, ◌↔◌, true, length, map, Some, [], IfSome, IsTrue};
+ghost use Rattle.std.specs.Prelude.{◌≡◌, ◌≢◌, ◌≤◌, ◌<◌, ◌<ℤ◌, ◌↔◌, ◌+◌, true, false, length, map, slice_get, Some, [], IfSome, IsTrue};
 ghost use Rattle.std.specs.List.{All, AllZip, Any};
-ghost use Rattle.tree.specs.Finding.{IsOwnHead};
+ghost use Rattle.tree.specs.Finding.{CanFind, HasHead, IsLowerBound, IsOwnHead};
 ghost use Rattle.tree.specs.Heads.{AllAreHeads, IsPrefixLenAt};
-ghost use Rattle.tree.specs.Node.{all_heads_of};
-ghost use Rattle.tree.specs.Path.{from_last, items_below};
+ghost use Rattle.tree.specs.Node.{all_heads_of, entries_of, key_heads_of};
+ghost use Rattle.tree.specs.Path.{IsPartitioned, from_last, index_in, items_below};
 ghost use Rattle.tree.specs.Question.{IsApproach, IsAsked, IsLeading, IsLooked, IsNear, IsTold};
 ghost use Rattle.tree.specs.Subtree.{entries_at, items_in};
 ghost use Rattle.tree.specs.Tree.{least_of};
+ghost use Rattle.tree.specs.declared.entry.Entry.{Entry};
 ghost use Rattle.tree.specs.declared.question.TheConstants.{SIDE};
 
 use crate::bound::Bound;
@@ -77,23 +78,11 @@ pub fn descend<P: Bound, Q: Bound, const N: usize>(
             clear,
         });
     }
-    let targets_prefix_len = question.targets_prefix_len;
     let node = nodes.header_ref(slot);
     let entries = node.entries();
     let own = node.head_for(&question.from, common_prefix_len);
-    let agrees = own.is_some() && node.prefix_len() <= targets_prefix_len;
-    let head = node.head_given(
-        agrees,
-        &question.to,
-        common_prefix_len.min(targets_prefix_len),
-    );
     let step = node.step_by(&question.from, common_prefix_len, own);
-    let next = step.index + 1;
-    let clear = if next < entries.len() {
-        !node.is_below_at(next, &question.to, head)
-    } else {
-        clear
-    };
+    let clear = is_clear(node, step.index, question, common_prefix_len, own, clear);
     let entry = entries[step.index];
     if entry.version <= question.version {
         return if clear {
@@ -112,6 +101,60 @@ pub fn descend<P: Bound, Q: Bound, const N: usize>(
         question,
         common_prefix_len,
         clear,
+    )
+}
+
+// Returns whether the items behind the child at an index, that of the last entry below the first bound, don't come before the second
+// bound. `common_prefix_len` is how many bytes the first key of the node and the target of the first bound begin with in common, and
+// `own` is the head of that target, if it is known to begin as all keys do. `clear` tells of the items behind the node's what this
+// tells of those behind the child.
+fn is_clear<P: Bound, Q: Bound, const N: usize>(
+    node: &Node<N>,
+    index: usize,
+    question: &Question<P, Q>,
+    common_prefix_len: usize,
+    own: Option<u64>,
+    clear: bool,
+) -> bool
+    requires can_find { CanFind (P.bytes question.now.from) (P.below question.now.from) node.now }
+    requires known { IsPrefixLenAt (P.bytes question.now.from) (P.below question.now.from) (P.target question.now.from)
+        (Some common_prefix_len) (entries_of node.now) 0 }
+    requires own { HasHead (P.bytes question.now.from) (P.target question.now.from) own (key_heads_of node.now) }
+    requires within { index < length (entries_of node.now) }
+    requires last_below { index ≡ index_in (P.below question.now.from) (entries_of node.now) }
+    ensures next { IsTrue result → (e : Entry) → slice_get (entries_of node.now) (index + 1) ≡ Some e
+        → Q.below question.now.to e.key ≡ false }
+    ensures last { IsTrue result → length (entries_of node.now) ≤ index + 1 → IsTrue clear }
+{
+    let next = index + 1;
+    // If the question is single, the next entry isn't below the second bound either.
+    if question.is_single || next == node.len() {
+        return clear;
+    }
+    let head = end_head(node, question, common_prefix_len, own);
+    !node.is_below_at(next, &question.to, head)
+}
+
+// Returns the head of the target of the second bound, if it is known to begin as all keys of the node do. `own` is that of the first
+// one's.
+fn end_head<P: Bound, Q: Bound, const N: usize>(
+    node: &Node<N>,
+    question: &Question<P, Q>,
+    common_prefix_len: usize,
+    own: Option<u64>,
+) -> Option<u64>
+    requires can_find { CanFind (P.bytes question.now.from) (P.below question.now.from) node.now }
+    requires known { IsPrefixLenAt (P.bytes question.now.from) (P.below question.now.from) (P.target question.now.from)
+        (Some common_prefix_len) (entries_of node.now) 0 }
+    requires own { HasHead (P.bytes question.now.from) (P.target question.now.from) own (key_heads_of node.now) }
+    ensures head { HasHead (Q.bytes question.now.to) (Q.target question.now.to) result (key_heads_of node.now) }
+{
+    let targets_prefix_len = question.targets_prefix_len;
+    let agrees = own.is_some() && node.prefix_len() <= targets_prefix_len;
+    node.head_given(
+        agrees,
+        &question.to,
+        common_prefix_len.min(targets_prefix_len),
     )
 }
 
@@ -167,21 +210,38 @@ fn leaf_told<P: Bound, Q: Bound, const N: usize>(
     ensures told { IsTold (P.below question.now.from) (Q.below question.now.to) question.now.version near.clear
         (items_in nodes.now 0 near.leaf) result }
 {
-    let targets_prefix_len = question.targets_prefix_len;
     let node = nodes.header_ref(near.leaf);
     let entries = node.entries();
     let begin = node.lower_bound_by_head(&question.from, own);
-    let agrees = own.is_some() && node.prefix_len() <= targets_prefix_len;
-    let head = node.head_given(
-        agrees,
-        &question.to,
-        near.common_prefix_len.min(targets_prefix_len),
-    );
-    let end = node.lower_bound_from(begin, &question.to, head);
+    let end = end_in(node, begin, question, near.common_prefix_len, own);
     if end == entries.len() && !near.clear {
         return None;
     }
     Some(any_above(&entries[begin - 1..end], question.version))
+}
+
+// Returns how many of the entries are below the second bound. `begin` is how many are below the first one, and `own` is the head of
+// the target of that one.
+fn end_in<P: Bound, Q: Bound, const N: usize>(
+    node: &Node<N>,
+    begin: usize,
+    question: &Question<P, Q>,
+    common_prefix_len: usize,
+    own: Option<u64>,
+) -> usize
+    requires can_find { CanFind (P.bytes question.now.from) (P.below question.now.from) node.now }
+    requires to { IsPartitioned (λ e. Q.below question.now.to e.key) (entries_of node.now) }
+    requires known { IsPrefixLenAt (P.bytes question.now.from) (P.below question.now.from) (P.target question.now.from)
+        (Some common_prefix_len) (entries_of node.now) 0 }
+    requires own { HasHead (P.bytes question.now.from) (P.target question.now.from) own (key_heads_of node.now) }
+    requires begin { IsLowerBound (P.below question.now.from) node.now begin }
+    ensures count { IsLowerBound (Q.below question.now.to) node.now result }
+{
+    if question.is_single {
+        return begin;
+    }
+    let head = end_head(node, question, common_prefix_len, own);
+    node.lower_bound_from(begin, &question.to, head)
 }
 
 /// Answers a question. `look` is what the first look at the leaf gave to which its way leads.

@@ -1,11 +1,9 @@
-use Rattle.std.proofs.Common.{rules, ◌≡◌, ◌≤◌, ◌<◌, All, ℕ, ◌+◌, ◌-◌, true, false, List, length, filter, flat_map, drop, slice_get, Some, refl, sym, ap, subst, ◌∙◌, w64, arith}
-use Rattle.std.specs.Prelude.{IsTrue}
-use Rattle.std.proofs.lemmas.Bool.{leb-true}
+use Rattle.std.proofs.Common.{rules, ◌≡◌, ◌≤◌, ◌<◌, All, ℕ, ◌+◌, ◌-◌, false, List, length, filter, flat_map, drop, slice_get, Some, refl, sym, ap, subst, ◌∙◌, w64, arith}
 use Rattle.std.proofs.lemmas.Option.{slice_get_read}
 use mir.Val.{SFits}
 use Rattle.tree.specs.declared.entry.Entry.{Entry}
 use Rattle.tree.specs.Finding.{CanFind}
-use Rattle.tree.specs.Heads.{AreHeads, IsPrefixLenAt, HaveCommonPrefix, HasPrefix}
+use Rattle.tree.specs.Heads.{AreHeads, IsPrefixLenAt}
 use Rattle.tree.specs.Item.{Tells}
 use Rattle.tree.specs.Item.{Item}
 use Rattle.tree.specs.Question.{IsTold}
@@ -15,24 +13,15 @@ use Rattle.tree.specs.Path.{IsPartitioned}
 use Rattle.tree.specs.Subtree.{entries_at, items_in, IsChild, IsSubtree}
 use Rattle.tree.specs.Tree.{least_of}
 use Rattle.tree.proofs.Above.{at_most_tested}
-use Rattle.tree.proofs.callers.Partitions.{not_true}
 use Rattle.tree.proofs.Found.{entries_read}
-use Rattle.tree.proofs.Headed.{key_heads_kept, headed_at}
-use Rattle.tree.proofs.NearBounds.{agrees_too}
+use Rattle.tree.proofs.Headed.{headed_at}
 use Rattle.tree.proofs.Looks.{IsLook, look_bound, look_tell, child_from, child_to}
-use Rattle.tree.proofs.Told.{Clears, clears_behind, clears_same, told_by_child, told_by_entry}
-use Rattle.tree.proofs.ToldKeys.{alike_for_other, some_pass, last_passes}
+use Rattle.tree.proofs.Told.{Clears, clears_behind, told_by_child, told_by_entry}
+use Rattle.tree.proofs.ToldKeys.{some_pass, last_passes}
 use Rattle.tree.proofs.FirstKeys.{child_at, knows_child}
 use Rattle.tree.proofs.questions.+descend.Given.{Over}
 use Rattle.tree.proofs.questions.+descend.Goals as goal
-use Rattle.tree.proofs.questions.+descend.Goals.{
-  After-entries-entries,
-  After-index-entries-step,
-  then-is_some,
-  else-is_some,
-  then-next-entries,
-  else-next-entries,
-}
+use Rattle.tree.proofs.questions.+descend.Goals.{After-entries-entries, After-index-entries-step}
 
 -- the entries that the code has read
 read : (g : Over) (t : ℕ) (c : After-entries-entries g t) → entries_at c.args.nodes.now c.args.slot ≡ c.entries-entries.result.now
@@ -80,26 +69,11 @@ headed g t c =
     c.requires.asked.can_reach.headed
     c.header_ref-node.ensures.header
 
--- the other bound knows the same bytes
-headed_too : (g : Over) (t : ℕ) (c : After-entries-entries g t)
-    → AreHeads (g.Q.Bound.bytes c.args.question.now.to) (key_heads_of c.header_ref-node.result.now)
-headed_too g t c =
-    key_heads_kept (g.P.Bound.bytes c.args.question.now.from) (g.Q.Bound.bytes c.args.question.now.to)
-    (λ key text is. sym (c.args.question.now.bytes key) ∙ is)
-    (key_heads_of c.header_ref-node.result.now) (headed g t c)
-
 partitioned_from : (g : Over) (t : ℕ) (c : After-entries-entries g t)
     → IsPartitioned (λ e. g.P.Bound.below c.args.question.now.from e.key) c.entries-entries.result.now
 partitioned_from g t c =
     look_bound c.args.nodes.now (least_of g.row.N) c.args.height c.args.slot (g.P.Bound.below c.args.question.now.from)
     c.header_ref-node.result.now c.entries-entries.result.now c.requires.asked.can_reach.subtree c.requires.asked.can_reach.partitioned
-    c.header_ref-node.ensures.header c.entries-entries.ensures.entries
-
-partitioned_to : (g : Over) (t : ℕ) (c : After-entries-entries g t)
-    → IsPartitioned (λ e. g.Q.Bound.below c.args.question.now.to e.key) c.entries-entries.result.now
-partitioned_to g t c =
-    look_bound c.args.nodes.now (least_of g.row.N) c.args.height c.args.slot (g.Q.Bound.below c.args.question.now.to)
-    c.header_ref-node.result.now c.entries-entries.result.now c.requires.asked.can_reach.subtree c.requires.asked.to
     c.header_ref-node.ensures.header c.entries-entries.ensures.entries
 
 -- what is asked of the search in a node
@@ -133,45 +107,6 @@ head_for-own-requires g t c =
       ),
     )
 
-pub head_given-head-requires : goal.head_given-head-requires
-head_given-head-requires g t c =
-    let at = (goal.at.head_given-head-requires g t c).After-entries-entries in
-    let is = c.entries-entries.ensures.entries in
-    let target = g.P.Bound.target c.args.question.now.from in
-    let other = g.Q.Bound.target c.args.question.now.to in
-    let near = g.Q.Bound.bytes c.args.question.now.to in
-    let key_heads = key_heads_of c.header_ref-node.result.now in
-    let agrees : IsTrue c.if-is_some.agrees → HasPrefix near key_heads other =
-    elim c.if-is_some.branch [
-      | then-is_some w ↦
-          λ yes.
-          let short : w.prefix_len.result ≤ c.args.question.now.targets_prefix_len = leb-true w.prefix_len.result c.args.question.now.targets_prefix_len
-          (sym w.agrees-is ∙ yes) in
-          agrees_too near (g.P.Bound.bytes c.args.question.now.from) key_heads other target c.args.question.now.targets_prefix_len
-          c.head_for-own.result c.args.question.now.bytes c.head_for-own.ensures.head.head (sym c.is_some.ensures ∙ w.if-is_some.true)
-          (omega (arith, short, w.prefix_len.ensures.prefix_len)) c.args.question.now.begin_alike
-      | else-is_some w ↦ λ yes. absurd (let f : false ≡ true = sym w.if-is_some.false ∙ sym w.agrees-is ∙ yes in cc)
-    ] in
-    let alike = λ (e : Entry) (text : List ℕ) (there : slice_get c.entries-entries.result.now 0 ≡ Some e)
-    (known : near e.key ≡ Some text).
-    subst (λ n. HaveCommonPrefix n text other) (sym c.min.ensures)
-    (alike_for_other c.args.common_prefix_len c.args.question.now.targets_prefix_len text target other
-    ((knows g t at e there).1 text (c.args.question.now.bytes e.key ∙ known)) c.args.question.now.begin_alike) in (
-      search rules,
-      (
-        headed_too g t at,
-        (
-          (asked g t at).some,
-          (
-            agrees,
-            subst
-                (λ es. (e : Entry) (text : List ℕ) → slice_get es 0 ≡ Some e → near e.key ≡ Some text
-                → HaveCommonPrefix c.min.result text other) is alike,
-          ),
-        ),
-      ),
-    )
-
 pub step_by-step-requires : goal.step_by-step-requires
 step_by-step-requires g t c =
     let at = (goal.at.step_by-step-requires g t c).After-entries-entries in
@@ -182,6 +117,16 @@ within : (g : Over) (t : ℕ) (c : After-index-entries-step g t) → c.step_by-s
 within g t c =
     subst (λ (es : List Entry). c.step_by-step.result.index < length es) (sym c.entries-entries.ensures.entries)
     c.step_by-step.ensures.step.within
+
+pub is_clear-clear-requires : goal.is_clear-clear-requires
+is_clear-clear-requires g t c =
+    let at = (goal.at.is_clear-clear-requires g t c).After-entries-entries in (
+      search rules,
+      (
+        asked g t at,
+        (known g t at, (c.head_for-own.ensures.head.head, (c.step_by-step.ensures.step.within, c.step_by-step.ensures.step.index_is))),
+      ),
+    )
 
 -- its child
 child : (g : Over) (t : ℕ) (c : After-index-entries-step g t)
@@ -196,23 +141,16 @@ child g t c =
 -- what is told of the items behind the child
 behind : (g : Over) (t : ℕ) (c : After-index-entries-step g t)
     → All (λ e. Tells e (items_in c.args.nodes.now (c.args.height - 1) e.child)) c.entries-entries.result.now
-    → Clears (g.Q.Bound.below c.args.question.now.to) c.args.clear c.if-next-entries.clear
+    → Clears (g.Q.Bound.below c.args.question.now.to) c.args.clear c.is_clear-clear.result
     (flat_map (λ e. items_in c.args.nodes.now (c.args.height - 1) e.child)
     (drop (c.step_by-step.result.index + 1) c.entries-entries.result.now))
 behind g t c tell =
-    let q = g.Q.Bound.below c.args.question.now.to in
-    let below = λ (e : Entry). items_in c.args.nodes.now (c.args.height - 1) e.child in
-    let es = c.entries-entries.result.now in
+    let is = c.entries-entries.ensures.entries in
     let next = c.step_by-step.result.index + 1 in
-    elim c.if-next-entries.branch [
-      | then-next-entries w ↦
-          clears_behind q below es next c.args.clear c.if-next-entries.clear tell w.if-next-entries.true
-          (λ e there t.
-          sym (w.is_below_at.ensures.is_below e (subst (λ es. slice_get es next ≡ Some e) c.entries-entries.ensures.entries there))
-          ∙ not_true w.is_below_at.result (sym w.clear-is ∙ t))
-      | else-next-entries w ↦
-          clears_same q below es next c.args.clear c.if-next-entries.clear w.if-next-entries.false w.clear-is
-    ]
+    clears_behind (g.Q.Bound.below c.args.question.now.to) (λ (e : Entry). items_in c.args.nodes.now (c.args.height - 1) e.child)
+    c.entries-entries.result.now next c.args.clear c.is_clear-clear.result tell
+    (λ t e there. c.is_clear-clear.ensures.next t e (subst (λ es. slice_get es next ≡ Some e) is there))
+    (λ t le. c.is_clear-clear.ensures.last t (subst (λ (es : List Entry). length es ≤ next) is le))
 
 pub descend-requires : goal.descend-requires
 descend-requires g t c κs within_lives =
@@ -287,7 +225,7 @@ returns g t c =
     let p = g.P.Bound.below c.args.question.now.from in
     let q = g.Q.Bound.below c.args.question.now.to in
     let target = g.P.Bound.target c.args.question.now.from in
-    let next = c.if-next-entries.clear in
+    let next = c.is_clear-clear.result in
     let low = c.args.height - 1 in
     record {
       approach = approach_wider nodes bytes p q target c.args.question.now.version c.args.height c.args.slot low e.child
@@ -316,9 +254,9 @@ returns-then-clear g t c =
     record {
       approach = told_by_child _ _ _ _ _ _ _ _ _ k v c.args.clear c.if-height-eq0.false c.step_by-step.result.index e
           (within g t at)
-          c.index-entries-step.is c.if-next-entries.clear (Some false)
+          c.index-entries-step.is c.is_clear-clear.result (Some false)
           (behind g t at (look_tell _ _ _ _ _ _ _ _ _ k c.if-height-eq0.false))
           (told_by_entry p (g.Q.Bound.below c.args.question.now.to) v c.args.question.now.nested e
-          (items_in c.args.nodes.now (c.args.height - 1) e.child) c.if-next-entries.clear false (child g t at).tells passed
+          (items_in c.args.nodes.now (c.args.height - 1) e.child) c.is_clear-clear.result false (child g t at).tells passed
           c.if-clear.true refl le);
     }

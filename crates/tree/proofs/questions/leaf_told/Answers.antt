@@ -1,28 +1,24 @@
-use Rattle.std.proofs.Common.{rules, ◌≡◌, ◌≤◌, ℕ, ◌-◌, true, false, List, length, filter, slice_get, Some, IfSome, option_map, refl, sym, ap, subst, ◌∙◌, w64, arith}
-use Rattle.std.specs.Prelude.{IsTrue}
-use Rattle.std.proofs.lemmas.Bool.{leb-true, not-false}
+use Rattle.std.proofs.Common.{rules, ◌≡◌, ◌≤◌, ◌-◌, List, length, filter, Some, IfSome, option_map, refl, sym, ap, subst, ◌∙◌, w64, arith}
+use Rattle.std.proofs.lemmas.Bool.{not-false}
 use Rattle.std.proofs.lemmas.Int.{to_z-of_z}
 use Rattle.tree.specs.declared.entry.Entry.{Entry}
 use Rattle.tree.specs.Finding.{CanFind, IsOwnHead}
-use Rattle.tree.specs.Heads.{AreHeads, IsPrefixLenAt, HaveCommonPrefix, HasPrefix}
+use Rattle.tree.specs.Heads.{AreHeads, IsPrefixLenAt}
 use Rattle.tree.specs.Node.{entries_of, key_heads_of}
 use Rattle.tree.specs.Path.{IsPartitioned}
 use Rattle.tree.specs.Subtree.{entries_at}
 use Rattle.tree.specs.Tree.{least_of}
 use Rattle.tree.proofs.Found.{entries_read}
 use Rattle.tree.proofs.HeadAt.{all_known}
-use Rattle.tree.proofs.Headed.{key_heads_kept, headed_at}
-use Rattle.tree.proofs.NearBounds.{agrees_too}
+use Rattle.tree.proofs.Headed.{headed_at}
 use Rattle.tree.proofs.Looks.{IsLook, look_bound, look_ordered}
 use Rattle.tree.proofs.Told.{told_by_leaf}
-use Rattle.tree.proofs.ToldKeys.{alike_for_other, some_pass}
+use Rattle.tree.proofs.ToldKeys.{some_pass}
 use Rattle.tree.proofs.questions.leaf_told.Given.{Over}
 use Rattle.tree.proofs.questions.leaf_told.Goals as goal
 use Rattle.tree.proofs.questions.leaf_told.Goals.{
   After-entries-entries,
-  After-lower_bound_from-end,
-  then-is_some,
-  else-is_some,
+  After-end_in-end,
   else-end-entries-via-then-end-entries+else-not-near,
   else-end-entries-via-else-end-entries,
 }
@@ -32,22 +28,6 @@ read : (g : Over) (c : After-entries-entries g) → entries_at c.args.nodes.now 
 read g c =
     entries_read c.args.nodes.now c.args.near.leaf c.header_ref-node.result.now c.entries-entries.result.now
     c.header_ref-node.ensures.header c.entries-entries.ensures.entries
-
--- the two bounds of the node
-look : (g : Over) (c : After-entries-entries g) (begin end : ℕ)
-    → begin ≡ length (filter (λ e. g.P.Bound.below c.args.question.now.from e.key) c.entries-entries.result.now)
-    → end ≡ length (filter (λ e. g.Q.Bound.below c.args.question.now.to e.key) c.entries-entries.result.now)
-    → IsLook c.args.nodes.now (least_of g.row.N) 0 c.args.near.leaf (g.P.Bound.below c.args.question.now.from)
-    (g.Q.Bound.below c.args.question.now.to) c.entries-entries.result.now begin end
-look g c begin end b e = record {
-  subtree = c.requires.near.live;
-  from = c.requires.asked.can_reach.partitioned;
-  to = c.requires.asked.to;
-  nested = c.args.question.now.nested;
-  read = read g c;
-  begin_is = b;
-  end_is = e;
-}
 
 some : (g : Over) (c : After-entries-entries g) → 1 ≤ length c.entries-entries.result.now
 some g c = subst (λ (es : List Entry). 1 ≤ length es) (read g c) c.requires.near.some
@@ -72,14 +52,6 @@ headed g c =
     headed_at (g.P.Bound.bytes c.args.question.now.from) c.args.nodes.now c.args.near.leaf c.header_ref-node.result.now
     c.requires.asked.can_reach.headed
     c.header_ref-node.ensures.header
-
--- the other bound knows the same bytes
-headed_too : (g : Over) (c : After-entries-entries g)
-    → AreHeads (g.Q.Bound.bytes c.args.question.now.to) (key_heads_of c.header_ref-node.result.now)
-headed_too g c =
-    key_heads_kept (g.P.Bound.bytes c.args.question.now.from) (g.Q.Bound.bytes c.args.question.now.to)
-    (λ key text is. sym (c.args.question.now.bytes key) ∙ is)
-    (key_heads_of c.header_ref-node.result.now) (headed g c)
 
 partitioned_from : (g : Over) (c : After-entries-entries g)
     → IsPartitioned (λ e. g.P.Bound.below c.args.question.now.from e.key) c.entries-entries.result.now
@@ -125,45 +97,6 @@ own g c =
     (IsOwnHead (g.P.Bound.bytes c.args.question.now.from) (g.P.Bound.target c.args.question.now.from) c.args.near.common_prefix_len c.args.own))
     c.header_ref-node.ensures.header c.requires.own
 
-pub head_given-head-requires : goal.head_given-head-requires
-head_given-head-requires g c =
-    let at = (goal.at.head_given-head-requires g c).After-entries-entries in
-    let is = c.entries-entries.ensures.entries in
-    let target = g.P.Bound.target c.args.question.now.from in
-    let other = g.Q.Bound.target c.args.question.now.to in
-    let near = g.Q.Bound.bytes c.args.question.now.to in
-    let key_heads = key_heads_of c.header_ref-node.result.now in
-    let agrees : IsTrue c.if-is_some.agrees → HasPrefix near key_heads other =
-    elim c.if-is_some.branch [
-      | then-is_some w ↦
-          λ yes.
-          let short : w.prefix_len.result ≤ c.args.question.now.targets_prefix_len = leb-true w.prefix_len.result c.args.question.now.targets_prefix_len
-          (sym w.agrees-is ∙ yes) in
-          agrees_too near (g.P.Bound.bytes c.args.question.now.from) key_heads other target c.args.question.now.targets_prefix_len c.args.own
-          c.args.question.now.bytes (own g at).head (sym c.is_some.ensures ∙ w.if-is_some.true)
-          (omega (arith, short, w.prefix_len.ensures.prefix_len)) c.args.question.now.begin_alike
-      | else-is_some w ↦ λ yes. absurd (let f : false ≡ true = sym w.if-is_some.false ∙ sym w.agrees-is ∙ yes in cc)
-    ] in
-    let alike = λ (e : Entry) (text : List ℕ) (there : slice_get c.entries-entries.result.now 0 ≡ Some e)
-    (known : near e.key ≡ Some text).
-    subst (λ n. HaveCommonPrefix n text other) (sym c.min.ensures)
-    (alike_for_other c.args.near.common_prefix_len c.args.question.now.targets_prefix_len text target other
-    ((knows g at e there).1 text (c.args.question.now.bytes e.key ∙ known)) c.args.question.now.begin_alike) in (
-      search rules,
-      (
-        headed_too g at,
-        (
-          (asked g at).some,
-          (
-            agrees,
-            subst
-                (λ es. (e : Entry) (text : List ℕ) → slice_get es 0 ≡ Some e → near e.key ≡ Some text
-                → HaveCommonPrefix c.min.result text other) is alike,
-          ),
-        ),
-      ),
-    )
-
 pub lower_bound_by_head-begin-requires : goal.lower_bound_by_head-begin-requires
 lower_bound_by_head-begin-requires g c =
     let at = (goal.at.lower_bound_by_head-begin-requires g c).After-entries-entries in
@@ -181,31 +114,17 @@ lower_bound_by_head-begin-requires g c =
       ),
     )
 
-pub lower_bound_from-end-requires : goal.lower_bound_from-end-requires
-lower_bound_from-end-requires g c =
-    let at = (goal.at.lower_bound_from-end-requires g c).After-entries-entries in
-    let is = c.entries-entries.ensures.entries in
-    let le = look_ordered _ _ _ _ _ _ _ _ _ (look g at _ _ refl refl) in
-    let most : c.lower_bound_by_head-begin.result
-    ≤ length (filter (λ e. g.Q.Bound.below c.args.question.now.to e.key) (entries_of c.header_ref-node.result.now)) =
-    rw is at (subst (λ n. n ≤ length (filter (λ (e : Entry). g.Q.Bound.below c.args.question.now.to e.key)
-    c.entries-entries.result.now))
-    (sym (rw (sym is) at c.lower_bound_by_head-begin.ensures.count.count_is)) le) in (
-      search rules,
-      (
-        record {
-          headed = headed_too g at;
-          partitioned = subst (IsPartitioned (λ (e : Entry). g.Q.Bound.below c.args.question.now.to e.key)) is (partitioned_to g at);
-          some = (asked g at).some;
-        },
-        (c.head_given-head.ensures.head, most),
-      ),
-    )
+pub end_in-end-requires : goal.end_in-end-requires
+end_in-end-requires g c =
+    let at = (goal.at.end_in-end-requires g c).After-entries-entries in
+    let to = subst (IsPartitioned (λ (e : Entry). g.Q.Bound.below c.args.question.now.to e.key)) c.entries-entries.ensures.entries
+    (partitioned_to g at) in
+    (search rules, (asked g at, (to, (known g at, ((own g at).head, c.lower_bound_by_head-begin.ensures.count)))))
 
 -- the two bounds of a leaf
-leaf : (g : Over) (c : After-lower_bound_from-end g)
+leaf : (g : Over) (c : After-end_in-end g)
     → IsLook c.args.nodes.now (least_of g.row.N) 0 c.args.near.leaf (g.P.Bound.below c.args.question.now.from)
-    (g.Q.Bound.below c.args.question.now.to) c.entries-entries.result.now c.lower_bound_by_head-begin.result c.lower_bound_from-end.result
+    (g.Q.Bound.below c.args.question.now.to) c.entries-entries.result.now c.lower_bound_by_head-begin.result c.end_in-end.result
 leaf g c =
     let is = c.entries-entries.ensures.entries in
     record {
@@ -217,24 +136,24 @@ leaf g c =
           c.header_ref-node.ensures.header is;
       begin_is = c.lower_bound_by_head-begin.ensures.count.count_is
           ∙ ap (λ es. length (filter (λ (e : Entry). g.P.Bound.below c.args.question.now.from e.key) es)) (sym is);
-      end_is = c.lower_bound_from-end.ensures.count.count_is
+      end_is = c.end_in-end.ensures.count.count_is
           ∙ ap (λ es. length (filter (λ (e : Entry). g.Q.Bound.below c.args.question.now.to e.key) es)) (sym is);
     }
 
 pub slice_bounds-any_above-count : goal.slice_bounds-any_above-count
 slice_bounds-any_above-count g c =
-    let le = look_ordered _ _ _ _ _ _ _ _ _ (leaf g (goal.at.slice_bounds-any_above-count g c).After-lower_bound_from-end) in
+    let le = look_ordered _ _ _ _ _ _ _ _ _ (leaf g (goal.at.slice_bounds-any_above-count g c).After-end_in-end) in
     omega (arith, le)
 
 pub slice_bounds-any_above-start : goal.slice_bounds-any_above-start
 slice_bounds-any_above-start g c =
-    let le = look_ordered _ _ _ _ _ _ _ _ _ (leaf g (goal.at.slice_bounds-any_above-start g c).After-lower_bound_from-end) in
-    let less : c.lower_bound_by_head-begin.result - 1 ≤ c.lower_bound_from-end.result = omega (arith, le) in
+    let le = look_ordered _ _ _ _ _ _ _ _ _ (leaf g (goal.at.slice_bounds-any_above-start g c).After-end_in-end) in
+    let less : c.lower_bound_by_head-begin.result - 1 ≤ c.end_in-end.result = omega (arith, le) in
     search rules
 
 pub returns : goal.returns
 returns g c =
-    let k = leaf g (goal.at.returns g c).After-lower_bound_from-end in
+    let k = leaf g (goal.at.returns g c).After-end_in-end in
     let least = is_below g (goal.at.returns g c).After-entries-entries in
     let said = rw (to_z-of_z w64 c.args.question.now.version (search rules)) at c.any_above.ensures.above in
     record {
