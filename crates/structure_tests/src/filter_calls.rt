@@ -8,10 +8,10 @@ use std::test::Fail;
 // Writes a key at 100, a range at 150, a key at 200, and the first one again at an older version.
 fn four_writes(alloc: Global) -> Result<Filter, AllocError> {
     let mut filter = Filter::new(alloc)?;
-    filter.write_key(b"first", 100);
+    filter.write_key(key_hash(b"first"), 100);
     filter.write_range(150);
-    filter.write_key(b"second", 200);
-    filter.write_key(b"first", 120);
+    filter.write_key(key_hash(b"second"), 200);
+    filter.write_key(key_hash(b"first"), 120);
     Ok(filter)
 }
 
@@ -35,7 +35,7 @@ fn bounds_of_writes(rt: HostRuntime) -> Result<(), Fail> {
 fn useful_while_the_newest_is_a_key(rt: HostRuntime) -> Result<(), Fail> {
     let mut filter = Filter::new(rt.alloc())?;
     assert!(rt; !filter.is_useful());
-    filter.write_key(b"first", 100);
+    filter.write_key(key_hash(b"first"), 100);
     assert!(rt; filter.is_useful());
     filter.write_range(100);
     assert!(rt; !filter.is_useful());

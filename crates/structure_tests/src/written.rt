@@ -3,6 +3,7 @@ ghost use Rattle.std.specs.Prelude.{◌≡◌, ◌≤◌, slice_get, Some, OnOk}
 ghost use Rattle.stepmap.specs.Boundary.{AreUpTo};
 ghost use Rattle.stepmap.specs.StepMap.{lengths};
 
+use keys::HashedRange;
 use keyspace::Range;
 use std::alloc::Global;
 use std::process::Abort;
@@ -76,7 +77,7 @@ impl Written {
         assert!(rt; version >= self.version);
         assert!(rt; version >= self.edge);
         self.prepare_at_last(rt, range, before)?;
-        self.map.write(range.as_ref(), version);
+        self.map.write(HashedRange::of(range.as_ref()), version);
         self.version = version;
         Ok(())
     }
