@@ -1,13 +1,13 @@
 -- What nodes know of the bytes of their keys, through changes of these.
 use Rattle.std.proofs.Math.Nat.{min-le_left, min-le_right}
-use Rattle.std.proofs.Common.{◌≡◌, ◌≢◌, ◌⊎◌, inl, inr, ℕ, ◌+◌, ◌-◌, ◌<◌, ◌≤◌, min, List, [], ◌∷◌, ◌++◌, Some, length, get_or, take, drop, map, All, refl, sym, ◌∙◌, ap, ap₂, subst, arith, append_assoc, length-append, length-drop}
+use Rattle.std.proofs.Common.{◌≡◌, ◌≢◌, ◌⊎◌, inl, inr, ℕ, ◌+◌, ◌-◌, ◌<◌, ◌≤◌, min, List, [], ◌∷◌, ◌++◌, Some, length, get_or, take, drop, map, All, refl, sym, ◌∙◌, ap, ap₂, subst, arith, length-append, length-drop}
 use Rattle.std.specs.Prelude.{unwrap_or, slice_get, slice_set}
-use Rattle.std.specs.List.{Contains, copy_within}
-use Rattle.std.proofs.lemmas.List.{get_or-map, get_or-take, length-map, length-take, length-take-le, map-append, map-set, map_more, set-get_or, take_all, take-append-drop, take-append-le, take_at, drop_at, take-map, drop-map, take-take, take_more_set, drop-take}
+use Rattle.std.specs.List.{AllZip, Contains}
+use Rattle.std.proofs.lemmas.List.{get_or-map, get_or-take, length-map, length-take, length-take-le, map-append, map-set, map_more, set-get_or, take_all, take-map, drop-map, take-take, take_more_set}
 use Rattle.std.proofs.lemmas.Option.{slice_get_within, get_or_from_slice_get}
-use Rattle.std.proofs.lemmas.List.Elements.{All-nil, All-append, All-contains, All-drop, All-more, All-set, All-take, All-weaker}
+use Rattle.std.proofs.lemmas.List.Elements.{All-nil, All-cons, All-head, All-tail, All-append, All-contains, All-drop, All-more, All-set, All-take, All-weaker}
 use Rattle.tree.specs.declared.entry.Entry.{Entry}
-use Rattle.tree.specs.Heads.{KeyBytes, IsKnown, Begins, KeyHeads, AreHeads, HasPrefix, head_behind, head_at}
+use Rattle.tree.specs.Heads.{KeyBytes, IsKnown, Begins, KeyHeads, AreHeads, HasPrefix, IsTargetHead, head_behind, head_at}
 use Rattle.tree.specs.Node.{keys_of}
 use Rattle.tree.proofs.Headed.{all_known, begins_if_long}
 
@@ -24,16 +24,6 @@ pub map_whole : {X Y : Type 0} (f : X → Y) (xs : List X) (ys : List Y) (len i 
     → take i ys ≡ map f (take i xs) → take len ys ≡ map f xs
 map_whole f xs ys len i count end is =
     ap (λ n. take n ys) (sym end) ∙ is ∙ ap (map f) (take_all i xs (omega (arith, count, end)))
-
--- Both parts of the second list are those of the first one.
-pub map_parts : {X Y : Type 0} (f : X → Y) (xs : List X) (ys : List Y) (len end : ℕ) → end ≤ len
-    → take end ys ≡ map f (take end xs) → take (len - end) (drop end ys) ≡ map f (drop end xs) → take len ys ≡ map f xs
-map_parts f xs ys len end within front back =
-    let add : len ≡ end + (len - end) = omega arith in
-    sym (take-append-drop end (take len ys))
-    ∙ ap₂ (λ ps qs. ps ++ qs) (take-take end len ys within ∙ front)
-    (ap (λ n. drop end (take n ys)) add ∙ drop-take end (len - end) ys ∙ back)
-    ∙ sym (map-append f (take end xs) (drop end xs)) ∙ ap (map f) (take-append-drop end xs)
 
 -- Elements are put in place of those from one index up to another.
 pub All-spliced : {X : Type 0} (P : X → Type 0) (xs new : List X) (from to : ℕ) → All P xs → All P new
@@ -55,52 +45,17 @@ length_spliced xs new now from to within is =
       length-drop to xs,
     )
 
-module _ {X Y : Type 0} (f : X → Y) (xs new now : List X) (ys : List Y) (len from to end : ℕ) (ordered : from ≤ to)
-    (most : to ≤ len) (count : length xs ≡ len) (within : len ≤ length ys) (end_is : end ≡ from + length new)
-    (room : end ≤ length ys) (is : take len ys ≡ map f xs) (now_is : now ≡ take from xs ++ (new ++ drop to xs)) where
-  -- The second list is moved as the first one: what stays before the new elements
-  pub front_moved : take from (copy_within ys to len end) ≡ map f (take from now)
-  front_moved =
-      let head = take end ys in
-      let moved = take (len - to) (drop to ys) in
-      let rest = drop (end + (len - to)) ys in
-      ap (take from) (append_assoc head moved rest)
-      ∙ take-append-le from head (moved ++ rest) (omega (arith, end_is, length-take-le end ys room))
-      ∙ take-take from end ys (omega (arith, end_is)) ∙ sym (take-take from len ys (omega (arith, ordered, most))) ∙ ap (take from) is
-      ∙ take-map f from xs
-      ∙ ap (map f) (sym (ap (take from) now_is
-      ∙ take_at (take from xs) (new ++ drop to xs) from (length-take-le from xs (omega (arith, ordered, most, count)))))
-
-  -- and what stays behind them
-  pub back_moved : take (len - to) (drop end (copy_within ys to len end)) ≡ map f (drop end now)
-  back_moved =
-      let head = take end ys in
-      let moved = take (len - to) (drop to ys) in
-      let rest = drop (end + (len - to)) ys in
-      let moved_len : length moved ≡ len - to =
-      length-take-le (len - to) (drop to ys) (omega (arith, within, length-drop to ys)) in
-      let add : to + (len - to) ≡ len = omega (arith, most) in
-      let front_len : length (take from xs ++ new) ≡ end =
-      omega (arith, end_is, length-append (take from xs) new, length-take-le from xs (omega (arith, ordered, most, count))) in
-      ap (λ zs. take (len - to) (drop end zs)) (append_assoc head moved rest)
-      ∙ ap (take (len - to)) (drop_at head (moved ++ rest) end (length-take-le end ys room))
-      ∙ take_at moved rest (len - to) moved_len
-      ∙ sym (drop-take to (len - to) ys) ∙ ap (λ n. drop to (take n ys)) add ∙ ap (drop to) is ∙ drop-map f to xs
-      ∙ ap (map f) (sym (ap (drop end) (now_is ∙ sym (append_assoc (take from xs) new (drop to xs)))
-      ∙ drop_at (take from xs ++ new) (drop to xs) end front_len))
-
 -- the keys of so many entries are as many
 pub keys_count : (es : List Entry) (len : ℕ) → len ≤ length es → length (keys_of (take len es)) ≡ len
 keys_count es len most = length-map (take len es) (λ (e : Entry). e.key) ∙ length-take-le len es most
 
--- the keys where entries are put in place of those from one index up to another
-pub keys_spliced : (es new now : List Entry) (from to : ℕ) → now ≡ take from es ++ (new ++ drop to es)
-    → keys_of now ≡ take from (keys_of es) ++ (keys_of new ++ drop to (keys_of es))
-keys_spliced es new now from to is =
-    let key : Entry → ℕ = λ e. e.key in
-    ap keys_of is ∙ map-append key (take from es) (new ++ drop to es)
-    ∙ ap₂ (λ xs ys. xs ++ ys) (sym (take-map key from es))
-    (map-append key new (drop to es) ∙ ap (λ ys. keys_of new ++ ys) (sym (drop-map key to es)))
+-- what is computed of elements where others are put in place of those from one index up to another
+pub map_spliced : {X Y : Type 0} (f : X → Y) (xs new now : List X) (from to : ℕ) → now ≡ take from xs ++ (new ++ drop to xs)
+    → map f now ≡ take from (map f xs) ++ (map f new ++ drop to (map f xs))
+map_spliced f xs new now from to is =
+    ap (map f) is ∙ map-append f (take from xs) (new ++ drop to xs)
+    ∙ ap₂ (λ ys zs. ys ++ zs) (sym (take-map f from xs))
+    (map-append f new (drop to xs) ∙ ap (λ ys. map f new ++ ys) (sym (drop-map f to xs)))
 
 -- the key of an entry is one of the keys
 pub keys_there : (es : List Entry) (i : ℕ) (e : Entry) → i < length es → get_or es i e ≡ e → Contains (keys_of es) e.key
@@ -333,13 +288,40 @@ module _ (bytes : KeyBytes) where
   known_spliced key_heads h new keys from to known is =
       subst (All (IsKnown bytes)) (sym is) (All-spliced (IsKnown bytes) key_heads.keys new from to (all_known bytes key_heads h) known)
 
-  -- these begin as all others do where the others do
-  pub begin_spliced : (key_heads : KeyHeads) (h : AreHeads bytes key_heads) (new keys : List ℕ) (from to : ℕ) → All (IsKnown bytes) new
-      → All (BeginsAsThese bytes key_heads) new → keys ≡ take from key_heads.keys ++ (new ++ drop to key_heads.keys)
-      → All (Begins bytes h.beginning) keys
-  begin_spliced key_heads h new keys from to known begin is =
-      subst (All (Begins bytes h.beginning)) (sym is)
-      (All-spliced (Begins bytes h.beginning) key_heads.keys new from to h.begins (all_begin key_heads h new known begin))
+  -- The heads given of keys are theirs, and the keys begin as all others do.
+  given_right : (key_heads : KeyHeads) (keys heads : List ℕ) → All (IsKnown bytes) keys
+      → AllZip (λ key head. (text : List ℕ) → bytes key ≡ Some text → IsTargetHead bytes key_heads text head) keys heads
+      → (heads ≡ map (head_at bytes key_heads.prefix_len) keys) × All (BeginsAsThese bytes key_heads) keys
+  given_right key_heads [] [] known given = (refl, All-nil (BeginsAsThese bytes key_heads))
+  given_right key_heads [] (head ∷ heads) known given = absurd given
+  given_right key_heads (key ∷ keys) [] known given = absurd given
+  given_right key_heads (key ∷ keys) (head ∷ heads) known given =
+      let rest = given_right key_heads keys heads (All-tail (IsKnown bytes) key keys known) given.1 in (
+        ap₂ (λ d ds. d ∷ ds)
+            (head_known key_heads.prefix_len key head (All-head (IsKnown bytes) key keys known)
+            (λ text is. (given.0 text is).head_is))
+            rest.0,
+        All-cons (BeginsAsThese bytes key_heads) key keys (λ text is. inr ((given.0 text is).agrees)) rest.1,
+      )
+
+  -- Others are put in place of those from one index up to another, with the heads given.
+  pub headed_spliced : (key_heads now : KeyHeads) → AreHeads bytes key_heads → (new heads : List ℕ) (from to : ℕ)
+      → All (IsKnown bytes) new
+      → AllZip (λ key head. (text : List ℕ) → bytes key ≡ Some text → IsTargetHead bytes key_heads text head) new heads
+      → now.keys ≡ take from key_heads.keys ++ (new ++ drop to key_heads.keys) → now.prefix_len ≡ key_heads.prefix_len
+      → now.heads ≡ take from key_heads.heads ++ (heads ++ drop to key_heads.heads) → AreHeads bytes now
+  headed_spliced key_heads now h new heads from to known given keys_are prefix_len heads_are =
+      let f = head_at bytes key_heads.prefix_len in
+      let right = given_right key_heads new heads known given in
+      record {
+        beginning = h.beginning;
+        prefix_len = h.prefix_len ∙ sym prefix_len;
+        begins = subst (All (Begins bytes h.beginning)) (sym keys_are)
+            (All-spliced (Begins bytes h.beginning) key_heads.keys new from to h.begins (all_begin key_heads h new known right.1));
+        heads = heads_are ∙ ap₂ (λ ds es. take from ds ++ (es ++ drop to ds)) h.heads right.0
+            ∙ sym (map_spliced f key_heads.keys new now.keys from to keys_are)
+            ∙ ap (λ n. map (head_at bytes n) now.keys) (sym prefix_len);
+      }
 
   -- Those from one index up to another are taken out, with their heads.
   pub headed_removed : (key_heads new : KeyHeads) (h : AreHeads bytes key_heads) (from to : ℕ)

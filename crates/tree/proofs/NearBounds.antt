@@ -1,12 +1,13 @@
 -- Two bounds in one leaf: the target begins alike, and the first one is no farther on.
-use Rattle.std.proofs.Common.{◌≡◌, ℕ, ◌≤◌, Bool, true, false, List, [], ◌∷◌, Option, Some, None, is_some, unwrap_or, length, slice_get, take, filter, sym, ◌∙◌, ap, inl, inr, arith}
+use Rattle.std.proofs.Common.{◌≡◌, ℕ, ◌≤◌, Bool, true, false, List, [], ◌∷◌, Option, Some, None, is_some, unwrap_or, length, slice_get, take, filter, sym, ◌∙◌, ap, subst, inl, inr, arith}
 use Rattle.std.specs.Prelude.{IfSome}
-use Rattle.std.specs.List.{All}
+use Rattle.std.specs.List.{All, AllZip}
 use Rattle.std.proofs.lemmas.Bool.{cases_Bool}
 use Rattle.std.proofs.lemmas.List.{take-take}
 use Rattle.std.proofs.lemmas.List.Elements.{All-nil, All-cons}
+use Rattle.keys.specs.Key.{IsBytes}
 use Rattle.tree.specs.declared.entry.Entry.{Entry}
-use Rattle.tree.specs.Heads.{KeyBytes, HaveCommonPrefix, IsPrefixLenAt, KeyHeads, HasPrefix, IsTargetHead}
+use Rattle.tree.specs.Heads.{KeyBytes, HaveCommonPrefix, IsPrefixLenAt, KeyHeads, HasPrefix, IsTargetHead, head_behind}
 use Rattle.tree.specs.Node.{keys_of}
 use Rattle.tree.proofs.Overwriting.{entries_put}
 
@@ -42,24 +43,32 @@ agrees_too bytes near key_heads target other shared (Some head) same for some sh
       same = a.same ∙ fewer_alike key_heads.prefix_len shared other target short alike;
     }
 
--- Keys whose bytes begin as what another bound looks for do begin as all keys of the leaf do.
-pub agree : (bytes near : KeyBytes) (key_heads : KeyHeads) (own other : List ℕ) (shared : ℕ) (head : Option ℕ)
-    → ((key : ℕ) → near key ≡ bytes key) → IfSome head (IsTargetHead near key_heads other)
-    → key_heads.prefix_len ≤ shared → take shared other ≡ take shared own → is_some head ≡ true
-    → (key : ℕ) → bytes key ≡ Some own → (text : List ℕ) → bytes key ≡ Some text → HasPrefix bytes key_heads text
-agree bytes near key_heads own other shared None same for short alike some key is text there =
-    absurd (let t : false ≡ true = some in cc)
-agree bytes near key_heads own other shared (Some head) same for short alike some key is text there =
+-- The head of what another bound looks for is that of the same bytes.
+pub same_head : (bytes near : KeyBytes) (key_heads : KeyHeads) (target other : List ℕ) → ((key : ℕ) → near key ≡ bytes key)
+    → other ≡ target → (head : ℕ) → IsTargetHead near key_heads other head → IsTargetHead bytes key_heads target head
+same_head bytes near key_heads target other same is head for =
     let a = for.agrees in
-    let e : own ≡ text = let s : Some own ≡ Some text = sym is ∙ there in cc in
     record {
-      key = a.key;
-      text = a.text;
-      there = a.there;
-      known = sym (same a.key) ∙ a.known;
-      long = a.long;
-      same = a.same ∙ fewer_alike key_heads.prefix_len shared other own short alike ∙ ap (take key_heads.prefix_len) e;
+      agrees = record {
+        key = a.key;
+        text = a.text;
+        there = a.there;
+        known = sym (same a.key) ∙ a.known;
+        long = a.long;
+        same = a.same ∙ ap (take key_heads.prefix_len) is;
+      };
+      head_is = for.head_is ∙ ap (head_behind key_heads.prefix_len) is;
+      are_bytes = subst IsBytes is for.are_bytes;
     }
+
+-- It is that of a key that has these bytes, where it is known.
+pub key_head : (bytes near : KeyBytes) (key_heads : KeyHeads) (own : List ℕ) (head : Option ℕ) → ((key : ℕ) → near key ≡ bytes key)
+    → IfSome head (IsTargetHead near key_heads own) → is_some head ≡ true → (key : ℕ) → bytes key ≡ Some own
+    → (text : List ℕ) → bytes key ≡ Some text → IsTargetHead bytes key_heads text (unwrap_or head 0)
+key_head bytes near key_heads own None same for some key is text there = absurd (let t : false ≡ true = some in cc)
+key_head bytes near key_heads own (Some head) same for some key is text there =
+    let e : own ≡ text = let s : Some own ≡ Some text = sym is ∙ there in cc in
+    same_head bytes near key_heads text own same e head for
 
 -- what holds of both keys holds of those of the entries that are put in
 pub both_put : (P : ℕ → Type 0) (ended : Bool) (first second : Entry) → P first.key → P second.key
@@ -67,6 +76,12 @@ pub both_put : (P : ℕ → Type 0) (ended : Bool) (first second : Entry) → P 
 both_put P true first second p q = All-cons P first.key [] p (All-nil P)
 both_put P false first second p q =
     All-cons P first.key (second.key ∷ []) p (All-cons P second.key [] q (All-nil P))
+
+-- what holds of both keys and their heads holds of as many heads as entries are put in
+pub both_zipped : (R : ℕ → ℕ → Type 0) (ended : Bool) (first second : Entry) (one other : ℕ) → R first.key one → R second.key other
+    → AllZip R (keys_of (entries_put ended first second)) (take (length (entries_put ended first second)) (one ∷ other ∷ []))
+both_zipped R true first second one other p q = (p, tt)
+both_zipped R false first second one other p q = (p, (q, tt))
 
 -- no more are below the first bound than the second
 pub no_more : (p q : ℕ → Bool) → ((key : ℕ) → p key ≡ true → q key ≡ true) → (es : List Entry)

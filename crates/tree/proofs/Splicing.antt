@@ -1,7 +1,16 @@
 -- Entries of a node in whose place others are put.
-use Rattle.std.proofs.Common.{◌≡◌, ℕ, ◌+◌, ◌-◌, ◌≤◌, List, ◌++◌, length, take, drop, sym, ◌∙◌, ap, arith, length-append, length-drop, append_assoc}
+use Rattle.std.proofs.Common.{◌≡◌, ℕ, ◌+◌, ◌-◌, ◌≤◌, List, ◌++◌, length, take, drop, sym, ◌∙◌, ap, ap₂, arith, length-append, length-drop, append_assoc}
 use Rattle.std.specs.List.{copy_within}
-use Rattle.std.proofs.lemmas.List.{length-take-le, take-take, take-append-le, take_at, drop_at, drop-drop, drop-take}
+use Rattle.std.proofs.lemmas.List.{length-take-le, take-append-drop, take-take, take-append-le, take_at, drop_at, drop-drop, drop-take}
+
+-- Elements that are moved to where they are stay.
+pub not_moved : {X : Type 0} (xs : List X) (from end to : ℕ) → from ≡ to → xs ≡ copy_within xs from end to
+not_moved xs from end to same =
+    let moved = end - from in
+    sym (take-append-drop (from + moved) xs)
+    ∙ ap (λ ys. ys ++ drop (from + moved) xs) (sym (take-append-drop from (take (from + moved) xs))
+    ∙ ap₂ (λ ys zs. ys ++ zs) (take-take from (from + moved) xs (omega arith)) (drop-take from moved xs))
+    ∙ ap (λ n. copy_within xs from end n) same
 
 -- The entries behind a run are moved to the end of the new ones, and these are written before them.
 pub take-spliced : {X : Type 0} (xs ys others : List X) (len from to : ℕ) → len ≤ length xs → from ≤ to → to ≤ len

@@ -1,6 +1,7 @@
 //! A node: a short list of entries, in place.
 
-ghost use Rattle.std.specs.Prelude.{◌≤◌};
+ghost use Rattle.std.specs.Prelude.{◌≤◌, ◌≡◌, ◌+◌, ◌-◌, length};
+ghost use Rattle.std.specs.List.{copy_within};
 
 use crate::entry::Entry;
 
@@ -112,9 +113,9 @@ impl<const N: usize> Node<N> {
         ensures count { length (key_heads_of self.new).heads ≡ length (entries_of self.new) }
     {
         let end = from + new.len();
-        self.entries.copy_within(to..self.len, end);
+        move_within(&mut self.entries, to, self.len, end);
         let entries = &mut self.entries[..];
-        entries[from..end].copy_from_slice(new);
+        copy_few(new, &mut entries[from..end]);
         self.len = end + (self.len - to);
     }
 
@@ -229,5 +230,27 @@ impl<const N: usize> Node<N> {
             greatest = greatest.max(entry.version);
         }
         greatest
+    }
+}
+
+// Moves the elements from one index up to another, unless they stay.
+fn move_within<T: Copy>(elements: &mut [T], from: usize, end: usize, to: usize)
+    requires ordered { from ≤ end }
+    requires within { end ≤ length elements.old }
+    requires room { to + (end - from) ≤ length elements.old }
+    ensures moved { elements.new ≡ copy_within elements.old from end to }
+{
+    if from != to {
+        elements.copy_within(from..end, to);
+    }
+}
+
+// Copies elements, of which there are few, one by one.
+fn copy_few<T: Copy>(from: &[T], to: &mut [T])
+    requires same_len { length to.old ≡ length from.now }
+    ensures copied { to.new ≡ from.now }
+{
+    for index in 0..from.len() {
+        to[index] = from[index];
     }
 }

@@ -103,9 +103,11 @@ impl<'a, 'b, P: Bound, Q: Bound, R: Bound, const N: usize> LeafChange<N>
     ) -> Outcome {
         let new = self.new;
         let leaf = nodes.header_ref(slot);
-        let end = leaf.lower_bound(new.to, place.common_prefix_len);
         let alike = place.common_prefix_len.unwrap_or(0);
-        let head = leaf.head_for(new.from, alike.min(new.targets_prefix_len));
+        let to_head = leaf.head_for(new.to, alike);
+        let end = leaf.lower_bound_with(new.to, place.common_prefix_len, to_head);
+        let begin_alike = to_head.is_some() && leaf.prefix_len() <= new.targets_prefix_len;
+        let head = leaf.head_given(begin_alike, new.from, alike.min(new.targets_prefix_len));
         let begin = leaf.lower_bound_back(end, new.from, head);
         taken
             .try_extend_from_slice(&leaf.entries()[begin..end])
@@ -119,20 +121,25 @@ impl<'a, 'b, P: Bound, Q: Bound, R: Bound, const N: usize> LeafChange<N>
             return Outcome::Changed;
         }
         let ended = if end < leaf.len() {
-            let head = leaf.head_for(new.past, alike);
-            leaf.is_below_at(end, new.past, head)
+            leaf.is_below_at(end, new.past, to_head)
         } else {
             place.behind.is_some_and(|key| new.past.is_below(key))
         };
         self.written = Written::Whole { ended };
-        let begin_alike = head.is_some() && leaf.prefix_len() <= new.targets_prefix_len;
         let entries = [new.first, item(new.second, new.last.unwrap_or(last))];
         let entries = if ended { &entries[..1] } else { &entries[..] };
         if begin + entries.len() > N - (leaf.len() - end) {
             return Outcome::Split(split_leaf(nodes, slot, begin, end, entries, new.to));
         }
+        // The keys of both entries have the bytes of the targets, and so their heads.
+        let both = [head.unwrap_or(0), to_head.unwrap_or(0)];
+        let heads = if head.is_some() && to_head.is_some() {
+            Some(&both[..entries.len()])
+        } else {
+            None
+        };
         let leaf = nodes.header_mut(slot);
-        leaf.splice_with_heads(begin, end, entries, new.to, begin_alike);
+        leaf.splice_with_heads(begin, end, entries, heads, new.to);
         if begin == 0 || new.last.is_some() {
             return Outcome::Changed;
         }

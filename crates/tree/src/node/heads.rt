@@ -2,11 +2,11 @@
 
 ghost use Rattle.std.specs.Prelude.{◌≡◌, ◌≢◌, ◌<◌, ◌≤◌, ◌+◌, ◌-◌, ◌++◌, ◌⊎◌, ℕ, List, [], length, take, drop, slice_index, slice_set, Some, IfSome, IsTrue};
 ghost use Rattle.std.specs.Int.{w64, to_be_bytes};
-ghost use Rattle.std.specs.List.{All, Contains};
-ghost use Rattle.tree.specs.Heads.{HasPrefix, AreHeads, IsKnown, Begins, head_at};
+ghost use Rattle.std.specs.List.{All, AllZip, Contains};
+ghost use Rattle.tree.specs.Heads.{HasPrefix, AreHeads, IsKnown, IsTargetHead, Begins, head_at};
 ghost use Rattle.tree.specs.Node.{entries_of, key_heads_of, keys_of};
 
-use super::Node;
+use super::{Node, copy_few, move_within};
 use crate::bound::Bound;
 use crate::entry::Entry;
 use arena::Slot;
@@ -76,35 +76,34 @@ impl<const N: usize> Node<N> {
         self.heads[index] = bound.head_of(entry.key, self.prefix_len());
     }
 
-    /// Puts these entries in place of those from one index up to another, and sets their heads. `begin` tells that their keys begin
-    /// as all others do.
+    /// Puts these entries in place of those from one index up to another, and sets their heads: those given, where their keys begin
+    /// as all others do, or else all are computed anew.
     pub fn splice_with_heads<P: Bound>(
         &mut self,
         from: usize,
         to: usize,
         new: &[Entry],
+        heads: Option<&[u64]>,
         bound: &P,
-        begin: bool,
     )
         requires ordered { from ≤ to }
         requires within { to ≤ length (entries_of self.old) }
         requires room { from + length new.now + (length (entries_of self.old) - to) ≤ N }
         requires headed { AreHeads (P.bytes bound.now) (key_heads_of self.old) }
         requires known { All (IsKnown (P.bytes bound.now)) (keys_of new.now) }
-        requires begin { IsTrue begin → All (λ key. (text : List ℕ) → P.bytes bound.now key ≡ Some text
-            → HasPrefix (P.bytes bound.now) (key_heads_of self.old) text) (keys_of new.now) }
+        requires given { IfSome heads (λ hs. AllZip (λ key head. (text : List ℕ) → P.bytes bound.now key ≡ Some text
+            → IsTargetHead (P.bytes bound.now) (key_heads_of self.old) text head) (keys_of new.now) hs.now) }
         ensures entries { (entries_of self.new) ≡ take from (entries_of self.old) ++ (new.now ++ drop to (entries_of self.old)) }
         ensures headed { AreHeads (P.bytes bound.now) (key_heads_of self.new) }
     {
         let end = from + new.len();
-        self.heads.copy_within(to..self.len, end);
+        move_within(&mut self.heads, to, self.len, end);
         self.splice(from, to, new);
-        if !begin {
+        let Some(heads) = heads else {
             return self.compute_heads(bound);
-        }
-        for index in from..end {
-            self.heads[index] = bound.head_of(self.entries[index].key, self.prefix_len());
-        }
+        };
+        let own = &mut self.heads[..];
+        copy_few(heads, &mut own[from..end]);
     }
 
     /// Copies the heads of keys that another node has, too, and computes those of the others.

@@ -1,6 +1,6 @@
 //! The search in a node: by the heads of its keys, and by their bytes where heads are the same.
 
-ghost use Rattle.std.specs.Prelude.{◌≡◌, ◌≢◌, ◌<◌, ◌≤◌, ◌+◌, ℕ, ◌-◌, List, length, filter, get_or, slice_get, None, Some, IsTrue};
+ghost use Rattle.std.specs.Prelude.{◌≡◌, ◌≢◌, ◌<◌, ◌≤◌, ◌+◌, ℕ, ◌-◌, List, length, filter, get_or, slice_get, unwrap_or, None, Some, IsTrue};
 ghost use Rattle.tree.specs.Finding.{AreTied, CanFind, HasHead, IsLowerBound, IsOwnHead, IsStep};
 ghost use Rattle.tree.specs.Heads.{HasPrefix, HaveCommonPrefix, AreHeads, IsPrefixLenAt};
 ghost use Rattle.tree.specs.Node.{entries_of, key_heads_of};
@@ -116,10 +116,26 @@ impl<const N: usize> Node<N> {
         requires known { IsPrefixLenAt (P.bytes bound.now) (P.below bound.now) (P.target bound.now) common_prefix_len (entries_of self.now) 0 }
         ensures count { IsLowerBound (P.below bound.now) self.now result }
     {
-        let Some(common_prefix_len) = common_prefix_len else {
-            return 0;
-        };
-        self.lower_bound_by_head(bound, self.head_for(bound, common_prefix_len))
+        let head = self.head_for(bound, common_prefix_len.unwrap_or(0));
+        self.lower_bound_with(bound, common_prefix_len, head)
+    }
+
+    /// Returns how many of the entries are below the bound, as `lower_bound` does. `head` is what `head_for` returns for it.
+    pub fn lower_bound_with<P: Bound>(
+        &self,
+        bound: &P,
+        common_prefix_len: Option<usize>,
+        head: Option<u64>,
+    ) -> usize
+        requires can_find { CanFind (P.bytes bound.now) (P.below bound.now) self.now }
+        requires known { IsPrefixLenAt (P.bytes bound.now) (P.below bound.now) (P.target bound.now) common_prefix_len (entries_of self.now) 0 }
+        requires head { IsOwnHead (P.bytes bound.now) (P.target bound.now) (unwrap_or common_prefix_len 0) head (key_heads_of self.now) }
+        ensures count { IsLowerBound (P.below bound.now) self.now result }
+    {
+        match common_prefix_len {
+            Some(_) => self.lower_bound_by_head(bound, head),
+            None => 0,
+        }
     }
 
     /// Returns how many of the entries are below the bound. `head` is that of the target, if it begins as all keys do.

@@ -1,8 +1,9 @@
 use Rattle.std.proofs.Common.{arith, refl, ◌≡◌, ◌≤◌, ◌-◌, ◌++◌, [], length, take, drop}
 use Rattle.std.proofs.lemmas.List.{length-take-le}
 use Rattle.tree.specs.Node.{entries_of, key_heads_of}
+use Rattle.tree.specs.declared.entry.Entry.{Entry}
 use Rattle.tree.proofs.Entries.{take-removed}
-use Rattle.tree.proofs.HeadChanges.{headed_removed, keys_spliced}
+use Rattle.tree.proofs.HeadChanges.{headed_removed, map_spliced}
 use Rattle.tree.proofs.node.Node.remove.Goals as goal
 
 pub returns : goal.returns
@@ -22,7 +23,7 @@ returns g c =
     take-removed node.entries entries node.len from to (omega arith) ordered most c.copy_within-2.ensures.after in
     let heads_are : take left heads ≡ take from key_heads.heads ++ drop to key_heads.heads =
     take-removed node.heads heads node.len from to (omega arith) ordered most c.copy_within.ensures.after in
-    let keys_are = keys_spliced (entries_of node) [] _ from to entries_are in
+    let keys_are = map_spliced (λ (e : Entry). e.key) (entries_of node) [] _ from to entries_are in
     record {
       entries = entries_are;
       headed = λ bytes h. headed_removed bytes key_heads _ h from to keys_are refl heads_are;

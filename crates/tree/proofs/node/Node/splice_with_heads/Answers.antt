@@ -1,12 +1,16 @@
-use Rattle.std.proofs.Common.{rules, ◌≡◌, ◌<◌, ◌≤◌, ◌+◌, ◌-◌, ◌++◌, ◌∙◌, inr, List, length, take, drop, map, All, refl, ap, ap₂, sym, subst, arith}
+use Rattle.std.proofs.Common.{rules, ◌≡◌, ◌+◌, ◌-◌, ◌++◌, ◌∙◌, length, take, drop, Option, Some, ap, ap₂, sym, subst, arith}
+use Rattle.std.specs.Prelude.{IfSome}
 use Rattle.std.specs.List.{copy_within}
-use Rattle.std.proofs.Math.Nat.{min-le_right}
-use Rattle.std.proofs.lemmas.List.{length-map, length-set, length-take, length-take-le, drop-set-lt}
+use Rattle.std.proofs.lemmas.Slice.Zip.{AllZip-long}
+use Rattle.std.proofs.lemmas.List.{length-map, length-take-le}
 use Rattle.tree.specs.declared.entry.Entry.{Entry}
-use Rattle.tree.specs.Heads.{IsKnown, head_at}
 use Rattle.tree.specs.Node.{entries_of, key_heads_of, keys_of}
-use Rattle.tree.proofs.HeadChanges.{back_moved, begin_spliced, head_next, head_read, front_moved, keys_count, keys_spliced, known_spliced, length_spliced, map_parts}
+use Rattle.tree.proofs.HeadChanges.{headed_spliced, known_spliced, length_spliced, map_spliced}
+use Rattle.tree.proofs.Splicing.{take-spliced}
 use Rattle.tree.proofs.node.Node.splice_with_heads.Goals as goal
+
+if_some : {X : Type 0} (P : X → Type 0) (o : Option X) (x : X) → o ≡ Some x → IfSome o P → P x
+if_some P o x is h = subst (λ o. IfSome o P) is h
 
 pub compute_heads-requires : goal.compute_heads-requires
 compute_heads-requires g c =
@@ -15,130 +19,39 @@ compute_heads-requires g c =
     let now = entries_of c.splice.new.self in (
       search rules,
       known_spliced (g.P.Bound.bytes c.args.bound.now) (key_heads_of old) c.requires.headed (keys_of new) (keys_of now)
-          c.args.from c.args.to c.requires.known (keys_spliced (entries_of old) new now c.args.from c.args.to c.splice.ensures.entries),
+          c.args.from c.args.to c.requires.known (map_spliced (λ (e : Entry). e.key) (entries_of old) new now c.args.from c.args.to c.splice.ensures.entries),
     )
-
-pub loop-index-init : goal.loop-index-init
-loop-index-init g c =
-    let bytes = g.P.Bound.bytes c.args.bound.now in
-    let old = c.args.self.now in
-    let new = c.args.new.now in
-    let from = c.args.from in
-    let to = c.args.to in
-    let end = from + length new in
-    let now = c.splice.new.self in
-    let keys = keys_of (entries_of now) in
-    let full : old.len ≤ length old.entries = omega arith in
-    let len : length (entries_of old) ≡ old.len = length-take-le old.len old.entries full in
-    let most : to ≤ old.len = omega (arith, c.requires.within, len) in
-    let room : old.len ≤ length old.heads = omega arith in
-    let fits : end ≤ length old.heads = omega (arith, c.requires.room) in
-    let new_count : end ≡ from + length (keys_of new) = omega (arith, length-map new (λ (x : Entry). x.key)) in
-    let moved : now.heads ≡ copy_within old.heads to old.len end = c.splice.ensures.heads ∙ c.copy_within.ensures.after in
-    let keys_are = keys_spliced (entries_of old) new (entries_of now) from to c.splice.ensures.entries in
-    let size : length now.heads ≡ g.row.N = omega (arith, ap length c.splice.ensures.heads, c.copy_within.ensures.len) in
-    let count : length (key_heads_of now).heads ≡ length (entries_of now) = c.splice.ensures.count in
-    record {
-      len = refl;
-      entries = refl;
-      prefix_len = refl;
-      filled = sym count ∙ length-take-le now.len now.heads (omega (arith, size, now.within));
-      room = size;
-      behind = refl;
-      heads = ap (take from) moved
-          ∙ front_moved (head_at bytes old.prefix_len) (keys_of (entries_of old)) (keys_of new) keys old.heads old.len from to end
-          c.requires.ordered most (keys_count old.entries old.len full) room new_count fits c.requires.headed.heads keys_are
-          ∙ ap (λ n. map (head_at bytes n) (take from keys)) (sym c.splice.ensures.prefix_len);
-    }
-
-pub loop-index-preserved : goal.loop-index-preserved
-loop-index-preserved g c =
-    let bytes = g.P.Bound.bytes c.args.bound.now in
-    let old = c.args.self.now in
-    let new = c.args.new.now in
-    let from = c.args.from in
-    let to = c.args.to in
-    let end = from + length new in
-    let now = c.splice.new.self in
-    let node = c.loop-index.self in
-    let inv = c.loop-index.invariant in
-    let i = c.loop-index.index in
-    let e = c.index-self-index.result in
-    let d = c.head_of.result in
-    let same : keys_of (entries_of node) ≡ keys_of (entries_of now) =
-    ap₂ (λ n (es : List Entry). keys_of (take n es)) inv.len inv.entries in
-    let known : All (IsKnown bytes) (keys_of (entries_of node)) =
-    known_spliced bytes (key_heads_of old) c.requires.headed (keys_of new) (keys_of (entries_of node)) from to c.requires.known
-    (same ∙ keys_spliced (entries_of old) new (entries_of now) from to c.splice.ensures.entries) in
-    let most : node.len ≤ length node.entries =
-    omega (arith, inv.filled, length-take node.len node.entries, min-le_right node.len (length node.entries)) in
-    let len : length (entries_of now) ≡ node.len =
-    sym (ap₂ (λ n (es : List Entry). length (take n es)) inv.len inv.entries) ∙ inv.filled in
-    let size = length_spliced (entries_of old) new (entries_of now) from to (omega (arith, c.requires.ordered, c.requires.within))
-    c.splice.ensures.entries in
-    let before_end : i < end = c.loop-index-test.true in
-    let inside : i < node.len = omega (arith, before_end, len, size) in
-    let right = head_read node.entries node.len i e inside most c.index-self-index.is bytes node.prefix_len c.prefix_len.result d
-    c.prefix_len.ensures.prefix_len known c.head_of.ensures.head in
-    record {
-      len = inv.len;
-      entries = inv.entries;
-      prefix_len = inv.prefix_len;
-      filled = inv.filled;
-      room = length-set node.heads i d ∙ inv.room;
-      behind = drop-set-lt end node.heads i d before_end ∙ inv.behind;
-      heads = head_next node.entries node.len i e inside most c.index-self-index.is (head_at bytes node.prefix_len) node.heads
-          d (omega (arith, inv.room, inside, node.within)) right inv.heads;
-    }
-
-pub returns-clause-entries : goal.returns-clause-entries
-returns-clause-entries g c =
-    ap₂ (λ n (es : List Entry). take n es) c.loop-index.invariant.len c.loop-index.invariant.entries ∙ c.splice.ensures.entries
 
 pub returns-clause-headed : goal.returns-clause-headed
 returns-clause-headed g c =
-    let bytes = g.P.Bound.bytes c.args.bound.now in
     let old = c.args.self.now in
     let new = c.args.new.now in
     let from = c.args.from in
     let to = c.args.to in
-    let end = from + length new in
     let now = c.splice.new.self in
-    let node = c.loop-index.self in
-    let inv = c.loop-index.invariant in
-    let keys = keys_of (entries_of node) in
-    let f = head_at bytes node.prefix_len in
-    let headed = c.requires.headed in
-    let keys_are : keys ≡ take from (keys_of (entries_of old)) ++ (keys_of new ++ drop to (keys_of (entries_of old))) =
-    ap₂ (λ n (es : List Entry). keys_of (take n es)) inv.len inv.entries
-    ∙ keys_spliced (entries_of old) new (entries_of now) from to c.splice.ensures.entries in
-    let full : old.len ≤ length old.entries = omega arith in
-    let len : length (entries_of old) ≡ old.len = length-take-le old.len old.entries full in
-    let most : to ≤ old.len = omega (arith, c.requires.within, len) in
-    let room : old.len ≤ length old.heads = omega arith in
-    let fits : end ≤ length old.heads = omega (arith, c.requires.room) in
-    let new_count : end ≡ from + length (keys_of new) = omega (arith, length-map new (λ (x : Entry). x.key)) in
-    let now_len : length (entries_of now) ≡ node.len =
-    sym (ap₂ (λ n (es : List Entry). length (take n es)) inv.len inv.entries) ∙ inv.filled in
-    let size = length_spliced (entries_of old) new (entries_of now) from to (omega (arith, c.requires.ordered, c.requires.within))
-    c.splice.ensures.entries in
-    let rest : node.len - end ≡ old.len - to = omega (arith, size, now_len, len) in
-    let within : end ≤ node.len = omega (arith, size, now_len) in
-    let all : c.loop-index.index ≡ end = omega arith in
-    let prefix_len : node.prefix_len ≡ old.prefix_len = inv.prefix_len ∙ c.splice.ensures.prefix_len in
-    let moved : now.heads ≡ copy_within old.heads to old.len end = c.splice.ensures.heads ∙ c.copy_within.ensures.after in
-    let front : take end node.heads ≡ map f (take end keys) =
-    subst (λ n. take n node.heads ≡ map f (take n keys)) all inv.heads in
-    let back : take (node.len - end) (drop end node.heads) ≡ map f (drop end keys) =
-    ap (take (node.len - end)) inv.behind ∙ ap (λ n. take n (drop end now.heads)) rest
-    ∙ ap (λ ds. take (old.len - to) (drop end ds)) moved
-    ∙ back_moved (head_at bytes old.prefix_len) (keys_of (entries_of old)) (keys_of new) keys old.heads old.len from to end
-    c.requires.ordered most (keys_count old.entries old.len full) room new_count fits headed.heads keys_are
-    ∙ ap (λ n. map (head_at bytes n) (drop end keys)) (sym prefix_len) in
-    record {
-      beginning = headed.beginning;
-      prefix_len = headed.prefix_len ∙ sym prefix_len;
-      begins = begin_spliced bytes (key_heads_of old) headed (keys_of new) keys from to c.requires.known
-          (λ k d inside text known. inr (c.requires.begin c.if-not-begin.false k d inside text known)) keys_are;
-      heads = map_parts f keys node.heads node.len end within front back;
-    }
+    let moved = now.heads in
+    let heads = c.in-Some.heads.now in
+    let given = if_some _ c.args.heads c.in-Some.heads c.in-Some.is c.requires.given in
+    let count : length heads ≡ length new = AllZip-long _ (keys_of new) heads given ∙ length-map new (λ (e : Entry). e.key) in
+    let len : length (entries_of old) ≡ old.len = length-take-le old.len old.entries (omega arith) in
+    let moved_is : moved ≡ copy_within old.heads to old.len (from + length new) = c.splice.ensures.heads ∙ c.move_within.ensures.moved in
+    let size : length moved ≡ g.row.N = omega (arith, ap length c.splice.ensures.heads, c.move_within.auto.elements) in
+    let now_len : now.len ≡ from + length heads + (old.len - to) =
+    omega (
+      arith,
+      count,
+      len,
+      c.splice.ensures.count,
+      length-take-le now.len moved (omega (arith, size, now.within)),
+      length_spliced (entries_of old) new (entries_of now) from to (omega (arith, c.requires.ordered, c.requires.within))
+          c.splice.ensures.entries,
+    ) in
+    headed_spliced (g.P.Bound.bytes c.args.bound.now) (key_heads_of old) _ c.requires.headed (keys_of new) heads from to
+    c.requires.known given
+    (map_spliced (λ (e : Entry). e.key) (entries_of old) new (entries_of now) from to c.splice.ensures.entries)
+    c.splice.ensures.prefix_len
+    (ap₂ (λ n ds. take n (take from moved ++ (ds ++ drop (from + length new - from) (drop from moved)))) now_len c.copy_few.ensures.copied
+    ∙ ap (λ n. take (from + length heads + (old.len - to)) (take from moved ++ (heads ++ drop (from + n - from) (drop from moved)))) (sym count)
+    ∙ take-spliced old.heads moved heads old.len from to (omega arith) c.requires.ordered (omega (arith, c.requires.within, len))
+    (omega (arith, count, len, c.requires.room))
+    (moved_is ∙ ap (λ n. copy_within old.heads to old.len (from + n)) (sym count)))

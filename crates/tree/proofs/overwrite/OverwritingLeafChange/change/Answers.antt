@@ -1,15 +1,17 @@
-use Rattle.std.proofs.Common.{rules, ℕ, ◌+◌, ◌-◌, ◌≡◌, ◌≤◌, ◌<◌, ◌∙◌, ap, sym, subst, refl, Bool, List, []}
+use Rattle.std.proofs.Common.{rules, ℕ, ◌+◌, ◌-◌, ◌≡◌, ◌≤◌, ◌<◌, ◌∙◌, ap, sym, subst, refl, Bool, List, [], ◌∷◌}
 use Rattle.std.proofs.Common.{true, false, is_some, None, Option, Some, ◌++◌, length, take, drop, filter, map, arith}
 use Rattle.std.proofs.Common.{ℤ, SFits, w64, to_z, of_z, nat_eq, inl, inr, ◌⊎◌, IsTrue, not, unwrap_or}
 use Rattle.arena.specs.Arena.{with_header}
-use Rattle.std.specs.Prelude.{◌≢◌, slice_range, Result, Ok, OnOk}
-use Rattle.std.specs.List.{All}
+use Rattle.std.specs.Prelude.{◌≢◌, slice_range, Result, Ok, OnOk, IfSome}
+use Rattle.std.specs.List.{All, AllZip}
 use Rattle.std.proofs.lemmas.Bool.{leb-true, not-false}
 use Rattle.std.proofs.lemmas.Int.{to_z-of_z}
 use Rattle.std.proofs.lemmas.List.{drop-take, map-append}
+use Rattle.std.proofs.lemmas.Option.{IfSome_then}
 use Rattle.tree.specs.declared.entry.Entry.{Entry}
 use Rattle.tree.specs.declared.node.Node.{Node}
-use Rattle.tree.specs.Heads.{AreHeads, IsKnown, IsPrefixLenAt, HasPrefix}
+use Rattle.tree.specs.Finding.{IsOwnHead}
+use Rattle.tree.specs.Heads.{AreHeads, IsKnown, IsPrefixLenAt, HasPrefix, IsTargetHead}
 use Rattle.tree.specs.Item.{Item, item_of}
 use Rattle.tree.specs.Node.{entries_of, key_heads_of, keys_of}
 use Rattle.tree.specs.declared.walk.Outcome.TheVariants.{Changed, Raised}
@@ -22,15 +24,15 @@ use Rattle.tree.proofs.callers.Partitions.{not_both, not_true}
 use Rattle.tree.proofs.Headed.{headed_at, key_heads_kept}
 use Rattle.tree.proofs.LeafChange.{parted}
 use Rattle.tree.proofs.Leaves.{entries_of_partitioned}
-use Rattle.tree.proofs.NearBounds.{begin_alike, agree, both_put, no_more, fewer_alike}
+use Rattle.tree.proofs.NearBounds.{begin_alike, agrees_too, both_put, both_zipped, key_head, no_more, fewer_alike, same_head}
 use Rattle.tree.proofs.Overwriting.{entries_put, at_most_two, items_put}
 use Rattle.tree.proofs.Placing.{entries_from_header, put_entries}
 use Rattle.tree.proofs.ChangedLeaf.{leaf_put}
 use Rattle.tree.proofs.WrittenLeaf.{some_item, part_partitioned, items_parted, last_version, between_entries, replaced, raised, ended_in_leaf, ended_behind}
 use Rattle.tree.proofs.overwrite.OverwritingLeafChange.change.Goals.{After-header_ref-leaf, After-lower_bound_back-begin, After-map_or-last}
-use Rattle.tree.proofs.overwrite.OverwritingLeafChange.change.Goals.{After-unwrap, Joined-else-begin-eq0, Joined-ended, Joined-is_some}
+use Rattle.tree.proofs.overwrite.OverwritingLeafChange.change.Goals.{After-unwrap, Joined-else-begin-eq0, Joined-ended, Joined-is_some, Joined-is_some-2}
 use Rattle.tree.proofs.overwrite.OverwritingLeafChange.change.Goals.{then-end-len, else-end-len}
-use Rattle.tree.proofs.overwrite.OverwritingLeafChange.change.Goals.{then-ended, else-ended, then-is_some, else-is_some}
+use Rattle.tree.proofs.overwrite.OverwritingLeafChange.change.Goals.{then-ended, else-ended, then-is_some, else-is_some, then-is_some-2+then-is_some-3, else-is_some-2}
 use Rattle.tree.proofs.overwrite.OverwritingLeafChange.change.Goals.{else-begin-eq0-via-then-begin-eq0+else-not-place, then-end-eq0, else-end-eq0, else-begin-eq0-via-else-begin-eq0}
 use Rattle.tree.proofs.overwrite.OverwritingLeafChange.change.Given as given
 use Rattle.tree.proofs.overwrite.OverwritingLeafChange.change.Goals as goal
@@ -93,14 +95,60 @@ below_to g c =
     subst (λ es. IsPartitioned (λ (e : Entry). q e.key) es) (entries_are g c)
     (entries_of_partitioned q (entries_at c.args.nodes.now c.args.slot) c.requires.searched.partitioned)
 
-pub lower_bound-end-requires : goal.lower_bound-end-requires
-lower_bound-end-requires g c =
-    let h = (goal.at.lower_bound-end-requires g c).After-header_ref-leaf in
-    (omega (arith, c.requires.changeable.few), (record { headed = leaf_headed g h; partitioned = below_to g h; some = some_entry g h }, first_known g h))
+pub head_for-to_head-requires : goal.head_for-to_head-requires
+head_for-to_head-requires g c =
+    let h = (goal.at.head_for-to_head-requires g c).After-header_ref-leaf in
+    let to = c.args.self.now.new.now.to.now in
+    let bytes = g.Q.Bound.bytes to in
+    let target = g.Q.Bound.target to in (
+      omega (arith, c.requires.changeable.few),
+      (
+        leaf_headed g h,
+        (
+          some_entry g h,
+          begin_alike bytes bytes (g.Q.Bound.below to) target target (entries_of c.header_ref-leaf.result.now)
+              c.args.place.common_prefix_len c.unwrap_or-alike.result (first_known g h) (omega (arith, c.unwrap_or-alike.ensures))
+              refl (λ key. refl),
+        ),
+      ),
+    )
 
-pub head_for-head-requires : goal.head_for-head-requires
-head_for-head-requires g c =
-    let h = (goal.at.head_for-head-requires g c).After-header_ref-leaf in
+pub lower_bound_with-end-requires : goal.lower_bound_with-end-requires
+lower_bound_with-end-requires g c =
+    let h = (goal.at.lower_bound_with-end-requires g c).After-header_ref-leaf in
+    let to = c.args.self.now.new.now.to.now in (
+      omega (arith, c.requires.changeable.few),
+      (
+        record { headed = leaf_headed g h; partitioned = below_to g h; some = some_entry g h },
+        (
+          first_known g h,
+          subst (λ n. IsOwnHead (g.Q.Bound.bytes to) (g.Q.Bound.target to) n c.head_for-to_head.result
+              (key_heads_of c.header_ref-leaf.result.now)) c.unwrap_or-alike.ensures c.head_for-to_head.ensures.head,
+        ),
+      ),
+    )
+
+-- The target of the first bound begins as all keys do, where that is told.
+told_alike : (g : given.Over) (c : Joined-is_some g) → c.if-is_some.begin_alike ≡ true
+    → HasPrefix (g.P.Bound.bytes c.args.self.now.new.now.from.now) (key_heads_of c.header_ref-leaf.result.now)
+    (g.P.Bound.target c.args.self.now.new.now.from.now)
+told_alike g c said =
+    let new = c.args.self.now.new.now in
+    let shared = new.targets_prefix_len in
+    elim c.if-is_some.branch [
+      | then-is_some w ↦
+          let least : w.prefix_len.result ≤ shared = leb-true w.prefix_len.result shared (sym w.begin_alike-is ∙ said) in
+          agrees_too (g.P.Bound.bytes new.from.now) (g.Q.Bound.bytes new.to.now) (key_heads_of c.header_ref-leaf.result.now)
+          (g.P.Bound.target new.from.now) (g.Q.Bound.target new.to.now) shared c.head_for-to_head.result (λ key. sym (new.bytes key))
+          c.head_for-to_head.ensures.head.head (sym c.is_some.ensures ∙ w.if-is_some.true)
+          (omega (arith, least, w.prefix_len.ensures.prefix_len)) (sym new.begin_alike)
+      | else-is_some w ↦ absurd (let no : false ≡ true = sym w.if-is_some.false ∙ (sym w.begin_alike-is ∙ said) in cc)
+    ]
+
+pub head_given-head-requires : goal.head_given-head-requires
+head_given-head-requires g c =
+    let at = goal.at.head_given-head-requires g c in
+    let h = at.After-header_ref-leaf in
     let new = c.args.self.now.new.now in
     let from = g.P.Bound.target new.from.now in
     let to = g.Q.Bound.target new.to.now in (
@@ -109,10 +157,13 @@ head_for-head-requires g c =
         from_headed g h,
         (
           some_entry g h,
-          begin_alike (g.Q.Bound.bytes new.to.now) (g.P.Bound.bytes new.from.now) (g.Q.Bound.below new.to.now) to
-              from (entries_of c.header_ref-leaf.result.now) c.args.place.common_prefix_len c.min.result (first_known g h)
-              (omega (arith, c.min.ensures, c.unwrap_or-alike.ensures))
-              (fewer_alike c.min.result new.targets_prefix_len from to (omega (arith, c.min.ensures)) new.begin_alike) new.bytes,
+          (
+            told_alike g at.Joined-is_some,
+            begin_alike (g.Q.Bound.bytes new.to.now) (g.P.Bound.bytes new.from.now) (g.Q.Bound.below new.to.now) to
+                from (entries_of c.header_ref-leaf.result.now) c.args.place.common_prefix_len c.min.result (first_known g h)
+                (omega (arith, c.min.ensures, c.unwrap_or-alike.ensures))
+                (fewer_alike c.min.result new.targets_prefix_len from to (omega (arith, c.min.ensures)) new.begin_alike) new.bytes,
+          ),
         ),
       ),
     )
@@ -127,12 +178,12 @@ lower_bound_back-begin-requires g c =
       (
         record { headed = from_headed g h; partitioned = below_from g h; some = some_entry g h },
         (
-          c.head_for-head.ensures.head.head,
+          c.head_given-head.ensures.head,
           (
-            c.lower_bound-end.ensures.count.within,
+            c.lower_bound_with-end.ensures.count.within,
             omega (
               arith,
-              c.lower_bound-end.ensures.count.count_is,
+              c.lower_bound_with-end.ensures.count.count_is,
               no_more p q new.nested (entries_of c.header_ref-leaf.result.now),
             ),
           ),
@@ -143,37 +194,29 @@ lower_bound_back-begin-requires g c =
 pub is_below_at-ended-requires : goal.is_below_at-ended-requires
 is_below_at-ended-requires g c =
     let h = (goal.at.is_below_at-ended-requires g c).After-header_ref-leaf in
-    (search rules, (past_headed g h, (search rules, search rules)))
+    let new = c.args.self.now.new.now in (
+      search rules,
+      (
+        past_headed g h,
+        (
+          search rules,
+          IfSome_then c.head_for-to_head.result c.head_for-to_head.ensures.head.head
+              (same_head (g.R.Bound.bytes new.past.now) (g.Q.Bound.bytes new.to.now) (key_heads_of c.header_ref-leaf.result.now)
+              (g.R.Bound.target new.past.now) (g.Q.Bound.target new.to.now) (λ key. sym (new.past_bytes key)) (sym new.past_target)),
+        ),
+      ),
+    )
 
 -- no more entries are below the first bound
-ordered : (g : given.Over) (c : After-lower_bound_back-begin g) → c.lower_bound_back-begin.result ≤ c.lower_bound-end.result
+ordered : (g : given.Over) (c : After-lower_bound_back-begin g) → c.lower_bound_back-begin.result ≤ c.lower_bound_with-end.result
 ordered g c =
     let new = c.args.self.now.new.now in
     omega (
       arith,
       c.lower_bound_back-begin.ensures.count.count_is,
-      c.lower_bound-end.ensures.count.count_is,
+      c.lower_bound_with-end.ensures.count.count_is,
       no_more (g.P.Bound.below new.from.now) (g.Q.Bound.below new.to.now) new.nested
           (entries_of c.header_ref-leaf.result.now),
-    )
-
-pub head_for-head-requires-then-end-len : goal.head_for-head-requires-then-end-len
-head_for-head-requires-then-end-len g c =
-    let h = (goal.at.head_for-head-requires-then-end-len g c).After-header_ref-leaf in
-    let new = c.args.self.now.new.now in
-    let past = g.R.Bound.target new.past.now in
-    let to = g.Q.Bound.target new.to.now in (
-      omega (arith, c.requires.changeable.few),
-      (
-        past_headed g h,
-        (
-          some_entry g h,
-          begin_alike (g.Q.Bound.bytes new.to.now) (g.R.Bound.bytes new.past.now) (g.Q.Bound.below new.to.now) to
-              past (entries_of c.header_ref-leaf.result.now) c.args.place.common_prefix_len c.unwrap_or-alike.result
-              (first_known g h) (omega (arith, c.unwrap_or-alike.ensures))
-              (ap (take c.unwrap_or-alike.result) new.past_target) new.past_bytes,
-        ),
-      ),
     )
 
 pub slice_bounds-try_extend_from_slice-count : goal.slice_bounds-try_extend_from_slice-count
@@ -188,12 +231,12 @@ if_ok : {X E : Type 0} (P : Type 0) (r : Result X E) (x : X) → r ≡ Ok x → 
 if_ok P r x e h = subst (λ r. OnOk r P) e h
 
 -- the items that are taken out
-taken_out : (g : given.Over) (c : After-unwrap g) → c.lower_bound_back-begin.result ≤ c.lower_bound-end.result
+taken_out : (g : given.Over) (c : After-unwrap g) → c.lower_bound_back-begin.result ≤ c.lower_bound_with-end.result
     → map item_of c.try_extend_from_slice.new.self.items
-    ≡ map item_of (drop c.lower_bound_back-begin.result (take c.lower_bound-end.result (entries_of c.header_ref-leaf.result.now)))
+    ≡ map item_of (drop c.lower_bound_back-begin.result (take c.lower_bound_with-end.result (entries_of c.header_ref-leaf.result.now)))
 taken_out g c in_order =
     let begin = c.lower_bound_back-begin.result in
-    let end = c.lower_bound-end.result in
+    let end = c.lower_bound_with-end.result in
     let es = entries_of c.header_ref-leaf.result.now in
     let out = c.entries.result.now in
     let now = c.try_extend_from_slice.new.self.items in
@@ -208,10 +251,10 @@ taken_out g c in_order =
 
 -- An item before the run is in the leaf, or none stands before the leaf's, of which one passes.
 entered : (g : given.Over) (c : Joined-else-begin-eq0 g)
-    → (1 ≤ c.lower_bound_back-begin.result) ⊎ (IsTrue c.args.place.is_first × (1 ≤ c.lower_bound-end.result))
+    → (1 ≤ c.lower_bound_back-begin.result) ⊎ (IsTrue c.args.place.is_first × (1 ≤ c.lower_bound_with-end.result))
 entered g c =
     let first = c.args.place.is_first in
-    let end = c.lower_bound-end.result in
+    let end = c.lower_bound_with-end.result in
     elim c.else-begin-eq0.branch [
       | else-begin-eq0-via-then-begin-eq0+else-not-place w ↦
           elim w.if-end-eq0.branch [
@@ -267,7 +310,7 @@ overflow_add-begin g c =
       few_new g at.Joined-ended,
       c.requires.changeable.few,
       ordered g at.After-lower_bound_back-begin,
-      c.lower_bound-end.ensures.count.within,
+      c.lower_bound_with-end.ensures.count.within,
       c.len.ensures.len,
       c.len.ensures.most,
     )
@@ -287,13 +330,13 @@ split_leaf-requires g c =
         keyless = can.keyless;
         room = can.room;
         ordered = ordered g at.After-lower_bound_back-begin;
-        within = omega (arith, same, c.lower_bound-end.ensures.count.within);
+        within = omega (arith, same, c.lower_bound_with-end.ensures.count.within);
         few_new = omega (arith, few_new g j, can.fan_out);
         many = omega (
           arith,
           same,
           c.if-begin-entries.true,
-          c.lower_bound-end.ensures.count.within,
+          c.lower_bound_with-end.ensures.count.within,
           c.len-2.ensures.len,
           c.len-2.ensures.most,
         );
@@ -302,17 +345,37 @@ split_leaf-requires g c =
       },
     )
 
--- what is said of both new keys: they begin as all keys do, so far as the bound tells
-told_alike : (g : given.Over) (c : Joined-is_some g) → c.if-is_some.begin_alike ≡ true
-    → ((key_heads_of c.header_ref-leaf.result.now).prefix_len ≤ c.args.self.now.new.now.targets_prefix_len)
-    × (is_some c.head_for-head.result ≡ true)
-told_alike g c said =
-    let shared = c.args.self.now.new.now.targets_prefix_len in
-    elim c.if-is_some.branch [
-      | then-is_some w ↦
-          let least : w.prefix_len.result ≤ shared = leb-true w.prefix_len.result shared (sym w.begin_alike-is ∙ said) in
-          (omega (arith, least, w.prefix_len.ensures.prefix_len), sym c.is_some.ensures ∙ w.if-is_some.true)
-      | else-is_some w ↦ absurd (let no : false ≡ true = sym w.if-is_some.false ∙ (sym w.begin_alike-is ∙ said) in cc)
+pub shared_ref_as_front-heads : goal.shared_ref_as_front-heads
+shared_ref_as_front-heads g c = few_new g (goal.at.shared_ref_as_front-heads g c).Joined-ended
+
+-- the head of a new key, as the leaf knows it
+abbrev IsNewHead : (g : given.Over) → Joined-is_some-2 g → ℕ → ℕ → Type 0
+IsNewHead g c key head =
+    let bytes = g.Q.Bound.bytes c.args.self.now.new.now.to.now in
+    (text : List ℕ) → bytes key ≡ Some text → IsTargetHead bytes (key_heads_of c.header_ref-leaf.result.now) text head
+
+-- The heads given are those of the new keys.
+heads_given : (g : given.Over) (c : Joined-is_some-2 g) → c.item.result.key ≡ c.args.self.now.new.now.second
+    → c.if-ended.entries.now ≡ entries_put c.if-end-len.ended c.args.self.now.new.now.first c.item.result
+    → IfSome c.if-is_some-2.heads (λ heads. AllZip (IsNewHead g c) (keys_of c.if-ended.entries.now) heads.now)
+heads_given g c second put =
+    let new = c.args.self.now.new.now in
+    let bytes = g.Q.Bound.bytes new.to.now in
+    let key_heads = key_heads_of c.header_ref-leaf.result.now in
+    elim c.if-is_some-2.branch [
+      | then-is_some-2+then-is_some-3 w ↦
+          subst (λ o. IfSome o (λ heads. AllZip (IsNewHead g c) (keys_of c.if-ended.entries.now) heads.now)) (sym w.heads-is)
+          (subst (λ es. AllZip (IsNewHead g c) (keys_of es) (take (length es) (c.unwrap_or-2.result ∷ c.unwrap_or-3.result ∷ []))) (sym put)
+          (both_zipped (IsNewHead g c) c.if-end-len.ended new.first c.item.result c.unwrap_or-2.result c.unwrap_or-3.result
+          (λ text there. subst (IsTargetHead bytes key_heads text) (sym c.unwrap_or-2.ensures)
+          (key_head bytes (g.P.Bound.bytes new.from.now) key_heads (g.P.Bound.target new.from.now) c.head_given-head.result new.bytes
+          c.head_given-head.ensures.head (sym c.is_some-2.ensures ∙ w.if-is_some-2.true) new.first.key new.first_is text there))
+          (λ text there. subst (IsTargetHead bytes key_heads text) (sym c.unwrap_or-3.ensures)
+          (key_head bytes bytes key_heads (g.Q.Bound.target new.to.now) c.head_for-to_head.result (λ key. refl)
+          c.head_for-to_head.ensures.head.head (sym w.is_some-then-is_some-2.ensures ∙ w.if-is_some-3.true) c.item.result.key
+          (ap bytes second ∙ new.second_is) text there))))
+      | else-is_some-2 w ↦
+          subst (λ o. IfSome o (λ heads. AllZip (IsNewHead g c) (keys_of c.if-ended.entries.now) heads.now)) (sym w.heads-is) tt
     ]
 
 pub splice_with_heads-requires : goal.splice_with_heads-requires
@@ -320,26 +383,18 @@ splice_with_heads-requires g c =
     let at = goal.at.splice_with_heads-requires g c in
     let h = at.After-header_ref-leaf in
     let j = at.Joined-ended in
-    let new = c.args.self.now.new.now in
-    let bytes = g.Q.Bound.bytes new.to.now in
-    let near = g.P.Bound.bytes new.from.now in
-    let from = g.P.Bound.target new.from.now in
-    let to = g.Q.Bound.target new.to.now in
-    let ended = c.if-end-len.ended in
-    let d = c.head_for-head in
+    let bytes = g.Q.Bound.bytes c.args.self.now.new.now.to.now in
     let read = c.header_ref-leaf.result.now in
     let leaf = c.header_mut-leaf.result.now in
     let there : Some read ≡ Some leaf = sym c.header_ref-leaf.ensures.header ∙ c.header_mut-leaf.ensures.header in
     let same : read ≡ leaf = cc in
     let size : length (entries_of read) ≡ length (entries_of leaf) =
-    ap (λ (node : Node g.row.N). length (entries_of node)) same in
-    let Agree : ℕ → Type 0 = λ key. (text : List ℕ) → bytes key ≡ Some text → HasPrefix bytes (key_heads_of read) text in
-    let second_is : bytes c.item.result.key ≡ Some to = ap bytes (second_key g j) ∙ new.second_is in (
+    ap (λ (node : Node g.row.N). length (entries_of node)) same in (
       omega (arith, c.requires.changeable.few),
       (
         ordered g at.After-lower_bound_back-begin,
         (
-          omega (arith, size, c.lower_bound-end.ensures.count.within),
+          omega (arith, size, c.lower_bound_with-end.ensures.count.within),
           (
             omega (
               arith,
@@ -347,22 +402,15 @@ splice_with_heads-requires g c =
               c.if-begin-entries.false,
               c.len-2.ensures.len,
               c.len-2.ensures.most,
-              c.lower_bound-end.ensures.count.within,
+              c.lower_bound_with-end.ensures.count.within,
             ),
             (
               subst (λ (node : Node g.row.N). AreHeads bytes (key_heads_of node)) same (leaf_headed g h),
               (
                 new_known g j,
-                λ said.
-                    let t = told_alike g at.Joined-is_some said in
-                    subst (λ (node : Node g.row.N). All (λ key. (text : List ℕ) → bytes key ≡ Some text
-                    → HasPrefix bytes (key_heads_of node) text) (keys_of c.if-ended.entries.now)) same
-                    (subst (λ es. All Agree (keys_of es)) (sym (new_is g j))
-                    (both_put Agree ended new.first c.item.result
-                    (agree bytes near (key_heads_of read) from from new.targets_prefix_len d.result new.bytes d.ensures.head.head t.0 refl
-                    t.1 new.first.key new.first_is)
-                    (agree bytes near (key_heads_of read) to from new.targets_prefix_len d.result new.bytes d.ensures.head.head t.0
-                    new.begin_alike t.1 c.item.result.key second_is))),
+                subst (λ (node : Node g.row.N). IfSome c.if-is_some-2.heads (λ heads. AllZip (λ key head. (text : List ℕ)
+                    → bytes key ≡ Some text → IsTargetHead bytes (key_heads_of node) text head) (keys_of c.if-ended.entries.now)
+                    heads.now)) same (heads_given g at.Joined-is_some-2 (second_key g j) (new_is g j)),
               ),
             ),
           ),
@@ -385,11 +433,11 @@ es g c = entries_of c.header_ref-leaf.result.now
 
 -- whether an item of the leaf, or behind it, has the second key
 told : (g : given.Over) (c : Joined-ended g)
-    → drop c.lower_bound-end.result (es g c) ≡ filter (λ (e : Entry). not (q g c e.key)) (es g c)
+    → drop c.lower_bound_with-end.result (es g c) ≡ filter (λ (e : Entry). not (q g c e.key)) (es g c)
     → c.if-end-len.ended
     ≡ first_is_below (past g c) (first_key c.args.place.behind (behind (q g c) (map item_of (es g c))))
 told g c others =
-    let end = c.lower_bound-end.result in
+    let end = c.lower_bound_with-end.result in
     let Told : Bool → Type 0 = λ told.
     told ≡ first_is_below (past g c) (first_key c.args.place.behind (behind (q g c) (map item_of (es g c)))) in
     elim c.if-end-len.branch [
@@ -407,7 +455,7 @@ told g c others =
 
 -- the version of the last item before the second bound
 last_told : (g : given.Over) (c : After-map_or-last g) (x : Item)
-    → take c.lower_bound-end.result (entries_of c.header_ref-leaf.result.now)
+    → take c.lower_bound_with-end.result (entries_of c.header_ref-leaf.result.now)
     ≡ filter (λ (e : Entry). g.Q.Bound.below c.args.self.now.new.now.to.now e.key)
     (entries_of c.header_ref-leaf.result.now)
     → IsLast x
@@ -415,7 +463,7 @@ last_told : (g : given.Over) (c : After-map_or-last g) (x : Item)
     → c.map_or-last.result ≡ x.version
 last_told g c x first last =
     let es = entries_of c.header_ref-leaf.result.now in
-    let end = c.lower_bound-end.result in
+    let end = c.lower_bound_with-end.result in
     last_version (g.Q.Bound.below c.args.self.now.new.now.to.now) es (take end c.entries-2.result.now) c.last.result
     c.map_or-last.result _ _ (ap (take end) c.entries-2.ensures.entries ∙ first) c.last.ensures.value
     c.map_or-last.ensures (λ e h. search rules) x last
@@ -428,22 +476,22 @@ GivenLeaf g c was now =
     (map item_of c.try_extend_from_slice.new.self.items) c.args.place.is_first c.args.place.behind was now
 
 whole : (g : given.Over) (c : Joined-ended g) → IsPartitioned (λ (e : Entry). p g c e.key) (es g c)
-    → IsPartitioned (λ (e : Entry). q g c e.key) (es g c) → c.lower_bound_back-begin.result ≤ c.lower_bound-end.result
+    → IsPartitioned (λ (e : Entry). q g c e.key) (es g c) → c.lower_bound_back-begin.result ≤ c.lower_bound_with-end.result
     → map item_of c.try_extend_from_slice.new.self.items
-    ≡ map item_of (drop c.lower_bound_back-begin.result (take c.lower_bound-end.result (es g c)))
-    → (1 ≤ c.lower_bound_back-begin.result) ⊎ (IsTrue c.args.place.is_first × (1 ≤ c.lower_bound-end.result))
+    ≡ map item_of (drop c.lower_bound_back-begin.result (take c.lower_bound_with-end.result (es g c)))
+    → (1 ≤ c.lower_bound_back-begin.result) ⊎ (IsTrue c.args.place.is_first × (1 ≤ c.lower_bound_with-end.result))
     → ((x : Item) → IsLast x (items_below (q g c) (map item_of (es g c))) → c.map_or-last.result ≡ x.version)
     → c.if-ended.entries.now ≡ entries_put c.if-end-len.ended c.args.self.now.new.now.first c.item.result
     → (now : List Entry)
-    → now ≡ take c.lower_bound_back-begin.result (es g c) ++ (c.if-ended.entries.now ++ drop c.lower_bound-end.result (es g c))
+    → now ≡ take c.lower_bound_back-begin.result (es g c) ++ (c.if-ended.entries.now ++ drop c.lower_bound_with-end.result (es g c))
     → GivenLeaf g c (map item_of (es g c)) (map item_of now)
 whole g c first_bound second_bound ordered taken entered last_is put now now_is =
     let new = c.args.self.now.new.now in
     let begin = c.lower_bound_back-begin.result in
-    let end = c.lower_bound-end.result in
+    let end = c.lower_bound_with-end.result in
     let begins = c.lower_bound_back-begin.ensures.count.count_is in
-    let ends = c.lower_bound-end.ensures.count.count_is in
-    let within : begin ≤ length (es g c) = omega (arith, ordered, c.lower_bound-end.ensures.count.within) in
+    let ends = c.lower_bound_with-end.ensures.count.count_is in
+    let within : begin ≤ length (es g c) = omega (arith, ordered, c.lower_bound_with-end.ensures.count.within) in
     let some : 1 ≤ end = elim entered [ inl some ↦ omega (arith, some, ordered) | inr first ↦ first.1 ] in
     let ended = c.if-end-len.ended in
     let items = map item_of (es g c) in
@@ -493,14 +541,14 @@ returns-then-not-place-clause-items g c =
     let node = c.remove.new.self in
     let read = entries_are g h in
     let es = entries_of c.header_ref-leaf.result.now in
-    let end = c.lower_bound-end.result in
+    let end = c.lower_bound_with-end.result in
     let first = c.args.place.is_first in
     let version = c.map_or-last.result in
     let fits : SFits w64 version = search rules in
     let kept : to_z w64 (of_z w64 version) ≡ version = to_z-of_z w64 version fits in
     let none =
     (items_parted p es 0 (below_from g h) (omega (arith, c.lower_bound_back-begin.ensures.count.count_is, c.if-begin-eq0.true))).0 in
-    let parts = items_parted q es end (below_to g h) c.lower_bound-end.ensures.count.count_is in
+    let parts = items_parted q es end (below_to g h) c.lower_bound_with-end.ensures.count.count_is in
     let there : entries_of c.header_mut.result.now ≡ es =
     sym (entries_from_header old slot c.header_mut.result.now c.header_mut.ensures.header) ∙ read in
     let left : entries_at (with_header old slot node) slot ≡ drop end es =
@@ -518,7 +566,7 @@ returns-then-not-place-clause-items g c =
       rest = ap (map item_of) left ∙ sym parts.1 ∙ sym behind_is;
       last_is = λ x last.
           let told : version ≡ x.version =
-          last_told g at.After-map_or-last x (parted q es end (below_to g h) c.lower_bound-end.ensures.count.count_is).0
+          last_told g at.After-map_or-last x (parted q es end (below_to g h) c.lower_bound_with-end.ensures.count.count_is).0
           (subst (IsLast x) run_is last) in
           cc;
       some = λ is_first.
@@ -558,7 +606,7 @@ returns-then-begin-entries-clause-items g c =
     let added = c.split_leaf.result in
     let read = entries_are g h in
     let begin = c.lower_bound_back-begin.result in
-    let end = c.lower_bound-end.result in
+    let end = c.lower_bound_with-end.result in
     let now = entries_at b slot ++ entries_at b added in
     let now_is : now ≡ take begin (es g j) ++ (c.if-ended.entries.now ++ drop end (es g j)) =
     c.split_leaf.ensures.entries ∙ ap (λ xs. take begin xs ++ (c.if-ended.entries.now ++ drop end xs)) read in
@@ -568,7 +616,7 @@ returns-then-begin-entries-clause-items g c =
     (whole g j (below_from g h) (below_to g h) (ordered g at.After-lower_bound_back-begin)
     (taken_out g at.After-unwrap (ordered g at.After-lower_bound_back-begin))
     (entered g at.Joined-else-begin-eq0) (λ x last. last_told g at.After-map_or-last x
-    (parted (q g j) (es g j) end (below_to g h) c.lower_bound-end.ensures.count.count_is).0 last) (new_is g j) now now_is))
+    (parted (q g j) (es g j) end (below_to g h) c.lower_bound_with-end.ensures.count.count_is).0 last) (new_is g j) now now_is))
 
 pub returns-then-begin-entries-clause-leaf_bound : goal.returns-then-begin-entries-clause-leaf_bound
 returns-then-begin-entries-clause-leaf_bound g c = refl
@@ -592,7 +640,7 @@ returns-then-begin-eq0-2-clause-items g c =
     let node = c.splice_with_heads.new.self in
     let read = entries_are g h in
     let begin = c.lower_bound_back-begin.result in
-    let end = c.lower_bound-end.result in
+    let end = c.lower_bound_with-end.result in
     let now = entries_at (with_header old slot node) slot in
     let there : entries_of c.header_mut-leaf.result.now ≡ es g j =
     sym (entries_from_header old slot c.header_mut-leaf.result.now c.header_mut-leaf.ensures.header) ∙ read in
@@ -603,7 +651,7 @@ returns-then-begin-eq0-2-clause-items g c =
     (whole g j (below_from g h) (below_to g h) (ordered g at.After-lower_bound_back-begin)
     (taken_out g at.After-unwrap (ordered g at.After-lower_bound_back-begin))
     (entered g at.Joined-else-begin-eq0) (λ x last. last_told g at.After-map_or-last x
-    (parted (q g j) (es g j) end (below_to g h) c.lower_bound-end.ensures.count.count_is).0 last) (new_is g j) now now_is)
+    (parted (q g j) (es g j) end (below_to g h) c.lower_bound_with-end.ensures.count.count_is).0 last) (new_is g j) now now_is)
 
 none_if : (o : Option ℤ) → is_some o ≡ false → o ≡ None
 none_if None f = refl
@@ -619,7 +667,7 @@ returns-clause-items g c =
     let node = c.splice_with_heads.new.self in
     let read = entries_are g h in
     let begin = c.lower_bound_back-begin.result in
-    let end = c.lower_bound-end.result in
+    let end = c.lower_bound_with-end.result in
     let now = entries_at (with_header old slot node) slot in
     let there : entries_of c.header_mut-leaf.result.now ≡ es g j =
     sym (entries_from_header old slot c.header_mut-leaf.result.now c.header_mut-leaf.ensures.header) ∙ read in
@@ -630,7 +678,7 @@ returns-clause-items g c =
     (whole g j (below_from g h) (below_to g h) (ordered g at.After-lower_bound_back-begin)
     (taken_out g at.After-unwrap (ordered g at.After-lower_bound_back-begin))
     (inl (omega (arith, c.if-begin-eq0-2.false))) (λ x last. last_told g at.After-map_or-last x
-    (parted (q g j) (es g j) end (below_to g h) c.lower_bound-end.ensures.count.count_is).0 last) (new_is g j) now now_is)
+    (parted (q g j) (es g j) end (below_to g h) c.lower_bound_with-end.ensures.count.count_is).0 last) (new_is g j) now now_is)
 
 -- Where the leaf has an item before the run, and no version is given, the first key stays.
 pub returns-clause-changed : goal.returns-clause-changed
@@ -645,7 +693,7 @@ returns-clause-changed g c =
     let was = map item_of (entries_at old slot) in
     let now = map item_of (entries_at (with_header old slot node) slot) in
     let gives = returns-clause-items g c in
-    let none = none_if new.last (sym c.is_some-else-begin-eq0-2.ensures ∙ c.if-is_some-2.false) in
+    let none = none_if new.last (sym c.is_some-else-begin-eq0-2.ensures ∙ c.if-is_some-4.false) in
     let some : items_below (p g j) was ≢ [] =
     subst (λ xs. items_below (p g j) (map item_of xs) ≢ []) (sym (entries_are g h))
     (some_item (p g j) (es g j) c.lower_bound_back-begin.result (omega (arith, c.if-begin-eq0-2.false))
