@@ -131,6 +131,7 @@ impl<'a, 'b, P: Bound, Q: Bound, R: Bound, const N: usize> LeafChange<N>
         if begin + entries.len() > N - (leaf.len() - end) {
             return Outcome::Split(split_leaf(nodes, slot, begin, end, entries, new.to));
         }
+        // The keys of both entries have the bytes of the targets, and so their heads.
         let both = [head.unwrap_or(0), to_head.unwrap_or(0)];
         let heads = if head.is_some() && to_head.is_some() {
             Some(&both[..entries.len()])
