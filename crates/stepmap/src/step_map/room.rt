@@ -15,6 +15,9 @@ use filter::Filter;
 use std::alloc::AllocError;
 use std::collections::VecDeque;
 
+// So many cells of the filter there are at most while it has more than two for each boundary: one MiB.
+const EARLY_CELLS: usize = 131_072;
+
 impl StepMap {
     // Returns whether the boundaries, and two for each of so many ranges, are within the limit.
     pub(super) fn has_room_for(&self, ranges: usize) -> bool
@@ -86,7 +89,14 @@ fn take_memory(
     ensures room { boundaries.old.room ≤ boundaries.new.room }
     ensures bounds { (key : List ℕ) → bound filter.new key ≡ bound filter.old key }
 {
-    filter.reserve(2 * (boundaries.len() + 2 * lengths.len()))?;
+    filter.reserve(cells_for(boundaries.len() + 2 * lengths.len()))?;
     keep(ready, lengths)?;
     boundaries.reserve(lengths)
+}
+
+// Returns how many cells the filter is to have for so many boundaries, at least: two for each, and sixteen where these are few. Each
+// time that the cells are doubled, what was written before counts twice; so they are doubled early.
+fn cells_for(boundaries: usize) -> usize {
+    let early = boundaries.saturating_mul(16).min(EARLY_CELLS);
+    boundaries.saturating_mul(2).max(early)
 }
