@@ -10,7 +10,7 @@ use std::test::Fail;
 // Five ranges with five begins, and an empty range.
 const THREE_TXNS: &str = "0>1: R[b,d) R[m,m) W[a,c); W[aa,y); R[c,d) W[,a)";
 
-// The indices of the ranges in order, each with its begin in hexadecimal, and the runs.
+// The indices of the ranges in order, each with its begin in hexadecimal, those of the write ranges, and the runs.
 fn show_ranks(alloc: Global, txns: &Txns) -> Result<String, Unmade> {
     let ranges = txns.ranges();
     let mut text = String::from_str(alloc, "order")?;
@@ -20,6 +20,10 @@ fn show_ranks(alloc: Global, txns: &Txns) -> Result<String, Unmade> {
         }
         let begin = hex::encode(alloc, ranges.get(*index).begin())?;
         write!(text, " {index}[{begin}]")?;
+    }
+    text.push_str(", writes")?;
+    for index in txns.write_order() {
+        write!(text, " {index}")?;
     }
     text.push_str(", runs")?;
     for (begin, end) in txns.ranks().runs() {
@@ -34,7 +38,8 @@ fn ranks_of(alloc: Global, text: &str) -> Result<String, Unmade> {
     show_ranks(alloc, &batch.txns)
 }
 
-const THREE_RANKS: &str = "order 5[] 2[61] 3[6161] 0[62] 4[63], runs 3-5 0-0 1-4 2-5 4-5 0-1";
+const THREE_RANKS: &str =
+    "order 5[] 2[61] 3[6161] 0[62] 4[63], writes 5 2 3, runs 3-5 0-0 1-4 2-5 4-5 0-1";
 
 #[test]
 fn ranks_of_three_txns(rt: HostRuntime) -> Result<(), Fail> {
@@ -43,7 +48,7 @@ fn ranks_of_three_txns(rt: HostRuntime) -> Result<(), Fail> {
 
 #[test]
 fn no_txns_have_no_ranks(rt: HostRuntime) -> Result<(), Fail> {
-    expect(&rt, ranks_of(rt.alloc(), "0>1:"), "order, runs")
+    expect(&rt, ranks_of(rt.alloc(), "0>1:"), "order, writes, runs")
 }
 
 // Whichever growth is refused, of the transactions or of their ranks, the next try succeeds.
@@ -160,6 +165,38 @@ fn order_agrees(order: &[usize], ranges: &[Range]) -> bool {
     order.len() == ranges.iter().filter(|range| !range.is_empty()).count()
 }
 
+// Returns for each range of the transactions whether it is a write range.
+fn write_marks(alloc: Global, txns: &Txns) -> Result<Vec<bool>, AllocError> {
+    let mut marks = Vec::new(alloc);
+    for index in 0..txns.len() {
+        let txn = txns.txn(index);
+        for _ in 0..txn.reads.len() {
+            marks.push(false)?;
+        }
+        for _ in 0..txn.writes.len() {
+            marks.push(true)?;
+        }
+    }
+    Ok(marks)
+}
+
+// Whether the order of the write ranges is what is left of the whole order without the read ranges.
+fn write_order_agrees(alloc: Global, txns: &Txns) -> Result<bool, AllocError> {
+    let marks = write_marks(alloc, txns)?;
+    let mut left = Vec::new(alloc);
+    for index in txns.ranks().order() {
+        if marks.get(*index) == Some(&true) {
+            left.push(*index)?;
+        }
+    }
+    let order = txns.write_order();
+    let same = order
+        .iter()
+        .zip(&left)
+        .all(|(write, index)| *write as usize == *index);
+    Ok(same && order.len() == left.len())
+}
+
 // Compares the ranks with a plain count.
 fn agrees(alloc: Global, txns: &Txns) -> Result<bool, AllocError> {
     let ranges = all_ranges(alloc, txns)?;
@@ -168,7 +205,8 @@ fn agrees(alloc: Global, txns: &Txns) -> Result<bool, AllocError> {
     Ok(
         ranks.begins() == begins.len()
             && runs_agree(ranks.runs(), &ranges, &begins)
-            && order_agrees(ranks.order(), &ranges),
+            && order_agrees(ranks.order(), &ranges)
+            && write_order_agrees(alloc, txns)?,
     )
 }
 

@@ -1,5 +1,6 @@
 -- The marks of what a batch writes.
-use Rattle.std.proofs.Common.{◌≡◌, ℕ, ◌+◌, ◌-◌, ◌<◌, ◌≤◌, Bool, true, false, cond, List, [], ◌∷◌, ◌++◌, length, get_or, take, replicate, refl, sym, ap, subst, ◌∙◌, arith}
+use Rattle.std.proofs.Common.{◌≡◌, ℕ, zero, suc, ◌+◌, ◌-◌, ◌<◌, ◌≤◌, Bool, true, false, cond, List, [], ◌∷◌, ◌++◌, length, get_or, take, replicate, refl, sym, ap, subst, ◌∙◌, arith}
+use Rattle.std.specs.List.{AllZip}
 use Rattle.std.proofs.lemmas.List.{flat_map_more, length-append, length-replicate, length-take, take_all, take_more}
 use Rattle.keys.specs.declared.range.Range.{Range}
 use Rattle.keyspace.specs.declared.reply.Verdict.{Verdict}
@@ -7,7 +8,7 @@ use Rattle.keyspace.specs.declared.reply.Verdict.TheVariants.{Conflict, TooOld, 
 use Rattle.keyspace.specs.declared.txn.Txn.{Txn}
 use Rattle.keyspace.specs.declared.reply.Entry.{Entry}
 use Rattle.keyspace.specs.Writes.{counted, committed}
-use Rattle.keyspace.specs.BatchRanges.{ranges_in, ranges_of_txn}
+use Rattle.keyspace.specs.BatchRanges.{marks_of_txn, ranges_in, ranges_of_txn, write_marks}
 use Rattle.conflict.specs.Union.{picked}
 use Rattle.conflict.proofs.JudgedTo.{committed_push}
 
@@ -76,10 +77,44 @@ own_picked t e =
     ∙ picked-replicate (counts e.verdict) t.writes
     ∙ counted_if e.verdict t.writes
 
+-- what is marked as written is a write range
+abbrev Tells : Bool → Bool → Type 0
+Tells mark is_write = mark ≡ true → is_write ≡ true
+
+tell-append : (marks more writes others : List Bool) → AllZip Tells marks writes → AllZip Tells more others
+    → AllZip Tells (marks ++ more) (writes ++ others)
+tell-append [] more [] others first second = second
+tell-append [] more (w ∷ writes) others first second = absurd first
+tell-append (m ∷ marks) more [] others first second = absurd first
+tell-append (m ∷ marks) more (w ∷ writes) others first second =
+    (first.0, tell-append marks more writes others first.1 second)
+
+-- all are write ranges, or none is
+tell-replicate : (n : ℕ) (mark is_write : Bool) → Tells mark is_write → AllZip Tells (replicate n mark) (replicate n is_write)
+tell-replicate zero mark is_write tells = tt
+tell-replicate (suc n) mark is_write tells = (tells, tell-replicate n mark is_write tells)
+
+own_tell : (t : Txn) (e : Entry) → AllZip Tells (own_marks t e) (marks_of_txn t)
+own_tell t e =
+    tell-append (replicate (length t.reads) false) (replicate (length t.writes) (counts e.verdict))
+    (replicate (length t.reads) false) (replicate (length t.writes) true)
+    (tell-replicate (length t.reads) false false (λ same. same))
+    (tell-replicate (length t.writes) (counts e.verdict) true (λ _. refl))
+
+-- by the index
+pub told_at : (marks writes : List Bool) → AllZip Tells marks writes → (index : ℕ) → get_or marks index false ≡ true
+    → get_or writes index false ≡ true
+told_at [] [] all index marked = cc
+told_at [] (w ∷ writes) all index marked = absurd all
+told_at (m ∷ marks) [] all index marked = absurd all
+told_at (m ∷ marks) (w ∷ writes) all zero marked = all.0 marked
+told_at (m ∷ marks) (w ∷ writes) all (suc index) marked = told_at marks writes all.1 index marked
+
 -- The marks are those of the ranges of the first transactions.
 pub record AreMarksOf (marks : List Bool) (txns : List Txn) (entries : List Entry) : Type 0 where
   pub written : picked marks (ranges_in txns) ≡ committed txns entries
   pub count : length marks ≡ length (ranges_in txns)
+  pub tell : AllZip Tells marks (write_marks txns)
 
 marks_push : (marks : List Bool) (ts : List Txn) (es : List Entry) (t : Txn) (e : Entry) → length ts ≡ length es
     → AreMarksOf marks ts es → AreMarksOf (marks ++ own_marks t e) (ts ++ t ∷ []) (es ++ e ∷ [])
@@ -99,6 +134,8 @@ marks_push marks ts es t e same were =
         length-append (ranges_in ts) (ranges_of_txn t),
         were.count,
       );
+      tell = subst (AllZip Tells (marks ++ own_marks t e)) (flat_map_more marks_of_txn [] ts t)
+          (tell-append marks (own_marks t e) (write_marks ts) (marks_of_txn t) were.tell (own_tell t e));
     }
 
 -- so are those of one transaction more

@@ -7,19 +7,16 @@ use Rattle.std.proofs.lemmas.List.Concat.{flat_map-cons}
 use Rattle.std.proofs.lemmas.List.Elements.{All-append, All-cons, All-nil, All-head, All-tail, All-weaker}
 use Rattle.std.proofs.lemmas.List.Sorted.{Contains-permutation, IsPermutation-sym, sum_by-IsPermutation}
 use Rattle.std.proofs.lemmas.List.Sums.{sum_by-append, sum_by-cons}
-use Rattle.std.proofs.lemmas.Option.{slice_get_within}
 use Rattle.keys.specs.Key.{IsAtMost}
 use Rattle.keys.specs.Range.{Holds, IsEmpty, is_filled}
 use Rattle.keys.specs.Ranks.{BeginsFirst, filled_from}
-use Rattle.keys.specs.Numbering.{IsFilledAt}
 use Rattle.keys.specs.declared.range.Range.{Range}
-use Rattle.keys.proofs.callers.Ranks.{filled_at}
 use Rattle.keys.proofs.callers.KeyOrder.{not_both}
 use Rattle.keys.proofs.callers.Meeting.{before_unless_empty}
 use Rattle.keys.proofs.callers.SomeElement.{Any-cases, Any-first, Any-later, Any-left, Any-none, Any-parts, Any-right}
 use Rattle.stepmap.specs.Counting.{filled_count}
 use Rattle.stepmap.specs.Uniting.{IsEndIn, Unites}
-use Rattle.conflict.specs.Union.{picked}
+use Rattle.conflict.specs.Union.{picked, HaveWrittenInOrder}
 
 -- the range, if there is one
 abbrev found : Option Range → List Range
@@ -226,15 +223,37 @@ unites_alike us rs qs alike was =
       few = omega (arith, was.few, alike.count);
     }
 
+-- what gives nothing may be left out
+left_out : {X Y : Type 0} (f : X → List Y) (p : X → Bool) → ((x : X) → p x ≡ false → f x ≡ []) → (xs : List X)
+    → flat_map f (filter p xs) ≡ flat_map f xs
+left_out f p none [] = refl
+left_out f p none (x ∷ xs) = by (left_out f p none xs) (p x) refl ∙ sym (flat_map-cons f x xs)
+  where
+    by : flat_map f (filter p xs) ≡ flat_map f xs → (b : Bool) → p x ≡ b
+        → flat_map f (cond b (x ∷ filter p xs) (filter p xs)) ≡ f x ++ flat_map f xs
+    by rest true is = flat_map-cons f x (filter p xs) ∙ ap (λ ys. f x ++ ys) rest
+    by rest false is = rest ∙ ap (λ ys. ys ++ flat_map f xs) (sym (none x is))
+
+-- what isn't chosen isn't marked
+unchosen : (marks : List Bool) (ranges : List Range) (order : List ℕ) (are : HaveWrittenInOrder ranges marks order) (index : ℕ)
+    → are.chosen index ≡ false → marked_at marks ranges index ≡ []
+unchosen marks ranges order are index out = by (get_or marks index false) refl
+  where
+    by : (b : Bool) → get_or marks index false ≡ b → cond b (found (slice_get ranges index)) [] ≡ []
+    by true marked = let both : false ≡ true = sym out ∙ are.all index marked in cc
+    by false marked = refl
+
 -- what unites the marked ranges in the order of their begins unites them
 pub unites_picked : (marks : List Bool) (ranges : List Range) (order : List ℕ) (us : List Range)
-    → IsPermutation (filled_from 0 ranges) order → Unites us (listed marks ranges order)
+    → HaveWrittenInOrder ranges marks order → Unites us (listed marks ranges order)
     → Unites us (picked marks ranges)
-unites_picked marks ranges order us moved =
+unites_picked marks ranges order us are =
     let f = marked_at marks ranges in
-    let filled = filled_from 0 ranges in
+    let filled = filter are.chosen (filled_from 0 ranges) in
+    let moved = are.in_order.all in
     let all : flat_map f filled ≡ filter is_filled (picked marks ranges) =
-    listed_filled f 0 marks ranges (λ k. let none : 0 + k ≡ k = omega arith in ap f none) in
+    left_out f are.chosen (unchosen marks ranges order are) (filled_from 0 ranges)
+    ∙ listed_filled f 0 marks ranges (λ k. let none : 0 + k ≡ k = omega arith in ap f none) in
     let back = IsPermutation-sym filled order moved in
     unites_alike us (listed marks ranges order) (picked marks ranges) (record {
       there = λ P some a. any_filtered P (picked marks ranges) (subst (Any P) all
@@ -244,17 +263,3 @@ unites_picked marks ranges order us moved =
       count = count_in f order ∙ sum_by-IsPermutation (λ i. filled_count (f i)) filled order moved
           ∙ sym (count_in f filled) ∙ ap filled_count all ∙ count_filter (picked marks ranges);
     })
-
--- each index listed is that of a range that isn't empty
-pub order_filled : (ranges : List Range) (order : List ℕ) (i index : ℕ) → IsPermutation (filled_from 0 ranges) order
-    → i < length order → get_or order i index ≡ index → IsFilledAt ranges index
-order_filled ranges order i index moved inside is =
-    filled_at ranges index (Contains-permutation order (filled_from 0 ranges) index
-    (IsPermutation-sym (filled_from 0 ranges) order moved) (i, inside, is))
-
--- and so it is within
-pub order_within : (ranges : List Range) (order : List ℕ) (i index : ℕ) → IsPermutation (filled_from 0 ranges) order
-    → i < length order → get_or order i index ≡ index → index < length ranges
-order_within ranges order i index moved inside is =
-    let filled = order_filled ranges order i index moved inside is in
-    slice_get_within ranges index filled.0 filled.1

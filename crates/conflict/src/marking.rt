@@ -1,8 +1,8 @@
 //! Which of the ranges of a batch are written.
 
-ghost use Rattle.std.specs.Prelude.{◌≡◌, length, OnOk};
+ghost use Rattle.std.specs.Prelude.{◌≡◌, ℕ, true, false, length, slice_index_or, OnOk};
 ghost use Rattle.keyspace.specs.Writes.{committed};
-ghost use Rattle.keyspace.specs.BatchRanges.{ranges_in};
+ghost use Rattle.keyspace.specs.BatchRanges.{is_write_in, ranges_in};
 ghost use Rattle.conflict.specs.Union.{picked};
 
 use keyspace::{Batch, Entry, Verdict};
@@ -19,6 +19,8 @@ pub fn mark_written(
     ensures written { OnOk result (picked written.new.items (ranges_in batch.now.txns)
         ≡ committed batch.now.txns entries.now) }
     ensures count { OnOk result (length written.new.items ≡ length (ranges_in batch.now.txns)) }
+    ensures writes { OnOk result ((index : ℕ) → slice_index_or written.new.items index false ≡ true
+        → is_write_in batch.now.txns index ≡ true) }
 {
     written.clear();
     for index in 0..batch.txns.len() {

@@ -3,10 +3,9 @@
 ghost use Rattle.std.specs.Prelude.{◌≡◌, ◌<◌, ◌++◌, ◌∷◌, List, [], length, All, OnOk, Some, slice_get};
 ghost use Rattle.keys.specs.Key.{IsAtMost};
 ghost use Rattle.keys.specs.Range.{IsEmpty};
-ghost use Rattle.keys.specs.Ranks.{AreInOrder};
 ghost use Rattle.keys.specs.declared.range.Range.{Range};
 ghost use Rattle.stepmap.specs.Uniting.{Unites};
-ghost use Rattle.conflict.specs.Union.{picked, AreSpanned, AreUnited};
+ghost use Rattle.conflict.specs.Union.{picked, AreSpanned, AreUnited, HaveWrittenInOrder};
 
 use keys::RangeList;
 use std::alloc::{AllocError, Global};
@@ -46,23 +45,25 @@ impl Union {
         }
     }
 
-    /// Replaces the spans by those of ranges that unite the ones marked as written. `order` lists the ranges that aren't empty
-    /// in the order of their begins. After an error the spans are unspecified, and the next call starts anew.
+    /// Replaces the spans by those of ranges that unite the ones marked as written. `order` lists ranges that aren't empty in the
+    /// order of their begins, and all of these that are marked. After an error the spans are unspecified, and the next call starts
+    /// anew.
     pub fn gather<L: RangeList>(
         &mut self,
         ranges: &L,
-        order: &[usize],
+        order: &[u32],
         written: &[bool],
     ) -> Result<(), AllocError>
-        requires in_order { AreInOrder (L.ranges ranges.now) order.now }
+        requires in_order { HaveWrittenInOrder (L.ranges ranges.now) written.now order.now }
         requires count { length written.now ≡ length (L.ranges ranges.now) }
         ensures united { OnOk result ((united : List Range) × AreSpanned (L.ranges ranges.now) self.new united
             × Unites united (picked written.now (L.ranges ranges.now))) }
     {
         self.spans.clear();
         for index in order {
-            if written[*index] {
-                self.add(ranges, *index)?;
+            let index = *index as usize;
+            if written[index] {
+                self.add(ranges, index)?;
             }
         }
         Ok(())

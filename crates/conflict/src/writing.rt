@@ -73,10 +73,9 @@ pub fn write_batch(
     stepmap::laws::counts();
     mark_written(&mut scratch.written, batch, entries)?;
     let ranges = batch.txns.ranges();
-    let ranks = batch.txns.ranks();
     scratch
         .union
-        .gather(&ranges, ranks.order(), &scratch.written)?;
+        .gather(&ranges, batch.txns.write_order(), &scratch.written)?;
     let spans = scratch.union.spans();
     gather_lengths(&mut scratch.lengths, &ranges, spans)?;
     steps.prepare(&scratch.lengths)?;

@@ -13,6 +13,7 @@ pub mod Numbering
 pub mod Reaching
 pub mod Galloping
 pub mod Filled
+pub mod Chosen
 pub mod Ranked
 pub mod SameBytes
 pub mod Runs

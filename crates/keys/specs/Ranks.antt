@@ -1,5 +1,5 @@
 -- The order of ranges by their begins, the numbers of these, and the runs of gaps that ranges cover. This project's own.
-use Rattle.std.specs.Prelude.{◌≡◌, ℕ, ◌+◌, List, [], ◌∷◌, length, map, if◌then◌else◌, count_by, Some, slice_get, All, AllPairs, Any, Contains}
+use Rattle.std.specs.Prelude.{◌≡◌, ℕ, ◌+◌, Bool, List, [], ◌∷◌, length, map, filter, if◌then◌else◌, count_by, Some, slice_get, All, AllPairs, Any, Contains}
 use Rattle.std.specs.List.Sorted.{IsPermutation}
 use Rattle.keys.specs.Key.{is_before, IsBefore, IsAtMost}
 use Rattle.keys.specs.Range.{IsEmpty, is_filled}
@@ -54,6 +54,11 @@ filled_from first (range ∷ ranges) =
 pub record AreInOrder (ranges : List Range) (order : List ℕ) : Type 0 where
   pub in_order : AllPairs (BeginsFirst ranges) order
   pub all : IsPermutation (filled_from 0 ranges) order
+
+-- The indices are those of the ranges that aren't empty and are chosen, each once, in the order of the begins.
+pub record AreChosenInOrder (chosen : ℕ → Bool) (ranges : List Range) (order : List ℕ) : Type 0 where
+  pub in_order : AllPairs (BeginsFirst ranges) order
+  pub all : IsPermutation (filter chosen (filled_from 0 ranges)) order
 
 -- what is seen of ranks
 pub record RanksView : Type 0 where

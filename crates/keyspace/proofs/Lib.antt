@@ -12,5 +12,6 @@ pub mod RangesTold
 pub mod TablesRanges
 pub mod TablesTxns
 pub mod ReadHashes
+pub mod WriteMarks
 pub mod Putting
 pub mod TablesPut

@@ -16,4 +16,5 @@ pub mod Versions
 pub mod BatchRanges
 pub mod Fields
 pub mod Tables
+pub mod RowMarks
 pub mod Putting

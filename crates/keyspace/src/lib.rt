@@ -25,6 +25,7 @@ mod tables;
 mod txn;
 mod txn_ref;
 mod txns;
+mod write_order;
 
 pub use answer::Answer;
 pub use batch::{Batch, MAX_TXNS};

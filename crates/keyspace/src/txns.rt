@@ -2,9 +2,9 @@
 
 ghost use Rattle.std.specs.Prelude.{◌≡◌, ◌<◌, ◌≤◌, Some, length, vec_len, map, slice_get, IfOk, IsSomeAnd};
 ghost use Rattle.keys.specs.Hash.{IsHashOf};
-ghost use Rattle.keys.specs.Ranks.{AreRanked};
+ghost use Rattle.keys.specs.Ranks.{AreChosenInOrder, AreRanked};
 ghost use Rattle.keys.specs.declared.range.Range.{Range};
-ghost use Rattle.keyspace.specs.BatchRanges.{ranges_in};
+ghost use Rattle.keyspace.specs.BatchRanges.{is_write_in, ranges_in};
 ghost use Rattle.keyspace.specs.Fields.{txn_fields};
 ghost use Rattle.keyspace.specs.Tables.{txns_told, AreTables};
 ghost use Rattle.keyspace.specs.declared.batch.TheConstants.{MAX_TXNS};
@@ -16,6 +16,7 @@ use crate::span::Span;
 use crate::tables::Tables;
 use crate::txn::Txn;
 use crate::txn_ref::TxnRef;
+use crate::write_order::list_writes;
 use keys::{HashedRange, Ranks, single_hashes};
 use std::alloc::{AllocError, Global};
 use std::marker::Model;
@@ -24,13 +25,16 @@ use std::marker::Model;
 ///
 /// They lie in one buffer with the bytes of all keys, a table of spans that says where each range lies in it, and a table
 /// with a row for each transaction. What doesn't depend on other batches is computed once, where the transactions are put
-/// together: the order of their ranges by begins, which of the gaps between these each range covers, and the hashes of single keys.
+/// together: the order of their ranges by begins, of all and of the write ranges alone, which of the gaps between these each range
+/// covers, and the hashes of single keys.
 #[derive(Debug, Drop)]
 pub struct Txns {
     buffer: Vec<u8>,
     spans: Vec<Span>,
     rows: Vec<Row>,
     ranks: Ranks,
+    // The indices of the write ranges that aren't empty, in the order of the ranks.
+    write_order: Vec<u32>,
     // Of each range that is a single key.
     hashes: Vec<Option<u32>>,
     ghost tables: { AreTables buffer.items spans.items rows.items },
@@ -40,8 +44,8 @@ impl Model for Txns {
     ghost use Rattle.std.specs.Prelude.{List};
     ghost use Rattle.std.specs.List.{AllZip};
     ghost use Rattle.keys.specs.Hash.{IsHashOf};
-    ghost use Rattle.keys.specs.Ranks.{AreRanked};
-    ghost use Rattle.keyspace.specs.BatchRanges.{ranges_in};
+    ghost use Rattle.keys.specs.Ranks.{AreChosenInOrder, AreRanked};
+    ghost use Rattle.keyspace.specs.BatchRanges.{is_write_in, ranges_in};
     ghost use Rattle.keyspace.specs.Fields.{txns_with};
     ghost use Rattle.keyspace.specs.Tables.{txns_told};
     ghost use Rattle.keyspace.specs.declared.txn.Txn.{Txn};
@@ -51,9 +55,10 @@ impl Model for Txns {
     ghost view = { λ t. txns_with (txns_told t.buffer.items t.spans.items t.rows.items) t.tables.holds };
 
     ghost invariant = { λ t.
-        AreRanked (ranges_in (txns_with (txns_told t.buffer.items t.spans.items t.rows.items) t.tables.holds)) t.ranks
-        × AllZip IsHashOf (ranges_in (txns_with (txns_told t.buffer.items t.spans.items t.rows.items) t.tables.holds))
-        t.hashes.items };
+        let txns = txns_with (txns_told t.buffer.items t.spans.items t.rows.items) t.tables.holds in
+        AreRanked (ranges_in txns) t.ranks
+        × AreChosenInOrder (is_write_in txns) (ranges_in txns) t.write_order.items
+        × AllZip IsHashOf (ranges_in txns) t.hashes.items };
 }
 
 impl Txns {
@@ -80,12 +85,14 @@ impl Txns {
     {
         let ranges = RangesRef::new(&buffer, &spans);
         let ranks = Ranks::new(alloc, &ranges)?;
+        let write_order = list_writes(alloc, ranks.order(), &rows)?;
         let hashes = single_hashes(alloc, &ranges)?;
         Ok(Txns {
             buffer,
             spans,
             rows,
             ranks,
+            write_order,
             hashes,
         })
     }
@@ -145,5 +152,13 @@ impl Txns {
         ensures ranked { AreRanked (ranges_in self.now) result.now }
     {
         &self.ranks
+    }
+
+    /// Returns the indices of the write ranges that aren't empty, in the order of their begins. The index of a range is that in
+    /// [`Txns::ranges`].
+    pub fn write_order(&self) -> &[u32]
+        ensures order { AreChosenInOrder (is_write_in self.now) (ranges_in self.now) result.now }
+    {
+        &self.write_order
     }
 }

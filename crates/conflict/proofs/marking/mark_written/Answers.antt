@@ -2,11 +2,12 @@ use Rattle.std.proofs.Common.{◌≡◌, ◌+◌, ◌-◌, ◌++◌, ◌∙◌, 
 use Rattle.std.proofs.lemmas.List.{take_all}
 use denote.Enum.Bare.{sameb}
 use Rattle.keyspace.specs.contracts.reply.Verdict.{the_type}
+use Rattle.keyspace.specs.BatchRanges.{write_marks}
 use Rattle.keyspace.specs.declared.reply.Verdict.{Verdict}
 use Rattle.keyspace.specs.declared.reply.Verdict.TheVariants.{Conflict, TooOld, Committed}
 use Rattle.keyspace.specs.declared.txn.Txn.{Txn}
 use Rattle.conflict.proofs.Parts.{lent_at}
-use Rattle.conflict.proofs.Marks.{AreMarksOf, counts, marks_next, resized}
+use Rattle.conflict.proofs.Marks.{AreMarksOf, counts, marks_next, resized, told_at}
 use Rattle.conflict.proofs.marking.mark_written.Goals as goal
 
 -- what the comparison says
@@ -17,7 +18,7 @@ says Conflict = refl
 
 pub loop-index-init : goal.loop-index-init
 loop-index-init c =
-    subst (λ ms. AreMarksOf ms [] []) (sym c.clear.ensures.items) (record { written = refl; count = refl })
+    subst (λ ms. AreMarksOf ms [] []) (sym c.clear.ensures.items) (record { written = refl; count = refl; tell = tt })
 
 pub loop-index-preserved : goal.loop-index-preserved
 loop-index-preserved c =
@@ -59,4 +60,4 @@ returns c =
     (subst (λ es. AreMarksOf c.loop-index.written.items (take i txns) es)
     (take_all i c.args.entries.now (omega (arith, c.loop-index-test.false, c.len-index-end.ensures.count, c.requires.entries)))
     c.loop-index.invariant) in
-    record { written = all.written; count = all.count }
+    record { written = all.written; count = all.count; writes = told_at c.loop-index.written.items (write_marks txns) all.tell }

@@ -1,7 +1,10 @@
 use Rattle.std.proofs.Common.{w64, SFits, Err, ◌≡◌, ◌≤ℤ◌, ◌+◌, ◌*◌, List, ap, sym, subst, ◌∙◌, inl, inr, length, arith, rules}
 use Rattle.std.proofs.lemmas.Bool.{cases_lt}
 use Rattle.std.proofs.lemmas.Int.{to_z-of_z}
+use Rattle.std.specs.Prelude.{ℕ, Bool, true, false, slice_index_or}
+use Rattle.keys.specs.Ranks.{AreChosenInOrder}
 use Rattle.keys.specs.declared.range.Range.{Range}
+use Rattle.keyspace.specs.BatchRanges.{is_write_in}
 use Rattle.keyspace.specs.Writes.{committed}
 use Rattle.stepmap.specs.StepMap.{Steps}
 use Rattle.stepmap.specs.Laws.{IsWriting, IsWritten}
@@ -13,6 +16,17 @@ use Rattle.conflict.proofs.Spanned.{spanned_count}
 use Rattle.conflict.proofs.UnionWritten.{IsUnion, apart, all_written, over_limit, full_of, of_err}
 use Rattle.conflict.proofs.writing.write_batch.Goals.{After-spans-spans, After-write_prepared}
 use Rattle.conflict.proofs.writing.write_batch.Goals as goal
+
+pub gather-requires-clause-in_order : goal.gather-requires-clause-in_order
+gather-requires-clause-in_order c =
+    let txns = c.args.batch.now.txns in
+    record {
+      chosen = is_write_in txns;
+      in_order = subst (λ ranges. AreChosenInOrder (is_write_in txns) ranges c.write_order.result.now)
+          (sym c.ranges-ranges.ensures.ranges) c.write_order.ensures.order;
+      all = subst (λ (marks : List Bool). (index : ℕ) → slice_index_or marks index false ≡ true → is_write_in txns index ≡ true)
+          (sym c.deref.ensures.value) c.in_ok-mark_written.ensures.writes;
+    }
 
 -- the spans are those of ranges that unite what the batch commits
 union : (c : After-spans-spans) → IsUnion c.ranges-ranges.result c.spans-spans.result.now

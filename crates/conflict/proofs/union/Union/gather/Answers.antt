@@ -1,11 +1,12 @@
 use Rattle.std.proofs.Common.{◌≡◌, ◌<◌, length, get_or, take, ◌+◌, [], true, false, sym, subst, arith}
 use Rattle.std.proofs.lemmas.List.{get_or_default, take_all}
+use Rattle.std.proofs.lemmas.Option.{slice_get_within}
 use Rattle.keys.specs.Range.{IsEmpty, is_filled}
 use Rattle.keys.specs.declared.range.Range.{Range}
-use Rattle.keys.proofs.callers.Ranks.{empty_if}
+use Rattle.keys.proofs.callers.Ranks.{chosen_filled, empty_if}
 use Rattle.conflict.specs.Union.{AreUnited}
 use Rattle.conflict.proofs.UnionAdded.{united_none}
-use Rattle.conflict.proofs.UnionOrder.{listed, listed_before, marked_next, unmarked_next, order_filled, order_within, unites_picked}
+use Rattle.conflict.proofs.UnionOrder.{listed, listed_before, marked_next, unmarked_next, unites_picked}
 use Rattle.conflict.proofs.union.Union.gather.Goals.{then-written-index+in_ok-add, else-written-index}
 use Rattle.conflict.proofs.union.Union.gather.Goals as goal
 
@@ -25,8 +26,9 @@ bounds-written-index g c =
     let i = c.loop-index.index-index in
     let index = get_or order i 0 in
     let inside : i < length order = c.loop-index-test.true in
-    let within = order_within ranges order i index c.requires.in_order.all inside (get_or_default order i index 0 inside) in
-    omega (arith, within, c.requires.count)
+    let are = c.requires.in_order in
+    let filled = chosen_filled are.chosen ranges order are.in_order i 0 inside in
+    omega (arith, slice_get_within ranges index filled.0 filled.1, c.requires.count)
 
 pub add-requires-clause-spanned : goal.add-requires-clause-spanned
 add-requires-clause-spanned g c = (c.loop-index.invariant.united, c.loop-index.invariant.spanned)
@@ -40,14 +42,15 @@ loop-index-preserved g c =
     let index = get_or order i 0 in
     let inside : i < length order = c.loop-index-test.true in
     let is : get_or order i index ≡ index = get_or_default order i index 0 inside in
-    let filled = order_filled ranges order i index c.requires.in_order.all inside is in
+    let are = c.requires.in_order in
+    let filled = chosen_filled are.chosen ranges order are.in_order i 0 inside in
     let range = filled.0 in
     let next = listed marks ranges (take (i + 1) order) in
     elim c.if-written-index.branch [
       | then-written-index+in_ok-add w ↦
           let more = w.in_ok-add.ensures.added range (listed marks ranges (take i order)) filled.1
           (not_empty range filled.2)
-          (listed_before marks ranges order i index range c.requires.in_order.in_order inside is filled.1)
+          (listed_before marks ranges order i index range are.in_order.in_order inside is filled.1)
           c.loop-index.invariant in
           subst (λ spans. AreUnited ranges spans next) (sym w.self-is)
           (subst (AreUnited ranges w.add.new.self) (marked_next marks ranges order i index inside is range filled.1
@@ -71,6 +74,6 @@ returns g c =
       united = (
         are.united,
         are.spanned,
-        unites_picked c.args.written.now ranges order are.united c.requires.in_order.all are.unites,
+        unites_picked c.args.written.now ranges order are.united c.requires.in_order are.unites,
       );
     }

@@ -11,7 +11,7 @@ use Rattle.keyspace.proofs.txns.Txns.hashed_range.Goals as goal
 pub index-hash-requires : goal.index-hash-requires
 index-hash-requires c =
     let hashes = c.self.inside.hashes in
-    let many = AllZip-long IsHashOf _ hashes.items c.self.invariant.1 in
+    let many = AllZip-long IsHashOf _ hashes.items c.self.invariant.2 in
     omega (arith, c.requires.within, ap (λ (txns : List Txn). length (ranges_in txns)) c.self.view_is, many, hashes.ok.0)
 
 pub new-requires : goal.new-requires
@@ -20,5 +20,5 @@ new-requires c =
     ∙ ap (λ (ranges : List Range). slice_get ranges c.args.index) (sym c.ranges-2.ensures.ranges) ∙ c.get.ensures.range in
     record {
       hash = subst (IsHashOf c.get.result) (sym c.index-hash.ensures)
-          (AllZip-at IsHashOf _ c.self.inside.hashes.items c.args.index c.get.result c.index-hash.result.now at c.self.invariant.1);
+          (AllZip-at IsHashOf _ c.self.inside.hashes.items c.args.index c.get.result c.index-hash.result.now at c.self.invariant.2);
     }

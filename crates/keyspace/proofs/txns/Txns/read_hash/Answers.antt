@@ -31,7 +31,7 @@ index-requires-2 c =
     let at = read_at tables.buffer.items tables.spans.items tables.rows.items tables.tables c.args.index c.args.read
     c.index.result.now it.0 it.2.0 is c.index.ensures it.2.1 in
     let within = slice_get_within _ (c.index.result.now.reads + c.args.read) it.2.0 at in
-    let many = AllZip-long IsHashOf _ tables.hashes.items c.self.invariant.1 in
+    let many = AllZip-long IsHashOf _ tables.hashes.items c.self.invariant.2 in
     omega (arith, within, many, tables.hashes.ok.0)
 
 pub returns : goal.returns
@@ -44,5 +44,5 @@ returns c =
           c.index.ensures there in
           subst (IsHashOf range) (sym c.index-2.ensures)
           (AllZip-at IsHashOf _ tables.hashes.items (c.index.result.now.reads + c.args.read) range c.index-2.result.now at
-          c.self.invariant.1);
+          c.self.invariant.2);
     }
