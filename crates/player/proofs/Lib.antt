@@ -3,6 +3,7 @@ pub mod Results
 pub mod Numbered
 pub mod Clean
 pub mod InOrder
+pub mod Packing
 pub mod LineTexts
 pub mod Reading
 pub mod SameLanes

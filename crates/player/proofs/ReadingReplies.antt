@@ -1,8 +1,7 @@
 -- Reading the frames of replies, one after the other.
-use Rattle.std.specs.Prelude.{◌≡◌, ◌≢◌, IfSome, ℕ, zero, suc, ◌+◌, List, [], ◌∷◌, ◌++◌, length, map, Option, Some, slice_get, vec_items}
+use Rattle.std.specs.Prelude.{◌≡◌, ◌≢◌, IfSome, ℕ, List, [], ◌∷◌, ◌++◌, length, Option, Some, slice_get}
 use Rattle.std.specs.List.{AllZip}
-use Rattle.std.proofs.Common.{refl, sym, ap, ◌∙◌, subst, append_assoc, append-nil, arith, Vec, Global}
-use Rattle.std.proofs.lemmas.List.{map-append}
+use Rattle.std.proofs.Common.{refl, sym, ap, ◌∙◌, subst, append_assoc, append-nil}
 use Rattle.keyspace.specs.declared.reply.Reply.{Reply}
 use Rattle.wire.specs.declared.error.WireError.{WireError}
 use Rattle.wire.specs.declared.error.WireError.TheVariants as wire

@@ -1,4 +1,5 @@
 pub mod Lines
+pub mod Packed
 pub mod Line
 pub mod Checked
 pub mod Failures

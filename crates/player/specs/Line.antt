@@ -33,7 +33,7 @@ kept_of Json answer = None
 
 -- it is the line of its answer to this proxy
 pub record IsLineOf (form : Form) (proxy : ℕ) (l : Line) : Type 0 where
-  pub text : l.text.items ≡ line form proxy (answer_of l)
+  pub text : l.text ≡ line form proxy (answer_of l)
   pub sorted_by : l.version ≡ version_of_answer (answer_of l)
   -- the reply itself, where it is kept
   pub kept : l.reply ≡ kept_of form (answer_of l)
@@ -49,7 +49,7 @@ TakesToSort ls proxy = 20 < count_at ls proxy
 
 -- the text of lines as they stand
 abbrev pub text_of : List Line → List ℕ
-text_of ls = flat_map (λ (l : Line). l.text.items) ls
+text_of ls = flat_map (λ (l : Line). l.text) ls
 
 -- the text of the lines of several proxies, as they stand
 abbrev pub texts : List (List Line) → List ℕ

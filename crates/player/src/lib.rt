@@ -30,7 +30,7 @@ pub use check::{
     CheckReport, RepliesError, check_over, fail_to_read_replies, print_check, read_replies,
 };
 pub use failures::{Ending, ProxyFailure};
-pub use line::Line;
+pub use line::{Line, PackedText};
 pub use opening::{FileError, Files, OpeningError, fail_to_open, open_files};
 pub use options::{Form, Options};
 pub use program::{check_files, replay_files, run, run_in};

@@ -1,7 +1,6 @@
 //! The line of one answer.
 
-ghost use Rattle.std.specs.Prelude.{◌≡◌, ◌++◌, IfSome, OnOk, false};
-ghost use Rattle.std.specs.Io.KnownBytes.{Appends};
+ghost use Rattle.std.specs.Prelude.{◌≡◌, ◌++◌, IfSome, OnOk, codes, false};
 ghost use Rattle.keyspace.specs.Answer.{version_of_answer};
 ghost use Rattle.player.specs.Lines.{conflict_word, entry_word, words, frame_word, line, outcome, plain_line};
 ghost use Rattle.player.specs.Line.{IsLineOf, answer_of, kept_of, version_of_line};
@@ -10,6 +9,7 @@ use crate::options::Form;
 use checking::Versioned;
 use json::print_json;
 use keyspace::{Answer, Entry, Reply, Verdict};
+use packed::Word;
 use std::alloc::Global;
 use std::io;
 use std::io::Write;
@@ -17,6 +17,9 @@ use std::snapshot::Snapshot;
 use wire::encode_reply;
 
 mod json;
+mod packed;
+
+pub use packed::PackedText;
 
 /// The line of an answer to a proxy, ready to be printed, or the reply where it is kept.
 #[derive(Drop)]
@@ -26,7 +29,7 @@ pub struct Line {
     /// The version that lines are sorted by.
     pub version: i64,
     /// The text, its newline included. Empty where replies are kept.
-    pub text: Vec<u8>,
+    pub text: PackedText,
     /// The reply, where replies are kept.
     pub reply: Option<Reply>,
 }
@@ -59,10 +62,10 @@ impl Versioned for Line {
 }
 
 // Returns the text of an answer to this proxy.
-fn text_of(alloc: Global, form: Form, proxy: usize, answer: &Answer) -> Option<Vec<u8>>
-    ensures text { IfSome result (λ text. text.items ≡ line form proxy answer.now) }
+fn text_of(alloc: Global, form: Form, proxy: usize, answer: &Answer) -> Option<PackedText>
+    ensures text { IfSome result (λ text. text ≡ line form proxy answer.now) }
 {
-    let mut text = Vec::new(alloc);
+    let mut text = PackedText::new(alloc);
     match form {
         Form::Words => print_plain(alloc, &mut text, false, proxy, answer)?,
         Form::Frames => print_plain(alloc, &mut text, true, proxy, answer)?,
@@ -85,20 +88,20 @@ fn kept_of(form: Form, answer: Answer) -> Option<Reply>
 // Puts the line of words behind the text. With `frames` a reply is told as its frame.
 fn print_plain(
     alloc: Global,
-    text: &mut Vec<u8>,
+    text: &mut PackedText,
     frames: bool,
     proxy: usize,
     answer: &Answer,
 ) -> Option<()>
-    ensures text { IfSome result (λ _. text.new.items ≡ text.old.items ++ plain_line frames proxy answer.now) }
+    ensures text { IfSome result (λ _. text.new ≡ text.old ++ plain_line frames proxy answer.now) }
 {
     let version = version(answer);
-    write!(text, "{proxy} {version} ").ok()?;
+    write!(text, "{proxy} {version}").ok()?;
     match answer {
         Answer::Reply(reply) if frames => print_frame(alloc, text, reply)?,
         _ => print_outcome(text, answer).ok()?,
     }
-    text.push(b'\n').ok()
+    text.write_all(b"\n").ok()
 }
 
 fn version(answer: &Answer) -> i64
@@ -110,62 +113,62 @@ fn version(answer: &Answer) -> i64
     }
 }
 
-// Puts the frame of a reply behind the text, in lower-case hexadecimal.
-fn print_frame(alloc: Global, text: &mut Vec<u8>, reply: &Reply) -> Option<()>
-    ensures text { IfSome result (λ _. text.new.items ≡ text.old.items ++ frame_word reply.now) }
+// Puts a blank and the frame of a reply behind the text, in lower-case hexadecimal. There is room for the end of the line.
+fn print_frame(alloc: Global, text: &mut PackedText, reply: &Reply) -> Option<()>
+    ensures text { IfSome result (λ _. text.new ≡ text.old ++ codes " " ++ frame_word reply.now) }
 {
     let frame = encode_reply(alloc, reply).ok()?;
     let word = hex::encode(alloc, frame).ok()?;
-    text.extend_from_slice(word.as_bytes()).ok()
+    text.reserve(word.len().saturating_add(2)).ok()?;
+    text.write_all(b" ").ok()?;
+    text.write_all(word.as_bytes()).ok()
 }
 
-fn print_outcome<W: Write>(out: &mut W, answer: &Answer) -> io::Result<()>
-    ensures text { OnOk result (Appends (W.contents out.old) (W.contents out.new)
-        (outcome false answer.now)) }
+// Puts a blank and what became of the batch behind the text.
+fn print_outcome(text: &mut PackedText, answer: &Answer) -> io::Result<()>
+    ensures text { OnOk result (text.new ≡ text.old ++ codes " " ++ outcome false answer.now) }
 {
     match answer {
-        Answer::Reply(reply) => print_words(out, reply.entries.as_slice()),
-        Answer::Never(_) => out.write_all(b"never"),
-        Answer::Held(_) => out.write_all(b"held"),
+        Answer::Reply(reply) => print_words(text, reply.entries.as_slice()),
+        Answer::Never(_) => text.write_all(b" never"),
+        Answer::Held(_) => text.write_all(b" held"),
     }
 }
 
-fn print_words<W: Write>(out: &mut W, entries: &[Entry]) -> io::Result<()>
-    ensures text { OnOk result (Appends (W.contents out.old) (W.contents out.new)
-        (words entries.now)) }
+// Puts the words of the entries behind the text, a blank before each. There is room for the end of the line.
+fn print_words(text: &mut PackedText, entries: &[Entry]) -> io::Result<()>
+    ensures text { OnOk result (text.new ≡ text.old ++ codes " " ++ words entries.now) }
 {
-    let Some((first, rest)) = entries.split_first() else {
-        return out.write_all(b"empty");
-    };
-    print_word(out, first)?;
-    for entry in rest {
-        out.write_all(b" ")?;
-        print_word(out, entry)?;
+    if entries.is_empty() {
+        return text.write_all(b" empty");
+    }
+    text.reserve(entries.len().saturating_add(1))?;
+    for entry in entries {
+        print_word(text, entry)?;
     }
     Ok(())
 }
 
-fn print_word<W: Write>(out: &mut W, entry: &Entry) -> io::Result<()>
-    ensures text { OnOk result (Appends (W.contents out.old) (W.contents out.new)
-        (entry_word entry.now)) }
+fn print_word(text: &mut PackedText, entry: &Entry) -> io::Result<()>
+    ensures text { OnOk result (text.new ≡ text.old ++ codes " " ++ entry_word entry.now) }
 {
     match entry.verdict {
-        Verdict::Committed => out.write_all(b"committed"),
-        Verdict::TooOld => out.write_all(b"tooold"),
-        Verdict::Conflict => print_conflict(out, entry.places.as_slice()),
+        Verdict::Committed => text.push_word(Word::Committed),
+        Verdict::TooOld => text.push_word(Word::TooOld),
+        Verdict::Conflict => print_conflict(text, entry.places.as_slice()),
     }
 }
 
-fn print_conflict<W: Write>(out: &mut W, places: &[u16]) -> io::Result<()>
-    ensures text { OnOk result (Appends (W.contents out.old) (W.contents out.new)
-        (conflict_word places.now)) }
+fn print_conflict(text: &mut PackedText, places: &[u16]) -> io::Result<()>
+    ensures text { OnOk result (text.new ≡ text.old ++ codes " " ++ conflict_word places.now) }
 {
+    text.push_word(Word::Conflict)?;
     let Some((first, rest)) = places.split_first() else {
-        return out.write_all(b"conflict");
+        return Ok(());
     };
-    write!(out, "conflict:{first}")?;
+    write!(text, ":{first}")?;
     for place in rest {
-        write!(out, ",{place}")?;
+        write!(text, ",{place}")?;
     }
     Ok(())
 }

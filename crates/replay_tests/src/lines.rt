@@ -3,7 +3,7 @@
 use crate::answers::{line_of, received_of};
 use crate::failing::Failing;
 use fixtures::Unmade;
-use player::{Form, Line, PrintError, print_answers};
+use player::{Form, PrintError, print_answers};
 use std::alloc::Global;
 use std::test::Fail;
 use wire::StdSink;
@@ -17,8 +17,10 @@ fn text_of(bytes: Vec<u8>) -> Result<String, Unmade> {
 
 // The text of the line of an answer.
 fn printed(alloc: Global, form: Form, proxy: usize, answer: &str) -> Result<String, Unmade> {
-    let Line { text, .. } = line_of(alloc, form, proxy, answer)?;
-    text_of(text)
+    let line = line_of(alloc, form, proxy, answer)?;
+    let mut out = StdSink::new(Vec::new(alloc));
+    line.text.print(&mut out).map_err(|_failed| Unmade::Memory)?;
+    text_of(out.into_inner())
 }
 
 // Whether the line is that of the answer in it, to the proxy of its first number.
@@ -38,10 +40,30 @@ fn one_line_an_answer(rt: HostRuntime) -> Result<(), Fail> {
         "1 100 committed conflict committed\n",
         "0 200 committed conflict:0,2\n",
         "0 5000100 tooold\n",
+        "2 100 conflict:0 tooold conflict:0,2 conflict committed\n",
         "63 300 never\n",
         "0 1000 held\n",
     ] {
         assert!(rt; is_printed(rt.alloc(), line)?, "{line}");
+    }
+    Ok(())
+}
+
+// The line of three times so many transactions.
+fn long_line(alloc: Global, count: usize) -> Result<String, Unmade> {
+    let mut line = String::from_str(alloc, "0 100")?;
+    for _ in 0..count {
+        line.push_str(" committed conflict:0,2 tooold")?;
+    }
+    line.push_str("\n")?;
+    Ok(line)
+}
+
+#[test]
+fn long_lines(rt: HostRuntime) -> Result<(), Fail> {
+    for count in [1, 10, 11, 100] {
+        let line = long_line(rt.alloc(), count)?;
+        assert!(rt; is_printed(rt.alloc(), line.as_str())?, "{count}");
     }
     Ok(())
 }
@@ -75,6 +97,10 @@ fn answers_as_json(rt: HostRuntime) -> Result<(), Fail> {
         (
             "100 committed tooold conflict",
             "{\"proxy\":7,\"version\":100,\"verdicts\":[\"committed\",\"tooold\",\"conflict\"]}\n",
+        ),
+        (
+            "100 conflict conflict tooold committed",
+            "{\"proxy\":7,\"version\":100,\"verdicts\":[\"conflict\",\"conflict\",\"tooold\",\"committed\"]}\n",
         ),
         (
             "200 conflict:0,2 conflict:0",

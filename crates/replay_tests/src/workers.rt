@@ -11,6 +11,7 @@ use std::process::Abort;
 use std::sync::Wait;
 use std::test::Fail;
 use std::thread;
+use wire::StdSink;
 
 // What the worker of proxy 0 is assigned.
 const FIRST: Assignment = Assignment {
@@ -47,10 +48,11 @@ fn connect(alloc: Global) -> Result<Connected, Unmade> {
 
 // Writes what a worker hands back: the lines of its answers, whether one was lost, the fault of its file and the batch unsent.
 fn handed_back(alloc: Global, finished: &Finished) -> Result<String, Unmade> {
-    let mut text = Vec::new(alloc);
+    let mut out = StdSink::new(Vec::new(alloc));
     for line in &finished.lines {
-        text.extend_from_slice(&line.text)?;
+        line.text.print(&mut out).map_err(|_failed| Unmade::Memory)?;
     }
+    let mut text = out.into_inner();
     if finished.lost {
         text.extend_from_slice(b"lost\n")?;
     }

@@ -10,7 +10,7 @@ ghost use Rattle.player.specs.declared.options.form.Form.{Form};
 use crate::line::Line;
 use checking::sort_by_version;
 use std::alloc::{AllocError, Global};
-use wire::{Failed, Sink, write_all};
+use wire::{Failed, Sink};
 
 /// Why the answers could not be printed.
 #[derive(Debug, Drop)]
@@ -82,7 +82,7 @@ fn print_proxy<W: Sink>(out: &mut W, lines: &[Line]) -> Result<(), Failed>
     ensures failed { OnErr result (W.failures out.old < W.failures out.new) }
 {
     for line in lines {
-        write_all(out, line.text.as_slice())?;
+        line.text.print(out)?;
     }
     Ok(())
 }

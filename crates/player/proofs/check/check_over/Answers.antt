@@ -1,4 +1,4 @@
-use Rattle.std.proofs.Common.{◌≡◌, ◌≢◌, ℕ, Bool, ◌&&◌, List, map, length, refl, ap, sym, subst, inl, inr, ◌∙◌, arith, Vec, Global}
+use Rattle.std.proofs.Common.{◌≡◌, ◌≢◌, Bool, ◌&&◌, List, map, refl, ap, sym, subst, inl, inr, ◌∙◌, arith, Global}
 use Rattle.std.specs.Prelude.{OnOk, vec_items}
 use Rattle.std.proofs.lemmas.List.{length-map}
 use Rattle.keyspace.specs.declared.reply.Reply.{Reply}

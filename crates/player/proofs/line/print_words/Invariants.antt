@@ -1,11 +1,9 @@
-use Rattle.std.proofs.Common.{◌++◌, take, codes}
+use Rattle.std.proofs.Common.{◌≡◌, ◌++◌, take, codes}
 use Rattle.std.specs.List.{flat_map}
-use Rattle.std.specs.Io.KnownBytes.{Appends}
 use Rattle.keyspace.specs.declared.reply.Entry.{Entry}
 use Rattle.player.specs.Lines.{entry_word}
 use Rattle.player.proofs.line.print_words.Given as goal
 
 abbrev pub invariant-loop-entry : goal.invariant-loop-entry
-invariant-loop-entry g l =
-    Appends (g.W.Write.contents l.initial.out) (g.W.Write.contents l.out)
-    (flat_map (λ (entry : Entry). codes " " ++ entry_word entry) (take l.entry-index l.rest))
+invariant-loop-entry l =
+    l.text ≡ l.initial.text ++ flat_map (λ (entry : Entry). codes " " ++ entry_word entry) (take l.entry-index l.entries)

@@ -1,4 +1,4 @@
-use Rattle.std.proofs.Common.{◌∙◌, List, ℕ, Bor, ap, map, refl, subst, Err, arith}
+use Rattle.std.proofs.Common.{◌∙◌, List, ℕ, Bor, ap, map, refl, subst, Err}
 use Rattle.player.specs.Opening.{IsFirstRefused}
 use Rattle.player.specs.Replayed.{written}
 use Rattle.player.proofs.Programs.{fails_to_open}

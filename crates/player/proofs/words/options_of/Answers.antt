@@ -1,5 +1,5 @@
 use Rattle.std.proofs.Common.{rules, ◌≡◌, ◌∙◌, ap, sym, subst, codes, ℤ, SFits, w64, to_z, of_z}
-use Rattle.std.specs.Prelude.{None, Some, Bool, option_map, pos}
+use Rattle.std.specs.Prelude.{None, Some, option_map, pos}
 use Rattle.std.specs.Str.Parse.{
   ExplainsSignedError,
   ExplainsUnsignedError,

@@ -1,9 +1,7 @@
-use Rattle.std.proofs.Common.{◌≡◌, [], ◌∷◌, ◌++◌, List, ℕ, map, vec_items, vec_len, length, rules, ap, sym, subst, ◌∙◌, arith}
-use Rattle.std.specs.Prelude.{Option, slice_get, Some}
+use Rattle.std.proofs.Common.{◌≡◌, [], ◌∷◌, ◌++◌, ℕ, map, vec_items, length, rules, ap, sym, subst, ◌∙◌, arith}
+use Rattle.std.specs.Prelude.{slice_get, Some}
 use Rattle.std.specs.Vec.Iter.{into_iter_items}
-use Rattle.std.proofs.lemmas.Grind.{common_steps}
 use Rattle.std.proofs.lemmas.List.{length-map, map-append}
-use Rattle.keyspace.specs.declared.reply.Reply.{Reply}
 use Rattle.player.proofs.ReadingReplies.{ReadSoFar, one_read_more, place_of_next}
 use Rattle.player.proofs.check.replies.read_all.Goals as goal
 

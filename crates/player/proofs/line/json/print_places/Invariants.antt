@@ -1,10 +1,8 @@
-use Rattle.std.proofs.Common.{ℕ, ◌++◌, take, codes}
+use Rattle.std.proofs.Common.{◌≡◌, ℕ, ◌++◌, take, codes}
 use Rattle.std.specs.List.{flat_map}
 use Rattle.std.specs.Fmt.{decimal}
-use Rattle.std.specs.Io.KnownBytes.{Appends}
 use Rattle.player.proofs.line.json.print_places.Given as goal
 
 abbrev pub invariant-loop-place : goal.invariant-loop-place
-invariant-loop-place g l =
-    Appends (g.W.Write.contents l.initial.out) (g.W.Write.contents l.out)
-    (flat_map (λ (place : ℕ). codes "," ++ decimal place) (take l.place-index l.rest))
+invariant-loop-place l =
+    l.text ≡ l.initial.text ++ flat_map (λ (place : ℕ). codes "," ++ decimal place) (take l.place-index l.rest)
