@@ -50,7 +50,7 @@ fn show_ranks(alloc: Global, text: &str) -> Result<String, Unmade> {
     }
     text.push_str(", order")?;
     for index in ranks.order() {
-        let Some((number, _)) = ranks.runs().get(*index) else {
+        let Some((number, _)) = ranks.runs().get(*index as usize) else {
             return Err(Unmade::Beyond("order"));
         };
         write!(text, " {number}")?;

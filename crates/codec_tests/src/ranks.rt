@@ -15,10 +15,10 @@ fn show_ranks(alloc: Global, txns: &Txns) -> Result<String, Unmade> {
     let ranges = txns.ranges();
     let mut text = String::from_str(alloc, "order")?;
     for index in txns.ranks().order() {
-        if *index >= ranges.len() {
+        if *index as usize >= ranges.len() {
             return Err(Unmade::Beyond("order"));
         }
-        let begin = hex::encode(alloc, ranges.get(*index).begin())?;
+        let begin = hex::encode(alloc, ranges.get(*index as usize).begin())?;
         write!(text, " {index}[{begin}]")?;
     }
     text.push_str(", writes")?;
@@ -115,21 +115,17 @@ fn rank(begins: &[&[u8]], key: &[u8]) -> usize {
 }
 
 // Whether the run of a range is from the rank of its begin to that of its end, and that of an empty one has no gap.
-fn run_agrees(run: (usize, usize), range: &Range, begins: &[&[u8]]) -> bool {
+fn run_agrees(run: (u32, u32), range: &Range, begins: &[&[u8]]) -> bool {
     if range.is_empty() {
         run.0 == run.1
     } else {
-        run.0 == rank(begins, range.begin.as_bytes()) && run.1 == rank(begins, range.end.as_bytes())
+        run.0 as usize == rank(begins, range.begin.as_bytes())
+            && run.1 as usize == rank(begins, range.end.as_bytes())
     }
 }
 
 // Whether the run overlaps the runs of exactly the ranges that its range overlaps.
-fn overlaps_agree(
-    run: (usize, usize),
-    range: &Range,
-    runs: &[(usize, usize)],
-    ranges: &[Range],
-) -> bool {
+fn overlaps_agree(run: (u32, u32), range: &Range, runs: &[(u32, u32)], ranges: &[Range]) -> bool {
     for (other, other_range) in runs.iter().zip(ranges) {
         let common = run.0.max(other.0) < run.1.min(other.1);
         if common != range.meets(other_range) {
@@ -140,7 +136,7 @@ fn overlaps_agree(
 }
 
 // Whether there is one run for each range, and each is right.
-fn runs_agree(runs: &[(usize, usize)], ranges: &[Range], begins: &[&[u8]]) -> bool {
+fn runs_agree(runs: &[(u32, u32)], ranges: &[Range], begins: &[&[u8]]) -> bool {
     for (run, range) in runs.iter().zip(ranges) {
         if !run_agrees(*run, range, begins) || !overlaps_agree(*run, range, runs, ranges) {
             return false;
@@ -150,10 +146,10 @@ fn runs_agree(runs: &[(usize, usize)], ranges: &[Range], begins: &[&[u8]]) -> bo
 }
 
 // Whether the order has each range that isn't empty, and none that begins before the one ahead of it.
-fn order_agrees(order: &[usize], ranges: &[Range]) -> bool {
+fn order_agrees(order: &[u32], ranges: &[Range]) -> bool {
     let mut last: &[u8] = &[];
     for index in order {
-        let Some(range) = ranges.get(*index) else {
+        let Some(range) = ranges.get(*index as usize) else {
             return false;
         };
         let begin = range.begin.as_bytes();
@@ -185,16 +181,11 @@ fn write_order_agrees(alloc: Global, txns: &Txns) -> Result<bool, AllocError> {
     let marks = write_marks(alloc, txns)?;
     let mut left = Vec::new(alloc);
     for index in txns.ranks().order() {
-        if marks.get(*index) == Some(&true) {
+        if marks.get(*index as usize) == Some(&true) {
             left.push(*index)?;
         }
     }
-    let order = txns.write_order();
-    let same = order
-        .iter()
-        .zip(&left)
-        .all(|(write, index)| *write as usize == *index);
-    Ok(same && order.len() == left.len())
+    Ok(txns.write_order() == left.as_slice())
 }
 
 // Compares the ranks with a plain count.

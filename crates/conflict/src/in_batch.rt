@@ -23,7 +23,7 @@ use std::alloc::{AllocError, Global};
 pub fn judge_in_batch(
     alloc: Global,
     batch: &Batch,
-    runs: &[(usize, usize)],
+    runs: &[(u32, u32)],
     gaps: &mut Gaps,
     entries: &mut [Entry],
 ) -> Result<(), AllocError>
@@ -50,7 +50,7 @@ pub fn judge_in_batch(
 // of its write ranges are marked too. The runs are those of its read ranges and then of its write ranges.
 fn judge_open(
     alloc: Global,
-    runs: &[(usize, usize)],
+    runs: &[(u32, u32)],
     gaps: &mut Gaps,
     txn: &TxnRef<'_>,
     entry: &mut Entry,
@@ -78,7 +78,7 @@ fn judge_open(
 }
 
 // Returns the index of the first run of which a gap is marked.
-fn first_met(gaps: &Gaps, runs: &[(usize, usize)]) -> Option<usize>
+fn first_met(gaps: &Gaps, runs: &[(u32, u32)]) -> Option<usize>
     requires within { AreRunsWithin (length gaps.now) runs.now }
     ensures first { (keys : List (List ℕ)) (written ranges : List Range) → TellRuns keys runs.now ranges
         → AreWrittenGaps keys gaps.now written → All (HaveBegin keys) written
@@ -86,7 +86,8 @@ fn first_met(gaps: &Gaps, runs: &[(usize, usize)]) -> Option<usize>
     ensures within { IfSome result (λ place. place < length runs.now) }
 {
     laws::runs();
-    runs.iter().position(|(from, to)| gaps.any(*from, *to))
+    runs.iter()
+        .position(|(from, to)| gaps.any(*from as usize, *to as usize))
 }
 
 // Returns the place alone if the transaction is marked, and else no place, without taking memory.
@@ -102,13 +103,13 @@ fn place_if_marked(alloc: Global, txn: &TxnRef<'_>, place: usize) -> Result<Plac
 }
 
 // Marks the gaps of the runs, and leaves what is marked.
-fn mark(gaps: &mut Gaps, runs: &[(usize, usize)])
+fn mark(gaps: &mut Gaps, runs: &[(u32, u32)])
     requires within { AreRunsWithin (length gaps.old) runs.now }
     ensures count { length gaps.new ≡ length gaps.old }
     ensures marked { (keys : List (List ℕ)) (written ranges : List Range) → TellRuns keys runs.now ranges
         → AreWrittenGaps keys gaps.old written → AreWrittenGaps keys gaps.new (written ++ ranges) }
 {
     for (from, to) in runs {
-        gaps.mark(*from, *to);
+        gaps.mark(*from as usize, *to as usize);
     }
 }

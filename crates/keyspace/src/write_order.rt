@@ -1,6 +1,6 @@
 //! The order of the write ranges of a batch, without its read ranges.
 
-ghost use Rattle.std.specs.Prelude.{◌≡◌, ◌<◌, ◌≤◌, All, IfOk, filter, length};
+ghost use Rattle.std.specs.Prelude.{◌≡◌, ◌<◌, All, IfOk, filter, length};
 ghost use Rattle.keyspace.specs.RowMarks.{is_write_of, marks_of_rows, IsInOrder};
 
 use crate::row::Row;
@@ -8,18 +8,17 @@ use std::alloc::{AllocError, Global};
 
 /// Lists those of the indices that are of write ranges, in the order in which they are given, or returns an error if memory is
 /// refused. The indices are those of the ranges of the rows, one after the other.
-pub fn list_writes(alloc: Global, order: &[usize], rows: &[Row]) -> Result<Vec<u32>, AllocError>
+pub fn list_writes(alloc: Global, order: &[u32], rows: &[Row]) -> Result<Vec<u32>, AllocError>
     requires in_order { All IsInOrder rows.now }
     requires within { All (λ index. index < length (marks_of_rows rows.now)) order.now }
-    requires few { length (marks_of_rows rows.now) ≤ 8388608 }
     ensures writes { IfOk result (λ writes. writes.items ≡ filter (is_write_of rows.now) order.now) }
 {
     let marks = mark_writes(alloc, rows)?;
     let count = marks.iter().filter(|mark| **mark).count();
     let mut writes = Vec::with_capacity(alloc, count)?;
     for index in order {
-        if marks[*index] {
-            writes.push(*index as u32)?;
+        if marks[*index as usize] {
+            writes.push(*index)?;
         }
     }
     Ok(writes)

@@ -1,8 +1,9 @@
 //! The numbers of begins.
 
-ghost use Rattle.std.specs.Prelude.{◌≡◌, ◌↔◌, ◌<◌, ℕ, List, length, All, IsTrue};
+ghost use Rattle.std.specs.Prelude.{◌≡◌, ◌↔◌, ◌<◌, ◌≤◌, ℕ, List, length, All, IsTrue};
 ghost use Rattle.keys.specs.Sorting.{begin_at, AreAlike, AreInBeginOrder};
 ghost use Rattle.keys.specs.Numbering.{AreNumbered, OthersStay};
+ghost use Rattle.keys.specs.declared.ranks.TheConstants.{MAX_RANKED};
 
 use super::begin_in;
 use super::sorting::Headed;
@@ -10,13 +11,10 @@ use crate::range_list::RangeList;
 
 /// Sets the run of each range listed to the number of its begin and the one after it, and returns how many begins there are.
 /// Ranges with the same begin get the same number.
-pub fn number_begins<L: RangeList>(
-    runs: &mut [(usize, usize)],
-    sorted: &[Headed],
-    ranges: &L,
-) -> usize
+pub fn number_begins<L: RangeList>(runs: &mut [(u32, u32)], sorted: &[Headed], ranges: &L) -> u32
     requires sorted { AreInBeginOrder (L.ranges ranges.now) sorted.now }
     requires alike { AreAlike (L.ranges ranges.now) sorted.now }
+    requires few { length sorted.now ≤ MAX_RANKED }
     requires within { All (λ h. h.index < length runs.old) sorted.now }
     ensures numbered { (keys : List (List ℕ)) × AreNumbered (L.ranges ranges.now) sorted.now keys result runs.new }
     ensures others { OthersStay sorted.now runs.old runs.new }

@@ -11,12 +11,7 @@ use super::{begin_in, end_in};
 use crate::range_list::RangeList;
 
 /// Moves the end of each run listed to the number of the first begin that isn't below the end of the range.
-pub fn reach_ends<L: RangeList>(
-    runs: &mut [(usize, usize)],
-    sorted: &[Headed],
-    begins: usize,
-    ranges: &L,
-)
+pub fn reach_ends<L: RangeList>(runs: &mut [(u32, u32)], sorted: &[Headed], begins: u32, ranges: &L)
     requires sorted { AreInBeginOrder (L.ranges ranges.now) sorted.now }
     requires filled { All (IsFilledAt (L.ranges ranges.now)) (indices_of sorted.now) }
     requires few { length sorted.now ≤ MAX_RANKED }

@@ -47,12 +47,6 @@ list_writes-requires-clause-within c =
     let inside = order_within c.new-ranges.result c.in_ok-ranks.ranks.order c.in_ok-ranks.ensures.ranked.are_in_order k d within in
     omega (arith, inside, as_many, marked))
 
-pub list_writes-requires-clause-few : goal.list_writes-requires-clause-few
-list_writes-requires-clause-few c =
-    let at = goal.at.list_writes-requires-clause-few c in
-    let few = few_spans c.args.buffer.items c.args.spans.items c.args.rows.items c.requires.tables in
-    omega (arith, marks at.After-deref-3, few, c.requires.few, c.args.rows.ok.0)
-
 pub invariant_of-result-2 : goal.invariant_of-result-2
 invariant_of-result-2 c =
     let ranked = c.in_ok-ranks.ensures.ranked in
