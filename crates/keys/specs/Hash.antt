@@ -1,5 +1,6 @@
 -- A number made of a key, by which a filter finds its cell. This project's own.
-use Rattle.std.specs.Prelude.{◌≡◌, ℕ, MatchOption, Option, ◌+◌, ◌-◌, ◌*◌, ◌/◌, ◌%◌, ◌^◌, List, [], ◌∷◌, length, drop, fold}
+use Rattle.std.specs.Prelude.{◌≡◌, ◌⊎◌, ℕ, MatchOption, Option, ◌+◌, ◌-◌, ◌*◌, ◌/◌, ◌%◌, ◌^◌, List, [], ◌∷◌, length, drop, fold, All}
+use Rattle.std.specs.List.{AllZip}
 use Rattle.keys.specs.Head.{head_of}
 use Rattle.keys.specs.Range.{IsSingle}
 use Rattle.keys.specs.declared.hashing.TheConstants.{FACTOR}
@@ -31,3 +32,7 @@ hash_of key = mixture_of key / 2 ^ 32
 -- the hash of the key that a range holds alone, or none if it holds none or several
 abbrev pub IsHashOf : Range → Option ℕ → Type 0
 IsHashOf range found = MatchOption found (¬ IsSingle range) (λ hash. IsSingle range × (hash ≡ hash_of range.begin))
+
+-- one for each range, the hash of the key that it holds alone; or none at all, where no range holds a key alone
+abbrev pub AreHashesOf : List Range → List (Option ℕ) → Type 0
+AreHashesOf ranges hashes = ((hashes ≡ []) × All (λ range. ¬ IsSingle range) ranges) ⊎ AllZip IsHashOf ranges hashes

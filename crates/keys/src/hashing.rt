@@ -1,9 +1,9 @@
 //! The hash of a key, by which a filter tells of it.
 
-ghost use Rattle.std.specs.Prelude.{◌≡◌, ◌^◌, ◌<◌, IfOk};
-ghost use Rattle.std.specs.List.{AllZip};
+ghost use Rattle.std.specs.Prelude.{◌≡◌, ◌↔◌, ◌^◌, ◌<◌, Any, IfOk, IsTrue};
 ghost use Rattle.keys.specs.Head.{head_of};
-ghost use Rattle.keys.specs.Hash.{hash_of, mixed, mixture_of, IsHashOf};
+ghost use Rattle.keys.specs.Hash.{hash_of, mixed, mixture_of, AreHashesOf};
+ghost use Rattle.keys.specs.Range.{IsSingle};
 
 use crate::prefix::key_head;
 use crate::range_list::RangeList;
@@ -27,18 +27,33 @@ pub fn key_hash(key: &[u8]) -> u32
 }
 
 /// Returns for each of the ranges, in order, what [`RangeRef::single_hash`](crate::RangeRef::single_hash) returns for it, or an
-/// error if memory is refused.
+/// error if memory is refused. Where no range is a single key it returns none at all, and takes no memory.
 pub fn single_hashes<L: RangeList>(
     alloc: Global,
     ranges: &L,
 ) -> Result<Vec<Option<u32>>, AllocError>
-    ensures hashes { IfOk result (λ hashes. AllZip IsHashOf (L.ranges ranges.now) hashes.items) }
+    ensures hashes { IfOk result (λ hashes. AreHashesOf (L.ranges ranges.now) hashes.items) }
 {
+    if !has_single(ranges) {
+        return Ok(Vec::new(alloc));
+    }
     let mut hashes = Vec::with_capacity(alloc, ranges.len())?;
     for index in 0..ranges.len() {
         hashes.push(ranges.range(index).single_hash())?;
     }
     Ok(hashes)
+}
+
+// Returns `true` if some range is a single key.
+fn has_single<L: RangeList>(ranges: &L) -> bool
+    ensures single { IsTrue result ↔ Any IsSingle (L.ranges ranges.now) }
+{
+    for index in 0..ranges.len() {
+        if ranges.range(index).is_single() {
+            return true;
+        }
+    }
+    false
 }
 
 // Returns the words mixed into the length, in 64 bits.

@@ -1,9 +1,12 @@
--- The read ranges of a transaction, among all ranges of a batch.
-use Rattle.std.proofs.Common.{◌≡◌, ◌+◌, ◌<◌, ℕ, List, length, refl, sym, ap, ◌∙◌, subst, Some, slice_get, slice_range, get_or}
+-- The read ranges of a transaction, among all ranges of a batch, and the hashes of these.
+use Rattle.std.proofs.Common.{◌≡◌, ◌+◌, ◌<◌, ◌≤◌, ℕ, Option, inl, inr, arith, List, length, refl, sym, ap, ◌∙◌, subst, Some, slice_get, slice_range, get_or}
 use Rattle.std.proofs.lemmas.List.{get_or-map}
 use Rattle.std.proofs.lemmas.Option.{get_or_from_slice_get, slice_get_within}
+use Rattle.std.proofs.lemmas.Slice.Zip.{AllZip-long}
+use Rattle.keys.specs.Hash.{AreHashesOf, IsHashOf}
+use Rattle.keys.specs.Range.{IsSingle}
 use Rattle.keys.specs.declared.range.Range.{Range}
-use Rattle.keys.proofs.callers.Lists.{part_get}
+use Rattle.keys.proofs.callers.Lists.{part_get, AllZip-at}
 use Rattle.keyspace.specs.declared.txn.Txn.{Txn}
 use Rattle.keyspace.specs.declared.span.Span.{Span}
 use Rattle.keyspace.specs.declared.row.Row.{Row}
@@ -48,3 +51,20 @@ module _ (buffer : List ℕ) (spans : List Span) (rows : List Row) (tables : Are
   read_at index read row txn range is at there =
       part_get (ranges_in txns) row.reads row.writes read range
       (ap (λ (reads : List Range). slice_get reads read) (sym (reads_are index row txn is at)) ∙ there)
+
+module _ (ranges : List Range) (hashes : List (Option ℕ)) (are : AreHashesOf ranges hashes) (place : ℕ) (range : Range)
+    (at : slice_get ranges place ≡ Some range) where
+  -- a hash that is given is that of the range
+  pub hash_found : (hash : Option ℕ) → place < length hashes → hash ≡ get_or hashes place hash → IsHashOf range hash
+  hash_found hash within is = elim are [
+    | inl (none, single) ↦ absurd (omega (arith, within, ap length none))
+    | inr all ↦ subst (IsHashOf range) (sym is) (AllZip-at IsHashOf ranges hashes place range hash at all)
+  ]
+
+  -- where none is given, the range isn't a single key
+  pub hash_missing : length hashes ≤ place → ¬ IsSingle range
+  hash_missing past = elim are [
+    | inl (none, single) ↦ subst (λ (r : Range). ¬ IsSingle r) (get_or_from_slice_get ranges place range range at)
+        (single place range (slice_get_within ranges place range at))
+    | inr all ↦ absurd (omega (arith, past, slice_get_within ranges place range at, AllZip-long IsHashOf ranges hashes all))
+  ]

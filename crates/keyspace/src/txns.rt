@@ -35,15 +35,14 @@ pub struct Txns {
     ranks: Ranks,
     // The indices of the write ranges that aren't empty, in the order of the ranks.
     write_order: Vec<u32>,
-    // Of each range that is a single key.
+    // Of each range that is a single key; or none at all, where there is no such range.
     hashes: Vec<Option<u32>>,
     ghost tables: { AreTables buffer.items spans.items rows.items },
 }
 
 impl Model for Txns {
     ghost use Rattle.std.specs.Prelude.{List};
-    ghost use Rattle.std.specs.List.{AllZip};
-    ghost use Rattle.keys.specs.Hash.{IsHashOf};
+    ghost use Rattle.keys.specs.Hash.{AreHashesOf};
     ghost use Rattle.keys.specs.Ranks.{AreChosenInOrder, AreRanked};
     ghost use Rattle.keyspace.specs.BatchRanges.{is_write_in, ranges_in};
     ghost use Rattle.keyspace.specs.Fields.{txns_with};
@@ -58,7 +57,7 @@ impl Model for Txns {
         let txns = txns_with (txns_told t.buffer.items t.spans.items t.rows.items) t.tables.holds in
         AreRanked (ranges_in txns) t.ranks
         × AreChosenInOrder (is_write_in txns) (ranges_in txns) t.write_order.items
-        × AllZip IsHashOf (ranges_in txns) t.hashes.items };
+        × AreHashesOf (ranges_in txns) t.hashes.items };
 }
 
 impl Txns {
@@ -126,7 +125,10 @@ impl Txns {
         ensures hash { (txn : TxnValue) (range : Range) → slice_get self.now index ≡ Some txn
             → slice_get txn.reads read ≡ Some range → IsHashOf range result }
     {
-        self.hashes[self.rows[index].reads as usize + read]
+        match self.hashes.get(self.rows[index].reads as usize + read) {
+            Some(hash) => *hash,
+            None => None,
+        }
     }
 
     /// Returns the range at the index in [`Txns::ranges`], without copying its keys, and with its hash, without looking at them.

@@ -1,8 +1,21 @@
-use Rattle.std.proofs.Common.{◌+◌, take, sym, subst}
+use Rattle.std.proofs.Common.{◌+◌, get_or, inl, take, sym, subst}
 use Rattle.std.specs.List.{AllZip}
+use Rattle.std.proofs.lemmas.List.{get_or_default}
 use Rattle.keys.specs.Hash.{IsHashOf}
 use Rattle.keys.proofs.callers.Lists.{AllZip-more}
+use Rattle.keys.proofs.Kept.{not_true}
 use Rattle.keys.proofs.hashing.single_hashes.Goals as goal
+
+pub returns-then-not-has_single : goal.returns-then-not-has_single
+returns-then-not-has_single g c =
+    let ranges = g.L.RangeList.ranges c.args.ranges.now in
+    record {
+      hashes = inl (
+        c.new.ensures.items,
+        λ k d within single.
+            not_true _ c.if-not-has_single.true (c.has_single.ensures.single.1 (k, get_or ranges k d, within, get_or_default ranges k (get_or ranges k d) d within, single)),
+      );
+    }
 
 pub loop-index-preserved : goal.loop-index-preserved
 loop-index-preserved g c =

@@ -1,7 +1,6 @@
 use Rattle.std.proofs.Common.{arith, ◌≡◌, ◌<◌, All, length, sym, ap, ◌∙◌, subst}
-use Rattle.std.specs.List.{AllZip}
 use Rattle.std.proofs.lemmas.List.{length-map}
-use Rattle.keys.specs.Hash.{IsHashOf}
+use Rattle.keys.specs.Hash.{AreHashesOf}
 use Rattle.keys.specs.Ranks.{AreRanked}
 use Rattle.keys.proofs.callers.Ranks.{order_within}
 use Rattle.keyspace.specs.Fields.{range_fields}
@@ -57,7 +56,7 @@ invariant_of-result-2 c =
       writes_in_order c.args.buffer.items c.args.spans.items c.args.rows.items c.requires.tables _ c.deref-3.result.now
           c.new-ranges.result c.in_ok-ranks.ranks.order c.order.result.now c.in_ok-write_order.write_order.items
           c.deref-3.ensures.value same c.order.ensures.order ranked.are_in_order c.in_ok-write_order.ensures.writes,
-      subst (λ ranges. AllZip IsHashOf ranges c.in_ok-hashes.hashes.items) same c.in_ok-hashes.ensures.hashes,
+      subst (λ ranges. AreHashesOf ranges c.in_ok-hashes.hashes.items) same c.in_ok-hashes.ensures.hashes,
     )
 
 pub returns : goal.returns
