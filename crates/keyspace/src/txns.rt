@@ -125,10 +125,7 @@ impl Txns {
         ensures hash { (txn : TxnValue) (range : Range) → slice_get self.now index ≡ Some txn
             → slice_get txn.reads read ≡ Some range → IsHashOf range result }
     {
-        match self.hashes.get(self.rows[index].reads as usize + read) {
-            Some(hash) => *hash,
-            None => None,
-        }
+        self.hash_at(self.rows[index].reads as usize + read)
     }
 
     /// Returns the range at the index in [`Txns::ranges`], without copying its keys, and with its hash, without looking at them.
@@ -136,8 +133,17 @@ impl Txns {
         requires within { index < length (ranges_in self.now) }
         ensures range { slice_get (ranges_in self.now) index ≡ Some result }
     {
-        let hash = self.hashes[index];
-        HashedRange::new(self.ranges().get(index), hash)
+        HashedRange::new(self.ranges().get(index), self.hash_at(index))
+    }
+
+    // Returns what `RangeRef::single_hash` returns for the range at the index in `Txns::ranges`, and looks at no key.
+    fn hash_at(&self, index: usize) -> Option<u32>
+        ensures hash { (range : Range) → slice_get (ranges_in self.now) index ≡ Some range → IsHashOf range result }
+    {
+        match self.hashes.get(index) {
+            Some(hash) => *hash,
+            None => None,
+        }
     }
 
     /// Returns the ranges of the transactions as one list: those of each transaction, its read ranges before its write
