@@ -1,5 +1,5 @@
 -- Which ranges are write ranges, by the rows and by the transactions.
-use Rattle.std.proofs.Common.{◌≡◌, ℕ, ◌-◌, ◌≤◌, Bool, true, false, List, [], ◌∷◌, ◌++◌, length, map, filter, take, drop, replicate, flat_map, slice_range, refl, sym, ap, ap₂, subst, ◌∙◌, arith, All, length-append, length-drop, length-take}
+use Rattle.std.proofs.Common.{◌≡◌, ℕ, ◌-◌, ◌≤◌, Bool, true, false, List, [], ◌∷◌, ◌++◌, length, map, filter, drop, replicate, flat_map, slice_range, refl, sym, ap, ap₂, subst, ◌∙◌, arith, All, length-append, length-drop, length-take}
 use Rattle.std.proofs.lemmas.List.{length-map, length-replicate}
 use Rattle.std.proofs.lemmas.List.Elements.{All-head, All-tail}
 use Rattle.std.specs.Prelude.{slice_index_or}
@@ -11,8 +11,8 @@ use Rattle.keyspace.specs.declared.span.Span.{Span}
 use Rattle.keyspace.specs.declared.row.Row.{Row}
 use Rattle.keyspace.specs.BatchRanges.{is_write_in, marks_of_txn, ranges_in, ranges_of_txn, write_marks}
 use Rattle.keyspace.specs.Fields.{TxnFields, range_fields, txn_fields, TxnLimits, txns_with}
-use Rattle.keyspace.specs.Tables.{range_told, txn_told, txns_told, AreTables, IsRowOf}
-use Rattle.keyspace.specs.RowMarks.{is_write_of, marks_of_row, marks_of_rows}
+use Rattle.keyspace.specs.Tables.{range_told, txns_told, AreTables, IsRowOf}
+use Rattle.keyspace.specs.RowMarks.{is_write_of, marks_of_rows}
 use Rattle.keyspace.proofs.FieldsBack.{fields_of_txns}
 use Rattle.keyspace.proofs.TablesRanges.{ranges_told}
 
