@@ -167,8 +167,9 @@ fn split_leaf<P: Bound, const N: usize>(
 {
     let mut left = nodes.header(slot);
     let mut right = left.splice_apart(from, to, new);
-    left.copy_heads(nodes.header_ref(slot), bound);
-    right.copy_heads(nodes.header_ref(slot), bound);
+    let moved = left.len().saturating_sub(new.len());
+    left.copy_heads(nodes.header_ref(slot), 0, bound);
+    right.copy_heads(nodes.header_ref(slot), moved, bound);
     nodes.set_header(slot, left);
     place(nodes, right)
 }

@@ -95,7 +95,7 @@ fn merge<P: Bound, const N: usize>(nodes: &mut Arena<Node<N>>, first: Slot, seco
 {
     let mut merged = nodes.header(first);
     merged.append(nodes.header_ref(second));
-    merged.copy_heads(nodes.header_ref(first), bound);
+    merged.copy_heads(nodes.header_ref(first), 0, bound);
     nodes.set_header(first, merged);
     nodes.release(second);
 }
@@ -118,9 +118,11 @@ fn redistribute<P: Bound, const N: usize>(
 {
     let mut left = nodes.header(first);
     let mut right = nodes.header(second);
+    let held = left.len();
     left.redistribute(&mut right);
-    left.copy_heads(nodes.header_ref(first), bound);
-    right.copy_heads(nodes.header_ref(second), bound);
+    let moved = left.len().saturating_sub(held);
+    left.copy_heads(nodes.header_ref(first), 0, bound);
+    right.copy_heads(nodes.header_ref(second), moved, bound);
     nodes.set_header(first, left);
     nodes.set_header(second, right);
 }

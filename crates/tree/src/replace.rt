@@ -35,7 +35,7 @@ pub fn insert_child<P: Bound, const N: usize>(
 {
     let mut node = nodes.header(slot);
     let right = insert_entry(nodes, &mut node, index, added);
-    node.copy_heads(nodes.header_ref(slot), bound);
+    node.copy_heads(nodes.header_ref(slot), 0, bound);
     store(nodes, slot, &node, right.as_ref(), bound)
 }
 
@@ -60,7 +60,7 @@ pub fn rebalance_child<P: Bound, const N: usize>(
     }
     let mut node = nodes.header(slot);
     rebalance(nodes, &mut node, index, bound);
-    node.copy_heads(nodes.header_ref(slot), bound);
+    node.copy_heads(nodes.header_ref(slot), 0, bound);
     nodes.set_header(slot, node);
 }
 
@@ -131,7 +131,7 @@ pub fn store<P: Bound, const N: usize>(
         return None;
     };
     let mut added = *right;
-    added.copy_heads(nodes.header_ref(slot), bound);
+    added.copy_heads(nodes.header_ref(slot), (N / 2).saturating_sub(1), bound);
     nodes.set_header(slot, *node);
     Some(place(nodes, added))
 }

@@ -1,6 +1,6 @@
 //! The heads of a node's keys, behind the prefix that all of them have in common: how they are computed and kept.
 
-ghost use Rattle.std.specs.Prelude.{◌≡◌, ◌≢◌, ◌<◌, ◌≤◌, ◌+◌, ◌-◌, ◌++◌, ◌⊎◌, ℕ, List, [], length, take, drop, slice_index, slice_set, Some, IfSome, IsTrue};
+ghost use Rattle.std.specs.Prelude.{◌≡◌, ◌≢◌, ◌<◌, ◌≤◌, ◌+◌, ◌-◌, ◌++◌, ◌⊎◌, ℕ, List, [], length, take, drop, get_or, slice_index, slice_set, Some, IfSome, IsTrue};
 ghost use Rattle.std.specs.Int.{w64, to_be_bytes};
 ghost use Rattle.std.specs.List.{All, AllZip, Contains};
 ghost use Rattle.tree.specs.Heads.{HasPrefix, AreHeads, IsKnown, IsTargetHead, Begins, head_at};
@@ -11,6 +11,9 @@ use crate::bound::Bound;
 use crate::entry::Entry;
 use arena::Slot;
 use keys::same_bytes;
+
+// So many entries are looked at for a key that another node may have.
+const NEAR: usize = 8;
 
 // Where one key is empty, so few bytes with which the others begin in common don't count.
 const FEW: u16 = 6;
@@ -106,21 +109,22 @@ impl<const N: usize> Node<N> {
         copy_few(heads, &mut own[from..end]);
     }
 
-    /// Copies the heads of keys that another node has, too, and computes those of the others.
-    pub fn copy_heads<P: Bound>(&mut self, other: &Node<N>, bound: &P)
+    /// Copies the heads of keys that another node has, too, and computes those of the others. `guess` is where the first key may stand
+    /// there, or a few entries before; it may be any number.
+    pub fn copy_heads<P: Bound>(&mut self, other: &Node<N>, guess: usize, bound: &P)
         requires headed { AreHeads (P.bytes bound.now) (key_heads_of other.now) }
         requires known { All (IsKnown (P.bytes bound.now)) (keys_of (entries_of self.old)) }
         ensures entries { entries_of self.new ≡ entries_of self.old }
         ensures headed { AreHeads (P.bytes bound.now) (key_heads_of self.new) }
     {
         self.prefix_len = other.prefix_len;
-        let mut guess = 0;
+        let mut place = guess;
         for index in 0..self.len {
-            let Some((head, next)) = other.head_of(self.entries[index].key, guess, bound) else {
+            let Some((head, next)) = other.head_of(self.entries[index].key, place, bound) else {
                 return self.compute_heads(bound);
             };
             self.heads[index] = head;
-            guess = next;
+            place = next;
         }
         self.lengthen_prefix(bound);
     }
@@ -137,7 +141,7 @@ impl<const N: usize> Node<N> {
     }
 
     // Returns the head of a key that is empty or begins as all keys do, and the index where the next key may be. The key is looked
-    // for where it may be first, and not at all where that is behind all entries.
+    // for where it may be, and a few entries behind.
     fn head_of<P: Bound>(&self, key: Slot, guess: usize, bound: &P) -> Option<(u64, usize)>
         requires headed { AreHeads (P.bytes bound.now) (key_heads_of self.now) }
         requires known { IsKnown (P.bytes bound.now) key }
@@ -145,16 +149,25 @@ impl<const N: usize> Node<N> {
         ensures agrees { IfSome result (λ _. (text : List ℕ) → P.bytes bound.now key ≡ Some text
             → (text ≡ []) ⊎ HasPrefix (P.bytes bound.now) (key_heads_of self.now) text) }
     {
-        if guess < self.len {
-            if self.entries[guess].key == key {
-                return Some((self.heads[guess], guess + 1));
-            }
-            if let Some(index) = self.entries().iter().position(|entry| entry.key == key) {
-                return Some((self.heads[index], index + 1));
-            }
+        if let Some(index) = self.index_near(key, guess) {
+            return Some((self.heads[index], index + 1));
         }
         if self.begins(key, bound) {
             return Some((bound.head_of(key, self.prefix_len()), guess));
+        }
+        None
+    }
+
+    // Returns the index of a key if it stands at this one or a few entries behind.
+    fn index_near(&self, key: Slot, guess: usize) -> Option<usize>
+        ensures there { IfSome result (λ index. (index < length (entries_of self.now))
+            × (get_or (keys_of (entries_of self.now)) index key ≡ key)) }
+    {
+        let end = self.len.min(guess.saturating_add(NEAR));
+        for index in guess..end {
+            if self.entries[index].key == key {
+                return Some(index);
+            }
         }
         None
     }

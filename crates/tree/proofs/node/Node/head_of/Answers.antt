@@ -1,55 +1,10 @@
-use Rattle.std.proofs.Common.{
-  rules,
-  tests,
-  ◌≡◌,
-  ◌<◌,
-  ◌≤◌,
-  ◌∙◌,
-  pos,
-  length,
-  get_or,
-  slice_index_or,
-  HoldsAt,
-  ap,
-  sym,
-  subst,
-  arith,
-}
-use Rattle.std.specs.List.{AllWithin}
-use Rattle.std.proofs.lemmas.Bool.{eqb-true}
-use Rattle.std.proofs.lemmas.Iterator.{IsFirst-from_position, YieldsList-from_slice}
+use Rattle.std.proofs.Common.{◌≡◌, ◌<◌, ◌∙◌, length, get_or, ap, sym, arith}
 use Rattle.std.proofs.lemmas.List.{get_or-map, get_or-take, length-map, length-take}
-use Rattle.std.proofs.lemmas.Option.{MatchOption-at_some}
 use Rattle.tree.specs.declared.entry.Entry.{Entry}
 use Rattle.tree.specs.Heads.{head_at}
 use Rattle.tree.specs.Node.{entries_of, key_heads_of, keys_of}
-use Rattle.tree.proofs.HeadChanges.{BeginsAsThese, head_there, key_agrees, key_there}
+use Rattle.tree.proofs.HeadChanges.{key_agrees}
 use Rattle.tree.proofs.node.Node.head_of.Goals as goal
-
-pub returns-then-eq-clause-head : goal.returns-then-eq-clause-head
-returns-then-eq-clause-head g c =
-    let node = c.args.self.now in
-    let e = c.index-self-guess.result in
-    let f = head_at (g.P.Bound.bytes c.args.bound.now) node.prefix_len in
-    let most : node.len ≤ length node.entries = omega arith in
-    let same : e.key ≡ c.args.key =
-    ap (λ (x : Entry). x.key) c.index-self-guess.is
-    ∙ eqb-true (slice_index_or node.entries c.args.guess e).key c.args.key (sym c.eq.ensures ∙ c.if-eq.true) in
-    subst (λ k. slice_index_or node.heads c.args.guess 0 ≡ f k) same
-    (head_there node.entries node.len c.args.guess e c.if-guess-self.true most c.index-self-guess.is f node.heads
-    c.requires.headed.heads)
-
-pub returns-then-eq-clause-agrees : goal.returns-then-eq-clause-agrees
-returns-then-eq-clause-agrees g c =
-    let node = c.args.self.now in
-    let bytes = g.P.Bound.bytes c.args.bound.now in
-    let e = c.index-self-guess.result in
-    let most : node.len ≤ length node.entries = omega arith in
-    let same : e.key ≡ c.args.key =
-    ap (λ (x : Entry). x.key) c.index-self-guess.is
-    ∙ eqb-true (slice_index_or node.entries c.args.guess e).key c.args.key (sym c.eq.ensures ∙ c.if-eq.true) in
-    subst (BeginsAsThese bytes (key_heads_of node)) same
-    (key_agrees bytes (key_heads_of node) c.requires.headed e.key (key_there node.entries node.len c.args.guess e c.if-guess-self.true most c.index-self-guess.is))
 
 pub returns-in-Some : goal.returns-in-Some
 returns-in-Some g c =
@@ -57,22 +12,13 @@ returns-in-Some g c =
     let bytes = g.P.Bound.bytes c.args.bound.now in
     let key = c.args.key in
     let i = c.in-Some.index in
-    let es = entries_of node in
-    let keys = keys_of es in
+    let keys = keys_of (entries_of node) in
     let f = head_at bytes node.prefix_len in
-    let Same = λ (e : Entry). e.key ≡ key in
-    let Other = λ (e : Entry). ¬ Same e in
-    let first = MatchOption-at_some (AllWithin Other es 0 (length es))
-    (λ k. (k < length es) × HoldsAt Same es k × AllWithin Other es 0 k) i c.in-Some.is
-    (IsFirst-from_position _ _ _ Same Other c.position.ensures.ran
-    (YieldsList-from_slice es (c.iter.ensures.rest ∙ c.entries.ensures.entries))
-    (λ x q k. search (rules, tests)) (λ x q k. search (rules, tests))) in
-    let entry : Entry = record { key = 0; child = 0; version = pos 0 } in
-    let here : get_or keys i key ≡ key = get_or-map (λ (e : Entry). e.key) es i entry key first.0 ∙ first.1 entry in
-    let inside : i < length keys = omega (arith, first.0, length-map es (λ (e : Entry). e.key)) in
-    let used : i < node.len = omega (arith, first.0, length-take node.len node.entries) in
+    let there = c.in-Some.ensures.there in
+    let inside : i < length keys = omega (arith, there.0, length-map (entries_of node) (λ (e : Entry). e.key)) in
+    let used : i < node.len = omega (arith, there.0, length-take node.len node.entries) in
     record {
       head = sym (get_or-take node.len node.heads i 0 used) ∙ ap (λ ds. get_or ds i 0) c.requires.headed.heads
-          ∙ get_or-map f keys i key 0 inside ∙ ap f here;
-      agrees = key_agrees bytes (key_heads_of node) c.requires.headed key (i, inside, here);
+          ∙ get_or-map f keys i key 0 inside ∙ ap f there.1;
+      agrees = key_agrees bytes (key_heads_of node) c.requires.headed key (i, inside, there.1);
     }
