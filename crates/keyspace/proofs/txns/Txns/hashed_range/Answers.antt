@@ -1,4 +1,4 @@
-use Rattle.std.proofs.Common.{◌≡◌, List, sym, ap, ◌∙◌}
+use Rattle.std.proofs.Common.{List, sym, ap, ◌∙◌}
 use Rattle.std.specs.Prelude.{slice_get}
 use Rattle.keys.specs.declared.range.Range.{Range}
 use Rattle.keyspace.proofs.txns.Txns.hashed_range.Goals as goal
