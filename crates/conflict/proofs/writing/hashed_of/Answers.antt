@@ -38,11 +38,15 @@ returns c =
     let key = c.of.ensures.range in
     record {
       spans = record {
-        begins = (c.get-first.result,
-            ap (λ (ranges : List Range). slice_get ranges c.args.span.begin) (sym same) ∙ c.get-first.ensures.range,
-            sym c.begin.ensures.bytes ∙ sym c.new.ensures.begin ∙ sym (ap (λ (r : Range). r.begin) key));
-        ends = (c.get-last.result,
-            ap (λ (ranges : List Range). slice_get ranges c.args.span.end) (sym same) ∙ c.get-last.ensures.range,
-            sym c.end.ensures.bytes ∙ sym c.new.ensures.end ∙ sym (ap (λ (r : Range). r.end) key));
+        begins = (
+          c.get-first.result,
+          ap (λ (ranges : List Range). slice_get ranges c.args.span.begin) (sym same) ∙ c.get-first.ensures.range,
+          sym c.begin.ensures.bytes ∙ sym c.new.ensures.begin ∙ sym (ap (λ (r : Range). r.begin) key),
+        );
+        ends = (
+          c.get-last.result,
+          ap (λ (ranges : List Range). slice_get ranges c.args.span.end) (sym same) ∙ c.get-last.ensures.range,
+          sym c.end.ensures.bytes ∙ sym c.new.ensures.end ∙ sym (ap (λ (r : Range). r.end) key),
+        );
       };
     }
