@@ -4,6 +4,7 @@ pub mod GapsMarks
 pub mod InBatch
 pub mod Hits
 pub mod Named
+pub mod NamedQuery
 pub mod Questions
 pub mod Overlap
 pub mod Parts

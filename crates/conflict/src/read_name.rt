@@ -67,6 +67,16 @@ impl QueryList for AskedReads<'_> {
         self.names.len()
     }
 
+    fn hash(&self, index: usize) -> Option<u32> {
+        let name = self.names[index];
+        self.txns.read_hash(name.txn as usize, name.read as usize)
+    }
+
+    fn version(&self, index: usize) -> i64 {
+        let name = self.names[index];
+        self.txns.snapshot(name.txn as usize)
+    }
+
     fn query(&self, index: usize) -> RangeQuery<'_> {
         let name = self.names[index];
         let txn = self.txns.txn(name.txn as usize);

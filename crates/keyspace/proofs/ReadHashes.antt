@@ -1,4 +1,4 @@
--- The read ranges of a transaction, among all ranges of a batch, and the hashes of these.
+-- The read version of a transaction, and its read ranges, among all ranges of a batch, and the hashes of these.
 use Rattle.std.proofs.Common.{◌≡◌, ◌+◌, ◌<◌, ◌≤◌, ℕ, Option, inl, inr, arith, List, length, refl, sym, ap, ◌∙◌, subst, Some, slice_get, slice_range, get_or}
 use Rattle.std.proofs.lemmas.List.{get_or-map}
 use Rattle.std.proofs.lemmas.Option.{get_or_from_slice_get, slice_get_within}
@@ -35,6 +35,11 @@ module _ (buffer : List ℕ) (spans : List Span) (rows : List Row) (tables : Are
       ∙ ap (λ (fs : List TxnFields). get_or fs index (txn_fields txn)) (fields_of_txns (txns_told buffer spans rows) tables.holds)
       ∙ get_or-map (txn_told buffer spans) rows index row (txn_fields txn) (row_within index txn is)
       ∙ ap (txn_told buffer spans) (sym at)
+
+  -- the read version of a transaction is that of its row
+  pub snapshot_at : (index : ℕ) (row : Row) (txn : Txn) → slice_get txns index ≡ Some txn → row ≡ get_or rows index row
+      → row.snapshot ≡ txn.snapshot
+  snapshot_at index row txn is at = sym (ap (λ (f : TxnFields). f.snapshot) (fields_at index row txn is at))
 
   reads_are : (index : ℕ) (row : Row) (txn : Txn) → slice_get txns index ≡ Some txn → row ≡ get_or rows index row
       → txn.reads ≡ slice_range (ranges_in txns) row.reads row.writes

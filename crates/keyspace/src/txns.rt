@@ -118,6 +118,14 @@ impl Txns {
         }
     }
 
+    /// Returns the read version of the transaction at the index.
+    pub fn snapshot(&self, index: usize) -> i64
+        requires within { index < length self.now }
+        ensures snapshot { IsSomeAnd (slice_get self.now index) (λ txn. result ≡ txn.snapshot) }
+    {
+        self.rows[index].snapshot
+    }
+
     /// Returns what [`RangeRef::single_hash`](keys::RangeRef::single_hash) returns for a read range of a transaction, by their
     /// indices, and looks at no key.
     pub fn read_hash(&self, index: usize, read: usize) -> Option<u32>

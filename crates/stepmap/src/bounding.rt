@@ -31,7 +31,7 @@ pub fn cells_from<L: QueryList>(
 {
     let mut cells = ArrayVec::new();
     for index in from..to {
-        cells.push(filter.cell(queries.query(index).hash.unwrap_or(0)));
+        cells.push(filter.cell(queries.hash(index).unwrap_or(0)));
     }
     cells
 }

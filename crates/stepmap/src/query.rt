@@ -1,5 +1,5 @@
 //! What a step map is asked.
-ghost use Rattle.std.specs.Prelude.{◌≡◌, ◌<◌, ℤ, List, length, [], ◌∷◌, Some, slice_get};
+ghost use Rattle.std.specs.Prelude.{◌≡◌, ◌<◌, ℤ, List, length, [], ◌∷◌, Some, IsSomeAnd, slice_get};
 ghost use Rattle.keys.specs.Hash.{IsHashOf};
 ghost use Rattle.keys.specs.declared.range.Range.{Range as RangeValue};
 
@@ -23,6 +23,16 @@ pub trait QueryList {
     fn len(&self) -> usize
         ensures count { result ≡ length (queries self.now) };
 
+    /// Returns what [`RangeRef::single_hash`] returns for the range of the query at the index, and looks at no key.
+    fn hash(&self, index: usize) -> Option<u32>
+        requires within { index < length (queries self.now) }
+        ensures hash { IsSomeAnd (slice_get (queries self.now) index) (λ q. IsHashOf q.0 result) };
+
+    /// Returns the version of the query at the index.
+    fn version(&self, index: usize) -> i64
+        requires within { index < length (queries self.now) }
+        ensures version { IsSomeAnd (slice_get (queries self.now) index) (λ q. result ≡ q.1) };
+
     /// Returns the query at the index, without copying its keys.
     fn query(&self, index: usize) -> RangeQuery<'_>
         requires within { index < length (queries self.now) }
@@ -42,6 +52,14 @@ impl<'a> QueryList for OneQuery<'a> {
 
     fn len(&self) -> usize {
         1
+    }
+
+    fn hash(&self, _index: usize) -> Option<u32> {
+        self.range.as_ref().single_hash()
+    }
+
+    fn version(&self, _index: usize) -> i64 {
+        self.version
     }
 
     fn query(&self, _index: usize) -> RangeQuery<'_> {

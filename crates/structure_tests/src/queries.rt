@@ -18,6 +18,14 @@ impl QueryList for Queries<'_> {
         self.all.len()
     }
 
+    fn hash(&self, index: usize) -> Option<u32> {
+        self.all[index].0.as_ref().single_hash()
+    }
+
+    fn version(&self, index: usize) -> i64 {
+        self.all[index].1
+    }
+
     fn query(&self, index: usize) -> RangeQuery<'_> {
         let (range, version) = self.all[index];
         RangeQuery {

@@ -1,8 +1,7 @@
 //! The answering of many queries: the filter is asked first, and the boundaries for those that it leaves open.
 
-ghost use Rattle.std.specs.Prelude.{◌≡◌, ◌+◌, ◌<◌, ◌≤◌, ◌↔◌, Bool, List, ◌++◌, length, take, drop, IfOk, OnOk, IsTrue};
+ghost use Rattle.std.specs.Prelude.{◌≡◌, ◌+◌, ◌<◌, ◌≤◌, ◌↔◌, Bool, List, ◌++◌, length, take, drop, slice_get, IfOk, OnOk, IsSomeAnd, IsTrue};
 ghost use Rattle.std.specs.List.{AllZip};
-ghost use Rattle.keys.specs.Hash.{IsHashOf};
 ghost use Rattle.keys.specs.Range.{IsEmpty};
 ghost use Rattle.stepmap.specs.Covers.{IsAbove};
 ghost use Rattle.stepmap.specs.Filtering.{AreMarked, IsBound};
@@ -11,7 +10,7 @@ ghost use Rattle.tree.specs.declared.question.TheConstants.{SIDE};
 use super::StepMap;
 use crate::bounding::{bounds_at, cells_from, repeated};
 use crate::left::put_told;
-use crate::query::{QueryList, RangeQuery};
+use crate::query::QueryList;
 use arrayvec::ArrayVec;
 use std::alloc::AllocError;
 use tree::SIDE;
@@ -75,7 +74,7 @@ impl StepMap {
         let bounds = self.bounds_from(queries, marks.len(), SIDE - places.len());
         for bound in bounds.as_slice() {
             let place = marks.len();
-            let is_open = self.is_open(&queries.query(place), *bound);
+            let is_open = self.is_open(queries, place, *bound);
             if is_open {
                 places.push(place);
             }
@@ -108,17 +107,17 @@ impl StepMap {
         bounds_at(&self.filter, cells.as_slice())
     }
 
-    // Returns whether the query is to be looked up: its range isn't empty, and this bound of it leaves it open. The bound tells
-    // only of single keys, and only from the edge on.
-    fn is_open(&self, query: &RangeQuery<'_>, bound: i64) -> bool
-        requires hash { IsHashOf query.now.range query.now.hash }
-        requires bound { IsBound self.now query.now.range bound }
-        ensures filled { IsTrue result → ¬ IsEmpty query.now.range }
-        ensures others { ¬ IsTrue result → ¬ IsAbove self.now query.now.range query.now.version }
+    // Returns whether the query at the index is to be looked up: its range isn't empty, and this bound of it leaves it open. The bound
+    // tells only of single keys, and only from the edge on.
+    fn is_open<L: QueryList>(&self, queries: &L, index: usize, bound: i64) -> bool
+        requires bound { IsSomeAnd (slice_get (L.queries queries.now) index) (λ q. IsBound self.now q.0 bound) }
+        ensures filled { IsTrue result → IsSomeAnd (slice_get (L.queries queries.now) index) (λ q. ¬ IsEmpty q.0) }
+        ensures others { ¬ IsTrue result → IsSomeAnd (slice_get (L.queries queries.now) index) (λ q. ¬ IsAbove self.now q.0 q.1) }
     {
-        if query.hash.is_none() {
-            return !query.range.is_empty();
+        if queries.hash(index).is_none() {
+            return !queries.query(index).range.is_empty();
         }
-        query.version < self.edge || query.version < bound
+        let version = queries.version(index);
+        version < self.edge || version < bound
     }
 }

@@ -1,19 +1,19 @@
 use Rattle.std.proofs.Common.{◌≡◌, ◌+◌, ◌-◌, ◌<◌, ℕ, ℤ, All, [], ◌∷◌, ◌++◌, length, take, drop, slice_get, Some, ap, sym, subst, ◌∙◌, arith, length-append}
 use Rattle.std.specs.List.{AllZip}
-use Rattle.std.specs.Prelude.{Option, None, unwrap_or}
+use Rattle.std.specs.Prelude.{Option, None, IsSomeAnd, unwrap_or}
 use Rattle.std.proofs.lemmas.List.Elements.{All-append, All-cons, All-nil}
 use Rattle.std.proofs.lemmas.Slice.Zip.{all_zipped_more}
 use Rattle.filter.specs.Filter.{cell_at, cell_of}
 use Rattle.keys.specs.Hash.{hash_of, IsHashOf}
 use Rattle.keys.specs.Range.{IsSingle}
 use Rattle.keys.specs.declared.range.Range.{Range}
-use Rattle.keys.proofs.callers.Lists.{part_more}
+use Rattle.keys.proofs.callers.Lists.{part_more, some_at}
 use Rattle.stepmap.proofs.bounding.cells_from.Goals as goal
 
 -- the hash of a single key is there
-found : (range : Range) (hash : Option ℕ) → IsHashOf range hash → IsSingle range → unwrap_or hash 0 ≡ hash_of range.begin
-found range None none single = absurd (none single)
-found range (Some hash) is single = is.1
+found : (q : Range × ℤ) (hash : Option ℕ) → IsHashOf q.0 hash → IsSingle q.0 → unwrap_or hash 0 ≡ hash_of q.0.begin
+found q None none single = absurd (none single)
+found q (Some hash) is single = is.1
 
 pub loop-index-preserved : goal.loop-index-preserved
 loop-index-preserved g c =
@@ -21,16 +21,17 @@ loop-index-preserved g c =
     let from = c.args.from in
     let index = c.loop-index.index in
     let n = index - from in
-    let range = c.query.result.range in
-    let q : Range × ℤ = (range, c.query.result.version) in
+    let at = some_at queries index (omega (arith, c.loop-index-test, c.requires.within)) in
+    let q = at.0 in
     let count = length c.args.filter.now.versions in
     let IsCell = λ (q : Range × ℤ) (cell : ℕ). IsSingle q.0 → cell ≡ cell_of count q.0.begin in
     let place : from + n ≡ index = omega (arith, c.loop-index.invariant.from) in
-    let is : slice_get queries (from + n) ≡ Some q = ap (slice_get queries) place ∙ c.query.ensures.query in
+    let is : slice_get queries (from + n) ≡ Some q = ap (slice_get queries) place ∙ at.1 in
+    let hash = subst (λ o. IsSomeAnd o (λ q. IsHashOf q.0 c.hash.result)) at.1 c.hash.ensures.hash in
     let more : (index + 1) - from ≡ n + 1 = omega (arith, c.loop-index.invariant.from) in
     let next = ap (λ k. take k (drop from queries)) more ∙ part_more queries from n q is in
     let cell : IsCell q c.cell.result =
-    λ single. c.cell.ensures.cell ∙ ap (cell_at count) (c.unwrap_or.ensures ∙ found range c.query.result.hash c.query.ensures.hash single) in
+    λ single. c.cell.ensures.cell ∙ ap (cell_at count) (c.unwrap_or.ensures ∙ found q c.hash.result hash single) in
     let Inside = λ (cell : ℕ). cell < count in
     record {
       cells = subst (λ cells. AllZip IsCell (take ((index + 1) - from) (drop from queries)) cells) (sym c.push.ensures.items)

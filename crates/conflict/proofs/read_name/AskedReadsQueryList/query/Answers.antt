@@ -7,33 +7,14 @@ use Rattle.keys.proofs.callers.Lists.{some_at}
 use Rattle.keyspace.specs.declared.txn.Txn.{Txn}
 use Rattle.conflict.specs.Asking.{queries_named, AreNamed}
 use Rattle.conflict.specs.declared.read_name.ReadName.{ReadName}
-use Rattle.conflict.proofs.Named.{name_count, named_at, read_found}
+use Rattle.conflict.proofs.NamedQuery.{name, found, held}
 use Rattle.conflict.proofs.read_name.AskedReadsQueryList.query.Goals as goal
-
--- the name at an index
-abbrev name : List ReadName → ℕ → ReadName
-name names index = slice_index_or names index (record { txn = 0; read = 0 })
-
--- the query at an index, and the read range that it is
-found : (txns : List Txn) (names : List ReadName) → AreNamed txns names → (index : ℕ) → index < length (queries_named txns names)
-    → (q : Range × ℤ) × (slice_get (queries_named txns names) index ≡ Some q)
-    × ((t : Txn) × (slice_get txns (name names index).txn ≡ Some t) × (slice_get t.reads (name names index).read ≡ Some q.0)
-    × (t.snapshot ≡ q.1))
-found txns names named index within =
-    let q = some_at (queries_named txns names) index within in
-    let inside : index < length names = omega (arith, within, name_count txns names named) in
-    let is : slice_get names index ≡ Some (name names index) = slice_get-get_or names index (record { txn = 0; read = 0 }) inside in
-    (q.0, q.1, read_found txns (name names index) q.0 (named_at txns names named index (name names index) q.0 is q.1))
 
 pub txn-txn-requires : goal.txn-txn-requires
 txn-txn-requires c =
     let a = c.args.self.now in
     let f = found a.txns.now a.names.now a.named c.args.index c.requires.within in
     record { within = slice_get_within a.txns.now (name a.names.now c.args.index).txn f.2.0 f.2.1 }
-
--- what holds of what is found
-held : {X : Type 0} (P : X → Type 0) (o : Option X) (x : X) → o ≡ Some x → P x → IsSomeAnd o P
-held P o x is h = subst (λ o. IsSomeAnd o P) (sym is) h
 
 pub read_hash-hash-requires : goal.read_hash-hash-requires
 read_hash-hash-requires c =
