@@ -6,7 +6,7 @@ ghost use Rattle.std.specs.List.{All, AllZip, Contains};
 ghost use Rattle.tree.specs.Heads.{HasPrefix, AreHeads, IsKnown, IsTargetHead, Begins, head_at};
 ghost use Rattle.tree.specs.Node.{entries_of, key_heads_of, keys_of};
 
-use super::{Node, copy_few, move_within};
+use super::{Node, copy_few};
 use crate::bound::Bound;
 use crate::entry::Entry;
 use arena::Slot;
@@ -99,14 +99,12 @@ impl<const N: usize> Node<N> {
         ensures entries { (entries_of self.new) ≡ take from (entries_of self.old) ++ (new.now ++ drop to (entries_of self.old)) }
         ensures headed { AreHeads (P.bytes bound.now) (key_heads_of self.new) }
     {
-        let end = from + new.len();
-        move_within(&mut self.heads, to, self.len, end);
         self.splice(from, to, new);
         let Some(heads) = heads else {
             return self.compute_heads(bound);
         };
         let own = &mut self.heads[..];
-        copy_few(heads, &mut own[from..end]);
+        copy_few(heads, &mut own[from..from + new.len()]);
     }
 
     /// Copies the heads of keys that another node has, too, and computes those of the others. `guess` is where the first key may stand
