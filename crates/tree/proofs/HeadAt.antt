@@ -3,7 +3,7 @@ use Rattle.std.proofs.Common.{◌≡◌, ◌≢◌, ◌⊎◌, ℕ, ◌+◌, ◌
 use Rattle.std.specs.Prelude.{unwrap_or}
 use Rattle.std.specs.Int.{w64, to_be_bytes}
 use Rattle.std.proofs.lemmas.Bool.{cases_lt}
-use Rattle.std.proofs.lemmas.List.{get_or_default, get_or-map, length-map, length-take-le}
+use Rattle.std.proofs.lemmas.List.{get_or_default, get_or-map, length-take-le}
 use Rattle.std.proofs.lemmas.Option.{get_or_from_slice_get, slice_get_within, slice_get-get_or, slice_get-map}
 use Rattle.keys.specs.Key.{IsBytes, IsBefore}
 use Rattle.tree.specs.declared.entry.Entry.{Entry}
@@ -13,6 +13,7 @@ use Rattle.tree.specs.Node.{entries_of, key_heads_of, keys_of}
 use Rattle.tree.specs.Heads.{KeyBytes, Begins, head_behind, head_at, KeyHeads, AreHeads, IsBelowInOrder, IsCommonPrefixLen, IsPrefixLenAt, HasPrefix, IsTargetHead}
 use Rattle.tree.specs.Path.{IsPartitioned}
 use Rattle.tree.proofs.callers.Partitions.{length-items_below, none_fail, not_both}
+use Rattle.tree.proofs.HeadChanges.{heads_count}
 use Rattle.tree.proofs.HeadCounts.{passing_before, passing_inside}
 use Rattle.tree.proofs.HeadOrder.{empty_head, empty_before, empty_before_too, tells_empty, told_by_heads, before_too, tells_too, common_by_heads}
 
@@ -235,8 +236,7 @@ pub filled_within : {N : ℕ} (bytes : KeyBytes) (node : Node N) → AreHeads by
 filled_within bytes node h size count room filled =
     let es = entries_of node in
     let all : node.len ≡ length es =
-    sym (length-take-le node.len node.heads (omega (arith, node.within, size))) ∙ ap length h.heads
-    ∙ length-map (keys_of es) (head_at bytes node.prefix_len) ∙ length-map es (λ (e : Entry). e.key) in
+    sym (length-take-le node.len node.heads (omega (arith, node.within, size))) ∙ heads_count bytes es (key_heads_of node) h refl in
     elim (cases_lt node.len count) [
       | inr within ↦ omega (arith, within, all)
       | inl behind ↦

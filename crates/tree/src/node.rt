@@ -151,6 +151,9 @@ impl<const N: usize> Node<N> {
     pub fn append(&mut self, other: &Node<N>)
         requires room { length (entries_of self.old) + length (entries_of other.now) ≤ N }
         ensures entries { (entries_of self.new) ≡ (entries_of self.old) ++ entries_of other.now }
+        ensures prefix_len { (key_heads_of self.new).prefix_len ≡ (key_heads_of self.old).prefix_len }
+        ensures heads { node_heads self.new ≡ node_heads self.old }
+        ensures count { length (key_heads_of self.new).heads ≡ length (entries_of self.new) }
     {
         let len = self.len + other.len();
         let entries = &mut self.entries[..];
