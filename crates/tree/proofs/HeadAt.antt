@@ -3,15 +3,17 @@ use Rattle.std.proofs.Common.{◌≡◌, ◌≢◌, ◌⊎◌, ℕ, ◌+◌, ◌
 use Rattle.std.specs.Prelude.{unwrap_or}
 use Rattle.std.specs.Int.{w64, to_be_bytes}
 use Rattle.std.proofs.lemmas.Bool.{cases_lt}
-use Rattle.std.proofs.lemmas.List.{get_or-map}
+use Rattle.std.proofs.lemmas.List.{get_or_default, get_or-map, length-take-le}
 use Rattle.std.proofs.lemmas.Option.{get_or_from_slice_get, slice_get_within, slice_get-get_or, slice_get-map}
 use Rattle.keys.specs.Key.{IsBytes, IsBefore}
 use Rattle.tree.specs.declared.entry.Entry.{Entry}
 use Rattle.tree.specs.declared.node.Node.{Node}
+use Rattle.tree.specs.declared.node.TheConstants.{PADDING}
 use Rattle.tree.specs.Node.{entries_of, key_heads_of, keys_of}
 use Rattle.tree.specs.Heads.{KeyBytes, Begins, head_behind, head_at, KeyHeads, AreHeads, IsBelowInOrder, IsCommonPrefixLen, IsPrefixLenAt, HasPrefix, IsTargetHead}
 use Rattle.tree.specs.Path.{IsPartitioned}
 use Rattle.tree.proofs.callers.Partitions.{length-items_below, none_fail, not_both}
+use Rattle.tree.proofs.HeadChanges.{heads_count}
 use Rattle.tree.proofs.HeadCounts.{passing_before, passing_inside}
 use Rattle.tree.proofs.HeadOrder.{empty_head, empty_before, empty_before_too, tells_empty, told_by_heads, before_too, tells_too, common_by_heads}
 
@@ -227,6 +229,21 @@ module _ (bytes : KeyBytes) (key_heads : KeyHeads) (h : AreHeads bytes key_heads
               ∙ sym (ap (λ d. slice_index (to_be_bytes w64 d) count) other)))
               (not_behind key k.text k.known passed)
         ])
+
+-- A head that isn't the greatest number is that of an entry.
+pub filled_within : {N : ℕ} (bytes : KeyBytes) (node : Node N) → AreHeads bytes (key_heads_of node) → length node.heads ≡ N
+    → (count : ℕ) → count ≤ N → (0 < count → get_or node.heads (count - 1) 0 ≢ PADDING) → count ≤ length (entries_of node)
+filled_within bytes node h size count room filled =
+    let es = entries_of node in
+    let all : node.len ≡ length es =
+    sym (length-take-le node.len node.heads (omega (arith, node.within, size))) ∙ heads_count bytes es (key_heads_of node) h refl in
+    elim (cases_lt node.len count) [
+      | inr within ↦ omega (arith, within, all)
+      | inl behind ↦
+          let last = count - 1 in
+          absurd (filled (omega (arith, behind))
+          (get_or_default node.heads last 0 PADDING (omega (arith, behind, room, size)) ∙ node.padded last (omega (arith, behind))))
+    ]
 
 module _ {N : ℕ} (bytes : KeyBytes) (node : Node N) (h : AreHeads bytes (key_heads_of node)) (target : List ℕ) (is_below : ℕ → Bool)
     (order : (key : ℕ) (text : List ℕ) → bytes key ≡ Some text → IsBelowInOrder text target (is_below key)) where

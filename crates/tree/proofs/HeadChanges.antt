@@ -1,11 +1,12 @@
 -- What nodes know of the bytes of their keys, through changes of these.
 use Rattle.std.proofs.Math.Nat.{min-le_left, min-le_right}
-use Rattle.std.proofs.Common.{◌≡◌, ◌≢◌, ◌⊎◌, inl, inr, ℕ, ◌+◌, ◌-◌, ◌<◌, ◌≤◌, min, List, [], ◌∷◌, ◌++◌, Some, length, get_or, take, drop, map, All, refl, sym, ◌∙◌, ap, ap₂, subst, arith, length-append, length-drop}
+use Rattle.std.proofs.Common.{◌≡◌, ◌≢◌, ◌⊎◌, inl, inr, ℕ, ◌+◌, ◌-◌, ◌<◌, ◌≤◌, min, List, [], ◌∷◌, ◌++◌, Some, length, get_or, take, drop, map, All, refl, sym, ◌∙◌, ap, ap₂, subst, arith, append_assoc, length-append, length-drop}
 use Rattle.std.specs.Prelude.{unwrap_or, slice_get, slice_set}
 use Rattle.std.specs.List.{AllZip, Contains}
-use Rattle.std.proofs.lemmas.List.{get_or-map, get_or-take, length-map, length-take, length-take-le, map-append, map-set, map_more, set-get_or, take_all, take-map, drop-map, take-take, take_more_set}
+use Rattle.std.proofs.lemmas.List.{get_or-drop, get_or-map, get_or-take, length-map, length-take, length-take-le, map-append, map-set, map_more, nil_from_length, set-get_or, take_all, take-map, drop-map, take-take, take_more, take_more_same, take_more_set}
 use Rattle.std.proofs.lemmas.Option.{slice_get_within, get_or_from_slice_get}
-use Rattle.std.proofs.lemmas.List.Elements.{All-nil, All-cons, All-head, All-tail, All-append, All-contains, All-drop, All-more, All-set, All-take, All-weaker}
+use Rattle.std.proofs.Math.Seq.{take-add}
+use Rattle.std.proofs.lemmas.List.Elements.{Contains-get_or, All-nil, All-cons, All-head, All-tail, All-append, All-contains, All-drop, All-more, All-set, All-take, All-weaker}
 use Rattle.tree.specs.declared.entry.Entry.{Entry}
 use Rattle.tree.specs.Heads.{KeyBytes, IsKnown, Begins, KeyHeads, AreHeads, HasPrefix, IsTargetHead, head_behind, head_at}
 use Rattle.tree.specs.Node.{keys_of}
@@ -100,6 +101,27 @@ module _ (es : List Entry) (len i : ℕ) (e : Entry) (inside : i < len) (most : 
       ∙ ap (λ k. slice_set (keys_of (take len es)) i k) (sym same ∙ key_read)
       ∙ set-get_or (keys_of (take len es)) i e.key
 
+-- One more key of a run is the same.
+pub run_same : (xs ys : List ℕ) (i p r x y : ℕ) → i + r < length xs → p + r < length ys → x ≡ get_or xs (i + r) x
+    → y ≡ get_or ys (p + r) y → x ≡ y → take r (drop i xs) ≡ take r (drop p ys) → take (r + 1) (drop i xs) ≡ take (r + 1) (drop p ys)
+run_same xs ys i p r x y inside other_inside is other_is same before =
+    take_more_same (drop i xs) (drop p ys) r x (omega (arith, inside, length-drop i xs)) (omega (arith, other_inside, length-drop p ys)) before
+    (get_or-drop i xs r x ∙ sym is ∙ same ∙ other_is ∙ ap (λ d. get_or ys (p + r) d) (sym same) ∙ sym (get_or-drop p ys r x))
+
+-- One more head of it is copied.
+pub run_copied : (old now others : List ℕ) (len i p r : ℕ) → p + r < len → len ≤ length others → i + r < length now
+    → take (i + r) now ≡ take i old ++ take r (drop p (take len others))
+    → take (i + (r + 1)) (slice_set now (i + r) (get_or others (p + r) 0)) ≡ take i old ++ take (r + 1) (drop p (take len others))
+run_copied old now others len i p r there most inside before =
+    let hs = take len others in
+    let head = get_or others (p + r) 0 in
+    let count : length hs ≡ len = length-take-le len others most in
+    let read : get_or (drop p hs) r 0 ≡ head = get_or-drop p hs r 0 ∙ get_or-take len others (p + r) 0 there in
+    ap (λ n. take n (slice_set now (i + r) head)) (omega arith) ∙ take_more_set now (i + r) head inside
+    ∙ ap (λ ds. ds ++ head ∷ []) before ∙ append_assoc (take i old) (take r (drop p hs)) (head ∷ [])
+    ∙ ap (λ ds. take i old ++ ds) (ap (λ d. take r (drop p hs) ++ d ∷ []) (sym read)
+    ∙ sym (take_more (drop p hs) r 0 (omega (arith, there, count, length-drop p hs))))
+
 -- A key is empty, or begins as the keys do of which this is known.
 abbrev pub BeginsAsThese : KeyBytes → KeyHeads → ℕ → Type 0
 BeginsAsThese bytes key_heads key = (text : List ℕ) → bytes key ≡ Some text → (text ≡ []) ⊎ HasPrefix bytes key_heads text
@@ -116,6 +138,17 @@ module _ (bytes : KeyBytes) where
   head_known prefix_len key head k d =
       d k.text k.known ∙ ap (λ o. head_behind prefix_len (unwrap_or o [])) (sym k.known)
 
+  -- A text that begins as all keys do begins with these bytes.
+  prefix_begins : (key_heads : KeyHeads) (h : AreHeads bytes key_heads) (text : List ℕ) → HasPrefix bytes key_heads text
+      → take (length h.beginning) text ≡ h.beginning
+  prefix_begins key_heads h text a =
+      let b = All-contains (Begins bytes h.beginning) key_heads.keys a.key h.begins a.there in
+      let one : Some b.text ≡ Some a.text = sym b.known ∙ a.known in
+      let texts : b.text ≡ a.text = cc in
+      let long : length h.beginning ≤ length b.text = omega (arith, a.long, h.prefix_len, ap length texts) in
+      ap (λ n. take n text) h.prefix_len ∙ sym a.same ∙ ap₂ take (sym h.prefix_len) (sym texts)
+      ∙ begins_if_long h.beginning b.text b.begins long
+
   -- A key that begins as all others do for so many bytes begins with these.
   pub agrees_begins : (key_heads : KeyHeads) (h : AreHeads bytes key_heads) (key : ℕ) → IsKnown bytes key
       → BeginsAsThese bytes key_heads key → Begins bytes h.beginning key
@@ -126,18 +159,9 @@ module _ (bytes : KeyBytes) where
         are_bytes = k.are_bytes;
         begins = elim (agrees k.text k.known) [
           | inl empty ↦ inl empty
-          | inr a ↦ inr (same a)
+          | inr a ↦ inr (prefix_begins key_heads h k.text a)
         ];
       }
-    where
-      same : HasPrefix bytes key_heads k.text → take (length h.beginning) k.text ≡ h.beginning
-      same a =
-          let b = All-contains (Begins bytes h.beginning) key_heads.keys a.key h.begins a.there in
-          let one : Some b.text ≡ Some a.text = sym b.known ∙ a.known in
-          let texts : b.text ≡ a.text = cc in
-          let long : length h.beginning ≤ length b.text = omega (arith, a.long, h.prefix_len, ap length texts) in
-          ap (λ n. take n k.text) h.prefix_len ∙ sym a.same ∙ ap₂ take (sym h.prefix_len) (sym texts)
-          ∙ begins_if_long h.beginning b.text b.begins long
 
   -- a key of the node itself does
   pub key_agrees : (key_heads : KeyHeads) (h : AreHeads bytes key_heads) (key : ℕ) → Contains key_heads.keys key → BeginsAsThese bytes key_heads key
@@ -321,6 +345,73 @@ module _ (bytes : KeyBytes) where
         heads = heads_are ∙ ap₂ (λ ds es. take from ds ++ (es ++ drop to ds)) h.heads right.0
             ∙ sym (map_spliced f key_heads.keys new now.keys from to keys_are)
             ∙ ap (λ n. map (head_at bytes n) now.keys) (sym prefix_len);
+      }
+
+  -- There are as many heads as entries.
+  pub heads_count : (es : List Entry) (key_heads : KeyHeads) → AreHeads bytes key_heads → key_heads.keys ≡ keys_of es
+      → length key_heads.heads ≡ length es
+  heads_count es key_heads h is =
+      ap length h.heads ∙ length-map key_heads.keys (head_at bytes key_heads.prefix_len) ∙ ap length is
+      ∙ length-map es (λ (e : Entry). e.key)
+
+  -- The heads of a run of keys that another node has are copied.
+  pub run_heads : (key_heads : KeyHeads) → AreHeads bytes key_heads → (keys old now : List ℕ) (i r p : ℕ)
+      → take r (drop i keys) ≡ take r (drop p key_heads.keys) → take (i + r) now ≡ take i old ++ take r (drop p key_heads.heads)
+      → take i old ≡ map (head_at bytes key_heads.prefix_len) (take i keys)
+      → take (i + r) now ≡ map (head_at bytes key_heads.prefix_len) (take (i + r) keys)
+  run_heads key_heads h keys old now i r p same copied before =
+      let f = head_at bytes key_heads.prefix_len in
+      let run : take r (drop p key_heads.heads) ≡ map f (take r (drop i keys)) =
+      ap (λ ds. take r (drop p ds)) h.heads ∙ ap (take r) (drop-map f p key_heads.keys) ∙ take-map f r (drop p key_heads.keys)
+      ∙ ap (map f) (sym same) in
+      copied ∙ ap₂ (λ xs ys. xs ++ ys) before run ∙ sym (map-append f (take i keys) (take r (drop i keys)))
+      ∙ ap (map f) (sym (take-add i r keys))
+
+  -- These begin as the other node's keys do.
+  pub run_begins : (key_heads : KeyHeads) → AreHeads bytes key_heads → (keys : List ℕ) (i r p : ℕ)
+      → take r (drop i keys) ≡ take r (drop p key_heads.keys) → All (BeginsAsThese bytes key_heads) (take i keys)
+      → All (BeginsAsThese bytes key_heads) (take (i + r) keys)
+  run_begins key_heads h keys i r p same before =
+      let P = BeginsAsThese bytes key_heads in
+      let all : All P key_heads.keys =
+      λ k d inside. key_agrees key_heads h (get_or key_heads.keys k d) (Contains-get_or key_heads.keys k d inside) in
+      subst (All P) (sym (take-add i r keys))
+      (All-append P (take i keys) (take r (drop i keys)) before
+      (subst (All P) (sym same) (All-take P r (drop p key_heads.keys) (All-drop P p key_heads.keys all))))
+
+  -- Where one key of a second node begins as the keys of a first one do, all of both begin with the same bytes, if with as many.
+  same_beginning : (one other : KeyHeads) (h : AreHeads bytes one) (others : AreHeads bytes other) (key : ℕ)
+      → one.prefix_len ≡ other.prefix_len → Contains other.keys key
+      → ((text : List ℕ) → bytes key ≡ Some text → HasPrefix bytes one text) → others.beginning ≡ h.beginning
+  same_beginning one other h others key as_many there agrees =
+      let k = All-contains (Begins bytes others.beginning) other.keys key others.begins there in
+      let begins : take (length h.beginning) k.text ≡ h.beginning = prefix_begins one h k.text (agrees k.text k.known) in
+      let lengths : length others.beginning ≡ length h.beginning = others.prefix_len ∙ sym as_many ∙ sym h.prefix_len in
+      elim k.begins [
+        | inr same ↦ sym same ∙ ap (λ n. take n k.text) lengths ∙ begins
+        | inl empty ↦
+            let none : length h.beginning ≡ 0 =
+            omega (arith, ap length begins, length-take (length h.beginning) k.text, ap length empty) in
+            nil_from_length others.beginning (lengths ∙ none) ∙ sym (nil_from_length h.beginning none)
+      ]
+
+  -- Those of the second are put behind those of the first one, with their heads.
+  pub headed_joined : (one other now : KeyHeads) → AreHeads bytes one → AreHeads bytes other → (key : ℕ)
+      → one.prefix_len ≡ other.prefix_len → Contains other.keys key
+      → ((text : List ℕ) → bytes key ≡ Some text → HasPrefix bytes one text)
+      → now.keys ≡ one.keys ++ other.keys → now.prefix_len ≡ one.prefix_len → now.heads ≡ one.heads ++ other.heads
+      → AreHeads bytes now
+  headed_joined one other now h others key as_many there agrees keys prefix_len heads =
+      let P = Begins bytes h.beginning in
+      record {
+        beginning = h.beginning;
+        prefix_len = h.prefix_len ∙ sym prefix_len;
+        begins = subst (All P) (sym keys) (All-append P one.keys other.keys h.begins
+            (subst (λ b. All (Begins bytes b) other.keys) (same_beginning one other h others key as_many there agrees) others.begins));
+        heads = heads
+            ∙ ap₂ (λ xs ys. xs ++ ys) h.heads (others.heads ∙ ap (λ n. map (head_at bytes n) other.keys) (sym as_many))
+            ∙ sym (map-append (head_at bytes one.prefix_len) one.keys other.keys)
+            ∙ ap₂ (λ n xs. map (head_at bytes n) xs) (sym prefix_len) (sym keys);
       }
 
   -- Those from one index up to another are taken out, with their heads.

@@ -1,7 +1,8 @@
 -- Entries of a node in whose place others are put.
-use Rattle.std.proofs.Common.{◌≡◌, ℕ, ◌+◌, ◌-◌, ◌≤◌, List, ◌++◌, length, take, drop, sym, ◌∙◌, ap, ap₂, arith, length-append, length-drop, append_assoc}
+use Rattle.std.proofs.Common.{◌≡◌, ℕ, ◌+◌, ◌-◌, ◌≤◌, List, ◌++◌, length, take, drop, sym, ◌∙◌, ap, ap₂, arith, length-append, length-drop, append_assoc, refl}
 use Rattle.std.specs.List.{copy_within}
-use Rattle.std.proofs.lemmas.List.{length-take-le, take-append-drop, take-take, take-append-le, take_at, drop_at, drop-drop, drop-take}
+use Rattle.std.proofs.Math.Seq.{take-append-add}
+use Rattle.std.proofs.lemmas.List.{length-take, length-take-le, take-append-drop, take-take, take-append-le, take_at, drop_at, drop-drop, drop-take}
 
 -- Elements that are moved to where they are stay.
 pub not_moved : {X : Type 0} (xs : List X) (from end to : ℕ) → from ≡ to → xs ≡ copy_within xs from end to
@@ -40,3 +41,33 @@ take-spliced xs ys others len from to within ordered most room after =
     ap (take (end + (len - to))) whole ∙ take_at (take from xs ++ (others ++ moved)) rest (end + (len - to)) new_len
     ∙ ap (λ p. p ++ (others ++ moved)) (sym (take-take from len xs (omega arith)))
     ∙ ap (λ q. take from (take len xs) ++ (others ++ q)) part
+
+-- What others are written over matters as far as elements are taken.
+put_taken : {X : Type 0} (ys others : List X) (from n : ℕ) → from ≤ length ys → from + length others ≤ n
+    → take n (take from ys ++ (others ++ drop (from + length others - from) (drop from ys)))
+    ≡ take from (take n ys) ++ (others ++ drop (from + length others) (take n ys))
+put_taken ys others from n within room =
+    let end = from + length others in
+    let front = take from ys ++ others in
+    let sum : end + (n - end) ≡ n = omega arith in
+    let count : n ≡ length front + (n - end) = omega (arith, length-append (take from ys) others, length-take-le from ys within) in
+    let rest : drop (end - from) (drop from ys) ≡ drop end ys = drop-drop (end - from) from ys ∙ ap (λ i. drop i ys) (omega arith) in
+    ap (take n) (sym (append_assoc (take from ys) others (drop (end - from) (drop from ys))) ∙ ap (λ q. front ++ q) rest)
+    ∙ ap (λ i. take i (front ++ drop end ys)) count ∙ take-append-add front (drop end ys) (n - end)
+    ∙ append_assoc (take from ys) others (take (n - end) (drop end ys))
+    ∙ ap₂ (λ p q. p ++ (others ++ q)) (sym (take-take from n ys (omega arith)))
+    (sym (drop-take end (n - end) ys) ∙ ap (λ i. drop end (take i ys)) sum)
+
+-- Elements are moved and written as above, but behind them anything may stand.
+pub take-spliced_before : {X : Type 0} (xs ys others : List X) (len from to : ℕ) → len ≤ length xs → from ≤ to → to ≤ len
+    → from + length others + (len - to) ≤ length xs → from ≤ length ys
+    → take (from + length others + (len - to)) ys ≡ take (from + length others + (len - to)) (copy_within xs to len (from + length others))
+    → take (from + length others + (len - to)) (take from ys ++ (others ++ drop (from + length others - from) (drop from ys)))
+    ≡ take from (take len xs) ++ (others ++ drop to (take len xs))
+take-spliced_before xs ys others len from to within ordered most room inside after =
+    let end = from + length others in
+    let n = end + (len - to) in
+    let moved = copy_within xs to len end in
+    put_taken ys others from n inside (omega arith) ∙ ap (λ zs. take from zs ++ (others ++ drop end zs)) after
+    ∙ sym (put_taken moved others from n (omega (arith, inside, ap length after, length-take n ys, length-take n moved)) (omega arith))
+    ∙ take-spliced xs moved others len from to within ordered most room refl

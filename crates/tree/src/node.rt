@@ -1,7 +1,8 @@
 //! A node: a short list of entries, in place.
 
-ghost use Rattle.std.specs.Prelude.{◌≤◌, ◌≡◌, ◌+◌, ◌-◌, length};
+ghost use Rattle.std.specs.Prelude.{◌≤◌, ◌≡◌, ◌+◌, ◌-◌, ℕ, get_or, length};
 ghost use Rattle.std.specs.List.{copy_within};
+ghost use Rattle.tree.specs.declared.node.TheConstants.{PADDING};
 
 use crate::entry::Entry;
 
@@ -10,20 +11,26 @@ mod lower_bound;
 
 pub use lower_bound::Step;
 
+// Stands where there is no head of a key: no head is above it.
+const PADDING: u64 = u64::MAX;
+
 /// Up to `N` entries. Contracts see them as the list `entries_of`.
 #[derive(Clone, Copy, Debug)]
 pub struct Node<const N: usize> {
     len: usize,
     // How many bytes the keys begin with in common, or fewer.
     prefix_len: u16,
-    // The head of each key, behind these.
+    // The head of each key, behind these. Behind the heads of the keys stands the greatest number, so that a search need not look
+    // at the length.
     heads: [u64; N],
     entries: [Entry; N],
     ghost within: { len ≤ N },
+    ghost padded: { (index : ℕ) → len ≤ index → get_or heads index PADDING ≡ PADDING },
 }
 
 impl<const N: usize> Node<N> {
     ghost use Rattle.std.specs.Prelude.{◌≡◌, ◌<◌, ◌+◌, ◌-◌, ◌*◌, ◌∷◌, ◌++◌, [], length, take, drop, slice_get, slice_set, Some, None, IfSome, MatchOption};
+    ghost use Rattle.std.specs.List.{copy_within};
     ghost use Rattle.tree.specs.Item.{IsGreatest, version_of};
     ghost use Rattle.tree.specs.Heads.{AreHeads, KeyBytes};
     ghost use Rattle.tree.specs.Node.{node_heads, entries_of, key_heads_of, keys_of};
@@ -34,11 +41,13 @@ impl<const N: usize> Node<N> {
         ensures entries { entries_of result ≡ entry ∷ [] }
         ensures key_heads { key_heads_of result ≡ record { keys = entry.key ∷ []; prefix_len = 0; heads = 0 ∷ [] } }
     {
+        let mut heads = [PADDING; N];
+        heads[0] = 0;
         Node {
             len: 1,
             entries: [entry; N],
             prefix_len: 0,
-            heads: [0; N],
+            heads,
         }
     }
 
@@ -97,9 +106,28 @@ impl<const N: usize> Node<N> {
         ensures entries { (entries_of self.new) ≡ take from (entries_of self.old) ++ drop to (entries_of self.old) }
         ensures headed { (bytes : KeyBytes) → AreHeads bytes (key_heads_of self.old) → AreHeads bytes (key_heads_of self.new) }
     {
-        self.heads.copy_within(to..self.len, from);
-        self.entries.copy_within(to..self.len, from);
-        self.len -= to - from;
+        self.move_tail(to, from);
+    }
+
+    // Moves the entries from an index on, with their heads, to where the first of them stands at another index. The node ends behind
+    // them.
+    fn move_tail(&mut self, from: usize, to: usize)
+        requires within { from ≤ length (entries_of self.old) }
+        requires room { to + (length (entries_of self.old) - from) ≤ N }
+        ensures len { self.new.len ≡ to + (self.old.len - from) }
+        ensures prefix_len { self.new.prefix_len ≡ self.old.prefix_len }
+        ensures size { length self.new.heads ≡ N }
+        ensures entries { self.new.entries ≡ copy_within self.old.entries from self.old.len to }
+        ensures heads { take self.new.len self.new.heads ≡ take self.new.len (copy_within self.old.heads from self.old.len to) }
+    {
+        let end = self.len;
+        move_within(&mut self.entries, from, end, to);
+        move_within(&mut self.heads, from, end, to);
+        self.len = to + (end - from);
+        if self.len < end {
+            let heads = &mut self.heads[..];
+            heads[self.len..end].fill(PADDING);
+        }
     }
 
     /// Puts these entries in place of those from one index up to another.
@@ -109,20 +137,23 @@ impl<const N: usize> Node<N> {
         requires room { from + length new.now + (length (entries_of self.old) - to) ≤ N }
         ensures entries { (entries_of self.new) ≡ take from (entries_of self.old) ++ (new.now ++ drop to (entries_of self.old)) }
         ensures prefix_len { (key_heads_of self.new).prefix_len ≡ (key_heads_of self.old).prefix_len }
-        ensures heads { node_heads self.new ≡ node_heads self.old }
+        ensures heads { (key_heads_of self.new).heads ≡ take (length (entries_of self.new))
+            (copy_within (node_heads self.old) to (length (entries_of self.old)) (from + length new.now)) }
         ensures count { length (key_heads_of self.new).heads ≡ length (entries_of self.new) }
     {
         let end = from + new.len();
-        move_within(&mut self.entries, to, self.len, end);
+        self.move_tail(to, end);
         let entries = &mut self.entries[..];
         copy_few(new, &mut entries[from..end]);
-        self.len = end + (self.len - to);
     }
 
     /// Puts the entries of another node behind these.
     pub fn append(&mut self, other: &Node<N>)
         requires room { length (entries_of self.old) + length (entries_of other.now) ≤ N }
         ensures entries { (entries_of self.new) ≡ (entries_of self.old) ++ entries_of other.now }
+        ensures prefix_len { (key_heads_of self.new).prefix_len ≡ (key_heads_of self.old).prefix_len }
+        ensures heads { node_heads self.new ≡ node_heads self.old }
+        ensures count { length (key_heads_of self.new).heads ≡ length (entries_of self.new) }
     {
         let len = self.len + other.len();
         let entries = &mut self.entries[..];
@@ -150,7 +181,7 @@ impl<const N: usize> Node<N> {
     {
         let mut right = *self;
         right.remove(0, at);
-        self.len = at;
+        self.move_tail(self.len, at);
         right
     }
 

@@ -94,8 +94,7 @@ fn merge<P: Bound, const N: usize>(nodes: &mut Arena<Node<N>>, first: Slot, seco
     ensures headed { AllAreHeads (P.bytes bound.now) (all_heads_of nodes.new) }
 {
     let mut merged = nodes.header(first);
-    merged.append(nodes.header_ref(second));
-    merged.copy_heads(nodes.header_ref(first), 0, bound);
+    merged.append_with_heads(nodes.header_ref(second), bound);
     nodes.set_header(first, merged);
     nodes.release(second);
 }

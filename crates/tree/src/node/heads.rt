@@ -6,7 +6,7 @@ ghost use Rattle.std.specs.List.{All, AllZip, Contains};
 ghost use Rattle.tree.specs.Heads.{HasPrefix, AreHeads, IsKnown, IsTargetHead, Begins, head_at};
 ghost use Rattle.tree.specs.Node.{entries_of, key_heads_of, keys_of};
 
-use super::{Node, copy_few, move_within};
+use super::{Node, copy_few};
 use crate::bound::Bound;
 use crate::entry::Entry;
 use arena::Slot;
@@ -99,14 +99,12 @@ impl<const N: usize> Node<N> {
         ensures entries { (entries_of self.new) ≡ take from (entries_of self.old) ++ (new.now ++ drop to (entries_of self.old)) }
         ensures headed { AreHeads (P.bytes bound.now) (key_heads_of self.new) }
     {
-        let end = from + new.len();
-        move_within(&mut self.heads, to, self.len, end);
         self.splice(from, to, new);
         let Some(heads) = heads else {
             return self.compute_heads(bound);
         };
         let own = &mut self.heads[..];
-        copy_few(heads, &mut own[from..end]);
+        copy_few(heads, &mut own[from..from + new.len()]);
     }
 
     /// Copies the heads of keys that another node has, too, and computes those of the others. `guess` is where the first key may stand
@@ -119,13 +117,66 @@ impl<const N: usize> Node<N> {
     {
         self.prefix_len = other.prefix_len;
         let mut place = guess;
-        for index in 0..self.len {
-            let Some((head, next)) = other.head_of(self.entries[index].key, place, bound) else {
-                return self.compute_heads(bound);
-            };
-            self.heads[index] = head;
-            place = next;
+        let mut index = 0;
+        while index < self.len {
+            let run = self.copy_run(index, other, place);
+            index += run;
+            place += run;
+            if index < self.len {
+                let Some((head, next)) = other.head_of(self.entries[index].key, place, bound) else {
+                    return self.compute_heads(bound);
+                };
+                self.heads[index] = head;
+                index += 1;
+                place = next;
+            }
         }
+        self.lengthen_prefix(bound);
+    }
+
+    // Copies the heads from an index on, as long as the other node has the same keys from a place on. Returns how many it copies.
+    fn copy_run(&mut self, index: usize, other: &Node<N>, place: usize) -> usize
+        requires within { index ≤ length (entries_of self.old) }
+        ensures within { index + result ≤ length (entries_of self.old) }
+        ensures there { result ≤ length (entries_of other.now) - place }
+        ensures len { self.new.len ≡ self.old.len }
+        ensures prefix_len { self.new.prefix_len ≡ self.old.prefix_len }
+        ensures size { length self.new.heads ≡ N }
+        ensures entries { self.new.entries ≡ self.old.entries }
+        ensures same { take result (drop index (keys_of (entries_of self.old))) ≡ take result (drop place (keys_of (entries_of other.now))) }
+        ensures copied { take (index + result) self.new.heads
+            ≡ take index self.old.heads ++ take result (drop place (key_heads_of other.now).heads) }
+    {
+        let count = (self.len - index).min(other.len.saturating_sub(place));
+        for run in 0..count {
+            if self.entries[index + run].key != other.entries[place + run].key {
+                return run;
+            }
+            self.heads[index + run] = other.heads[place + run];
+        }
+        count
+    }
+
+    /// Puts the entries of another node behind these, with their heads where all keys begin alike, or else all heads are computed
+    /// anew.
+    pub fn append_with_heads<P: Bound>(&mut self, other: &Node<N>, bound: &P)
+        requires room { length (entries_of self.old) + length (entries_of other.now) ≤ N }
+        requires headed { AreHeads (P.bytes bound.now) (key_heads_of self.old) }
+        requires other_headed { AreHeads (P.bytes bound.now) (key_heads_of other.now) }
+        ensures entries { entries_of self.new ≡ entries_of self.old ++ entries_of other.now }
+        ensures headed { AreHeads (P.bytes bound.now) (key_heads_of self.new) }
+    {
+        let Some(first) = other.entries().first() else {
+            return;
+        };
+        let alike = self.prefix_len == other.prefix_len && self.begins(first.key, bound);
+        let len = self.len;
+        self.append(other);
+        if !alike {
+            return self.compute_heads(bound);
+        }
+        let heads = &mut self.heads[..];
+        heads[len..self.len].copy_from_slice(&other.heads[..other.len]);
         self.lengthen_prefix(bound);
     }
 

@@ -4,6 +4,7 @@ ghost use Rattle.std.specs.Prelude.{◌≡◌, ◌≢◌, ◌<◌, ◌≤◌, �
 ghost use Rattle.tree.specs.Finding.{AreTied, CanFind, HasHead, IsLowerBound, IsOwnHead, IsStep};
 ghost use Rattle.tree.specs.Heads.{HasPrefix, HaveCommonPrefix, AreHeads, IsPrefixLenAt};
 ghost use Rattle.tree.specs.Node.{entries_of, key_heads_of};
+ghost use Rattle.tree.specs.declared.node.TheConstants.{PADDING};
 
 use super::Node;
 use crate::bound::Bound;
@@ -149,8 +150,7 @@ impl<const N: usize> Node<N> {
         let Some(head) = head else {
             return self.lower_bound_by_keys(bound);
         };
-        let len = self.len();
-        let below = heads_below(&self.heads, len, head);
+        let below = heads_below(&self.heads, head);
         self.lower_bound_from(below, bound, Some(head))
     }
 
@@ -320,12 +320,13 @@ impl<const N: usize> Node<N> {
     }
 }
 
-// Returns an index behind a head that is below this one, of the first `len` heads, or 0. Where the heads are in order and blocks hold
-// all of them, it is how many are below. It looks at the first head of each block, and then at one block, each time at all of them,
-// and is written without a branch that depends on a head.
-fn heads_below<const N: usize>(heads: &[u64; N], len: usize, head: u64) -> usize
-    ensures within { result ≤ len }
+// Returns an index behind a head that is below this one, or 0. Where the heads are in order and blocks hold all of them, it is how
+// many are below. It looks at the first head of each block, and then at one block, each time at all of them, and is written without a
+// branch that depends on a head.
+fn heads_below<const N: usize>(heads: &[u64; N], head: u64) -> usize
+    ensures within { result ≤ N }
     ensures below { 0 < result → get_or heads.now (result - 1) 0 < head }
+    ensures filled { 0 < result → get_or heads.now (result - 1) 0 ≢ PADDING }
 {
     if N < BLOCK {
         return 0;
@@ -333,13 +334,13 @@ fn heads_below<const N: usize>(heads: &[u64; N], len: usize, head: u64) -> usize
     let mut begin = 0;
     for block in 1..N / BLOCK {
         let index = BLOCK * block;
-        if (heads[index] < head) & (index < len) {
+        if heads[index] < head {
             begin = index;
         }
     }
     let mut below = 0;
     for index in begin..begin + BLOCK {
-        if (heads[index] < head) & (index < len) {
+        if heads[index] < head {
             below = index + 1;
         }
     }

@@ -1,17 +1,14 @@
-use Rattle.std.proofs.Common.{[], ◌∷◌, ◌++◌, sym, ap₂, subst, ◌∙◌, rules}
+use Rattle.std.proofs.Common.{[], ◌∷◌, ◌++◌, length, sym, ap, ap₂, ◌∙◌, arith, rules}
 use Rattle.tree.proofs.Frames.{entries_same, live_same}
 use Rattle.tree.proofs.Changing.{changes_if_moves, moves_trans, moves_released}
 use Rattle.tree.proofs.Placing.{entries_from_header, put_entries, put_live, put_others, put_moves, moves_first, moves_second, released_spare}
-use Rattle.std.specs.List.{All}
-use Rattle.tree.specs.Heads.{IsKnown}
-use Rattle.tree.specs.Node.{entries_of, keys_of}
 use Rattle.tree.proofs.Headed.{headed_at, headed_released}
-use Rattle.tree.proofs.KnownKeys.{keys_of_both, known_in, headed_header}
+use Rattle.tree.proofs.KnownKeys.{headed_header}
 use Rattle.tree.proofs.rebalance.merge.Goals as goal
 
 pub release-requires : goal.release-requires
 release-requires g c =
-    let merged = c.copy_heads.new.self in
+    let merged = c.append_with_heads.new.self in
     let a = c.args.nodes.now in
     let b = c.set_header.new.self in
     record {
@@ -22,19 +19,18 @@ release-requires g c =
 
 pub returns-clause-entries : goal.returns-clause-entries
 returns-clause-entries g c =
-    let merged = c.copy_heads.new.self in
+    let merged = c.append_with_heads.new.self in
     let a = c.args.nodes.now in
     let b = c.set_header.new.self in
     entries_same b c.release.new.self c.args.first (c.release.ensures.others c.args.first c.requires.two.apart)
     ∙ put_entries a b c.args.first merged c.set_header.ensures.replaced
-    ∙ c.copy_heads.ensures.entries
-    ∙ c.append.ensures.entries
+    ∙ c.append_with_heads.ensures.entries
     ∙ ap₂ (λ xs ys. xs ++ ys) (sym (entries_from_header a c.args.first c.header-merged.result c.header-merged.ensures.header))
     (sym (entries_from_header a c.args.second c.header_ref.result.now c.header_ref.ensures.header))
 
 pub returns-clause-changes : goal.returns-clause-changes
 returns-clause-changes g c =
-    let merged = c.copy_heads.new.self in
+    let merged = c.append_with_heads.new.self in
     let a = c.args.nodes.now in
     let b = c.set_header.new.self in
     let d = c.release.new.self in
@@ -51,28 +47,33 @@ returns-clause-changes g c =
     (moves_trans a b d (x ∷ y ∷ []) (x ∷ y ∷ []) (x ∷ []) (moves_first a b x y c.requires.two.apart c.requires.two.live_second put)
     (moves_second b d x y [] c.requires.two.apart live_x expired))
 
-pub copy_heads-requires : goal.copy_heads-requires
-copy_heads-requires g c =
+pub append_with_heads-requires : goal.append_with_heads-requires
+append_with_heads-requires g c =
     let bytes = g.P.Bound.bytes c.args.bound.now in
     let a = c.args.nodes.now in
     let one = c.header-merged.result in
     let other = c.header_ref.result.now in (
       search rules,
       (
-        headed_at bytes a c.args.first c.header_ref-2.result.now c.requires.two.headed c.header_ref-2.ensures.header,
-        subst (λ l. All (IsKnown bytes) (keys_of l)) (sym c.append.ensures.entries)
-            (keys_of_both (IsKnown bytes) (entries_of one) (entries_of other)
-            (known_in bytes a c.args.first one c.requires.two.headed c.header-merged.ensures.header)
-            (known_in bytes a c.args.second other c.requires.two.headed c.header_ref.ensures.header)),
+        omega (
+          arith,
+          c.requires.room,
+          ap length (entries_from_header a c.args.first one c.header-merged.ensures.header),
+          ap length (entries_from_header a c.args.second other c.header_ref.ensures.header),
+        ),
+        (
+          headed_at bytes a c.args.first one c.requires.two.headed c.header-merged.ensures.header,
+          headed_at bytes a c.args.second other c.requires.two.headed c.header_ref.ensures.header,
+        ),
       ),
     )
 
 pub returns-clause-headed : goal.returns-clause-headed
 returns-clause-headed g c =
     let bytes = g.P.Bound.bytes c.args.bound.now in
-    let merged = c.copy_heads.new.self in
+    let merged = c.append_with_heads.new.self in
     let a = c.args.nodes.now in
     let b = c.set_header.new.self in
     headed_released bytes b c.release.new.self c.args.second
-    (headed_header bytes a b c.args.first merged c.set_header.ensures.replaced c.requires.two.headed c.copy_heads.ensures.headed)
+    (headed_header bytes a b c.args.first merged c.set_header.ensures.replaced c.requires.two.headed c.append_with_heads.ensures.headed)
     c.release.ensures.released c.release.ensures.others

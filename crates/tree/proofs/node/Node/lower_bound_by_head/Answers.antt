@@ -1,7 +1,7 @@
 use Rattle.std.proofs.Common.{rules, subst, arith, IfSome}
 use Rattle.tree.specs.Heads.{IsTargetHead}
 use Rattle.tree.specs.Node.{key_heads_of}
-use Rattle.tree.proofs.HeadAt.{few_below}
+use Rattle.tree.proofs.HeadAt.{filled_within, few_below}
 use Rattle.tree.proofs.node.Node.lower_bound_by_head.Goals as goal
 
 pub lower_bound_by_keys-requires : goal.lower_bound_by_keys-requires
@@ -15,7 +15,9 @@ lower_bound_from-requires g c =
     let is = subst (λ o. IfSome o (IsTargetHead (g.P.Bound.bytes bound) (key_heads_of node) (g.P.Bound.target bound)))
     c.in-Some.is c.requires.head in
     let tells = c.heads_below-below.ensures in
+    let within = filled_within (g.P.Bound.bytes bound) node c.requires.can_find.headed (omega arith) c.heads_below-below.result
+    tells.within tells.filled in
     let least = few_below (g.P.Bound.bytes bound) node c.requires.can_find.headed (g.P.Bound.target bound)
     (g.P.Bound.below bound) (g.met.P.Bound.order bound) c.in-Some.head is c.requires.can_find.partitioned
-    c.heads_below-below.result (omega (arith, tells.within, c.len-len.ensures.len)) tells.below in
+    c.heads_below-below.result within tells.below in
     (search rules, (c.requires.can_find, (is, least)))

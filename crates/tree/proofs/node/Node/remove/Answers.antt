@@ -1,4 +1,5 @@
-use Rattle.std.proofs.Common.{arith, refl, ◌≡◌, ◌≤◌, ◌-◌, ◌++◌, [], length, take, drop}
+use Rattle.std.proofs.Common.{arith, refl, ◌≡◌, ◌≤◌, ◌-◌, ◌++◌, ◌∙◌, ap, [], length, take, drop}
+use Rattle.std.specs.List.{copy_within}
 use Rattle.std.proofs.lemmas.List.{length-take-le}
 use Rattle.tree.specs.Node.{entries_of, key_heads_of}
 use Rattle.tree.specs.declared.entry.Entry.{Entry}
@@ -9,22 +10,22 @@ use Rattle.tree.proofs.node.Node.remove.Goals as goal
 pub returns : goal.returns
 returns g c =
     let node = c.args.self.now in
+    let now = c.move_tail.new.self in
     let key_heads = key_heads_of node in
     let from = c.args.from in
     let to = c.args.to in
-    let full : length node.entries ≡ g.row.N = omega arith in
     let len : length (entries_of node) ≡ node.len = length-take-le node.len node.entries (omega arith) in
     let ordered = c.requires.ordered in
-    let most : to ≤ node.len = omega arith in
-    let left = node.len - (to - from) in
-    let entries = c.copy_within-2.new.self in
-    let heads = c.copy_within.new.self in
-    let entries_are : take left entries ≡ take from (entries_of node) ++ drop to (entries_of node) =
-    take-removed node.entries entries node.len from to (omega arith) ordered most c.copy_within-2.ensures.after in
-    let heads_are : take left heads ≡ take from key_heads.heads ++ drop to key_heads.heads =
-    take-removed node.heads heads node.len from to (omega arith) ordered most c.copy_within.ensures.after in
+    let most : to ≤ node.len = omega (arith, c.requires.within, len) in
+    let left : now.len ≡ node.len - (to - from) = omega (arith, c.move_tail.ensures.len) in
+    let entries_are : take now.len now.entries ≡ take from (entries_of node) ++ drop to (entries_of node) =
+    ap (λ n. take n now.entries) left
+    ∙ take-removed node.entries now.entries node.len from to (omega arith) ordered most c.move_tail.ensures.entries in
+    let heads_are : take now.len now.heads ≡ take from key_heads.heads ++ drop to key_heads.heads =
+    c.move_tail.ensures.heads ∙ ap (λ n. take n (copy_within node.heads to node.len from)) left
+    ∙ take-removed node.heads (copy_within node.heads to node.len from) node.len from to (omega arith) ordered most refl in
     let keys_are = map_spliced (λ (e : Entry). e.key) (entries_of node) [] _ from to entries_are in
     record {
       entries = entries_are;
-      headed = λ bytes h. headed_removed bytes key_heads _ h from to keys_are refl heads_are;
+      headed = λ bytes h. headed_removed bytes key_heads _ h from to keys_are c.move_tail.ensures.prefix_len heads_are;
     }

@@ -6,4 +6,4 @@ abbrev pub invariant-loop-block : goal.invariant-loop-block
 invariant-loop-block g l = l.begin + 8 ≤ 8 * l.block
 
 abbrev pub invariant-loop-index : goal.invariant-loop-index
-invariant-loop-index g l = (l.below ≤ l.len) × (0 < l.below → get_or l.heads (l.below - 1) 0 < l.head)
+invariant-loop-index g l = (l.below ≤ g.row.N) × (0 < l.below → get_or l.heads (l.below - 1) 0 < l.head)

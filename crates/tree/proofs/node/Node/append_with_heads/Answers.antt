@@ -1,0 +1,72 @@
+use Rattle.std.proofs.Common.{rules, ◌≡◌, ◌+◌, ◌-◌, ◌++◌, ◌∙◌, ℕ, List, Some, slice_get, length, take, drop, All, length-append, refl, ap, sym, subst, arith}
+use Rattle.std.specs.List.{Contains}
+use Rattle.std.proofs.lemmas.Bool.{eqb-true}
+use Rattle.std.proofs.lemmas.List.{length-take-le, map-append}
+use Rattle.std.proofs.lemmas.Option.{slice_get_within, get_or_from_slice_get}
+use Rattle.std.proofs.lemmas.Slice.{take-put_mid}
+use Rattle.tree.specs.declared.entry.Entry.{Entry}
+use Rattle.tree.specs.Heads.{HasPrefix, IsKnown}
+use Rattle.tree.specs.Node.{entries_of, key_heads_of, keys_of}
+use Rattle.tree.proofs.HeadChanges.{headed_joined, heads_count, keys_there}
+use Rattle.tree.proofs.Headed.{all_known}
+use Rattle.tree.proofs.KnownKeys.{keys_of_both}
+use Rattle.tree.proofs.node.Node.append_with_heads.Goals.{then-self-other, else-self-other}
+use Rattle.tree.proofs.node.Node.append_with_heads.Goals as goal
+
+pub compute_heads-requires : goal.compute_heads-requires
+compute_heads-requires g c =
+    let P = IsKnown (g.P.Bound.bytes c.args.bound.now) in
+    let one = c.args.self.now in
+    let other = c.args.other.now in (
+      search rules,
+      subst (λ es. All P (keys_of es)) (sym c.append.ensures.entries)
+          (keys_of_both P (entries_of one) (entries_of other)
+          (all_known (g.P.Bound.bytes c.args.bound.now) (key_heads_of one) c.requires.headed)
+          (all_known (g.P.Bound.bytes c.args.bound.now) (key_heads_of other) c.requires.other_headed)),
+    )
+
+pub lengthen_prefix-requires : goal.lengthen_prefix-requires
+lengthen_prefix-requires g c =
+    let bytes = g.P.Bound.bytes c.args.bound.now in
+    let one = c.args.self.now in
+    let other = c.args.other.now in
+    let now = c.append.new.self in
+    let es = c.entries.result.now in
+    let first = c.in-Some.first.now in
+    let get : slice_get es 0 ≡ Some first = sym {b = slice_get es 0} c.in-Some.ensures.value in
+    let there : Contains (keys_of (entries_of other)) first.key =
+    subst (λ es. Contains (keys_of es) first.key) c.entries.ensures.entries
+    (keys_there es 0 first (slice_get_within es 0 first get) (get_or_from_slice_get es 0 first first get)) in
+    let alike : (one.prefix_len ≡ other.prefix_len)
+    × ((text : List ℕ) → bytes first.key ≡ Some text → HasPrefix bytes (key_heads_of one) text) =
+    elim c.if-self-other.branch [
+      | then-self-other w ↦ (
+        w.if-self-other.true,
+        w.begins-alike.ensures.agrees (sym w.alike-is ∙ c.if-not-alike.false),
+      )
+      | else-self-other w ↦ absurd (w.if-self-other.false (eqb-true one.prefix_len other.prefix_len (sym w.alike-is ∙ c.if-not-alike.false)))
+    ] in
+    let others = c.copy_from_slice.new.self in
+    let len : now.len ≡ one.len + length others =
+    omega (
+      arith,
+      c.append.ensures.count,
+      length-take-le now.len now.heads (omega arith),
+      ap length c.append.ensures.entries,
+      length-append (entries_of one) (entries_of other),
+      length-take-le one.len one.entries (omega arith),
+      heads_count bytes (entries_of other) (key_heads_of other) c.requires.other_headed refl,
+      ap length c.copy_from_slice.ensures.after,
+      length-take-le other.len other.heads (omega arith),
+    ) in
+    let heads : take now.len (take one.len now.heads ++ (others ++ drop (now.len - one.len) (drop one.len now.heads)))
+    ≡ (key_heads_of one).heads ++ (key_heads_of other).heads =
+    take-put_mid one.len (now.len - one.len) now.heads others now.len len (omega arith)
+    ∙ ap (λ hs. take one.len hs ++ others) c.append.ensures.heads
+    ∙ ap (λ hs. take one.len one.heads ++ hs) c.copy_from_slice.ensures.after in (
+      search rules,
+      headed_joined bytes (key_heads_of one) (key_heads_of other) _ c.requires.headed c.requires.other_headed first.key alike.0 there
+          alike.1
+          (ap keys_of c.append.ensures.entries ∙ map-append (λ (e : Entry). e.key) (entries_of one) (entries_of other))
+          c.append.ensures.prefix_len heads,
+    )
