@@ -68,7 +68,7 @@ module _ {N : ℕ} where
     pub headed : AllAreHeads bytes (all_heads_of nodes)
     pub known : IsPrefixLenAt bytes is_below target shared (entries_at nodes slot) 0
 
-  -- A subtree above leaves, of which two have shared their entries, or nothing was touched. Its items are the same.
+  -- A subtree whose items stay: two of its leaves have shared their entries, or nothing was touched.
   pub record KeepsItems (old new : Arena (Node N)) (height slot : ℕ) (has_shared : Bool) : Type 0 where
     pub untouched : has_shared ≡ false → new ≡ old
     pub items : items_in new height slot ≡ items_in old height slot
