@@ -15,11 +15,11 @@ use crate::entry::Entry;
 use crate::node::Node;
 use arena::{Arena, Slot};
 
-/// Returns the least number of entries of a node that isn't the root: a quarter, but two at least.
+/// Returns the least number of entries of a node that isn't the root: a third of the greatest, but two at least.
 pub fn least(fan_out: usize) -> usize
     ensures least { result ≡ least_of fan_out }
 {
-    (fan_out / 4).max(2)
+    (fan_out / 3).max(2)
 }
 
 /// Returns the entry for a child.
@@ -59,8 +59,8 @@ pub fn rebalance<P: Bound, const N: usize>(
     merge_or_redistribute(nodes, node, index.saturating_sub(1), bound);
 }
 
-// Merges the children at an index and behind it, or shares their entries evenly where there are too many for one node.
-fn merge_or_redistribute<P: Bound, const N: usize>(
+/// Merges the children at an index and behind it, or shares their entries evenly where there are too many for one node.
+pub fn merge_or_redistribute<P: Bound, const N: usize>(
     nodes: &mut Arena<Node<N>>,
     node: &mut Node<N>,
     index: usize,
@@ -70,6 +70,9 @@ fn merge_or_redistribute<P: Bound, const N: usize>(
     ensures rebalanced { (height : ℕ) → IsFamily nodes.old (least_of N) height (entries_of node.old) index (index + 2)
         → IsRebalanced nodes.old nodes.new (least_of N) height (entries_of node.old) (entries_of node.new) }
     ensures rest { LosesOneAtMost (P.bytes bound.now) nodes.old nodes.new (entries_of node.old) (entries_of node.new) }
+    ensures as_many { N < length (entries_at nodes.old (child_at (entries_of node.old) index))
+        + length (entries_at nodes.old (child_at (entries_of node.old) (index + 1)))
+        → length (entries_of node.new) ≡ length (entries_of node.old) }
 {
     let first = node.entries()[index].child;
     let second = node.entries()[index + 1].child;

@@ -57,16 +57,18 @@ merge_or_redistribute-requires g c =
         within = omega (arith, c.requires.can_rebalance.within, c.requires.can_rebalance.several, j_is);
         filled = filled_pair a (least_of g.row.N) f.0 es i j d c.requires.can_rebalance.within c.requires.can_rebalance.several j_is f.1;
         keyless = c.requires.can_rebalance.keyless;
-        family = (f.0, widened a (least_of g.row.N) f.0 es i j c.requires.can_rebalance.within c.requires.can_rebalance.several j_is f.1);
+        family = (f.0, widened a (least_of g.row.N) f.0 es i j (omega (arith, j_is)) (omega (arith, j_is)) f.1);
         headed = c.requires.can_rebalance.headed;
       },
     )
 
 pub returns-clause-rebalanced : goal.returns-clause-rebalanced
 returns-clause-rebalanced g c height family =
+    let i = c.args.index in
+    let j = c.saturating_sub.result in
+    let j_is : j ≡ i - 1 = c.saturating_sub.ensures in
     c.merge_or_redistribute.ensures.rebalanced height
-    (widened c.args.nodes.now (least_of g.row.N) height (entries_of c.args.node.now) c.args.index c.saturating_sub.result
-    c.requires.can_rebalance.within c.requires.can_rebalance.several c.saturating_sub.ensures family)
+    (widened c.args.nodes.now (least_of g.row.N) height (entries_of c.args.node.now) i j (omega (arith, j_is)) (omega (arith, j_is)) family)
 
 pub returns-then-len-least-clause-rest : goal.returns-then-len-least-clause-rest
 returns-then-len-least-clause-rest g c = record {
