@@ -26,7 +26,7 @@ numbered number =
     else if number == 5 then ConflictJson
     else PlacesJson
 
--- a letter, or a unit that stands for a word as many times in a row as a unit may
+-- it stands for a letter, or for a word at most MOST_IN_A_ROW times in a row
 abbrev pub IsUnit : ℕ → Type 0
 IsUnit unit = unit < FIRST_WORD + WORDS * MOST_IN_A_ROW
 
@@ -34,7 +34,7 @@ IsUnit unit = unit < FIRST_WORD + WORDS * MOST_IN_A_ROW
 abbrev pub word_of : ℕ → Word
 word_of unit = numbered ((unit - FIRST_WORD) % WORDS)
 
--- how many times in a row it stands for that
+-- how many times in a row it stands for that word
 abbrev pub times_of : ℕ → ℕ
 times_of unit = (unit - FIRST_WORD) / WORDS + 1
 

@@ -13,10 +13,10 @@ use wire::{Failed, Sink, write_all};
 // How many units are spelled out at a time.
 const RUN: usize = 8;
 
-// Room for the text of a unit.
+// Room for the text of one unit.
 const UNIT_ROOM: usize = MOST_IN_A_ROW as usize * LONGEST_WORD;
 
-// Room for the text of so many.
+// Room for the text of a run of units.
 const ROOM: usize = RUN * UNIT_ROOM;
 
 /// Prints the text of these units. After a failure a beginning of it is printed. Takes no memory.

@@ -1,6 +1,6 @@
 //! The words that recur in lines, and the units that stand for them.
 
-ghost use Rattle.std.specs.Prelude.{◌≡◌, ◌<◌, ◌≤◌, ◌++◌, length, IfSome};
+ghost use Rattle.std.specs.Prelude.{◌≡◌, ◌<◌, ◌≤◌, ◌++◌, length, IfSome, IsSome};
 ghost use Rattle.player.specs.Packed.{IsUnit, numbered, spelled, times_of, word_of, word_text};
 
 /// The first unit that stands for a word. Those below it are letters.
@@ -79,6 +79,7 @@ impl Word {
     pub fn behind(self, unit: u8) -> Option<u8>
         ensures unit { IfSome result IsUnit }
         ensures spelled { IfSome result (λ more. spelled more ≡ spelled unit ++ word_text self) }
+        ensures some { FIRST_WORD ≤ unit → word_of unit ≡ self → times_of unit < MOST_IN_A_ROW → IsSome result }
     {
         if unit < FIRST_WORD || Word::of_unit(unit) != self || times(unit) >= MOST_IN_A_ROW {
             return None;
