@@ -135,14 +135,13 @@ fn print_outcome(text: &mut PackedText, answer: &Answer) -> io::Result<()>
     }
 }
 
-// Puts the words of the entries behind the text, a blank before each. There is room for the end of the line.
+// Puts the words of the entries behind the text, a blank before each.
 fn print_words(text: &mut PackedText, entries: &[Entry]) -> io::Result<()>
     ensures text { OnOk result (text.new ≡ text.old ++ codes " " ++ words entries.now) }
 {
     if entries.is_empty() {
         return text.write_all(b" empty");
     }
-    text.reserve(entries.len().saturating_add(1))?;
     for entry in entries {
         print_word(text, entry)?;
     }

@@ -11,9 +11,6 @@ use keyspace::{Answer, Entry, Verdict};
 use std::io;
 use std::io::Write;
 
-// The length of the first verdict that is no conflict with places, and of the end of the line.
-const FIRST_AND_END: usize = 14;
-
 /// Puts the line of an answer to this proxy behind the text: an object, its newline included.
 pub fn print_json(
     text: &mut PackedText,
@@ -43,14 +40,13 @@ fn print_outcome(text: &mut PackedText, answer: &Answer) -> io::Result<()>
     }
 }
 
-// Puts the verdicts behind the text. There is room for the end of the line.
+// Puts the verdicts behind the text.
 fn print_entries(text: &mut PackedText, entries: &[Entry]) -> io::Result<()>
     ensures text { OnOk result (text.new ≡ text.old ++ entries_json entries.now) }
 {
     let Some((first, rest)) = entries.split_first() else {
         return Ok(());
     };
-    text.reserve(rest.len().saturating_add(FIRST_AND_END))?;
     print_entry(text, first)?;
     for entry in rest {
         print_next(text, entry)?;

@@ -1,4 +1,4 @@
-//! Text in which a word that recurs takes one byte.
+//! Text in which a word that recurs takes one byte, and so does a run of one word.
 
 ghost use Rattle.std.specs.Prelude.{◌≡◌, ◌<◌, ◌++◌, ℕ, [], take, OnOk, OnErr, IfSome, Some};
 ghost use Rattle.std.specs.Io.{WritesAtMost};
@@ -17,33 +17,36 @@ mod word;
 
 pub use word::Word;
 
-/// ASCII text in which a word that recurs takes one byte. Contracts see the text.
+/// ASCII text in which a word that recurs takes one byte, and so does a run of one word. Contracts see the text.
 #[derive(Drop)]
 pub struct PackedText {
-    // Each below 128 is a letter of the text, and from there on a word.
+    // Each is a letter of the text, or stands for a word so many times in a row.
     units: Vec<u8>,
 }
 
 impl Model for PackedText {
     ghost use Rattle.std.specs.Prelude.{ℕ, List};
-    ghost use Rattle.player.specs.Packed.{spelled_all};
+    ghost use Rattle.std.specs.List.{All};
+    ghost use Rattle.player.specs.Packed.{IsUnit, spelled_all};
 
     ghost Value = { List ℕ };
 
     ghost view = { λ t. spelled_all t.units.items };
+
+    ghost invariant = { λ t. All IsUnit t.units.items };
 }
 
 impl PackedText {
     /// Creates an empty text.
     pub fn new(alloc: Global) -> Self
-        ensures { result ≡ [] }
+        ensures empty { result ≡ [] }
     {
         PackedText {
             units: Vec::new(alloc),
         }
     }
 
-    /// Makes room for so many letters and words more, and for no others.
+    /// Makes room for so many letters more, and for no others.
     pub fn reserve(&mut self, additional: usize) -> Result<(), AllocError>
         ensures same { self.new ≡ self.old }
     {
@@ -53,7 +56,14 @@ impl PackedText {
     /// Puts the word behind the text.
     pub fn push_word(&mut self, word: Word) -> io::Result<()>
         ensures text { OnOk result (self.new ≡ self.old ++ word_text word) }
+        ensures same { OnErr result (self.new ≡ self.old) }
     {
+        if let Some(last) = self.units.last_mut()
+            && let Some(more) = word.behind(*last)
+        {
+            *last = more;
+            return Ok(());
+        }
         Ok(self.units.push(word.unit())?)
     }
 
