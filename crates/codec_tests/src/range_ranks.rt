@@ -43,13 +43,13 @@ fn show_ranks(alloc: Global, text: &str) -> Result<String, Unmade> {
     if ranges.len() > MAX_RANKED {
         return Err(Unmade::Beyond("ranges"));
     }
-    let ranks = Ranks::new(alloc, &ranges)?;
+    let (ranks, order) = Ranks::with_order(alloc, &ranges)?;
     let mut text = String::from_str(alloc, "runs")?;
     for (begin, end) in ranks.runs() {
         write!(text, " {begin}-{end}")?;
     }
     text.push_str(", order")?;
-    for index in ranks.order() {
+    for index in &order {
         let Some((number, _)) = ranks.runs().get(*index as usize) else {
             return Err(Unmade::Beyond("order"));
         };

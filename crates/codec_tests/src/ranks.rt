@@ -2,7 +2,7 @@
 
 use crate::rows::expect;
 use fixtures::{Random, Unmade, batch, batch_of, ranges, single_key, txn};
-use keys::Range;
+use keys::{Range, Ranks};
 use keyspace::{Batch, Txn, Txns};
 use std::alloc::{AllocError, Global};
 use std::test::Fail;
@@ -14,7 +14,8 @@ const THREE_TXNS: &str = "0>1: R[b,d) R[m,m) W[a,c); W[aa,y); R[c,d) W[,a)";
 fn show_ranks(alloc: Global, txns: &Txns) -> Result<String, Unmade> {
     let ranges = txns.ranges();
     let mut text = String::from_str(alloc, "order")?;
-    for index in txns.ranks().order() {
+    let (ranks, order) = Ranks::with_order(alloc, &ranges)?;
+    for index in &order {
         if *index as usize >= ranges.len() {
             return Err(Unmade::Beyond("order"));
         }
@@ -28,6 +29,9 @@ fn show_ranks(alloc: Global, txns: &Txns) -> Result<String, Unmade> {
     text.push_str(", runs")?;
     for (begin, end) in txns.ranks().runs() {
         write!(text, " {begin}-{end}")?;
+    }
+    if ranks.runs() != txns.ranks().runs() {
+        return Err(Unmade::Beyond("runs"));
     }
     Ok(text)
 }
@@ -177,10 +181,10 @@ fn write_marks(alloc: Global, txns: &Txns) -> Result<Vec<bool>, AllocError> {
 }
 
 // Whether the order of the write ranges is what is left of the whole order without the read ranges.
-fn write_order_agrees(alloc: Global, txns: &Txns) -> Result<bool, AllocError> {
+fn write_order_agrees(alloc: Global, txns: &Txns, order: &[u32]) -> Result<bool, AllocError> {
     let marks = write_marks(alloc, txns)?;
     let mut left = Vec::new(alloc);
-    for index in txns.ranks().order() {
+    for index in order {
         if marks.get(*index as usize) == Some(&true) {
             left.push(*index)?;
         }
@@ -193,11 +197,12 @@ fn agrees(alloc: Global, txns: &Txns) -> Result<bool, AllocError> {
     let ranges = all_ranges(alloc, txns)?;
     let begins = all_begins(alloc, &ranges)?;
     let ranks = txns.ranks();
+    let (_, order) = Ranks::with_order(alloc, &txns.ranges())?;
     Ok(
         ranks.begins() == begins.len()
             && runs_agree(ranks.runs(), &ranges, &begins)
-            && order_agrees(ranks.order(), &ranges)
-            && write_order_agrees(alloc, txns)?,
+            && order_agrees(&order, &ranges)
+            && write_order_agrees(alloc, txns, &order)?,
     )
 }
 

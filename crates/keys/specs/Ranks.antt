@@ -62,7 +62,6 @@ pub record AreChosenInOrder (chosen : ℕ → Bool) (ranges : List Range) (order
 
 -- what is seen of ranks
 pub record RanksView : Type 0 where
-  pub order : List ℕ
   pub runs : List (ℕ × ℕ)
   -- how many begins there are
   pub begins : ℕ
@@ -73,4 +72,3 @@ pub record AreRanked (ranges : List Range) (ranks : RanksView) : Type 0 where
   pub are_begins : AreBegins ranges keys
   pub count : ranks.begins ≡ length keys
   pub are_runs : ranks.runs ≡ runs_of keys ranges
-  pub are_in_order : AreInOrder ranges ranks.order

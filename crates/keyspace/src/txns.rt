@@ -25,8 +25,8 @@ use std::marker::Model;
 ///
 /// They lie in one buffer with the bytes of all keys, a table of spans that says where each range lies in it, and a table
 /// with a row for each transaction. What doesn't depend on other batches is computed once, where the transactions are put
-/// together: the order of their ranges by begins, of all and of the write ranges alone, which of the gaps between these each range
-/// covers, and the hashes of single keys.
+/// together: the order of the write ranges by begins, which of the gaps between the begins of all ranges each range covers, and the
+/// hashes of single keys.
 #[derive(Debug, Drop)]
 pub struct Txns {
     buffer: Vec<u8>,
@@ -83,8 +83,8 @@ impl Txns {
         ensures fields { IfOk result (λ txns. map txn_fields txns ≡ txns_told buffer.items spans.items rows.items) }
     {
         let ranges = RangesRef::new(&buffer, &spans);
-        let ranks = Ranks::new(alloc, &ranges)?;
-        let write_order = list_writes(alloc, ranks.order(), &rows)?;
+        let (ranks, order) = Ranks::with_order(alloc, &ranges)?;
+        let write_order = list_writes(alloc, &order, &rows)?;
         let hashes = single_hashes(alloc, &ranges)?;
         Ok(Txns {
             buffer,
@@ -162,7 +162,7 @@ impl Txns {
         RangesRef::new(&self.buffer, &self.spans)
     }
 
-    /// Returns the order of the ranges by their begins, and their runs. The index of a range is that in
+    /// Returns which of the gaps between the begins of the ranges each of these covers. The index of a range is that in
     /// [`Txns::ranges`].
     pub fn ranks(&self) -> &Ranks
         ensures ranked { AreRanked (ranges_in self.now) result.now }

@@ -9,7 +9,7 @@ use Rattle.keyspace.specs.Tables.{range_told, txns_told}
 use Rattle.keyspace.proofs.FieldsBack.{fields_of_txns}
 use Rattle.keyspace.proofs.TablesRanges.{spans_hold, few_spans, ranges_are}
 use Rattle.keyspace.proofs.WriteMarks.{length-marks, writes_in_order}
-use Rattle.keyspace.proofs.txns.Txns.from_tables.Goals.{After-new-ranges, After-deref-3}
+use Rattle.keyspace.proofs.txns.Txns.from_tables.Goals.{After-new-ranges, After-deref-4}
 use Rattle.keyspace.proofs.txns.Txns.from_tables.Goals as goal
 
 pub new-ranges-requires-clause-holds : goal.new-ranges-requires-clause-holds
@@ -17,8 +17,8 @@ new-ranges-requires-clause-holds c =
     rw (c.deref.ensures.value, c.deref-2.ensures.value)
     (spans_hold c.args.buffer.items c.args.spans.items c.args.rows.items c.requires.tables)
 
-pub new-requires : goal.new-requires
-new-requires c =
+pub with_order-requires : goal.with_order-requires
+with_order-requires c =
     let few = few_spans c.args.buffer.items c.args.spans.items c.args.rows.items c.requires.tables in
     let told : length c.new-ranges.result ≡ length c.deref-2.result.now =
     sym (length-map c.new-ranges.result range_fields) ∙ ap length c.new-ranges.ensures.told
@@ -32,30 +32,29 @@ count c =
     ∙ length-map c.deref-2.result.now (range_told c.deref.result.now) ∙ ap length c.deref-2.ensures.value
 
 -- and as many marks of the rows
-marks : (c : After-deref-3) → length (marks_of_rows c.deref-3.result.now) ≡ length c.args.spans.items
+marks : (c : After-deref-4) → length (marks_of_rows c.deref-4.result.now) ≡ length c.args.spans.items
 marks c =
-    ap (λ rows. length (marks_of_rows rows)) c.deref-3.ensures.value
+    ap (λ rows. length (marks_of_rows rows)) c.deref-4.ensures.value
     ∙ length-marks c.args.buffer.items c.args.spans.items c.args.rows.items c.requires.tables c.requires.tables.holds
 
 pub list_writes-requires-clause-within : goal.list_writes-requires-clause-within
 list_writes-requires-clause-within c =
     let at = goal.at.list_writes-requires-clause-within c in
     let as_many = count at.After-new-ranges in
-    let marked = marks at.After-deref-3 in
-    subst (All (λ index. index < length (marks_of_rows c.deref-3.result.now))) (sym c.order.ensures.order) (λ k d within.
-    let inside = order_within c.new-ranges.result c.in_ok-ranks.ranks.order c.in_ok-ranks.ensures.ranked.are_in_order k d within in
+    let marked = marks at.After-deref-4 in
+    subst (All (λ index. index < length (marks_of_rows c.deref-4.result.now))) (sym c.deref-3.ensures.value) (λ k d within.
+    let inside = order_within c.new-ranges.result c.in_ok-ranks.order.items c.in_ok-ranks.ensures.order k d within in
     omega (arith, inside, as_many, marked))
 
 pub invariant_of-result-2 : goal.invariant_of-result-2
 invariant_of-result-2 c =
-    let ranked = c.in_ok-ranks.ensures.ranked in
     let same = ranges_are c.args.buffer.items c.args.spans.items c.args.rows.items c.requires.tables _
     c.deref.result.now c.deref-2.result.now c.new-ranges.result c.deref.ensures.value c.deref-2.ensures.value
     c.new-ranges.ensures.told in (
-      subst (λ ranges. AreRanked ranges c.in_ok-ranks.ranks) same ranked,
-      writes_in_order c.args.buffer.items c.args.spans.items c.args.rows.items c.requires.tables _ c.deref-3.result.now
-          c.new-ranges.result c.in_ok-ranks.ranks.order c.order.result.now c.in_ok-write_order.write_order.items
-          c.deref-3.ensures.value same c.order.ensures.order ranked.are_in_order c.in_ok-write_order.ensures.writes,
+      subst (λ ranges. AreRanked ranges c.in_ok-ranks.ranks) same c.in_ok-ranks.ensures.ranked,
+      writes_in_order c.args.buffer.items c.args.spans.items c.args.rows.items c.requires.tables _ c.deref-4.result.now
+          c.new-ranges.result c.in_ok-ranks.order.items c.deref-3.result.now c.in_ok-write_order.write_order.items
+          c.deref-4.ensures.value same c.deref-3.ensures.value c.in_ok-ranks.ensures.order c.in_ok-write_order.ensures.writes,
       subst (λ ranges. AreHashesOf ranges c.in_ok-hashes.hashes.items) same c.in_ok-hashes.ensures.hashes,
     )
 
