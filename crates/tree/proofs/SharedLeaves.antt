@@ -57,8 +57,8 @@ module _ {N : ℕ} where
       }
 
   -- the node in which the search goes on
-  pub can_find : (a : Arena (Node N)) (height slot : ℕ) (bytes : KeyBytes) (is_below : ℕ → Bool) (target : List ℕ) (known : Option ℕ)
-      (node : Node N) → 1 ≤ height → CanChange a height slot → CanSearch bytes is_below target a height slot known
+  pub can_find : (a : Arena (Node N)) (height slot : ℕ) (bytes : KeyBytes) (is_below : ℕ → Bool) (target : List ℕ)
+      (known : Option ℕ) (node : Node N) → 1 ≤ height → CanChange a height slot → CanSearch bytes is_below target a height slot known
       → header_at a slot ≡ Some node → CanFind bytes is_below node × IsPrefixLenAt bytes is_below target known (entries_of node) 0
   can_find a height slot bytes is_below target known node above can search_on header =
       let read = entries_from_header a slot node header in (

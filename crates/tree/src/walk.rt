@@ -166,11 +166,13 @@ fn step_down<P: Bound, const N: usize>(
 ) -> (Step, bool)
     requires above { 1 ≤ height }
     requires changeable { CanChange nodes.old height slot }
-    requires searched { CanSearch (P.bytes bound.now) (P.below bound.now) (P.target bound.now) nodes.old height slot common_prefix_len }
+    requires searched { CanSearch (P.bytes bound.now) (P.below bound.now) (P.target bound.now) nodes.old height slot
+        common_prefix_len }
     ensures step { IfSome (header_at nodes.new slot)
         (λ node. IsStep (P.bytes bound.now) (P.below bound.now) (P.target bound.now) node result.0) }
     ensures changeable { CanChange nodes.new height slot }
-    ensures searched { CanSearch (P.bytes bound.now) (P.below bound.now) (P.target bound.now) nodes.new height slot common_prefix_len }
+    ensures searched { CanSearch (P.bytes bound.now) (P.below bound.now) (P.target bound.now) nodes.new height slot
+        common_prefix_len }
     ensures kept { KeepsItems nodes.old nodes.new height slot result.1 }
 {
     let step = way.step(nodes.header_ref(slot), height, bound, common_prefix_len);

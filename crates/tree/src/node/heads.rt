@@ -99,12 +99,13 @@ impl<const N: usize> Node<N> {
         ensures entries { (entries_of self.new) ≡ take from (entries_of self.old) ++ (new.now ++ drop to (entries_of self.old)) }
         ensures headed { AreHeads (P.bytes bound.now) (key_heads_of self.new) }
     {
+        let end = from + new.len();
         self.splice(from, to, new);
         let Some(heads) = heads else {
             return self.compute_heads(bound);
         };
         let own = &mut self.heads[..];
-        copy_few(heads, &mut own[from..from + new.len()]);
+        copy_few(heads, &mut own[from..end]);
     }
 
     /// Copies the heads of keys that another node has, too, and computes those of the others. `guess` is where the first key may stand

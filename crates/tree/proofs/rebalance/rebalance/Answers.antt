@@ -68,7 +68,8 @@ returns-clause-rebalanced g c height family =
     let j = c.saturating_sub.result in
     let j_is : j ≡ i - 1 = c.saturating_sub.ensures in
     c.merge_or_redistribute.ensures.rebalanced height
-    (widened c.args.nodes.now (least_of g.row.N) height (entries_of c.args.node.now) i j (omega (arith, j_is)) (omega (arith, j_is)) family)
+    (widened c.args.nodes.now (least_of g.row.N) height (entries_of c.args.node.now) i j (omega (arith, j_is))
+    (omega (arith, j_is)) family)
 
 pub returns-then-len-least-clause-rest : goal.returns-then-len-least-clause-rest
 returns-then-len-least-clause-rest g c = record {

@@ -19,7 +19,8 @@ read g c =
     ∙ sym (entries_from_header c.args.nodes.now c.args.slot c.header_ref.result.now c.header_ref.ensures.header)
 
 -- each child is live
-live_child : (g : Over) (c : After-index-entries-index g) (k : ℕ) (d : Entry) → k < length (entries_at c.args.nodes.now c.args.slot)
+live_child : (g : Over) (c : After-index-entries-index g) (k : ℕ) (d : Entry)
+    → k < length (entries_at c.args.nodes.now c.args.slot)
     → IsLive c.args.nodes.now (get_or c.entries-entries.result.now k d).child
 live_child g c k d within =
     let a = c.args.nodes.now in
@@ -37,12 +38,14 @@ pub has_room-requires : goal.has_room-requires
 has_room-requires g c =
     let here = (goal.at.has_room-requires g c).After-index-entries-index in
     let inside = ap length (read g here) in
-    (search rules, live_child g here (c.args.index + 1) c.index-entries-index-then-index-entries.result (omega (arith, c.if-index-entries.true, inside)))
+    let within : c.args.index + 1 < length (entries_at c.args.nodes.now c.args.slot) = omega (arith, c.if-index-entries.true, inside) in
+    (search rules, live_child g here (c.args.index + 1) c.index-entries-index-then-index-entries.result within)
 
 -- The child is full, or has room for one entry alone.
 shares : (g : Over) (c : After-index-entries-index g) (j : ℕ) → j + 1 < length (entries_at c.args.nodes.now c.args.slot)
     → (j ≡ c.args.index) ⊎ (j + 1 ≡ c.args.index)
-    → g.row.N ≤ length (entries_at c.args.nodes.now (get_or c.entries-entries.result.now c.args.index c.index-entries-index.result).child) + 1
+    → g.row.N ≤ length (entries_at c.args.nodes.now
+    (get_or c.entries-entries.result.now c.args.index c.index-entries-index.result).child) + 1
     → CanShare c.args.nodes.now (entries_at c.args.nodes.now c.args.slot) c.args.index j
 shares g c j next beside many =
     let a = c.args.nodes.now in
@@ -65,13 +68,15 @@ returns-then-has_room g c =
     let len : length (entries_at a x) ≡ c.len.result =
     ap length (entries_from_header a x c.header_ref-2.result.now c.header_ref-2.ensures.header) ∙ sym c.len.ensures.len in
     record {
-      first = shares g here c.args.index (omega (arith, c.if-index-entries.true, inside)) (inl refl) (omega (arith, len, c.if-len.false));
+      first = shares g here c.args.index (omega (arith, c.if-index-entries.true, inside)) (inl refl)
+          (omega (arith, len, c.if-len.false));
     }
 
 pub has_room-requires-then-index-gt0 : goal.has_room-requires-then-index-gt0
 has_room-requires-then-index-gt0 g c =
     let here = (goal.at.has_room-requires-then-index-gt0 g c).After-index-entries-index in
-    (search rules, live_child g here (c.args.index - 1) c.index-entries-index-then-index-gt0.result (omega (arith, c.requires.within)))
+    let within : c.args.index - 1 < length (entries_at c.args.nodes.now c.args.slot) = omega (arith, c.requires.within) in
+    (search rules, live_child g here (c.args.index - 1) c.index-entries-index-then-index-gt0.result within)
 
 pub returns-then-has_room-2 : goal.returns-then-has_room-2
 returns-then-has_room-2 g c =

@@ -39,8 +39,8 @@ family g c height given =
 rebalanced : (g : Over) (c : After-merge_or_redistribute g) (height : ℕ)
     → entries_at c.args.nodes.now c.args.slot ≡ entries_of c.header-node.result
     → IsFamily c.args.nodes.now (least_of g.row.N) height (entries_of c.header-node.result) c.in-Some.first (c.in-Some.first + 2)
-    → IsRebalanced c.args.nodes.now c.merge_or_redistribute.new.nodes (least_of g.row.N) height (entries_at c.args.nodes.now c.args.slot)
-    (entries_of c.merge_or_redistribute.new.node)
+    → IsRebalanced c.args.nodes.now c.merge_or_redistribute.new.nodes (least_of g.row.N) height
+    (entries_at c.args.nodes.now c.args.slot) (entries_of c.merge_or_redistribute.new.node)
 rebalanced g c height is wide =
     subst (λ l. IsRebalanced c.args.nodes.now c.merge_or_redistribute.new.nodes (least_of g.row.N) height l
     (entries_of c.merge_or_redistribute.new.node)) (sym is) (c.merge_or_redistribute.ensures.rebalanced height wide)
@@ -97,7 +97,8 @@ copy_heads-requires g c =
       search rules,
       (
         headed_at bytes b c.args.slot c.header_ref.result.now headed c.header_ref.ensures.header,
-        children_known bytes b (least_of g.row.N) f.0 (entries_of c.merge_or_redistribute.new.node) (omega arith) headed right.children,
+        children_known bytes b (least_of g.row.N) f.0 (entries_of c.merge_or_redistribute.new.node) (omega arith) headed
+            right.children,
       ),
     )
 

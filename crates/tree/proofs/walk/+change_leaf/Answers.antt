@@ -85,11 +85,12 @@ step_is g t c =
 searched : (g : Over) (t : ℕ) (c : After-index-entries-step g t)
     → CanSearch (g.C.LeafBound.Bound.bytes (g.C.LeafChange.bound_of c.args.change.now))
     (g.C.LeafBound.Bound.below (g.C.LeafChange.bound_of c.args.change.now))
-    (g.C.LeafBound.Bound.target (g.C.LeafChange.bound_of c.args.change.now)) c.step_down-has_shared.new.nodes c.args.height c.args.slot
-    c.args.place.common_prefix_len
+    (g.C.LeafBound.Bound.target (g.C.LeafChange.bound_of c.args.change.now)) c.step_down-has_shared.new.nodes c.args.height
+    c.args.slot c.args.place.common_prefix_len
 searched g t c =
     subst (λ p. CanSearch (g.C.LeafBound.Bound.bytes p) (g.C.LeafBound.Bound.below p) (g.C.LeafBound.Bound.target p)
-    c.step_down-has_shared.new.nodes c.args.height c.args.slot c.args.place.common_prefix_len) c.leaf_bound.ensures.leaf_bound c.step_down-has_shared.ensures.searched
+    c.step_down-has_shared.new.nodes c.args.height c.args.slot c.args.place.common_prefix_len) c.leaf_bound.ensures.leaf_bound
+    c.step_down-has_shared.ensures.searched
 
 -- the node at the slot, and the child at which the walk goes on
 at_child : (g : Over) (t : ℕ) (c : After-index-entries-step g t)
@@ -103,7 +104,8 @@ at_child g t c =
     let es = entries_of c.header_ref.result.now in
     is_at c.step_down-has_shared.new.nodes (least_of g.row.N) c.args.height (c.args.height - 1) c.args.slot is_below
     c.header_ref.result.now es c.entries-entries.result.now c.step_down-has_shared.result.0.index c.index-entries-step.result
-    (one_up c.args.height c.if-height-eq0.false) c.step_down-has_shared.ensures.changeable.subtree c.step_down-has_shared.ensures.changeable.distinct
+    (one_up c.args.height c.if-height-eq0.false) c.step_down-has_shared.ensures.changeable.subtree
+    c.step_down-has_shared.ensures.changeable.distinct
     c.header_ref.ensures.header refl c.entries-entries.ensures.entries
     (step_is g t c).index_is (step_is g t c).within
 
@@ -151,7 +153,8 @@ change_leaf-requires g t c κs within =
     } in
     let split = items_split a L n h slot is_below es i x d (one_up n c.if-height-eq0.false) at in
     let wanted = g.met.C.LeafChange.part c.args.change.now (items_of a h (take i es)) (items_in a h x)
-    (items_of a h (drop (i + 1) es)) (subst (g.C.LeafChange.wants c.args.change.now) (sym c.step_down-has_shared.ensures.kept.items ∙ split) c.requires.wanted) in (
+    (items_of a h (drop (i + 1) es))
+    (subst (g.C.LeafChange.wants c.args.change.now) (sym c.step_down-has_shared.ensures.kept.items ∙ split) c.requires.wanted) in (
       search rules,
       (search rules, (search rules, (search rules, (search rules, (search rules, (can, (search_on, (wanted, c.requires.none_taken)))))))),
     )
@@ -262,8 +265,10 @@ insert_child-requires g t c =
 within : (g : Over) (t : ℕ) (c : After-index-entries-step g t) (below : Bool) (key : Option ℕ)
     (Gives : Bool → Option ℕ → List Item → List Item → Type 0) (now all : List Item)
     → (below ≡ true → (c.args.place.is_first ≡ true) × (c.step_down-has_shared.result.0.index ≡ 0))
-    → (below ≡ false → ((c.args.place.is_first ≡ true) × (c.step_down-has_shared.result.0.index ≡ 0 → ⊥)) ⊎ (c.args.place.is_first ≡ false))
-    → key ≡ first_key c.args.place.behind (map item_of (drop (c.step_down-has_shared.result.0.index + 1) c.entries-entries.result.now))
+    → (below ≡ false → ((c.args.place.is_first ≡ true) × (c.step_down-has_shared.result.0.index ≡ 0 → ⊥))
+    ⊎ (c.args.place.is_first ≡ false))
+    → key ≡ first_key c.args.place.behind
+    (map item_of (drop (c.step_down-has_shared.result.0.index + 1) c.entries-entries.result.now))
     → all ≡ items_of c.step_down-has_shared.new.nodes (c.args.height - 1)
     (take c.step_down-has_shared.result.0.index (entries_of c.header_ref.result.now))
     ++ (now ++ items_of c.step_down-has_shared.new.nodes (c.args.height - 1)
@@ -369,7 +374,8 @@ returns-in-Raised-clause-changed g t c =
     let at = at_child g t here.After-index-entries-step in
     let put = c.in-Raised.ensures.changed in
     let fits : SFits w64 c.in-Raised.version = search rules in
-    rw (to_z-of_z w64 c.in-Raised.version fits) (changed_behind _ _ _ _ _ _ _ c.step_down-has_shared.ensures.kept (Raised c.in-Raised.version) (λ is. absurd (cc))
+    rw (to_z-of_z w64 c.in-Raised.version fits)
+    (changed_behind _ _ _ _ _ _ _ c.step_down-has_shared.ensures.kept (Raised c.in-Raised.version) (λ is. absurd (cc))
     (raised_too _ _ _ _ _ _ _ _ _ _ _ (one_up c.args.height c.if-height-eq0.false) at c.step_down-has_shared.ensures.changeable
     c.raise_entry.new.nodes
     (subst (λ p. AllAreHeads (g.C.LeafBound.Bound.bytes p) (all_heads_of c.raise_entry.new.nodes))
@@ -443,7 +449,8 @@ returns-in-Some-clause-items g t c =
     let put = c.in-Some.ensures in
     let split = c.in-Split.ensures.changed in
     let step = stepped_linked _ _ _ _ _ _ _ _ _ _ _ _ (one_up c.args.height c.if-height-eq0.false) at split.subtree
-    c.in-Split.added (Some c.in-Some.added) (moves_if_changes _ _ _ _ split.changes) c.step_down-has_shared.ensures.changeable.fan_out put.linked
+    c.in-Split.added (Some c.in-Some.added) (moves_if_changes _ _ _ _ split.changes)
+    c.step_down-has_shared.ensures.changeable.fan_out put.linked
     split.neighbour split.filled.0 split.filled.1 put.left put.right put.stored.live put.stored.live_added put.stored.changes in
     within g t here.After-index-entries-step _ _ _ _ _ c.if-place.below-true c.if-place.below-false c.key_at.ensures.key step.items c.in-Split.ensures.items
 
@@ -466,6 +473,7 @@ returns-in-None-clause-items g t c =
     let put = c.in-None.ensures in
     let split = c.in-Split.ensures.changed in
     let step = stepped_linked _ _ _ _ _ _ _ _ _ _ _ _ (one_up c.args.height c.if-height-eq0.false) at split.subtree
-    c.in-Split.added None (moves_if_changes _ _ _ _ split.changes) c.step_down-has_shared.ensures.changeable.fan_out put.linked split.neighbour
+    c.in-Split.added None (moves_if_changes _ _ _ _ split.changes) c.step_down-has_shared.ensures.changeable.fan_out
+    put.linked split.neighbour
     split.filled.0 split.filled.1 put.left put.right put.stored.live put.stored.live_added put.stored.changes in
     within g t here.After-index-entries-step _ _ _ _ _ c.if-place.below-true c.if-place.below-false c.key_at.ensures.key step.items c.in-Split.ensures.items

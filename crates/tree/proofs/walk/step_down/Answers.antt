@@ -42,7 +42,8 @@ step-step-requires g c =
     let bound = c.args.bound.now in (
       search rules,
       can_find c.args.nodes.now c.args.height c.args.slot (g.P.Bound.bytes bound) (g.P.Bound.below bound) (g.P.Bound.target bound)
-          c.args.common_prefix_len c.header_ref.result.now c.requires.above c.requires.changeable c.requires.searched c.header_ref.ensures.header,
+          c.args.common_prefix_len c.header_ref.result.now c.requires.above c.requires.changeable c.requires.searched
+          c.header_ref.ensures.header,
     )
 
 pub share_full_child-requires : goal.share_full_child-requires
@@ -74,7 +75,8 @@ step-step-requires-2 g c =
     let did = c.if-not-share_full_child.false in
     let bound = c.args.bound.now in (
       search rules,
-      can_find c.share_full_child.new.nodes c.args.height c.args.slot (g.P.Bound.bytes bound) (g.P.Bound.below bound) (g.P.Bound.target bound)
+      can_find c.share_full_child.new.nodes c.args.height c.args.slot (g.P.Bound.bytes bound) (g.P.Bound.below bound)
+          (g.P.Bound.target bound)
           c.args.common_prefix_len c.header_ref-2.result.now c.requires.above (changeable g here did) (searched g here did)
           c.header_ref-2.ensures.header,
     )
