@@ -1,19 +1,15 @@
 -- What holds of all keys of entries, as that they are known.
-use Rattle.std.proofs.Common.{◌≡◌, ℕ, ◌+◌, ◌<◌, ◌≤◌, List, [], ◌∷◌, ◌++◌, Option, Some, None, Bor, length, get_or, set, take, drop, option_map, unwrap_or, refl, sym, ap, subst, arith}
+use Rattle.std.proofs.Common.{◌≡◌, ℕ, ◌+◌, ◌<◌, List, [], ◌∷◌, ◌++◌, Option, Some, None, Bor, length, get_or, set, take, drop, option_map, unwrap_or, refl, sym, ap, subst}
 use Rattle.std.specs.Prelude.{IfSome, MatchOption, option_copied}
 use Rattle.std.specs.List.{All}
-use Rattle.std.proofs.lemmas.List.Elements.{All-nil, All-cons, All-head, All-tail, All-append, All-map, All-set, All-take, All-drop, All-weaker}
-use Rattle.std.proofs.lemmas.Option.{slice_get-get_or}
+use Rattle.std.proofs.lemmas.List.Elements.{All-nil, All-cons, All-head, All-tail, All-append, All-map, All-set, All-take, All-drop}
 use Rattle.arena.specs.Arena.{Arena, header_at, with_header}
 use Rattle.tree.specs.declared.node.Node.{Node}
 use Rattle.tree.specs.declared.entry.Entry.{Entry}
 use Rattle.tree.specs.Heads.{KeyBytes, IsKnown, AllAreHeads, AreHeads}
 use Rattle.tree.specs.Node.{entries_of, keys_of, key_heads_of, all_heads_of}
-use Rattle.tree.specs.Replace.{AreChildren, entries_with}
-use Rattle.tree.specs.Subtree.{entries_at}
+use Rattle.tree.specs.Replace.{entries_with}
 use Rattle.tree.proofs.callers.Partitions.{All-front, All-back}
-use Rattle.tree.proofs.FirstKeys.{first_key_is}
-use Rattle.tree.proofs.Frames.{IsRight}
 use Rattle.tree.proofs.Headed.{common_prefix_len_at, headed_put}
 use Rattle.tree.proofs.Placing.{put_record_is, put_others}
 
@@ -98,21 +94,3 @@ module _ {N : ℕ} where
   headed_header bytes old new slot node e all headed =
       headed_put bytes old new slot node all (ap (option_map (λ r. r.header)) (put_record_is old new slot node e)) headed
       (put_others old new slot node e)
-
-  child_known : (bytes : KeyBytes) (nodes : Arena (Node N)) (least height : ℕ) (e : Entry) → 1 ≤ least
-      → AllAreHeads bytes (all_heads_of nodes) → IsRight nodes least height e → IsKnown bytes e.key
-  child_known bytes nodes least height e some headed right =
-      let es = entries_at nodes e.child in
-      let filled : least ≤ length es = right.filled in
-      let within : 0 < length es = omega (arith, filled, some) in
-      let first = get_or es 0 e in
-      subst (IsKnown bytes) (first_key_is nodes least height e first right (slice_get-get_or es 0 e within))
-      (key_of_one (IsKnown bytes) es 0 e within (common_prefix_len_at bytes nodes e.child headed))
-
-  -- the keys of entries that are right are known
-  pub children_known : (bytes : KeyBytes) (nodes : Arena (Node N)) (least height : ℕ) (es : List Entry) → 1 ≤ least
-      → AllAreHeads bytes (all_heads_of nodes) → AreChildren nodes least height es → All (IsKnown bytes) (keys_of es)
-  children_known bytes nodes least height es some headed right =
-      all_keys (IsKnown bytes) es
-      (All-weaker (IsRight nodes least height) (λ e. IsKnown bytes e.key)
-      (λ e h. child_known bytes nodes least height e some headed h) es right)

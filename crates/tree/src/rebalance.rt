@@ -3,9 +3,9 @@
 ghost use Rattle.std.specs.Prelude.{◌≡◌, ◌≢◌, ◌≤◌, ◌<◌, ◌+◌, ◌*◌, ◌++◌, ◌∷◌, ℕ, [], length};
 ghost use Rattle.arena.specs.Arena.{IsLive, spare_of};
 ghost use Rattle.tree.specs.Item.{Tells};
-ghost use Rattle.tree.specs.Heads.{AllAreHeads, IsKnown, KeyBytes};
+ghost use Rattle.tree.specs.Heads.{AllAreHeads, AreHeads, IsKnown, KeyBytes};
 ghost use Rattle.tree.specs.Rebalancing.{AreTwo, CanRebalanceIn, CanMerge, LosesOneAtMost};
-ghost use Rattle.tree.specs.Node.{entries_of, all_heads_of};
+ghost use Rattle.tree.specs.Node.{entries_of, key_heads_of, all_heads_of};
 ghost use Rattle.tree.specs.Subtree.{entries_at, items_in, IsSubtree};
 ghost use Rattle.tree.specs.Tree.{least_of};
 ghost use Rattle.tree.specs.Replace.{child_at, Changes, IsFamily, IsKeyless, IsRebalanced};
@@ -47,13 +47,15 @@ pub fn rebalance<P: Bound, const N: usize>(
     bound: &P,
 )
     requires can_rebalance { CanRebalanceIn (P.bytes bound.now) nodes.old (entries_of node.old) index }
+    requires headed { AreHeads (P.bytes bound.now) (key_heads_of node.old) }
     ensures rebalanced { (height : ℕ) → IsFamily nodes.old (least_of N) height (entries_of node.old) index (index + 1)
         → IsRebalanced nodes.old nodes.new (least_of N) height (entries_of node.old) (entries_of node.new) }
     ensures rest { LosesOneAtMost (P.bytes bound.now) nodes.old nodes.new (entries_of node.old) (entries_of node.new) }
+    ensures headed { AreHeads (P.bytes bound.now) (key_heads_of node.new) }
 {
     let child = node.entries()[index].child;
     if nodes.header_ref(child).len() >= least(N) {
-        node.set(index, entry_for(nodes, child));
+        node.set_with_head(index, entry_for(nodes, child), bound);
         return;
     }
     merge_or_redistribute(nodes, node, index.saturating_sub(1), bound);
@@ -67,9 +69,11 @@ pub fn merge_or_redistribute<P: Bound, const N: usize>(
     bound: &P,
 )
     requires can_merge { CanMerge (P.bytes bound.now) nodes.old (entries_of node.old) index }
+    requires headed { AreHeads (P.bytes bound.now) (key_heads_of node.old) }
     ensures rebalanced { (height : ℕ) → IsFamily nodes.old (least_of N) height (entries_of node.old) index (index + 2)
         → IsRebalanced nodes.old nodes.new (least_of N) height (entries_of node.old) (entries_of node.new) }
     ensures rest { LosesOneAtMost (P.bytes bound.now) nodes.old nodes.new (entries_of node.old) (entries_of node.new) }
+    ensures headed { AreHeads (P.bytes bound.now) (key_heads_of node.new) }
     ensures as_many { N < length (entries_at nodes.old (child_at (entries_of node.old) index))
         + length (entries_at nodes.old (child_at (entries_of node.old) (index + 1)))
         → length (entries_of node.new) ≡ length (entries_of node.old) }
@@ -79,13 +83,13 @@ pub fn merge_or_redistribute<P: Bound, const N: usize>(
     let count = nodes.header_ref(first).len() + nodes.header_ref(second).len();
     if count <= N {
         merge(nodes, first, second, bound);
-        node.set(index, entry_for(nodes, first));
+        node.set_with_head(index, entry_for(nodes, first), bound);
         node.remove(index + 1, index + 2);
         return;
     }
     redistribute(nodes, first, second, bound);
-    node.set(index, entry_for(nodes, first));
-    node.set(index + 1, entry_for(nodes, second));
+    node.set_with_head(index, entry_for(nodes, first), bound);
+    node.set_with_head(index + 1, entry_for(nodes, second), bound);
 }
 
 // Puts the entries of the second node behind those of the first one, and releases the second.

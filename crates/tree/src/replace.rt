@@ -60,7 +60,7 @@ pub fn rebalance_child<P: Bound, const N: usize>(
     }
     let mut node = nodes.header(slot);
     rebalance(nodes, &mut node, index, bound);
-    node.copy_heads(nodes.header_ref(slot), 0, bound);
+    node.lengthen_prefix(bound);
     nodes.set_header(slot, node);
 }
 
@@ -84,7 +84,7 @@ pub fn share_full_child<P: Bound, const N: usize>(
     };
     let mut node = nodes.header(slot);
     merge_or_redistribute(nodes, &mut node, first, bound);
-    node.copy_heads(nodes.header_ref(slot), 0, bound);
+    node.lengthen_prefix(bound);
     nodes.set_header(slot, node);
     true
 }
@@ -111,12 +111,12 @@ fn first_to_share<const N: usize>(nodes: &Arena<Node<N>>, slot: Slot, index: usi
     None
 }
 
-// Returns whether the node at a slot has at most three quarters of the greatest number of entries.
+// Returns whether the node at a slot has at most seven eighths of the greatest number of entries.
 fn has_room<const N: usize>(nodes: &Arena<Node<N>>, slot: Slot) -> bool
     requires live { IsLive nodes.now slot }
-    ensures room { IsTrue result ↔ (length (entries_at nodes.now slot) ≤ N - N / 4) }
+    ensures room { IsTrue result ↔ (length (entries_at nodes.now slot) ≤ N - N / 8) }
 {
-    nodes.header_ref(slot).len() <= N - N / 4
+    nodes.header_ref(slot).len() <= N - N / 8
 }
 
 /// Makes the entry at an index right in the node at a slot, whose child has changed: an item of this version was

@@ -1,4 +1,4 @@
-use Rattle.std.proofs.Common.{◌≡◌, ◌≤◌, ◌<◌, ◌+◌, ◌∷◌, ◌++◌, List, length, length-append, length-drop, length-take-le, get_or, set, take, drop, sym, ap, subst, ◌∙◌, arith, rules}
+use Rattle.std.proofs.Common.{◌≡◌, ◌≤◌, ◌<◌, ◌+◌, ◌∷◌, ◌++◌, List, length, length-append, length-drop, length-set, length-take-le, get_or, set, take, drop, sym, ap, subst, ◌∙◌, arith, rules}
 use Rattle.tree.specs.declared.entry.Entry.{Entry}
 use Rattle.tree.specs.Node.{entries_of}
 use Rattle.tree.specs.Subtree.{entries_at}
@@ -180,7 +180,7 @@ returns-then-count-clause-rebalanced g c height family =
     rebalanced_by_merge a b (least_of g.row.N) height es (entries_of c.remove.new.self) i x y d e c.requires.can_merge.within x_is y_is family t
     c.entry_for.ensures.child (c.entry_for.ensures.tells height (least_of g.row.N)) c.merge.ensures.changes c.merge.ensures.entries
     (omega (arith, sum, all)) (omega (arith, sum, all))
-    (c.remove.ensures.entries ∙ ap (λ (l : List Entry). take (i + 1) l ++ drop (i + 2) l) c.set.ensures.entries
+    (c.remove.ensures.entries ∙ ap (λ (l : List Entry). take (i + 1) l ++ drop (i + 2) l) c.set_with_head.ensures.entries
     ∙ set_removed es i t c.requires.can_merge.within)
 
 pub returns-clause-rebalanced : goal.returns-clause-rebalanced
@@ -202,11 +202,12 @@ returns-clause-rebalanced g c height family =
     let left = c.redistribute.ensures.left in
     let right = c.redistribute.ensures.right in
     let four = c.requires.can_merge.fan_out in
-    rebalanced_by_sharing a b (least_of g.row.N) height es (entries_of c.set-3.new.self) i x y d e c.requires.can_merge.within x_is y_is family t u
+    rebalanced_by_sharing a b (least_of g.row.N) height es (entries_of c.set_with_head-3.new.self) i x y d e
+    c.requires.can_merge.within x_is y_is family t u
     c.entry_for-2.ensures.child c.entry_for-3.ensures.child (c.entry_for-2.ensures.tells height (least_of g.row.N))
     (c.entry_for-3.ensures.tells height (least_of g.row.N)) c.redistribute.ensures.changes c.redistribute.ensures.entries
     (omega (arith, left, four)) (omega (arith, right, four)) (omega (arith, left, four)) (omega (arith, right, four))
-    (c.set-3.ensures.entries ∙ ap (λ (l : List Entry). set l (i + 1) u) c.set-2.ensures.entries
+    (c.set_with_head-3.ensures.entries ∙ ap (λ (l : List Entry). set l (i + 1) u) c.set_with_head-2.ensures.entries
     ∙ set_both es i t u c.requires.can_merge.within)
 
 pub returns-then-count-clause-rest : goal.returns-then-count-clause-rest
@@ -215,7 +216,7 @@ returns-then-count-clause-rest g c =
     let i = c.args.index in
     let t = c.entry_for.result in
     let changes = c.merge.ensures.changes in
-    let now = c.remove.ensures.entries ∙ ap (λ (l : List Entry). take (i + 1) l ++ drop (i + 2) l) c.set.ensures.entries
+    let now = c.remove.ensures.entries ∙ ap (λ (l : List Entry). take (i + 1) l ++ drop (i + 2) l) c.set_with_head.ensures.entries
     ∙ set_removed es i t c.requires.can_merge.within in
     record {
       few_less = omega (
@@ -237,7 +238,7 @@ returns-clause-rest g c =
     let t = c.entry_for-2.result in
     let u = c.entry_for-3.result in
     let changes = c.redistribute.ensures.changes in
-    let now = c.set-3.ensures.entries ∙ ap (λ (l : List Entry). set l (i + 1) u) c.set-2.ensures.entries
+    let now = c.set_with_head-3.ensures.entries ∙ ap (λ (l : List Entry). set l (i + 1) u) c.set_with_head-2.ensures.entries
     ∙ set_both es i t u c.requires.can_merge.within in
     record {
       few_less = omega (
@@ -251,3 +252,32 @@ returns-clause-rest g c =
       spare = omega (arith, changes.live, changes.spare);
       headed = c.redistribute.ensures.headed;
     }
+
+pub set_with_head-requires : goal.set_with_head-requires
+set_with_head-requires g c =
+    let bytes = g.P.Bound.bytes c.args.bound.now in (
+      search rules,
+      (omega (arith, c.requires.can_merge.within), (c.requires.headed, c.entry_for.ensures.known bytes c.merge.ensures.headed)),
+    )
+
+pub set_with_head-requires-2 : goal.set_with_head-requires-2
+set_with_head-requires-2 g c =
+    let bytes = g.P.Bound.bytes c.args.bound.now in (
+      search rules,
+      (
+        omega (arith, c.requires.can_merge.within),
+        (c.requires.headed, c.entry_for-2.ensures.known bytes c.redistribute.ensures.headed),
+      ),
+    )
+
+pub set_with_head-requires-3 : goal.set_with_head-requires-3
+set_with_head-requires-3 g c =
+    let bytes = g.P.Bound.bytes c.args.bound.now in
+    let es = entries_of c.args.node.now in
+    let count = ap length c.set_with_head-2.ensures.entries ∙ length-set es c.args.index c.entry_for-2.result in (
+      search rules,
+      (
+        omega (arith, c.requires.can_merge.within, count),
+        (c.set_with_head-2.ensures.headed, c.entry_for-3.ensures.known bytes c.redistribute.ensures.headed),
+      ),
+    )

@@ -36,9 +36,10 @@ returns-then-len-least-clause-rebalanced g c height family =
     ap length (entries_from_header a x c.header_ref.result.now c.header_ref.ensures.header) ∙ sym c.len.ensures.len in
     let filled : least_of g.row.N ≤ length (entries_at a x) =
     subst (λ n. n ≤ length (entries_at a x)) c.least.ensures.least (omega (arith, len, c.if-len-least.true)) in
-    rebalanced_by_entry a (least_of g.row.N) height es (entries_of c.set.new.self) i x d t c.requires.can_rebalance.within x_is family c.requires.can_rebalance.keyless
+    rebalanced_by_entry a (least_of g.row.N) height es (entries_of c.set_with_head.new.self) i x d t
+    c.requires.can_rebalance.within x_is family c.requires.can_rebalance.keyless
     c.entry_for.ensures.child (c.entry_for.ensures.tells height (least_of g.row.N)) filled
-    (c.set.ensures.entries ∙ set_one es i t c.requires.can_rebalance.within)
+    (c.set_with_head.ensures.entries ∙ set_one es i t c.requires.can_rebalance.within)
 
 pub merge_or_redistribute-requires : goal.merge_or_redistribute-requires
 merge_or_redistribute-requires g c =
@@ -48,18 +49,32 @@ merge_or_redistribute-requires g c =
     let d = c.index-entries-index.result in
     let x = (get_or c.entries.result.now i d).child in
     let x_is : x ≡ (get_or es i d).child = ap (λ (l : List Entry). (get_or l i d).child) c.entries.ensures.entries in
-    let f = c.requires.can_rebalance.family in
+    let can = c.requires.can_rebalance in
+    let f = can.family in
     let j = c.saturating_sub.result in
     let j_is : j ≡ i - 1 = c.saturating_sub.ensures in (
       search rules,
-      record {
-        fan_out = c.requires.can_rebalance.fan_out;
-        within = omega (arith, c.requires.can_rebalance.within, c.requires.can_rebalance.several, j_is);
-        filled = filled_pair a (least_of g.row.N) f.0 es i j d c.requires.can_rebalance.within c.requires.can_rebalance.several j_is f.1;
-        keyless = c.requires.can_rebalance.keyless;
-        family = (f.0, widened a (least_of g.row.N) f.0 es i j (omega (arith, j_is)) (omega (arith, j_is)) f.1);
-        headed = c.requires.can_rebalance.headed;
-      },
+      (
+        record {
+          fan_out = can.fan_out;
+          within = omega (arith, can.within, can.several, j_is);
+          filled = filled_pair a (least_of g.row.N) f.0 es i j d can.within can.several j_is f.1;
+          keyless = can.keyless;
+          family = (f.0, widened a (least_of g.row.N) f.0 es i j (omega (arith, j_is)) (omega (arith, j_is)) f.1);
+          headed = can.headed;
+        },
+        c.requires.headed,
+      ),
+    )
+
+pub set_with_head-requires : goal.set_with_head-requires
+set_with_head-requires g c =
+    let bytes = g.P.Bound.bytes c.args.bound.now in (
+      search rules,
+      (
+        c.requires.can_rebalance.within,
+        (c.requires.headed, c.entry_for.ensures.known bytes c.requires.can_rebalance.headed),
+      ),
     )
 
 pub returns-clause-rebalanced : goal.returns-clause-rebalanced
@@ -73,7 +88,11 @@ returns-clause-rebalanced g c height family =
 
 pub returns-then-len-least-clause-rest : goal.returns-then-len-least-clause-rest
 returns-then-len-least-clause-rest g c = record {
-  few_less = omega (arith, ap length c.set.ensures.entries, length-set (entries_of c.args.node.now) c.args.index c.entry_for.result);
+  few_less = omega (
+    arith,
+    ap length c.set_with_head.ensures.entries,
+    length-set (entries_of c.args.node.now) c.args.index c.entry_for.result,
+  );
   spare = search rules;
   headed = c.requires.can_rebalance.headed;
 }

@@ -6,8 +6,7 @@ use Rattle.tree.specs.Node.{entries_of}
 use Rattle.tree.specs.Subtree.{entries_at, IsSubtree}
 use Rattle.tree.specs.Tree.{least_of}
 use Rattle.tree.specs.Replace.{IsFamily, IsRebalanced}
-use Rattle.tree.proofs.KnownKeys.{children_known}
-use Rattle.tree.proofs.Headed.{headed_at, headed_put}
+use Rattle.tree.proofs.Headed.{headed_put}
 use Rattle.tree.proofs.Placing.{entries_from_header, put_entries, put_record_is, put_others}
 use Rattle.tree.proofs.Sharing.{set_one}
 use Rattle.tree.proofs.Rebalancing.{live_subtree, rebalanced_by_entry}
@@ -102,42 +101,25 @@ returns-clause-rebalanced g c height family =
     let rebalanced =
     subst (λ l. IsRebalanced a c.rebalance.new.nodes L height l (entries_of c.rebalance.new.node)) (sym read)
     (c.rebalance.ensures.rebalanced height loose) in
-    rebalanced_at a c.rebalance.new.nodes c.set_header.new.self L height slot c.args.index c.copy_heads.new.self
+    rebalanced_at a c.rebalance.new.nodes c.set_header.new.self L height slot c.args.index c.lengthen_prefix.new.self
     (entries_of c.rebalance.new.node) c.requires.can_rebalance.live family rebalanced
-    (omega (arith, c.rebalance.ensures.rest.few_less, c.requires.can_rebalance.several, same)) c.copy_heads.ensures.entries c.set_header.ensures.replaced
+    (omega (arith, c.rebalance.ensures.rest.few_less, c.requires.can_rebalance.several, same)) c.lengthen_prefix.ensures.entries
+    c.set_header.ensures.replaced
 
 pub returns-clause-rest : goal.returns-clause-rest
 returns-clause-rest g c =
     let a = c.args.nodes.now in
     let slot = c.args.slot in
     let read = ap length (entries_from_header a slot c.header-node.result c.header-node.ensures.header) in
-    let here = put_entries c.rebalance.new.nodes c.set_header.new.self slot c.copy_heads.new.self
+    let here = put_entries c.rebalance.new.nodes c.set_header.new.self slot c.lengthen_prefix.new.self
     c.set_header.ensures.replaced in
     let b = c.rebalance.new.nodes in
     let w = c.set_header.new.self in
-    let node = c.copy_heads.new.self in
+    let node = c.lengthen_prefix.new.self in
     record {
-      few_less = omega (arith, c.rebalance.ensures.rest.few_less, read, ap length here, ap length c.copy_heads.ensures.entries);
+      few_less = omega (arith, c.rebalance.ensures.rest.few_less, read, ap length here, ap length c.lengthen_prefix.ensures.entries);
       spare = search rules;
       headed = headed_put (g.P.Bound.bytes c.args.bound.now) b w slot node c.rebalance.ensures.rest.headed
-          (ap (option_map (λ r. r.header)) (put_record_is b w slot node c.set_header.ensures.replaced)) c.copy_heads.ensures.headed
-          (put_others b w slot node c.set_header.ensures.replaced);
+          (ap (option_map (λ r. r.header)) (put_record_is b w slot node c.set_header.ensures.replaced))
+          c.lengthen_prefix.ensures.headed (put_others b w slot node c.set_header.ensures.replaced);
     }
-
-pub copy_heads-requires : goal.copy_heads-requires
-copy_heads-requires g c =
-    let a = c.args.nodes.now in
-    let b = c.rebalance.new.nodes in
-    let slot = c.args.slot in
-    let bytes = g.P.Bound.bytes c.args.bound.now in
-    let L = least_of g.row.N in
-    let f = c.requires.can_rebalance.family in
-    let read = entries_from_header a slot c.header-node.result c.header-node.ensures.header in
-    let loose = subst (λ l. IsFamily a L f.0 l c.args.index (c.args.index + 1)) read f.1.family in
-    let rebalanced = c.rebalance.ensures.rebalanced f.0 loose in (
-      search rules,
-      (
-        headed_at bytes b slot c.header_ref-3.result.now c.rebalance.ensures.rest.headed c.header_ref-3.ensures.header,
-        children_known bytes b L f.0 (entries_of c.rebalance.new.node) (omega arith) c.rebalance.ensures.rest.headed rebalanced.children,
-      ),
-    )

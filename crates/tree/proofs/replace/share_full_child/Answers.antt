@@ -5,7 +5,6 @@ use Rattle.tree.specs.Replace.{slots_of, IsFamily, IsRebalanced}
 use Rattle.tree.specs.Subtree.{entries_at}
 use Rattle.tree.specs.Tree.{least_of}
 use Rattle.tree.proofs.Changing.{moves_if_changes}
-use Rattle.tree.proofs.KnownKeys.{children_known}
 use Rattle.tree.proofs.Headed.{headed_at, headed_put}
 use Rattle.tree.proofs.Placing.{entries_from_header, put_entries, put_record_is, put_others}
 use Rattle.tree.proofs.Rebalancing.{widened}
@@ -39,8 +38,8 @@ family g c height given =
 rebalanced : (g : Over) (c : After-merge_or_redistribute g) (height : ℕ)
     → entries_at c.args.nodes.now c.args.slot ≡ entries_of c.header-node.result
     → IsFamily c.args.nodes.now (least_of g.row.N) height (entries_of c.header-node.result) c.in-Some.first (c.in-Some.first + 2)
-    → IsRebalanced c.args.nodes.now c.merge_or_redistribute.new.nodes (least_of g.row.N) height
-    (entries_at c.args.nodes.now c.args.slot) (entries_of c.merge_or_redistribute.new.node)
+    → IsRebalanced c.args.nodes.now c.merge_or_redistribute.new.nodes (least_of g.row.N) height (entries_at c.args.nodes.now c.args.slot)
+    (entries_of c.merge_or_redistribute.new.node)
 rebalanced g c height is wide =
     subst (λ l. IsRebalanced c.args.nodes.now c.merge_or_redistribute.new.nodes (least_of g.row.N) height l
     (entries_of c.merge_or_redistribute.new.node)) (sym is) (c.merge_or_redistribute.ensures.rebalanced height wide)
@@ -59,19 +58,23 @@ merge_or_redistribute-requires g c =
     let share = shared g here in
     let few : least_of g.row.N ≤ g.row.N = omega (arith, can.fan_out) in (
       search rules,
-      record {
-        fan_out = can.fan_out;
-        within = share.within;
-        filled = omega (arith, share.many, few);
-        keyless = can.keyless;
-        family = (can.family.0, family g here can.family.0 can.family.1.family);
-        headed = can.headed;
-      },
+      (
+        record {
+          fan_out = can.fan_out;
+          within = share.within;
+          filled = omega (arith, share.many, few);
+          keyless = can.keyless;
+          family = (can.family.0, family g here can.family.0 can.family.1.family);
+          headed = can.headed;
+        },
+        headed_at (g.P.Bound.bytes c.args.bound.now) c.args.nodes.now c.args.slot c.header-node.result can.headed
+            c.header-node.ensures.header,
+      ),
     )
 
-pub header_ref-requires : goal.header_ref-requires
-header_ref-requires g c =
-    let here = goal.at.header_ref-requires g c in
+pub set_header-requires : goal.set_header-requires
+set_header-requires g c =
+    let here = goal.at.set_header-requires g c in
     let a = c.args.nodes.now in
     let b = c.merge_or_redistribute.new.nodes in
     let slot = c.args.slot in
@@ -85,41 +88,24 @@ header_ref-requires g c =
           c.requires.can_rebalance.live now (moves_if_changes a b (slots_of a f.0 es) (slots_of b f.0 now) right.changes);
     }
 
-pub copy_heads-requires : goal.copy_heads-requires
-copy_heads-requires g c =
-    let b = c.merge_or_redistribute.new.nodes in
-    let bytes = g.P.Bound.bytes c.args.bound.now in
-    let f = c.requires.can_rebalance.family in
-    let here = goal.at.copy_heads-requires g c in
-    let right = rebalanced g here.After-merge_or_redistribute f.0 (read g here.After-header-node)
-    (family g here.After-header-node f.0 f.1.family) in
-    let headed = c.merge_or_redistribute.ensures.rest.headed in (
-      search rules,
-      (
-        headed_at bytes b c.args.slot c.header_ref.result.now headed c.header_ref.ensures.header,
-        children_known bytes b (least_of g.row.N) f.0 (entries_of c.merge_or_redistribute.new.node) (omega arith) headed
-            right.children,
-      ),
-    )
-
 pub returns-clause-rebalanced : goal.returns-clause-rebalanced
 returns-clause-rebalanced g c shares height at =
     let here = goal.at.returns-clause-rebalanced g c in
     let is = read g here.After-header-node in
     let then = here.After-merge_or_redistribute in
     rebalanced_at c.args.nodes.now c.merge_or_redistribute.new.nodes c.set_header.new.self (least_of g.row.N) height c.args.slot
-    c.args.index c.copy_heads.new.self (entries_of c.merge_or_redistribute.new.node) c.requires.can_rebalance.live at
+    c.args.index c.lengthen_prefix.new.self (entries_of c.merge_or_redistribute.new.node) c.requires.can_rebalance.live at
     (rebalanced g then height is (family g here.After-header-node height at.family))
     (omega (arith, as_many g then is (shared g here.After-header-node), c.requires.can_rebalance.several))
-    c.copy_heads.ensures.entries c.set_header.ensures.replaced
+    c.lengthen_prefix.ensures.entries c.set_header.ensures.replaced
 
 pub returns-clause-as_many : goal.returns-clause-as_many
 returns-clause-as_many g c =
     let here = goal.at.returns-clause-as_many g c in
     let count = as_many g here.After-merge_or_redistribute (read g here.After-header-node) (shared g here.After-header-node) in
-    let put = put_entries c.merge_or_redistribute.new.nodes c.set_header.new.self c.args.slot c.copy_heads.new.self
+    let put = put_entries c.merge_or_redistribute.new.nodes c.set_header.new.self c.args.slot c.lengthen_prefix.new.self
     c.set_header.ensures.replaced in
-    ap length (put ∙ c.copy_heads.ensures.entries) ∙ count
+    ap length (put ∙ c.lengthen_prefix.ensures.entries) ∙ count
 
 pub returns-clause-rest : goal.returns-clause-rest
 returns-clause-rest g c =
@@ -128,12 +114,12 @@ returns-clause-rest g c =
     let b = c.merge_or_redistribute.new.nodes in
     let w = c.set_header.new.self in
     let slot = c.args.slot in
-    let node = c.copy_heads.new.self in
+    let node = c.lengthen_prefix.new.self in
     let put = put_entries b w slot node c.set_header.ensures.replaced in
     record {
-      few_less = omega (arith, ap length (put ∙ c.copy_heads.ensures.entries), count);
+      few_less = omega (arith, ap length (put ∙ c.lengthen_prefix.ensures.entries), count);
       spare = search rules;
       headed = headed_put (g.P.Bound.bytes c.args.bound.now) b w slot node c.merge_or_redistribute.ensures.rest.headed
-          (ap (option_map (λ r. r.header)) (put_record_is b w slot node c.set_header.ensures.replaced)) c.copy_heads.ensures.headed
+          (ap (option_map (λ r. r.header)) (put_record_is b w slot node c.set_header.ensures.replaced)) c.lengthen_prefix.ensures.headed
           (put_others b w slot node c.set_header.ensures.replaced);
     }
