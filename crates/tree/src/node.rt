@@ -109,8 +109,8 @@ impl<const N: usize> Node<N> {
         self.move_tail(to, from);
     }
 
-    // Moves the entries from an index on, with their heads, to where the first of them stands at another index. The node ends behind
-    // them.
+    // Moves the entries from an index on, with their heads, so that the first of them stands at another index. The node ends
+    // behind the last one.
     fn move_tail(&mut self, from: usize, to: usize)
         requires within { from ≤ length (entries_of self.old) }
         requires room { to + (length (entries_of self.old) - from) ≤ N }

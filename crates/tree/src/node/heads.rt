@@ -144,7 +144,8 @@ impl<const N: usize> Node<N> {
         ensures prefix_len { self.new.prefix_len ≡ self.old.prefix_len }
         ensures size { length self.new.heads ≡ N }
         ensures entries { self.new.entries ≡ self.old.entries }
-        ensures same { take result (drop index (keys_of (entries_of self.old))) ≡ take result (drop place (keys_of (entries_of other.now))) }
+        ensures same { take result (drop index (keys_of (entries_of self.old)))
+            ≡ take result (drop place (keys_of (entries_of other.now))) }
         ensures copied { take (index + result) self.new.heads
             ≡ take index self.old.heads ++ take result (drop place (key_heads_of other.now).heads) }
     {

@@ -320,9 +320,9 @@ impl<const N: usize> Node<N> {
     }
 }
 
-// Returns an index behind a head that is below this one, or 0. Where the heads are in order and blocks hold all of them, it is how
-// many are below. It looks at the first head of each block, and then at one block, each time at all of them, and is written without a
-// branch that depends on a head.
+// Returns an index behind a head that is below this one, or 0. Where the heads are in order and blocks hold all of them, it is
+// how many are below. It looks at the first head of each block, and then at one block, each time at all of them, and is written
+// without a branch that depends on a head.
 fn heads_below<const N: usize>(heads: &[u64; N], head: u64) -> usize
     ensures within { result ≤ N }
     ensures below { 0 < result → get_or heads.now (result - 1) 0 < head }
