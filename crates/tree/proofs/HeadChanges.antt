@@ -3,7 +3,7 @@ use Rattle.std.proofs.Math.Nat.{min-le_left, min-le_right}
 use Rattle.std.proofs.Common.{◌≡◌, ◌≢◌, ◌⊎◌, inl, inr, ℕ, ◌+◌, ◌-◌, ◌<◌, ◌≤◌, min, List, [], ◌∷◌, ◌++◌, Some, length, get_or, take, drop, map, All, refl, sym, ◌∙◌, ap, ap₂, subst, arith, append_assoc, length-append, length-drop}
 use Rattle.std.specs.Prelude.{unwrap_or, slice_get, slice_set}
 use Rattle.std.specs.List.{AllZip, Contains}
-use Rattle.std.proofs.lemmas.List.{get_or-drop, get_or-map, get_or-take, length-map, length-take, length-take-le, map-append, map-set, map_more, nil_from_length, set-get_or, take_all, take-map, drop-map, take-take, take_more, take_more_same, take_more_set}
+use Rattle.std.proofs.lemmas.List.{get_or-drop, get_or-map, get_or-take, length-map, length-take, length-take-le, drop_at, map-append, map-set, map_more, nil_from_length, set-get_or, take_all, take_at, take-map, drop-map, take-take, take_more, take_more_same, take_more_set}
 use Rattle.std.proofs.lemmas.Option.{slice_get_within, get_or_from_slice_get}
 use Rattle.std.proofs.Math.Seq.{take-add}
 use Rattle.std.proofs.lemmas.List.Elements.{Contains-get_or, All-nil, All-cons, All-head, All-tail, All-append, All-contains, All-drop, All-more, All-set, All-take, All-weaker}
@@ -11,6 +11,7 @@ use Rattle.tree.specs.declared.entry.Entry.{Entry}
 use Rattle.tree.specs.Heads.{KeyBytes, IsKnown, Begins, KeyHeads, AreHeads, HasPrefix, IsTargetHead, head_behind, head_at}
 use Rattle.tree.specs.Node.{keys_of}
 use Rattle.tree.proofs.Headed.{all_known, begins_if_long}
+use Rattle.tree.proofs.callers.Partitions.{All-front, All-back}
 
 -- One more element of the second list becomes that of the first one.
 pub map_further : {X Y : Type 0} (f : X → Y) (xs : List X) (ys : List Y) (i : ℕ) (x : X) (y : Y)
@@ -413,6 +414,47 @@ module _ (bytes : KeyBytes) where
             ∙ sym (map-append (head_at bytes one.prefix_len) one.keys other.keys)
             ∙ ap₂ (λ n xs. map (head_at bytes n) xs) (sym prefix_len) (sym keys);
       }
+
+  -- Heads that are right of all keys are right of those in front, and of those behind.
+  headed_apart : (all front back : KeyHeads) → AreHeads bytes all
+      → front.keys ++ back.keys ≡ all.keys → front.heads ++ back.heads ≡ all.heads → length front.heads ≡ length front.keys
+      → front.prefix_len ≡ all.prefix_len → back.prefix_len ≡ all.prefix_len → AreHeads bytes front × AreHeads bytes back
+  headed_apart all front back h keys heads count front_len back_len =
+      let f = head_at bytes all.prefix_len in
+      let P = Begins bytes h.beginning in
+      let n = length front.keys in
+      let begins : All P (front.keys ++ back.keys) = subst (All P) (sym keys) h.begins in
+      let both : front.heads ++ back.heads ≡ map f front.keys ++ map f back.keys =
+      heads ∙ h.heads ∙ ap (map f) (sym keys) ∙ map-append f front.keys back.keys in (
+        record {
+          beginning = h.beginning;
+          prefix_len = h.prefix_len ∙ sym front_len;
+          begins = All-front P front.keys back.keys begins;
+          heads = sym (take_at front.heads back.heads n count) ∙ ap (take n) both
+              ∙ take_at (map f front.keys) (map f back.keys) n (length-map front.keys f)
+              ∙ ap (λ m. map (head_at bytes m) front.keys) (sym front_len);
+        },
+        record {
+          beginning = h.beginning;
+          prefix_len = h.prefix_len ∙ sym back_len;
+          begins = All-back P front.keys back.keys begins;
+          heads = sym (drop_at front.heads back.heads n count) ∙ ap (drop n) both
+              ∙ drop_at (map f front.keys) (map f back.keys) n (length-map front.keys f)
+              ∙ ap (λ m. map (head_at bytes m) back.keys) (sym back_len);
+        },
+      )
+
+  -- Two neighbours whose keys all begin alike share them, with their heads.
+  pub headed_shared : (one other left right : KeyHeads) → AreHeads bytes one → AreHeads bytes other → (key : ℕ)
+      → one.prefix_len ≡ other.prefix_len → Contains other.keys key
+      → ((text : List ℕ) → bytes key ≡ Some text → HasPrefix bytes one text)
+      → left.keys ++ right.keys ≡ one.keys ++ other.keys → left.heads ++ right.heads ≡ one.heads ++ other.heads
+      → length left.heads ≡ length left.keys → left.prefix_len ≡ one.prefix_len → right.prefix_len ≡ other.prefix_len
+      → AreHeads bytes left × AreHeads bytes right
+  headed_shared one other left right h others key as_many there agrees keys heads count left_len right_len =
+      let all : KeyHeads = record { keys = one.keys ++ other.keys; prefix_len = one.prefix_len; heads = one.heads ++ other.heads } in
+      headed_apart all left right (headed_joined one other all h others key as_many there agrees refl refl refl) keys heads count left_len
+      (right_len ∙ sym as_many)
 
   -- Those from one index up to another are taken out, with their heads.
   pub headed_removed : (key_heads new : KeyHeads) (h : AreHeads bytes key_heads) (from to : ℕ)

@@ -1,5 +1,5 @@
 -- What a contract sees of a node. This project's own.
-use Rattle.std.specs.Prelude.{ℕ, List, map, take, Option, option_map}
+use Rattle.std.specs.Prelude.{◌≡◌, ℕ, List, map, take, Option, option_map}
 use Rattle.std.specs.FinMap as finite
 use Rattle.arena.specs.Arena.{Arena, header_at}
 use Rattle.tree.specs.declared.entry.Entry.{Entry}
@@ -21,6 +21,11 @@ node_heads node = node.heads
 -- what a node knows of the bytes of its keys
 abbrev pub key_heads_of : {N : ℕ} → Node N → KeyHeads
 key_heads_of node = record { keys = keys_of (entries_of node); prefix_len = node.prefix_len; heads = take node.len (node_heads node) }
+
+-- A changed node, or a part of it, has these heads, behind as many bytes as before.
+pub record HasHeads {N : ℕ} (old new : Node N) (heads : List ℕ) : Type 0 where
+  pub prefix_len : (key_heads_of new).prefix_len ≡ (key_heads_of old).prefix_len
+  pub heads_are : (key_heads_of new).heads ≡ heads
 
 -- what each node knows
 abbrev pub all_heads_of : {N : ℕ} → Arena (Node N) → ℕ → Option KeyHeads

@@ -33,7 +33,7 @@ impl<const N: usize> Node<N> {
     ghost use Rattle.std.specs.List.{copy_within};
     ghost use Rattle.tree.specs.Item.{IsGreatest, version_of};
     ghost use Rattle.tree.specs.Heads.{AreHeads, KeyBytes};
-    ghost use Rattle.tree.specs.Node.{node_heads, entries_of, key_heads_of, keys_of};
+    ghost use Rattle.tree.specs.Node.{HasHeads, node_heads, entries_of, key_heads_of, keys_of};
 
     /// Returns a node of one entry. What it knows is right if the key is empty.
     pub fn of(entry: Entry) -> Self
@@ -147,40 +147,45 @@ impl<const N: usize> Node<N> {
         copy_few(new, &mut entries[from..end]);
     }
 
-    /// Puts the entries of another node behind these.
+    /// Puts the entries of another node, with their heads, behind these.
     pub fn append(&mut self, other: &Node<N>)
         requires room { length (entries_of self.old) + length (entries_of other.now) ≤ N }
         ensures entries { (entries_of self.new) ≡ (entries_of self.old) ++ entries_of other.now }
-        ensures prefix_len { (key_heads_of self.new).prefix_len ≡ (key_heads_of self.old).prefix_len }
-        ensures heads { node_heads self.new ≡ node_heads self.old }
-        ensures count { length (key_heads_of self.new).heads ≡ length (entries_of self.new) }
+        ensures heads { HasHeads self.old self.new ((key_heads_of self.old).heads ++ (key_heads_of other.now).heads) }
     {
-        let len = self.len + other.len();
+        let from = self.len;
+        let to = from + other.len();
         let entries = &mut self.entries[..];
-        entries[self.len..len].copy_from_slice(other.entries());
-        self.len = len;
+        entries[from..to].copy_from_slice(&other.entries[..other.len]);
+        self.len = to;
+        let heads = &mut self.heads[..];
+        heads[from..to].copy_from_slice(&other.heads[..other.len]);
     }
 
-    /// Puts the entries of another node before these.
+    /// Puts the entries of another node, with their heads, before these.
     pub fn prepend(&mut self, other: &Node<N>)
         requires room { length (entries_of self.old) + length (entries_of other.now) ≤ N }
         ensures entries { (entries_of self.new) ≡ entries_of other.now ++ (entries_of self.old) }
+        ensures heads { HasHeads self.old self.new ((key_heads_of other.now).heads ++ (key_heads_of self.old).heads) }
     {
         let more = other.len();
-        self.entries.copy_within(0..self.len, more);
+        self.move_tail(0, more);
         let entries = &mut self.entries[..];
-        entries[0..more].copy_from_slice(other.entries());
-        self.len += more;
+        entries[0..more].copy_from_slice(&other.entries[..other.len]);
+        let heads = &mut self.heads[..];
+        heads[0..more].copy_from_slice(&other.heads[..other.len]);
     }
 
-    /// Takes the entries from an index on out, and returns them.
+    /// Takes the entries from an index on out, and returns them, with their heads.
     pub fn split_off(&mut self, at: usize) -> Node<N>
         requires within { at ≤ length (entries_of self.old) }
         ensures left { (entries_of self.new) ≡ take at (entries_of self.old) }
         ensures right { entries_of result ≡ drop at (entries_of self.old) }
+        ensures left_heads { HasHeads self.old self.new (take at (key_heads_of self.old).heads) }
+        ensures right_heads { HasHeads self.old result (drop at (key_heads_of self.old).heads) }
     {
         let mut right = *self;
-        right.remove(0, at);
+        right.move_tail(at, 0);
         self.move_tail(self.len, at);
         right
     }
@@ -233,10 +238,16 @@ impl<const N: usize> Node<N> {
         }
     }
 
-    /// Moves entries between two neighbours so that they have as many, but for one. The first of these is the left one.
+    /// Moves entries, with their heads, between two neighbours so that they have as many, but for one. The first of these is the left
+    /// one.
     pub fn redistribute(&mut self, right: &mut Node<N>)
         requires many { N < length (entries_of self.old) + length (entries_of right.old) }
         ensures entries { (entries_of self.new) ++ (entries_of right.new) ≡ (entries_of self.old) ++ (entries_of right.old) }
+        ensures heads { (key_heads_of self.new).heads ++ (key_heads_of right.new).heads
+            ≡ (key_heads_of self.old).heads ++ (key_heads_of right.old).heads }
+        ensures count { length (key_heads_of self.new).heads ≡ length (entries_of self.new) }
+        ensures prefix_len { (key_heads_of self.new).prefix_len ≡ (key_heads_of self.old).prefix_len }
+        ensures right_prefix_len { (key_heads_of right.new).prefix_len ≡ (key_heads_of right.old).prefix_len }
         ensures left { N ≤ 2 * length (entries_of self.new) }
         ensures right { N ≤ 2 * length (entries_of right.new) }
     {

@@ -124,11 +124,7 @@ fn redistribute<P: Bound, const N: usize>(
 {
     let mut left = nodes.header(first);
     let mut right = nodes.header(second);
-    let held = left.len();
-    left.redistribute(&mut right);
-    let moved = left.len().saturating_sub(held);
-    left.copy_heads(nodes.header_ref(first), 0, bound);
-    right.copy_heads(nodes.header_ref(second), moved, bound);
+    left.redistribute_with_heads(&mut right, bound);
     nodes.set_header(first, left);
     nodes.set_header(second, right);
 }

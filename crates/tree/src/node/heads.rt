@@ -1,6 +1,6 @@
 //! The heads of a node's keys, behind the prefix that all of them have in common: how they are computed and kept.
 
-ghost use Rattle.std.specs.Prelude.{◌≡◌, ◌≢◌, ◌<◌, ◌≤◌, ◌+◌, ◌-◌, ◌++◌, ◌⊎◌, ℕ, List, [], length, take, drop, get_or, slice_index, slice_set, Some, IfSome, IsTrue};
+ghost use Rattle.std.specs.Prelude.{◌≡◌, ◌≢◌, ◌<◌, ◌≤◌, ◌+◌, ◌-◌, ◌*◌, ◌++◌, ◌⊎◌, ℕ, List, [], length, take, drop, get_or, slice_index, slice_set, Some, IfSome, IsTrue};
 ghost use Rattle.std.specs.Int.{w64, to_be_bytes};
 ghost use Rattle.std.specs.List.{All, AllZip, Contains};
 ghost use Rattle.tree.specs.Heads.{HasPrefix, AreHeads, IsKnown, IsTargetHead, Begins, head_at};
@@ -172,14 +172,34 @@ impl<const N: usize> Node<N> {
             return;
         };
         let alike = self.prefix_len == other.prefix_len && self.begins(first.key, bound);
-        let len = self.len;
         self.append(other);
         if !alike {
             return self.compute_heads(bound);
         }
-        let heads = &mut self.heads[..];
-        heads[len..self.len].copy_from_slice(&other.heads[..other.len]);
         self.lengthen_prefix(bound);
+    }
+
+    /// Moves entries, with their heads, between two neighbours so that they have as many, but for one. The first of these is the left
+    /// one. Where not all keys begin alike, all heads are computed anew.
+    pub fn redistribute_with_heads<P: Bound>(&mut self, right: &mut Node<N>, bound: &P)
+        requires many { N < length (entries_of self.old) + length (entries_of right.old) }
+        requires headed { AreHeads (P.bytes bound.now) (key_heads_of self.old) }
+        requires right_headed { AreHeads (P.bytes bound.now) (key_heads_of right.old) }
+        ensures entries { (entries_of self.new) ++ (entries_of right.new) ≡ (entries_of self.old) ++ (entries_of right.old) }
+        ensures left { N ≤ 2 * length (entries_of self.new) }
+        ensures right { N ≤ 2 * length (entries_of right.new) }
+        ensures headed { AreHeads (P.bytes bound.now) (key_heads_of self.new) }
+        ensures right_headed { AreHeads (P.bytes bound.now) (key_heads_of right.new) }
+    {
+        let first = right.entries[0].key;
+        let alike = self.prefix_len == right.prefix_len && self.begins(first, bound);
+        self.redistribute(right);
+        if !alike {
+            self.compute_heads(bound);
+            return right.compute_heads(bound);
+        }
+        self.lengthen_prefix(bound);
+        right.lengthen_prefix(bound);
     }
 
     /// Computes the heads anew where heads behind more bytes tell more.

@@ -1,17 +1,16 @@
-use Rattle.std.proofs.Common.{◌≤◌, ◌*◌, [], ◌∷◌, ◌++◌, length, sym, ap₂, subst, ◌∙◌, rules}
+use Rattle.std.proofs.Common.{◌≤◌, ◌<◌, ◌+◌, ◌*◌, [], ◌∷◌, ◌++◌, length, sym, ap₂, subst, ◌∙◌, rules}
 use Rattle.tree.proofs.Frames.{entries_same, live_same}
 use Rattle.tree.proofs.Changing.{changes_if_moves, moves_trans}
 use Rattle.tree.proofs.Placing.{entries_from_header, put_entries, put_live, put_others, put_moves, moves_first, moves_second}
-use Rattle.std.specs.List.{All}
-use Rattle.tree.specs.Heads.{IsKnown}
-use Rattle.tree.specs.Node.{entries_of, keys_of}
+use Rattle.tree.specs.Node.{entries_of}
+use Rattle.tree.specs.Subtree.{entries_at}
 use Rattle.tree.proofs.Headed.{headed_at}
-use Rattle.tree.proofs.KnownKeys.{keys_of_both, keys_in_front, keys_at_back, known_in, headed_header}
+use Rattle.tree.proofs.KnownKeys.{headed_header}
 use Rattle.tree.proofs.rebalance.redistribute.Goals as goal
 
 pub set_header-requires-2 : goal.set_header-requires-2
 set_header-requires-2 g c =
-    let left = c.copy_heads.new.self in
+    let left = c.redistribute_with_heads.new.self in
     let a = c.args.nodes.now in
     let b = c.set_header.new.self in
     record {
@@ -22,47 +21,43 @@ set_header-requires-2 g c =
 
 pub returns-clause-entries : goal.returns-clause-entries
 returns-clause-entries g c =
-    let left = c.copy_heads.new.self in
-    let right = c.copy_heads-2.new.self in
+    let left = c.redistribute_with_heads.new.self in
+    let right = c.redistribute_with_heads.new.right in
     let a = c.args.nodes.now in
     let b = c.set_header.new.self in
     let d = c.set_header-2.new.self in
     ap₂ (λ xs ys. xs ++ ys)
     (entries_same b d c.args.first (put_others b d c.args.second right c.set_header-2.ensures.replaced c.args.first c.requires.two.apart)
-    ∙ put_entries a b c.args.first left c.set_header.ensures.replaced
-    ∙ c.copy_heads.ensures.entries)
-    (put_entries b d c.args.second right c.set_header-2.ensures.replaced
-    ∙ c.copy_heads-2.ensures.entries)
-    ∙ c.redistribute.ensures.entries
+    ∙ put_entries a b c.args.first left c.set_header.ensures.replaced)
+    (put_entries b d c.args.second right c.set_header-2.ensures.replaced)
+    ∙ c.redistribute_with_heads.ensures.entries
     ∙ ap₂ (λ xs ys. xs ++ ys) (sym (entries_from_header a c.args.first c.header-left.result c.header-left.ensures.header))
     (sym (entries_from_header a c.args.second c.header-right.result c.header-right.ensures.header))
 
 pub returns-clause-left : goal.returns-clause-left
 returns-clause-left g c =
-    let left = c.copy_heads.new.self in
-    let right = c.copy_heads-2.new.self in
+    let left = c.redistribute_with_heads.new.self in
+    let right = c.redistribute_with_heads.new.right in
     let a = c.args.nodes.now in
     let b = c.set_header.new.self in
     let d = c.set_header-2.new.self in
     subst (λ xs. g.row.N ≤ 2 * length xs)
     (sym (entries_same b d c.args.first (put_others b d c.args.second right c.set_header-2.ensures.replaced c.args.first c.requires.two.apart)
-    ∙ put_entries a b c.args.first left c.set_header.ensures.replaced
-    ∙ c.copy_heads.ensures.entries))
-    c.redistribute.ensures.left
+    ∙ put_entries a b c.args.first left c.set_header.ensures.replaced))
+    c.redistribute_with_heads.ensures.left
 
 pub returns-clause-right : goal.returns-clause-right
 returns-clause-right g c =
-    let right = c.copy_heads-2.new.self in
+    let right = c.redistribute_with_heads.new.right in
     let b = c.set_header.new.self in
     let d = c.set_header-2.new.self in
     subst (λ xs. g.row.N ≤ 2 * length xs)
-    (sym (put_entries b d c.args.second right c.set_header-2.ensures.replaced
-    ∙ c.copy_heads-2.ensures.entries)) c.redistribute.ensures.right
+    (sym (put_entries b d c.args.second right c.set_header-2.ensures.replaced)) c.redistribute_with_heads.ensures.right
 
 pub returns-clause-changes : goal.returns-clause-changes
 returns-clause-changes g c =
-    let left = c.copy_heads.new.self in
-    let right = c.copy_heads-2.new.self in
+    let left = c.redistribute_with_heads.new.self in
+    let right = c.redistribute_with_heads.new.right in
     let a = c.args.nodes.now in
     let b = c.set_header.new.self in
     let d = c.set_header-2.new.self in
@@ -78,37 +73,21 @@ returns-clause-changes g c =
     (moves_trans a b d (x ∷ y ∷ []) (x ∷ y ∷ []) (x ∷ y ∷ []) (moves_first a b x y c.requires.two.apart c.requires.two.live_second put)
     (moves_second b d x y (y ∷ []) c.requires.two.apart live_x then))
 
-pub copy_heads-requires : goal.copy_heads-requires
-copy_heads-requires g c =
+pub redistribute_with_heads-requires : goal.redistribute_with_heads-requires
+redistribute_with_heads-requires g c =
     let bytes = g.P.Bound.bytes c.args.bound.now in
     let a = c.args.nodes.now in
-    let one = c.header-left.result in
-    let other = c.header-right.result in (
+    let left = c.header-left.result in
+    let right = c.header-right.result in (
       search rules,
       (
-        headed_at bytes a c.args.first c.header_ref.result.now c.requires.two.headed c.header_ref.ensures.header,
-        keys_in_front (IsKnown bytes) (entries_of c.redistribute.new.self) (entries_of c.redistribute.new.right)
-            (subst (λ l. All (IsKnown bytes) (keys_of l)) (sym c.redistribute.ensures.entries)
-            (keys_of_both (IsKnown bytes) (entries_of one) (entries_of other)
-            (known_in bytes a c.args.first one c.requires.two.headed c.header-left.ensures.header)
-            (known_in bytes a c.args.second other c.requires.two.headed c.header-right.ensures.header))),
-      ),
-    )
-
-pub copy_heads-requires-2 : goal.copy_heads-requires-2
-copy_heads-requires-2 g c =
-    let bytes = g.P.Bound.bytes c.args.bound.now in
-    let a = c.args.nodes.now in
-    let one = c.header-left.result in
-    let other = c.header-right.result in (
-      search rules,
-      (
-        headed_at bytes a c.args.second c.header_ref-2.result.now c.requires.two.headed c.header_ref-2.ensures.header,
-        keys_at_back (IsKnown bytes) (entries_of c.redistribute.new.self) (entries_of c.redistribute.new.right)
-            (subst (λ l. All (IsKnown bytes) (keys_of l)) (sym c.redistribute.ensures.entries)
-            (keys_of_both (IsKnown bytes) (entries_of one) (entries_of other)
-            (known_in bytes a c.args.first one c.requires.two.headed c.header-left.ensures.header)
-            (known_in bytes a c.args.second other c.requires.two.headed c.header-right.ensures.header))),
+        subst (λ xs. g.row.N < length xs + length (entries_of right)) (entries_from_header a c.args.first left c.header-left.ensures.header)
+            (subst (λ ys. g.row.N < length (entries_at a c.args.first) + length ys)
+            (entries_from_header a c.args.second right c.header-right.ensures.header) c.requires.many),
+        (
+          headed_at bytes a c.args.first left c.requires.two.headed c.header-left.ensures.header,
+          headed_at bytes a c.args.second right c.requires.two.headed c.header-right.ensures.header,
+        ),
       ),
     )
 
@@ -117,6 +96,6 @@ returns-clause-headed g c =
     let bytes = g.P.Bound.bytes c.args.bound.now in
     let a = c.args.nodes.now in
     let b = c.set_header.new.self in
-    headed_header bytes b c.set_header-2.new.self c.args.second c.copy_heads-2.new.self c.set_header-2.ensures.replaced
-    (headed_header bytes a b c.args.first c.copy_heads.new.self c.set_header.ensures.replaced c.requires.two.headed c.copy_heads.ensures.headed)
-    c.copy_heads-2.ensures.headed
+    headed_header bytes b c.set_header-2.new.self c.args.second c.redistribute_with_heads.new.right c.set_header-2.ensures.replaced
+    (headed_header bytes a b c.args.first c.redistribute_with_heads.new.self c.set_header.ensures.replaced c.requires.two.headed c.redistribute_with_heads.ensures.headed)
+    c.redistribute_with_heads.ensures.right_headed

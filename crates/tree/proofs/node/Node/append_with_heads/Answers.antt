@@ -31,6 +31,7 @@ lengthen_prefix-requires g c =
     let one = c.args.self.now in
     let other = c.args.other.now in
     let now = c.append.new.self in
+    let now = c.append.new.self in
     let es = c.entries.result.now in
     let first = c.in-Some.first.now in
     let get : slice_get es 0 ≡ Some first = sym {b = slice_get es 0} c.in-Some.ensures.value in
@@ -45,28 +46,10 @@ lengthen_prefix-requires g c =
         w.begins-alike.ensures.agrees (sym w.alike-is ∙ c.if-not-alike.false),
       )
       | else-self-other w ↦ absurd (w.if-self-other.false (eqb-true one.prefix_len other.prefix_len (sym w.alike-is ∙ c.if-not-alike.false)))
-    ] in
-    let others = c.copy_from_slice.new.self in
-    let len : now.len ≡ one.len + length others =
-    omega (
-      arith,
-      c.append.ensures.count,
-      length-take-le now.len now.heads (omega arith),
-      ap length c.append.ensures.entries,
-      length-append (entries_of one) (entries_of other),
-      length-take-le one.len one.entries (omega arith),
-      heads_count bytes (entries_of other) (key_heads_of other) c.requires.other_headed refl,
-      ap length c.copy_from_slice.ensures.after,
-      length-take-le other.len other.heads (omega arith),
-    ) in
-    let heads : take now.len (take one.len now.heads ++ (others ++ drop (now.len - one.len) (drop one.len now.heads)))
-    ≡ (key_heads_of one).heads ++ (key_heads_of other).heads =
-    take-put_mid one.len (now.len - one.len) now.heads others now.len len (omega arith)
-    ∙ ap (λ hs. take one.len hs ++ others) c.append.ensures.heads
-    ∙ ap (λ hs. take one.len one.heads ++ hs) c.copy_from_slice.ensures.after in (
+    ] in (
       search rules,
-      headed_joined bytes (key_heads_of one) (key_heads_of other) _ c.requires.headed c.requires.other_headed first.key alike.0 there
-          alike.1
+      headed_joined bytes (key_heads_of one) (key_heads_of other) (key_heads_of now) c.requires.headed c.requires.other_headed first.key alike.0
+          there alike.1
           (ap keys_of c.append.ensures.entries ∙ map-append (λ (e : Entry). e.key) (entries_of one) (entries_of other))
-          c.append.ensures.prefix_len heads,
+          c.append.ensures.heads.prefix_len c.append.ensures.heads.heads_are,
     )

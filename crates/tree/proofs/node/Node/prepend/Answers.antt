@@ -1,23 +1,28 @@
-use Rattle.std.proofs.Common.{arith, ◌≡◌, ◌+◌, ◌-◌, ◌++◌, ◌∙◌, ap, length, take, drop}
+use Rattle.std.proofs.Common.{arith, ◌≡◌, ◌≤◌, ◌+◌, ◌-◌, ◌++◌, ◌∙◌, ap, ap₂, sym, length, take, drop}
+use Rattle.std.specs.List.{copy_within}
 use Rattle.std.proofs.lemmas.List.{length-take-le}
-use Rattle.tree.specs.Node.{entries_of}
-use Rattle.tree.proofs.Entries.{take-prepended}
+use Rattle.tree.proofs.Splicing.{take-spliced_before}
 use Rattle.tree.proofs.node.Node.prepend.Goals as goal
 
-pub returns : goal.returns
-returns g c =
+pub returns-clause-heads : goal.returns-clause-heads
+returns-clause-heads g c =
     let node = c.args.self.now in
-    let others = c.copy_from_slice.new.self in
-    let moved = c.copy_within.new.self in
+    let now = c.move_tail.new.self in
+    let heads = c.copy_from_slice-2.new.self in
     let more = c.len-more.result in
-    let zero_less : more - 0 ≡ more = omega arith in
-    let full : length node.entries ≡ g.row.N = omega arith in
-    let len : length (entries_of node) ≡ node.len = length-take-le node.len node.entries (omega arith) in
-    let same : others ≡ entries_of c.args.other.now = c.copy_from_slice.ensures.after ∙ c.entries.ensures.entries in
-    let count : length others ≡ more = omega (arith, ap length same) in
+    let room : node.len + more ≤ length node.heads =
+    omega (arith, c.requires.room, c.len-more.ensures.len, length-take-le node.len node.entries (omega arith)) in
+    let count : 0 + length heads ≡ more =
+    omega (arith, c.copy_from_slice-2.ensures.len, length-take-le (more - 0) now.heads (omega (arith, room, c.move_tail.ensures.size))) in
+    let len : now.len ≡ 0 + length heads + (node.len - 0) = omega (arith, count, c.move_tail.ensures.len) in
+    let before : take (0 + length heads + (node.len - 0)) now.heads
+    ≡ take (0 + length heads + (node.len - 0)) (copy_within node.heads 0 node.len (0 + length heads)) =
+    ap (λ n. take n now.heads) (sym len) ∙ c.move_tail.ensures.heads
+    ∙ ap₂ (λ n m. take n (copy_within node.heads 0 node.len m)) len (sym count) in
     record {
-      entries =
-          ap (λ n. take (node.len + more) (others ++ drop n moved)) zero_less
-          ∙ take-prepended node.entries moved others node.len more (omega arith) count c.copy_within.ensures.after
-          ∙ ap (λ q. q ++ entries_of node) same;
+      prefix_len = c.move_tail.ensures.prefix_len;
+      heads_are = ap₂ (λ n m. take n (heads ++ drop m now.heads)) len (omega (arith, count))
+          ∙ take-spliced_before node.heads now.heads heads node.len 0 0 (omega arith) (omega arith) (omega arith) (omega (arith, count, room))
+          (omega arith) before
+          ∙ ap (λ hs. hs ++ take node.len node.heads) c.copy_from_slice-2.ensures.after;
     }

@@ -1,0 +1,30 @@
+use Rattle.std.proofs.Common.{arith, refl, ◌≡◌, ◌≤◌, ◌-◌, ◌∙◌, ap, length, take, drop}
+use Rattle.std.specs.List.{copy_within}
+use Rattle.std.proofs.lemmas.List.{length-take-le}
+use Rattle.tree.specs.Node.{entries_of}
+use Rattle.tree.proofs.Entries.{take-removed}
+use Rattle.tree.proofs.node.Node.split_off.Goals as goal
+
+pub returns-clause-right : goal.returns-clause-right
+returns-clause-right g c =
+    let node = c.args.self.now in
+    let at = c.args.at in
+    let right = c.move_tail.new.self in
+    let most : at ≤ node.len = omega (arith, c.requires.within, length-take-le node.len node.entries (omega arith)) in
+    let left : right.len ≡ node.len - (at - 0) = omega (arith, c.move_tail.ensures.len) in
+    ap (λ n. take n right.entries) left
+    ∙ take-removed node.entries right.entries node.len 0 at (omega arith) (omega arith) most c.move_tail.ensures.entries
+
+pub returns-clause-right_heads : goal.returns-clause-right_heads
+returns-clause-right_heads g c =
+    let node = c.args.self.now in
+    let at = c.args.at in
+    let right = c.move_tail.new.self in
+    let most : at ≤ node.len = omega (arith, c.requires.within, length-take-le node.len node.entries (omega arith)) in
+    let left : right.len ≡ node.len - (at - 0) = omega (arith, c.move_tail.ensures.len) in
+    record {
+      prefix_len = c.move_tail.ensures.prefix_len;
+      heads_are = c.move_tail.ensures.heads
+          ∙ ap (λ n. take n (copy_within node.heads at node.len 0)) left
+          ∙ take-removed node.heads (copy_within node.heads at node.len 0) node.len 0 at (omega arith) (omega arith) most refl;
+    }
