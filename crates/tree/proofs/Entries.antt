@@ -43,21 +43,6 @@ module _ {X : Type 0} where
       ap (take (len - (to - from))) after ∙ take_at (head ++ moved) (drop (from + (len - to)) xs) (len - (to - from)) new_len
       ∙ ap (λ p. p ++ moved) (sym (take-take from len xs (omega arith))) ∙ ap (λ q. take from (take len xs) ++ q) (sym (drop-front xs len to within))
 
-  -- other entries put before the moved ones
-  pub take-prepended : (xs ys others : List X) (len more : ℕ) → len + more ≤ length xs → length others ≡ more → ys ≡ copy_within xs 0 len more
-      → take (len + more) (others ++ drop more ys) ≡ others ++ take len xs
-  take-prepended xs ys others len more room count after =
-      let head = take more xs in
-      let moved = take len xs in
-      let rest = drop (more + len) xs in
-      let zero_less : len - 0 ≡ len = omega arith in
-      let ys_is : ys ≡ head ++ (moved ++ rest) = after ∙ ap (λ n. head ++ take n xs ++ drop (more + n) xs) zero_less ∙ append_assoc head moved rest in
-      let back : drop more ys ≡ moved ++ rest = ap (drop more) ys_is ∙ drop_at head (moved ++ rest) more (length-take-le more xs (omega arith)) in
-      let moved_len : length moved ≡ len = length-take-le len xs (omega arith) in
-      let new_len : length (others ++ moved) ≡ len + more = omega (arith, length-append others moved) in
-      ap (λ q. take (len + more) (others ++ q)) back ∙ ap (take (len + more)) (sym (append_assoc others moved rest))
-      ∙ take_at (others ++ moved) rest (len + more) new_len
-
   -- an entry put into the left part, or into the right one
   pub inserted-left : (xs : List X) (i m : ℕ) (e : X) → i ≤ m → m ≤ length xs
       → (take i (take m xs) ++ e ∷ drop i (take m xs)) ++ drop m xs ≡ take i xs ++ e ∷ drop i xs

@@ -1,5 +1,5 @@
 -- What a contract sees of a node. This project's own.
-use Rattle.std.specs.Prelude.{◌≡◌, ℕ, List, map, take, Option, option_map}
+use Rattle.std.specs.Prelude.{◌≡◌, ◌++◌, ℕ, List, length, map, take, Option, option_map}
 use Rattle.std.specs.FinMap as finite
 use Rattle.arena.specs.Arena.{Arena, header_at}
 use Rattle.tree.specs.declared.entry.Entry.{Entry}
@@ -26,6 +26,14 @@ key_heads_of node = record { keys = keys_of (entries_of node); prefix_len = node
 pub record HasHeads {N : ℕ} (old new : Node N) (heads : List ℕ) : Type 0 where
   pub prefix_len : (key_heads_of new).prefix_len ≡ (key_heads_of old).prefix_len
   pub heads_are : (key_heads_of new).heads ≡ heads
+
+-- Two neighbours have the heads that both had, in turn, behind as many bytes as before. The left one has as many as entries.
+pub record ShareHeads {N : ℕ} (old_left old_right left right : Node N) : Type 0 where
+  pub prefix_len : (key_heads_of left).prefix_len ≡ (key_heads_of old_left).prefix_len
+  pub right_prefix_len : (key_heads_of right).prefix_len ≡ (key_heads_of old_right).prefix_len
+  pub heads_are : (key_heads_of left).heads ++ (key_heads_of right).heads
+      ≡ (key_heads_of old_left).heads ++ (key_heads_of old_right).heads
+  pub count : length (key_heads_of left).heads ≡ length (entries_of left)
 
 -- what each node knows
 abbrev pub all_heads_of : {N : ℕ} → Arena (Node N) → ℕ → Option KeyHeads

@@ -33,7 +33,7 @@ impl<const N: usize> Node<N> {
     ghost use Rattle.std.specs.List.{copy_within};
     ghost use Rattle.tree.specs.Item.{IsGreatest, version_of};
     ghost use Rattle.tree.specs.Heads.{AreHeads, KeyBytes};
-    ghost use Rattle.tree.specs.Node.{HasHeads, node_heads, entries_of, key_heads_of, keys_of};
+    ghost use Rattle.tree.specs.Node.{HasHeads, ShareHeads, node_heads, entries_of, key_heads_of, keys_of};
 
     /// Returns a node of one entry. What it knows is right if the key is empty.
     pub fn of(entry: Entry) -> Self
@@ -243,11 +243,7 @@ impl<const N: usize> Node<N> {
     pub fn redistribute(&mut self, right: &mut Node<N>)
         requires many { N < length (entries_of self.old) + length (entries_of right.old) }
         ensures entries { (entries_of self.new) ++ (entries_of right.new) ≡ (entries_of self.old) ++ (entries_of right.old) }
-        ensures heads { (key_heads_of self.new).heads ++ (key_heads_of right.new).heads
-            ≡ (key_heads_of self.old).heads ++ (key_heads_of right.old).heads }
-        ensures count { length (key_heads_of self.new).heads ≡ length (entries_of self.new) }
-        ensures prefix_len { (key_heads_of self.new).prefix_len ≡ (key_heads_of self.old).prefix_len }
-        ensures right_prefix_len { (key_heads_of right.new).prefix_len ≡ (key_heads_of right.old).prefix_len }
+        ensures heads { ShareHeads self.old right.old self.new right.new }
         ensures left { N ≤ 2 * length (entries_of self.new) }
         ensures right { N ≤ 2 * length (entries_of right.new) }
     {

@@ -97,5 +97,6 @@ returns-clause-headed g c =
     let a = c.args.nodes.now in
     let b = c.set_header.new.self in
     headed_header bytes b c.set_header-2.new.self c.args.second c.redistribute_with_heads.new.right c.set_header-2.ensures.replaced
-    (headed_header bytes a b c.args.first c.redistribute_with_heads.new.self c.set_header.ensures.replaced c.requires.two.headed c.redistribute_with_heads.ensures.headed)
+    (headed_header bytes a b c.args.first c.redistribute_with_heads.new.self c.set_header.ensures.replaced c.requires.two.headed
+    c.redistribute_with_heads.ensures.headed)
     c.redistribute_with_heads.ensures.right_headed

@@ -1,13 +1,12 @@
-use Rattle.std.proofs.Common.{rules, ◌≡◌, ◌+◌, ◌-◌, ◌++◌, ◌∙◌, ℕ, List, Some, slice_get, length, take, drop, All, length-append, refl, ap, sym, subst, arith}
+use Rattle.std.proofs.Common.{rules, ◌≡◌, ◌∙◌, ℕ, List, Some, slice_get, All, ap, sym, subst}
 use Rattle.std.specs.List.{Contains}
 use Rattle.std.proofs.lemmas.Bool.{eqb-true}
-use Rattle.std.proofs.lemmas.List.{length-take-le, map-append}
+use Rattle.std.proofs.lemmas.List.{map-append}
 use Rattle.std.proofs.lemmas.Option.{slice_get_within, get_or_from_slice_get}
-use Rattle.std.proofs.lemmas.Slice.{take-put_mid}
 use Rattle.tree.specs.declared.entry.Entry.{Entry}
 use Rattle.tree.specs.Heads.{HasPrefix, IsKnown}
 use Rattle.tree.specs.Node.{entries_of, key_heads_of, keys_of}
-use Rattle.tree.proofs.HeadChanges.{headed_joined, heads_count, keys_there}
+use Rattle.tree.proofs.HeadChanges.{headed_joined, keys_there}
 use Rattle.tree.proofs.Headed.{all_known}
 use Rattle.tree.proofs.KnownKeys.{keys_of_both}
 use Rattle.tree.proofs.node.Node.append_with_heads.Goals.{then-self-other, else-self-other}

@@ -1,4 +1,4 @@
-use Rattle.std.proofs.Common.{◌/◌, ◌+◌, ◌++◌, ◌∙◌, sym, ap, ap₂, append_assoc, take, drop}
+use Rattle.std.proofs.Common.{rules, ◌/◌, ◌+◌, ◌++◌, ◌∙◌, sym, ap, ap₂, append_assoc, take, drop}
 use Rattle.std.proofs.lemmas.List.{take-append-drop}
 use Rattle.tree.specs.Node.{entries_of, key_heads_of}
 use Rattle.tree.proofs.node.Node.redistribute.Goals as goal
@@ -23,7 +23,13 @@ returns-then-self-half-clause-heads g c =
     let half = (left.len + right.len) / 2 in
     let all = (key_heads_of left).heads in
     let rest = (key_heads_of right).heads in
-    ap₂ (λ p q. p ++ q) c.split_off-moved.ensures.left_heads.heads_are c.prepend.ensures.heads.heads_are
-    ∙ ap (λ q. take half all ++ (q ++ rest)) c.split_off-moved.ensures.right_heads.heads_are
-    ∙ sym (append_assoc (take half all) (drop half all) rest)
-    ∙ ap (λ p. p ++ rest) (take-append-drop half all)
+    let moved = c.split_off-moved.ensures in
+    record {
+      prefix_len = moved.left_heads.prefix_len;
+      right_prefix_len = c.prepend.ensures.heads.prefix_len;
+      heads_are = ap₂ (λ p q. p ++ q) moved.left_heads.heads_are c.prepend.ensures.heads.heads_are
+          ∙ ap (λ q. take half all ++ (q ++ rest)) moved.right_heads.heads_are
+          ∙ sym (append_assoc (take half all) (drop half all) rest)
+          ∙ ap (λ p. p ++ rest) (take-append-drop half all);
+      count = search rules;
+    }

@@ -1,4 +1,4 @@
-use Rattle.std.proofs.Common.{rules, ◌≡◌, ◌<◌, ◌≤◌, ◌++◌, ◌∙◌, ℕ, List, Some, true, length, All, ap, sym, subst, arith}
+use Rattle.std.proofs.Common.{rules, ◌≡◌, ◌<◌, ◌++◌, ◌∙◌, ℕ, List, Some, true, All, ap, sym, subst, arith}
 use Rattle.std.specs.List.{Contains}
 use Rattle.std.proofs.lemmas.Bool.{eqb-true}
 use Rattle.std.proofs.lemmas.List.{length-map, length-take-le, map-append}
@@ -73,9 +73,9 @@ both_headed g c is_alike =
     sym (map-append key (entries_of left) (entries_of right)) ∙ ap keys_of c.redistribute.ensures.entries
     ∙ map-append key (entries_of one) (entries_of other) in
     headed_shared bytes (key_heads_of one) (key_heads_of other) (key_heads_of left) (key_heads_of right)
-    c.requires.headed c.requires.right_headed first.key begin.0 there begin.1 keys c.redistribute.ensures.heads
-    (c.redistribute.ensures.count ∙ sym (length-map (entries_of left) key))
-    c.redistribute.ensures.prefix_len c.redistribute.ensures.right_prefix_len
+    c.requires.headed c.requires.right_headed first.key begin.0 there begin.1 keys c.redistribute.ensures.heads.heads_are
+    (c.redistribute.ensures.heads.count ∙ sym (length-map (entries_of left) key))
+    c.redistribute.ensures.heads.prefix_len c.redistribute.ensures.heads.right_prefix_len
 
 pub lengthen_prefix-requires : goal.lengthen_prefix-requires
 lengthen_prefix-requires g c = (
