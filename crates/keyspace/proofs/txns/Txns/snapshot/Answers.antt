@@ -1,4 +1,4 @@
-use Rattle.std.proofs.Common.{rules, arith, ◌≡◌, ◌<◌, ℤ, List, length, slice_get, FitsSigned, w64, sym, ap, ◌∙◌, subst, Some}
+use Rattle.std.proofs.Common.{rules, arith, ◌≡◌, ℤ, List, slice_get, FitsSigned, w64, sym, ap, ◌∙◌, subst, Some}
 use Rattle.std.specs.Prelude.{Option, IsSomeAnd}
 use Rattle.std.proofs.lemmas.Int.{to_z-of_z}
 use Rattle.keys.proofs.callers.Lists.{some_at}

@@ -56,8 +56,16 @@ loop-bound-preserved g c =
     let begins : c.len.result ≡ length c.args.marks.now.items = omega (arith, c.len.ensures, c.args.marks.now.ok.0) in
     let long = ap length c.as_slice-bound-items.ensures.value in
     let inside : c.len-place.result < length queries =
-    omega (arith, c.len-place.ensures, c.loop-bound.marks.ok.0, c.loop-bound.invariant.count, begins, long,
-      c.bounds_from-bounds.ensures.within, c.loop-bound-test.true) in
+    omega (
+      arith,
+      c.len-place.ensures,
+      c.loop-bound.marks.ok.0,
+      c.loop-bound.invariant.count,
+      begins,
+      long,
+      c.bounds_from-bounds.ensures.within,
+      c.loop-bound-test.true,
+    ) in
     let found = some_at queries c.len-place.result inside in
     let q = found.0 in
     let items = ap length c.in_ok-push.ensures.items ∙ length-append c.loop-bound.marks.items (mark ∷ []) in
