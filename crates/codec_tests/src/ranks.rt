@@ -2,7 +2,7 @@
 
 use crate::rows::expect;
 use fixtures::{Random, Unmade, batch, batch_of, ranges, single_key, txn};
-use keys::{Range, Ranks};
+use keys::{MAX_RANKED, Range, Ranks};
 use keyspace::{Batch, Txn, Txns};
 use std::alloc::{AllocError, Global};
 use std::test::Fail;
@@ -13,6 +13,9 @@ const THREE_TXNS: &str = "0>1: R[b,d) R[m,m) W[a,c); W[aa,y); R[c,d) W[,a)";
 // The indices of the ranges in order, each with its begin in hexadecimal, those of the write ranges, and the runs.
 fn show_ranks(alloc: Global, txns: &Txns) -> Result<String, Unmade> {
     let ranges = txns.ranges();
+    if ranges.len() > MAX_RANKED {
+        return Err(Unmade::Beyond("ranges"));
+    }
     let mut text = String::from_str(alloc, "order")?;
     let (ranks, order) = Ranks::with_order(alloc, &ranges)?;
     for index in &order {
@@ -197,7 +200,11 @@ fn agrees(alloc: Global, txns: &Txns) -> Result<bool, AllocError> {
     let ranges = all_ranges(alloc, txns)?;
     let begins = all_begins(alloc, &ranges)?;
     let ranks = txns.ranks();
-    let (_, order) = Ranks::with_order(alloc, &txns.ranges())?;
+    let lent = txns.ranges();
+    if lent.len() > MAX_RANKED {
+        return Ok(false);
+    }
+    let (_, order) = Ranks::with_order(alloc, &lent)?;
     Ok(
         ranks.begins() == begins.len()
             && runs_agree(ranks.runs(), &ranges, &begins)
