@@ -15,11 +15,11 @@ use crate::entry::Entry;
 use crate::node::Node;
 use arena::{Arena, Slot};
 
-/// Returns the least number of entries of a node that isn't the root: a third of the greatest, but two at least.
+/// Returns the least number of entries of a node that isn't the root: three eighths of the greatest, but two at least.
 pub fn least(fan_out: usize) -> usize
     ensures least { result ≡ least_of fan_out }
 {
-    (fan_out / 3).max(2)
+    (fan_out / 8 * 3).max(2)
 }
 
 /// Returns the entry for a child.

@@ -111,12 +111,12 @@ fn first_to_share<const N: usize>(nodes: &Arena<Node<N>>, slot: Slot, index: usi
     None
 }
 
-// Returns whether the node at a slot has at most seven eighths of the greatest number of entries.
+// Returns whether the node at a slot has at most three quarters of the greatest number of entries.
 fn has_room<const N: usize>(nodes: &Arena<Node<N>>, slot: Slot) -> bool
     requires live { IsLive nodes.now slot }
-    ensures room { IsTrue result ↔ (length (entries_at nodes.now slot) ≤ N - N / 8) }
+    ensures room { IsTrue result ↔ (length (entries_at nodes.now slot) ≤ N / 4 * 3) }
 {
-    nodes.header_ref(slot).len() <= N - N / 8
+    nodes.header_ref(slot).len() <= N / 4 * 3
 }
 
 /// Makes the entry at an index right in the node at a slot, whose child has changed: an item of this version was
