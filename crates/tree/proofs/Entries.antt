@@ -1,5 +1,5 @@
 -- What the moves of a node's entries leave, of lists alone.
-use Rattle.std.proofs.Common.{◌≡◌, ℕ, ◌+◌, ◌-◌, ◌<◌, ◌≤◌, List, ◌∷◌, ◌++◌, length, take, drop, slice_set, suc, sym, ap, ◌∙◌, arith, append_assoc}
+use Rattle.std.proofs.Common.{◌≡◌, ℕ, ◌+◌, ◌-◌, ◌<◌, ◌≤◌, List, ◌∷◌, ◌++◌, length, take, drop, slice_set, suc, sym, ap, ◌∙◌, arith, append_assoc, append-nil, drop_of_length-le}
 use Rattle.std.specs.List.{copy_within}
 use Rattle.std.proofs.lemmas.List.{take-take, take-append-drop, drop-append-le, drop-drop, drop-take, take_at, drop_at, length-take-le, length-drop, length-append, set_split, take-append-le}
 
@@ -42,6 +42,14 @@ module _ {X : Type 0} where
       let new_len : length (head ++ moved) ≡ len - (to - from) = omega (arith, length-append head moved) in
       ap (take (len - (to - from))) after ∙ take_at (head ++ moved) (drop (from + (len - to)) xs) (len - (to - from)) new_len
       ∙ ap (λ p. p ++ moved) (sym (take-take from len xs (omega arith))) ∙ ap (λ q. take from (take len xs) ++ q) (sym (drop-front xs len to within))
+
+  -- entries of which those from an index on are cut off
+  pub take-cut : (xs ys : List X) (len at : ℕ) → len ≤ length xs → at ≤ len → ys ≡ copy_within xs len len at
+      → take at ys ≡ take at (take len xs)
+  take-cut xs ys len at room within after =
+      ap (λ n. take n ys) (omega (arith, within)) ∙ take-removed xs ys len at len room within (omega arith) after
+      ∙ ap (λ q. take at (take len xs) ++ q) (drop_of_length-le (take len xs) (omega (arith, length-take-le len xs room)))
+      ∙ append-nil (take at (take len xs))
 
   -- an entry put into the left part, or into the right one
   pub inserted-left : (xs : List X) (i m : ℕ) (e : X) → i ≤ m → m ≤ length xs

@@ -59,6 +59,13 @@ impl<const N: usize> Node<N> {
         &self.entries[..self.len]
     }
 
+    // Returns the head of each key, behind what all begin with.
+    fn heads(&self) -> &[u64]
+        ensures heads { result.now ≡ (key_heads_of self.now).heads }
+    {
+        &self.heads[..self.len]
+    }
+
     /// Returns the number of entries.
     pub fn len(&self) -> usize
         ensures len { result ≡ length (entries_of self.now) }
@@ -147,33 +154,35 @@ impl<const N: usize> Node<N> {
         copy_few(new, &mut entries[from..end]);
     }
 
-    /// Puts the entries of another node, with their heads, behind these.
-    pub fn append(&mut self, other: &Node<N>)
-        requires room { length (entries_of self.old) + length (entries_of other.now) ≤ N }
-        ensures entries { (entries_of self.new) ≡ (entries_of self.old) ++ entries_of other.now }
-        ensures heads { HasHeads self.old self.new ((key_heads_of self.old).heads ++ (key_heads_of other.now).heads) }
+    /// Puts entries of another node, with their heads, behind these.
+    pub fn append(&mut self, more: &[Entry], heads: &[u64])
+        requires same_len { length heads.now ≡ length more.now }
+        requires room { length (entries_of self.old) + length more.now ≤ N }
+        ensures entries { (entries_of self.new) ≡ (entries_of self.old) ++ more.now }
+        ensures heads { HasHeads self.old self.new ((key_heads_of self.old).heads ++ heads.now) }
     {
         let from = self.len;
-        let to = from + other.len();
+        let to = from + more.len();
         let entries = &mut self.entries[..];
-        entries[from..to].copy_from_slice(&other.entries[..other.len]);
+        entries[from..to].copy_from_slice(more);
         self.len = to;
-        let heads = &mut self.heads[..];
-        heads[from..to].copy_from_slice(&other.heads[..other.len]);
+        let own = &mut self.heads[..];
+        own[from..to].copy_from_slice(heads);
     }
 
-    /// Puts the entries of another node, with their heads, before these.
-    pub fn prepend(&mut self, other: &Node<N>)
-        requires room { length (entries_of self.old) + length (entries_of other.now) ≤ N }
-        ensures entries { (entries_of self.new) ≡ entries_of other.now ++ (entries_of self.old) }
-        ensures heads { HasHeads self.old self.new ((key_heads_of other.now).heads ++ (key_heads_of self.old).heads) }
+    /// Puts entries of another node, with their heads, before these.
+    pub fn prepend(&mut self, more: &[Entry], heads: &[u64])
+        requires same_len { length heads.now ≡ length more.now }
+        requires room { length (entries_of self.old) + length more.now ≤ N }
+        ensures entries { (entries_of self.new) ≡ more.now ++ (entries_of self.old) }
+        ensures heads { HasHeads self.old self.new (heads.now ++ (key_heads_of self.old).heads) }
     {
-        let more = other.len();
-        self.move_tail(0, more);
+        let count = more.len();
+        self.move_tail(0, count);
         let entries = &mut self.entries[..];
-        entries[0..more].copy_from_slice(&other.entries[..other.len]);
-        let heads = &mut self.heads[..];
-        heads[0..more].copy_from_slice(&other.heads[..other.len]);
+        entries[0..count].copy_from_slice(more);
+        let own = &mut self.heads[..];
+        own[0..count].copy_from_slice(heads);
     }
 
     /// Takes the entries from an index on out, and returns them, with their heads.
@@ -249,12 +258,12 @@ impl<const N: usize> Node<N> {
     {
         let half = (self.len + right.len) / 2;
         if self.len > half {
-            let moved = self.split_off(half);
-            right.prepend(&moved);
+            right.prepend(&self.entries()[half..], &self.heads()[half..]);
+            self.move_tail(self.len, half);
         } else {
-            let kept = right.split_off(half - self.len);
-            self.append(right);
-            *right = kept;
+            let more = half - self.len;
+            self.append(&right.entries()[..more], &right.heads()[..more]);
+            right.move_tail(more, 0);
         }
     }
 

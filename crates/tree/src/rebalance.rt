@@ -122,9 +122,8 @@ fn redistribute<P: Bound, const N: usize>(
     ensures changes { Changes nodes.old nodes.new (first ∷ second ∷ []) (first ∷ second ∷ []) }
     ensures headed { AllAreHeads (P.bytes bound.now) (all_heads_of nodes.new) }
 {
-    let mut left = nodes.header(first);
     let mut right = nodes.header(second);
+    let left = nodes.header_mut(first);
     left.redistribute_with_heads(&mut right, bound);
-    nodes.set_header(first, left);
     nodes.set_header(second, right);
 }

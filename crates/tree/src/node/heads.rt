@@ -172,7 +172,7 @@ impl<const N: usize> Node<N> {
             return;
         };
         let alike = self.prefix_len == other.prefix_len && self.begins(first.key, bound);
-        self.append(other);
+        self.append(other.entries(), other.heads());
         if !alike {
             return self.compute_heads(bound);
         }

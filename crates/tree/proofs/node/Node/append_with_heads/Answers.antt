@@ -1,4 +1,4 @@
-use Rattle.std.proofs.Common.{rules, ◌≡◌, ◌∙◌, ℕ, List, Some, slice_get, All, ap, sym, subst}
+use Rattle.std.proofs.Common.{rules, ◌≡◌, ◌++◌, ◌∙◌, ℕ, List, Some, slice_get, All, ap, sym, subst}
 use Rattle.std.specs.List.{Contains}
 use Rattle.std.proofs.lemmas.Bool.{eqb-true}
 use Rattle.std.proofs.lemmas.List.{map-append}
@@ -18,7 +18,7 @@ compute_heads-requires g c =
     let one = c.args.self.now in
     let other = c.args.other.now in (
       search rules,
-      subst (λ es. All P (keys_of es)) (sym c.append.ensures.entries)
+      subst (λ es. All P (keys_of es)) (sym (c.append.ensures.entries ∙ ap (λ es. entries_of one ++ es) c.entries-2.ensures.entries))
           (keys_of_both P (entries_of one) (entries_of other)
           (all_known (g.P.Bound.bytes c.args.bound.now) (key_heads_of one) c.requires.headed)
           (all_known (g.P.Bound.bytes c.args.bound.now) (key_heads_of other) c.requires.other_headed)),
@@ -49,6 +49,7 @@ lengthen_prefix-requires g c =
       search rules,
       headed_joined bytes (key_heads_of one) (key_heads_of other) (key_heads_of now) c.requires.headed c.requires.other_headed first.key alike.0
           there alike.1
-          (ap keys_of c.append.ensures.entries ∙ map-append (λ (e : Entry). e.key) (entries_of one) (entries_of other))
-          c.append.ensures.heads.prefix_len c.append.ensures.heads.heads_are,
+          (ap keys_of (c.append.ensures.entries ∙ ap (λ es. entries_of one ++ es) c.entries-2.ensures.entries) ∙ map-append (λ (e : Entry). e.key) (entries_of one) (entries_of other))
+          c.append.ensures.heads.prefix_len
+          (c.append.ensures.heads.heads_are ∙ ap (λ hs. (key_heads_of one).heads ++ hs) c.heads.ensures.heads),
     )

@@ -9,9 +9,9 @@ returns-clause-heads g c =
     let node = c.args.self.now in
     let now = c.move_tail.new.self in
     let heads = c.copy_from_slice-2.new.self in
-    let more = c.len-more.result in
+    let more = length c.args.more.now in
     let room : node.len + more ≤ length node.heads =
-    omega (arith, c.requires.room, c.len-more.ensures.len, length-take-le node.len node.entries (omega arith)) in
+    omega (arith, c.requires.room, length-take-le node.len node.entries (omega arith)) in
     let count : 0 + length heads ≡ more =
     omega (arith, c.copy_from_slice-2.ensures.len, length-take-le (more - 0) now.heads (omega (arith, room, c.move_tail.ensures.size))) in
     let len : now.len ≡ 0 + length heads + (node.len - 0) = omega (arith, count, c.move_tail.ensures.len) in
