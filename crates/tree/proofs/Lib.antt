@@ -42,7 +42,6 @@ pub mod Placing
 pub mod Reaching
 pub mod Replacing
 pub mod Rooting
-pub mod SharedLeaves
 pub mod Sharing
 pub mod Spans
 pub mod Splicing

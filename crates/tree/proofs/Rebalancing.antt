@@ -1,12 +1,11 @@
 -- A node above two neighbours that are merged or merge_or_redistribute their entries.
-use Rattle.std.proofs.Common.{◌≡◌, ◌≢◌, ◌⊎◌, inl, inr, ℕ, ◌+◌, ◌-◌, ◌<◌, ◌≤◌, List, [], ◌∷◌, ◌++◌, length, get_or, take, drop, sym, ap, ap₂, subst, ◌∙◌, arith, append-nil}
+use Rattle.std.proofs.Common.{◌≡◌, ◌≢◌, inl, inr, ℕ, ◌+◌, ◌-◌, ◌<◌, ◌≤◌, List, [], ◌∷◌, ◌++◌, length, get_or, take, drop, sym, ap, ap₂, subst, ◌∙◌, arith, append-nil}
 use Rattle.std.proofs.lemmas.List.Elements.{All-nil, All-cons, All-take, All-drop}
 use Rattle.std.proofs.lemmas.List.{take-take, drop-drop, get_or-take, get_or-drop, length-take-le, length-drop}
 use Rattle.arena.specs.Arena.{Arena, IsLive}
 use Rattle.tree.specs.declared.entry.Entry.{Entry}
 use Rattle.tree.specs.declared.node.Node.{Node}
 use Rattle.tree.specs.Item.{Tells}
-use Rattle.tree.specs.Rebalancing.{CanShare}
 use Rattle.tree.specs.Subtree.{entries_at, items_in, slots_in, IsSubtree}
 use Rattle.tree.specs.Replace.{child_at, items_of, slots_of, AreChildren, Changes, IsFamily, IsKeyless, IsRebalanced}
 use Rattle.tree.proofs.callers.Times.{none_or_some, times, times-append, once_if_distinct}
@@ -179,28 +178,3 @@ module _ {N : ℕ} where
         subst (λ z. least ≤ length (entries_at a z)) (sym (child_is es j d (omega arith))) right.filled in
         omega arith
   ]
-
-  -- the child at an index, which is full or has room for one entry alone, and a neighbour
-  pub can_share : (a : Arena (Node N)) (least height : ℕ) (es : List Entry) (i j : ℕ) (d : Entry) → 2 ≤ least → i < length es
-      → j + 1 < length es → (j ≡ i) ⊎ (j + 1 ≡ i) → IsFamily a least height es i (i + 1)
-      → N ≤ length (entries_at a (child_at es i)) + 1 → CanShare a es i j
-  can_share a least height es i j d two within next beside family full = record {
-    within = next;
-    beside = beside;
-    many = elim beside [
-      | inl same ↦
-          let right = right_behind a least height es i (i + 1) (j + 1) d (omega arith) next family in
-          let other : least ≤ length (entries_at a (child_at es (j + 1))) =
-          subst (λ z. least ≤ length (entries_at a z)) (sym (child_is es (j + 1) d next)) right.filled in
-          let here : length (entries_at a (child_at es j)) ≡ length (entries_at a (child_at es i)) =
-          ap (λ n. length (entries_at a (child_at es n))) same in
-          omega arith
-      | inr same ↦
-          let right = right_before a least height es i (i + 1) j d (omega arith) (omega arith) family in
-          let other : least ≤ length (entries_at a (child_at es j)) =
-          subst (λ z. least ≤ length (entries_at a z)) (sym (child_is es j d (omega arith))) right.filled in
-          let here : length (entries_at a (child_at es (j + 1))) ≡ length (entries_at a (child_at es i)) =
-          ap (λ n. length (entries_at a (child_at es n))) same in
-          omega arith
-    ];
-  }

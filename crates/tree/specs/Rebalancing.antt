@@ -1,5 +1,5 @@
 -- What must hold where nodes are changed, and the ones above them made right. This project's own.
-use Rattle.std.specs.Prelude.{◌≡◌, ◌≢◌, ◌≤◌, ◌<◌, ◌+◌, ◌*◌, ◌-◌, ◌⊎◌, ◌∷◌, ℕ, List, [], length, nat_eq, Option, Some, IfSome}
+use Rattle.std.specs.Prelude.{◌≡◌, ◌≢◌, ◌≤◌, ◌<◌, ◌+◌, ◌*◌, ◌-◌, ◌∷◌, ℕ, List, [], length, nat_eq, Option, Some, IfSome}
 use Rattle.std.specs.List.{All, IsDistinct}
 use Rattle.std.specs.FinMap as map_of
 use Rattle.arena.specs.Arena.{Arena, IsLive, spare_of}
@@ -81,12 +81,6 @@ module _ {N : ℕ} where
     pub keyless : IsKeyless nodes
     pub family : (height : ℕ) × IsFamily nodes (least_of N) height entries index (index + 2)
     pub headed : AllAreHeads bytes (all_heads_of nodes)
-
-  -- The child at an index and a neighbour, of which the first one stands at this index: they have too many entries for one node.
-  pub record CanShare (nodes : Arena (Node N)) (entries : List Entry) (index first : ℕ) : Type 0 where
-    pub within : first + 1 < length entries
-    pub beside : (first ≡ index) ⊎ (first + 1 ≡ index)
-    pub many : N < length (entries_at nodes (child_at entries first)) + length (entries_at nodes (child_at entries (first + 1)))
 
   -- the nodes of two slots
   pub record AreTwo (bytes : KeyBytes) (nodes : Arena (Node N)) (first second : ℕ) : Type 0 where

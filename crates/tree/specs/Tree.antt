@@ -50,7 +50,7 @@ expired edge before (x ∷ xs) =
 
 -- the least number of entries of a node that isn't the root
 abbrev pub least_of : ℕ → ℕ
-least_of fan_out = max (fan_out / 8 * 3) 2
+least_of fan_out = max (fan_out / 2) 2
 
 -- how many nodes a tree of the greatest height uses at most for a change, its root's right neighbour and its new root among them
 abbrev pub way : ℕ

@@ -68,14 +68,6 @@ module _ {N : ℕ} where
     pub headed : AllAreHeads bytes (all_heads_of nodes)
     pub known : IsPrefixLenAt bytes is_below target shared (entries_at nodes slot) 0
 
-  -- A subtree whose items stay: two of its leaves have shared their entries, or nothing was touched.
-  pub record KeepsItems (old new : Arena (Node N)) (height slot : ℕ) (has_shared : Bool) : Type 0 where
-    pub untouched : has_shared ≡ false → new ≡ old
-    pub items : items_in new height slot ≡ items_in old height slot
-    pub as_many : length (entries_at new slot) ≡ length (entries_at old slot)
-    pub changes : Changes old new (slots_in old height slot) (slots_in new height slot)
-    pub spare : spare_of old 0 ≤ spare_of new 0
-
   -- A subtree once it was changed, and the right neighbour that it was split from, if it was.
   pub record IsChanged (bytes : KeyBytes) (old new : Arena (Node N)) (height slot : ℕ) (outcome : Outcome) : Type 0 where
     pub same : outcome ≡ Same → new ≡ old

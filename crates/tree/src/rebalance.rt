@@ -15,11 +15,11 @@ use crate::entry::Entry;
 use crate::node::Node;
 use arena::{Arena, Slot};
 
-/// Returns the least number of entries of a node that isn't the root: three eighths of the greatest, but two at least.
+/// Returns the least number of entries of a node that isn't the root: half of the greatest, but two at least.
 pub fn least(fan_out: usize) -> usize
     ensures least { result ≡ least_of fan_out }
 {
-    (fan_out / 8 * 3).max(2)
+    (fan_out / 2).max(2)
 }
 
 /// Returns the entry for a child.
@@ -61,8 +61,8 @@ pub fn rebalance<P: Bound, const N: usize>(
     merge_or_redistribute(nodes, node, index.saturating_sub(1), bound);
 }
 
-/// Merges the children at an index and behind it, or shares their entries evenly where there are too many for one node.
-pub fn merge_or_redistribute<P: Bound, const N: usize>(
+// Merges the children at an index and behind it, or shares their entries evenly where there are too many for one node.
+fn merge_or_redistribute<P: Bound, const N: usize>(
     nodes: &mut Arena<Node<N>>,
     node: &mut Node<N>,
     index: usize,
@@ -74,9 +74,6 @@ pub fn merge_or_redistribute<P: Bound, const N: usize>(
         → IsRebalanced nodes.old nodes.new (least_of N) height (entries_of node.old) (entries_of node.new) }
     ensures rest { LosesOneAtMost (P.bytes bound.now) nodes.old nodes.new (entries_of node.old) (entries_of node.new) }
     ensures headed { AreHeads (P.bytes bound.now) (key_heads_of node.new) }
-    ensures as_many { N < length (entries_at nodes.old (child_at (entries_of node.old) index))
-        + length (entries_at nodes.old (child_at (entries_of node.old) (index + 1)))
-        → length (entries_of node.new) ≡ length (entries_of node.old) }
 {
     let first = node.entries()[index].child;
     let second = node.entries()[index + 1].child;

@@ -5,7 +5,7 @@ ghost use Rattle.std.specs.List.{All};
 ghost use Rattle.std.specs.FinMap as map_of;
 ghost use Rattle.arena.specs.Arena.{IsLive, spare_of};
 ghost use Rattle.tree.specs.Heads.{AllAreHeads, AreHeads, IsKnown, KeyBytes};
-ghost use Rattle.tree.specs.Rebalancing.{CanInsertChild, CanInsertEntry, CanRebalance, CanShare, IsStored, LosesOneAtMost};
+ghost use Rattle.tree.specs.Rebalancing.{CanInsertChild, CanInsertEntry, CanRebalance, IsStored, LosesOneAtMost};
 ghost use Rattle.tree.specs.Node.{entries_of, key_heads_of, all_heads_of, keys_of};
 ghost use Rattle.tree.specs.Subtree.{entries_at};
 ghost use Rattle.tree.specs.Tree.{least_of};
@@ -14,7 +14,7 @@ ghost use Rattle.tree.specs.Replace.{child_at, entries_at_both, entries_with, sl
 use crate::bound::Bound;
 use crate::entry::Entry;
 use crate::node::Node;
-use crate::rebalance::{entry_for, least, merge_or_redistribute, rebalance};
+use crate::rebalance::{entry_for, least, rebalance};
 use arena::{Arena, Slot};
 
 /// Makes the entry at an index right in the node at a slot, whose child was split, and puts one for the child's right
@@ -62,61 +62,6 @@ pub fn rebalance_child<P: Bound, const N: usize>(
     rebalance(nodes, &mut node, index, bound);
     node.lengthen_prefix(bound);
     nodes.set_header(slot, node);
-}
-
-/// Shares the entries of the child at an index with a neighbour, where the child is full or has room for one entry alone and
-/// a neighbour has room. Returns whether it did.
-pub fn share_full_child<P: Bound, const N: usize>(
-    nodes: &mut Arena<Node<N>>,
-    slot: Slot,
-    index: usize,
-    bound: &P,
-) -> bool
-    requires can_rebalance { CanRebalance (P.bytes bound.now) nodes.old slot index }
-    ensures untouched { result ≡ false → nodes.new ≡ nodes.old }
-    ensures rebalanced { IsTrue result → (height : ℕ) → IsFamilyAt nodes.old (least_of N) height slot index
-        → IsRebalancedAt nodes.old nodes.new (least_of N) height slot }
-    ensures as_many { length (entries_at nodes.new slot) ≡ length (entries_at nodes.old slot) }
-    ensures rest { LosesOneAtMost (P.bytes bound.now) nodes.old nodes.new (entries_at nodes.old slot) (entries_at nodes.new slot) }
-{
-    let Some(first) = first_to_share(nodes, slot, index) else {
-        return false;
-    };
-    let mut node = nodes.header(slot);
-    merge_or_redistribute(nodes, &mut node, first, bound);
-    node.lengthen_prefix(bound);
-    nodes.set_header(slot, node);
-    true
-}
-
-// Returns the index of the first one of two children that are to share their entries, if any: the child at an index, which is
-// full or has room for one entry alone, and a neighbour that has room.
-fn first_to_share<const N: usize>(nodes: &Arena<Node<N>>, slot: Slot, index: usize) -> Option<usize>
-    requires fan_out { 4 ≤ N }
-    requires live { IsLive nodes.now slot }
-    requires within { index < length (entries_at nodes.now slot) }
-    requires family { (height : ℕ) × IsFamilyAt nodes.now (least_of N) height slot index }
-    ensures first { IfSome result (CanShare nodes.now (entries_at nodes.now slot) index) }
-{
-    let entries = nodes.header_ref(slot).entries();
-    if nodes.header_ref(entries[index].child).len() <= N - 2 {
-        return None;
-    }
-    if index + 1 < entries.len() && has_room(nodes, entries[index + 1].child) {
-        return Some(index);
-    }
-    if index > 0 && has_room(nodes, entries[index - 1].child) {
-        return Some(index - 1);
-    }
-    None
-}
-
-// Returns whether the node at a slot has at most three quarters of the greatest number of entries.
-fn has_room<const N: usize>(nodes: &Arena<Node<N>>, slot: Slot) -> bool
-    requires live { IsLive nodes.now slot }
-    ensures room { IsTrue result ↔ (length (entries_at nodes.now slot) ≤ N / 4 * 3) }
-{
-    nodes.header_ref(slot).len() <= N / 4 * 3
 }
 
 /// Makes the entry at an index right in the node at a slot, whose child has changed: an item of this version was

@@ -1,17 +1,15 @@
 //! The one way into a tree: a walk to a leaf, a change of the leaf where it lies, and the rebalancing of the nodes above it.
 
-ghost use Rattle.std.specs.Prelude.{◌≡◌, ◌≤◌, ◌++◌, ℕ, Bool, List, Option, [], map, IfSome};
-ghost use Rattle.arena.specs.Arena.{header_at};
-ghost use Rattle.tree.specs.Finding.{IsStep};
+ghost use Rattle.std.specs.Prelude.{◌≡◌, ◌++◌, ℕ, Bool, List, Option, [], map};
 ghost use Rattle.tree.specs.Item.{Item, item_of};
 ghost use Rattle.tree.specs.Replace.{items_with};
 ghost use Rattle.tree.specs.Subtree.{items_in};
-ghost use Rattle.tree.specs.Walk.{added_by, CanChange, CanSearch, IsChanged, IsChangedWithin, KeepsItems};
+ghost use Rattle.tree.specs.Walk.{added_by, CanChange, CanSearch, IsChanged, IsChangedWithin};
 
 use crate::bound::Bound;
 use crate::entry::Entry;
-use crate::node::{Node, Step};
-use crate::replace::{insert_child, raise_entry, rebalance_child, share_full_child};
+use crate::node::Node;
+use crate::replace::{insert_child, raise_entry, rebalance_child};
 use crate::search::key_at;
 use crate::way::Way;
 use arena::{Arena, Slot};
@@ -119,15 +117,9 @@ pub fn change_leaf<C: LeafChange<N>, const N: usize>(
     if height == 0 {
         return change.change(nodes, slot, place, taken);
     }
-    let (step, has_shared) = step_down(
-        nodes,
-        slot,
-        height,
-        change.leaf_bound(),
-        place.common_prefix_len,
-        way,
-    );
-    let entries = nodes.header_ref(slot).entries();
+    let node = nodes.header_ref(slot);
+    let step = way.step(node, height, change.leaf_bound(), place.common_prefix_len);
+    let entries = node.entries();
     let child = entries[step.index].child;
     let below = Place {
         common_prefix_len: step.common_prefix_len,
@@ -135,7 +127,6 @@ pub fn change_leaf<C: LeafChange<N>, const N: usize>(
         is_first: place.is_first && step.index == 0,
     };
     match change_leaf(nodes, child, height - 1, change, below, taken, way) {
-        Outcome::Same if has_shared => Outcome::Changed,
         Outcome::Same => Outcome::Same,
         Outcome::Raised(version) => {
             raise_entry(nodes, slot, step.index, version, change.leaf_bound());
@@ -152,33 +143,4 @@ pub fn change_leaf<C: LeafChange<N>, const N: usize>(
             }
         }
     }
-}
-
-// Finds the child in which a walk goes on. A leaf that is full, or has room for one entry alone, shares its entries with a
-// neighbour first, so that it is split only where both its neighbours are fuller. Returns whether it did.
-fn step_down<P: Bound, const N: usize>(
-    nodes: &mut Arena<Node<N>>,
-    slot: Slot,
-    height: usize,
-    bound: &P,
-    common_prefix_len: Option<usize>,
-    way: &mut Way,
-) -> (Step, bool)
-    requires above { 1 ≤ height }
-    requires changeable { CanChange nodes.old height slot }
-    requires searched { CanSearch (P.bytes bound.now) (P.below bound.now) (P.target bound.now) nodes.old height slot
-        common_prefix_len }
-    ensures step { IfSome (header_at nodes.new slot)
-        (λ node. IsStep (P.bytes bound.now) (P.below bound.now) (P.target bound.now) node result.0) }
-    ensures changeable { CanChange nodes.new height slot }
-    ensures searched { CanSearch (P.bytes bound.now) (P.below bound.now) (P.target bound.now) nodes.new height slot
-        common_prefix_len }
-    ensures kept { KeepsItems nodes.old nodes.new height slot result.1 }
-{
-    let step = way.step(nodes.header_ref(slot), height, bound, common_prefix_len);
-    if height > 1 || !share_full_child(nodes, slot, step.index, bound) {
-        return (step, false);
-    }
-    let step = nodes.header_ref(slot).step(bound, common_prefix_len);
-    (step, true)
 }

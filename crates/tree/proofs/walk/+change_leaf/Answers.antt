@@ -1,10 +1,7 @@
 use Rattle.std.proofs.Common.{◌≡◌, ◌≤◌, ◌<◌, ◌+◌, ◌-◌, ◌⊎◌, ℕ, suc, Bool, true, false, List, ◌++◌, Option, None, Some, SFits, w64, length, get_or, map, take, drop, refl, sym, ap, subst, ◌∙◌, arith, rules}
 use Rattle.std.proofs.lemmas.Int.{to_z-of_z}
-use Rattle.std.specs.Prelude.{IfSome}
-use Rattle.tree.specs.declared.walk.Outcome.TheVariants.{Same, Raised, Changed, Split}
-use Rattle.tree.specs.Finding.{IsStep}
 use Rattle.tree.specs.Item.{Item, item_of}
-use Rattle.tree.specs.Heads.{AllAreHeads}
+use Rattle.tree.specs.Heads.{AllAreHeads, IsPrefixLenAt}
 use Rattle.tree.specs.Node.{entries_of, all_heads_of}
 use Rattle.tree.specs.Path.{index_in, first_key}
 use Rattle.tree.specs.Subtree.{entries_at, items_in, slots_in}
@@ -14,9 +11,10 @@ use Rattle.tree.specs.Walk.{CanChange, CanSearch, IsChanged, IsChangedWithin, ad
 use Rattle.tree.proofs.callers.Times.{distinct_if_once}
 use Rattle.tree.proofs.Changing.{moves_if_changes}
 use Rattle.tree.proofs.FirstKeys.{known_below}
-use Rattle.tree.proofs.Found.{found, found_subtree, found_partitioned}
+use Rattle.tree.proofs.Headed.{headed_at}
+use Rattle.tree.proofs.Placing.{entries_from_header}
+use Rattle.tree.proofs.Found.{read_partitioned, found, found_subtree, found_partitioned}
 use Rattle.tree.proofs.Replacing.{child_right, child_few}
-use Rattle.tree.proofs.SharedLeaves.{changed_behind, same_behind, within_behind}
 use Rattle.tree.proofs.Stepping.{IsAt, is_at, items_split, live_beside, read_beside, family_at, stepped_rebalanced, stepped_linked}
 use Rattle.tree.proofs.Walking.{first_if, within_at, raised_at}
 use Rattle.tree.proofs.Walked.{within_leaf, same_above, changed_above, raised_too, linked_above}
@@ -65,55 +63,55 @@ returns-then-height-eq0-clause-items g t c =
     (items_with c.change.new.nodes n c.args.slot (added_by c.change.result)))
     (sym c.if-height-eq0.true) c.change.ensures.items)
 
+pub step-step-requires : goal.step-step-requires
+step-step-requires g t c =
+    let a = c.args.nodes.now in
+    let slot = c.args.slot in
+    let leaf_bound = g.C.LeafChange.bound_of c.args.change.now in
+    let bytes = g.C.LeafBound.Bound.bytes leaf_bound in
+    let is_below = g.C.LeafBound.Bound.below leaf_bound in
+    let target = g.C.LeafBound.Bound.target leaf_bound in
+    let node = c.header_ref-node.result.now in
+    let header = c.header_ref-node.ensures.header in
+    let read = entries_from_header a slot node header in
+    rw c.leaf_bound.ensures.leaf_bound (
+      search rules,
+      (
+        record {
+          headed = headed_at bytes a slot node c.requires.searched.headed header;
+          partitioned = read_partitioned a (least_of g.row.N) c.args.height slot is_below node (entries_of node) c.if-height-eq0.false
+              c.requires.changeable.subtree c.requires.searched.partitioned header refl;
+          some = omega (arith, ap length read, c.requires.changeable.some);
+        },
+        subst (λ l. IsPrefixLenAt bytes is_below target c.args.place.common_prefix_len l 0) read c.requires.searched.known,
+      ),
+    )
+
 one_up : (n : ℕ) → ¬ (n ≡ 0) → suc (n - 1) ≡ n
 one_up n some = omega (arith, some)
 
--- the step that was found
-step_is : (g : Over) (t : ℕ) (c : After-index-entries-step g t)
-    → IsStep (g.C.LeafBound.Bound.bytes (g.C.LeafChange.bound_of c.args.change.now))
-    (g.C.LeafBound.Bound.below (g.C.LeafChange.bound_of c.args.change.now))
-    (g.C.LeafBound.Bound.target (g.C.LeafChange.bound_of c.args.change.now)) c.header_ref.result.now c.step_down-has_shared.result.0
-step_is g t c =
-    let p = c.leaf_bound.result.now in
-    let step = c.step_down-has_shared.result.0 in
-    subst (λ p. IsStep (g.C.LeafBound.Bound.bytes p) (g.C.LeafBound.Bound.below p) (g.C.LeafBound.Bound.target p)
-    c.header_ref.result.now step) c.leaf_bound.ensures.leaf_bound
-    (subst (λ o. IfSome o (λ node. IsStep (g.C.LeafBound.Bound.bytes p) (g.C.LeafBound.Bound.below p)
-    (g.C.LeafBound.Bound.target p) node step)) c.header_ref.ensures.header c.step_down-has_shared.ensures.step)
-
--- the search behind the sharing
-searched : (g : Over) (t : ℕ) (c : After-index-entries-step g t)
-    → CanSearch (g.C.LeafBound.Bound.bytes (g.C.LeafChange.bound_of c.args.change.now))
-    (g.C.LeafBound.Bound.below (g.C.LeafChange.bound_of c.args.change.now))
-    (g.C.LeafBound.Bound.target (g.C.LeafChange.bound_of c.args.change.now)) c.step_down-has_shared.new.nodes c.args.height
-    c.args.slot c.args.place.common_prefix_len
-searched g t c =
-    subst (λ p. CanSearch (g.C.LeafBound.Bound.bytes p) (g.C.LeafBound.Bound.below p) (g.C.LeafBound.Bound.target p)
-    c.step_down-has_shared.new.nodes c.args.height c.args.slot c.args.place.common_prefix_len) c.leaf_bound.ensures.leaf_bound
-    c.step_down-has_shared.ensures.searched
-
 -- the node at the slot, and the child at which the walk goes on
 at_child : (g : Over) (t : ℕ) (c : After-index-entries-step g t)
-    → IsAt c.step_down-has_shared.new.nodes (least_of g.row.N) (c.args.height - 1) c.args.slot
+    → IsAt c.args.nodes.now (least_of g.row.N) (c.args.height - 1) c.args.slot
     (g.C.LeafBound.Bound.below (g.C.LeafChange.bound_of c.args.change.now))
-    (entries_of c.header_ref.result.now) c.step_down-has_shared.result.0.index
-    (get_or c.entries-entries.result.now c.step_down-has_shared.result.0.index c.index-entries-step.result).child
+    (entries_of c.header_ref-node.result.now) c.step-step.result.index
+    (get_or c.entries-entries.result.now c.step-step.result.index c.index-entries-step.result).child
     c.index-entries-step.result
 at_child g t c =
     let is_below = g.C.LeafBound.Bound.below (g.C.LeafChange.bound_of c.args.change.now) in
-    let es = entries_of c.header_ref.result.now in
-    is_at c.step_down-has_shared.new.nodes (least_of g.row.N) c.args.height (c.args.height - 1) c.args.slot is_below
-    c.header_ref.result.now es c.entries-entries.result.now c.step_down-has_shared.result.0.index c.index-entries-step.result
-    (one_up c.args.height c.if-height-eq0.false) c.step_down-has_shared.ensures.changeable.subtree
-    c.step_down-has_shared.ensures.changeable.distinct
-    c.header_ref.ensures.header refl c.entries-entries.ensures.entries
-    (step_is g t c).index_is (step_is g t c).within
+    let es = entries_of c.header_ref-node.result.now in
+    is_at c.args.nodes.now (least_of g.row.N) c.args.height (c.args.height - 1) c.args.slot is_below
+    c.header_ref-node.result.now es c.entries-entries.result.now c.step-step.result.index c.index-entries-step.result
+    (one_up c.args.height c.if-height-eq0.false) c.requires.changeable.subtree c.requires.changeable.distinct
+    c.header_ref-node.ensures.header refl c.entries-entries.ensures.entries
+    (subst (λ p. c.step-step.result.index ≡ index_in (g.C.LeafBound.Bound.below p) es) c.leaf_bound.ensures.leaf_bound
+    c.step-step.ensures.step.index_is)
+    c.step-step.ensures.step.within
 
 pub change_leaf-requires : goal.change_leaf-requires
 change_leaf-requires g t c κs within =
-    let here = (goal.at.change_leaf-requires g t c).After-index-entries-step in
-    let at = at_child g t here in
-    let a = c.step_down-has_shared.new.nodes in
+    let at = at_child g t (goal.at.change_leaf-requires g t c).After-index-entries-step in
+    let a = c.args.nodes.now in
     let L = least_of g.row.N in
     let n = c.args.height in
     let h = n - 1 in
@@ -122,39 +120,39 @@ change_leaf-requires g t c κs within =
     let bytes = g.C.LeafBound.Bound.bytes leaf_bound in
     let is_below = g.C.LeafBound.Bound.below leaf_bound in
     let target = g.C.LeafBound.Bound.target leaf_bound in
-    let node = c.header_ref.result.now in
+    let node = c.header_ref-node.result.now in
     let es = entries_of node in
-    let i = c.step_down-has_shared.result.0.index in
+    let i = c.step-step.result.index in
     let d = c.index-entries-step.result in
     let vs = c.entries-entries.result.now in
     let x = (get_or vs i d).child in
-    let step = step_is g t here in
-    let sought = searched g t here in
-    let f = found a L n slot is_below node vs i d c.if-height-eq0.false c.step_down-has_shared.ensures.changeable.subtree
-    sought.partitioned c.header_ref.ensures.header c.entries-entries.ensures.entries
-    (step.index_is ∙ ap (index_in is_below) (sym c.entries-entries.ensures.entries)) in
+    let step = subst (λ p. (i ≡ index_in (g.C.LeafBound.Bound.below p) es)
+    × IsPrefixLenAt (g.C.LeafBound.Bound.bytes p) (g.C.LeafBound.Bound.below p) (g.C.LeafBound.Bound.target p) c.step-step.result.common_prefix_len es i)
+    c.leaf_bound.ensures.leaf_bound (c.step-step.ensures.step.index_is, c.step-step.ensures.step.knows) in
+    let f = found a L n slot is_below node vs i d c.if-height-eq0.false c.requires.changeable.subtree
+    c.requires.searched.partitioned c.header_ref-node.ensures.header c.entries-entries.ensures.entries
+    (step.0 ∙ ap (index_in is_below) (sym c.entries-entries.ensures.entries)) in
     let right = child_right a a L h es i x d at.within at.x_is at.few_below at.right in
     let filled : L ≤ length (entries_at a x) = subst (λ z. L ≤ length (entries_at a z)) (sym at.x_is) right.filled in
     let can : CanChange a h x = record {
-      fan_out = c.step_down-has_shared.ensures.changeable.fan_out;
-      few = c.step_down-has_shared.ensures.changeable.few;
+      fan_out = c.requires.changeable.fan_out;
+      few = c.requires.changeable.few;
       subtree = found_subtree a L n slot is_below x f;
       some = omega (arith, filled);
       branches = λ _. omega (arith, filled);
       distinct = distinct_if_once (slots_in a h x) (child_few a a L h es i x d at.within at.x_is at.few_below at.right);
-      keyless = c.step_down-has_shared.ensures.changeable.keyless;
-      room = omega (arith, c.step_down-has_shared.ensures.changeable.room);
+      keyless = c.requires.changeable.keyless;
+      room = omega (arith, c.requires.changeable.room);
     } in
-    let search_on : CanSearch bytes is_below target a h x c.step_down-has_shared.result.0.common_prefix_len = record {
+    let search_on : CanSearch bytes is_below target a h x c.step-step.result.common_prefix_len = record {
       partitioned = found_partitioned a L n slot is_below x f;
-      headed = sought.headed;
-      known = known_below a L n slot is_below x f bytes target c.step_down-has_shared.result.0.common_prefix_len node i
-          c.header_ref.ensures.header step.index_is step.knows;
+      headed = c.requires.searched.headed;
+      known = known_below a L n slot is_below x f bytes target c.step-step.result.common_prefix_len node i
+          c.header_ref-node.ensures.header step.0 step.1;
     } in
     let split = items_split a L n h slot is_below es i x d (one_up n c.if-height-eq0.false) at in
     let wanted = g.met.C.LeafChange.part c.args.change.now (items_of a h (take i es)) (items_in a h x)
-    (items_of a h (drop (i + 1) es))
-    (subst (g.C.LeafChange.wants c.args.change.now) (sym c.step_down-has_shared.ensures.kept.items ∙ split) c.requires.wanted) in (
+    (items_of a h (drop (i + 1) es)) (subst (g.C.LeafChange.wants c.args.change.now) split c.requires.wanted) in (
       search rules,
       (search rules, (search rules, (search rules, (search rules, (search rules, (can, (search_on, (wanted, c.requires.none_taken)))))))),
     )
@@ -162,15 +160,15 @@ change_leaf-requires g t c κs within =
 pub raise_entry-requires : goal.raise_entry-requires
 raise_entry-requires g t c =
     let at = at_child g t (goal.at.raise_entry-requires g t c).After-index-entries-step in
-    let a = c.step_down-has_shared.new.nodes in
+    let a = c.args.nodes.now in
     let b = c.change_leaf.new.nodes in
     let L = least_of g.row.N in
     let n = c.args.height in
     let h = n - 1 in
     let slot = c.args.slot in
     let is_below = g.C.LeafBound.Bound.below (g.C.LeafChange.bound_of c.args.change.now) in
-    let es = entries_of c.header_ref.result.now in
-    let i = c.step_down-has_shared.result.0.index in
+    let es = entries_of c.header_ref-node.result.now in
+    let i = c.step-step.result.index in
     let d = c.index-entries-step.result in
     let x = (get_or c.entries-entries.result.now i d).child in
     let put = c.in-Raised.ensures.changed in
@@ -178,10 +176,10 @@ raise_entry-requires g t c =
     let read = read_beside a b L h slot is_below es i x d (slots_in b h x) at moves in
     let several : 2 ≤ length (entries_at b slot) =
     subst (λ l. 2 ≤ length l) (at.read ∙ sym read)
-    (c.step_down-has_shared.ensures.changeable.branches (omega (arith, c.if-height-eq0.false))) in (
+    (c.requires.changeable.branches (omega (arith, c.if-height-eq0.false))) in (
       search rules,
       record {
-        fan_out = c.step_down-has_shared.ensures.changeable.fan_out;
+        fan_out = c.requires.changeable.fan_out;
         live = live_beside a b L h slot is_below es i x d (slots_in b h x) at moves;
         within = subst (λ l. i < length l) (sym read) at.within;
         several = several;
@@ -195,15 +193,15 @@ raise_entry-requires g t c =
 pub rebalance_child-requires : goal.rebalance_child-requires
 rebalance_child-requires g t c =
     let at = at_child g t (goal.at.rebalance_child-requires g t c).After-index-entries-step in
-    let a = c.step_down-has_shared.new.nodes in
+    let a = c.args.nodes.now in
     let b = c.change_leaf.new.nodes in
     let L = least_of g.row.N in
     let n = c.args.height in
     let h = n - 1 in
     let slot = c.args.slot in
     let is_below = g.C.LeafBound.Bound.below (g.C.LeafChange.bound_of c.args.change.now) in
-    let es = entries_of c.header_ref.result.now in
-    let i = c.step_down-has_shared.result.0.index in
+    let es = entries_of c.header_ref-node.result.now in
+    let i = c.step-step.result.index in
     let d = c.index-entries-step.result in
     let x = (get_or c.entries-entries.result.now i d).child in
     let put = c.in-Changed.ensures.changed in
@@ -211,10 +209,10 @@ rebalance_child-requires g t c =
     let read = read_beside a b L h slot is_below es i x d (slots_in b h x) at moves in
     let several : 2 ≤ length (entries_at b slot) =
     subst (λ l. 2 ≤ length l) (at.read ∙ sym read)
-    (c.step_down-has_shared.ensures.changeable.branches (omega (arith, c.if-height-eq0.false))) in (
+    (c.requires.changeable.branches (omega (arith, c.if-height-eq0.false))) in (
       search rules,
       record {
-        fan_out = c.step_down-has_shared.ensures.changeable.fan_out;
+        fan_out = c.requires.changeable.fan_out;
         live = live_beside a b L h slot is_below es i x d (slots_in b h x) at moves;
         within = subst (λ l. i < length l) (sym read) at.within;
         several = several;
@@ -228,14 +226,14 @@ rebalance_child-requires g t c =
 pub insert_child-requires : goal.insert_child-requires
 insert_child-requires g t c =
     let at = at_child g t (goal.at.insert_child-requires g t c).After-index-entries-step in
-    let a = c.step_down-has_shared.new.nodes in
+    let a = c.args.nodes.now in
     let b = c.change_leaf.new.nodes in
     let L = least_of g.row.N in
     let h = c.args.height - 1 in
     let slot = c.args.slot in
     let is_below = g.C.LeafBound.Bound.below (g.C.LeafChange.bound_of c.args.change.now) in
-    let es = entries_of c.header_ref.result.now in
-    let i = c.step_down-has_shared.result.0.index in
+    let es = entries_of c.header_ref-node.result.now in
+    let i = c.step-step.result.index in
     let d = c.index-entries-step.result in
     let x = (get_or c.entries-entries.result.now i d).child in
     let s = c.in-Split.added in
@@ -249,13 +247,13 @@ insert_child-requires g t c =
     let filled_added : L ≤ length (entries_at b s) = put.filled.1 in (
       search rules,
       record {
-        fan_out = c.step_down-has_shared.ensures.changeable.fan_out;
+        fan_out = c.requires.changeable.fan_out;
         live = live_beside a b L h slot is_below es i x d now at moves;
         within = subst (λ l. i < length l) (sym read) at.within;
         some = omega (arith, filled);
         some_added = omega (arith, filled_added);
         keyless = moves.keyless;
-        room = omega (arith, put.taken, c.step_down-has_shared.ensures.changeable.room, c.if-height-eq0.false);
+        room = omega (arith, put.taken, c.requires.changeable.room, c.if-height-eq0.false);
         headed = subst (λ p. AllAreHeads (g.C.LeafBound.Bound.bytes p) (all_heads_of b))
             (sym (c.leaf_bound-in-Split.ensures.leaf_bound ∙ c.in-Split.ensures.leaf_bound)) put.headed;
       },
@@ -264,98 +262,70 @@ insert_child-requires g t c =
 -- A leaf of the child is changed.
 within : (g : Over) (t : ℕ) (c : After-index-entries-step g t) (below : Bool) (key : Option ℕ)
     (Gives : Bool → Option ℕ → List Item → List Item → Type 0) (now all : List Item)
-    → (below ≡ true → (c.args.place.is_first ≡ true) × (c.step_down-has_shared.result.0.index ≡ 0))
-    → (below ≡ false → ((c.args.place.is_first ≡ true) × (c.step_down-has_shared.result.0.index ≡ 0 → ⊥))
-    ⊎ (c.args.place.is_first ≡ false))
-    → key ≡ first_key c.args.place.behind
-    (map item_of (drop (c.step_down-has_shared.result.0.index + 1) c.entries-entries.result.now))
-    → all ≡ items_of c.step_down-has_shared.new.nodes (c.args.height - 1)
-    (take c.step_down-has_shared.result.0.index (entries_of c.header_ref.result.now))
-    ++ (now ++ items_of c.step_down-has_shared.new.nodes (c.args.height - 1)
-    (drop (c.step_down-has_shared.result.0.index + 1) (entries_of c.header_ref.result.now)))
+    → (below ≡ true → (c.args.place.is_first ≡ true) × (c.step-step.result.index ≡ 0))
+    → (below ≡ false → ((c.args.place.is_first ≡ true) × (c.step-step.result.index ≡ 0 → ⊥)) ⊎ (c.args.place.is_first ≡ false))
+    → key ≡ first_key c.args.place.behind (map item_of (drop (c.step-step.result.index + 1) c.entries-entries.result.now))
+    → all ≡ items_of c.args.nodes.now (c.args.height - 1)
+    (take c.step-step.result.index (entries_of c.header_ref-node.result.now))
+    ++ (now ++ items_of c.args.nodes.now (c.args.height - 1)
+    (drop (c.step-step.result.index + 1) (entries_of c.header_ref-node.result.now)))
     → IsChangedWithin (g.C.LeafBound.Bound.below (g.C.LeafChange.bound_of c.args.change.now)) Gives below key
-    (items_in c.step_down-has_shared.new.nodes (c.args.height - 1)
-    (get_or c.entries-entries.result.now c.step_down-has_shared.result.0.index c.index-entries-step.result).child) now
+    (items_in c.args.nodes.now (c.args.height - 1)
+    (get_or c.entries-entries.result.now c.step-step.result.index c.index-entries-step.result).child) now
     → IsChangedWithin (g.C.LeafBound.Bound.below (g.C.LeafChange.bound_of c.args.change.now)) Gives
     c.args.place.is_first c.args.place.behind (items_in c.args.nodes.now c.args.height c.args.slot) all
 within g t c below key Gives now all both one key_is all_is changed =
-    let i = c.step_down-has_shared.result.0.index in
-    let is_below = g.C.LeafBound.Bound.below (g.C.LeafChange.bound_of c.args.change.now) in
-    within_behind c.args.nodes.now c.step_down-has_shared.new.nodes c.args.height c.args.slot c.step_down-has_shared.result.1
-    c.step_down-has_shared.ensures.kept is_below Gives c.args.place.is_first c.args.place.behind all
-    (within_at c.step_down-has_shared.new.nodes (least_of g.row.N) c.args.height (c.args.height - 1) c.args.slot
-    is_below (entries_of c.header_ref.result.now) i
+    let i = c.step-step.result.index in
+    within_at c.args.nodes.now (least_of g.row.N) c.args.height (c.args.height - 1) c.args.slot
+    (g.C.LeafBound.Bound.below (g.C.LeafChange.bound_of c.args.change.now))
+    (entries_of c.header_ref-node.result.now) i
     (get_or c.entries-entries.result.now i c.index-entries-step.result).child
     c.index-entries-step.result (one_up c.args.height c.if-height-eq0.false) (at_child g t c) Gives
-    c.args.place.is_first below c.args.place.behind key now all c.step_down-has_shared.ensures.changeable.subtree
-    (searched g t c).partitioned (first_if below c.args.place.is_first i both one)
+    c.args.place.is_first below c.args.place.behind key now all c.requires.changeable.subtree
+    c.requires.searched.partitioned (first_if below c.args.place.is_first i both one)
     (key_is ∙ ap (λ l. first_key c.args.place.behind (map item_of (drop (i + 1) l))) c.entries-entries.ensures.entries)
-    all_is changed)
+    all_is changed
 
 pub returns-in-Same-clause-changed : goal.returns-in-Same-clause-changed
 returns-in-Same-clause-changed g t c =
     let at = at_child g t (goal.at.returns-in-Same-clause-changed g t c).After-index-entries-step in
-    same_behind _ _ _ _ _ _ _ c.step_down-has_shared.ensures.kept
-    (same_above _ _ _ _ _ _ _ _ _ _ _ (one_up c.args.height c.if-height-eq0.false) at c.step_down-has_shared.ensures.changeable
-    c.in-Same.ensures.changed)
-
-pub returns-in-Same-2-clause-changed : goal.returns-in-Same-2-clause-changed
-returns-in-Same-2-clause-changed g t c =
-    let at = at_child g t (goal.at.returns-in-Same-2-clause-changed g t c).After-index-entries-step in
-    changed_behind _ _ _ _ _ _ _ c.step_down-has_shared.ensures.kept Same (λ is. c.if-has_shared.false)
-    (same_above _ _ _ _ _ _ _ _ _ _ _ (one_up c.args.height c.if-height-eq0.false) at c.step_down-has_shared.ensures.changeable
-    c.in-Same-2.ensures.changed)
+    same_above _ _ _ _ _ _ _ _ _ _ _ (one_up c.args.height c.if-height-eq0.false) at c.requires.changeable
+    c.in-Same.ensures.changed
 
 pub returns-in-Same-clause-items : goal.returns-in-Same-clause-items
 returns-in-Same-clause-items g t c =
     let here = goal.at.returns-in-Same-clause-items g t c in
     let at = at_child g t here.After-index-entries-step in
-    let a = c.step_down-has_shared.new.nodes in
+    let a = c.args.nodes.now in
     let n = c.args.height in
     let h = n - 1 in
     let slot = c.args.slot in
-    let es = entries_of c.header_ref.result.now in
-    let i = c.step_down-has_shared.result.0.index in
+    let es = entries_of c.header_ref-node.result.now in
+    let i = c.step-step.result.index in
     let x = (get_or c.entries-entries.result.now i c.index-entries-step.result).child in
     let split = items_split a (least_of g.row.N) n h slot _ es i x _ (one_up n c.if-height-eq0.false) at in
     within g t here.After-index-entries-step _ _ _ _ _ c.if-place.below-true c.if-place.below-false c.key_at.ensures.key
     (subst (λ b. items_in b n slot ≡ items_of a h (take i es) ++ (items_in b h x ++ items_of a h (drop (i + 1) es)))
     (sym (c.in-Same.ensures.changed.same refl)) split) c.in-Same.ensures.items
 
-pub returns-in-Same-2-clause-items : goal.returns-in-Same-2-clause-items
-returns-in-Same-2-clause-items g t c =
-    let here = goal.at.returns-in-Same-2-clause-items g t c in
-    let at = at_child g t here.After-index-entries-step in
-    let a = c.step_down-has_shared.new.nodes in
-    let n = c.args.height in
-    let h = n - 1 in
-    let slot = c.args.slot in
-    let es = entries_of c.header_ref.result.now in
-    let i = c.step_down-has_shared.result.0.index in
-    let x = (get_or c.entries-entries.result.now i c.index-entries-step.result).child in
-    let split = items_split a (least_of g.row.N) n h slot _ es i x _ (one_up n c.if-height-eq0.false) at in
-    within g t here.After-index-entries-step _ _ _ _ _ c.if-place.below-true c.if-place.below-false c.key_at.ensures.key
-    (subst (λ b. items_in b n slot ≡ items_of a h (take i es) ++ (items_in b h x ++ items_of a h (drop (i + 1) es)))
-    (sym (c.in-Same-2.ensures.changed.same refl)) split) c.in-Same-2.ensures.items
-
 -- the node rebalanced where an item of one version came in
 raised_entry : (g : Over) (t : ℕ) (c : After-raise_entry g t)
-    → IsAt c.step_down-has_shared.new.nodes (least_of g.row.N) (c.args.height - 1) c.args.slot
+    → IsAt c.args.nodes.now (least_of g.row.N) (c.args.height - 1) c.args.slot
     (g.C.LeafBound.Bound.below (g.C.LeafChange.bound_of c.args.change.now))
-    (entries_of c.header_ref.result.now) c.step_down-has_shared.result.0.index
-    (get_or c.entries-entries.result.now c.step_down-has_shared.result.0.index c.index-entries-step.result).child
+    (entries_of c.header_ref-node.result.now) c.step-step.result.index
+    (get_or c.entries-entries.result.now c.step-step.result.index c.index-entries-step.result).child
     c.index-entries-step.result
     → IsRebalancedAt c.change_leaf.new.nodes c.raise_entry.new.nodes (least_of g.row.N) (c.args.height - 1) c.args.slot
 raised_entry g t c at =
-    let a = c.step_down-has_shared.new.nodes in
+    let a = c.args.nodes.now in
     let b = c.change_leaf.new.nodes in
     let L = least_of g.row.N in
     let n = c.args.height in
     let h = n - 1 in
     let slot = c.args.slot in
     let is_below = g.C.LeafBound.Bound.below (g.C.LeafChange.bound_of c.args.change.now) in
-    let es = entries_of c.header_ref.result.now in
-    let i = c.step_down-has_shared.result.0.index in
+    let es = entries_of c.header_ref-node.result.now in
+    let i = c.step-step.result.index in
     let d = c.index-entries-step.result in
     let x = (get_or c.entries-entries.result.now i d).child in
     let next = one_up n c.if-height-eq0.false in
@@ -374,14 +344,12 @@ returns-in-Raised-clause-changed g t c =
     let at = at_child g t here.After-index-entries-step in
     let put = c.in-Raised.ensures.changed in
     let fits : SFits w64 c.in-Raised.version = search rules in
-    rw (to_z-of_z w64 c.in-Raised.version fits)
-    (changed_behind _ _ _ _ _ _ _ c.step_down-has_shared.ensures.kept (Raised c.in-Raised.version) (λ is. absurd (cc))
-    (raised_too _ _ _ _ _ _ _ _ _ _ _ (one_up c.args.height c.if-height-eq0.false) at c.step_down-has_shared.ensures.changeable
+    rw (to_z-of_z w64 c.in-Raised.version fits) (raised_too _ _ _ _ _ _ _ _ _ _ _ (one_up c.args.height c.if-height-eq0.false) at c.requires.changeable
     c.raise_entry.new.nodes
     (subst (λ p. AllAreHeads (g.C.LeafBound.Bound.bytes p) (all_heads_of c.raise_entry.new.nodes))
     (c.leaf_bound-in-Raised.ensures.leaf_bound ∙ c.in-Raised.ensures.leaf_bound) c.raise_entry.ensures.rest.headed)
     put.subtree put.changes put.taken (raised_entry g t here.After-raise_entry at) c.raise_entry.ensures.rest.few_less
-    c.raise_entry.ensures.rest.spare c.in-Raised.version put))
+    c.raise_entry.ensures.rest.spare c.in-Raised.version put)
 
 pub returns-in-Raised-clause-items : goal.returns-in-Raised-clause-items
 returns-in-Raised-clause-items g t c =
@@ -395,10 +363,10 @@ returns-in-Raised-clause-items g t c =
 
 -- the node rebalanced where the child has other items
 rebalanced : (g : Over) (t : ℕ) (c : After-rebalance_child g t)
-    → IsAt c.step_down-has_shared.new.nodes (least_of g.row.N) (c.args.height - 1) c.args.slot
+    → IsAt c.args.nodes.now (least_of g.row.N) (c.args.height - 1) c.args.slot
     (g.C.LeafBound.Bound.below (g.C.LeafChange.bound_of c.args.change.now))
-    (entries_of c.header_ref.result.now) c.step_down-has_shared.result.0.index
-    (get_or c.entries-entries.result.now c.step_down-has_shared.result.0.index c.index-entries-step.result).child
+    (entries_of c.header_ref-node.result.now) c.step-step.result.index
+    (get_or c.entries-entries.result.now c.step-step.result.index c.index-entries-step.result).child
     c.index-entries-step.result
     → IsRebalancedAt c.change_leaf.new.nodes c.rebalance_child.new.nodes (least_of g.row.N) (c.args.height - 1) c.args.slot
 rebalanced g t c at =
@@ -412,13 +380,12 @@ returns-in-Changed-clause-changed g t c =
     let here = goal.at.returns-in-Changed-clause-changed g t c in
     let at = at_child g t here.After-index-entries-step in
     let put = c.in-Changed.ensures.changed in
-    changed_behind _ _ _ _ _ _ _ c.step_down-has_shared.ensures.kept Changed (λ is. absurd (cc))
-    (changed_above _ _ _ _ _ _ _ _ _ _ _ (one_up c.args.height c.if-height-eq0.false) at c.step_down-has_shared.ensures.changeable
+    changed_above _ _ _ _ _ _ _ _ _ _ _ (one_up c.args.height c.if-height-eq0.false) at c.requires.changeable
     c.rebalance_child.new.nodes
     (subst (λ p. AllAreHeads (g.C.LeafBound.Bound.bytes p) (all_heads_of c.rebalance_child.new.nodes))
     (c.leaf_bound-in-Changed.ensures.leaf_bound ∙ c.in-Changed.ensures.leaf_bound) c.rebalance_child.ensures.rest.headed)
     put.subtree put.changes put.taken (rebalanced g t here.After-rebalance_child at) c.rebalance_child.ensures.rest.few_less
-    c.rebalance_child.ensures.rest.spare)
+    c.rebalance_child.ensures.rest.spare
 
 pub returns-in-Changed-clause-items : goal.returns-in-Changed-clause-items
 returns-in-Changed-clause-items g t c =
@@ -434,13 +401,12 @@ pub returns-in-Some-clause-changed : goal.returns-in-Some-clause-changed
 returns-in-Some-clause-changed g t c =
     let at = at_child g t (goal.at.returns-in-Some-clause-changed g t c).After-index-entries-step in
     let put = c.in-Some.ensures in
-    changed_behind _ _ _ _ _ _ _ c.step_down-has_shared.ensures.kept (Split c.in-Some.added) (λ is. absurd (cc))
-    (linked_above _ _ _ _ _ _ _ _ _ _ _ (one_up c.args.height c.if-height-eq0.false) at c.step_down-has_shared.ensures.changeable
+    linked_above _ _ _ _ _ _ _ _ _ _ _ (one_up c.args.height c.if-height-eq0.false) at c.requires.changeable
     c.insert_child.new.nodes
     (subst (λ p. AllAreHeads (g.C.LeafBound.Bound.bytes p) (all_heads_of c.insert_child.new.nodes))
     (c.leaf_bound-in-Split.ensures.leaf_bound ∙ c.in-Split.ensures.leaf_bound) put.stored.headed)
     c.in-Split.added c.in-Split.ensures.changed put.stored.taken (Some c.in-Some.added) put.linked put.left put.right put.stored.live
-    put.stored.live_added put.stored.changes)
+    put.stored.live_added put.stored.changes
 
 pub returns-in-Some-clause-items : goal.returns-in-Some-clause-items
 returns-in-Some-clause-items g t c =
@@ -449,8 +415,7 @@ returns-in-Some-clause-items g t c =
     let put = c.in-Some.ensures in
     let split = c.in-Split.ensures.changed in
     let step = stepped_linked _ _ _ _ _ _ _ _ _ _ _ _ (one_up c.args.height c.if-height-eq0.false) at split.subtree
-    c.in-Split.added (Some c.in-Some.added) (moves_if_changes _ _ _ _ split.changes)
-    c.step_down-has_shared.ensures.changeable.fan_out put.linked
+    c.in-Split.added (Some c.in-Some.added) (moves_if_changes _ _ _ _ split.changes) c.requires.changeable.fan_out put.linked
     split.neighbour split.filled.0 split.filled.1 put.left put.right put.stored.live put.stored.live_added put.stored.changes in
     within g t here.After-index-entries-step _ _ _ _ _ c.if-place.below-true c.if-place.below-false c.key_at.ensures.key step.items c.in-Split.ensures.items
 
@@ -458,13 +423,12 @@ pub returns-in-None-clause-changed : goal.returns-in-None-clause-changed
 returns-in-None-clause-changed g t c =
     let at = at_child g t (goal.at.returns-in-None-clause-changed g t c).After-index-entries-step in
     let put = c.in-None.ensures in
-    changed_behind _ _ _ _ _ _ _ c.step_down-has_shared.ensures.kept Changed (λ is. absurd (cc))
-    (linked_above _ _ _ _ _ _ _ _ _ _ _ (one_up c.args.height c.if-height-eq0.false) at c.step_down-has_shared.ensures.changeable
+    linked_above _ _ _ _ _ _ _ _ _ _ _ (one_up c.args.height c.if-height-eq0.false) at c.requires.changeable
     c.insert_child.new.nodes
     (subst (λ p. AllAreHeads (g.C.LeafBound.Bound.bytes p) (all_heads_of c.insert_child.new.nodes))
     (c.leaf_bound-in-Split.ensures.leaf_bound ∙ c.in-Split.ensures.leaf_bound) put.stored.headed)
     c.in-Split.added c.in-Split.ensures.changed put.stored.taken None put.linked put.left put.right put.stored.live put.stored.live_added
-    put.stored.changes)
+    put.stored.changes
 
 pub returns-in-None-clause-items : goal.returns-in-None-clause-items
 returns-in-None-clause-items g t c =
@@ -473,7 +437,6 @@ returns-in-None-clause-items g t c =
     let put = c.in-None.ensures in
     let split = c.in-Split.ensures.changed in
     let step = stepped_linked _ _ _ _ _ _ _ _ _ _ _ _ (one_up c.args.height c.if-height-eq0.false) at split.subtree
-    c.in-Split.added None (moves_if_changes _ _ _ _ split.changes) c.step_down-has_shared.ensures.changeable.fan_out
-    put.linked split.neighbour
+    c.in-Split.added None (moves_if_changes _ _ _ _ split.changes) c.requires.changeable.fan_out put.linked split.neighbour
     split.filled.0 split.filled.1 put.left put.right put.stored.live put.stored.live_added put.stored.changes in
     within g t here.After-index-entries-step _ _ _ _ _ c.if-place.below-true c.if-place.below-false c.key_at.ensures.key step.items c.in-Split.ensures.items
