@@ -12,7 +12,7 @@ use byteorder::{BigEndian, ByteOrder};
 
 // The most bytes asked of the reader at once, as long as the buffer holds fewer. So a length that no body follows takes little
 // memory.
-const CHUNK_LENGTH: usize = 65_536;
+const CHUNK_LENGTH: usize = 262_144;
 
 // Reads once into the memory behind what the buffer holds, at most `most` bytes, and returns how many.
 #[tactic(auto, using(crate::proofs::callers::Known::prepended))]
@@ -35,8 +35,8 @@ fn read_more<R: Source>(
 {
     let held = buffer.len();
     let wanted = most.min(CHUNK_LENGTH.max(held));
-    // Room for one byte more, the end of a single key that stands last.
-    buffer.reserve(wanted + 1)?;
+    // Room for one byte more, the end of a single key that stands last, and for none beyond it, since a batch keeps the buffer.
+    buffer.reserve_exact(wanted + 1)?;
     buffer.resize(held + wanted, 0)?;
     let count = reader.read(&mut buffer[held..])?;
     buffer.truncate(held + count);
