@@ -66,14 +66,16 @@ module _ {H : Type 0} where
         in_headers = slice_get_within hs i _ both.1;
       }
 
-  pub slot_at : (ls : List ℕ) (hs : List H) (lengths_capacity headers_capacity bytes_capacity size width : ℕ) (bytes : List ℕ) (i : ℕ)
+  pub slot_at : (ls : List ℕ) (hs : List H)
+      (lengths_capacity headers_capacity bytes_capacity size width : ℕ) (bytes : List ℕ) (i : ℕ)
       → IsChunk ls hs lengths_capacity headers_capacity bytes_capacity size width bytes
       → i < length (slots_in ls hs size width bytes) → IsSlot size width i
   slot_at ls hs lengths_capacity headers_capacity bytes_capacity size width bytes i chunk within =
       IsSlot-within (entries_of ls hs) size width bytes i chunk.entries within
 
   -- a live slot lies within the bytes that a chunk may have
-  pub live_within : (ls : List ℕ) (hs : List H) (lengths_capacity headers_capacity bytes_capacity size width : ℕ) (bytes : List ℕ) (i : ℕ)
+  pub live_within : (ls : List ℕ) (hs : List H)
+      (lengths_capacity headers_capacity bytes_capacity size width : ℕ) (bytes : List ℕ) (i : ℕ)
       → IsChunk ls hs lengths_capacity headers_capacity bytes_capacity size width bytes
       → IsLive ls hs size width bytes i → i * width + width ≤ 16384
   live_within ls hs lengths_capacity headers_capacity bytes_capacity size width bytes i chunk live =
@@ -82,15 +84,16 @@ module _ {H : Type 0} where
       slot_within i (slots_of size) width (omega arith) chunk.entries.shared
 
   -- its key lies within those that it has
-  pub key_inside : (ls : List ℕ) (hs : List H) (lengths_capacity headers_capacity bytes_capacity size width : ℕ) (bytes : List ℕ) (i : ℕ)
+  pub key_inside : (ls : List ℕ) (hs : List H)
+      (lengths_capacity headers_capacity bytes_capacity size width : ℕ) (bytes : List ℕ) (i : ℕ)
       → IsChunk ls hs lengths_capacity headers_capacity bytes_capacity size width bytes
       → (live : IsLive ls hs size width bytes i) → live.head.length ≤ length bytes - i * width
   key_inside ls hs lengths_capacity headers_capacity bytes_capacity size width bytes i chunk live =
       key_within (entries_of ls hs) size width bytes i live.head chunk.entries live.entry
 
   -- a key that fits its slot lies within the bytes, once they are made
-  pub key_fits : (ls : List ℕ) (hs : List H) (lengths_capacity headers_capacity bytes_capacity size width : ℕ) (bytes : List ℕ)
-      (i : ℕ) (key : List ℕ)
+  pub key_fits : (ls : List ℕ) (hs : List H)
+      (lengths_capacity headers_capacity bytes_capacity size width : ℕ) (bytes : List ℕ) (i : ℕ) (key : List ℕ)
       → IsChunk ls hs lengths_capacity headers_capacity bytes_capacity size width bytes → IsSlot size width i
       → length key ≤ slice_index sizes size → i * width + length key ≤ length (made_bytes bytes)
   key_fits ls hs lengths_capacity headers_capacity bytes_capacity size width bytes i key chunk slot fits =
@@ -108,7 +111,8 @@ module _ {H : Type 0} where
     pub slots : slots_in made_ls made_hs size width bytes ≡ slots_in ls hs size width bytes
 
   pub AreMade-slots : (ls made_ls : List ℕ) (hs made_hs : List H)
-      (lengths_capacity headers_capacity bytes_capacity more_lengths more_headers more_bytes size width : ℕ) (bytes : List ℕ) (i : ℕ)
+      (lengths_capacity headers_capacity bytes_capacity more_lengths more_headers more_bytes size width : ℕ)
+      (bytes : List ℕ) (i : ℕ)
       → IsChunk ls hs lengths_capacity headers_capacity bytes_capacity size width bytes
       → i < length (slots_in ls hs size width bytes) → length made_hs ≡ length made_ls
       → ((count : ℕ) → i < count
@@ -116,8 +120,8 @@ module _ {H : Type 0} where
       → ((count : ℕ) → i < count → length ls ≤ count → length made_ls ≤ count)
       → lengths_capacity ≤ more_lengths → headers_capacity ≤ more_headers → bytes_capacity ≤ more_bytes
       → AreMade ls made_ls hs made_hs more_lengths more_headers more_bytes size width bytes
-  AreMade-slots ls made_ls hs made_hs lengths_capacity headers_capacity bytes_capacity more_lengths more_headers more_bytes size width bytes i
-      chunk within paired free few lengths_more headers_more bytes_more =
+  AreMade-slots ls made_ls hs made_hs lengths_capacity headers_capacity bytes_capacity more_lengths more_headers more_bytes
+      size width bytes i chunk within paired free few lengths_more headers_more bytes_more =
       let made =
       IsMade-entries (entries_of ls hs) (entries_of made_ls made_hs) size width bytes i chunk.entries within free
       (λ count below kept. omega (
@@ -138,16 +142,24 @@ module _ {H : Type 0} where
       }
 
   -- no key is as long as the mark of a free slot
-  key_short : (ls : List ℕ) (hs : List H) (lengths_capacity headers_capacity bytes_capacity size width : ℕ) (bytes : List ℕ) (n : ℕ)
+  key_short : (ls : List ℕ) (hs : List H)
+      (lengths_capacity headers_capacity bytes_capacity size width : ℕ) (bytes : List ℕ) (n : ℕ)
       → IsChunk ls hs lengths_capacity headers_capacity bytes_capacity size width bytes → 0 < length ls
       → n ≤ slice_index sizes size → n ≢ 65535
   key_short ls hs lengths_capacity headers_capacity bytes_capacity size width bytes n chunk some fits =
       let within : 0 < slots_of size =
       omega (arith, chunk.entries.few, length-entries_of ls hs chunk.paired, some) in
-      λ is. omega (arith, is, fits, chunk.entries.wide, slot_within 0 (slots_of size) width within chunk.entries.shared, zero-mul width)
+      λ is. omega (
+        arith,
+        is,
+        fits,
+        chunk.entries.wide,
+        slot_within 0 (slots_of size) width within chunk.entries.shared,
+        zero-mul width,
+      )
 
-  pub IsChunk-filled : (ls : List ℕ) (hs : List H) (lengths_capacity headers_capacity bytes_capacity size width : ℕ) (bytes : List ℕ)
-      (i : ℕ) (header : H) (key : List ℕ)
+  pub IsChunk-filled : (ls : List ℕ) (hs : List H)
+      (lengths_capacity headers_capacity bytes_capacity size width : ℕ) (bytes : List ℕ) (i : ℕ) (header : H) (key : List ℕ)
       → IsChunk ls hs lengths_capacity headers_capacity bytes_capacity size width bytes → i < length ls
       → length key ≤ slice_index sizes size
       → IsChunk (set ls i (length key)) (set hs i header) lengths_capacity headers_capacity bytes_capacity size width
@@ -165,8 +177,8 @@ module _ {H : Type 0} where
       }
 
   -- a slot that is filled has the record
-  pub slots_in-filled : (ls : List ℕ) (hs : List H) (lengths_capacity headers_capacity bytes_capacity size width : ℕ) (bytes : List ℕ)
-      (i : ℕ) (header : H) (key : List ℕ)
+  pub slots_in-filled : (ls : List ℕ) (hs : List H)
+      (lengths_capacity headers_capacity bytes_capacity size width : ℕ) (bytes : List ℕ) (i : ℕ) (header : H) (key : List ℕ)
       → IsChunk ls hs lengths_capacity headers_capacity bytes_capacity size width bytes → i < length ls
       → length key ≤ slice_index sizes size
       → slots_in (set ls i (length key)) (set hs i header) size width (written (i * width) key bytes)
@@ -178,8 +190,8 @@ module _ {H : Type 0} where
       ∙ filled (entries_of ls hs) size width bytes i header key chunk.entries
       (omega (arith, there, length-entries_of ls hs chunk.paired)) fits
 
-  pub IsChunk-freed : (ls : List ℕ) (hs : List H) (lengths_capacity headers_capacity bytes_capacity size width : ℕ) (bytes : List ℕ)
-      (i : ℕ)
+  pub IsChunk-freed : (ls : List ℕ) (hs : List H)
+      (lengths_capacity headers_capacity bytes_capacity size width : ℕ) (bytes : List ℕ) (i : ℕ)
       → IsChunk ls hs lengths_capacity headers_capacity bytes_capacity size width bytes → i < length ls
       → IsChunk (set ls i 65535) hs lengths_capacity headers_capacity bytes_capacity size width bytes
   IsChunk-freed ls hs lengths_capacity headers_capacity bytes_capacity size width bytes i chunk there = record {
@@ -199,8 +211,8 @@ module _ {H : Type 0} where
       ap (λ es. cells_of (with_free (slots_of size) es) width bytes) (entries_of-freed ls hs i)
       ∙ freed (slots_of size) (entries_of ls hs) width bytes i (omega (arith, there, length-entries_of ls hs paired))
 
-  pub IsChunk-lent : (ls : List ℕ) (hs : List H) (lengths_capacity headers_capacity bytes_capacity size width : ℕ) (bytes : List ℕ)
-      (i : ℕ) (header : H)
+  pub IsChunk-lent : (ls : List ℕ) (hs : List H)
+      (lengths_capacity headers_capacity bytes_capacity size width : ℕ) (bytes : List ℕ) (i : ℕ) (header : H)
       → IsChunk ls hs lengths_capacity headers_capacity bytes_capacity size width bytes → IsLive ls hs size width bytes i
       → IsChunk ls (set hs i header) lengths_capacity headers_capacity bytes_capacity size width bytes
   IsChunk-lent ls hs lengths_capacity headers_capacity bytes_capacity size width bytes i header chunk live = record {

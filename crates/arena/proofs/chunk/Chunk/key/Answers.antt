@@ -22,7 +22,9 @@ part-requires g c = record {
   within =
       let live = live_at c.self.inside.lengths.items c.self.inside.headers.items c.self.inside.size c.self.inside.width
       c.self.inside.bytes.items c.args.index (rw (← c.self.view_is) at c.requires.live) in
-      let read = c.index.ensures ∙ get_or_from_slice_get c.self.inside.lengths.items c.args.index _ c.index.result.now live.length_at in
+      let read =
+      c.index.ensures
+      ∙ get_or_from_slice_get c.self.inside.lengths.items c.args.index _ c.index.result.now live.length_at in
       rw (read, c.deref.ensures.value) (key_inside _ _ _ _ _ _ _ _ c.args.index c.self.invariant live);
 }
 
@@ -31,7 +33,9 @@ returns g c = record {
   key =
       let live = live_at c.self.inside.lengths.items c.self.inside.headers.items c.self.inside.size c.self.inside.width
       c.self.inside.bytes.items c.args.index (rw (← c.self.view_is) at c.requires.live) in
-      let read = c.index.ensures ∙ get_or_from_slice_get c.self.inside.lengths.items c.args.index _ c.index.result.now live.length_at in
+      let read =
+      c.index.ensures
+      ∙ get_or_from_slice_get c.self.inside.lengths.items c.args.index _ c.index.result.now live.length_at in
       rw (← c.self.view_is, c.part.ensures.bytes, c.deref.ensures.value, read)
       (ap (λ o. option_map (λ r. r.key) (option_and_then held o)) live.cell);
 }
