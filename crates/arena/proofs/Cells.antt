@@ -1,5 +1,5 @@
 -- The slots of a chunk, as its entries and bytes tell them.
-use Rattle.std.proofs.Common.{◌≡◌, ℕ, zero, suc, ◌+◌, ◌*◌, ◌<◌, ◌≤◌, List, [], ◌∷◌, ◌++◌, length, take, drop, set, slice_get, Some, IsSome, is_some, false, option_map, unwrap_or, slice_index, refl, sym, ap, ◌∙◌, add_assoc, zero-mul, mul-le-mul_right, arith, length-drop, length-append, length-set}
+use Rattle.std.proofs.Common.{◌≡◌, inl, inr, ℕ, zero, suc, ◌+◌, ◌-◌, ◌*◌, ◌<◌, ◌≤◌, List, [], ◌∷◌, ◌++◌, length, take, drop, set, slice_get, Some, IsSome, is_some, false, option_map, unwrap_or, slice_index, refl, sym, ap, ◌∙◌, add_assoc, zero-mul, mul-le-mul_right, arith, length-drop, length-append, length-set}
 use Rattle.std.proofs.Math.Path.{ap₂}
 use Rattle.std.proofs.lemmas.List.{
   drop-drop,
@@ -9,13 +9,14 @@ use Rattle.std.proofs.lemmas.List.{
   drop-append-le,
   drop-take,
   length-take-le,
+  length-replicate,
 }
 use Rattle.std.proofs.lemmas.Option.{slice_get_within}
 use Rattle.std.proofs.lemmas.Slice.{drop-append-drop}
 use Rattle.std.specs.Option.{option_and_then}
 use Rattle.arena.specs.Arena.{Record, sizes, slots_of}
 use Rattle.arena.specs.Entry.{Entry, Free, Live, held, held_at, IsFree}
-use Rattle.arena.specs.Chunk.{Head, cell_of, cells_of, with_free, Fits, AllFit, AreEntries, IsFresh}
+use Rattle.arena.specs.Chunk.{Head, cell_of, cells_of, with_free, with_key, made_bytes, written, Fits, AllFit, HasBytes, AreEntries, IsFresh}
 use Rattle.arena.proofs.Entries.{length-with_free, with_free-set, with_free-there, with_free-live, with_free-beyond}
 
 next_slot : (i width : ℕ) → width + i * width ≡ suc i * width
@@ -31,11 +32,7 @@ pub record IsSlot (size width i : ℕ) : Type 0 where
   pub index : i < slots_of size
   pub bytes : i * width + width ≤ 16384
 
--- the bytes with a key written over them, from an index on
-abbrev pub with_key : ℕ → List ℕ → List ℕ → List ℕ
-with_key from key bytes = take from bytes ++ (key ++ drop (from + length key) bytes)
-
-pub length-with_key : (from : ℕ) (key bytes : List ℕ) → from + length key ≤ length bytes
+length-with_key : (from : ℕ) (key bytes : List ℕ) → from + length key ≤ length bytes
     → length (with_key from key bytes) ≡ length bytes
 length-with_key from key bytes room =
     omega (
@@ -60,6 +57,10 @@ drop-with_key n m key bytes room =
     ∙ ap (λ xs. xs ++ (key ++ drop (n + m + length key) bytes)) (drop-take n m bytes)
     ∙ ap (λ xs. take m (drop n bytes) ++ (key ++ xs)) (ap (λ k. drop k bytes) (add_assoc n m (length key))
     ∙ sym (drop-drop (m + length key) n bytes))
+
+take_none : (n : ℕ) (bytes other : List ℕ) → n ≤ 0 → take n bytes ≡ take n other
+take_none zero bytes other none = refl
+take_none (suc n) bytes other none = absurd (omega arith)
 
 module _ {H : Type 0} where
   pub length-cells_of : (es : List (Entry (Head H))) (width : ℕ) (bytes : List ℕ)
@@ -202,24 +203,52 @@ module _ {H : Type 0} where
           wide = chunk.wide;
           few = few (slots_of size) index chunk.few;
           shared = chunk.shared;
-          room = chunk.room;
+          room = rw same chunk.room;
           fit = rw same chunk.fit;
         };
         cells = ap (λ xs. cells_of xs width bytes) same;
       }
 
+  -- where every key is empty, the bytes tell nothing
+  cells_of-empty : (es : List (Entry (Head H))) (width : ℕ) (bytes other : List ℕ) → AllFit es 0
+      → cells_of es width bytes ≡ cells_of es width other
+  cells_of-empty [] width bytes other empty = refl
+  cells_of-empty (Free ∷ es) width bytes other empty =
+      ap (λ cs. Free ∷ cs) (cells_of-empty es width (drop width bytes) (drop width other) empty.1)
+  cells_of-empty (Live h ∷ es) width bytes other empty =
+      ap₂ (λ k cs. Live (record { header = h.header; key = k }) ∷ cs) (take_none h.length bytes other empty.0)
+      (cells_of-empty es width (drop width bytes) (drop width other) empty.1)
+
+  -- the bytes that are made where there are none change nothing
+  pub length-made_bytes : (es : List (Entry (Head H))) (bytes : List ℕ) → HasBytes es bytes
+      → length (made_bytes bytes) ≡ 16384
+  length-made_bytes es [] room = length-replicate {A = ℕ} 16384 0
+  length-made_bytes es (b ∷ bytes) (inl room) = room
+  length-made_bytes es (b ∷ bytes) (inr empty) = let none = empty.0 in cc
+
+  cells_of-made_bytes : (es : List (Entry (Head H))) (width : ℕ) (bytes : List ℕ) → HasBytes es bytes
+      → cells_of es width (made_bytes bytes) ≡ cells_of es width bytes
+  cells_of-made_bytes es width [] (inl room) = absurd (omega arith)
+  cells_of-made_bytes es width [] (inr empty) = cells_of-empty es width (made_bytes []) [] empty.1
+  cells_of-made_bytes es width (b ∷ bytes) room = refl
+
+  HasBytes-set : (es : List (Entry (Head H))) (bytes : List ℕ) (i : ℕ) (e : Entry (Head H)) → HasBytes es bytes
+      → (AllFit es 0 → Fits e 0) → HasBytes (set es i e) bytes
+  HasBytes-set es bytes i e (inl room) fits = inl room
+  HasBytes-set es bytes i e (inr empty) fits = inr (empty.0, AllFit-set es 0 i e empty.1 (fits empty.1))
+
   -- a chunk's entries with one of them written
   AreEntries-set : (es : List (Entry (Head H))) (size width : ℕ) (bytes after : List ℕ) (i : ℕ)
       (e : Entry (Head H))
-      → AreEntries es size width bytes → i < length es → Fits e width → length after ≡ length bytes
-      → AreEntries (set es i e) size width after
-  AreEntries-set es size width bytes after i e chunk there fits same =
+      → AreEntries es size width bytes → i < length es → Fits e width
+      → HasBytes (set (with_free (slots_of size) es) i e) after → AreEntries (set es i e) size width after
+  AreEntries-set es size width bytes after i e chunk there fits room =
       record {
         sized = chunk.sized;
         wide = chunk.wide;
         few = omega (arith, length-set es i e, chunk.few);
         shared = chunk.shared;
-        room = same ∙ chunk.room;
+        room = rw (with_free-set (slots_of size) es i e there) room;
         fit = rw (with_free-set (slots_of size) es i e there)
             (AllFit-set (with_free (slots_of size) es) width i e chunk.fit fits);
       }
@@ -228,32 +257,41 @@ module _ {H : Type 0} where
       (key : List ℕ)
       → AreEntries es size width bytes → i < length es → length key ≤ slice_index sizes size
       → AreEntries (set es i (Live (record { header = header; length = length key }))) size width
-      (with_key (i * width) key bytes)
-  AreEntries-filled es size width bytes i header key chunk there fits =
+      (written (i * width) key bytes)
+  AreEntries-filled es size width bytes i header [] chunk there fits =
+      AreEntries-set es size width bytes bytes i _ chunk there (omega arith)
+      (HasBytes-set (with_free (slots_of size) es) bytes i _ chunk.room (λ empty. omega arith))
+  AreEntries-filled es size width bytes i header (b ∷ key) chunk there fits =
       let wide = chunk.wide in
-      let room = chunk.room in
+      let made = length-made_bytes (with_free (slots_of size) es) bytes chunk.room in
       let inside = slot_within i (slots_of size) width (omega (arith, there, chunk.few)) chunk.shared in
       AreEntries-set es size width bytes _ i _ chunk there (omega arith)
-      (length-with_key (i * width) key bytes (omega (arith, inside)))
+      (inl (length-with_key (i * width) (b ∷ key) (made_bytes bytes) (omega (arith, inside)) ∙ made))
 
   pub filled : (es : List (Entry (Head H))) (size width : ℕ) (bytes : List ℕ) (i : ℕ) (header : H)
       (key : List ℕ)
       → AreEntries es size width bytes → i < length es → length key ≤ slice_index sizes size
       → cells_of (with_free (slots_of size) (set es i (Live (record { header = header; length = length key })))) width
-      (with_key (i * width) key bytes)
+      (written (i * width) key bytes)
       ≡ set (cells_of (with_free (slots_of size) es) width bytes) i (Live (record { header = header; key = key }))
-  filled es size width bytes i header key chunk there fits =
+  filled es size width bytes i header [] chunk there fits =
+      ap (λ xs. cells_of xs width bytes) (with_free-set (slots_of size) es i _ there)
+      ∙ cells_of-lent (with_free (slots_of size) es) width bytes i (record { header = header; length = 0 })
+  filled es size width bytes i header (b ∷ key) chunk there fits =
       let wide = chunk.wide in
-      let room = chunk.room in
+      let made = length-made_bytes (with_free (slots_of size) es) bytes chunk.room in
       let inside = slot_within i (slots_of size) width (omega (arith, there, chunk.few)) chunk.shared in
-      ap (λ xs. cells_of xs width (with_key (i * width) key bytes)) (with_free-set (slots_of size) es i _ there)
-      ∙ cells_of-filled (with_free (slots_of size) es) width bytes i (i * width) header key refl (omega arith) chunk.fit
-      (omega (arith, inside))
+      ap (λ xs. cells_of xs width (written (i * width) (b ∷ key) bytes)) (with_free-set (slots_of size) es i _ there)
+      ∙ cells_of-filled (with_free (slots_of size) es) width (made_bytes bytes) i (i * width) header (b ∷ key) refl
+      (omega arith) chunk.fit (omega (arith, inside))
+      ∙ ap (λ cs. set cs i (Live (record { header = header; key = b ∷ key })))
+      (cells_of-made_bytes (with_free (slots_of size) es) width bytes chunk.room)
 
   pub AreEntries-freed : (es : List (Entry (Head H))) (size width : ℕ) (bytes : List ℕ) (i : ℕ)
       → AreEntries es size width bytes → i < length es → AreEntries (set es i Free) size width bytes
   AreEntries-freed es size width bytes i chunk there =
-      AreEntries-set es size width bytes bytes i Free chunk there tt refl
+      AreEntries-set es size width bytes bytes i Free chunk there tt
+      (HasBytes-set (with_free (slots_of size) es) bytes i Free chunk.room (λ empty. tt))
 
   pub freed : (k : ℕ) (es : List (Entry (Head H))) (width : ℕ) (bytes : List ℕ) (i : ℕ) → i < length es
       → cells_of (with_free k (set es i Free)) width bytes ≡ set (cells_of (with_free k es) width bytes) i Free
@@ -261,24 +299,30 @@ module _ {H : Type 0} where
       ap (λ xs. cells_of xs width bytes) (with_free-set k es i Free there)
       ∙ cells_of-freed (with_free k es) width bytes i
 
-  pub AreEntries-lent : (es : List (Entry (Head H))) (size width : ℕ) (bytes : List ℕ) (i : ℕ) (head : Head H)
-      → AreEntries es size width bytes → i < length es → head.length ≤ width
-      → AreEntries (set es i (Live head)) size width bytes
-  AreEntries-lent es size width bytes i head chunk there fits =
-      AreEntries-set es size width bytes bytes i (Live head) chunk there fits refl
+  pub AreEntries-lent : (es : List (Entry (Head H))) (size width : ℕ) (bytes : List ℕ) (i : ℕ) (head : Head H) (header : H)
+      → AreEntries es size width bytes → slice_get es i ≡ Some (Live head)
+      → AreEntries (set es i (Live (record { header = header; length = head.length }))) size width bytes
+  AreEntries-lent es size width bytes i head header chunk is =
+      AreEntries-set es size width bytes bytes i _ chunk (slice_get_within es i _ is)
+      (fits_at (slots_of size) es width i head chunk.fit is)
+      (HasBytes-set (with_free (slots_of size) es) bytes i _ chunk.room
+      (λ empty. fits_at (slots_of size) es 0 i head empty is))
 
   -- the key of a live slot lies within the bytes
   pub key_within : (es : List (Entry (Head H))) (size width : ℕ) (bytes : List ℕ) (i : ℕ) (head : Head H)
       → AreEntries es size width bytes → slice_get es i ≡ Some (Live head)
-      → i * width + head.length ≤ length bytes
-  key_within es size width bytes i head chunk is =
-      let room = chunk.room in
-      let there = slice_get_within es i _ is in
-      omega (
-        arith,
-        slot_within i (slots_of size) width (omega (arith, there, chunk.few)) chunk.shared,
-        fits_at (slots_of size) es width i head chunk.fit is,
-      )
+      → head.length ≤ length bytes - i * width
+  key_within es size width bytes i head chunk is = by_room chunk.room
+    where
+      by_room : HasBytes (with_free (slots_of size) es) bytes → head.length ≤ length bytes - i * width
+      by_room (inl room) =
+          let there = slice_get_within es i _ is in
+          omega (
+            arith,
+            slot_within i (slots_of size) width (omega (arith, there, chunk.few)) chunk.shared,
+            fits_at (slots_of size) es width i head chunk.fit is,
+          )
+      by_room (inr empty) = omega (arith, fits_at (slots_of size) es 0 i head empty.1 is)
 
   -- a live slot with another header keeps its key
   pub lent : (k : ℕ) (es : List (Entry (Head H))) (width : ℕ) (bytes : List ℕ) (i : ℕ) (head : Head H) (header : H)
@@ -314,14 +358,14 @@ module _ {H : Type 0} where
 
   pub AreEntries-new : (es : List (Entry (Head H))) (size width : ℕ) (bytes : List ℕ)
       → es ≡ [] → size < 10 → width ≡ slice_index sizes size
-      → slots_of size * width ≡ 16384 → length bytes ≡ 16384 → AreEntries es size width bytes
-  AreEntries-new es size width bytes none sized wide shared room =
+      → slots_of size * width ≡ 16384 → bytes ≡ [] → AreEntries es size width bytes
+  AreEntries-new es size width bytes none sized wide shared no_bytes =
       record {
         sized = sized;
         wide = wide;
         few = omega (arith, ap length none);
         shared = shared;
-        room = room;
+        room = inr (no_bytes, AllFit-free es (slots_of size) 0 none);
         fit = AllFit-free es (slots_of size) width none;
       }
 

@@ -1,5 +1,5 @@
 -- What a chunk is seen as: slots of one size, each free or with a record. No public clause cites this module.
-use Rattle.std.specs.Prelude.{◌≡◌, ℕ, zero, suc, ◌*◌, ◌<◌, ◌≤◌, ◌==◌, if◌then◌else◌, List, [], ◌∷◌, length, take, drop, slice_index}
+use Rattle.std.specs.Prelude.{◌≡◌, ◌⊎◌, ℕ, zero, suc, ◌+◌, ◌*◌, ◌<◌, ◌≤◌, ◌==◌, if◌then◌else◌, List, [], ◌∷◌, ◌++◌, length, take, drop, replicate, slice_index}
 use Rattle.arena.specs.Arena.{Record, sizes, slots_of}
 use Rattle.arena.specs.Entry.{Entry, Free, Live, IsFree}
 use Rattle.arena.specs.declared.chunk.TheConstants.{FREE}
@@ -20,6 +20,20 @@ with_free (suc k) (e ∷ es) = e ∷ with_free k es
 pub record Head (H : Type 0) : Type 0 where
   pub header : H
   pub length : ℕ
+
+-- these bytes with a key written over them, from an index on
+abbrev pub with_key : ℕ → List ℕ → List ℕ → List ℕ
+with_key from key bytes = take from bytes ++ (key ++ drop (from + length key) bytes)
+
+-- these bytes, or a chunk's zeros where there are none
+abbrev pub made_bytes : List ℕ → List ℕ
+made_bytes [] = replicate CHUNK_BYTES 0
+made_bytes (b ∷ bytes) = b ∷ bytes
+
+-- these bytes once a key is written from an index on: an empty key leaves them as they are, even where there are none
+abbrev pub written : ℕ → List ℕ → List ℕ → List ℕ
+written from [] bytes = bytes
+written from (b ∷ key) bytes = with_key from (b ∷ key) (made_bytes bytes)
 
 module _ {H : Type 0} where
   -- the entry of this length and this header
@@ -51,21 +65,27 @@ module _ {H : Type 0} where
   AllFit [] width = Unit {0}
   AllFit (e ∷ es) width = Fits e width × AllFit es width
 
+  -- the bytes of the keys are there, or there are none and every key is empty
+  abbrev pub HasBytes : List (Entry (Head H)) → List ℕ → Type 0
+  HasBytes es bytes = (length bytes ≡ CHUNK_BYTES) ⊎ ((bytes ≡ []) × AllFit es 0)
+
   -- what a chunk keeps of its entries: all its slots share all its bytes
   pub record AreEntries (es : List (Entry (Head H))) (size width : ℕ) (bytes : List ℕ) : Type 0 where
     pub sized : size < SIZES
     pub wide : width ≡ slice_index sizes size
     pub few : length es ≤ slots_of size
     pub shared : slots_of size * width ≡ CHUNK_BYTES
-    pub room : length bytes ≡ CHUNK_BYTES
+    pub room : HasBytes (with_free (slots_of size) es) bytes
     pub fit : AllFit (with_free (slots_of size) es) width
 
-  -- what a chunk keeps: each length has a header, and there is room for those of the slots that have none
+  -- what a chunk keeps: each length has a header, and there is room for those of the slots that have none, and for the
+  -- bytes
   pub record IsChunk (lengths : List ℕ) (headers : List H)
-      (lengths_capacity headers_capacity size width : ℕ) (bytes : List ℕ) : Type 0 where
+      (lengths_capacity headers_capacity bytes_capacity size width : ℕ) (bytes : List ℕ) : Type 0 where
     pub paired : length headers ≡ length lengths
     pub lengths_room : slots_of size ≤ lengths_capacity
     pub headers_room : slots_of size ≤ headers_capacity
+    pub bytes_room : CHUNK_BYTES ≤ bytes_capacity
     pub entries : AreEntries (entries_of lengths headers) size width bytes
 
   -- there are so many slots, and all are free

@@ -1,11 +1,12 @@
-//! A chunk: slots of one size, whose lengths and headers are filled in as the slots are used.
+//! A chunk: slots of one size, whose lengths and headers are filled in as the slots are used, and whose key bytes are
+//! filled with zeros when the first key that isn't empty is written.
 
-ghost use Rattle.std.specs.Prelude.{◌≡◌, ℕ, ◌+◌, ◌*◌, ◌<◌, ◌≤◌, ◌++◌, List, length, take, drop, slice_index, slice_set, slice_get, vec_capacity, Some, IsSome, IsTrue, IfOk, option_map};
+ghost use Rattle.std.specs.Prelude.{◌≡◌, ℕ, ◌+◌, ◌-◌, ◌*◌, ◌<◌, ◌≤◌, List, length, take, drop, slice_index, slice_set, slice_get, vec_capacity, Some, IsSome, IsTrue, IfOk, option_map};
 ghost use Rattle.std.specs.Option.{is_some};
 ghost use Rattle.std.specs.Borrow.{sem};
 ghost use Rattle.arena.specs.Arena.{sizes, slots_of};
-ghost use Rattle.arena.specs.Chunk.{entries_of, with_free};
-ghost use Rattle.arena.specs.declared.size.TheConstants.{SIZES};
+ghost use Rattle.arena.specs.Chunk.{entries_of, with_free, with_key, made_bytes, written};
+ghost use Rattle.arena.specs.declared.size.TheConstants.{CHUNK_BYTES, SIZES};
 
 use crate::size::{CHUNK_BYTES, slots_of, width_of};
 use std::alloc::{AllocError, Allocator};
@@ -24,6 +25,7 @@ pub(crate) struct Chunk<H, A: Allocator> {
     lengths: Vec<u16, A>,
     // The header of each slot that has a length. What stands at a free slot says nothing.
     headers: Vec<H, A>,
+    // The key bytes of all slots: none as long as every key is empty, so that their memory is not touched before.
     bytes: Vec<u8, A>,
     size: usize,
     width: usize,
@@ -43,15 +45,40 @@ impl<H, A: Allocator> Model for Chunk<H, A> {
     } };
 
     ghost invariant = { λ c. IsChunk c.lengths.items c.headers.items (vec_capacity c.lengths) (vec_capacity c.headers)
-        c.size c.width c.bytes.items };
+        (vec_capacity c.bytes) c.size c.width c.bytes.items };
 }
 
 /// Writes the key over the bytes from an index on.
 fn write_at(bytes: &mut [u8], from: usize, key: &[u8])
     requires within { from + length key.now ≤ length bytes.old }
-    ensures bytes { bytes.new ≡ take from bytes.old ++ (key.now ++ drop (from + length key.now) bytes.old) }
+    ensures bytes { bytes.new ≡ with_key from key.now bytes.old }
 {
     bytes[from..from + key.len()].copy_from_slice(key);
+}
+
+/// Fills the bytes with zeros where there are none.
+fn make_bytes<A: Allocator>(bytes: &mut Vec<u8, A>)
+    requires room { CHUNK_BYTES ≤ vec_capacity bytes.old }
+    ensures bytes { bytes.new.items ≡ made_bytes bytes.old.items }
+    ensures capacity { vec_capacity bytes.old ≤ vec_capacity bytes.new }
+{
+    if bytes.is_empty() {
+        bytes.resize(CHUNK_BYTES, 0).unwrap();
+    }
+}
+
+/// Writes the key over the bytes from an index on, and makes the bytes before where there are none. An empty key writes
+/// and makes nothing.
+fn write_key<A: Allocator>(bytes: &mut Vec<u8, A>, from: usize, key: &[u8])
+    requires room { CHUNK_BYTES ≤ vec_capacity bytes.old }
+    requires within { from + length key.now ≤ length (made_bytes bytes.old.items) }
+    ensures bytes { bytes.new.items ≡ written from key.now bytes.old.items }
+    ensures capacity { vec_capacity bytes.old ≤ vec_capacity bytes.new }
+{
+    if !key.is_empty() {
+        make_bytes(bytes);
+        write_at(bytes.as_mut_slice(), from, key);
+    }
 }
 
 /// Adds lengths and headers, where there are fewer, up to those at an index. Their slots are free, so that a copy of any
@@ -81,12 +108,13 @@ fn add_free<H: Copy, A: Allocator>(
     }
 }
 
-/// Returns so many bytes from an index on.
+/// Returns so many bytes from an index on. Behind the bytes there are none.
 fn part(bytes: &[u8], from: usize, count: usize) -> &[u8]
-    requires within { from + count ≤ length bytes.now }
+    requires within { count ≤ length bytes.now - from }
     ensures bytes { result.now ≡ take count (drop from bytes.now) }
 {
-    &bytes[from..from + count]
+    let begin = from.min(bytes.len());
+    &bytes[begin..begin + count]
 }
 
 impl<H, A: Allocator> Chunk<H, A> {
@@ -144,7 +172,7 @@ impl<H, A: Allocator> Chunk<H, A> {
               = slice_set self.old.cells index (Live (record { header = header; key = key.now }));
         } }
     {
-        write_at(self.bytes.as_mut_slice(), index * self.width, key);
+        write_key(&mut self.bytes, index * self.width, key);
         add_free(&mut self.lengths, &mut self.headers, index, header);
         self.lengths[index] = key.len() as u16;
         self.headers[index] = header;
@@ -173,7 +201,7 @@ impl<H: Drop, A: Allocator + Copy> Chunk<H, A> {
         let width = width_of(size);
         let lengths = Vec::with_capacity(alloc, count)?;
         let headers = Vec::with_capacity(alloc, count)?;
-        let bytes = Vec::from_elem(alloc, 0, CHUNK_BYTES)?;
+        let bytes = Vec::with_capacity(alloc, CHUNK_BYTES)?;
         Ok(Chunk {
             lengths,
             headers,

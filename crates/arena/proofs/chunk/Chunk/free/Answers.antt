@@ -12,7 +12,7 @@ pub invariant_of-self : goal.invariant_of-self
 invariant_of-self g c =
     let live = live_at c.self.inside.lengths.items c.self.inside.headers.items c.self.inside.size c.self.inside.width
     c.self.inside.bytes.items c.args.index (rw (← c.self.view_is) at c.requires.live) in
-    IsChunk-freed _ _ _ _ _ _ _ c.args.index c.self.invariant live.in_lengths
+    IsChunk-freed _ _ _ _ _ _ _ _ c.args.index c.self.invariant live.in_lengths
 
 pub returns : goal.returns
 returns g c = record {

@@ -15,7 +15,7 @@ pub invariant_of-self-lent : goal.invariant_of-self-lent
 invariant_of-self-lent g c w =
     let live = live_at c.self.inside.lengths.items c.self.inside.headers.items c.self.inside.size c.self.inside.width
     c.self.inside.bytes.items c.args.index (rw (← c.self.view_is) at c.requires.live) in
-    IsChunk-lent _ _ _ _ _ _ _ c.args.index w c.self.invariant live
+    IsChunk-lent _ _ _ _ _ _ _ _ c.args.index w c.self.invariant live
 
 pub returns : goal.returns
 returns g c =
