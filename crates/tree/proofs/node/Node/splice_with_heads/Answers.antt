@@ -1,4 +1,4 @@
-use Rattle.std.proofs.Common.{rules, ◌∙◌, ap, sym, true}
+use Rattle.std.proofs.Common.{rules}
 use Rattle.tree.specs.declared.entry.Entry.{Entry}
 use Rattle.tree.specs.Node.{entries_of, key_heads_of, keys_of}
 use Rattle.tree.proofs.HeadChanges.{headed_spliced, known_spliced, map_spliced}

@@ -3,7 +3,7 @@ use Rattle.std.proofs.Common.{true, false, is_some, option_map, None, Option, So
 use Rattle.std.proofs.Common.{ℤ, SFits, w64, to_z, of_z, nat_eq, inl, inr, ◌⊎◌, IsTrue, not, unwrap_or}
 use Rattle.arena.specs.Arena.{with_header}
 use Rattle.std.specs.Prelude.{◌≢◌, slice_range, Result, Ok, OnOk, IfSome}
-use Rattle.std.specs.List.{All, AllZip}
+use Rattle.std.specs.List.{All}
 use Rattle.std.proofs.lemmas.Bool.{leb-true, not-false}
 use Rattle.std.proofs.lemmas.Int.{to_z-of_z}
 use Rattle.std.proofs.lemmas.List.{drop-take, length-take-le, map-append}
