@@ -1,14 +1,13 @@
 -- What nodes know of the bytes of their keys, through changes of these.
 use Rattle.std.proofs.Math.Nat.{min-le_left, min-le_right}
-use Rattle.std.proofs.Common.{◌≡◌, ◌≢◌, ◌⊎◌, inl, inr, ℕ, ◌+◌, ◌-◌, ◌<◌, ◌≤◌, min, List, [], ◌∷◌, ◌++◌, Some, length, get_or, take, drop, map, All, refl, sym, ◌∙◌, ap, ap₂, subst, arith, append_assoc, length-append, length-drop}
+use Rattle.std.proofs.Common.{◌≡◌, ◌≢◌, ◌⊎◌, inl, inr, ℕ, ◌+◌, ◌-◌, ◌<◌, ◌≤◌, min, List, [], ◌∷◌, ◌++◌, Some, length, get_or, take, drop, map, All, refl, sym, ◌∙◌, ap, ap₂, subst, arith}
 use Rattle.std.specs.Prelude.{unwrap_or, slice_get, slice_set}
 use Rattle.std.specs.List.{AllZip, Contains}
-use Rattle.std.proofs.lemmas.List.{get_or-drop, get_or-map, get_or-take, length-map, length-take, length-take-le, drop_at, map-append, map-set, map_more, nil_from_length, set-get_or, take_all, take_at, take-map, drop-map, take-take, take_more, take_more_same, take_more_set}
+use Rattle.std.proofs.lemmas.List.{get_or-map, get_or-take, length-map, length-take, length-take-le, drop_at, map-append, map-set, map_more, nil_from_length, set-get_or, take_all, take_at, take-map, drop-map, take-take, take_more_set}
 use Rattle.std.proofs.lemmas.Option.{slice_get_within, get_or_from_slice_get}
-use Rattle.std.proofs.Math.Seq.{take-add}
-use Rattle.std.proofs.lemmas.List.Elements.{Contains-get_or, All-nil, All-cons, All-head, All-tail, All-append, All-contains, All-drop, All-more, All-set, All-take, All-weaker}
+use Rattle.std.proofs.lemmas.List.Elements.{All-nil, All-cons, All-append, All-contains, All-drop, All-more, All-set, All-take, All-weaker}
 use Rattle.tree.specs.declared.entry.Entry.{Entry}
-use Rattle.tree.specs.Heads.{KeyBytes, IsKnown, Begins, KeyHeads, AreHeads, HasPrefix, IsTargetHead, head_behind, head_at}
+use Rattle.tree.specs.Heads.{KeyBytes, IsKnown, Begins, KeyHeads, AreHeads, HasPrefix, IsHeadBeside, IsTargetHead, head_behind, head_at}
 use Rattle.tree.specs.Node.{keys_of}
 use Rattle.tree.proofs.Headed.{all_known, begins_if_long}
 use Rattle.tree.proofs.callers.Partitions.{All-front, All-back}
@@ -33,19 +32,6 @@ pub All-spliced : {X : Type 0} (P : X → Type 0) (xs new : List X) (from to : �
 All-spliced P xs new from to all more =
     All-append P (take from xs) (new ++ drop to xs) (All-take P from xs all)
     (All-append P new (drop to xs) more (All-drop P to xs all))
-
--- then there are so many
-pub length_spliced : {X : Type 0} (xs new now : List X) (from to : ℕ) → from ≤ length xs → now ≡ take from xs ++ (new ++ drop to xs)
-    → length now ≡ from + length new + (length xs - to)
-length_spliced xs new now from to within is =
-    omega (
-      arith,
-      ap length is,
-      length-append (take from xs) (new ++ drop to xs),
-      length-append new (drop to xs),
-      length-take-le from xs within,
-      length-drop to xs,
-    )
 
 -- the keys of so many entries are as many
 pub keys_count : (es : List Entry) (len : ℕ) → len ≤ length es → length (keys_of (take len es)) ≡ len
@@ -101,27 +87,6 @@ module _ (es : List Entry) (len i : ℕ) (e : Entry) (inside : i < len) (most : 
       map-set (λ (x : Entry). x.key) (take len es) i new
       ∙ ap (λ k. slice_set (keys_of (take len es)) i k) (sym same ∙ key_read)
       ∙ set-get_or (keys_of (take len es)) i e.key
-
--- One more key of a run is the same.
-pub run_same : (xs ys : List ℕ) (i p r x y : ℕ) → i + r < length xs → p + r < length ys → x ≡ get_or xs (i + r) x
-    → y ≡ get_or ys (p + r) y → x ≡ y → take r (drop i xs) ≡ take r (drop p ys) → take (r + 1) (drop i xs) ≡ take (r + 1) (drop p ys)
-run_same xs ys i p r x y inside other_inside is other_is same before =
-    take_more_same (drop i xs) (drop p ys) r x (omega (arith, inside, length-drop i xs)) (omega (arith, other_inside, length-drop p ys)) before
-    (get_or-drop i xs r x ∙ sym is ∙ same ∙ other_is ∙ ap (λ d. get_or ys (p + r) d) (sym same) ∙ sym (get_or-drop p ys r x))
-
--- One more head of it is copied.
-pub run_copied : (old now others : List ℕ) (len i p r : ℕ) → p + r < len → len ≤ length others → i + r < length now
-    → take (i + r) now ≡ take i old ++ take r (drop p (take len others))
-    → take (i + (r + 1)) (slice_set now (i + r) (get_or others (p + r) 0)) ≡ take i old ++ take (r + 1) (drop p (take len others))
-run_copied old now others len i p r there most inside before =
-    let hs = take len others in
-    let head = get_or others (p + r) 0 in
-    let count : length hs ≡ len = length-take-le len others most in
-    let read : get_or (drop p hs) r 0 ≡ head = get_or-drop p hs r 0 ∙ get_or-take len others (p + r) 0 there in
-    ap (λ n. take n (slice_set now (i + r) head)) (omega arith) ∙ take_more_set now (i + r) head inside
-    ∙ ap (λ ds. ds ++ head ∷ []) before ∙ append_assoc (take i old) (take r (drop p hs)) (head ∷ [])
-    ∙ ap (λ ds. take i old ++ ds) (ap (λ d. take r (drop p hs) ++ d ∷ []) (sym read)
-    ∙ sym (take_more (drop p hs) r 0 (omega (arith, there, count, length-drop p hs))))
 
 -- A key is empty, or begins as the keys do of which this is known.
 abbrev pub BeginsAsThese : KeyBytes → KeyHeads → ℕ → Type 0
@@ -313,31 +278,35 @@ module _ (bytes : KeyBytes) where
   known_spliced key_heads h new keys from to known is =
       subst (All (IsKnown bytes)) (sym is) (All-spliced (IsKnown bytes) key_heads.keys new from to (all_known bytes key_heads h) known)
 
-  -- The heads given of keys are theirs, and the keys begin as all others do.
-  given_right : (key_heads : KeyHeads) (keys heads : List ℕ) → All (IsKnown bytes) keys
-      → AllZip (λ key head. (text : List ℕ) → bytes key ≡ Some text → IsTargetHead bytes key_heads text head) keys heads
+  -- The head of a target is that of a key with its bytes.
+  pub target_beside : (key_heads : KeyHeads) (key head : ℕ) → IsKnown bytes key
+      → ((text : List ℕ) → bytes key ≡ Some text → IsTargetHead bytes key_heads text head) → IsHeadBeside bytes key_heads key head
+  target_beside key_heads key head known given = record {
+    begins = λ text is. inr ((given text is).agrees);
+    head_is = head_known key_heads.prefix_len key head known (λ text is. (given text is).head_is);
+  }
+
+  -- The heads of keys beside those of a node are theirs, and the keys begin as all others do.
+  beside_right : (key_heads : KeyHeads) (keys heads : List ℕ) → AllZip (IsHeadBeside bytes key_heads) keys heads
       → (heads ≡ map (head_at bytes key_heads.prefix_len) keys) × All (BeginsAsThese bytes key_heads) keys
-  given_right key_heads [] [] known given = (refl, All-nil (BeginsAsThese bytes key_heads))
-  given_right key_heads [] (head ∷ heads) known given = absurd given
-  given_right key_heads (key ∷ keys) [] known given = absurd given
-  given_right key_heads (key ∷ keys) (head ∷ heads) known given =
-      let rest = given_right key_heads keys heads (All-tail (IsKnown bytes) key keys known) given.1 in (
-        ap₂ (λ d ds. d ∷ ds)
-            (head_known key_heads.prefix_len key head (All-head (IsKnown bytes) key keys known)
-            (λ text is. (given.0 text is).head_is))
-            rest.0,
-        All-cons (BeginsAsThese bytes key_heads) key keys (λ text is. inr ((given.0 text is).agrees)) rest.1,
+  beside_right key_heads [] [] given = (refl, All-nil (BeginsAsThese bytes key_heads))
+  beside_right key_heads [] (head ∷ heads) given = absurd given
+  beside_right key_heads (key ∷ keys) [] given = absurd given
+  beside_right key_heads (key ∷ keys) (head ∷ heads) given =
+      let rest = beside_right key_heads keys heads given.1 in (
+        ap₂ (λ d ds. d ∷ ds) given.0.head_is rest.0,
+        All-cons (BeginsAsThese bytes key_heads) key keys given.0.begins rest.1,
       )
 
   -- Others are put in place of those from one index up to another, with the heads given.
   pub headed_spliced : (key_heads now : KeyHeads) → AreHeads bytes key_heads → (new heads : List ℕ) (from to : ℕ)
       → All (IsKnown bytes) new
-      → AllZip (λ key head. (text : List ℕ) → bytes key ≡ Some text → IsTargetHead bytes key_heads text head) new heads
+      → AllZip (IsHeadBeside bytes key_heads) new heads
       → now.keys ≡ take from key_heads.keys ++ (new ++ drop to key_heads.keys) → now.prefix_len ≡ key_heads.prefix_len
       → now.heads ≡ take from key_heads.heads ++ (heads ++ drop to key_heads.heads) → AreHeads bytes now
   headed_spliced key_heads now h new heads from to known given keys_are prefix_len heads_are =
       let f = head_at bytes key_heads.prefix_len in
-      let right = given_right key_heads new heads known given in
+      let right = beside_right key_heads new heads given in
       record {
         beginning = h.beginning;
         prefix_len = h.prefix_len ∙ sym prefix_len;
@@ -354,31 +323,6 @@ module _ (bytes : KeyBytes) where
   heads_count es key_heads h is =
       ap length h.heads ∙ length-map key_heads.keys (head_at bytes key_heads.prefix_len) ∙ ap length is
       ∙ length-map es (λ (e : Entry). e.key)
-
-  -- The heads of a run of keys that another node has are copied.
-  pub run_heads : (key_heads : KeyHeads) → AreHeads bytes key_heads → (keys old now : List ℕ) (i r p : ℕ)
-      → take r (drop i keys) ≡ take r (drop p key_heads.keys) → take (i + r) now ≡ take i old ++ take r (drop p key_heads.heads)
-      → take i old ≡ map (head_at bytes key_heads.prefix_len) (take i keys)
-      → take (i + r) now ≡ map (head_at bytes key_heads.prefix_len) (take (i + r) keys)
-  run_heads key_heads h keys old now i r p same copied before =
-      let f = head_at bytes key_heads.prefix_len in
-      let run : take r (drop p key_heads.heads) ≡ map f (take r (drop i keys)) =
-      ap (λ ds. take r (drop p ds)) h.heads ∙ ap (take r) (drop-map f p key_heads.keys) ∙ take-map f r (drop p key_heads.keys)
-      ∙ ap (map f) (sym same) in
-      copied ∙ ap₂ (λ xs ys. xs ++ ys) before run ∙ sym (map-append f (take i keys) (take r (drop i keys)))
-      ∙ ap (map f) (sym (take-add i r keys))
-
-  -- These begin as the other node's keys do.
-  pub run_begins : (key_heads : KeyHeads) → AreHeads bytes key_heads → (keys : List ℕ) (i r p : ℕ)
-      → take r (drop i keys) ≡ take r (drop p key_heads.keys) → All (BeginsAsThese bytes key_heads) (take i keys)
-      → All (BeginsAsThese bytes key_heads) (take (i + r) keys)
-  run_begins key_heads h keys i r p same before =
-      let P = BeginsAsThese bytes key_heads in
-      let all : All P key_heads.keys =
-      λ k d inside. key_agrees key_heads h (get_or key_heads.keys k d) (Contains-get_or key_heads.keys k d inside) in
-      subst (All P) (sym (take-add i r keys))
-      (All-append P (take i keys) (take r (drop i keys)) before
-      (subst (All P) (sym same) (All-take P r (drop p key_heads.keys) (All-drop P p key_heads.keys all))))
 
   -- Where one key of a second node begins as the keys of a first one do, all of both begin with the same bytes, if with as many.
   same_beginning : (one other : KeyHeads) (h : AreHeads bytes one) (others : AreHeads bytes other) (key : ℕ)
@@ -416,7 +360,7 @@ module _ (bytes : KeyBytes) where
       }
 
   -- Heads that are right of all keys are right of those in front, and of those behind.
-  headed_apart : (all front back : KeyHeads) → AreHeads bytes all
+  pub headed_apart : (all front back : KeyHeads) → AreHeads bytes all
       → front.keys ++ back.keys ≡ all.keys → front.heads ++ back.heads ≡ all.heads → length front.heads ≡ length front.keys
       → front.prefix_len ≡ all.prefix_len → back.prefix_len ≡ all.prefix_len → AreHeads bytes front × AreHeads bytes back
   headed_apart all front back h keys heads count front_len back_len =

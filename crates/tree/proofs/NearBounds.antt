@@ -7,7 +7,8 @@ use Rattle.std.proofs.lemmas.List.{take-take}
 use Rattle.std.proofs.lemmas.List.Elements.{All-nil, All-cons}
 use Rattle.keys.specs.Key.{IsBytes}
 use Rattle.tree.specs.declared.entry.Entry.{Entry}
-use Rattle.tree.specs.Heads.{KeyBytes, HaveCommonPrefix, IsPrefixLenAt, KeyHeads, HasPrefix, IsTargetHead, head_behind}
+use Rattle.tree.proofs.HeadChanges.{target_beside}
+use Rattle.tree.specs.Heads.{KeyBytes, HaveCommonPrefix, IsPrefixLenAt, KeyHeads, HasPrefix, IsHeadBeside, IsTargetHead, head_behind}
 use Rattle.tree.specs.Node.{keys_of}
 use Rattle.tree.proofs.Overwriting.{entries_put}
 
@@ -62,13 +63,13 @@ same_head bytes near key_heads target other same is head for =
     }
 
 -- It is that of a key that has these bytes, where it is known.
-pub key_head : (bytes near : KeyBytes) (key_heads : KeyHeads) (own : List ℕ) (head : Option ℕ) → ((key : ℕ) → near key ≡ bytes key)
-    → IfSome head (IsTargetHead near key_heads own) → is_some head ≡ true → (key : ℕ) → bytes key ≡ Some own
-    → (text : List ℕ) → bytes key ≡ Some text → IsTargetHead bytes key_heads text (unwrap_or head 0)
-key_head bytes near key_heads own None same for some key is text there = absurd (let t : false ≡ true = some in cc)
-key_head bytes near key_heads own (Some head) same for some key is text there =
-    let e : own ≡ text = let s : Some own ≡ Some text = sym is ∙ there in cc in
-    same_head bytes near key_heads text own same e head for
+pub key_beside : (bytes near : KeyBytes) (key_heads : KeyHeads) (own : List ℕ) (head : Option ℕ) → ((key : ℕ) → near key ≡ bytes key)
+    → IfSome head (IsTargetHead near key_heads own) → is_some head ≡ true → (key : ℕ) → bytes key ≡ Some own → IsBytes own
+    → IsHeadBeside bytes key_heads key (unwrap_or head 0)
+key_beside bytes near key_heads own None same for some key is are_bytes = absurd (let t : false ≡ true = some in cc)
+key_beside bytes near key_heads own (Some head) same for some key is are_bytes =
+    target_beside bytes key_heads key head (record { text = own; known = is; are_bytes = are_bytes })
+    (λ text there. let s : Some own ≡ Some text = sym is ∙ there in let e : own ≡ text = cc in same_head bytes near key_heads text own same e head for)
 
 -- what holds of both keys holds of those of the entries that are put in
 pub both_put : (P : ℕ → Type 0) (ended : Bool) (first second : Entry) → P first.key → P second.key

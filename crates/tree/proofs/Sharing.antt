@@ -55,13 +55,6 @@ set_one es i t within =
     let next : suc i ≡ i + 1 = omega arith in
     set_split es i t within ∙ ap (λ n. take i es ++ t ∷ drop n es) next
 
--- one of them set, and another inserted behind it
-pub set_inserted : (es : List Entry) (i : ℕ) (t u : Entry) → i < length es
-    → take (i + 1) (set es i t) ++ u ∷ drop (i + 1) (set es i t) ≡ take i es ++ (t ∷ u ∷ drop (i + 1) es)
-set_inserted es i t u within =
-    ap₂ (λ l m. l ++ u ∷ m) (take_more_set es i t within) (drop-set-lt (i + 1) es i t (omega arith))
-    ∙ append_assoc (take i es) (t ∷ []) (u ∷ drop (i + 1) es)
-
 module _ {N : ℕ} where
   -- two neighbours merged
   pub record Joined (a b : Arena (Node N)) (least height x y : ℕ) : Type 0 where

@@ -1,8 +1,8 @@
 -- Entries of a node in whose place others are put.
-use Rattle.std.proofs.Common.{◌≡◌, ℕ, ◌+◌, ◌-◌, ◌≤◌, List, ◌++◌, length, take, drop, sym, ◌∙◌, ap, ap₂, arith, length-append, length-drop, append_assoc, refl}
+use Rattle.std.proofs.Common.{◌≡◌, ℕ, ◌+◌, ◌-◌, ◌≤◌, List, [], ◌++◌, length, take, drop, sym, ◌∙◌, ap, ap₂, arith, length-append, length-drop, append_assoc, refl}
 use Rattle.std.specs.List.{copy_within}
 use Rattle.std.proofs.Math.Seq.{take-append-add}
-use Rattle.std.proofs.lemmas.List.{length-take, length-take-le, take-append-drop, take-take, take-append-le, take_at, drop_at, drop-drop, drop-take}
+use Rattle.std.proofs.lemmas.List.{length-take, length-take-le, append-nil, drop_all, take-append-drop, take-take, take-append-le, take_at, drop_at, drop-drop, drop-take}
 
 -- Elements that are moved to where they are stay.
 pub not_moved : {X : Type 0} (xs : List X) (from end to : ℕ) → from ≡ to → xs ≡ copy_within xs from end to
@@ -71,3 +71,20 @@ take-spliced_before xs ys others len from to within ordered most room inside aft
     put_taken ys others from n inside (omega arith) ∙ ap (λ zs. take from zs ++ (others ++ drop end zs)) after
     ∙ sym (put_taken moved others from n (omega (arith, inside, ap length after, length-take n ys, length-take n moved)) (omega arith))
     ∙ take-spliced xs moved others len from to within ordered most room refl
+
+-- Elements are taken apart in two, and those at the end of the first part are written over.
+pub apart_spliced : {X : Type 0} (xs new : List X) (from to : ℕ) → from ≤ to → to ≤ length xs
+    → (take from (take to xs) ++ (new ++ drop to (take to xs))) ++ drop to xs ≡ take from xs ++ (new ++ drop to xs)
+apart_spliced xs new from to ordered within =
+    let none : drop to (take to xs) ≡ [] = drop_all to (take to xs) (omega (arith, length-take-le to xs within)) in
+    ap₂ (λ p q. (p ++ (new ++ q)) ++ drop to xs) (take-take from to xs ordered) none
+    ∙ ap (λ q. (take from xs ++ q) ++ drop to xs) (append-nil new) ∙ append_assoc (take from xs) new (drop to xs)
+
+-- Or the new ones are put before the second part.
+pub apart_prepended : {X : Type 0} (xs new : List X) (from to : ℕ) → from ≤ to → to ≤ length xs
+    → (take from (take to xs) ++ ([] ++ drop to (take to xs))) ++ (take 0 (drop to xs) ++ (new ++ drop 0 (drop to xs)))
+    ≡ take from xs ++ (new ++ drop to xs)
+apart_prepended xs new from to ordered within =
+    let none : drop to (take to xs) ≡ [] = drop_all to (take to xs) (omega (arith, length-take-le to xs within)) in
+    ap₂ (λ p q. (p ++ q) ++ (new ++ drop to xs)) (take-take from to xs ordered) none
+    ∙ ap (λ p. p ++ (new ++ drop to xs)) (append-nil (take from xs))

@@ -129,15 +129,17 @@ module _ {N : ℕ} where
 
   -- the two parts of a node that was split have entries, and so has one that wasn't
   pub some_left : (w : Arena (Node N)) (slot : ℕ) (added : Option ℕ) (p q : List Entry) (t u : Entry) → 4 ≤ N
-      → entries_at_both w slot added ≡ p ++ (t ∷ u ∷ q) → IfSome added (λ _. N ≤ 2 * length (entries_at w slot))
+      → entries_at_both w slot added ≡ p ++ (t ∷ u ∷ q)
+      → IfSome added (λ s. (N ≤ 2 * length (entries_at w slot)) × (N ≤ 2 * length (entries_at w s)))
       → 1 ≤ length (entries_at w slot)
   some_left w slot None p q t u four is half = omega (arith, ap length is, length-append p (t ∷ u ∷ q))
-  some_left w slot (Some s) p q t u four is half = omega (arith, half)
+  some_left w slot (Some s) p q t u four is half = omega (arith, half.0)
 
-  pub some_right : (w : Arena (Node N)) (added : Option ℕ) → 4 ≤ N → IfSome added (λ s. N ≤ 2 * length (entries_at w s))
+  pub some_right : (w : Arena (Node N)) (slot : ℕ) (added : Option ℕ) → 4 ≤ N
+      → IfSome added (λ s. (N ≤ 2 * length (entries_at w slot)) × (N ≤ 2 * length (entries_at w s)))
       → IfSome added (λ s. 1 ≤ length (entries_at w s))
-  some_right w None four half = tt
-  some_right w (Some s) four half = omega (arith, half)
+  some_right w slot None four half = tt
+  some_right w slot (Some s) four half = omega (arith, half.1)
 
   -- a node that wasn't split has one more entry
   pub one_more : (w : Arena (Node N)) (slot : ℕ) (added : Option ℕ) (es : List Entry) (i : ℕ) (t u : Entry)
@@ -167,19 +169,19 @@ module _ {N : ℕ} where
           omega (arith, ap length at.read, more)
 
       pub stepped_linked : IsSubtree b least lower s → least ≤ length (entries_at b x) → least ≤ length (entries_at b s)
-          → IfSome added (λ _. N ≤ 2 * length (entries_at w slot)) → IfSome added (λ s. N ≤ 2 * length (entries_at w s))
+          → IfSome added (λ s. (N ≤ 2 * length (entries_at w slot)) × (N ≤ 2 * length (entries_at w s)))
           → IsLive w slot → IfSome added (λ s. IsLive w s) → Changes b w (slot ∷ []) (slot ∷ slot_taken added)
           → IsStepped a w least height lower slot es i (items_in b lower x ++ items_in b lower s) added
-      stepped_linked below_added filled_x filled_added left right live live_added changes =
+      stepped_linked below_added filled_x filled_added half live live_added changes =
           let now = entries_at_both w slot added in
           let middle = items_in b lower x ++ items_in b lower s in
           let step = step_linked a b least lower es i x d at.within at.x_is at.few_below at.right s now insert_entry below
           below_added filled_x filled_added moves in
           let some = some_left w slot added (take i es) (drop (i + 1) es) insert_entry.first insert_entry.second four insert_entry.entries
-          left in
+          half in
           stepped a b w least height lower slot es now i middle added next step.items
           (stored a b w least lower slot es at.slots_are at.few at.live now step.moves step.children added refl some
-          (some_right w added four right) live live_added
+          (some_right w slot added four half) live live_added
           (moves_if_changes b w (slot ∷ []) (slot ∷ slot_taken added) changes))
 
     -- the child was changed

@@ -123,22 +123,22 @@ module _ {N : ℕ} (bytes : KeyBytes) (a b : Arena (Node N)) (height lower slot 
       pub step_linked : (added : Option ℕ)
           → IsLinked b (child_at (entries_at b slot) i) s (take i (entries_at b slot)) (drop (i + 1) (entries_at b slot))
           (entries_at_both w slot added)
-          → IfSome added (λ _. N ≤ 2 * length (entries_at w slot)) → IfSome added (λ s. N ≤ 2 * length (entries_at w s))
+          → IfSome added (λ s. (N ≤ 2 * length (entries_at w slot)) × (N ≤ 2 * length (entries_at w s)))
           → IsLive w slot → IfSome added (λ s. IsLive w s) → Changes b w (slot ∷ []) (slot ∷ slot_taken added)
           → IsStepped a w (least_of N) height lower slot es i (items_in b lower x ++ items_in b lower s) added
-      step_linked added linked left right live live_added changes =
+      step_linked added linked half live live_added changes =
           let moves = moves_if_changes a b (slots_in a lower x) (slots_in b lower x ++ slots_in b lower s) below.changes in
           stepped_linked a b w (least_of N) height lower slot is_below es i x d next at below.subtree s added moves
-          can.fan_out linked below.neighbour below.filled.0 below.filled.1 left right live live_added changes
+          can.fan_out linked below.neighbour below.filled.0 below.filled.1 half live live_added changes
 
       pub linked_above : (added : Option ℕ)
           → IsLinked b (child_at (entries_at b slot) i) s (take i (entries_at b slot)) (drop (i + 1) (entries_at b slot))
           (entries_at_both w slot added)
-          → IfSome added (λ _. N ≤ 2 * length (entries_at w slot)) → IfSome added (λ s. N ≤ 2 * length (entries_at w s))
+          → IfSome added (λ s. (N ≤ 2 * length (entries_at w slot)) × (N ≤ 2 * length (entries_at w s)))
           → IsLive w slot → IfSome added (λ s. IsLive w s) → Changes b w (slot ∷ []) (slot ∷ slot_taken added)
           → IsChanged bytes a w height slot (outcome_of added)
-      linked_above None linked left right live live_added changes =
-          let step = step_linked None linked left right live live_added changes in
+      linked_above None linked half live live_added changes =
+          let step = step_linked None linked half live live_added changes in
           let moves = moves_if_changes a b (slots_in a lower x) (slots_in b lower x ++ slots_in b lower s) below.changes in
           record {
             same = λ is. absurd (cc);
@@ -152,10 +152,10 @@ module _ {N : ℕ} (bytes : KeyBytes) (a b : Arena (Node N)) (height lower slot 
             taken = omega (arith, below.taken, spare, next);
             headed = headed;
           }
-      linked_above (Some t) linked left right live live_added changes =
-          let step = step_linked (Some t) linked left right live live_added changes in
-          let left_is : N ≤ 2 * length (entries_at w slot) = left in
-          let right_is : N ≤ 2 * length (entries_at w t) = right in
+      linked_above (Some t) linked half live live_added changes =
+          let step = step_linked (Some t) linked half live live_added changes in
+          let left_is : N ≤ 2 * length (entries_at w slot) = half.0 in
+          let right_is : N ≤ 2 * length (entries_at w t) = half.1 in
           record {
             same = λ is. absurd (cc);
             raised = λ version is. absurd (cc);

@@ -1,6 +1,6 @@
 -- What nodes know of the bytes of keys. This project's own.
 use Rattle.std.specs.Prelude.{◌≡◌, ◌⊎◌, ◌≤◌, ◌↔◌, ℕ, Bool, true, false, List, [], length, map, take, drop, Option, Some, slice_get, unwrap_or, IfSome, MatchOption}
-use Rattle.std.specs.List.{All, Contains}
+use Rattle.std.specs.List.{All, AllZip, Contains}
 use Rattle.keys.specs.Key.{IsBytes, IsBefore}
 use Rattle.keys.specs.Head.{head_of}
 use Rattle.tree.specs.declared.entry.Entry.{Entry}
@@ -79,6 +79,15 @@ pub record HasPrefix (bytes : KeyBytes) (key_heads : KeyHeads) (target : List �
   pub known : bytes key ≡ Some text
   pub long : key_heads.prefix_len ≤ length text
   pub same : take key_heads.prefix_len text ≡ take key_heads.prefix_len target
+
+-- The head of a key that is empty or begins as all keys of the node do.
+pub record IsHeadBeside (bytes : KeyBytes) (key_heads : KeyHeads) (key head : ℕ) : Type 0 where
+  pub begins : (text : List ℕ) → bytes key ≡ Some text → (text ≡ []) ⊎ HasPrefix bytes key_heads text
+  pub head_is : head ≡ head_at bytes key_heads.prefix_len key
+
+-- the heads of some keys
+abbrev pub AreHeadsBeside : KeyBytes → KeyHeads → List ℕ → List ℕ → Type 0
+AreHeadsBeside bytes key_heads keys heads = AllZip (IsHeadBeside bytes key_heads) keys heads
 
 -- The head of the target, which begins as all keys do.
 pub record IsTargetHead (bytes : KeyBytes) (key_heads : KeyHeads) (target : List ℕ) (head : ℕ) : Type 0 where

@@ -1,19 +1,21 @@
 -- What must hold where nodes are changed, and the ones above them made right. This project's own.
-use Rattle.std.specs.Prelude.{◌≡◌, ◌≢◌, ◌≤◌, ◌<◌, ◌+◌, ◌*◌, ◌-◌, ◌∷◌, ℕ, List, [], length, nat_eq, Option, Some, IfSome}
+use Rattle.std.specs.Prelude.{◌≡◌, ◌≢◌, ◌≤◌, ◌<◌, ◌+◌, ◌*◌, ◌-◌, ◌∷◌, ℕ, List, [], length, nat_eq, Bool, Option, Some, IfSome, IsTrue}
 use Rattle.std.specs.List.{All, IsDistinct}
 use Rattle.std.specs.FinMap as map_of
 use Rattle.arena.specs.Arena.{Arena, IsLive, spare_of}
 use Rattle.tree.specs.declared.entry.Entry.{Entry}
 use Rattle.tree.specs.declared.node.Node.{Node}
-use Rattle.tree.specs.Heads.{AllAreHeads, IsKnown, KeyBytes}
+use Rattle.tree.specs.Heads.{AllAreHeads, AreHeadsBeside, IsKnown, KeyBytes}
 use Rattle.tree.specs.Node.{all_heads_of, keys_of}
 use Rattle.tree.specs.Replace.{child_at, slot_taken, slots_with, Changes, IsFamily, IsFamilyAt, IsKeyless}
 use Rattle.tree.specs.Subtree.{entries_at, slots_in, IsSubtree}
 use Rattle.tree.specs.Tree.{least_of}
 
 module _ {N : ℕ} where
-  -- The leaf at a slot, which is too full for entries in place of those from one index up to another, and so is split.
-  pub record CanSplit (bytes : KeyBytes) (nodes : Arena (Node N)) (slot from to : ℕ) (new : List Entry) : Type 0 where
+  -- The node at a slot, which is too full for entries in place of those from one index up to another, and so is split. It may be
+  -- known that their keys begin as all others do, with their heads.
+  pub record CanSplit (bytes : KeyBytes) (nodes : Arena (Node N)) (slot from to : ℕ) (new : List Entry) (heads : List ℕ)
+      (alike : Bool) : Type 0 where
     pub fan_out : 4 ≤ N
     pub live : IsLive nodes slot
     pub keyless : IsKeyless nodes
@@ -24,6 +26,8 @@ module _ {N : ℕ} where
     pub many : N < from + length new + (length (entries_at nodes slot) - to)
     pub headed : AllAreHeads bytes (all_heads_of nodes)
     pub known : All (IsKnown bytes) (keys_of new)
+    pub same_len : length heads ≡ length new
+    pub beside : IsTrue alike → IfSome (all_heads_of nodes slot) (λ own. AreHeadsBeside bytes own (keys_of new) heads)
 
   -- A node is stored at a slot, and its right neighbour, if any, at one that was spare.
   pub record IsStored (bytes : KeyBytes) (old new : Arena (Node N)) (slot : ℕ) (added : Option ℕ) : Type 0 where
@@ -31,6 +35,7 @@ module _ {N : ℕ} where
     pub live_added : IfSome added (λ s. IsLive new s)
     pub changes : Changes old new (slot ∷ []) (slot ∷ slot_taken added)
     pub taken : spare_of old 0 ≤ spare_of new 0 + 1
+    pub filled : IfSome added (λ s. (N ≤ 2 * length (entries_at new slot)) × (N ≤ 2 * length (entries_at new s)))
     pub headed : AllAreHeads bytes (all_heads_of new)
 
   -- The node at a slot, of which the child at an index was split from the one that is added.
@@ -43,15 +48,6 @@ module _ {N : ℕ} where
     pub keyless : IsKeyless nodes
     pub room : 0 < spare_of nodes 0
     pub headed : AllAreHeads bytes (all_heads_of nodes)
-
-  -- likewise the entries of a node
-  pub record CanInsertEntry (nodes : Arena (Node N)) (entries : List Entry) (index added : ℕ) : Type 0 where
-    pub fan_out : 4 ≤ N
-    pub within : index < length entries
-    pub child : IsLive nodes (child_at entries index)
-    pub some : 0 < length (entries_at nodes (child_at entries index))
-    pub live_added : IsLive nodes added
-    pub some_added : 0 < length (entries_at nodes added)
 
   -- the node at a slot, of which the child at an index has changed
   pub record CanRebalance (bytes : KeyBytes) (nodes : Arena (Node N)) (slot index : ℕ) : Type 0 where

@@ -6,7 +6,6 @@ use Rattle.arena.specs.Arena.{Arena, IsLive, record_at, key_at, spare_of}
 use Rattle.tree.specs.declared.entry.Entry.{Entry}
 use Rattle.tree.specs.declared.node.Node.{Node}
 use Rattle.tree.specs.Item.{Item, Tells}
-use Rattle.tree.specs.Node.{entries_of}
 use Rattle.tree.specs.Subtree.{entries_at, items_in, slots_in, IsChild, IsSubtree}
 
 -- the child of the entry at an index
@@ -66,11 +65,6 @@ module _ {N : ℕ} where
     pub children : AreChildren new least height now
     pub items : items_of new height now ≡ items_of old height was
     pub changes : Changes old new (slots_of old height was) (slots_of new height now)
-
-  -- the entries of a node and of the right neighbour that it was split from, if any
-  abbrev pub entries_with : Node N → Option (Node N) → List Entry
-  entries_with node None = entries_of node
-  entries_with node (Some right) = entries_of node ++ entries_of right
 
   -- Between these entries stand two others: for a child and for its right neighbour.
   pub record IsLinked (nodes : Arena (Node N)) (child added : ℕ) (before behind now : List Entry) : Type 0 where

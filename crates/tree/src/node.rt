@@ -83,17 +83,6 @@ impl<const N: usize> Node<N> {
         self.entries[index] = entry;
     }
 
-    /// Inserts an entry at an index.
-    pub fn insert(&mut self, index: usize, entry: Entry)
-        requires within { index ≤ length (entries_of self.old) }
-        requires room { length (entries_of self.old) < N }
-        ensures entries { (entries_of self.new) ≡ take index (entries_of self.old) ++ entry ∷ drop index (entries_of self.old) }
-    {
-        self.entries.copy_within(index..self.len, index + 1);
-        self.entries[index] = entry;
-        self.len += 1;
-    }
-
     /// Copies an entry, with what is known of its key, from one index to another.
     pub fn copy(&mut self, from: usize, to: usize)
         requires from { from < length (entries_of self.old) }
@@ -137,21 +126,22 @@ impl<const N: usize> Node<N> {
         }
     }
 
-    /// Puts these entries in place of those from one index up to another.
-    pub fn splice(&mut self, from: usize, to: usize, new: &[Entry])
+    /// Puts these entries, with their heads, in place of those from one index up to another.
+    pub fn splice(&mut self, from: usize, to: usize, new: &[Entry], heads: &[u64])
         requires ordered { from ≤ to }
         requires within { to ≤ length (entries_of self.old) }
+        requires same_len { length heads.now ≡ length new.now }
         requires room { from + length new.now + (length (entries_of self.old) - to) ≤ N }
-        ensures entries { (entries_of self.new) ≡ take from (entries_of self.old) ++ (new.now ++ drop to (entries_of self.old)) }
-        ensures prefix_len { (key_heads_of self.new).prefix_len ≡ (key_heads_of self.old).prefix_len }
-        ensures heads { (key_heads_of self.new).heads ≡ take (length (entries_of self.new))
-            (copy_within (node_heads self.old) to (length (entries_of self.old)) (from + length new.now)) }
-        ensures count { length (key_heads_of self.new).heads ≡ length (entries_of self.new) }
+        ensures entries { entries_of self.new ≡ take from (entries_of self.old) ++ (new.now ++ drop to (entries_of self.old)) }
+        ensures heads { HasHeads self.old self.new
+            (take from (key_heads_of self.old).heads ++ (heads.now ++ drop to (key_heads_of self.old).heads)) }
     {
         let end = from + new.len();
         self.move_tail(to, end);
         let entries = &mut self.entries[..];
         copy_few(new, &mut entries[from..end]);
+        let own = &mut self.heads[..];
+        copy_few(heads, &mut own[from..end]);
     }
 
     /// Puts entries of another node, with their heads, behind these.
@@ -197,54 +187,6 @@ impl<const N: usize> Node<N> {
         right.move_tail(at, 0);
         self.move_tail(self.len, at);
         right
-    }
-
-    /// Puts these entries in place of those from one index up to another, where there is no room for all. The entries
-    /// of the second half are returned.
-    pub fn splice_apart(&mut self, from: usize, to: usize, new: &[Entry]) -> Node<N>
-        requires ordered { from ≤ to }
-        requires within { to ≤ length (entries_of self.old) }
-        requires few_new { 2 * length new.now ≤ N }
-        requires many { N < from + length new.now + (length (entries_of self.old) - to) }
-        ensures entries { entries_of self.new ++ entries_of result
-            ≡ take from (entries_of self.old) ++ (new.now ++ drop to (entries_of self.old)) }
-        ensures left { N ≤ 2 * length (entries_of self.new) }
-        ensures right { N ≤ 2 * length (entries_of result) }
-    {
-        let mut right = self.split_off(to);
-        self.remove(from, to);
-        if from + new.len() <= N {
-            self.splice(from, from, new);
-        } else {
-            right.splice(0, 0, new);
-        }
-        self.redistribute(&mut right);
-        right
-    }
-
-    /// Inserts an entry at an index. A full node is split: the entries of its second half are returned.
-    pub fn insert_or_split(&mut self, index: usize, entry: Entry) -> Option<Node<N>>
-        requires within { index ≤ length (entries_of self.old) }
-        requires sized { 4 ≤ N }
-        ensures entries { MatchOption result ((entries_of self.new) ≡ take index (entries_of self.old) ++ entry ∷ drop index (entries_of self.old))
-            (λ right. entries_of self.new ++ entries_of right ≡ take index (entries_of self.old) ++ entry ∷ drop index (entries_of self.old)) }
-        ensures left { IfSome result (λ _. N ≤ 2 * length (entries_of self.new)) }
-        ensures right { IfSome result (λ right. N ≤ 2 * length (entries_of right)) }
-    {
-        if self.len < N {
-            self.insert(index, entry);
-            return None;
-        }
-        let half = (N + 1) / 2;
-        if index < half {
-            let right = self.split_off(half - 1);
-            self.insert(index, entry);
-            Some(right)
-        } else {
-            let mut right = self.split_off(half);
-            right.insert(index - half, entry);
-            Some(right)
-        }
     }
 
     /// Moves entries, with their heads, between two neighbours so that they have as many, but for one. The first of these is the left

@@ -16,7 +16,7 @@ ghost use Rattle.tree.specs.Tree.{least_of};
 use crate::bound::Bound;
 use crate::entry::Entry;
 use crate::node::Node;
-use crate::replace::place;
+use crate::replace::split;
 use crate::tree::item;
 use crate::walk::{LeafChange, Outcome, Place};
 use arena::{Arena, Slot};
@@ -128,18 +128,16 @@ impl<'a, 'b, P: Bound, Q: Bound, R: Bound, const N: usize> LeafChange<N>
         self.written = Written::Whole { ended };
         let entries = [new.first, item(new.second, new.last.unwrap_or(last))];
         let entries = if ended { &entries[..1] } else { &entries[..] };
-        if begin + entries.len() > N - (leaf.len() - end) {
-            return Outcome::Split(split_leaf(nodes, slot, begin, end, entries, new.to));
-        }
         // The keys of both entries have the bytes of the targets, and so their heads.
-        let both = [head.unwrap_or(0), to_head.unwrap_or(0)];
-        let heads = if head.is_some() && to_head.is_some() {
-            Some(&both[..entries.len()])
-        } else {
-            None
-        };
+        let heads = [head.unwrap_or(0), to_head.unwrap_or(0)];
+        let heads = &heads[..entries.len()];
+        let alike = head.is_some() && to_head.is_some();
+        if begin + entries.len() > N - (leaf.len() - end) {
+            let added = split(nodes, slot, begin, end, entries, heads, alike, new.to);
+            return Outcome::Split(added);
+        }
         let leaf = nodes.header_mut(slot);
-        leaf.splice_with_heads(begin, end, entries, heads, new.to);
+        leaf.splice_with_heads(begin, end, entries, heads, alike, new.to);
         if begin == 0 || new.last.is_some() {
             return Outcome::Changed;
         }
@@ -147,29 +145,4 @@ impl<'a, 'b, P: Bound, Q: Bound, R: Bound, const N: usize> LeafChange<N>
     }
 
     ghost part = { λ o. part_of_part (P.below o.new.now.from.now) };
-}
-
-// Puts entries in place of those of a leaf from one index up to another, which is split for it. Returns the slot of its
-// right neighbour.
-fn split_leaf<P: Bound, const N: usize>(
-    nodes: &mut Arena<Node<N>>,
-    slot: Slot,
-    from: usize,
-    to: usize,
-    new: &[Entry],
-    bound: &P,
-) -> Slot
-    requires can_split { CanSplit (P.bytes bound.now) nodes.old slot from to new.now }
-    ensures entries { entries_at_both nodes.new slot (Some result)
-        ≡ take from (entries_at nodes.old slot) ++ (new.now ++ drop to (entries_at nodes.old slot)) }
-    ensures filled { (least_of N ≤ length (entries_at nodes.new slot)) × (least_of N ≤ length (entries_at nodes.new result)) }
-    ensures stored { IsStored (P.bytes bound.now) nodes.old nodes.new slot (Some result) }
-{
-    let mut left = nodes.header(slot);
-    let mut right = left.splice_apart(from, to, new);
-    let moved = left.len().saturating_sub(new.len());
-    left.copy_heads(nodes.header_ref(slot), 0, bound);
-    right.copy_heads(nodes.header_ref(slot), moved, bound);
-    nodes.set_header(slot, left);
-    place(nodes, right)
 }

@@ -1,15 +1,14 @@
 //! A node above a changed child, rebalanced.
 
-ghost use Rattle.std.specs.Prelude.{◌≡◌, ◌≤◌, ◌<◌, ◌+◌, ◌-◌, ◌*◌, ◌/◌, ◌∷◌, ◌↔◌, ℕ, false, [], length, take, drop, MatchOption, IfSome, IsSome, IsSomeAnd, IsTrue, None, Some};
-ghost use Rattle.std.specs.List.{All};
-ghost use Rattle.std.specs.FinMap as map_of;
+ghost use Rattle.std.specs.Prelude.{◌≡◌, ◌≤◌, ◌<◌, ◌+◌, ◌*◌, ◌∷◌, ◌++◌, ℕ, [], length, take, drop, IfSome, IsTrue, Some};
+ghost use Rattle.std.specs.List.{AllZip};
 ghost use Rattle.arena.specs.Arena.{IsLive, spare_of};
-ghost use Rattle.tree.specs.Heads.{AllAreHeads, AreHeads, IsKnown, KeyBytes};
-ghost use Rattle.tree.specs.Rebalancing.{CanInsertChild, CanInsertEntry, CanRebalance, IsStored, LosesOneAtMost};
+ghost use Rattle.tree.specs.Heads.{AllAreHeads, AreHeads, IsHeadBeside, KeyBytes};
+ghost use Rattle.tree.specs.Rebalancing.{CanInsertChild, CanRebalance, CanSplit, IsStored, LosesOneAtMost};
 ghost use Rattle.tree.specs.Node.{entries_of, key_heads_of, all_heads_of, keys_of};
 ghost use Rattle.tree.specs.Subtree.{entries_at};
 ghost use Rattle.tree.specs.Tree.{least_of};
-ghost use Rattle.tree.specs.Replace.{child_at, entries_at_both, entries_with, slot_taken, Changes, IsFamilyAt, IsKeyless, IsLinked, IsRebalancedAt, TellsWritten};
+ghost use Rattle.tree.specs.Replace.{child_at, entries_at_both, Changes, IsFamilyAt, IsKeyless, IsLinked, IsRebalancedAt, TellsWritten};
 
 use crate::bound::Bound;
 use crate::entry::Entry;
@@ -29,14 +28,47 @@ pub fn insert_child<P: Bound, const N: usize>(
     requires can_insert { CanInsertChild (P.bytes bound.now) nodes.old slot index added }
     ensures linked { IsLinked nodes.old (child_at (entries_at nodes.old slot) index) added (take index (entries_at nodes.old slot))
         (drop (index + 1) (entries_at nodes.old slot)) (entries_at_both nodes.new slot result) }
-    ensures left { IfSome result (λ _. N ≤ 2 * length (entries_at nodes.new slot)) }
-    ensures right { IfSome result (λ right. N ≤ 2 * length (entries_at nodes.new right)) }
     ensures stored { IsStored (P.bytes bound.now) nodes.old nodes.new slot result }
 {
-    let mut node = nodes.header(slot);
-    let right = insert_entry(nodes, &mut node, index, added);
-    node.copy_heads(nodes.header_ref(slot), 0, bound);
-    store(nodes, slot, &node, right.as_ref(), bound)
+    let node = nodes.header_ref(slot);
+    let child = node.entries()[index].child;
+    let new = [entry_for(nodes, child), entry_for(nodes, added)];
+    let (head, added_head) = (
+        node.head_of(new[0].key, index, bound),
+        node.head_of(new[1].key, index, bound),
+    );
+    let heads = [head.unwrap_or(0), added_head.unwrap_or(0)];
+    let alike = head.is_some() && added_head.is_some();
+    if node.len() == N {
+        return Some(split(nodes, slot, index, index + 1, &new, &heads, alike, bound));
+    }
+    nodes
+        .header_mut(slot)
+        .splice_with_heads(index, index + 1, &new, &heads, alike, bound);
+    None
+}
+
+/// Puts entries in place of those of a node from one index up to another, which is split for it. Returns the slot of its right
+/// neighbour. The heads are set as by `splice_with_heads`.
+pub fn split<P: Bound, const N: usize>(
+    nodes: &mut Arena<Node<N>>,
+    slot: Slot,
+    from: usize,
+    to: usize,
+    new: &[Entry],
+    heads: &[u64],
+    alike: bool,
+    bound: &P,
+) -> Slot
+    requires can_split { CanSplit (P.bytes bound.now) nodes.old slot from to new.now heads.now alike }
+    ensures entries { entries_at_both nodes.new slot (Some result)
+        ≡ take from (entries_at nodes.old slot) ++ (new.now ++ drop to (entries_at nodes.old slot)) }
+    ensures stored { IsStored (P.bytes bound.now) nodes.old nodes.new slot (Some result) }
+{
+    let mut left = nodes.header(slot);
+    let right = left.splice_apart(from, to, new, heads, alike, bound);
+    nodes.set_header(slot, left);
+    place(nodes, right)
 }
 
 /// Makes the entry at an index right in the node at a slot, whose child has changed: where the node lies, unless the
@@ -85,55 +117,6 @@ pub fn raise_entry<P: Bound, const N: usize>(
     nodes
         .header_mut(slot)
         .set(index, Entry { version, ..entry });
-}
-
-// Makes the entry for a changed child right, and puts one for the child's new right neighbour behind it. A full node is
-// split.
-fn insert_entry<const N: usize>(
-    nodes: &Arena<Node<N>>,
-    node: &mut Node<N>,
-    index: usize,
-    added: Slot,
-) -> Option<Node<N>>
-    requires can_insert { CanInsertEntry nodes.now (entries_of node.old) index added }
-    ensures linked { IsLinked nodes.now (child_at (entries_of node.old) index) added (take index (entries_of node.old))
-        (drop (index + 1) (entries_of node.old)) (entries_with node.new result) }
-    ensures left { IfSome result (λ _. N ≤ 2 * length (entries_of node.new)) }
-    ensures right { IfSome result (λ right. N ≤ 2 * length (entries_of right)) }
-    ensures known { (bytes : KeyBytes) → AllAreHeads bytes (all_heads_of nodes.now) → All (IsKnown bytes) (keys_of (entries_of node.old))
-        → All (IsKnown bytes) (keys_of (entries_with node.new result)) }
-{
-    let child = node.entries()[index].child;
-    node.set(index, entry_for(nodes, child));
-    node.insert_or_split(index + 1, entry_for(nodes, added))
-}
-
-/// Puts a node at a slot, and its right neighbour, if any, in a spare one, which is returned.
-pub fn store<P: Bound, const N: usize>(
-    nodes: &mut Arena<Node<N>>,
-    slot: Slot,
-    node: &Node<N>,
-    right: Option<&Node<N>>,
-    bound: &P,
-) -> Option<Slot>
-    requires live { IsLive nodes.old slot }
-    requires keyless { IsKeyless nodes.old }
-    requires room { IsSome right → 0 < spare_of nodes.old 0 }
-    requires headed { AllAreHeads (P.bytes bound.now) (all_heads_of nodes.old) }
-    requires left { AreHeads (P.bytes bound.now) (key_heads_of node.now) }
-    requires right { IfSome right (λ r. All (IsKnown (P.bytes bound.now)) (keys_of (entries_of r.now))) }
-    ensures node { entries_at nodes.new slot ≡ entries_of node.now }
-    ensures right { MatchOption right.entry (result ≡ None) (λ r. IsSomeAnd result (λ added. entries_at nodes.new added ≡ entries_of r.now)) }
-    ensures stored { IsStored (P.bytes bound.now) nodes.old nodes.new slot result }
-{
-    let Some(right) = right else {
-        nodes.set_header(slot, *node);
-        return None;
-    };
-    let mut added = *right;
-    added.copy_heads(nodes.header_ref(slot), (N / 2).saturating_sub(1), bound);
-    nodes.set_header(slot, *node);
-    Some(place(nodes, added))
 }
 
 /// Stores a node in a spare slot.

@@ -112,7 +112,7 @@ fn grow<P: Bound, const N: usize>(
     ensures headed { AllAreHeads (P.bytes bound.now) (all_heads_of nodes.new) }
 {
     let mut node = Node::of(entry_for(nodes, root.slot));
-    node.insert(1, entry_for(nodes, added));
+    node.splice(1, 1, &[entry_for(nodes, added)], &[0]);
     node.compute_heads(bound);
     Root {
         slot: place(nodes, node),

@@ -2,8 +2,8 @@
 
 ghost use Rattle.std.specs.Prelude.{◌≡◌, ◌≢◌, ◌<◌, ◌≤◌, ◌+◌, ◌-◌, ◌*◌, ◌++◌, ◌⊎◌, ℕ, List, [], length, take, drop, get_or, slice_index, slice_set, Some, IfSome, IsTrue};
 ghost use Rattle.std.specs.Int.{w64, to_be_bytes};
-ghost use Rattle.std.specs.List.{All, AllZip, Contains};
-ghost use Rattle.tree.specs.Heads.{HasPrefix, AreHeads, IsKnown, IsTargetHead, Begins, head_at};
+ghost use Rattle.std.specs.List.{All, Contains};
+ghost use Rattle.tree.specs.Heads.{HasPrefix, AreHeads, AreHeadsBeside, IsHeadBeside, IsKnown, Begins};
 ghost use Rattle.tree.specs.Node.{entries_of, key_heads_of, keys_of};
 
 use super::{Node, copy_few};
@@ -11,9 +11,6 @@ use crate::bound::Bound;
 use crate::entry::Entry;
 use arena::Slot;
 use keys::same_bytes;
-
-// So many entries are looked at for a key that another node may have.
-const NEAR: usize = 8;
 
 // Where one key is empty, so few bytes with which the others begin in common don't count.
 const FEW: u16 = 6;
@@ -79,84 +76,75 @@ impl<const N: usize> Node<N> {
         self.heads[index] = bound.head_of(entry.key, self.prefix_len());
     }
 
-    /// Puts these entries in place of those from one index up to another, and sets their heads: those given, where their keys begin
-    /// as all others do, or else all are computed anew.
+    /// Puts these entries in place of those from one index up to another. `alike` tells that their keys begin as all others do, and
+    /// that these are their heads. Else all heads are computed anew.
     pub fn splice_with_heads<P: Bound>(
         &mut self,
         from: usize,
         to: usize,
         new: &[Entry],
-        heads: Option<&[u64]>,
+        heads: &[u64],
+        alike: bool,
         bound: &P,
     )
         requires ordered { from ≤ to }
         requires within { to ≤ length (entries_of self.old) }
+        requires same_len { length heads.now ≡ length new.now }
         requires room { from + length new.now + (length (entries_of self.old) - to) ≤ N }
         requires headed { AreHeads (P.bytes bound.now) (key_heads_of self.old) }
         requires known { All (IsKnown (P.bytes bound.now)) (keys_of new.now) }
-        requires given { IfSome heads (λ hs. AllZip (λ key head. (text : List ℕ) → P.bytes bound.now key ≡ Some text
-            → IsTargetHead (P.bytes bound.now) (key_heads_of self.old) text head) (keys_of new.now) hs.now) }
-        ensures entries { (entries_of self.new) ≡ take from (entries_of self.old) ++ (new.now ++ drop to (entries_of self.old)) }
+        requires alike { IsTrue alike → AreHeadsBeside (P.bytes bound.now) (key_heads_of self.old) (keys_of new.now) heads.now }
+        ensures entries { entries_of self.new ≡ take from (entries_of self.old) ++ (new.now ++ drop to (entries_of self.old)) }
         ensures headed { AreHeads (P.bytes bound.now) (key_heads_of self.new) }
     {
-        let end = from + new.len();
-        self.splice(from, to, new);
-        let Some(heads) = heads else {
-            return self.compute_heads(bound);
-        };
-        let own = &mut self.heads[..];
-        copy_few(heads, &mut own[from..end]);
+        self.splice(from, to, new, heads);
+        if !alike {
+            self.compute_heads(bound);
+        }
     }
 
-    /// Copies the heads of keys that another node has, too, and computes those of the others. `guess` is where the first key may stand
-    /// there, or a few entries before; it may be any number.
-    pub fn copy_heads<P: Bound>(&mut self, other: &Node<N>, guess: usize, bound: &P)
-        requires headed { AreHeads (P.bytes bound.now) (key_heads_of other.now) }
-        requires known { All (IsKnown (P.bytes bound.now)) (keys_of (entries_of self.old)) }
-        ensures entries { entries_of self.new ≡ entries_of self.old }
+    /// Puts these entries in place of those from one index up to another, where there is no room for all. The entries of the second
+    /// half are returned. The heads are set as by `splice_with_heads`.
+    pub fn splice_apart<P: Bound>(
+        &mut self,
+        from: usize,
+        to: usize,
+        new: &[Entry],
+        heads: &[u64],
+        alike: bool,
+        bound: &P,
+    ) -> Node<N>
+        requires ordered { from ≤ to }
+        requires within { to ≤ length (entries_of self.old) }
+        requires same_len { length heads.now ≡ length new.now }
+        requires few_new { 2 * length new.now ≤ N }
+        requires many { N < from + length new.now + (length (entries_of self.old) - to) }
+        requires headed { AreHeads (P.bytes bound.now) (key_heads_of self.old) }
+        requires known { All (IsKnown (P.bytes bound.now)) (keys_of new.now) }
+        requires alike { IsTrue alike → AreHeadsBeside (P.bytes bound.now) (key_heads_of self.old) (keys_of new.now) heads.now }
+        ensures entries { entries_of self.new ++ entries_of result
+            ≡ take from (entries_of self.old) ++ (new.now ++ drop to (entries_of self.old)) }
+        ensures left { N ≤ 2 * length (entries_of self.new) }
+        ensures right { N ≤ 2 * length (entries_of result) }
         ensures headed { AreHeads (P.bytes bound.now) (key_heads_of self.new) }
+        ensures right_headed { AreHeads (P.bytes bound.now) (key_heads_of result) }
     {
-        self.prefix_len = other.prefix_len;
-        let mut place = guess;
-        let mut index = 0;
-        while index < self.len {
-            let run = self.copy_run(index, other, place);
-            index += run;
-            place += run;
-            if index < self.len {
-                let Some((head, next)) = other.head_of(self.entries[index].key, place, bound) else {
-                    return self.compute_heads(bound);
-                };
-                self.heads[index] = head;
-                index += 1;
-                place = next;
-            }
+        let mut right = self.split_off(to);
+        if from + new.len() <= N {
+            self.splice(from, to, new, heads);
+        } else {
+            self.splice(from, to, &[], &[]);
+            right.splice(0, 0, new, heads);
         }
-        self.lengthen_prefix(bound);
-    }
-
-    // Copies the heads from an index on, as long as the other node has the same keys from a place on. Returns how many it copies.
-    fn copy_run(&mut self, index: usize, other: &Node<N>, place: usize) -> usize
-        requires within { index ≤ length (entries_of self.old) }
-        ensures within { index + result ≤ length (entries_of self.old) }
-        ensures there { result ≤ length (entries_of other.now) - place }
-        ensures len { self.new.len ≡ self.old.len }
-        ensures prefix_len { self.new.prefix_len ≡ self.old.prefix_len }
-        ensures size { length self.new.heads ≡ N }
-        ensures entries { self.new.entries ≡ self.old.entries }
-        ensures same { take result (drop index (keys_of (entries_of self.old)))
-            ≡ take result (drop place (keys_of (entries_of other.now))) }
-        ensures copied { take (index + result) self.new.heads
-            ≡ take index self.old.heads ++ take result (drop place (key_heads_of other.now).heads) }
-    {
-        let count = (self.len - index).min(other.len.saturating_sub(place));
-        for run in 0..count {
-            if self.entries[index + run].key != other.entries[place + run].key {
-                return run;
-            }
-            self.heads[index + run] = other.heads[place + run];
+        self.redistribute(&mut right);
+        if alike {
+            self.lengthen_prefix(bound);
+            right.lengthen_prefix(bound);
+        } else {
+            self.compute_heads(bound);
+            right.compute_heads(bound);
         }
-        count
+        right
     }
 
     /// Puts the entries of another node behind these, with their heads where all keys begin alike, or else all heads are computed
@@ -213,34 +201,18 @@ impl<const N: usize> Node<N> {
         }
     }
 
-    // Returns the head of a key that is empty or begins as all keys do, and the index where the next key may be. The key is looked
-    // for where it may be, and a few entries behind.
-    fn head_of<P: Bound>(&self, key: Slot, guess: usize, bound: &P) -> Option<(u64, usize)>
+    /// Returns the head of a key that is the one at an index, or begins as all keys do.
+    pub fn head_of<P: Bound>(&self, key: Slot, index: usize, bound: &P) -> Option<u64>
         requires headed { AreHeads (P.bytes bound.now) (key_heads_of self.now) }
+        requires within { index < length (entries_of self.now) }
         requires known { IsKnown (P.bytes bound.now) key }
-        ensures head { IfSome result (λ found. found.0 ≡ head_at (P.bytes bound.now) (key_heads_of self.now).prefix_len key) }
-        ensures agrees { IfSome result (λ _. (text : List ℕ) → P.bytes bound.now key ≡ Some text
-            → (text ≡ []) ⊎ HasPrefix (P.bytes bound.now) (key_heads_of self.now) text) }
+        ensures head { IfSome result (IsHeadBeside (P.bytes bound.now) (key_heads_of self.now) key) }
     {
-        if let Some(index) = self.index_near(key, guess) {
-            return Some((self.heads[index], index + 1));
+        if self.entries[index].key == key {
+            return Some(self.heads[index]);
         }
         if self.begins(key, bound) {
-            return Some((bound.head_of(key, self.prefix_len()), guess));
-        }
-        None
-    }
-
-    // Returns the index of a key if it stands at this one or a few entries behind.
-    fn index_near(&self, key: Slot, guess: usize) -> Option<usize>
-        ensures there { IfSome result (λ index. (index < length (entries_of self.now))
-            × (get_or (keys_of (entries_of self.now)) index key ≡ key)) }
-    {
-        let end = self.len.min(guess.saturating_add(NEAR));
-        for index in guess..end {
-            if self.entries[index].key == key {
-                return Some(index);
-            }
+            return Some(bound.head_of(key, self.prefix_len()));
         }
         None
     }

@@ -1,57 +1,55 @@
-use Rattle.std.proofs.Common.{rules}
-use Rattle.std.specs.List.{All}
-use Rattle.tree.specs.Heads.{IsKnown}
-use Rattle.tree.specs.Node.{key_heads_of, keys_of}
-use Rattle.tree.specs.Replace.{entries_with}
-use Rattle.tree.proofs.KnownKeys.{left_keys, right_keys, halves}
-use Rattle.tree.proofs.Headed.{all_known, headed_at}
-use Rattle.tree.proofs.replace.insert_child.Given.{Over}
+use Rattle.std.proofs.Common.{◌≡◌, ◌+◌, ℕ, [], ◌∷◌, ◌++◌, List, take, drop, refl, sym, ap, get_or, subst, ◌∙◌, arith}
+use Rattle.arena.specs.Arena.{with_header}
+use Rattle.tree.specs.declared.entry.Entry.{Entry}
+use Rattle.tree.specs.Item.{Tells}
+use Rattle.tree.specs.Subtree.{entries_at, items_in, IsSubtree}
+use Rattle.tree.specs.Replace.{child_at}
+use Rattle.tree.proofs.Changing.{changes_if_moves}
+use Rattle.tree.proofs.KnownKeys.{headed_header}
+use Rattle.tree.proofs.Placing.{entries_from_header, put_entries, put_live, put_moves}
+use Rattle.tree.proofs.Sharing.{child_is}
 use Rattle.tree.proofs.replace.insert_child.Goals as goal
-use Rattle.tree.proofs.replace.insert_child.Goals.{After-insert_entry-right}
 
--- the keys of both nodes are known
-both_known : (g : Over) (c : After-insert_entry-right g)
-    → All (IsKnown (g.P.Bound.bytes c.args.bound.now)) (keys_of (entries_with c.insert_entry-right.new.node c.insert_entry-right.result))
-both_known g c =
-    let bytes = g.P.Bound.bytes c.args.bound.now in
-    let node = c.header-node.result in
-    let headed = headed_at bytes c.args.nodes.now c.args.slot node c.requires.can_insert.headed c.header-node.ensures.header in
-    c.insert_entry-right.ensures.known bytes c.requires.can_insert.headed (all_known bytes (key_heads_of node) headed)
+pub returns-clause-linked : goal.returns-clause-linked
+returns-clause-linked g c =
+    let a = c.args.nodes.now in
+    let slot = c.args.slot in
+    let i = c.args.index in
+    let now = c.splice_with_heads.new.self in
+    let t = c.entry_for.result in
+    let u = c.entry_for-2.result in
+    let es = entries_at a slot in
+    let d = c.index-entries-index.result in
+    let listed : c.entries.result.now ≡ es =
+    c.entries.ensures.entries ∙ sym (entries_from_header a slot c.header_ref-node.result.now c.header_ref-node.ensures.header) in
+    let x_is : (get_or c.entries.result.now i d).child ≡ child_at es i =
+    ap (λ (l : List Entry). (get_or l i d).child) listed ∙ sym (child_is es i d c.requires.can_insert.within) in
+    record {
+      first = t;
+      second = u;
+      entries = put_entries a (with_header a slot now) slot now refl ∙ c.splice_with_heads.ensures.entries
+          ∙ ap (λ l. take i l ++ (t ∷ u ∷ drop (i + 1) l))
+          (sym (entries_from_header a slot c.header_mut.result.now c.header_mut.ensures.header));
+      first_child = c.entry_for.ensures.child ∙ x_is;
+      first_tells = subst (λ z. (height least : ℕ) → IsSubtree a least height z → Tells t (items_in a height z)) x_is c.entry_for.ensures.tells;
+      second_child = c.entry_for-2.ensures.child;
+      second_tells = c.entry_for-2.ensures.tells;
+    }
 
-pub copy_heads-requires : goal.copy_heads-requires
-copy_heads-requires g c =
-    let bytes = g.P.Bound.bytes c.args.bound.now in
-    let at = (goal.at.copy_heads-requires g c).After-insert_entry-right in (
-      search rules,
-      (
-        headed_at bytes c.args.nodes.now c.args.slot c.header_ref.result.now c.requires.can_insert.headed c.header_ref.ensures.header,
-        left_keys (IsKnown bytes) c.insert_entry-right.new.node c.insert_entry-right.result (entries_with c.insert_entry-right.new.node c.insert_entry-right.result)
-            (halves c.insert_entry-right.new.node c.insert_entry-right.result) (both_known g at),
-      ),
-    )
-
-pub store-requires : goal.store-requires
-store-requires g c =
-    let bytes = g.P.Bound.bytes c.args.bound.now in
-    let at = (goal.at.store-requires g c).After-insert_entry-right in
-    let left = c.insert_entry-right.new.node in
-    let right = c.insert_entry-right.result in (
-      search rules,
-      (
-        c.requires.can_insert.live,
-        (
-          c.requires.can_insert.keyless,
-          (
-            (λ _. c.requires.can_insert.room),
-            (
-              c.requires.can_insert.headed,
-              (
-                c.copy_heads.ensures.headed,
-                right_keys (IsKnown bytes) left right c.as_ref.result (entries_with left right) c.as_ref.ensures.value
-                    (halves left right) (both_known g at),
-              ),
-            ),
-          ),
-        ),
-      ),
-    )
+pub returns-clause-stored : goal.returns-clause-stored
+returns-clause-stored g c =
+    let a = c.args.nodes.now in
+    let slot = c.args.slot in
+    let now = c.splice_with_heads.new.self in
+    let b = with_header a slot now in
+    let can = c.requires.can_insert in
+    let put = put_moves a b slot now refl can.live can.keyless in
+    let changes = changes_if_moves a b (slot ∷ []) (slot ∷ []) put in
+    record {
+      live = put_live a b slot now refl;
+      live_added = tt;
+      changes = changes;
+      taken = omega (arith, changes.live, changes.spare);
+      filled = tt;
+      headed = headed_header (g.P.Bound.bytes c.args.bound.now) a b slot now refl can.headed c.splice_with_heads.ensures.headed;
+    }

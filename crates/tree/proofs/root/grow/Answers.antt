@@ -20,8 +20,8 @@ compute_heads-requires g c =
     let first = c.entry_for.result in
     let second = c.entry_for-2.result in
     let es : List Entry = first ∷ second ∷ [] in
-    let node : entries_of c.insert.new.self ≡ es =
-    c.insert.ensures.entries ∙ ap (λ l. take 1 l ++ second ∷ drop 1 l) c.of-node.ensures.entries in
+    let node : entries_of c.splice.new.self ≡ es =
+    c.splice.ensures.entries ∙ ap (λ l. take 1 l ++ (second ∷ [] ++ drop 1 l)) c.of-node.ensures.entries in
     let known : All (IsKnown bytes) (keys_of es) =
     All-cons (IsKnown bytes) first.key (second.key ∷ []) (c.entry_for.ensures.known bytes c.requires.can_grow.headed)
     (All-cons (IsKnown bytes) second.key [] (c.entry_for-2.ensures.known bytes c.requires.can_grow.headed) (All-nil (IsKnown bytes))) in (search rules, subst (λ l. All (IsKnown bytes) (keys_of l)) (sym node) known)
@@ -36,7 +36,7 @@ returns-clause-items g c =
     let least = least_of g.row.N in
     let es : List Entry = first ∷ second ∷ [] in
     let node : entries_of c.compute_heads.new.self ≡ es =
-    c.compute_heads.ensures.entries ∙ c.insert.ensures.entries ∙ ap (λ l. take 1 l ++ second ∷ drop 1 l) c.of-node.ensures.entries in
+    c.compute_heads.ensures.entries ∙ c.splice.ensures.entries ∙ ap (λ l. take 1 l ++ (second ∷ [] ++ drop 1 l)) c.of-node.ensures.entries in
     let right : AreChildren a least h es =
     All-cons (IsRight a least h) first (second ∷ [])
     (right_entry a least h c.args.root.slot first c.entry_for.ensures.child c.requires.can_grow.first c.requires.can_grow.filled.0
@@ -68,7 +68,7 @@ returns-clause-rooted g c =
     let least = least_of g.row.N in
     let es : List Entry = first ∷ second ∷ [] in
     let node : entries_of c.compute_heads.new.self ≡ es =
-    c.compute_heads.ensures.entries ∙ c.insert.ensures.entries ∙ ap (λ l. take 1 l ++ second ∷ drop 1 l) c.of-node.ensures.entries in
+    c.compute_heads.ensures.entries ∙ c.splice.ensures.entries ∙ ap (λ l. take 1 l ++ (second ∷ [] ++ drop 1 l)) c.of-node.ensures.entries in
     let right : AreChildren a least h es =
     All-cons (IsRight a least h) first (second ∷ [])
     (right_entry a least h c.args.root.slot first c.entry_for.ensures.child c.requires.can_grow.first c.requires.can_grow.filled.0

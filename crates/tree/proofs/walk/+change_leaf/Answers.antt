@@ -405,7 +405,7 @@ returns-in-Some-clause-changed g t c =
     c.insert_child.new.nodes
     (subst (λ p. AllAreHeads (g.C.LeafBound.Bound.bytes p) (all_heads_of c.insert_child.new.nodes))
     (c.leaf_bound-in-Split.ensures.leaf_bound ∙ c.in-Split.ensures.leaf_bound) put.stored.headed)
-    c.in-Split.added c.in-Split.ensures.changed put.stored.taken (Some c.in-Some.added) put.linked put.left put.right put.stored.live
+    c.in-Split.added c.in-Split.ensures.changed put.stored.taken (Some c.in-Some.added) put.linked put.stored.filled put.stored.live
     put.stored.live_added put.stored.changes
 
 pub returns-in-Some-clause-items : goal.returns-in-Some-clause-items
@@ -416,7 +416,7 @@ returns-in-Some-clause-items g t c =
     let split = c.in-Split.ensures.changed in
     let step = stepped_linked _ _ _ _ _ _ _ _ _ _ _ _ (one_up c.args.height c.if-height-eq0.false) at split.subtree
     c.in-Split.added (Some c.in-Some.added) (moves_if_changes _ _ _ _ split.changes) c.requires.changeable.fan_out put.linked
-    split.neighbour split.filled.0 split.filled.1 put.left put.right put.stored.live put.stored.live_added put.stored.changes in
+    split.neighbour split.filled.0 split.filled.1 put.stored.filled put.stored.live put.stored.live_added put.stored.changes in
     within g t here.After-index-entries-step _ _ _ _ _ c.if-place.below-true c.if-place.below-false c.key_at.ensures.key step.items c.in-Split.ensures.items
 
 pub returns-in-None-clause-changed : goal.returns-in-None-clause-changed
@@ -427,7 +427,7 @@ returns-in-None-clause-changed g t c =
     c.insert_child.new.nodes
     (subst (λ p. AllAreHeads (g.C.LeafBound.Bound.bytes p) (all_heads_of c.insert_child.new.nodes))
     (c.leaf_bound-in-Split.ensures.leaf_bound ∙ c.in-Split.ensures.leaf_bound) put.stored.headed)
-    c.in-Split.added c.in-Split.ensures.changed put.stored.taken None put.linked put.left put.right put.stored.live put.stored.live_added
+    c.in-Split.added c.in-Split.ensures.changed put.stored.taken None put.linked put.stored.filled put.stored.live put.stored.live_added
     put.stored.changes
 
 pub returns-in-None-clause-items : goal.returns-in-None-clause-items
@@ -438,5 +438,5 @@ returns-in-None-clause-items g t c =
     let split = c.in-Split.ensures.changed in
     let step = stepped_linked _ _ _ _ _ _ _ _ _ _ _ _ (one_up c.args.height c.if-height-eq0.false) at split.subtree
     c.in-Split.added None (moves_if_changes _ _ _ _ split.changes) c.requires.changeable.fan_out put.linked split.neighbour
-    split.filled.0 split.filled.1 put.left put.right put.stored.live put.stored.live_added put.stored.changes in
+    split.filled.0 split.filled.1 put.stored.filled put.stored.live put.stored.live_added put.stored.changes in
     within g t here.After-index-entries-step _ _ _ _ _ c.if-place.below-true c.if-place.below-false c.key_at.ensures.key step.items c.in-Split.ensures.items

@@ -1,24 +1,28 @@
-use Rattle.std.proofs.Common.{◌<◌, ◌∙◌, length, get_or, ap, sym, arith}
-use Rattle.std.proofs.lemmas.List.{get_or-map, get_or-take, length-map, length-take}
+use Rattle.std.proofs.Common.{◌≡◌, ◌<◌, ◌∙◌, ap, sym, get_or, subst, arith}
+use Rattle.std.specs.Prelude.{slice_index_or}
+use Rattle.std.proofs.lemmas.Bool.{eqb-true}
+use Rattle.std.proofs.lemmas.List.{length-take-le}
 use Rattle.tree.specs.declared.entry.Entry.{Entry}
-use Rattle.tree.specs.Heads.{head_at}
-use Rattle.tree.specs.Node.{entries_of, key_heads_of, keys_of}
-use Rattle.tree.proofs.HeadChanges.{key_agrees}
+use Rattle.tree.specs.Heads.{head_at, IsHeadBeside}
+use Rattle.tree.specs.Node.{key_heads_of}
+use Rattle.tree.proofs.HeadChanges.{key_agrees, key_there, head_there}
 use Rattle.tree.proofs.node.Node.head_of.Goals as goal
 
-pub returns-in-Some : goal.returns-in-Some
-returns-in-Some g c =
+pub returns-then-eq : goal.returns-then-eq
+returns-then-eq g c =
     let node = c.args.self.now in
     let bytes = g.P.Bound.bytes c.args.bound.now in
-    let key = c.args.key in
-    let i = c.in-Some.index in
-    let keys = keys_of (entries_of node) in
+    let i = c.args.index in
+    let e = c.index-self-index.result in
     let f = head_at bytes node.prefix_len in
-    let there = c.in-Some.ensures.there in
-    let inside : i < length keys = omega (arith, there.0, length-map (entries_of node) (λ (e : Entry). e.key)) in
-    let used : i < node.len = omega (arith, there.0, length-take node.len node.entries) in
+    let inside : i < node.len = omega (arith, c.requires.within, length-take-le node.len node.entries (omega arith)) in
+    let same : e.key ≡ c.args.key =
+    ap (λ (x : Entry). x.key) c.index-self-index.is
+    ∙ eqb-true (slice_index_or node.entries i e).key c.args.key (sym c.eq.ensures ∙ c.if-eq.true) in
     record {
-      head = sym (get_or-take node.len node.heads i 0 used) ∙ ap (λ ds. get_or ds i 0) c.requires.headed.heads
-          ∙ get_or-map f keys i key 0 inside ∙ ap f there.1;
-      agrees = key_agrees bytes (key_heads_of node) c.requires.headed key (i, inside, there.1);
+      head = subst (λ key. IsHeadBeside bytes (key_heads_of node) key (get_or node.heads i 0)) same (record {
+        begins = key_agrees bytes (key_heads_of node) c.requires.headed e.key
+            (key_there node.entries node.len i e inside (omega arith) c.index-self-index.is);
+        head_is = head_there node.entries node.len i e inside (omega arith) c.index-self-index.is f node.heads c.requires.headed.heads;
+      });
     }

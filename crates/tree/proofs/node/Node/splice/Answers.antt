@@ -1,9 +1,8 @@
-use Rattle.std.proofs.Common.{arith, ◌≡◌, ◌≤◌, ◌+◌, ◌-◌, ◌++◌, ◌∙◌, ap₂, sym, length, take, drop}
+use Rattle.std.proofs.Common.{arith, ◌≡◌, ◌≤◌, ◌+◌, ◌-◌, ◌++◌, ◌∙◌, ap, ap₂, sym, length, take, drop}
 use Rattle.std.specs.List.{copy_within}
 use Rattle.std.proofs.lemmas.List.{length-take-le}
 use Rattle.tree.specs.Node.{entries_of}
-use Rattle.tree.proofs.Splicing.{take-spliced}
-use Rattle.tree.proofs.HeadChanges.{length_spliced}
+use Rattle.tree.proofs.Splicing.{take-spliced, take-spliced_before}
 use Rattle.tree.proofs.node.Node.splice.Goals as goal
 
 pub returns : goal.returns
@@ -13,26 +12,25 @@ returns g c =
     let from = c.args.from in
     let to = c.args.to in
     let new = c.args.new.now in
+    let heads = c.args.heads.now in
     let moved = now.entries in
     let end = from + length new in
     let len : length (entries_of node) ≡ node.len = length-take-le node.len node.entries (omega arith) in
     let within : to ≤ node.len = omega (arith, c.requires.within, len) in
     let count : now.len ≡ end + (node.len - to) = c.move_tail.ensures.len in
-    let entries_are : take now.len (take from moved ++ (c.copy_few.new.to ++ drop (end - from) (drop from moved)))
-    ≡ take from (entries_of node) ++ (new ++ drop to (entries_of node)) =
-    ap₂ (λ n xs. take n (take from moved ++ (xs ++ drop (end - from) (drop from moved)))) count c.copy_few.ensures.copied
-    ∙ take-spliced node.entries moved new node.len from to (omega arith) c.requires.ordered within (omega (arith, c.requires.room, len))
-    c.move_tail.ensures.entries in
-    let size : now.len ≡ length (take now.len (take from moved ++ (c.copy_few.new.to ++ drop (end - from) (drop from moved)))) =
-    omega (
-      arith,
-      count,
-      len,
-      length_spliced (entries_of node) new _ from to (omega (arith, c.requires.ordered, c.requires.within)) entries_are,
-    ) in
+    let same : length heads ≡ length new = c.requires.same_len in
+    let sum : now.len ≡ from + length heads + (node.len - to) = omega (arith, count, same) in
     record {
-      entries = entries_are;
-      prefix_len = c.move_tail.ensures.prefix_len;
-      heads = c.move_tail.ensures.heads ∙ ap₂ (λ n m. take n (copy_within node.heads to m end)) size (sym len);
-      count = length-take-le now.len now.heads (omega (arith, c.move_tail.ensures.size, now.within)) ∙ size;
+      entries = ap₂ (λ n xs. take n (take from moved ++ (xs ++ drop (end - from) (drop from moved)))) count c.copy_few.ensures.copied
+          ∙ take-spliced node.entries moved new node.len from to (omega arith) c.requires.ordered within (omega (arith, c.requires.room, len))
+          c.move_tail.ensures.entries;
+      heads = record {
+        prefix_len = c.move_tail.ensures.prefix_len;
+        heads_are = ap₂ (λ n xs. take n (take from now.heads ++ (xs ++ drop (end - from) (drop from now.heads)))) sum c.copy_few-2.ensures.copied
+            ∙ ap (λ n. take (from + length heads + (node.len - to)) (take from now.heads ++ (heads ++ drop (from + n - from) (drop from now.heads)))) (sym same)
+            ∙ take-spliced_before node.heads now.heads heads node.len from to (omega arith) c.requires.ordered within
+            (omega (arith, c.requires.room, len, same)) (omega (arith, c.move_tail.ensures.size, now.within, count))
+            (ap (λ n. take n now.heads) (sym sum) ∙ c.move_tail.ensures.heads
+            ∙ ap₂ (λ n m. take n (copy_within node.heads to node.len m)) sum (ap (λ n. from + n) (sym same)));
+      };
     }

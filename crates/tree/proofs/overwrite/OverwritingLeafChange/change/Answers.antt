@@ -1,17 +1,17 @@
 use Rattle.std.proofs.Common.{rules, ℕ, ◌+◌, ◌-◌, ◌≡◌, ◌≤◌, ◌<◌, ◌∙◌, ap, sym, subst, refl, Bool, List, [], ◌∷◌}
-use Rattle.std.proofs.Common.{true, false, is_some, None, Option, Some, ◌++◌, length, take, drop, filter, map, arith}
+use Rattle.std.proofs.Common.{true, false, is_some, option_map, None, Option, Some, ◌++◌, length, take, drop, filter, map, arith}
 use Rattle.std.proofs.Common.{ℤ, SFits, w64, to_z, of_z, nat_eq, inl, inr, ◌⊎◌, IsTrue, not, unwrap_or}
 use Rattle.arena.specs.Arena.{with_header}
 use Rattle.std.specs.Prelude.{◌≢◌, slice_range, Result, Ok, OnOk, IfSome}
-use Rattle.std.specs.List.{All, AllZip}
+use Rattle.std.specs.List.{All}
 use Rattle.std.proofs.lemmas.Bool.{leb-true, not-false}
 use Rattle.std.proofs.lemmas.Int.{to_z-of_z}
-use Rattle.std.proofs.lemmas.List.{drop-take, map-append}
+use Rattle.std.proofs.lemmas.List.{drop-take, length-take-le, map-append}
 use Rattle.std.proofs.lemmas.Option.{IfSome_then}
 use Rattle.tree.specs.declared.entry.Entry.{Entry}
 use Rattle.tree.specs.declared.node.Node.{Node}
 use Rattle.tree.specs.Finding.{IsOwnHead}
-use Rattle.tree.specs.Heads.{AreHeads, IsKnown, IsPrefixLenAt, HasPrefix, IsTargetHead}
+use Rattle.tree.specs.Heads.{AreHeads, AreHeadsBeside, IsHeadBeside, IsKnown, IsPrefixLenAt, HasPrefix}
 use Rattle.tree.specs.Item.{Item, item_of}
 use Rattle.tree.specs.Node.{entries_of, key_heads_of, keys_of}
 use Rattle.tree.specs.declared.walk.Outcome.TheVariants.{Changed, Raised}
@@ -24,7 +24,7 @@ use Rattle.tree.proofs.callers.Partitions.{not_both, not_true}
 use Rattle.tree.proofs.Headed.{headed_at, key_heads_kept}
 use Rattle.tree.proofs.LeafChange.{parted}
 use Rattle.tree.proofs.Leaves.{entries_of_partitioned}
-use Rattle.tree.proofs.NearBounds.{begin_alike, agrees_too, both_put, both_zipped, key_head, no_more, fewer_alike, same_head}
+use Rattle.tree.proofs.NearBounds.{begin_alike, agrees_too, both_put, both_zipped, key_beside, no_more, fewer_alike, same_head}
 use Rattle.tree.proofs.Overwriting.{entries_put, at_most_two, items_put}
 use Rattle.tree.proofs.Placing.{entries_from_header, put_entries}
 use Rattle.tree.proofs.ChangedLeaf.{leaf_put}
@@ -32,7 +32,7 @@ use Rattle.tree.proofs.WrittenLeaf.{some_item, part_partitioned, items_parted, l
 use Rattle.tree.proofs.overwrite.OverwritingLeafChange.change.Goals.{After-header_ref-leaf, After-lower_bound_back-begin, After-map_or-last}
 use Rattle.tree.proofs.overwrite.OverwritingLeafChange.change.Goals.{After-unwrap, Joined-else-begin-eq0, Joined-ended, Joined-is_some, Joined-is_some-2}
 use Rattle.tree.proofs.overwrite.OverwritingLeafChange.change.Goals.{then-end-len, else-end-len}
-use Rattle.tree.proofs.overwrite.OverwritingLeafChange.change.Goals.{then-ended, else-ended, then-is_some, else-is_some, then-is_some-2+then-is_some-3, else-is_some-2}
+use Rattle.tree.proofs.overwrite.OverwritingLeafChange.change.Goals.{then-ended, else-ended, then-is_some, else-is_some, then-is_some-2, else-is_some-2}
 use Rattle.tree.proofs.overwrite.OverwritingLeafChange.change.Goals.{else-begin-eq0-via-then-begin-eq0+else-not-place, then-end-eq0, else-end-eq0, else-begin-eq0-via-else-begin-eq0}
 use Rattle.tree.proofs.overwrite.OverwritingLeafChange.change.Given as given
 use Rattle.tree.proofs.overwrite.OverwritingLeafChange.change.Goals as goal
@@ -315,12 +315,38 @@ overflow_add-begin g c =
       c.len.ensures.most,
     )
 
-pub split_leaf-requires : goal.split_leaf-requires
-split_leaf-requires g c =
-    let at = goal.at.split_leaf-requires g c in
+-- The heads are those of the new keys, where both targets begin as all keys do.
+heads_beside : (g : given.Over) (c : Joined-is_some-2 g) → c.item.result.key ≡ c.args.self.now.new.now.second
+    → c.if-ended.entries.now ≡ entries_put c.if-end-len.ended c.args.self.now.new.now.first c.item.result
+    → c.if-is_some-2.alike ≡ true
+    → AreHeadsBeside (g.Q.Bound.bytes c.args.self.now.new.now.to.now) (key_heads_of c.header_ref-leaf.result.now)
+    (keys_of c.if-ended.entries.now) (take (length c.if-ended.entries.now) (c.unwrap_or-2.result ∷ c.unwrap_or-3.result ∷ []))
+heads_beside g c second put alike =
+    let new = c.args.self.now.new.now in
+    let bytes = g.Q.Bound.bytes new.to.now in
+    let key_heads = key_heads_of c.header_ref-leaf.result.now in
+    elim c.if-is_some-2.branch [
+      | then-is_some-2 w ↦
+          subst (λ es. AreHeadsBeside bytes key_heads (keys_of es) (take (length es) (c.unwrap_or-2.result ∷ c.unwrap_or-3.result ∷ []))) (sym put)
+          (both_zipped (IsHeadBeside bytes key_heads) c.if-end-len.ended new.first c.item.result c.unwrap_or-2.result c.unwrap_or-3.result
+          (subst (IsHeadBeside bytes key_heads new.first.key) (sym c.unwrap_or-2.ensures)
+          (key_beside bytes (g.P.Bound.bytes new.from.now) key_heads (g.P.Bound.target new.from.now) c.head_given-head.result new.bytes
+          c.head_given-head.ensures.head (sym c.is_some-2.ensures ∙ w.if-is_some-2.true) new.first.key new.first_is new.from_bytes))
+          (subst (IsHeadBeside bytes key_heads c.item.result.key) (sym c.unwrap_or-3.ensures)
+          (key_beside bytes bytes key_heads (g.Q.Bound.target new.to.now) c.head_for-to_head.result (λ key. refl)
+          c.head_for-to_head.ensures.head.head (sym w.is_some-alike.ensures ∙ sym w.alike-is ∙ alike) c.item.result.key
+          (ap bytes second ∙ new.second_is) new.to_bytes)))
+      | else-is_some-2 w ↦ absurd (not_both c.if-is_some-2.alike alike (w.alike-is ∙ w.if-is_some-2.false))
+    ]
+
+pub split-added-requires : goal.split-added-requires
+split-added-requires g c =
+    let at = goal.at.split-added-requires g c in
     let h = at.After-header_ref-leaf in
     let j = at.Joined-ended in
+    let bytes = g.Q.Bound.bytes c.args.self.now.new.now.to.now in
     let can = c.requires.changeable in
+    let heads = take (length c.if-ended.entries.now) (c.unwrap_or-2.result ∷ c.unwrap_or-3.result ∷ []) in
     let same : length (entries_at c.args.nodes.now c.args.slot) ≡ length (entries_of c.header_ref-leaf.result.now) =
     ap (λ (es : List Entry). length es) (entries_are g h) in (
       omega (arith, can.few),
@@ -342,41 +368,11 @@ split_leaf-requires g c =
         );
         headed = c.requires.searched.headed;
         known = new_known g j;
+        same_len = length-take-le (length c.if-ended.entries.now) (c.unwrap_or-2.result ∷ c.unwrap_or-3.result ∷ []) (few_new g j);
+        beside = λ alike. subst (λ o. IfSome (option_map key_heads_of o) (λ own. AreHeadsBeside bytes own (keys_of c.if-ended.entries.now) heads))
+            (sym c.header_ref-leaf.ensures.header) (heads_beside g at.Joined-is_some-2 (second_key g j) (new_is g j) alike);
       },
     )
-
-pub shared_ref_as_front-heads : goal.shared_ref_as_front-heads
-shared_ref_as_front-heads g c = few_new g (goal.at.shared_ref_as_front-heads g c).Joined-ended
-
--- the head of a new key, as the leaf knows it
-abbrev IsNewHead : (g : given.Over) → Joined-is_some-2 g → ℕ → ℕ → Type 0
-IsNewHead g c key head =
-    let bytes = g.Q.Bound.bytes c.args.self.now.new.now.to.now in
-    (text : List ℕ) → bytes key ≡ Some text → IsTargetHead bytes (key_heads_of c.header_ref-leaf.result.now) text head
-
--- The heads given are those of the new keys.
-heads_given : (g : given.Over) (c : Joined-is_some-2 g) → c.item.result.key ≡ c.args.self.now.new.now.second
-    → c.if-ended.entries.now ≡ entries_put c.if-end-len.ended c.args.self.now.new.now.first c.item.result
-    → IfSome c.if-is_some-2.heads (λ heads. AllZip (IsNewHead g c) (keys_of c.if-ended.entries.now) heads.now)
-heads_given g c second put =
-    let new = c.args.self.now.new.now in
-    let bytes = g.Q.Bound.bytes new.to.now in
-    let key_heads = key_heads_of c.header_ref-leaf.result.now in
-    elim c.if-is_some-2.branch [
-      | then-is_some-2+then-is_some-3 w ↦
-          subst (λ o. IfSome o (λ heads. AllZip (IsNewHead g c) (keys_of c.if-ended.entries.now) heads.now)) (sym w.heads-is)
-          (subst (λ es. AllZip (IsNewHead g c) (keys_of es) (take (length es) (c.unwrap_or-2.result ∷ c.unwrap_or-3.result ∷ []))) (sym put)
-          (both_zipped (IsNewHead g c) c.if-end-len.ended new.first c.item.result c.unwrap_or-2.result c.unwrap_or-3.result
-          (λ text there. subst (IsTargetHead bytes key_heads text) (sym c.unwrap_or-2.ensures)
-          (key_head bytes (g.P.Bound.bytes new.from.now) key_heads (g.P.Bound.target new.from.now) c.head_given-head.result new.bytes
-          c.head_given-head.ensures.head (sym c.is_some-2.ensures ∙ w.if-is_some-2.true) new.first.key new.first_is text there))
-          (λ text there. subst (IsTargetHead bytes key_heads text) (sym c.unwrap_or-3.ensures)
-          (key_head bytes bytes key_heads (g.Q.Bound.target new.to.now) c.head_for-to_head.result (λ key. refl)
-          c.head_for-to_head.ensures.head.head (sym w.is_some-then-is_some-2.ensures ∙ w.if-is_some-3.true) c.item.result.key
-          (ap bytes second ∙ new.second_is) text there))))
-      | else-is_some-2 w ↦
-          subst (λ o. IfSome o (λ heads. AllZip (IsNewHead g c) (keys_of c.if-ended.entries.now) heads.now)) (sym w.heads-is) tt
-    ]
 
 pub splice_with_heads-requires : goal.splice_with_heads-requires
 splice_with_heads-requires g c =
@@ -396,21 +392,24 @@ splice_with_heads-requires g c =
         (
           omega (arith, size, c.lower_bound_with-end.ensures.count.within),
           (
-            omega (
-              arith,
-              size,
-              c.if-begin-entries.false,
-              c.len-2.ensures.len,
-              c.len-2.ensures.most,
-              c.lower_bound_with-end.ensures.count.within,
-            ),
+            length-take-le (length c.if-ended.entries.now) (c.unwrap_or-2.result ∷ c.unwrap_or-3.result ∷ []) (few_new g j),
             (
-              subst (λ (node : Node g.row.N). AreHeads bytes (key_heads_of node)) same (leaf_headed g h),
+              omega (
+                arith,
+                size,
+                c.if-begin-entries.false,
+                c.len-2.ensures.len,
+                c.len-2.ensures.most,
+                c.lower_bound_with-end.ensures.count.within,
+              ),
               (
-                new_known g j,
-                subst (λ (node : Node g.row.N). IfSome c.if-is_some-2.heads (λ heads. AllZip (λ key head. (text : List ℕ)
-                    → bytes key ≡ Some text → IsTargetHead bytes (key_heads_of node) text head) (keys_of c.if-ended.entries.now)
-                    heads.now)) same (heads_given g at.Joined-is_some-2 (second_key g j) (new_is g j)),
+                subst (λ (node : Node g.row.N). AreHeads bytes (key_heads_of node)) same (leaf_headed g h),
+                (
+                  new_known g j,
+                  λ alike. subst (λ (node : Node g.row.N). AreHeadsBeside bytes (key_heads_of node) (keys_of c.if-ended.entries.now)
+                      (take (length c.if-ended.entries.now) (c.unwrap_or-2.result ∷ c.unwrap_or-3.result ∷ []))) same
+                      (heads_beside g at.Joined-is_some-2 (second_key g j) (new_is g j) alike),
+                ),
               ),
             ),
           ),
@@ -583,13 +582,16 @@ returns-then-not-place-clause-items g c =
 
 pub returns-then-begin-entries-clause-changed : goal.returns-then-begin-entries-clause-changed
 returns-then-begin-entries-clause-changed g c =
-    let split = c.split_leaf.ensures in
+    let split = c.split-added.ensures in
     record {
       same = λ e. absurd (cc);
       raised = λ version e. absurd (cc);
       subtree = split.stored.live;
       neighbour = split.stored.live_added;
-      filled = split.filled;
+      filled = (
+        omega (arith, split.stored.filled.0, c.requires.changeable.fan_out),
+        omega (arith, split.stored.filled.1, c.requires.changeable.fan_out),
+      );
       few_less = λ high. absurd (omega (arith, high));
       changes = split.stored.changes;
       taken = omega (arith, split.stored.taken);
@@ -602,14 +604,14 @@ returns-then-begin-entries-clause-items g c =
     let h = at.After-header_ref-leaf in
     let j = at.Joined-ended in
     let slot = c.args.slot in
-    let b = c.split_leaf.new.nodes in
-    let added = c.split_leaf.result in
+    let b = c.split-added.new.nodes in
+    let added = c.split-added.result in
     let read = entries_are g h in
     let begin = c.lower_bound_back-begin.result in
     let end = c.lower_bound_with-end.result in
     let now = entries_at b slot ++ entries_at b added in
     let now_is : now ≡ take begin (es g j) ++ (c.if-ended.entries.now ++ drop end (es g j)) =
-    c.split_leaf.ensures.entries ∙ ap (λ xs. take begin xs ++ (c.if-ended.entries.now ++ drop end xs)) read in
+    c.split-added.ensures.entries ∙ ap (λ xs. take begin xs ++ (c.if-ended.entries.now ++ drop end xs)) read in
     subst (λ xs. GivenLeaf g j (map item_of xs) (map item_of (entries_at b slot) ++ map item_of (entries_at b added)))
     (sym read)
     (subst (GivenLeaf g j (map item_of (es g j))) (map-append item_of (entries_at b slot) (entries_at b added))
@@ -693,7 +695,7 @@ returns-clause-changed g c =
     let was = map item_of (entries_at old slot) in
     let now = map item_of (entries_at (with_header old slot node) slot) in
     let gives = returns-clause-items g c in
-    let none = none_if new.last (sym c.is_some-else-begin-eq0-2.ensures ∙ c.if-is_some-4.false) in
+    let none = none_if new.last (sym c.is_some-else-begin-eq0-2.ensures ∙ c.if-is_some-3.false) in
     let some : items_below (p g j) was ≢ [] =
     subst (λ xs. items_below (p g j) (map item_of xs) ≢ []) (sym (entries_are g h))
     (some_item (p g j) (es g j) c.lower_bound_back-begin.result (omega (arith, c.if-begin-eq0-2.false))

@@ -1,0 +1,126 @@
+use Rattle.std.proofs.Common.{rules, ◌≡◌, ◌≤◌, ℕ, [], ◌++◌, ◌∙◌, true, length, take, drop, ap, ap₂, refl, sym, arith}
+use Rattle.std.specs.List.{All}
+use Rattle.std.proofs.lemmas.List.{length-map, map-append}
+use Rattle.tree.specs.declared.entry.Entry.{Entry}
+use Rattle.tree.specs.Heads.{AreHeads, IsKnown, KeyHeads}
+use Rattle.tree.specs.Node.{entries_of, key_heads_of, keys_of}
+use Rattle.tree.proofs.HeadChanges.{headed_apart, headed_spliced, heads_count, known_spliced, map_spliced}
+use Rattle.tree.proofs.KnownKeys.{keys_in_front, keys_at_back}
+use Rattle.tree.proofs.Splicing.{apart_spliced, apart_prepended}
+use Rattle.tree.proofs.node.Node.splice_apart.Given as given
+use Rattle.tree.proofs.node.Node.splice_apart.Goals.{After-redistribute, then-from-new, else-from-new}
+use Rattle.tree.proofs.node.Node.splice_apart.Goals as goal
+
+-- what both halves have, before entries are moved between them and then
+record AreBoth (g : given.Over) (c : After-redistribute g) : Type 0 where
+  entries : entries_of c.redistribute.new.self ++ entries_of c.redistribute.new.right
+      ≡ take c.args.from (entries_of c.args.self.now) ++ (c.args.new.now ++ drop c.args.to (entries_of c.args.self.now))
+  heads : (key_heads_of c.redistribute.new.self).heads ++ (key_heads_of c.redistribute.new.right).heads
+      ≡ take c.args.from (key_heads_of c.args.self.now).heads
+      ++ (c.args.heads.now ++ drop c.args.to (key_heads_of c.args.self.now).heads)
+  prefix_len : (key_heads_of c.redistribute.new.self).prefix_len ≡ (key_heads_of c.args.self.now).prefix_len
+  right_prefix_len : (key_heads_of c.redistribute.new.right).prefix_len ≡ (key_heads_of c.args.self.now).prefix_len
+
+both : (g : given.Over) (c : After-redistribute g) → AreBoth g c
+both g c =
+    let node = c.args.self.now in
+    let es = entries_of node in
+    let hs = (key_heads_of node).heads in
+    let from = c.args.from in
+    let to = c.args.to in
+    let within : to ≤ length hs =
+    omega (arith, c.requires.within, heads_count (g.P.Bound.bytes c.args.bound.now) es (key_heads_of node) c.requires.headed refl) in
+    let split = c.split_off-right in
+    elim c.if-from-new.branch [
+      | then-from-new w ↦ record {
+        entries = c.redistribute.ensures.entries
+            ∙ ap₂ (λ l r. entries_of l ++ entries_of r) w.self-is w.right-is
+            ∙ ap₂ (λ xs ys. xs ++ ys) (w.splice.ensures.entries ∙ ap (λ xs. take from xs ++ (c.args.new.now ++ drop to xs)) split.ensures.left)
+            split.ensures.right
+            ∙ apart_spliced es c.args.new.now from to c.requires.ordered c.requires.within;
+        heads = c.redistribute.ensures.heads.heads_are
+            ∙ ap₂ (λ l r. (key_heads_of l).heads ++ (key_heads_of r).heads) w.self-is w.right-is
+            ∙ ap₂ (λ xs ys. xs ++ ys) (w.splice.ensures.heads.heads_are
+            ∙ ap (λ xs. take from xs ++ (c.args.heads.now ++ drop to xs)) split.ensures.left_heads.heads_are)
+            split.ensures.right_heads.heads_are
+            ∙ apart_spliced hs c.args.heads.now from to c.requires.ordered within;
+        prefix_len = c.redistribute.ensures.heads.prefix_len ∙ ap (λ l. (key_heads_of l).prefix_len) w.self-is
+            ∙ w.splice.ensures.heads.prefix_len ∙ split.ensures.left_heads.prefix_len;
+        right_prefix_len = c.redistribute.ensures.heads.right_prefix_len ∙ ap (λ r. (key_heads_of r).prefix_len) w.right-is
+            ∙ split.ensures.right_heads.prefix_len;
+      }
+      | else-from-new w ↦ record {
+        entries = c.redistribute.ensures.entries
+            ∙ ap₂ (λ l r. entries_of l ++ entries_of r) w.self-is w.right-is
+            ∙ ap₂ (λ xs ys. xs ++ ys) (w.splice-else-from-new.ensures.entries ∙ ap (λ xs. take from xs ++ ([] ++ drop to xs)) split.ensures.left)
+            (w.splice-else-from-new-2.ensures.entries ∙ ap (λ xs. take 0 xs ++ (c.args.new.now ++ drop 0 xs)) split.ensures.right)
+            ∙ apart_prepended es c.args.new.now from to c.requires.ordered c.requires.within;
+        heads = c.redistribute.ensures.heads.heads_are
+            ∙ ap₂ (λ l r. (key_heads_of l).heads ++ (key_heads_of r).heads) w.self-is w.right-is
+            ∙ ap₂ (λ xs ys. xs ++ ys) (w.splice-else-from-new.ensures.heads.heads_are
+            ∙ ap (λ xs. take from xs ++ ([] ++ drop to xs)) split.ensures.left_heads.heads_are)
+            (w.splice-else-from-new-2.ensures.heads.heads_are
+            ∙ ap (λ xs. take 0 xs ++ (c.args.heads.now ++ drop 0 xs)) split.ensures.right_heads.heads_are)
+            ∙ apart_prepended hs c.args.heads.now from to c.requires.ordered within;
+        prefix_len = c.redistribute.ensures.heads.prefix_len ∙ ap (λ l. (key_heads_of l).prefix_len) w.self-is
+            ∙ w.splice-else-from-new.ensures.heads.prefix_len ∙ split.ensures.left_heads.prefix_len;
+        right_prefix_len = c.redistribute.ensures.heads.right_prefix_len ∙ ap (λ r. (key_heads_of r).prefix_len) w.right-is
+            ∙ w.splice-else-from-new-2.ensures.heads.prefix_len ∙ split.ensures.right_heads.prefix_len;
+      }
+    ]
+
+-- the heads of both are right where the new keys begin as all others do
+both_headed : (g : given.Over) (c : After-redistribute g) → c.args.alike ≡ true
+    → AreHeads (g.P.Bound.bytes c.args.bound.now) (key_heads_of c.redistribute.new.self)
+    × AreHeads (g.P.Bound.bytes c.args.bound.now) (key_heads_of c.redistribute.new.right)
+both_headed g c alike =
+    let bytes = g.P.Bound.bytes c.args.bound.now in
+    let key : Entry → ℕ = λ e. e.key in
+    let node = c.args.self.now in
+    let new = c.args.new.now in
+    let left = c.redistribute.new.self in
+    let right = c.redistribute.new.right in
+    let b = both g c in
+    let es = entries_of left ++ entries_of right in
+    let all : KeyHeads = record {
+      keys = keys_of es;
+      prefix_len = (key_heads_of node).prefix_len;
+      heads = (key_heads_of left).heads ++ (key_heads_of right).heads;
+    } in
+    headed_apart bytes all (key_heads_of left) (key_heads_of right)
+    (headed_spliced bytes (key_heads_of node) all c.requires.headed (keys_of new) c.args.heads.now c.args.from c.args.to c.requires.known
+    (c.requires.alike alike) (map_spliced key (entries_of node) new es c.args.from c.args.to b.entries) refl b.heads)
+    (sym (map-append key (entries_of left) (entries_of right))) refl
+    (c.redistribute.ensures.heads.count ∙ sym (length-map (entries_of left) key)) b.prefix_len b.right_prefix_len
+
+-- all keys are known
+known : (g : given.Over) (c : After-redistribute g)
+    → All (IsKnown (g.P.Bound.bytes c.args.bound.now)) (keys_of (entries_of c.redistribute.new.self ++ entries_of c.redistribute.new.right))
+known g c =
+    let key : Entry → ℕ = λ e. e.key in
+    let node = c.args.self.now in
+    let es = entries_of c.redistribute.new.self ++ entries_of c.redistribute.new.right in
+    known_spliced (g.P.Bound.bytes c.args.bound.now) (key_heads_of node) c.requires.headed (keys_of c.args.new.now) (keys_of es)
+    c.args.from c.args.to c.requires.known (map_spliced key (entries_of node) c.args.new.now es c.args.from c.args.to (both g c).entries)
+
+pub lengthen_prefix-requires : goal.lengthen_prefix-requires
+lengthen_prefix-requires g c =
+    (search rules, (both_headed g (goal.at.lengthen_prefix-requires g c).After-redistribute c.if-alike.true).0)
+
+pub lengthen_prefix-requires-then-alike : goal.lengthen_prefix-requires-then-alike
+lengthen_prefix-requires-then-alike g c =
+    (search rules, (both_headed g (goal.at.lengthen_prefix-requires-then-alike g c).After-redistribute c.if-alike.true).1)
+
+pub compute_heads-requires : goal.compute_heads-requires
+compute_heads-requires g c = (
+  search rules,
+  keys_in_front (IsKnown (g.P.Bound.bytes c.args.bound.now)) (entries_of c.redistribute.new.self) (entries_of c.redistribute.new.right)
+      (known g (goal.at.compute_heads-requires g c).After-redistribute),
+)
+
+pub compute_heads-requires-else-alike : goal.compute_heads-requires-else-alike
+compute_heads-requires-else-alike g c = (
+  search rules,
+  keys_at_back (IsKnown (g.P.Bound.bytes c.args.bound.now)) (entries_of c.redistribute.new.self) (entries_of c.redistribute.new.right)
+      (known g (goal.at.compute_heads-requires-else-alike g c).After-redistribute),
+)
