@@ -9,12 +9,12 @@ returns-clause-joined g c =
     let count = c.in_ok-count.count in
     let old = c.args.buffer.now.items in
     let read = c.read.new.buffer in
-    let before = c.reserve.new.self.items in
+    let before = c.reserve_exact.new.self.items in
     let room = held + c.min-wanted.result in
     let wide : held ≤ room = search rules in
     let long : held ≡ length before = search rules in
     let kept : take held c.deref_mut.result.now ≡ old = held_stays held room before _ c.deref_mut.result.now long wide
-    (c.deref_mut.ensures.value ∙ c.in_ok-resize.ensures.items) ∙ c.reserve.ensures.items in
+    (c.deref_mut.ensures.value ∙ c.in_ok-resize.ensures.items) ∙ c.reserve_exact.ensures.items in
     let len : held ≡ length old = search rules in
     let few : count ≤ length read = search rules in
     let within : held + count ≤ c.resize.new.self.len = search rules in
