@@ -1,7 +1,7 @@
 -- Spans that are appended to others, and what lies among the first of them.
 use Rattle.std.proofs.Common.{◌≡◌, ℕ, ◌+◌, ◌-◌, ◌≤◌, List, [], ◌∷◌, ◌++◌, length, map, take, drop, slice_get, Some, refl, sym, ap, ◌∙◌, arith}
 use Rattle.std.specs.List.{slice_range}
-use Rattle.std.proofs.lemmas.List.{take-append-le, drop-append-le, take-append-drop, take_rest, length-take, length-drop, map_push, take-map, drop-map, take_more}
+use Rattle.std.proofs.lemmas.List.{take-append-le, drop-append-le, take-append-drop, take_rest, length-drop, map_push, take-map, drop-map, take_more}
 use Rattle.std.proofs.lemmas.Option.{slice_get_within, get_or_from_slice_get}
 use Rattle.keyspace.specs.declared.span.Span.{Span}
 use Rattle.keyspace.specs.declared.row.Row.{Row}
@@ -21,11 +21,6 @@ front_stays n xs ys new le is = rw is (take-append-le n xs ys le)
 behind_front : {X : Type 0} (xs new : List X) → take (length xs) new ≡ xs → new ≡ xs ++ drop (length xs) new
 behind_front xs new front =
     sym (take-append-drop (length xs) new) ∙ ap (λ t. t ++ drop (length xs) new) front
-
-pub longer : {X : Type 0} (xs new : List X) → take (length xs) new ≡ xs → length xs ≤ length new
-longer xs new front =
-    let h : length (take (length xs) new) ≡ length xs = ap length front in
-    omega (arith, sym (length-take (length xs) new) ∙ h)
 
 part_of_appended : {X : Type 0} (xs ys : List X) (from to : ℕ) → from ≤ to → to ≤ length xs
     → slice_range (xs ++ ys) from to ≡ slice_range xs from to
