@@ -46,6 +46,3 @@ limits_of_txn txn = record {
   reads = holds_of_ranges txn.reads;
   writes = holds_of_ranges txn.writes;
 }
-
-pub limits_of_txns : (txns : List Txn) → All TxnLimits (map txn_fields txns)
-limits_of_txns txns = All-map TxnLimits txn_fields txns (λ k d l. limits_of_txn (slice_index_or txns k d))

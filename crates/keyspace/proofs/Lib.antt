@@ -8,6 +8,7 @@ pub mod Waiting
 pub mod Answered
 pub mod FieldsBack
 pub mod Slices
+pub mod RowsInTurn
 pub mod RangesTold
 pub mod TablesRanges
 pub mod TablesTxns

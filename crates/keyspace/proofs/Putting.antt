@@ -1,12 +1,12 @@
 -- Appending leaves what spans within the buffer tell, so ranges can be appended one after the other.
-use Rattle.std.proofs.Common.{◌≡◌, ◌+◌, ℕ, List, [], ◌∷◌, ◌++◌, length, map, refl, sym, ap, ap₂, ◌∙◌, subst, All, slice_range, arith, length-append, append_assoc, append-nil}
+use Rattle.std.proofs.Common.{◌≡◌, ◌+◌, ℕ, List, [], ◌∷◌, ◌++◌, length, map, refl, sym, ap, ap₂, ◌∙◌, subst, All, arith, length-append, append_assoc, append-nil}
 use Rattle.std.proofs.lemmas.List.{map-append, length-map}
-use Rattle.std.proofs.lemmas.List.Elements.{All-nil, All-cons, All-head, All-tail, All-append, All-weaker}
+use Rattle.std.proofs.lemmas.List.Elements.{All-nil, All-head, All-tail, All-append, All-weaker}
 use Rattle.keyspace.specs.declared.span.Span.{Span}
 use Rattle.keyspace.specs.Fields.{RangeFields}
-use Rattle.keyspace.specs.Tables.{bytes_at, range_told, LiesWithin}
+use Rattle.keyspace.specs.Tables.{range_told, LiesWithin}
 use Rattle.keyspace.specs.Putting.{ArePut}
-use Rattle.keyspace.proofs.Slices.{slice_range-append, slice_range-appended}
+use Rattle.keyspace.proofs.Slices.{slice_range-append}
 
 pub ranges_kept : (buffer more : List ℕ) (spans : List Span) → All (LiesWithin (length buffer)) spans
     → map (range_told (buffer ++ more)) spans ≡ map (range_told buffer) spans
@@ -42,34 +42,6 @@ put_none buffer spans = record {
   told = refl;
   within = All-nil (LiesWithin (length buffer));
 }
-
-pub put_one : (buffer : List ℕ) (spans : List Span) (range : RangeFields) (new_buffer : List ℕ) (span : Span)
-    → new_buffer ≡ buffer ++ range.begin ++ range.end → span.begin ≡ length buffer
-    → span.begin_length ≡ length range.begin → span.end ≡ length (buffer ++ range.begin)
-    → span.end_length ≡ length range.end → ArePut buffer spans (range ∷ []) new_buffer (spans ++ span ∷ [])
-put_one buffer spans range new_buffer span is begin begin_length end end_length =
-    let joined = append_assoc buffer range.begin range.end in
-    let one = length-append buffer range.begin in
-    let two = length-append (buffer ++ range.begin) range.end in
-    let long = ap length is in
-    let begin_told : bytes_at new_buffer span.begin span.begin_length ≡ range.begin =
-    ap₂ (λ bytes from. slice_range bytes from (from + span.begin_length)) (is ∙ joined) begin
-    ∙ slice_range-appended buffer range.begin range.end (length buffer + span.begin_length) (omega arith) in
-    let end_told : bytes_at new_buffer span.end span.end_length ≡ range.end =
-    ap₂ (λ bytes from. slice_range bytes from (from + span.end_length))
-    (is ∙ ap (λ bytes. buffer ++ range.begin ++ bytes) (sym (append-nil range.end))) end
-    ∙ slice_range-appended (buffer ++ range.begin) range.end [] (length (buffer ++ range.begin) + span.end_length) (omega arith) in
-    record {
-      bytes = range.begin ++ range.end;
-      added = span ∷ [];
-      buffer_is = is ∙ joined;
-      spans_are = refl;
-      told = λ i. record { begin = begin_told i; end = end_told i } ∷ [];
-      within = All-cons (LiesWithin (length new_buffer)) span [] (record {
-        begin = omega arith;
-        end = omega arith;
-      }) (All-nil (LiesWithin (length new_buffer)));
-    }
 
 abbrev pub put_then : (buffer : List ℕ) (spans : List Span) (ranges : List RangeFields) (buffer₁ : List ℕ) (spans₁ : List Span)
     (ranges₁ : List RangeFields) (buffer₂ : List ℕ) (spans₂ : List Span)

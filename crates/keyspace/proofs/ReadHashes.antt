@@ -1,21 +1,22 @@
 -- The read version of a transaction, and its read ranges, among all ranges of a batch, and the hashes of these.
-use Rattle.std.proofs.Common.{◌≡◌, ◌+◌, ◌<◌, ◌≤◌, ℕ, Option, inl, inr, arith, List, length, refl, sym, ap, ◌∙◌, subst, Some, slice_get, slice_range, get_or}
+use Rattle.std.proofs.Common.{◌≡◌, ◌+◌, ◌-◌, ◌<◌, ◌≤◌, ℕ, Option, inl, inr, arith, List, length, take, refl, sym, ap, ◌∙◌, subst, Some, slice_get, slice_range, get_or}
 use Rattle.std.proofs.lemmas.List.{get_or-map}
 use Rattle.std.proofs.lemmas.Option.{get_or_from_slice_get, slice_get_within}
 use Rattle.std.proofs.lemmas.Slice.Zip.{AllZip-long}
 use Rattle.keys.specs.Hash.{AreHashesOf, IsHashOf}
 use Rattle.keys.specs.Range.{IsSingle}
 use Rattle.keys.specs.declared.range.Range.{Range}
-use Rattle.keys.proofs.callers.Lists.{part_get, AllZip-at}
+use Rattle.keys.proofs.callers.Lists.{some_at, part_get, AllZip-at}
 use Rattle.keyspace.specs.declared.txn.Txn.{Txn}
 use Rattle.keyspace.specs.declared.span.Span.{Span}
 use Rattle.keyspace.specs.declared.row.Row.{Row}
 use Rattle.keyspace.specs.BatchRanges.{ranges_in}
 use Rattle.keyspace.specs.Fields.{TxnFields, txn_fields, txns_with}
-use Rattle.keyspace.specs.Tables.{txn_told, txns_told, AreTables}
+use Rattle.keyspace.specs.Tables.{txn_told, txns_told, AreRows, AreTables}
 use Rattle.keyspace.proofs.callers.SameFields.{same_ranges}
 use Rattle.keyspace.proofs.FieldsBack.{fields_of_txns}
 use Rattle.keyspace.proofs.RangesTold.{part_told}
+use Rattle.keyspace.proofs.RowsInTurn.{rows_before, told_at}
 use Rattle.keyspace.proofs.TablesRanges.{ranges_told}
 use Rattle.keyspace.proofs.TablesTxns.{length-txns}
 
@@ -27,35 +28,39 @@ module _ (buffer : List ℕ) (spans : List Span) (rows : List Row) (tables : Are
   row_within index txn is =
       subst (λ n. index < n) (length-txns buffer spans rows tables.holds) (slice_get_within txns index txn is)
 
-  fields_at : (index : ℕ) (row : Row) (txn : Txn) → slice_get txns index ≡ Some txn → row ≡ get_or rows index row
-      → txn_fields txn ≡ txn_told buffer spans row
-  fields_at index row txn is at =
+  fields_at : (index from : ℕ) (row : Row) (txn : Txn) → AreRows 0 (take index rows) from → slice_get txns index ≡ Some txn
+      → row ≡ get_or rows index row → txn_fields txn ≡ txn_told buffer spans from row
+  fields_at index from row txn before is at =
       sym (ap txn_fields (get_or_from_slice_get txns index txn txn is))
       ∙ sym (get_or-map txn_fields txns index txn (txn_fields txn) (slice_get_within txns index txn is))
       ∙ ap (λ (fs : List TxnFields). get_or fs index (txn_fields txn)) (fields_of_txns (txns_told buffer spans rows) tables.holds)
-      ∙ get_or-map (txn_told buffer spans) rows index row (txn_fields txn) (row_within index txn is)
-      ∙ ap (txn_told buffer spans) (sym at)
+      ∙ told_at buffer spans 0 rows index from row (txn_fields txn) before (row_within index txn is) at
 
   -- the read version of a transaction is that of its row
   pub snapshot_at : (index : ℕ) (row : Row) (txn : Txn) → slice_get txns index ≡ Some txn → row ≡ get_or rows index row
       → row.snapshot ≡ txn.snapshot
-  snapshot_at index row txn is at = sym (ap (λ (f : TxnFields). f.snapshot) (fields_at index row txn is at))
+  snapshot_at index row txn is at =
+      let before = rows_before 0 rows (length spans) index tables.rows_fit in
+      sym (ap (λ (f : TxnFields). f.snapshot) (fields_at index before.0 row txn before.1 is at))
 
-  reads_are : (index : ℕ) (row : Row) (txn : Txn) → slice_get txns index ≡ Some txn → row ≡ get_or rows index row
-      → txn.reads ≡ slice_range (ranges_in txns) row.reads row.writes
-  reads_are index row txn is at =
-      let part = slice_range (ranges_in txns) row.reads row.writes in
+  reads_are : (index from : ℕ) (row : Row) (txn : Txn) → AreRows 0 (take index rows) from → slice_get txns index ≡ Some txn
+      → row ≡ get_or rows index row → txn.reads ≡ slice_range (ranges_in txns) from (row.end - row.writes)
+  reads_are index from row txn before is at =
+      let to = row.end - row.writes in
+      let part = slice_range (ranges_in txns) from to in
       same_ranges txn.reads part
-      (ap (λ (f : TxnFields). f.reads) (fields_at index row txn is at)
-      ∙ sym (part_told buffer spans (ranges_in txns) part row.reads row.writes (ranges_told buffer spans rows tables tables.holds) refl))
+      (ap (λ (f : TxnFields). f.reads) (fields_at index from row txn before is at)
+      ∙ sym (part_told buffer spans (ranges_in txns) part from to (ranges_told buffer spans rows tables tables.holds) refl))
 
   -- where a read range stands among all ranges
-  pub read_at : (index read : ℕ) (row : Row) (txn : Txn) (range : Range) → slice_get txns index ≡ Some txn
-      → row ≡ get_or rows index row → slice_get txn.reads read ≡ Some range
-      → slice_get (ranges_in txns) (row.reads + read) ≡ Some range
-  read_at index read row txn range is at there =
-      part_get (ranges_in txns) row.reads row.writes read range
-      (ap (λ (reads : List Range). slice_get reads read) (sym (reads_are index row txn is at)) ∙ there)
+  pub read_at : (index read from : ℕ) (txn : Txn) (range : Range) → AreRows 0 (take index rows) from
+      → slice_get txns index ≡ Some txn → slice_get txn.reads read ≡ Some range
+      → slice_get (ranges_in txns) (from + read) ≡ Some range
+  read_at index read from txn range before is there =
+      let it = some_at rows index (row_within index txn is) in
+      let at : it.0 ≡ get_or rows index it.0 = sym (get_or_from_slice_get rows index it.0 it.0 it.1) in
+      part_get (ranges_in txns) from (it.0.end - it.0.writes) read range
+      (ap (λ (reads : List Range). slice_get reads read) (sym (reads_are index from it.0 txn before is at)) ∙ there)
 
 module _ (ranges : List Range) (hashes : List (Option ℕ)) (are : AreHashesOf ranges hashes) (place : ℕ) (range : Range)
     (at : slice_get ranges place ≡ Some range) where

@@ -1,5 +1,5 @@
 -- The ranges that tables tell: those of all spans, at most so many as the limits allow.
-use Rattle.std.proofs.Common.{◌≡◌, ◌≤◌, ◌*◌, ℕ, List, [], ◌∷◌, ◌++◌, length, map, refl, sym, ap, ap₂, ◌∙◌, subst, All, flat_map, slice_range, arith, length-append}
+use Rattle.std.proofs.Common.{◌≡◌, ◌≤◌, ◌*◌, ◌-◌, ℕ, List, [], ◌∷◌, ◌++◌, length, map, take, drop, refl, sym, ap, ap₂, ◌∙◌, subst, All, flat_map, slice_range, arith, length-append, take_all}
 use Rattle.std.proofs.lemmas.List.{length-map, map-append}
 use Rattle.std.proofs.lemmas.List.Elements.{All-nil, All-head, All-tail, All-append}
 use Rattle.keys.specs.declared.range.Range.{Range}
@@ -8,9 +8,11 @@ use Rattle.keyspace.specs.declared.span.Span.{Span}
 use Rattle.keyspace.specs.declared.row.Row.{Row}
 use Rattle.keyspace.specs.BatchRanges.{ranges_in}
 use Rattle.keyspace.specs.Fields.{RangeFields, TxnFields, range_fields, txn_fields, RangeHolds, TxnLimits, txns_with}
-use Rattle.keyspace.specs.Tables.{range_told, txn_told, txns_told, IsRowOf, AreTables}
+use Rattle.keyspace.specs.Tables.{range_told, txns_from, txns_told, AreRows, AreTables}
+use Rattle.keyspace.proofs.callers.Rows.{rows_rise}
 use Rattle.keyspace.proofs.callers.SameFields.{same_ranges}
 use Rattle.keyspace.proofs.FieldsBack.{fields_of_txns}
+use Rattle.keyspace.proofs.RowsInTurn.{length-told}
 use Rattle.keyspace.proofs.Slices.{slice_range-join}
 
 -- the ranges of transactions, as one list
@@ -40,24 +42,27 @@ few_in (txn ∷ txns) limits =
     let all = length-append (txn.reads ++ txn.writes) (fields_in txns) in
     omega arith
 
-told_in : (buffer : List ℕ) (spans : List Span) (rows : List Row) → All (IsRowOf (length spans)) rows
-    → fields_in (txns_told buffer spans rows)
-    ≡ map (range_told buffer) (flat_map (λ row. slice_range spans row.reads row.end) rows)
-told_in buffer spans [] within = refl
-told_in buffer spans (row ∷ rows) within =
+told_in : (buffer : List ℕ) (spans : List Span) (from : ℕ) (rows : List Row) (to : ℕ) → AreRows from rows to
+    → fields_in (txns_from buffer spans from rows) ≡ map (range_told buffer) (slice_range spans from to)
+told_in buffer spans from [] to are =
+    let none : 0 ≡ to - from = omega (arith, are) in
+    ap (λ n. map (range_told buffer) (take n (drop from spans))) none
+told_in buffer spans from (row ∷ rows) to are =
     let told = range_told buffer in
-    let first = All-head (IsRowOf (length spans)) row rows within in
-    let reads = slice_range spans row.reads row.writes in
-    let writes = slice_range spans row.writes row.end in
-    let others = flat_map (λ row. slice_range spans row.reads row.end) rows in
-    let joined = slice_range-join spans row.reads row.writes row.end first.reads_first first.writes_last in
-    ap₂ ◌++◌ (sym (map-append told reads writes) ∙ ap (map told) joined)
-    (told_in buffer spans rows (All-tail (IsRowOf (length spans)) row rows within))
-    ∙ sym (map-append told (slice_range spans row.reads row.end) others)
+    let middle = row.end - row.writes in
+    let low : from ≤ middle = omega (arith, are.0) in
+    let high : middle ≤ row.end = omega arith in
+    let own : from ≤ row.end = omega (arith, are.0) in
+    ap₂ ◌++◌ (sym (map-append told (slice_range spans from middle) (slice_range spans middle row.end))
+    ∙ ap (map told) (slice_range-join spans from middle row.end low high)) (told_in buffer spans row.end rows to are.1)
+    ∙ sym (map-append told (slice_range spans from row.end) (slice_range spans row.end to))
+    ∙ ap (map told) (slice_range-join spans from row.end to own (rows_rise row.end rows to are.1))
 
 module _ (buffer : List ℕ) (spans : List Span) (rows : List Row) (tables : AreTables buffer spans rows) where
   told_by_spans : fields_in (txns_told buffer spans rows) ≡ map (range_told buffer) spans
-  told_by_spans = told_in buffer spans rows tables.rows_within ∙ ap (map (range_told buffer)) tables.whole
+  told_by_spans =
+      told_in buffer spans 0 rows (length spans) tables.rows_fit
+      ∙ ap (map (range_told buffer)) (take_all (length spans - 0) spans (omega arith))
 
   pub spans_hold : All RangeHolds (map (range_told buffer) spans)
   spans_hold = subst (All RangeHolds) told_by_spans (holds_in (txns_told buffer spans rows) tables.holds)
@@ -67,7 +72,7 @@ module _ (buffer : List ℕ) (spans : List Span) (rows : List Row) (tables : Are
       let few = few_in (txns_told buffer spans rows) tables.holds in
       let as_spans : length (fields_in (txns_told buffer spans rows)) ≡ length spans =
       ap length told_by_spans ∙ length-map spans (range_told buffer) in
-      let as_rows : length (txns_told buffer spans rows) ≡ length rows = length-map rows (txn_told buffer spans) in
+      let as_rows = length-told buffer spans 0 rows in
       omega arith
 
   -- the ranges of the transactions are those of the spans

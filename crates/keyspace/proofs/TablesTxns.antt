@@ -1,13 +1,14 @@
 -- The transactions that tables tell, by their indices.
-use Rattle.std.proofs.Common.{◌≡◌, ◌<◌, ℕ, List, length, map, sym, ap, ◌∙◌, subst, All, Some, slice_get, get_or}
-use Rattle.std.proofs.lemmas.List.{length-map, get_or-map}
+use Rattle.std.proofs.Common.{◌≡◌, ◌<◌, ℕ, List, length, map, take, sym, ap, ◌∙◌, subst, All, Some, slice_get, get_or}
+use Rattle.std.proofs.lemmas.List.{length-map}
 use Rattle.keyspace.specs.declared.txn.Txn.{Txn}
 use Rattle.keyspace.specs.declared.span.Span.{Span}
 use Rattle.keyspace.specs.declared.row.Row.{Row}
 use Rattle.keyspace.specs.Fields.{TxnFields, range_fields, txn_fields, TxnLimits, txns_with}
-use Rattle.keyspace.specs.Tables.{txn_told, txns_told}
+use Rattle.keyspace.specs.Tables.{txn_told, txns_told, AreRows}
 use Rattle.keyspace.proofs.callers.SameFields.{same_txn}
 use Rattle.keyspace.proofs.FieldsBack.{fields_of_txns}
+use Rattle.keyspace.proofs.RowsInTurn.{length-told, told_at}
 use Rattle.keyspace.proofs.Slices.{slice_get-shown}
 
 -- a transaction has these fields if it has each of them
@@ -25,24 +26,23 @@ module _ (buffer : List ℕ) (spans : List Span) (rows : List Row) (holds : All 
   length-txns =
       let txns = txns_with (txns_told buffer spans rows) holds in
       sym (length-map txns txn_fields) ∙ ap length (fields_of_txns (txns_told buffer spans rows) holds)
-      ∙ length-map rows (txn_told buffer spans)
+      ∙ length-told buffer spans 0 rows
 
-  pub limits_at : (index : ℕ) (row : Row) → index < length rows → row ≡ get_or rows index row
-      → TxnLimits (txn_told buffer spans row)
-  limits_at index row within at =
-      let told = txn_told buffer spans in
-      subst TxnLimits (get_or-map told rows index row (told row) within ∙ ap told (sym at))
-      (holds index (told row) (subst (λ n. index < n) (sym (length-map rows told)) within))
+  pub limits_at : (index from : ℕ) (row : Row) → AreRows 0 (take index rows) from → index < length rows
+      → row ≡ get_or rows index row → TxnLimits (txn_told buffer spans from row)
+  limits_at index from row before within at =
+      let told = txn_told buffer spans from row in
+      subst TxnLimits (told_at buffer spans 0 rows index from row told before within at)
+      (holds index told (subst (λ n. index < n) (sym (length-told buffer spans 0 rows)) within))
 
-  pub txn_at : (index : ℕ) (row : Row) (txn : Txn) → index < length rows → row ≡ get_or rows index row
-      → txn.snapshot ≡ row.snapshot → txn.marked ≡ row.marked
-      → map range_fields txn.reads ≡ (txn_told buffer spans row).reads
-      → map range_fields txn.writes ≡ (txn_told buffer spans row).writes
+  pub txn_at : (index from : ℕ) (row : Row) (txn : Txn) → AreRows 0 (take index rows) from → index < length rows
+      → row ≡ get_or rows index row → txn.snapshot ≡ row.snapshot → txn.marked ≡ row.marked
+      → map range_fields txn.reads ≡ (txn_told buffer spans from row).reads
+      → map range_fields txn.writes ≡ (txn_told buffer spans from row).writes
       → slice_get (txns_with (txns_told buffer spans rows) holds) index ≡ Some txn
-  txn_at index row txn within at snapshot marked reads writes =
-      let told = txn_told buffer spans in
-      let fields = same_fields txn (told row) snapshot marked reads writes in
+  txn_at index from row txn before within at snapshot marked reads writes =
+      let fields = same_fields txn (txn_told buffer spans from row) snapshot marked reads writes in
       slice_get-shown txn_fields same_txn (txns_with (txns_told buffer spans rows) holds) (txns_told buffer spans rows)
       index txn (fields_of_txns (txns_told buffer spans rows) holds)
       (subst (λ n. index < n) (sym length-txns) within)
-      (fields ∙ ap told at ∙ sym (get_or-map told rows index row (txn_fields txn) within))
+      (fields ∙ sym (told_at buffer spans 0 rows index from row (txn_fields txn) before within at))

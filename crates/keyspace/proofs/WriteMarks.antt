@@ -1,7 +1,6 @@
 -- Which ranges are write ranges, by the rows and by the transactions.
-use Rattle.std.proofs.Common.{◌≡◌, ℕ, ◌-◌, ◌≤◌, Bool, true, false, List, [], ◌∷◌, ◌++◌, length, map, filter, drop, replicate, flat_map, slice_range, refl, sym, ap, ap₂, subst, ◌∙◌, arith, All, length-append, length-drop, length-take}
-use Rattle.std.proofs.lemmas.List.{length-map, length-replicate}
-use Rattle.std.proofs.lemmas.List.Elements.{All-head, All-tail}
+use Rattle.std.proofs.Common.{◌≡◌, ℕ, ◌-◌, ◌+◌, ◌<◌, ◌≤◌, Bool, true, false, List, [], ◌∷◌, ◌++◌, length, map, filter, take, drop, get_or, replicate, flat_map, slice_range, refl, sym, ap, ap₂, subst, ◌∙◌, arith, All, append-nil, append_assoc, length-append, length-drop, length-take}
+use Rattle.std.proofs.lemmas.List.{length-map, length-replicate, take_all, take_more}
 use Rattle.std.specs.Prelude.{slice_index_or}
 use Rattle.keys.specs.Ranks.{AreChosenInOrder, AreInOrder}
 use Rattle.keys.specs.declared.range.Range.{Range}
@@ -9,26 +8,74 @@ use Rattle.keys.proofs.callers.Ranks.{chosen_in_order}
 use Rattle.keyspace.specs.declared.txn.Txn.{Txn}
 use Rattle.keyspace.specs.declared.span.Span.{Span}
 use Rattle.keyspace.specs.declared.row.Row.{Row}
-use Rattle.keyspace.specs.BatchRanges.{is_write_in, marks_of_txn, ranges_in, ranges_of_txn, write_marks}
+use Rattle.keyspace.specs.BatchRanges.{is_write_in, ranges_in, write_marks}
 use Rattle.keyspace.specs.Fields.{TxnFields, range_fields, txn_fields, TxnLimits, txns_with}
-use Rattle.keyspace.specs.Tables.{range_told, txns_told, AreTables, IsRowOf}
-use Rattle.keyspace.specs.RowMarks.{is_write_of, marks_of_rows}
+use Rattle.keyspace.specs.Tables.{range_told, txns_from, txns_told, AreRows, AreTables}
+use Rattle.keyspace.specs.RowMarks.{is_write_of, marks_from, marks_of_rows}
+use Rattle.keyspace.proofs.callers.Rows.{rows_rise}
 use Rattle.keyspace.proofs.FieldsBack.{fields_of_txns}
-use Rattle.keyspace.proofs.TablesRanges.{ranges_told}
+use Rattle.keyspace.proofs.RowsInTurn.{rows_up_to, row_at}
 
--- a mark for each range
-pub length-write_marks : (txns : List Txn) → length (write_marks txns) ≡ length (ranges_in txns)
-length-write_marks [] = refl
-length-write_marks (txn ∷ txns) = omega (
-  arith,
-  length-write_marks txns,
-  length-append (marks_of_txn txn) (write_marks txns),
-  length-append (replicate (length txn.reads) false) (replicate (length txn.writes) true),
-  length-replicate (length txn.reads) false,
-  length-replicate (length txn.writes) true,
-  length-append (ranges_of_txn txn) (ranges_in txns),
-  length-append txn.reads txn.writes,
-)
+-- a mark for each span
+pub length-marks : (from : ℕ) (rows : List Row) (to : ℕ) → AreRows from rows to → from + length (marks_from from rows) ≡ to
+length-marks from [] to are = omega (arith, are)
+length-marks from (row ∷ rows) to are =
+    let reads = replicate (row.end - row.writes - from) false in
+    let writes = replicate row.writes true in
+    let others = marks_from row.end rows in
+    omega (
+      arith,
+      are.0,
+      length-marks row.end rows to are.1,
+      length-append reads (writes ++ others),
+      length-append writes others,
+      length-replicate (row.end - row.writes - from) false,
+      length-replicate row.writes true,
+    )
+
+-- the marks of one row more
+pub marks_more : (from : ℕ) (rows : List Row) (at : ℕ) (row : Row) → AreRows from rows at
+    → marks_from from (rows ++ row ∷ [])
+    ≡ marks_from from rows ++ (replicate (row.end - row.writes - at) false ++ replicate row.writes true)
+marks_more from [] at row are =
+    ap₂ (λ n writes. replicate (row.end - row.writes - n) false ++ writes) are (append-nil (replicate row.writes true))
+marks_more from (first ∷ rows) at row are =
+    let reads = replicate (first.end - first.writes - from) false in
+    let writes = replicate first.writes true in
+    let others = marks_from first.end rows in
+    let last = replicate (row.end - row.writes - at) false ++ replicate row.writes true in
+    ap (λ marks. reads ++ (writes ++ marks)) (marks_more first.end rows at row are.1)
+    ∙ ap (λ marks. reads ++ marks) (sym (append_assoc writes others last))
+    ∙ sym (append_assoc reads (writes ++ others) last)
+
+-- what filling them up leaves: the marks of one row more
+pub marks_filled : (rows : List Row) (count index : ℕ) (row none : Row) (marks half whole : List Bool) → AreRows 0 rows count
+    → index < length rows → row ≡ get_or rows index none
+    → marks ≡ marks_of_rows (take index rows) → AreRows 0 (take index rows) (length marks)
+    → half ≡ take (row.end - row.writes) marks ++ replicate (row.end - row.writes - length marks) false
+    → whole ≡ take row.end half ++ replicate (row.end - length half) true
+    → (whole ≡ marks_of_rows (take (index + 1) rows)) × AreRows 0 (take (index + 1) rows) (length whole)
+marks_filled rows count index row none marks half whole are within is told before first second =
+    let middle = row.end - row.writes in
+    let reads = replicate (middle - length marks) false in
+    let writes = replicate row.writes true in
+    let fits = row_at 0 rows count index (length marks) row none are before within is in
+    let half_is : half ≡ marks ++ reads = first ∙ ap (λ kept. kept ++ reads) (take_all middle marks (omega (arith, fits.0))) in
+    let half_long : length half ≡ middle =
+    omega (arith, fits.0, ap length half_is, length-append marks reads, length-replicate (middle - length marks) false) in
+    let count_writes : row.end - length half ≡ row.writes = omega (arith, fits.0, half_long) in
+    let whole_is : whole ≡ half ++ writes =
+    second ∙ ap₂ (λ kept n. kept ++ replicate n true) (take_all row.end half (omega (arith, half_long))) count_writes in
+    let whole_long : row.end ≡ length whole =
+    omega (arith, fits.0, half_long, ap length whole_is, length-append half writes, length-replicate row.writes true) in
+    let taken : take (index + 1) rows ≡ take index rows ++ row ∷ [] =
+    take_more rows index none within ∙ ap (λ r. take index rows ++ r ∷ []) (sym is) in (
+      whole_is ∙ ap (λ front. front ++ writes) half_is ∙ append_assoc marks reads writes
+          ∙ ap (λ front. front ++ (reads ++ writes)) told
+          ∙ sym (marks_more 0 (take index rows) (length marks) row before) ∙ ap marks_of_rows (sym taken),
+      subst (AreRows 0 (take (index + 1) rows)) (ap (λ (r : Row). r.end) (sym is) ∙ whole_long)
+          (rows_up_to 0 rows count index none are within),
+    )
 
 -- so many read ranges, and then so many write ranges
 abbrev marks_for : ℕ → ℕ → List Bool
@@ -47,20 +94,21 @@ length-part : (spans : List Span) (from to : ℕ) → from ≤ to → to ≤ len
 length-part spans from to ordered within =
     omega (arith, ordered, within, length-take (to - from) (drop from spans), length-drop from spans)
 
-by_rows : (buffer : List ℕ) (spans : List Span) (rows : List Row) → All (IsRowOf (length spans)) rows
-    → marks_of_rows rows ≡ marks_of_fields (txns_told buffer spans rows)
-by_rows buffer spans [] within = refl
-by_rows buffer spans (row ∷ rows) within =
+by_rows : (buffer : List ℕ) (spans : List Span) (from : ℕ) (rows : List Row) (to : ℕ) → AreRows from rows to → to ≤ length spans
+    → marks_from from rows ≡ marks_of_fields (txns_from buffer spans from rows)
+by_rows buffer spans from [] to are within = refl
+by_rows buffer spans from (row ∷ rows) to are within =
     let told = range_told buffer in
-    let first = All-head (IsRowOf (length spans)) row rows within in
-    let reads = slice_range spans row.reads row.writes in
-    let writes = slice_range spans row.writes row.end in
-    let count : length (map told reads) ≡ row.writes - row.reads =
-    length-map reads told ∙ length-part spans row.reads row.writes first.reads_first (omega (arith, first)) in
-    let more : length (map told writes) ≡ row.end - row.writes =
-    length-map writes told ∙ length-part spans row.writes row.end first.writes_last first.within in
-    ap₂ ◌++◌ (ap₂ marks_for (sym count) (sym more))
-    (by_rows buffer spans rows (All-tail (IsRowOf (length spans)) row rows within))
+    let middle = row.end - row.writes in
+    let ends : row.end ≤ length spans = omega (arith, rows_rise row.end rows to are.1, within) in
+    let reads = slice_range spans from middle in
+    let writes = slice_range spans middle row.end in
+    let part = length-part spans middle row.end (omega arith) ends in
+    let count : length (map told reads) ≡ middle - from =
+    length-map reads told ∙ length-part spans from middle (omega (arith, are.0)) (omega (arith, ends)) in
+    let more : length (map told writes) ≡ row.writes = length-map writes told ∙ omega (arith, part, are.0) in
+    sym (append_assoc (replicate (middle - from) false) (replicate row.writes true) (marks_from row.end rows))
+    ∙ ap₂ ◌++◌ (ap₂ marks_for (sym count) (sym more)) (by_rows buffer spans row.end rows to are.1 within)
 
 module _ (buffer : List ℕ) (spans : List Span) (rows : List Row) (tables : AreTables buffer spans rows)
     (holds : All TxnLimits (txns_told buffer spans rows)) where
@@ -70,13 +118,8 @@ module _ (buffer : List ℕ) (spans : List Span) (rows : List Row) (tables : Are
   -- the marks of the rows are those of the transactions that the tables mean
   marks_told : marks_of_rows rows ≡ write_marks txns
   marks_told =
-      by_rows buffer spans rows tables.rows_within
+      by_rows buffer spans 0 rows (length spans) tables.rows_fit (omega arith)
       ∙ sym (ap marks_of_fields (fields_of_txns (txns_told buffer spans rows) holds)) ∙ sym (by_fields txns)
-
-  pub length-marks : length (marks_of_rows rows) ≡ length spans
-  length-marks =
-      ap length marks_told ∙ length-write_marks txns ∙ sym (length-map (ranges_in txns) range_fields)
-      ∙ ap length (ranges_told buffer spans rows tables holds) ∙ length-map spans (range_told buffer)
 
   -- the write ranges by the rows, in the order of all ranges, are those of the transactions
   pub writes_in_order : (these : List Row) (ranges : List Range) (order their_order writes : List ℕ) → these ≡ rows

@@ -2,3 +2,4 @@
 pub mod Judging
 pub mod Chains
 pub mod SameFields
+pub mod Rows

@@ -1,19 +1,16 @@
 -- Which of the ranges of rows are write ranges. This project's own.
-use Rattle.std.specs.Prelude.{ℕ, ◌-◌, ◌≤◌, Bool, true, false, List, ◌++◌, replicate, flat_map, slice_index_or}
+use Rattle.std.specs.Prelude.{ℕ, ◌-◌, Bool, true, false, List, [], ◌∷◌, ◌++◌, replicate, slice_index_or}
 use Rattle.keyspace.specs.declared.row.Row.{Row}
 
--- the spans of the read ranges come first
-pub record IsInOrder (row : Row) : Type 0 where
-  pub reads_first : row.reads ≤ row.writes
-  pub writes_last : row.writes ≤ row.end
-
--- for each range of the row, whether it is a write range
-abbrev pub marks_of_row : Row → List Bool
-marks_of_row row = replicate (row.writes - row.reads) false ++ replicate (row.end - row.writes) true
+-- for each range of rows, whether it is a write range, where the spans of the rows begin at an index
+abbrev pub marks_from : ℕ → List Row → List Bool
+marks_from from [] = []
+marks_from from (row ∷ rows) =
+    replicate (row.end - row.writes - from) false ++ (replicate row.writes true ++ marks_from row.end rows)
 
 -- for each range of the rows, in order
 abbrev pub marks_of_rows : List Row → List Bool
-marks_of_rows rows = flat_map marks_of_row rows
+marks_of_rows rows = marks_from 0 rows
 
 -- whether the range at the index is a write range
 abbrev pub is_write_of : List Row → ℕ → Bool

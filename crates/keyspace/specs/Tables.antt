@@ -1,6 +1,8 @@
 -- How the transactions of a batch are kept: one buffer with the bytes of all keys, a span a range, and a row a transaction.
 -- This project's own.
-use Rattle.std.specs.Prelude.{◌≡◌, ℕ, ◌+◌, ◌≤◌, List, length, map, flat_map, slice_range, All}
+use Rattle.std.specs.Prelude.{◌≡◌, ℕ, ◌+◌, ◌-◌, ◌≤◌, List, [], ◌∷◌, length, map, slice_range, All}
+use Rattle.std.specs.Coded.{×_prop, le_prop}
+use Rattle.std.proofs.Props.{props}
 use Rattle.keyspace.specs.declared.span.Span.{Span}
 use Rattle.keyspace.specs.declared.row.Row.{Row}
 use Rattle.keyspace.specs.Fields.{RangeFields, TxnFields, TxnLimits}
@@ -16,34 +18,44 @@ range_told buffer span = record {
   end = bytes_at buffer span.end span.end_length;
 }
 
--- the transaction of a row: its ranges have the spans from one index up to another
-abbrev pub txn_told : List ℕ → List Span → Row → TxnFields
-txn_told buffer spans row = record {
+-- the transaction of a row, whose spans begin at an index: those of its read ranges, then those of its write ranges
+abbrev pub txn_told : List ℕ → List Span → ℕ → Row → TxnFields
+txn_told buffer spans from row = record {
   snapshot = row.snapshot;
   marked = row.marked;
-  reads = map (range_told buffer) (slice_range spans row.reads row.writes);
-  writes = map (range_told buffer) (slice_range spans row.writes row.end);
+  reads = map (range_told buffer) (slice_range spans from (row.end - row.writes));
+  writes = map (range_told buffer) (slice_range spans (row.end - row.writes) row.end);
 }
 
--- what the tables mean: the transactions of the rows, in order
+-- the transactions of rows, in order, whose spans lie one after the other from an index on
+abbrev pub txns_from : List ℕ → List Span → ℕ → List Row → List TxnFields
+txns_from buffer spans from [] = []
+txns_from buffer spans from (row ∷ rows) = txn_told buffer spans from row ∷ txns_from buffer spans row.end rows
+
+-- what the tables mean
 abbrev pub txns_told : List ℕ → List Span → List Row → List TxnFields
-txns_told buffer spans rows = map (txn_told buffer spans) rows
+txns_told buffer spans rows = txns_from buffer spans 0 rows
 
 -- both keys of the span lie within a buffer of this length
 pub record LiesWithin (length : ℕ) (span : Span) : Type 0 where
   pub begin : span.begin + span.begin_length ≤ length
   pub end : span.end + span.end_length ≤ length
 
--- the spans of the row lie among so many, those of the read ranges before those of the write ranges
-pub record IsRowOf (count : ℕ) (row : Row) : Type 0 where
-  pub reads_first : row.reads ≤ row.writes
-  pub writes_last : row.writes ≤ row.end
-  pub within : row.end ≤ count
+-- the spans of the rows lie one after the other, from one index to another
+abbrev pub AreRows : ℕ → List Row → ℕ → Type 0
+AreRows from [] to = from ≡ to
+AreRows from (row ∷ rows) to = (from + row.writes ≤ row.end) × AreRows row.end rows to
+
+-- they do so in one way at most
+pub AreRows-prop : (from : ℕ) (rows : List Row) (to : ℕ) → IsProp (AreRows from rows to)
+AreRows-prop from [] to = hlevel props
+AreRows-prop from (row ∷ rows) to = ×_prop le_prop (AreRows-prop row.end rows to)
 
 -- the tables fit together, and what they mean keeps its limits
 pub record AreTables (buffer : List ℕ) (spans : List Span) (rows : List Row) : Type 0 where
   pub spans_within : All (LiesWithin (length buffer)) spans
-  pub rows_within : All (IsRowOf (length spans)) rows
-  -- the spans of the rows, one after the other, are all the spans
-  pub whole : flat_map (λ row. slice_range spans row.reads row.end) rows ≡ spans
+  pub rows_fit : AreRows 0 rows (length spans)
   pub holds : All TxnLimits (txns_told buffer spans rows)
+
+pub AreTables-prop : (buffer : List ℕ) (spans : List Span) (rows : List Row) → IsProp (AreTables buffer spans rows)
+AreTables-prop buffer spans rows = hlevel (props, AreRows-prop 0 rows (length spans))

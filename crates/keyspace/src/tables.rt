@@ -50,17 +50,13 @@ impl Tables {
         ensures told { OnOk result (txns_told self.new.buffer.items self.new.spans.items self.new.rows.items
             ≡ txns_told self.old.buffer.items self.old.spans.items self.old.rows.items ++ txn_fields txn.now ∷ []) }
     {
-        let reads = self.spans.len() as u32;
         put_ranges(&mut self.buffer, &mut self.spans, txn.reads.as_slice())?;
-        let writes = self.spans.len() as u32;
         put_ranges(&mut self.buffer, &mut self.spans, txn.writes.as_slice())?;
-        let end = self.spans.len() as u32;
         self.rows.push(Row {
             snapshot: txn.snapshot,
+            end: self.spans.len() as u32,
+            writes: txn.writes.len() as u16,
             marked: txn.marked,
-            reads,
-            writes,
-            end,
         })?;
         Ok(())
     }

@@ -6,12 +6,12 @@ ghost use Rattle.keys.specs.Ranks.{AreChosenInOrder, AreRanked};
 ghost use Rattle.keys.specs.declared.range.Range.{Range};
 ghost use Rattle.keyspace.specs.BatchRanges.{is_write_in, ranges_in};
 ghost use Rattle.keyspace.specs.Fields.{txn_fields};
-ghost use Rattle.keyspace.specs.Tables.{txns_told, AreTables};
+ghost use Rattle.keyspace.specs.Tables.{txns_told, AreTables, AreTables-prop};
 ghost use Rattle.keyspace.specs.declared.batch.TheConstants.{MAX_TXNS};
 ghost use Rattle.keyspace.specs.declared.txn.Txn.{Txn as TxnValue};
 
 use crate::ranges_ref::RangesRef;
-use crate::row::Row;
+use crate::row::{Row, first_span};
 use crate::span::Span;
 use crate::tables::Tables;
 use crate::txn::Txn;
@@ -37,7 +37,7 @@ pub struct Txns {
     write_order: Vec<u32>,
     // Of each range that is a single key; or none at all, where there is no such range.
     hashes: Vec<Option<u32>>,
-    ghost tables: { AreTables buffer.items spans.items rows.items },
+    ghost tables: { AreTables buffer.items spans.items rows.items } by { AreTables-prop buffer.items spans.items rows.items },
 }
 
 impl Model for Txns {
@@ -109,12 +109,15 @@ impl Txns {
         ensures txn { slice_get self.now index ≡ Some result }
     {
         let row = self.rows[index];
+        let begin = first_span(&self.rows, index) as usize;
+        let end = row.end as usize;
+        let middle = end - row.writes as usize;
         let ranges = self.ranges();
         TxnRef {
             snapshot: row.snapshot,
             marked: row.marked,
-            reads: ranges.slice(row.reads as usize, row.writes as usize),
-            writes: ranges.slice(row.writes as usize, row.end as usize),
+            reads: ranges.slice(begin, middle),
+            writes: ranges.slice(middle, end),
         }
     }
 
@@ -133,7 +136,7 @@ impl Txns {
         ensures hash { (txn : TxnValue) (range : Range) → slice_get self.now index ≡ Some txn
             → slice_get txn.reads read ≡ Some range → IsHashOf range result }
     {
-        self.hash_at(self.rows[index].reads as usize + read)
+        self.hash_at(first_span(&self.rows, index) as usize + read)
     }
 
     /// Returns the range at the index in [`Txns::ranges`], without copying its keys, and with its hash, without looking at them.

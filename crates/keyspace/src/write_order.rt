@@ -1,7 +1,8 @@
 //! The order of the write ranges of a batch, without its read ranges.
 
-ghost use Rattle.std.specs.Prelude.{◌≡◌, ◌<◌, All, IfOk, filter, length};
-ghost use Rattle.keyspace.specs.RowMarks.{is_write_of, marks_of_rows, IsInOrder};
+ghost use Rattle.std.specs.Prelude.{ℕ, ◌≡◌, ◌<◌, All, IfOk, filter, length};
+ghost use Rattle.keyspace.specs.RowMarks.{is_write_of, marks_of_rows};
+ghost use Rattle.keyspace.specs.Tables.{AreRows};
 
 use crate::row::Row;
 use std::alloc::{AllocError, Global};
@@ -9,7 +10,7 @@ use std::alloc::{AllocError, Global};
 /// Lists those of the indices that are of write ranges, in the order in which they are given, or returns an error if memory is
 /// refused. The indices are those of the ranges of the rows, one after the other.
 pub fn list_writes(alloc: Global, order: &[u32], rows: &[Row]) -> Result<Vec<u32>, AllocError>
-    requires in_order { All IsInOrder rows.now }
+    requires rows { (count : ℕ) × AreRows 0 rows.now count }
     requires within { All (λ index. index < length (marks_of_rows rows.now)) order.now }
     ensures writes { IfOk result (λ writes. writes.items ≡ filter (is_write_of rows.now) order.now) }
 {
@@ -26,15 +27,14 @@ pub fn list_writes(alloc: Global, order: &[u32], rows: &[Row]) -> Result<Vec<u32
 
 // Returns for each range of the rows whether it is a write range.
 fn mark_writes(alloc: Global, rows: &[Row]) -> Result<Vec<bool>, AllocError>
-    requires in_order { All IsInOrder rows.now }
+    requires rows { (count : ℕ) × AreRows 0 rows.now count }
     ensures marks { IfOk result (λ marks. marks.items ≡ marks_of_rows rows.now) }
 {
     let mut marks = Vec::new(alloc);
     for row in rows {
-        let reads = row.writes - row.reads;
-        marks.resize(marks.len() + reads as usize, false)?;
-        let writes = row.end - row.writes;
-        marks.resize(marks.len() + writes as usize, true)?;
+        let end = row.end as usize;
+        marks.resize(end - row.writes as usize, false)?;
+        marks.resize(end, true)?;
     }
     Ok(marks)
 }

@@ -1,16 +1,13 @@
 -- Spans that are appended to others, and what lies among the first of them.
 use Rattle.std.proofs.Common.{◌≡◌, ℕ, ◌+◌, ◌-◌, ◌≤◌, List, [], ◌∷◌, ◌++◌, length, map, take, drop, slice_get, Some, refl, sym, ap, ◌∙◌, arith}
-use Rattle.std.specs.List.{All, flat_map, slice_range}
-use Rattle.std.proofs.lemmas.List.{take-append-le, drop-append-le, take-append-drop, take_rest, length-take, length-drop, map_push, append-nil, take-map, drop-map, take_more}
+use Rattle.std.specs.List.{slice_range}
+use Rattle.std.proofs.lemmas.List.{take-append-le, drop-append-le, take-append-drop, take_rest, length-drop, map_push, take-map, drop-map, take_more}
 use Rattle.std.proofs.lemmas.Option.{slice_get_within, get_or_from_slice_get}
-use Rattle.std.proofs.lemmas.List.Elements.{All-head, All-tail, All-weaker, All-push}
-use Rattle.std.proofs.lemmas.Grind.{flat_map-append}
 use Rattle.keyspace.specs.declared.span.Span.{Span}
 use Rattle.keyspace.specs.declared.row.Row.{Row}
-use Rattle.keyspace.specs.Tables.{IsRowOf}
-use Rattle.wire.specs.Fields.{TxnFields}
-use Rattle.wire.specs.Rows.{AreRows}
-use Rattle.wire.specs.Lying.{txn_read, IsBetween, AreApart}
+use Rattle.keyspace.specs.Tables.{AreRows}
+use Rattle.keyspace.proofs.callers.Rows.{rows_rise}
+use Rattle.wire.specs.Lying.{txn_read, txns_read, IsBetween, AreApart}
 
 -- what one more element does to those behind the first n
 pub pushed_behind : {X Y : Type 0} (f : X → Y) (n : ℕ) (xs new : List X) (x : X) → n ≤ length xs
@@ -24,11 +21,6 @@ front_stays n xs ys new le is = rw is (take-append-le n xs ys le)
 behind_front : {X : Type 0} (xs new : List X) → take (length xs) new ≡ xs → new ≡ xs ++ drop (length xs) new
 behind_front xs new front =
     sym (take-append-drop (length xs) new) ∙ ap (λ t. t ++ drop (length xs) new) front
-
-pub longer : {X : Type 0} (xs new : List X) → take (length xs) new ≡ xs → length xs ≤ length new
-longer xs new front =
-    let h : length (take (length xs) new) ≡ length xs = ap length front in
-    omega (arith, sym (length-take (length xs) new) ∙ h)
 
 part_of_appended : {X : Type 0} (xs ys : List X) (from to : ℕ) → from ≤ to → to ≤ length xs
     → slice_range (xs ++ ys) from to ≡ slice_range xs from to
@@ -48,63 +40,30 @@ part_stays {X} xs new from to ordered within front =
 pub part_to_end : {X : Type 0} (xs : List X) (from to : ℕ) → to ≡ length xs → slice_range xs from to ≡ drop from xs
 part_to_end xs from to is = rw is (take_rest xs from)
 
-row_stays : (frame : List ℕ) (xs new : List Span) (row : Row) → IsRowOf (length xs) row → take (length xs) new ≡ xs
-    → txn_read frame new row ≡ txn_read frame xs row
-row_stays frame xs new row h front =
-    let middle : row.writes ≤ length xs = omega (arith, h.writes_last, h.within) in
-    rw (
-      part_stays xs new row.reads row.writes h.reads_first middle front,
-      part_stays xs new row.writes row.end h.writes_last h.within front,
-    ) refl
+row_stays : (frame : List ℕ) (xs new : List Span) (from : ℕ) (row : Row) → from + row.writes ≤ row.end → row.end ≤ length xs
+    → take (length xs) new ≡ xs → txn_read frame new from row ≡ txn_read frame xs from row
+row_stays frame xs new from row ordered within front =
+    let middle = row.end - row.writes in
+    let first : from ≤ middle = omega (arith, ordered) in
+    let last : middle ≤ row.end = omega arith in
+    let inside : middle ≤ length xs = omega (arith, within) in
+    rw (part_stays xs new from middle first inside front, part_stays xs new middle row.end last within front) refl
 
-rows_stay : (frame : List ℕ) (xs new : List Span) (rows : List Row) → All (IsRowOf (length xs)) rows
-    → take (length xs) new ≡ xs → map (txn_read frame new) rows ≡ map (txn_read frame xs) rows
-rows_stay frame xs new [] within front = refl
-rows_stay frame xs new (row ∷ rows) within front = rw (
-  row_stays frame xs new row (All-head (IsRowOf (length xs)) row rows within) front,
-  rows_stay frame xs new rows (All-tail (IsRowOf (length xs)) row rows within) front,
-) refl
+read_more : (frame : List ℕ) (xs new : List Span) (from : ℕ) (rows : List Row) (row : Row) → AreRows from rows (length xs)
+    → take (length xs) new ≡ xs
+    → txns_read frame new from (rows ++ row ∷ []) ≡ txns_read frame xs from rows ++ txn_read frame new (length xs) row ∷ []
+read_more frame xs new from [] row are front = ap (λ (n : ℕ). txn_read frame new n row ∷ []) are
+read_more frame xs new from (first ∷ rows) row are front =
+    let one = row_stays frame xs new from first are.0 (rows_rise first.end rows (length xs) are.1) front in
+    let others = read_more frame xs new first.end rows row are.1 front in
+    λ i. one i ∷ others i
 
 -- one row more, whose spans were appended
-pub row_pushed : (frame : List ℕ) (xs new : List Span) (rows pushed : List Row) (row : Row) → AreRows xs rows
+pub row_pushed : (frame : List ℕ) (xs new : List Span) (rows pushed : List Row) (row : Row) → AreRows 0 rows (length xs)
     → take (length xs) new ≡ xs → pushed ≡ rows ++ row ∷ []
-    → map (txn_read frame new) pushed ≡ map (txn_read frame xs) rows ++ txn_read frame new row ∷ []
-row_pushed frame xs new rows pushed row h front is =
-    rw (is, map_push (txn_read frame new) rows row)
-    (ap (λ (l : List TxnFields). l ++ txn_read frame new row ∷ []) (rows_stay frame xs new rows h.within front))
-
-abbrev spans_of : List Span → Row → List Span
-spans_of spans row = slice_range spans row.reads row.end
-
-spans_stay : (xs new : List Span) (rows : List Row) → All (IsRowOf (length xs)) rows → take (length xs) new ≡ xs
-    → flat_map (spans_of new) rows ≡ flat_map (spans_of xs) rows
-spans_stay xs new [] within front = refl
-spans_stay xs new (row ∷ rows) within front =
-    let h = All-head (IsRowOf (length xs)) row rows within in
-    let ordered : row.reads ≤ row.end = omega (arith, h.reads_first, h.writes_last) in
-    let first = part_stays xs new row.reads row.end ordered h.within front in
-    let others = spans_stay xs new rows (All-tail (IsRowOf (length xs)) row rows within) front in
-    λ i. first i ++ others i
-
-pub rows_pushed : (xs new : List Span) (rows : List Row) (row : Row) → AreRows xs rows → IsRowOf (length new) row
-    → row.reads ≡ length xs → row.end ≡ length new → take (length xs) new ≡ xs → AreRows new (rows ++ row ∷ [])
-rows_pushed xs new rows row h last from to front =
-    let more = longer xs new front in
-    let own : spans_of new row ≡ drop (length xs) new =
-    part_to_end new row.reads row.end to ∙ ap (λ (n : ℕ). drop n new) from in
-    record {
-      within = All-push (IsRowOf (length new)) rows row
-          (All-weaker (IsRowOf (length xs)) (IsRowOf (length new)) (λ r w. record {
-            reads_first = w.reads_first;
-            writes_last = w.writes_last;
-            within = omega (arith, more, w.within);
-          }) rows h.within) last;
-      whole = flat_map-append (spans_of new) rows (row ∷ [])
-          ∙ ap (λ (l : List Span). l ++ flat_map (spans_of new) (row ∷ []))
-          (spans_stay xs new rows h.within front ∙ h.whole)
-          ∙ ap (λ (l : List Span). xs ++ l) (append-nil (spans_of new row) ∙ own)
-          ∙ sym (behind_front xs new front);
-    }
+    → txns_read frame new 0 pushed ≡ txns_read frame xs 0 rows ++ txn_read frame new (length xs) row ∷ []
+row_pushed frame xs new rows pushed row are front is =
+    ap (λ (l : List Row). txns_read frame new 0 l) is ∙ read_more frame xs new 0 rows row are front
 
 -- one span more
 pub apart_pushed : (from : ℕ) (spans : List Span) (middle : ℕ) (span : Span) (to : ℕ) → AreApart from spans middle

@@ -1,15 +1,15 @@
 -- The tables of a frame are those of its batch, once each single key has its end.
-use Rattle.std.proofs.Common.{◌≡◌, ℕ, ◌+◌, ◌≤◌, List, [], ◌∷◌, length, map, inl, inr, refl, ap, sym, subst, ◌∙◌, arith}
+use Rattle.std.proofs.Common.{◌≡◌, ℕ, suc, ◌+◌, ◌-◌, ◌≤◌, List, [], ◌∷◌, length, map, inl, inr, refl, ap, sym, subst, ◌∙◌, arith}
 use Rattle.std.specs.List.{All, AllByRecursion, slice_range}
 use Rattle.std.proofs.lemmas.List.Elements.{All-nil, All-cons}
 use Rattle.keyspace.specs.declared.span.Span.{Span}
 use Rattle.keyspace.specs.declared.row.Row.{Row}
 use Rattle.keyspace.specs.Fields.{TxnLimits}
-use Rattle.keyspace.specs.Tables.{range_told, txn_told, txns_told, LiesWithin, AreTables}
+use Rattle.keyspace.specs.Tables.{range_told, txn_told, txns_from, LiesWithin, AreRows, AreTables}
 use Rattle.wire.specs.declared.tables.Tables.{Tables}
 use Rattle.wire.specs.Fields.{RangeFields, TxnFields}
 use Rattle.wire.specs.Spelling.{RangeHolds, TxnHolds, BatchHolds}
-use Rattle.wire.specs.Lying.{range_read, txn_read, batch_told, IsBetween, AreApart}
+use Rattle.wire.specs.Lying.{range_read, txn_read, txns_read, batch_told, IsBetween, AreApart}
 use Rattle.wire.proofs.Sealing.{apart_rises}
 use Rattle.wire.proofs.Appending.{map_part}
 
@@ -38,21 +38,27 @@ part_sealed frame buffer spans from to told =
     map_part (range_told buffer) spans from to ∙ ap (λ (l : List RangeFields). slice_range l from to) told
     ∙ sym (map_part (range_read frame) spans from to)
 
-txn_sealed : (frame buffer : List ℕ) (spans : List Span) (row : Row)
-    → map (range_told buffer) spans ≡ map (range_read frame) spans → txn_told buffer spans row ≡ txn_read frame spans row
-txn_sealed frame buffer spans row told =
-    let reads = part_sealed frame buffer spans row.reads row.writes told in
-    let writes = part_sealed frame buffer spans row.writes row.end told in
+txn_sealed : (frame buffer : List ℕ) (spans : List Span) (from : ℕ) (row : Row)
+    → map (range_told buffer) spans ≡ map (range_read frame) spans
+    → txn_told buffer spans from row ≡ txn_read frame spans from row
+txn_sealed frame buffer spans from row told =
+    let reads = part_sealed frame buffer spans from (row.end - row.writes) told in
+    let writes = part_sealed frame buffer spans (row.end - row.writes) row.end told in
     λ i. record { snapshot = row.snapshot; marked = row.marked; reads = reads i; writes = writes i }
 
-pub txns_sealed : (frame buffer : List ℕ) (spans : List Span) (rows : List Row)
+pub txns_sealed : (frame buffer : List ℕ) (spans : List Span) (from : ℕ) (rows : List Row)
     → map (range_told buffer) spans ≡ map (range_read frame) spans
-    → txns_told buffer spans rows ≡ map (txn_read frame spans) rows
-txns_sealed frame buffer spans [] told = refl
-txns_sealed frame buffer spans (row ∷ rows) told =
-    let first = txn_sealed frame buffer spans row told in
-    let others = txns_sealed frame buffer spans rows told in
+    → txns_from buffer spans from rows ≡ txns_read frame spans from rows
+txns_sealed frame buffer spans from [] told = refl
+txns_sealed frame buffer spans from (row ∷ rows) told =
+    let first = txn_sealed frame buffer spans from row told in
+    let others = txns_sealed frame buffer spans row.end rows told in
     λ i. first i ∷ others i
+
+pub length-read : (frame : List ℕ) (spans : List Span) (from : ℕ) (rows : List Row)
+    → length (txns_read frame spans from rows) ≡ length rows
+length-read frame spans from [] = refl
+length-read frame spans from (row ∷ rows) = ap suc (length-read frame spans row.end rows)
 
 all_hold : {X : Type 0} (P : X → Type 0) (xs : List X) → AllByRecursion P xs → All P xs
 all_hold P [] h = All-nil P
@@ -79,8 +85,7 @@ are_tables frame buffer tables apart more told holds =
     let rows = tables.rows.items in
     record {
       spans_within = spans_within 0 spans (length frame) (length buffer) apart (omega (arith, more));
-      rows_within = tables.rows_fit.within;
-      whole = tables.rows_fit.whole;
-      holds = subst (λ (txns : List TxnFields). All TxnLimits txns) (sym (txns_sealed frame buffer spans rows told))
-          (limits (map (txn_read frame spans) rows) holds.txns);
+      rows_fit = subst (AreRows 0 rows) tables.spans.ok.0 tables.rows_fit;
+      holds = subst (λ (txns : List TxnFields). All TxnLimits txns) (sym (txns_sealed frame buffer spans 0 rows told))
+          (limits (txns_read frame spans 0 rows) holds.txns);
     }

@@ -1,7 +1,6 @@
 pub mod Fields
 pub mod Spelling
 pub mod Reading
-pub mod Rows
 pub mod Lying
 pub mod Source
 pub mod FrameLength

@@ -21,14 +21,19 @@ range_read frame span =
     if span.begin == span.end then single_key (bytes_at frame span.begin span.begin_length)
     else range_told frame span
 
--- the transaction of a row, as the frame spells it
-abbrev pub txn_read : List ℕ → List Span → Row → TxnFields
-txn_read frame spans row = record {
+-- the transaction of a row, whose spans begin at an index, as the frame spells it
+abbrev pub txn_read : List ℕ → List Span → ℕ → Row → TxnFields
+txn_read frame spans from row = record {
   snapshot = row.snapshot;
   marked = row.marked;
-  reads = map (range_read frame) (slice_range spans row.reads row.writes);
-  writes = map (range_read frame) (slice_range spans row.writes row.end);
+  reads = map (range_read frame) (slice_range spans from (row.end - row.writes));
+  writes = map (range_read frame) (slice_range spans (row.end - row.writes) row.end);
 }
+
+-- the transactions of rows, in order, whose spans lie one after the other from an index on
+abbrev pub txns_read : List ℕ → List Span → ℕ → List Row → List TxnFields
+txns_read frame spans from [] = []
+txns_read frame spans from (row ∷ rows) = txn_read frame spans from row ∷ txns_read frame spans row.end rows
 
 -- the batch of the tables, as the frame spells it
 abbrev pub batch_told : List ℕ → Tables → BatchFields
@@ -36,7 +41,7 @@ batch_told frame tables = record {
   previous = tables.previous;
   version = tables.version;
   received = tables.received;
-  txns = map (txn_read frame tables.spans.items) tables.rows.items;
+  txns = txns_read frame tables.spans.items 0 tables.rows.items;
 }
 
 -- both keys of the span lie before this index, the end behind the begin

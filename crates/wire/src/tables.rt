@@ -1,6 +1,7 @@
 //! The tables that a frame of a batch fills.
 
-ghost use Rattle.wire.specs.Rows.{AreRows};
+ghost use Rattle.std.specs.Prelude.{vec_len};
+ghost use Rattle.keyspace.specs.Tables.{AreRows, AreRows-prop};
 
 use keyspace::{Row, Span};
 
@@ -14,5 +15,5 @@ pub struct Tables {
     pub spans: Vec<Span>,
     /// Each transaction, and which spans it has.
     pub rows: Vec<Row>,
-    ghost rows_fit: { AreRows spans.items rows.items },
+    ghost rows_fit: { AreRows 0 rows.items (vec_len spans) } by { AreRows-prop 0 rows.items (vec_len spans) },
 }

@@ -1,9 +1,8 @@
 //! The reading of transactions.
 
-ghost use Rattle.std.specs.Prelude.{◌≡◌, ◌+◌, ◌≤◌, IfOk, OnOk, length, vec_len, map, take};
-ghost use Rattle.keyspace.specs.Tables.{IsRowOf};
-ghost use Rattle.wire.specs.Lying.{IsRestOf, AreApart, index_of, txn_read};
-ghost use Rattle.wire.specs.Rows.{AreRows};
+ghost use Rattle.std.specs.Prelude.{◌≡◌, ◌+◌, ◌≤◌, [], ◌∷◌, IfOk, OnOk, length, vec_len, take};
+ghost use Rattle.keyspace.specs.Tables.{AreRows};
+ghost use Rattle.wire.specs.Lying.{IsRestOf, AreApart, index_of, txn_read, txns_read};
 ghost use Rattle.wire.specs.Reading.{Gives, txn_at, many_at};
 ghost use Rattle.wire.specs.declared.field.TheConstants.{MAX_BODY_LENGTH};
 
@@ -29,10 +28,9 @@ fn row_of<'a>(
     requires short { length frame.now ≤ 4 + MAX_BODY_LENGTH }
     requires rest { IsRestOf frame.now bytes.now }
     requires apart { AreApart 0 spans.old.items (index_of frame.now bytes.now) }
-    ensures reads { Gives (λ x. (txn_read frame.now spans.new.items x.0, x.1.now)) result (txn_at version bytes.now) }
-    ensures row { IfOk result (λ x. IsRowOf (length spans.new.items) x.0) }
-    ensures from { IfOk result (λ x. x.0.reads ≡ length spans.old.items) }
-    ensures to { IfOk result (λ x. x.0.end ≡ length spans.new.items) }
+    ensures reads { Gives (λ x. (txn_read frame.now spans.new.items (length spans.old.items) x.0, x.1.now)) result
+        (txn_at version bytes.now) }
+    ensures row { IfOk result (λ x. AreRows (length spans.old.items) (x.0 ∷ []) (length spans.new.items)) }
     ensures front { OnOk result (take (length spans.old.items) spans.new.items ≡ spans.old.items) }
     ensures apart { IfOk result (λ x. AreApart 0 spans.new.items (index_of frame.now x.1.now)) }
     ensures rest { IfOk result (λ x. IsRestOf frame.now x.1.now) }
@@ -44,16 +42,13 @@ fn row_of<'a>(
     let (marked, rest) = marks_of(rest)?;
     let (read_count, rest) = count_of(MAX_RANGES as u16, rest)?;
     let (write_count, rest) = count_of(MAX_RANGES as u16, rest)?;
-    let reads = spans.len() as u32;
     let rest = push_ranges(version, read_count, frame, spans, rest)?;
-    let writes = spans.len() as u32;
     let rest = push_ranges(version, write_count, frame, spans, rest)?;
     let row = Row {
         snapshot,
-        marked,
-        reads,
-        writes,
         end: spans.len() as u32,
+        writes: write_count,
+        marked,
     };
     Ok((row, rest))
 }
@@ -68,9 +63,9 @@ pub fn txns_of<'a>(
 ) -> Result<((Vec<Span>, Vec<Row>), &'a [u8]), WireError>
     requires short { length frame.now ≤ 4 + MAX_BODY_LENGTH }
     requires rest { IsRestOf frame.now bytes.now }
-    ensures reads { Gives (λ x. (map (txn_read frame.now x.0.0.items) x.0.1.items, x.1.now)) result
+    ensures reads { Gives (λ x. (txns_read frame.now x.0.0.items 0 x.0.1.items, x.1.now)) result
         (many_at (txn_at version) count bytes.now) }
-    ensures rows { IfOk result (λ x. AreRows x.0.0.items x.0.1.items) }
+    ensures rows { IfOk result (λ x. AreRows 0 x.0.1.items (vec_len x.0.0)) }
     ensures apart { IfOk result (λ x. AreApart 0 x.0.0.items (index_of frame.now x.1.now)) }
 {
     let room = room_for(count, MIN_TXN_LENGTH, bytes);

@@ -1,18 +1,10 @@
-use Rattle.std.proofs.Common.{◌≡◌, ◌≤◌, drop, length, ap, ◌∙◌, rules, arith}
+use Rattle.std.proofs.Common.{◌≡◌, ◌-◌, ◌≤◌, drop, length, ap, ◌∙◌, rules, arith}
 use Rattle.std.specs.List.{slice_range}
 use Rattle.wire.specs.Lying.{index_of}
 use Rattle.wire.specs.Reading.{txn_at, version_at}
 use Rattle.wire.proofs.Appending.{apart_later, part_stays, part_to_end}
 use Rattle.wire.proofs.Heads.{after_head, few_spans}
 use Rattle.wire.proofs.txn.row_of.Goals as goal
-
-pub overflow_cast-reads : goal.overflow_cast-reads
-overflow_cast-reads c = few_spans c.args.frame.now c.args.bytes.now c.args.spans.now.items c.len-reads.result
-    c.requires.apart c.requires.short (search rules)
-
-pub overflow_cast-writes : goal.overflow_cast-writes
-overflow_cast-writes c = few_spans c.args.frame.now c.in_ok-rest.rest.now c.push_ranges.new.spans.items c.len-writes.result
-    c.in_ok-rest.ensures.apart c.requires.short (search rules)
 
 pub overflow_cast-row : goal.overflow_cast-row
 overflow_cast-row c = few_spans c.args.frame.now c.in_ok-rest-2.rest.now c.push_ranges-2.new.spans.items c.len.result
@@ -41,14 +33,14 @@ unfolding txn_at version_at
 returns-clause-reads c =
     let first = c.push_ranges.new.spans.items in
     let all = c.push_ranges-2.new.spans.items in
-    let from : c.len-reads.result ≡ length c.args.spans.now.items = search rules in
-    let middle : c.len-writes.result ≡ length first = search rules in
+    let from = length c.args.spans.now.items in
+    let middle = c.len.result - c.in_ok-write_count.write_count in
     let to : c.len.result ≡ length all = search rules in
-    let ordered : c.len-reads.result ≤ c.len-writes.result = omega (arith, from, middle, c.in_ok-rest.ensures.count) in
-    let within : c.len-writes.result ≤ length first = omega (arith, middle) in
-    let reads : slice_range all c.len-reads.result c.len-writes.result ≡ drop (length c.args.spans.now.items) first =
-    part_stays first all c.len-reads.result c.len-writes.result ordered within c.in_ok-rest-2.ensures.front
-    ∙ part_to_end first c.len-reads.result c.len-writes.result middle ∙ ap (λ n. drop n first) from in
-    let writes : slice_range all c.len-writes.result c.len.result ≡ drop (length first) all =
-    part_to_end all c.len-writes.result c.len.result to ∙ ap (λ n. drop n all) middle in
+    let there : middle ≡ length first = omega (arith, to, c.in_ok-rest-2.ensures.count) in
+    let ordered : from ≤ middle = omega (arith, there, c.in_ok-rest.ensures.count) in
+    let within : middle ≤ length first = omega (arith, there) in
+    let reads : slice_range all from middle ≡ drop from first =
+    part_stays first all from middle ordered within c.in_ok-rest-2.ensures.front ∙ part_to_end first from middle there in
+    let writes : slice_range all middle c.len.result ≡ drop (length first) all =
+    part_to_end all middle c.len.result to ∙ ap (λ n. drop n all) there in
     rw (reads, writes) (search rules)

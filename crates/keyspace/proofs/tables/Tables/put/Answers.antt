@@ -38,23 +38,10 @@ more_writes : (c : In_ok-put_ranges-2) → length c.put_ranges-2.new.spans.items
 more_writes c =
     omega (arith, length-put _ _ _ _ _ (writes_put c), length-map c.args.txn.now.writes range_fields, c.args.txn.now.few_writes)
 
-pub overflow_cast-reads : goal.overflow_cast-reads
-overflow_cast-reads c =
-    let at = goal.at.overflow_cast-reads c in
-    let fits : c.len-reads.result ≤ 8388608 = omega (arith, few at.Start, c.args.self.now.spans.ok.0) in
-    search rules
-
-pub overflow_cast-writes : goal.overflow_cast-writes
-overflow_cast-writes c =
-    let at = goal.at.overflow_cast-writes c in
-    let fits : c.len-writes.result ≤ 8388608 =
-    omega (arith, few at.Start, more_reads at.In_ok-put_ranges, c.put_ranges.new.spans.ok.0) in
-    search rules
-
-pub overflow_cast-end : goal.overflow_cast-end
-overflow_cast-end c =
-    let at = goal.at.overflow_cast-end c in
-    let fits : c.len-end.result ≤ 8388608 =
+pub overflow_cast-len : goal.overflow_cast-len
+overflow_cast-len c =
+    let at = goal.at.overflow_cast-len c in
+    let fits : c.len.result ≤ 8388608 =
     omega (arith, few at.Start, more_reads at.In_ok-put_ranges, more_writes at.In_ok-put_ranges-2, c.put_ranges-2.new.spans.ok.0) in
     search rules
 
@@ -78,7 +65,7 @@ all_put c =
     (txn_put old.buffer.items buffer₁.items buffer₂.items old.spans.items spans₁.items spans₂.items old.rows.items _
     (txn_fields txn) c.requires.tables (limits_of_txn txn) (reads_put at.In_ok-put_ranges)
     (writes_put at.In_ok-put_ranges-2) (to_z-of_z w64 txn.snapshot fits) refl
-    (c.len-reads.ensures ∙ old.spans.ok.0) (c.len-writes.ensures ∙ spans₁.ok.0) (c.len-end.ensures ∙ spans₂.ok.0))
+    (c.len-2.ensures.count ∙ sym (length-map txn.writes range_fields)) (c.len.ensures ∙ spans₂.ok.0))
 
 pub returns-clause-tables : goal.returns-clause-tables
 returns-clause-tables c = (all_put c).0

@@ -1,4 +1,4 @@
-use Rattle.std.proofs.Common.{arith, ◌≡◌, ◌<◌, All, length, sym, ap, ◌∙◌, subst}
+use Rattle.std.proofs.Common.{arith, ◌≡◌, ◌+◌, ◌<◌, All, length, sym, ap, ◌∙◌, subst}
 use Rattle.std.proofs.lemmas.List.{length-map}
 use Rattle.keys.specs.Hash.{AreHashesOf}
 use Rattle.keys.specs.Ranks.{AreRanked}
@@ -32,10 +32,10 @@ count c =
     ∙ length-map c.deref-2.result.now (range_told c.deref.result.now) ∙ ap length c.deref-2.ensures.value
 
 -- and as many marks of the rows
-marks : (c : After-deref-4) → length (marks_of_rows c.deref-4.result.now) ≡ length c.args.spans.items
+marks : (c : After-deref-4) → 0 + length (marks_of_rows c.deref-4.result.now) ≡ length c.args.spans.items
 marks c =
-    ap (λ rows. length (marks_of_rows rows)) c.deref-4.ensures.value
-    ∙ length-marks c.args.buffer.items c.args.spans.items c.args.rows.items c.requires.tables c.requires.tables.holds
+    ap (λ rows. 0 + length (marks_of_rows rows)) c.deref-4.ensures.value
+    ∙ length-marks 0 c.args.rows.items (length c.args.spans.items) c.requires.tables.rows_fit
 
 pub list_writes-requires-clause-within : goal.list_writes-requires-clause-within
 list_writes-requires-clause-within c =

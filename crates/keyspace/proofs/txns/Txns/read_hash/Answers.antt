@@ -1,11 +1,13 @@
-use Rattle.std.proofs.Common.{arith, ◌≡◌, ◌+◌, ◌<◌, ℕ, List, length, refl, sym, ap, ◌∙◌}
+use Rattle.std.proofs.Common.{◌≡◌, ◌+◌, ◌<◌, ℕ, List, length, take, refl, sym, ap, ◌∙◌, subst}
 use Rattle.std.specs.Prelude.{Option, Some, None, IsSomeAnd, slice_get}
 use Rattle.keys.specs.declared.range.Range.{Range}
 use Rattle.keys.proofs.callers.Lists.{some_at}
 use Rattle.keyspace.specs.declared.txn.Txn.{Txn}
+use Rattle.keyspace.specs.declared.row.Row.{Row}
 use Rattle.keyspace.specs.BatchRanges.{ranges_in}
+use Rattle.keyspace.specs.Tables.{AreRows}
 use Rattle.keyspace.proofs.ReadHashes.{row_within, read_at}
-use Rattle.keyspace.proofs.txns.Txns.read_hash.Goals.{After-index}
+use Rattle.keyspace.proofs.txns.Txns.read_hash.Goals.{After-first_span}
 use Rattle.keyspace.proofs.txns.Txns.read_hash.Goals as goal
 
 -- the transaction at the index, with a range at the other
@@ -14,25 +16,27 @@ named : (found : Option Txn) (read : ℕ) → IsSomeAnd found (λ txn. read < le
 named None read within = absurd within
 named (Some txn) read within = (txn, refl, some_at txn.reads read within)
 
-pub index-requires : goal.index-requires
-index-requires c =
+pub first_span-requires-clause-within : goal.first_span-requires-clause-within
+first_span-requires-clause-within c =
     let tables = c.self.inside in
     let it = named (slice_get c.args.self.now c.args.index) c.args.read c.requires.within in
     let is = ap (λ (txns : List Txn). slice_get txns c.args.index) c.self.view_is ∙ it.1 in
     let within = row_within tables.buffer.items tables.spans.items tables.rows.items tables.tables c.args.index it.0 is in
-    omega (arith, within, tables.rows.ok.0)
+    subst (λ (rows : List Row). c.args.index < length rows) (sym c.deref.ensures.value) within
 
 -- where the range stands among all ranges
-place : (c : After-index) → (txn : Txn) (range : Range) → slice_get c.args.self.now c.args.index ≡ Some txn
+place : (c : After-first_span) → (txn : Txn) (range : Range) → slice_get c.args.self.now c.args.index ≡ Some txn
     → slice_get txn.reads c.args.read ≡ Some range
-    → slice_get (ranges_in c.args.self.now) (c.index.result.now.reads + c.args.read) ≡ Some range
+    → slice_get (ranges_in c.args.self.now) (c.first_span.result + c.args.read) ≡ Some range
 place c txn range is there =
     let tables = c.self.inside in
-    ap (λ (txns : List Txn). slice_get (ranges_in txns) (c.index.result.now.reads + c.args.read)) (sym c.self.view_is)
+    let before = subst (λ (rows : List Row). AreRows 0 (take c.args.index rows) c.first_span.result) c.deref.ensures.value
+    c.first_span.ensures.first in
+    ap (λ (txns : List Txn). slice_get (ranges_in txns) (c.first_span.result + c.args.read)) (sym c.self.view_is)
     ∙ read_at tables.buffer.items tables.spans.items tables.rows.items tables.tables c.args.index c.args.read
-    c.index.result.now txn range (ap (λ (txns : List Txn). slice_get txns c.args.index) c.self.view_is ∙ is) c.index.ensures there
+    c.first_span.result txn range before (ap (λ (txns : List Txn). slice_get txns c.args.index) c.self.view_is ∙ is) there
 
 pub returns : goal.returns
 returns c =
     let at = goal.at.returns c in
-    record { hash = λ txn range is there. c.hash_at.ensures.hash range (place at.After-index txn range is there) }
+    record { hash = λ txn range is there. c.hash_at.ensures.hash range (place at.After-first_span txn range is there) }

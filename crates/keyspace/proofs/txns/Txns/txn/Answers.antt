@@ -1,33 +1,42 @@
-use Rattle.std.proofs.Common.{rules, arith, ◌≡◌, ◌≤◌, ◌<◌, length, map, slice_get, FitsSigned, w64, sym, ap, ◌∙◌, subst, refl}
+use Rattle.std.proofs.Common.{rules, arith, ◌≡◌, ◌+◌, ◌-◌, ◌≤◌, ◌<◌, List, length, map, take, slice_get, FitsSigned, w64, sym, ap, ◌∙◌, subst, refl}
 use Rattle.std.specs.Prelude.{◌≤ℤ◌, pos}
 use Rattle.std.proofs.lemmas.Int.{to_z-of_z}
 use Rattle.std.proofs.lemmas.List.{length-map}
+use Rattle.keyspace.specs.declared.row.Row.{Row}
 use Rattle.keyspace.specs.BatchRanges.{ranges_in}
 use Rattle.keyspace.specs.Fields.{range_fields, TxnLimits}
-use Rattle.keyspace.specs.Tables.{range_told, txn_told, IsRowOf}
+use Rattle.keyspace.specs.Tables.{range_told, txn_told, AreRows}
 use Rattle.keyspace.proofs.RangesTold.{part_told}
+use Rattle.keyspace.proofs.RowsInTurn.{row_at}
 use Rattle.keyspace.proofs.TablesRanges.{ranges_told}
 use Rattle.keyspace.proofs.TablesTxns.{length-txns, limits_at, txn_at}
 use Rattle.keyspace.proofs.txns.Txns.txn.Goals as goal
-use Rattle.keyspace.proofs.txns.Txns.txn.Goals.{After-self, After-index-row, After-ranges-ranges}
+use Rattle.keyspace.proofs.txns.Txns.txn.Goals.{After-self, After-index-row, After-first_span-begin, After-ranges-ranges}
 
 within_rows : (c : After-self) → c.args.index < length c.self.inside.rows.items
 within_rows c =
     let tables = c.self.inside in
     omega (arith, ap length c.self.view_is, length-txns tables.buffer.items tables.spans.items tables.rows.items tables.tables.holds)
 
-row_of : (c : After-index-row) → c.args.index < length c.self.inside.rows.items
-    → IsRowOf (length c.self.inside.spans.items) c.index-row.result.now
-row_of c within =
-    subst (IsRowOf (length c.self.inside.spans.items)) (sym c.index-row.ensures)
-    (c.self.inside.tables.rows_within c.args.index c.index-row.result.now within)
+before : (c : After-first_span-begin) → AreRows 0 (take c.args.index c.self.inside.rows.items) c.first_span-begin.result
+before c =
+    subst (λ (rows : List Row). AreRows 0 (take c.args.index rows) c.first_span-begin.result) c.deref.ensures.value
+    c.first_span-begin.ensures.first
 
-limits_of : (c : After-index-row) → c.args.index < length c.self.inside.rows.items
-    → TxnLimits (txn_told c.self.inside.buffer.items c.self.inside.spans.items c.index-row.result.now)
+row_of : (c : After-first_span-begin) → c.args.index < length c.self.inside.rows.items
+    → (c.first_span-begin.result + c.index-row.result.now.writes ≤ c.index-row.result.now.end)
+    × (c.index-row.result.now.end ≤ length c.self.inside.spans.items)
+row_of c within =
+    let tables = c.self.inside in
+    row_at 0 tables.rows.items (length tables.spans.items) c.args.index c.first_span-begin.result c.index-row.result.now
+    c.index-row.result.now tables.tables.rows_fit (before c) within c.index-row.ensures
+
+limits_of : (c : After-first_span-begin) → c.args.index < length c.self.inside.rows.items
+    → TxnLimits (txn_told c.self.inside.buffer.items c.self.inside.spans.items c.first_span-begin.result c.index-row.result.now)
 limits_of c within =
     let tables = c.self.inside in
-    limits_at tables.buffer.items tables.spans.items tables.rows.items tables.tables.holds c.args.index c.index-row.result.now
-    within c.index-row.ensures
+    limits_at tables.buffer.items tables.spans.items tables.rows.items tables.tables.holds c.args.index c.first_span-begin.result
+    c.index-row.result.now (before c) within c.index-row.ensures
 
 told : (c : After-ranges-ranges)
     → map range_fields c.ranges-ranges.result ≡ map (range_told c.self.inside.buffer.items) c.self.inside.spans.items
@@ -44,25 +53,40 @@ length-ranges c =
 pub index-row-requires : goal.index-row-requires
 index-row-requires c = omega (arith, within_rows c, c.self.inside.rows.ok.0)
 
+pub first_span-begin-requires-clause-within : goal.first_span-begin-requires-clause-within
+first_span-begin-requires-clause-within c =
+    let at = goal.at.first_span-begin-requires-clause-within c in
+    subst (λ (rows : List Row). c.args.index < length rows) (sym c.deref.ensures.value) (within_rows at.After-self)
+
+pub overflow_sub-middle : goal.overflow_sub-middle
+overflow_sub-middle c =
+    let at = goal.at.overflow_sub-middle c in
+    let row = row_of at.After-first_span-begin (within_rows at.After-self) in
+    omega (arith, row.0)
+
 pub slice-requires-clause-ordered : goal.slice-requires-clause-ordered
 slice-requires-clause-ordered c =
     let at = goal.at.slice-requires-clause-ordered c in
-    (row_of at.After-index-row (within_rows at.After-self)).reads_first
+    let row = row_of at.After-first_span-begin (within_rows at.After-self) in
+    omega (arith, row.0)
 
 pub slice-requires-clause-within : goal.slice-requires-clause-within
 slice-requires-clause-within c =
     let at = goal.at.slice-requires-clause-within c in
-    omega (arith, row_of at.After-index-row (within_rows at.After-self), length-ranges at.After-ranges-ranges)
+    let row = row_of at.After-first_span-begin (within_rows at.After-self) in
+    omega (arith, row.0, row.1, length-ranges at.After-ranges-ranges)
 
 pub slice-requires-2-clause-ordered : goal.slice-requires-2-clause-ordered
 slice-requires-2-clause-ordered c =
     let at = goal.at.slice-requires-2-clause-ordered c in
-    (row_of at.After-index-row (within_rows at.After-self)).writes_last
+    let row = row_of at.After-first_span-begin (within_rows at.After-self) in
+    omega (arith, row.0)
 
 pub slice-requires-2-clause-within : goal.slice-requires-2-clause-within
 slice-requires-2-clause-within c =
     let at = goal.at.slice-requires-2-clause-within c in
-    omega (arith, row_of at.After-index-row (within_rows at.After-self), length-ranges at.After-ranges-ranges)
+    let row = row_of at.After-first_span-begin (within_rows at.After-self) in
+    omega (arith, row.0, row.1, length-ranges at.After-ranges-ranges)
 
 pub invariant_of-result : goal.invariant_of-result
 invariant_of-result c =
@@ -70,10 +94,12 @@ invariant_of-result c =
     let tables = c.self.inside in
     let row = c.index-row.result.now in
     let fits : FitsSigned w64 row.snapshot = search rules in
-    let limits = limits_of at.After-index-row (within_rows at.After-self) in
-    let reads = part_told tables.buffer.items tables.spans.items c.ranges-ranges.result c.slice.result row.reads row.writes
+    let limits = limits_of at.After-first_span-begin (within_rows at.After-self) in
+    let begin = c.first_span-begin.result in
+    let middle = row.end - row.writes in
+    let reads = part_told tables.buffer.items tables.spans.items c.ranges-ranges.result c.slice.result begin middle
     (told at.After-ranges-ranges) c.slice.ensures.ranges in
-    let writes = part_told tables.buffer.items tables.spans.items c.ranges-ranges.result c.slice-2.result row.writes row.end
+    let writes = part_told tables.buffer.items tables.spans.items c.ranges-ranges.result c.slice-2.result middle row.end
     (told at.After-ranges-ranges) c.slice-2.ensures.ranges in (
       subst (λ snapshot. pos 0 ≤ℤ snapshot) (sym (to_z-of_z w64 row.snapshot fits)) limits.snapshot,
       (
@@ -91,12 +117,14 @@ returns c =
     let tables = c.self.inside in
     let row = c.index-row.result.now in
     let fits : FitsSigned w64 row.snapshot = search rules in
-    let reads = part_told tables.buffer.items tables.spans.items c.ranges-ranges.result c.slice.result row.reads row.writes
+    let begin = c.first_span-begin.result in
+    let middle = row.end - row.writes in
+    let reads = part_told tables.buffer.items tables.spans.items c.ranges-ranges.result c.slice.result begin middle
     (told at.After-ranges-ranges) c.slice.ensures.ranges in
-    let writes = part_told tables.buffer.items tables.spans.items c.ranges-ranges.result c.slice-2.result row.writes row.end
+    let writes = part_told tables.buffer.items tables.spans.items c.ranges-ranges.result c.slice-2.result middle row.end
     (told at.After-ranges-ranges) c.slice-2.ensures.ranges in
     record {
       txn = ap (λ txns. slice_get txns c.args.index) (sym c.self.view_is)
-          ∙ txn_at tables.buffer.items tables.spans.items tables.rows.items tables.tables.holds c.args.index row _
-          (within_rows at.After-self) c.index-row.ensures (to_z-of_z w64 row.snapshot fits) refl reads writes;
+          ∙ txn_at tables.buffer.items tables.spans.items tables.rows.items tables.tables.holds c.args.index begin row _
+          (before at.After-first_span-begin) (within_rows at.After-self) c.index-row.ensures (to_z-of_z w64 row.snapshot fits) refl reads writes;
     }
