@@ -27,6 +27,22 @@ pub struct Step {
 }
 
 impl<const N: usize> Node<N> {
+    /// Returns how many bytes the first key and the target begin with in common, or none if that key isn't below the bound.
+    pub fn first_prefix_len<P: Bound>(&self, bound: &P) -> Option<usize>
+        requires headed { AreHeads (P.bytes bound.now) (key_heads_of self.now) }
+        requires some { 0 < length (entries_of self.now) }
+        ensures known { IsPrefixLenAt (P.bytes bound.now) (P.below bound.now) (P.target bound.now) result (entries_of self.now) 0 }
+    {
+        // Every target begins as all keys do where these have no byte in common, so that it has a head.
+        if self.prefix_len == 0 {
+            let head = bound.head(0);
+            if self.heads[0] < head {
+                return Some(same_bytes(self.heads[0], head));
+            }
+        }
+        bound.prefix_len_below(self.entries[0].key)
+    }
+
     /// Finds the last entry below the bound, or else the first one. `common_prefix_len` is how many bytes the first key and the
     /// target begin with in common, or none if that key isn't below the bound.
     pub fn step<P: Bound>(&self, bound: &P, common_prefix_len: Option<usize>) -> Step

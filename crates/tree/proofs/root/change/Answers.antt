@@ -15,7 +15,11 @@ common_prefix_len_at-requires g c =
       search rules,
       (
         live_subtree c.args.nodes.now (least_of g.row.N) c.args.root.now.height c.args.root.now.slot can.rooted.subtree,
-        can.some,
+        (
+          can.some,
+          subst (λ p. AllAreHeads (g.C.LeafBound.Bound.bytes p) (all_heads_of c.args.nodes.now)) (sym c.leaf_bound.ensures.leaf_bound)
+              c.requires.headed,
+        ),
       ),
     )
 
