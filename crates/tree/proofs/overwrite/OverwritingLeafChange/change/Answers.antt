@@ -388,31 +388,23 @@ splice_with_heads-requires g c =
     ap (λ (node : Node g.row.N). length (entries_of node)) same in (
       omega (arith, c.requires.changeable.few),
       (
-        ordered g at.After-lower_bound_back-begin,
-        (
-          omega (arith, size, c.lower_bound_with-end.ensures.count.within),
-          (
-            length-take-le (length c.if-ended.entries.now) (c.unwrap_or-2.result ∷ c.unwrap_or-3.result ∷ []) (few_new g j),
-            (
-              omega (
-                arith,
-                size,
-                c.if-begin-entries.false,
-                c.len-2.ensures.len,
-                c.len-2.ensures.most,
-                c.lower_bound_with-end.ensures.count.within,
-              ),
-              (
-                subst (λ (node : Node g.row.N). AreHeads bytes (key_heads_of node)) same (leaf_headed g h),
-                (
-                  new_known g j,
-                  λ alike. subst (λ (node : Node g.row.N). AreHeadsBeside bytes (key_heads_of node) (keys_of c.if-ended.entries.now)
-                      (take (length c.if-ended.entries.now) (c.unwrap_or-2.result ∷ c.unwrap_or-3.result ∷ []))) same
-                      (heads_beside g at.Joined-is_some-2 (second_key g j) (new_is g j) alike),
-                ),
-              ),
-            ),
-          ),
+        record {
+          ordered = ordered g at.After-lower_bound_back-begin;
+          within = omega (arith, size, c.lower_bound_with-end.ensures.count.within);
+          same_len = length-take-le (length c.if-ended.entries.now) (c.unwrap_or-2.result ∷ c.unwrap_or-3.result ∷ []) (few_new g j);
+          headed = subst (λ (node : Node g.row.N). AreHeads bytes (key_heads_of node)) same (leaf_headed g h);
+          known = new_known g j;
+          beside = λ alike. subst (λ (node : Node g.row.N). AreHeadsBeside bytes (key_heads_of node) (keys_of c.if-ended.entries.now)
+              (take (length c.if-ended.entries.now) (c.unwrap_or-2.result ∷ c.unwrap_or-3.result ∷ []))) same
+              (heads_beside g at.Joined-is_some-2 (second_key g j) (new_is g j) alike);
+        },
+        omega (
+          arith,
+          size,
+          c.if-begin-entries.false,
+          c.len-2.ensures.len,
+          c.len-2.ensures.most,
+          c.lower_bound_with-end.ensures.count.within,
         ),
       ),
     )
