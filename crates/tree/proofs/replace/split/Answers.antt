@@ -67,11 +67,11 @@ returns-clause-stored g c =
       live_added = c.place.ensures.live;
       changes = changes;
       taken = omega (arith, changes.live, changes.spare);
-      filled = (
-        omega (arith, split.ensures.left, ap (λ (es : List Entry). length es) here),
-        omega (arith, split.ensures.right, ap (λ (es : List Entry). length es) c.place.ensures.entries),
-      );
-      headed = c.place.ensures.headed bytes split.ensures.right_headed
+      filled = record {
+        left = omega (arith, split.ensures.filled.left, ap (λ (es : List Entry). length es) here);
+        right = omega (arith, split.ensures.filled.right, ap (λ (es : List Entry). length es) c.place.ensures.entries);
+      };
+      headed = c.place.ensures.headed bytes split.ensures.headed.right
           (headed_header bytes old c.set_header.new.self c.args.slot split.new.self replaced c.requires.can_split.headed
-          split.ensures.headed);
+          split.ensures.headed.left);
     }

@@ -581,8 +581,8 @@ returns-then-begin-entries-clause-changed g c =
       subtree = split.stored.live;
       neighbour = split.stored.live_added;
       filled = (
-        omega (arith, split.stored.filled.0, c.requires.changeable.fan_out),
-        omega (arith, split.stored.filled.1, c.requires.changeable.fan_out),
+        omega (arith, split.stored.filled.left, c.requires.changeable.fan_out),
+        omega (arith, split.stored.filled.right, c.requires.changeable.fan_out),
       );
       few_less = λ high. absurd (omega (arith, high));
       changes = split.stored.changes;
