@@ -76,15 +76,15 @@ step-step-requires g t c =
     let read = entries_from_header a slot node header in
     rw c.leaf_bound.ensures.leaf_bound (
       search rules,
-      (
-        record {
+      record {
+        can_find = record {
           headed = headed_at bytes a slot node c.requires.searched.headed header;
           partitioned = read_partitioned a (least_of g.row.N) c.args.height slot is_below node (entries_of node) c.if-height-eq0.false
               c.requires.changeable.subtree c.requires.searched.partitioned header refl;
           some = omega (arith, ap length read, c.requires.changeable.some);
-        },
-        subst (λ l. IsPrefixLenAt bytes is_below target c.args.place.common_prefix_len l 0) read c.requires.searched.known,
-      ),
+        };
+        known = subst (λ l. IsPrefixLenAt bytes is_below target c.args.place.common_prefix_len l 0) read c.requires.searched.known;
+      },
     )
 
 one_up : (n : ℕ) → ¬ (n ≡ 0) → suc (n - 1) ≡ n

@@ -40,20 +40,18 @@ lower_bound-below-requires g c =
     let bound = c.args.self.now.bound.now in
     let es = entries_of c.header_ref-leaf.result.now in
     let some : 0 < length es =
-    omega (arith, ap (λ (es : List Entry). length es) (entries_are g h), c.requires.changeable.some) in
-    let known =
-    subst (λ es. IsPrefixLenAt (g.P.Bound.bytes bound) (g.P.Bound.below bound) (g.P.Bound.target bound)
-    c.args.place.common_prefix_len es 0) (entries_are g h) c.requires.searched.known in (
+    omega (arith, ap (λ (es : List Entry). length es) (entries_are g h), c.requires.changeable.some) in (
       omega (arith, c.requires.changeable.few),
-      (
-        record {
+      record {
+        can_find = record {
           headed = headed_at (g.P.Bound.bytes bound) c.args.nodes.now c.args.slot c.header_ref-leaf.result.now c.requires.searched.headed
               c.header_ref-leaf.ensures.header;
           partitioned = partitioned_is g h;
           some = some;
-        },
-        known,
-      ),
+        };
+        known = subst (λ es. IsPrefixLenAt (g.P.Bound.bytes bound) (g.P.Bound.below bound) (g.P.Bound.target bound)
+            c.args.place.common_prefix_len es 0) (entries_are g h) c.requires.searched.known;
+      },
     )
 
 -- Where no entry passes, no item does.

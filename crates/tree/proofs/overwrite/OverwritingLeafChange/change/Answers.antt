@@ -118,14 +118,14 @@ lower_bound_with-end-requires g c =
     let h = (goal.at.lower_bound_with-end-requires g c).After-header_ref-leaf in
     let to = c.args.self.now.new.now.to.now in (
       omega (arith, c.requires.changeable.few),
-      (
-        record { headed = leaf_headed g h; partitioned = below_to g h; some = some_entry g h },
-        (
-          first_known g h,
-          subst (λ n. IsOwnHead (g.Q.Bound.bytes to) (g.Q.Bound.target to) n c.head_for-to_head.result
-              (key_heads_of c.header_ref-leaf.result.now)) c.unwrap_or-alike.ensures c.head_for-to_head.ensures.head,
-        ),
-      ),
+      record {
+        can_step = record {
+          can_find = record { headed = leaf_headed g h; partitioned = below_to g h; some = some_entry g h };
+          known = first_known g h;
+        };
+        head = subst (λ n. IsOwnHead (g.Q.Bound.bytes to) (g.Q.Bound.target to) n c.head_for-to_head.result
+            (key_heads_of c.header_ref-leaf.result.now)) c.unwrap_or-alike.ensures c.head_for-to_head.ensures.head;
+      },
     )
 
 -- The target of the first bound begins as all keys do, where that is told.
