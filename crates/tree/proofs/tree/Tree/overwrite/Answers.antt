@@ -32,27 +32,21 @@ change-requires g c =
       omega (arith, c.self.invariant.few),
       (
         omega (arith, c.self.invariant.few),
-        (
-          record {
+        record {
+          changeable = record {
             fan_out = c.self.invariant.fan_out;
             few = c.self.invariant.few;
             low = height;
             rooted = c.self.invariant.rooted;
             some = root_some t.nodes t.root.slot t.root.height t.len t.room c.self.invariant;
             room = omega (arith, height, spare);
-          },
-          (
-            subst (KeyBound (g.Q.Bound.below new.to.now)) items_are c.requires.to,
-            (
-              headed_from_list bytes t.nodes
-                  (subst (λ (v : Items). AllAreHeads bytes (tree_heads v)) (sym c.self.view_is) c.requires.headed),
-              (
-                ([], [], subst (KeyBound from) (sym (append-nil items)) (subst (KeyBound from) items_are c.requires.from)),
-                c.requires.none_taken,
-              ),
-            ),
-          ),
-        ),
+          };
+          partitioned = subst (KeyBound (g.Q.Bound.below new.to.now)) items_are c.requires.to;
+          headed = headed_from_list bytes t.nodes
+              (subst (λ (v : Items). AllAreHeads bytes (tree_heads v)) (sym c.self.view_is) c.requires.headed);
+          wanted = ([], [], subst (KeyBound from) (sym (append-nil items)) (subst (KeyBound from) items_are c.requires.from));
+          none_taken = c.requires.none_taken;
+        },
       ),
     )
 

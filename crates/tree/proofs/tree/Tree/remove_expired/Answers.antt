@@ -28,24 +28,21 @@ change-requires g c =
       omega (arith, c.self.invariant.few),
       (
         omega (arith, c.self.invariant.few),
-        (
-          record {
+        record {
+          changeable = record {
             fan_out = c.self.invariant.fan_out;
             few = c.self.invariant.few;
             low = height;
             rooted = c.self.invariant.rooted;
             some = root_some t.nodes t.root.slot t.root.height t.len t.room c.self.invariant;
             room = omega (arith, height, spare);
-          },
-          (
-            subst (λ items. IsPartitioned (λ (x : Item). p x.key) items) (sym (ap (λ v. v.items) c.self.view_is)) c.requires.partitioned,
-            (
-              headed_from_list bytes t.nodes
-                  (subst (λ (v : Items). AllAreHeads bytes (tree_heads v)) (sym c.self.view_is) c.requires.headed),
-              (tt, c.requires.none_taken),
-            ),
-          ),
-        ),
+          };
+          partitioned = subst (λ items. IsPartitioned (λ (x : Item). p x.key) items) (sym (ap (λ v. v.items) c.self.view_is)) c.requires.partitioned;
+          headed = headed_from_list bytes t.nodes
+              (subst (λ (v : Items). AllAreHeads bytes (tree_heads v)) (sym c.self.view_is) c.requires.headed);
+          wanted = tt;
+          none_taken = c.requires.none_taken;
+        },
       ),
     )
 
