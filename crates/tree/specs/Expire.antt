@@ -7,10 +7,10 @@ use Rattle.tree.specs.Item.{Item}
 use Rattle.tree.specs.Path.{IsPartitioned, items_below, behind, first_key}
 use Rattle.tree.specs.Tree.{Items, IsLast, tree_heads, unexpired, expired}
 
--- A tree of which a run of items may be swept: it begins with the last one below the bound, and at most `count` items are looked at.
--- `before` is the version of the item before the run. Nothing is taken out yet.
-pub record CanRemoveExpired (is_below : ℕ → Bool) (bytes : KeyBytes) (count : ℕ) (edge before : ℤ) (tree : Items) (taken : List Entry)
-    : Type 0 where
+-- A tree of which a run of items may be looked at, at most `count` of them. The run begins with the last one below the bound, and
+-- `before` is the version of the item before it. None is taken out yet.
+pub record CanRemoveExpired (is_below : ℕ → Bool) (bytes : KeyBytes) (count : ℕ) (edge before : ℤ) (tree : Items)
+    (taken : List Entry) : Type 0 where
   pub partitioned : IsPartitioned (λ x. is_below x.key) tree.items
   pub some : items_below is_below tree.items ≢ []
   pub some_count : 1 ≤ count

@@ -68,8 +68,8 @@ GivesWritten from to past first second given (Whole ended) run is_first next was
     GivesWhole from to past first second given ended run is_first next was now
 GivesWritten from to past first second given (Partly last) run is_first next was now = GivesPart from to last run is_first was now
 
--- A tree of which a run of items may be written over: three bounds go through its items, one of them is below the second bound, and
--- there is room for two more. Nothing is taken out yet.
+-- A tree of which a run of items may be written over. Three bounds go through the items, of which one is below the second bound.
+-- There is room for two more, and none is taken out yet.
 pub record CanOverwrite (p q r : ℕ → Bool) (bytes : KeyBytes) (tree : Items) (taken : List Entry) : Type 0 where
   pub from : IsPartitioned (λ x. p x.key) tree.items
   pub to : IsPartitioned (λ x. q x.key) tree.items

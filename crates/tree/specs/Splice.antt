@@ -23,7 +23,7 @@ module _ {N : ℕ} where
     pub known : All (IsKnown bytes) (keys_of new)
     pub beside : IsTrue alike → AreHeadsBeside bytes (key_heads_of node) (keys_of new) heads
 
-  -- two neighbours, each of which knows the bytes of its keys
+  -- two neighbours that know the bytes of their keys
   pub record AreBothHeaded (bytes : KeyBytes) (first second : Node N) : Type 0 where
     pub left : AreHeads bytes (key_heads_of first)
     pub right : AreHeads bytes (key_heads_of second)

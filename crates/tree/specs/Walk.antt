@@ -69,9 +69,9 @@ module _ {N : ℕ} where
     pub headed : AllAreHeads bytes (all_heads_of nodes)
     pub known : IsPrefixLenAt bytes is_below target shared (entries_at nodes slot) 0
 
-  -- A leaf of such a subtree may be changed: what is wanted of its items is so, and nothing is taken out yet.
-  pub record CanChangeLeaf (bytes : KeyBytes) (is_below : ℕ → Bool) (target : List ℕ) (Wants : List Item → Type 0) (nodes : Arena (Node N))
-      (height slot : ℕ) (shared : Option ℕ) (taken : List Entry) : Type 0 where
+  -- A subtree of which a leaf may be changed: the bound is sought there, the items are as is wanted, and none is taken out yet.
+  pub record CanChangeLeaf (bytes : KeyBytes) (is_below : ℕ → Bool) (target : List ℕ) (Wants : List Item → Type 0)
+      (nodes : Arena (Node N)) (height slot : ℕ) (shared : Option ℕ) (taken : List Entry) : Type 0 where
     pub changeable : CanChange nodes height slot
     pub searched : CanSearch bytes is_below target nodes height slot shared
     pub wanted : Wants (items_in nodes height slot)
@@ -100,9 +100,9 @@ module _ {N : ℕ} where
     pub some : 1 ≤ length (entries_at nodes root)
     pub room : height + 1 < spare_of nodes 0
 
-  -- A leaf of such a tree may be changed: the one that a bound goes through.
-  pub record CanChangeBy (bytes : KeyBytes) (is_below : ℕ → Bool) (Wants : List Item → Type 0) (nodes : Arena (Node N)) (root height : ℕ)
-      (taken : List Entry) : Type 0 where
+  -- A tree of which a leaf may be changed: the bound goes through the items, which are as is wanted, and none is taken out yet.
+  pub record CanChangeBy (bytes : KeyBytes) (is_below : ℕ → Bool) (Wants : List Item → Type 0) (nodes : Arena (Node N))
+      (root height : ℕ) (taken : List Entry) : Type 0 where
     pub changeable : CanChangeTree nodes root height
     pub partitioned : IsPartitioned (λ x. is_below x.key) (items_in nodes height root)
     pub headed : AllAreHeads bytes (all_heads_of nodes)

@@ -221,7 +221,8 @@ impl<const N: usize> Tree<N> {
         before: i64,
         taken: &mut ArrayVec<Entry, N>,
     ) -> Removal
-        requires can_remove { CanRemoveExpired (P.below bound.now) (P.bytes bound.now) count edge before self.old taken.old.items }
+        requires can_remove { CanRemoveExpired (P.below bound.now) (P.bytes bound.now) count edge before self.old
+            taken.old.items }
         ensures removal { RemovesExpired (P.below bound.now) count edge before result (map item_of taken.new.items) None
             self.old.items self.new.items }
         ensures room { self.new.room ≡ self.old.room }

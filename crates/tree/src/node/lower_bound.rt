@@ -110,7 +110,8 @@ impl<const N: usize> Node<N> {
     /// Finds the last entry below the bound, where the first one is. `common_prefix_len` is how many bytes the first key and the
     /// target begin with in common. `head` is what `head_for` returns for it.
     pub fn step_by<P: Bound>(&self, bound: &P, common_prefix_len: usize, head: Option<u64>) -> Step
-        requires can_step { CanStepBy (P.bytes bound.now) (P.below bound.now) (P.target bound.now) self.now (Some common_prefix_len) head }
+        requires can_step { CanStepBy (P.bytes bound.now) (P.below bound.now) (P.target bound.now) self.now
+            (Some common_prefix_len) head }
         ensures step { IsStep (P.bytes bound.now) (P.below bound.now) (P.target bound.now) self.now result }
     {
         let index = self.lower_bound_by_head(bound, head).saturating_sub(1);
@@ -138,7 +139,8 @@ impl<const N: usize> Node<N> {
         common_prefix_len: Option<usize>,
         head: Option<u64>,
     ) -> usize
-        requires can_step { CanStepBy (P.bytes bound.now) (P.below bound.now) (P.target bound.now) self.now common_prefix_len head }
+        requires can_step { CanStepBy (P.bytes bound.now) (P.below bound.now) (P.target bound.now) self.now
+            common_prefix_len head }
         ensures count { IsLowerBound (P.below bound.now) self.now result }
     {
         match common_prefix_len {
