@@ -1,5 +1,5 @@
 -- A change at a node above the leaves: what is known of the node, and what holds of it afterwards.
-use Rattle.std.proofs.Common.{◌≡◌, ℕ, suc, ◌+◌, ◌*◌, ◌<◌, ◌≤◌, Bool, List, [], ◌∷◌, ◌++◌, length, length-append, append-nil, get_or, take, drop, Option, Some, None, refl, sym, ap, subst, ◌∙◌, arith}
+use Rattle.std.proofs.Common.{◌≡◌, ℕ, suc, ◌+◌, ◌<◌, ◌≤◌, Bool, List, [], ◌∷◌, ◌++◌, length, length-append, append-nil, get_or, take, drop, Option, Some, None, refl, sym, ap, subst, ◌∙◌, arith}
 use Rattle.std.specs.Prelude.{IfSome, nat_eq}
 use Rattle.std.specs.List.{Contains, IsDistinct}
 use Rattle.std.proofs.lemmas.List.{length-take-le, length-drop}
@@ -9,6 +9,7 @@ use Rattle.tree.specs.declared.node.Node.{Node}
 use Rattle.tree.specs.Item.{Item}
 use Rattle.tree.specs.Node.{entries_of}
 use Rattle.tree.specs.Path.{index_in, child_in}
+use Rattle.tree.specs.Splice.{AreHalfFull}
 use Rattle.tree.specs.Subtree.{entries_at, items_in, slots_in, IsSubtree}
 use Rattle.tree.specs.Replace.{child_at, entries_at_both, items_with, slots_with, slot_taken, items_of, slots_of, AreChildren, Changes, IsFamily, IsFamilyAt, IsLinked, IsRebalancedAt}
 use Rattle.tree.proofs.callers.Times.{times, once_same, once_if_distinct, times_if_contains}
@@ -130,16 +131,16 @@ module _ {N : ℕ} where
   -- the two parts of a node that was split have entries, and so has one that wasn't
   pub some_left : (w : Arena (Node N)) (slot : ℕ) (added : Option ℕ) (p q : List Entry) (t u : Entry) → 4 ≤ N
       → entries_at_both w slot added ≡ p ++ (t ∷ u ∷ q)
-      → IfSome added (λ s. (N ≤ 2 * length (entries_at w slot)) × (N ≤ 2 * length (entries_at w s)))
+      → IfSome added (λ s. AreHalfFull N (entries_at w slot) (entries_at w s))
       → 1 ≤ length (entries_at w slot)
   some_left w slot None p q t u four is half = omega (arith, ap length is, length-append p (t ∷ u ∷ q))
-  some_left w slot (Some s) p q t u four is half = omega (arith, half.0)
+  some_left w slot (Some s) p q t u four is half = omega (arith, half.left)
 
   pub some_right : (w : Arena (Node N)) (slot : ℕ) (added : Option ℕ) → 4 ≤ N
-      → IfSome added (λ s. (N ≤ 2 * length (entries_at w slot)) × (N ≤ 2 * length (entries_at w s)))
+      → IfSome added (λ s. AreHalfFull N (entries_at w slot) (entries_at w s))
       → IfSome added (λ s. 1 ≤ length (entries_at w s))
   some_right w slot None four half = tt
-  some_right w slot (Some s) four half = omega (arith, half.1)
+  some_right w slot (Some s) four half = omega (arith, half.right)
 
   -- a node that wasn't split has one more entry
   pub one_more : (w : Arena (Node N)) (slot : ℕ) (added : Option ℕ) (es : List Entry) (i : ℕ) (t u : Entry)
@@ -169,7 +170,7 @@ module _ {N : ℕ} where
           omega (arith, ap length at.read, more)
 
       pub stepped_linked : IsSubtree b least lower s → least ≤ length (entries_at b x) → least ≤ length (entries_at b s)
-          → IfSome added (λ s. (N ≤ 2 * length (entries_at w slot)) × (N ≤ 2 * length (entries_at w s)))
+          → IfSome added (λ s. AreHalfFull N (entries_at w slot) (entries_at w s))
           → IsLive w slot → IfSome added (λ s. IsLive w s) → Changes b w (slot ∷ []) (slot ∷ slot_taken added)
           → IsStepped a w least height lower slot es i (items_in b lower x ++ items_in b lower s) added
       stepped_linked below_added filled_x filled_added half live live_added changes =

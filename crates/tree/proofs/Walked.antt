@@ -11,6 +11,7 @@ use Rattle.tree.specs.Heads.{KeyBytes, AllAreHeads}
 use Rattle.tree.specs.Item.{Item}
 use Rattle.tree.specs.Node.{all_heads_of}
 use Rattle.tree.specs.Replace.{child_at, entries_at_both, slot_taken, Changes, IsLinked, IsRebalancedAt}
+use Rattle.tree.specs.Splice.{AreHalfFull}
 use Rattle.tree.specs.Subtree.{entries_at, items_in, slots_in, IsSubtree}
 use Rattle.tree.specs.Tree.{least_of}
 use Rattle.tree.specs.Walk.{CanChange, IsChanged, IsChangedWithin, IsRaised}
@@ -123,7 +124,7 @@ module _ {N : ℕ} (bytes : KeyBytes) (a b : Arena (Node N)) (height lower slot 
       pub step_linked : (added : Option ℕ)
           → IsLinked b (child_at (entries_at b slot) i) s (take i (entries_at b slot)) (drop (i + 1) (entries_at b slot))
           (entries_at_both w slot added)
-          → IfSome added (λ s. (N ≤ 2 * length (entries_at w slot)) × (N ≤ 2 * length (entries_at w s)))
+          → IfSome added (λ s. AreHalfFull N (entries_at w slot) (entries_at w s))
           → IsLive w slot → IfSome added (λ s. IsLive w s) → Changes b w (slot ∷ []) (slot ∷ slot_taken added)
           → IsStepped a w (least_of N) height lower slot es i (items_in b lower x ++ items_in b lower s) added
       step_linked added linked half live live_added changes =
@@ -134,7 +135,7 @@ module _ {N : ℕ} (bytes : KeyBytes) (a b : Arena (Node N)) (height lower slot 
       pub linked_above : (added : Option ℕ)
           → IsLinked b (child_at (entries_at b slot) i) s (take i (entries_at b slot)) (drop (i + 1) (entries_at b slot))
           (entries_at_both w slot added)
-          → IfSome added (λ s. (N ≤ 2 * length (entries_at w slot)) × (N ≤ 2 * length (entries_at w s)))
+          → IfSome added (λ s. AreHalfFull N (entries_at w slot) (entries_at w s))
           → IsLive w slot → IfSome added (λ s. IsLive w s) → Changes b w (slot ∷ []) (slot ∷ slot_taken added)
           → IsChanged bytes a w height slot (outcome_of added)
       linked_above None linked half live live_added changes =
@@ -154,8 +155,8 @@ module _ {N : ℕ} (bytes : KeyBytes) (a b : Arena (Node N)) (height lower slot 
           }
       linked_above (Some t) linked half live live_added changes =
           let step = step_linked (Some t) linked half live live_added changes in
-          let left_is : N ≤ 2 * length (entries_at w slot) = half.0 in
-          let right_is : N ≤ 2 * length (entries_at w t) = half.1 in
+          let left_is : N ≤ 2 * length (entries_at w slot) = half.left in
+          let right_is : N ≤ 2 * length (entries_at w t) = half.right in
           record {
             same = λ is. absurd (cc);
             raised = λ version is. absurd (cc);

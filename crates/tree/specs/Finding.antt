@@ -1,5 +1,5 @@
 -- What a search in a node goes by, and what it finds. This project's own.
-use Rattle.std.specs.Prelude.{◌≡◌, ◌≢◌, ◌≤◌, ◌<◌, ℕ, Bool, List, filter, length, get_or, Option, None, IfSome}
+use Rattle.std.specs.Prelude.{◌≡◌, ◌≢◌, ◌≤◌, ◌<◌, ℕ, Bool, List, filter, length, get_or, Option, None, Some, unwrap_or, IfSome}
 use Rattle.tree.specs.declared.node.Node.{Node}
 use Rattle.tree.specs.declared.node.lower_bound.Step.{Step}
 use Rattle.tree.specs.Heads.{KeyHeads, KeyBytes, IsTargetHead, AreHeads, IsPrefixLenAt}
@@ -22,6 +22,25 @@ module _ {N : ℕ} where
     pub headed : AreHeads bytes (key_heads_of node)
     pub partitioned : IsPartitioned (λ e. is_below e.key) (entries_of node)
     pub some : 0 < length (entries_of node)
+
+  -- Such a node, and what is known of its first key: how many bytes it and the target begin with in common, or that it isn't
+  -- below the bound.
+  pub record CanStep (bytes : KeyBytes) (is_below : ℕ → Bool) (target : List ℕ) (node : Node N) (shared : Option ℕ) : Type 0 where
+    pub can_find : CanFind bytes is_below node
+    pub known : IsPrefixLenAt bytes is_below target shared (entries_of node) 0
+
+  -- likewise with the own head of the target, as those bytes tell it
+  pub record CanStepBy (bytes : KeyBytes) (is_below : ℕ → Bool) (target : List ℕ) (node : Node N) (shared own : Option ℕ)
+      : Type 0 where
+    pub can_step : CanStep bytes is_below target node shared
+    pub head : IsOwnHead bytes target (unwrap_or shared 0) own (key_heads_of node)
+
+  -- A node that was searched so, where the first key is below the bound. There is a head of the target where that is known to
+  -- begin as all keys do.
+  pub record IsSearched (bytes : KeyBytes) (is_below : ℕ → Bool) (target : List ℕ) (node : Node N) (shared : ℕ) (own : Option ℕ)
+      : Type 0 where
+    pub can_step : CanStep bytes is_below target node (Some shared)
+    pub own_head : HasHead bytes target own (key_heads_of node)
 
   -- how many of the entries are below the bound
   pub record IsLowerBound (is_below : ℕ → Bool) (node : Node N) (count : ℕ) : Type 0 where

@@ -2,6 +2,7 @@
 pub mod Item
 pub mod Heads
 pub mod Node
+pub mod Splice
 pub mod Subtree
 pub mod Path
 pub mod Finding

@@ -1,11 +1,13 @@
 -- What is written over a run of items. This project's own.
-use Rattle.std.specs.Prelude.{◌≡◌, ◌≢◌, ◌⊎◌, ◌↔◌, ℕ, ℤ, Bool, true, false, List, [], ◌∷◌, ◌++◌, Option, None, Some, unwrap_or, IsTrue}
+use Rattle.std.specs.Prelude.{◌≡◌, ◌≢◌, ◌⊎◌, ◌↔◌, ◌≤◌, ◌+◌, ℕ, ℤ, Bool, true, false, List, [], ◌∷◌, ◌++◌, length, Option, None, Some, unwrap_or, IsTrue}
 use Rattle.std.proofs.Common.{ap, sym, subst, ◌∙◌, append_assoc}
+use Rattle.tree.specs.declared.entry.Entry.{Entry}
 use Rattle.tree.specs.declared.overwrite.Written.{Written}
 use Rattle.tree.specs.declared.overwrite.Written.TheVariants.{Partly, Whole}
+use Rattle.tree.specs.Heads.{AllAreHeads, KeyBytes}
 use Rattle.tree.specs.Item.{Item}
 use Rattle.tree.specs.Path.{IsPartitioned, items_below, behind, between, first_key}
-use Rattle.tree.specs.Tree.{IsLast, ended_by}
+use Rattle.tree.specs.Tree.{Items, IsLast, ended_by, tree_heads}
 
 -- Items once written over: the first of the new ones comes in place of those from one bound to another. A second one has the
 -- version given, or that of the last item before the other bound, unless the run is ended already.
@@ -65,6 +67,17 @@ abbrev pub GivesWritten : (ℕ → Bool) → (ℕ → Bool) → (ℕ → Bool) �
 GivesWritten from to past first second given (Whole ended) run is_first next was now =
     GivesWhole from to past first second given ended run is_first next was now
 GivesWritten from to past first second given (Partly last) run is_first next was now = GivesPart from to last run is_first was now
+
+-- A tree of which a run of items may be written over. Three bounds go through the items, of which one is below the second bound.
+-- There is room for two more, and none is taken out yet.
+pub record CanOverwrite (p q r : ℕ → Bool) (bytes : KeyBytes) (tree : Items) (taken : List Entry) : Type 0 where
+  pub from : IsPartitioned (λ x. p x.key) tree.items
+  pub to : IsPartitioned (λ x. q x.key) tree.items
+  pub past : IsPartitioned (λ x. r x.key) tree.items
+  pub some : items_below q tree.items ≢ []
+  pub room : length tree.items + 2 ≤ tree.room
+  pub headed : AllAreHeads bytes (tree_heads tree)
+  pub none_taken : taken ≡ []
 
 -- Items of which a run is written over. A second item was put in unless one had its key.
 pub record OverwritesWhole (from to past : ℕ → Bool) (first : Item) (second : ℕ) (given : Option ℤ) (ended : Bool) (run was now : List Item)

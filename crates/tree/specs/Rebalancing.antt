@@ -8,6 +8,7 @@ use Rattle.tree.specs.declared.node.Node.{Node}
 use Rattle.tree.specs.Heads.{AllAreHeads, AreHeadsBeside, IsKnown, KeyBytes}
 use Rattle.tree.specs.Node.{all_heads_of, keys_of}
 use Rattle.tree.specs.Replace.{child_at, slot_taken, slots_with, Changes, IsFamily, IsFamilyAt, IsKeyless}
+use Rattle.tree.specs.Splice.{AreHalfFull}
 use Rattle.tree.specs.Subtree.{entries_at, slots_in, IsSubtree}
 use Rattle.tree.specs.Tree.{least_of}
 
@@ -35,7 +36,7 @@ module _ {N : ℕ} where
     pub live_added : IfSome added (λ s. IsLive new s)
     pub changes : Changes old new (slot ∷ []) (slot ∷ slot_taken added)
     pub taken : spare_of old 0 ≤ spare_of new 0 + 1
-    pub filled : IfSome added (λ s. (N ≤ 2 * length (entries_at new slot)) × (N ≤ 2 * length (entries_at new s)))
+    pub filled : IfSome added (λ s. AreHalfFull N (entries_at new slot) (entries_at new s))
     pub headed : AllAreHeads bytes (all_heads_of new)
 
   -- The node at a slot, of which the child at an index was split from the one that is added.

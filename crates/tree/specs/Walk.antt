@@ -2,6 +2,7 @@
 use Rattle.std.specs.Prelude.{◌≡◌, ◌≤◌, ◌<◌, ◌+◌, ◌⊎◌, ◌↔◌, ◌++◌, ℕ, ℤ, Bool, true, false, List, [], length, nat_eq, Option, None, Some, IfSome, IsTrue}
 use Rattle.std.specs.List.{All, Any, IsDistinct}
 use Rattle.arena.specs.Arena.{Arena, spare_of}
+use Rattle.tree.specs.declared.entry.Entry.{Entry}
 use Rattle.tree.specs.declared.node.Node.{Node}
 use Rattle.tree.specs.declared.walk.Outcome.{Outcome}
 use Rattle.tree.specs.declared.walk.Outcome.TheVariants.{Same, Raised, Changed, Split}
@@ -68,6 +69,14 @@ module _ {N : ℕ} where
     pub headed : AllAreHeads bytes (all_heads_of nodes)
     pub known : IsPrefixLenAt bytes is_below target shared (entries_at nodes slot) 0
 
+  -- A subtree of which a leaf may be changed: the bound is sought there, the items are as is wanted, and none is taken out yet.
+  pub record CanChangeLeaf (bytes : KeyBytes) (is_below : ℕ → Bool) (target : List ℕ) (Wants : List Item → Type 0)
+      (nodes : Arena (Node N)) (height slot : ℕ) (shared : Option ℕ) (taken : List Entry) : Type 0 where
+    pub changeable : CanChange nodes height slot
+    pub searched : CanSearch bytes is_below target nodes height slot shared
+    pub wanted : Wants (items_in nodes height slot)
+    pub none_taken : taken ≡ []
+
   -- A subtree once it was changed, and the right neighbour that it was split from, if it was.
   pub record IsChanged (bytes : KeyBytes) (old new : Arena (Node N)) (height slot : ℕ) (outcome : Outcome) : Type 0 where
     pub same : outcome ≡ Same → new ≡ old
@@ -90,3 +99,12 @@ module _ {N : ℕ} where
     pub rooted : IsRooted nodes root height
     pub some : 1 ≤ length (entries_at nodes root)
     pub room : height + 1 < spare_of nodes 0
+
+  -- A tree of which a leaf may be changed: the bound goes through the items, which are as is wanted, and none is taken out yet.
+  pub record CanChangeBy (bytes : KeyBytes) (is_below : ℕ → Bool) (Wants : List Item → Type 0) (nodes : Arena (Node N))
+      (root height : ℕ) (taken : List Entry) : Type 0 where
+    pub changeable : CanChangeTree nodes root height
+    pub partitioned : IsPartitioned (λ x. is_below x.key) (items_in nodes height root)
+    pub headed : AllAreHeads bytes (all_heads_of nodes)
+    pub wanted : Wants (items_in nodes height root)
+    pub none_taken : taken ≡ []

@@ -2,7 +2,8 @@
 
 ghost use Rattle.std.specs.Prelude.{◌≡◌, ◌≤◌, length};
 ghost use Rattle.arena.specs.Arena.{IsLive};
-ghost use Rattle.tree.specs.Heads.{IsPrefixLenAt};
+ghost use Rattle.tree.specs.Heads.{AllAreHeads, IsPrefixLenAt};
+ghost use Rattle.tree.specs.Node.{all_heads_of};
 ghost use Rattle.tree.specs.Reached.{CanReach};
 ghost use Rattle.tree.specs.Subtree.{entries_at};
 ghost use Rattle.tree.specs.Tree.{least_of};
@@ -31,9 +32,10 @@ pub fn common_prefix_len_at<P: Bound, const N: usize>(
 ) -> Option<usize>
     requires live { IsLive nodes.now slot }
     requires some { 1 ≤ length (entries_at nodes.now slot) }
+    requires headed { AllAreHeads (P.bytes bound.now) (all_heads_of nodes.now) }
     ensures known { IsPrefixLenAt (P.bytes bound.now) (P.below bound.now) (P.target bound.now) result (entries_at nodes.now slot) 0 }
 {
-    bound.prefix_len_below(nodes.header_ref(slot).entries()[0].key)
+    nodes.header_ref(slot).first_prefix_len(bound)
 }
 
 /// Finds the leaf that has the last item below the bound, or else the first leaf. `common_prefix_len` is how many bytes the first

@@ -34,6 +34,7 @@ impl<const N: usize> Node<N> {
     ghost use Rattle.tree.specs.Item.{IsGreatest, version_of};
     ghost use Rattle.tree.specs.Heads.{AreHeads, KeyBytes};
     ghost use Rattle.tree.specs.Node.{HasHeads, ShareHeads, node_heads, entries_of, key_heads_of, keys_of};
+    ghost use Rattle.tree.specs.Splice.{AreHalfFull};
 
     /// Returns a node of one entry. What it knows is right if the key is empty.
     pub fn of(entry: Entry) -> Self
@@ -195,8 +196,7 @@ impl<const N: usize> Node<N> {
         requires many { N < length (entries_of self.old) + length (entries_of right.old) }
         ensures entries { (entries_of self.new) ++ (entries_of right.new) ≡ (entries_of self.old) ++ (entries_of right.old) }
         ensures heads { ShareHeads self.old right.old self.new right.new }
-        ensures left { N ≤ 2 * length (entries_of self.new) }
-        ensures right { N ≤ 2 * length (entries_of right.new) }
+        ensures filled { AreHalfFull N (entries_of self.new) (entries_of right.new) }
     {
         let half = (self.len + right.len) / 2;
         if self.len > half {

@@ -3,7 +3,7 @@
 
 ghost use Rattle.std.specs.Prelude.{◌≡◌, ◌≢◌, ◌≤◌, ◌<◌, ◌<ℤ◌, ◌↔◌, ◌+◌, true, false, length, map, slice_get, Some, [], IfSome, IsTrue};
 ghost use Rattle.std.specs.List.{All, AllZip, Any};
-ghost use Rattle.tree.specs.Finding.{CanFind, HasHead, IsLowerBound, IsOwnHead};
+ghost use Rattle.tree.specs.Finding.{HasHead, IsLowerBound, IsOwnHead, IsSearched};
 ghost use Rattle.tree.specs.Heads.{AllAreHeads, IsPrefixLenAt};
 ghost use Rattle.tree.specs.Node.{all_heads_of, entries_of, key_heads_of};
 ghost use Rattle.tree.specs.Path.{IsPartitioned, from_last, index_in, items_below};
@@ -116,10 +116,8 @@ fn is_clear<P: Bound, Q: Bound, const N: usize>(
     own: Option<u64>,
     clear: bool,
 ) -> bool
-    requires can_find { CanFind (P.bytes question.now.from) (P.below question.now.from) node.now }
-    requires known { IsPrefixLenAt (P.bytes question.now.from) (P.below question.now.from) (P.target question.now.from)
-        (Some common_prefix_len) (entries_of node.now) 0 }
-    requires own { HasHead (P.bytes question.now.from) (P.target question.now.from) own (key_heads_of node.now) }
+    requires searched { IsSearched (P.bytes question.now.from) (P.below question.now.from) (P.target question.now.from) node.now
+        common_prefix_len own }
     requires within { index < length (entries_of node.now) }
     requires last_below { index ≡ index_in (P.below question.now.from) (entries_of node.now) }
     ensures next { IsTrue result → (e : Entry) → slice_get (entries_of node.now) (index + 1) ≡ Some e
@@ -143,10 +141,8 @@ fn end_head<P: Bound, Q: Bound, const N: usize>(
     common_prefix_len: usize,
     own: Option<u64>,
 ) -> Option<u64>
-    requires can_find { CanFind (P.bytes question.now.from) (P.below question.now.from) node.now }
-    requires known { IsPrefixLenAt (P.bytes question.now.from) (P.below question.now.from) (P.target question.now.from)
-        (Some common_prefix_len) (entries_of node.now) 0 }
-    requires own { HasHead (P.bytes question.now.from) (P.target question.now.from) own (key_heads_of node.now) }
+    requires searched { IsSearched (P.bytes question.now.from) (P.below question.now.from) (P.target question.now.from) node.now
+        common_prefix_len own }
     ensures head { HasHead (Q.bytes question.now.to) (Q.target question.now.to) result (key_heads_of node.now) }
 {
     let targets_prefix_len = question.targets_prefix_len;
@@ -229,11 +225,9 @@ fn end_in<P: Bound, Q: Bound, const N: usize>(
     common_prefix_len: usize,
     own: Option<u64>,
 ) -> usize
-    requires can_find { CanFind (P.bytes question.now.from) (P.below question.now.from) node.now }
+    requires searched { IsSearched (P.bytes question.now.from) (P.below question.now.from) (P.target question.now.from) node.now
+        common_prefix_len own }
     requires to { IsPartitioned (λ e. Q.below question.now.to e.key) (entries_of node.now) }
-    requires known { IsPrefixLenAt (P.bytes question.now.from) (P.below question.now.from) (P.target question.now.from)
-        (Some common_prefix_len) (entries_of node.now) 0 }
-    requires own { HasHead (P.bytes question.now.from) (P.target question.now.from) own (key_heads_of node.now) }
     requires begin { IsLowerBound (P.below question.now.from) node.now begin }
     ensures count { IsLowerBound (Q.below question.now.to) node.now result }
 {

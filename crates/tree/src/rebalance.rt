@@ -6,6 +6,7 @@ ghost use Rattle.tree.specs.Item.{Tells};
 ghost use Rattle.tree.specs.Heads.{AllAreHeads, AreHeads, IsKnown, KeyBytes};
 ghost use Rattle.tree.specs.Rebalancing.{AreTwo, CanRebalanceIn, CanMerge, LosesOneAtMost};
 ghost use Rattle.tree.specs.Node.{entries_of, key_heads_of, all_heads_of};
+ghost use Rattle.tree.specs.Splice.{AreHalfFull};
 ghost use Rattle.tree.specs.Subtree.{entries_at, items_in, IsSubtree};
 ghost use Rattle.tree.specs.Tree.{least_of};
 ghost use Rattle.tree.specs.Replace.{child_at, Changes, IsFamily, IsKeyless, IsRebalanced};
@@ -114,8 +115,7 @@ fn redistribute<P: Bound, const N: usize>(
     requires many { N < length (entries_at nodes.old first) + length (entries_at nodes.old second) }
     ensures entries { entries_at nodes.new first ++ entries_at nodes.new second
         ≡ entries_at nodes.old first ++ entries_at nodes.old second }
-    ensures left { N ≤ 2 * length (entries_at nodes.new first) }
-    ensures right { N ≤ 2 * length (entries_at nodes.new second) }
+    ensures filled { AreHalfFull N (entries_at nodes.new first) (entries_at nodes.new second) }
     ensures changes { Changes nodes.old nodes.new (first ∷ second ∷ []) (first ∷ second ∷ []) }
     ensures headed { AllAreHeads (P.bytes bound.now) (all_heads_of nodes.new) }
 {

@@ -9,11 +9,11 @@ ghost use Rattle.tree.specs.Heads.{AllAreHeads, KeyBytes};
 ghost use Rattle.tree.specs.Rebalancing.{CanGrow, CanShrink};
 ghost use Rattle.tree.specs.Node.{all_heads_of};
 ghost use Rattle.tree.specs.Subtree.{entries_at, items_in, slots_in, IsSubtree};
-ghost use Rattle.tree.specs.Path.{IsPartitioned, items_below};
+ghost use Rattle.tree.specs.Path.{items_below};
 ghost use Rattle.tree.specs.Reached.{CanReach, IsReached};
 ghost use Rattle.tree.specs.Replace.{items_with, slots_with, IsKeyless};
 ghost use Rattle.tree.specs.Tree.{least_of, IsLast, IsRooted};
-ghost use Rattle.tree.specs.Walk.{CanChangeTree, IsChangedWithin};
+ghost use Rattle.tree.specs.Walk.{CanChangeBy, IsChangedWithin};
 
 use crate::bound::Bound;
 use crate::descent::{Reached, common_prefix_len_at, find};
@@ -75,11 +75,8 @@ pub fn change<C: LeafChange<N>, const N: usize>(
     taken: &mut ArrayVec<Entry, N>,
     way: &mut Way,
 )
-    requires changeable { CanChangeTree nodes.old root.old.slot root.old.height }
-    requires partitioned { IsPartitioned (λ x. C.LeafBound.below (C.bound_of change.old) x.key) (items_in nodes.old root.old.height root.old.slot) }
-    requires headed { AllAreHeads (C.LeafBound.bytes (C.bound_of change.old)) (all_heads_of nodes.old) }
-    requires wanted { C.wants change.old (items_in nodes.old root.old.height root.old.slot) }
-    requires none_taken { taken.old.items ≡ [] }
+    requires can_change { CanChangeBy (C.LeafBound.bytes (C.bound_of change.old)) (C.LeafBound.below (C.bound_of change.old))
+        (C.wants change.old) nodes.old root.old.slot root.old.height taken.old.items }
     ensures items { IsChangedWithin (C.LeafBound.below (C.bound_of change.old)) (C.gives change.old change.new (map item_of taken.new.items))
         true None
         (items_in nodes.old root.old.height root.old.slot) (items_in nodes.new root.new.height root.new.slot) }

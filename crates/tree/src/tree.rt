@@ -5,8 +5,8 @@ ghost use Rattle.std.specs.List.{All, AllZip, Any};
 ghost use Rattle.tree.specs.Item.{Item, item_of, IsGreatest};
 ghost use Rattle.tree.specs.Heads.{AllAreHeads, AreHeads, IsKnown, KeyBytes};
 ghost use Rattle.tree.specs.Node.{key_heads_of};
-ghost use Rattle.tree.specs.Overwrite.{Overwrites};
-ghost use Rattle.tree.specs.Expire.{RemovesExpired};
+ghost use Rattle.tree.specs.Overwrite.{CanOverwrite, Overwrites};
+ghost use Rattle.tree.specs.Expire.{CanRemoveExpired, RemovesExpired};
 ghost use Rattle.tree.specs.Path.{IsPartitioned, items_below, behind, first_key, between, from_last};
 ghost use Rattle.tree.specs.declared.question.TheConstants.{SIDE};
 ghost use Rattle.tree.specs.Tree.{IsLast, tree_heads, KnowItems};
@@ -187,13 +187,8 @@ impl<const N: usize> Tree<N> {
         new: &Overwrite<'_, P, Q, R>,
         taken: &mut ArrayVec<Entry, N>,
     ) -> Written
-        requires from { IsPartitioned (λ x. P.below new.now.from.now x.key) self.old.items }
-        requires to { IsPartitioned (λ x. Q.below new.now.to.now x.key) self.old.items }
-        requires past { IsPartitioned (λ x. R.below new.now.past.now x.key) self.old.items }
-        requires some { items_below (Q.below new.now.to.now) self.old.items ≢ [] }
-        requires room { length self.old.items + 2 ≤ self.old.room }
-        requires headed { AllAreHeads (Q.bytes new.now.to.now) (tree_heads self.old) }
-        requires none_taken { taken.old.items ≡ [] }
+        requires can_overwrite { CanOverwrite (P.below new.now.from.now) (Q.below new.now.to.now) (R.below new.now.past.now)
+            (Q.bytes new.now.to.now) self.old taken.old.items }
         ensures items { Overwrites (P.below new.now.from.now) (Q.below new.now.to.now) (R.below new.now.past.now)
             (item_of new.now.first) new.now.second new.now.last result (map item_of taken.new.items) self.old.items self.new.items }
         ensures room { self.new.room ≡ self.old.room }
@@ -226,13 +221,8 @@ impl<const N: usize> Tree<N> {
         before: i64,
         taken: &mut ArrayVec<Entry, N>,
     ) -> Removal
-        requires partitioned { IsPartitioned (λ x. P.below bound.now x.key) self.old.items }
-        requires some { items_below (P.below bound.now) self.old.items ≢ [] }
-        requires count { 1 ≤ count }
-        requires headed { AllAreHeads (P.bytes bound.now) (tree_heads self.old) }
-        // The first item of all stays.
-        requires first { length (items_below (P.below bound.now) self.old.items) ≡ 1 → edge ≤ℤ before }
-        requires none_taken { taken.old.items ≡ [] }
+        requires can_remove { CanRemoveExpired (P.below bound.now) (P.bytes bound.now) count edge before self.old
+            taken.old.items }
         ensures removal { RemovesExpired (P.below bound.now) count edge before result (map item_of taken.new.items) None
             self.old.items self.new.items }
         ensures room { self.new.room ≡ self.old.room }

@@ -4,7 +4,7 @@ ghost use Rattle.std.specs.Prelude.{◌≡◌, ◌++◌, ℕ, Bool, List, Option
 ghost use Rattle.tree.specs.Item.{Item, item_of};
 ghost use Rattle.tree.specs.Replace.{items_with};
 ghost use Rattle.tree.specs.Subtree.{items_in};
-ghost use Rattle.tree.specs.Walk.{added_by, CanChange, CanSearch, IsChanged, IsChangedWithin};
+ghost use Rattle.tree.specs.Walk.{added_by, CanChangeLeaf, IsChanged, IsChangedWithin};
 
 use crate::bound::Bound;
 use crate::entry::Entry;
@@ -78,11 +78,9 @@ pub trait LeafChange<const N: usize> {
         place: Place,
         taken: &mut ArrayVec<Entry, N>,
     ) -> Outcome
-        requires changeable { CanChange nodes.old 0 slot }
-        requires searched { CanSearch (Self.LeafBound.bytes (bound_of self.old)) (Self.LeafBound.below (bound_of self.old))
-            (Self.LeafBound.target (bound_of self.old)) nodes.old 0 slot place.common_prefix_len }
-        requires wanted { wants self.old (items_in nodes.old 0 slot) }
-        requires none_taken { taken.old.items ≡ [] }
+        requires can_change { CanChangeLeaf (Self.LeafBound.bytes (bound_of self.old)) (Self.LeafBound.below (bound_of self.old))
+            (Self.LeafBound.target (bound_of self.old)) (wants self.old) nodes.old 0 slot place.common_prefix_len
+            taken.old.items }
         ensures changed { IsChanged (Self.LeafBound.bytes (bound_of self.old)) nodes.old nodes.new 0 slot result }
         ensures items { gives self.old self.new (map item_of taken.new.items) place.is_first place.behind (items_in nodes.old 0 slot)
             (items_with nodes.new 0 slot (added_by result)) }
@@ -104,11 +102,9 @@ pub fn change_leaf<C: LeafChange<N>, const N: usize>(
     taken: &mut ArrayVec<Entry, N>,
     way: &mut Way,
 ) -> Outcome
-    requires changeable { CanChange nodes.old height slot }
-    requires searched { CanSearch (C.LeafBound.bytes (C.bound_of change.old)) (C.LeafBound.below (C.bound_of change.old))
-        (C.LeafBound.target (C.bound_of change.old)) nodes.old height slot place.common_prefix_len }
-    requires wanted { C.wants change.old (items_in nodes.old height slot) }
-    requires none_taken { taken.old.items ≡ [] }
+    requires can_change { CanChangeLeaf (C.LeafBound.bytes (C.bound_of change.old)) (C.LeafBound.below (C.bound_of change.old))
+        (C.LeafBound.target (C.bound_of change.old)) (C.wants change.old) nodes.old height slot place.common_prefix_len
+        taken.old.items }
     ensures changed { IsChanged (C.LeafBound.bytes (C.bound_of change.old)) nodes.old nodes.new height slot result }
     ensures items { IsChangedWithin (C.LeafBound.below (C.bound_of change.old)) (C.gives change.old change.new (map item_of taken.new.items))
         place.is_first place.behind (items_in nodes.old height slot) (items_with nodes.new height slot (added_by result)) }

@@ -1,8 +1,6 @@
 //! The way of the last walk, from the root towards a leaf: a guess for the next one.
 
-ghost use Rattle.tree.specs.Finding.{CanFind, IsStep};
-ghost use Rattle.tree.specs.Heads.{IsPrefixLenAt};
-ghost use Rattle.tree.specs.Node.{entries_of};
+ghost use Rattle.tree.specs.Finding.{CanStep, IsStep};
 
 use crate::bound::Bound;
 use crate::node::{Node, Step};
@@ -36,8 +34,7 @@ impl Way {
         bound: &P,
         common_prefix_len: Option<usize>,
     ) -> Step
-        requires can_find { CanFind (P.bytes bound.now) (P.below bound.now) node.now }
-        requires known { IsPrefixLenAt (P.bytes bound.now) (P.below bound.now) (P.target bound.now) common_prefix_len (entries_of node.now) 0 }
+        requires can_step { CanStep (P.bytes bound.now) (P.below bound.now) (P.target bound.now) node.now common_prefix_len }
         ensures step { IsStep (P.bytes bound.now) (P.below bound.now) (P.target bound.now) node.now result }
     {
         if height < 2 || height >= HEIGHTS {

@@ -3,8 +3,9 @@
 ghost use Rattle.std.specs.Prelude.{◌≡◌, ◌≢◌, ◌<◌, ◌≤◌, ◌+◌, ◌-◌, ◌*◌, ◌++◌, ◌⊎◌, ℕ, List, [], length, take, drop, get_or, slice_index, slice_set, Some, IfSome, IsTrue};
 ghost use Rattle.std.specs.Int.{w64, to_be_bytes};
 ghost use Rattle.std.specs.List.{All, Contains};
-ghost use Rattle.tree.specs.Heads.{HasPrefix, AreHeads, AreHeadsBeside, IsHeadBeside, IsKnown, Begins};
+ghost use Rattle.tree.specs.Heads.{HasPrefix, AreHeads, IsHeadBeside, IsKnown, Begins};
 ghost use Rattle.tree.specs.Node.{entries_of, key_heads_of, keys_of};
+ghost use Rattle.tree.specs.Splice.{AreBothHeaded, AreHalfFull, CanSplice};
 
 use super::{Node, copy_few};
 use crate::bound::Bound;
@@ -87,13 +88,8 @@ impl<const N: usize> Node<N> {
         alike: bool,
         bound: &P,
     )
-        requires ordered { from ≤ to }
-        requires within { to ≤ length (entries_of self.old) }
-        requires same_len { length heads.now ≡ length new.now }
+        requires can_splice { CanSplice (P.bytes bound.now) self.old from to new.now heads.now alike }
         requires room { from + length new.now + (length (entries_of self.old) - to) ≤ N }
-        requires headed { AreHeads (P.bytes bound.now) (key_heads_of self.old) }
-        requires known { All (IsKnown (P.bytes bound.now)) (keys_of new.now) }
-        requires alike { IsTrue alike → AreHeadsBeside (P.bytes bound.now) (key_heads_of self.old) (keys_of new.now) heads.now }
         ensures entries { entries_of self.new ≡ take from (entries_of self.old) ++ (new.now ++ drop to (entries_of self.old)) }
         ensures headed { AreHeads (P.bytes bound.now) (key_heads_of self.new) }
     {
@@ -114,20 +110,13 @@ impl<const N: usize> Node<N> {
         alike: bool,
         bound: &P,
     ) -> Node<N>
-        requires ordered { from ≤ to }
-        requires within { to ≤ length (entries_of self.old) }
-        requires same_len { length heads.now ≡ length new.now }
+        requires can_splice { CanSplice (P.bytes bound.now) self.old from to new.now heads.now alike }
         requires few_new { 2 * length new.now ≤ N }
         requires many { N < from + length new.now + (length (entries_of self.old) - to) }
-        requires headed { AreHeads (P.bytes bound.now) (key_heads_of self.old) }
-        requires known { All (IsKnown (P.bytes bound.now)) (keys_of new.now) }
-        requires alike { IsTrue alike → AreHeadsBeside (P.bytes bound.now) (key_heads_of self.old) (keys_of new.now) heads.now }
         ensures entries { entries_of self.new ++ entries_of result
             ≡ take from (entries_of self.old) ++ (new.now ++ drop to (entries_of self.old)) }
-        ensures left { N ≤ 2 * length (entries_of self.new) }
-        ensures right { N ≤ 2 * length (entries_of result) }
-        ensures headed { AreHeads (P.bytes bound.now) (key_heads_of self.new) }
-        ensures right_headed { AreHeads (P.bytes bound.now) (key_heads_of result) }
+        ensures filled { AreHalfFull N (entries_of self.new) (entries_of result) }
+        ensures headed { AreBothHeaded (P.bytes bound.now) self.new result }
     {
         let mut right = self.split_off(to);
         if from + new.len() <= N {
@@ -171,13 +160,10 @@ impl<const N: usize> Node<N> {
     /// one. Where not all keys begin alike, all heads are computed anew.
     pub fn redistribute_with_heads<P: Bound>(&mut self, right: &mut Node<N>, bound: &P)
         requires many { N < length (entries_of self.old) + length (entries_of right.old) }
-        requires headed { AreHeads (P.bytes bound.now) (key_heads_of self.old) }
-        requires right_headed { AreHeads (P.bytes bound.now) (key_heads_of right.old) }
+        requires headed { AreBothHeaded (P.bytes bound.now) self.old right.old }
         ensures entries { (entries_of self.new) ++ (entries_of right.new) ≡ (entries_of self.old) ++ (entries_of right.old) }
-        ensures left { N ≤ 2 * length (entries_of self.new) }
-        ensures right { N ≤ 2 * length (entries_of right.new) }
-        ensures headed { AreHeads (P.bytes bound.now) (key_heads_of self.new) }
-        ensures right_headed { AreHeads (P.bytes bound.now) (key_heads_of right.new) }
+        ensures filled { AreHalfFull N (entries_of self.new) (entries_of right.new) }
+        ensures headed { AreBothHeaded (P.bytes bound.now) self.new right.new }
     {
         let first = right.entries[0].key;
         let alike = self.prefix_len == right.prefix_len && self.begins(first, bound);

@@ -1,7 +1,7 @@
 //! The search in a node: by the heads of its keys, and by their bytes where heads are the same.
 
-ghost use Rattle.std.specs.Prelude.{◌≡◌, ◌≢◌, ◌<◌, ◌≤◌, ◌+◌, ℕ, ◌-◌, List, length, filter, get_or, slice_get, unwrap_or, None, Some, IsTrue};
-ghost use Rattle.tree.specs.Finding.{AreTied, CanFind, HasHead, IsLowerBound, IsOwnHead, IsStep};
+ghost use Rattle.std.specs.Prelude.{◌≡◌, ◌≢◌, ◌<◌, ◌≤◌, ◌+◌, ℕ, ◌-◌, List, length, filter, get_or, slice_get, None, Some, IsTrue};
+ghost use Rattle.tree.specs.Finding.{AreTied, CanFind, CanStep, CanStepBy, HasHead, IsLowerBound, IsOwnHead, IsStep};
 ghost use Rattle.tree.specs.Heads.{HasPrefix, HaveCommonPrefix, AreHeads, IsPrefixLenAt};
 ghost use Rattle.tree.specs.Node.{entries_of, key_heads_of};
 ghost use Rattle.tree.specs.declared.node.TheConstants.{PADDING};
@@ -27,11 +27,26 @@ pub struct Step {
 }
 
 impl<const N: usize> Node<N> {
+    /// Returns how many bytes the first key and the target begin with in common, or none if that key isn't below the bound.
+    pub fn first_prefix_len<P: Bound>(&self, bound: &P) -> Option<usize>
+        requires headed { AreHeads (P.bytes bound.now) (key_heads_of self.now) }
+        requires some { 0 < length (entries_of self.now) }
+        ensures known { IsPrefixLenAt (P.bytes bound.now) (P.below bound.now) (P.target bound.now) result (entries_of self.now) 0 }
+    {
+        // Every target begins as all keys do where these have no byte in common, so that it has a head.
+        if self.prefix_len == 0 {
+            let head = bound.head(0);
+            if self.heads[0] < head {
+                return Some(same_bytes(self.heads[0], head));
+            }
+        }
+        bound.prefix_len_below(self.entries[0].key)
+    }
+
     /// Finds the last entry below the bound, or else the first one. `common_prefix_len` is how many bytes the first key and the
     /// target begin with in common, or none if that key isn't below the bound.
     pub fn step<P: Bound>(&self, bound: &P, common_prefix_len: Option<usize>) -> Step
-        requires can_find { CanFind (P.bytes bound.now) (P.below bound.now) self.now }
-        requires known { IsPrefixLenAt (P.bytes bound.now) (P.below bound.now) (P.target bound.now) common_prefix_len (entries_of self.now) 0 }
+        requires can_step { CanStep (P.bytes bound.now) (P.below bound.now) (P.target bound.now) self.now common_prefix_len }
         ensures step { IsStep (P.bytes bound.now) (P.below bound.now) (P.target bound.now) self.now result }
     {
         let Some(common_prefix_len) = common_prefix_len else {
@@ -55,8 +70,7 @@ impl<const N: usize> Node<N> {
         common_prefix_len: Option<usize>,
         guess: usize,
     ) -> Step
-        requires can_find { CanFind (P.bytes bound.now) (P.below bound.now) self.now }
-        requires known { IsPrefixLenAt (P.bytes bound.now) (P.below bound.now) (P.target bound.now) common_prefix_len (entries_of self.now) 0 }
+        requires can_step { CanStep (P.bytes bound.now) (P.below bound.now) (P.target bound.now) self.now common_prefix_len }
         ensures step { IsStep (P.bytes bound.now) (P.below bound.now) (P.target bound.now) self.now result }
     {
         let Some(common_prefix_len) = common_prefix_len else {
@@ -96,10 +110,8 @@ impl<const N: usize> Node<N> {
     /// Finds the last entry below the bound, where the first one is. `common_prefix_len` is how many bytes the first key and the
     /// target begin with in common. `head` is what `head_for` returns for it.
     pub fn step_by<P: Bound>(&self, bound: &P, common_prefix_len: usize, head: Option<u64>) -> Step
-        requires can_find { CanFind (P.bytes bound.now) (P.below bound.now) self.now }
-        requires known { IsPrefixLenAt (P.bytes bound.now) (P.below bound.now) (P.target bound.now) (Some common_prefix_len)
-            (entries_of self.now) 0 }
-        requires head { IsOwnHead (P.bytes bound.now) (P.target bound.now) common_prefix_len head (key_heads_of self.now) }
+        requires can_step { CanStepBy (P.bytes bound.now) (P.below bound.now) (P.target bound.now) self.now
+            (Some common_prefix_len) head }
         ensures step { IsStep (P.bytes bound.now) (P.below bound.now) (P.target bound.now) self.now result }
     {
         let index = self.lower_bound_by_head(bound, head).saturating_sub(1);
@@ -113,8 +125,7 @@ impl<const N: usize> Node<N> {
     /// Returns how many of the entries are below the bound. `common_prefix_len` is how many bytes the first key and the target
     /// begin with in common, or none if that key isn't below the bound.
     pub fn lower_bound<P: Bound>(&self, bound: &P, common_prefix_len: Option<usize>) -> usize
-        requires can_find { CanFind (P.bytes bound.now) (P.below bound.now) self.now }
-        requires known { IsPrefixLenAt (P.bytes bound.now) (P.below bound.now) (P.target bound.now) common_prefix_len (entries_of self.now) 0 }
+        requires can_step { CanStep (P.bytes bound.now) (P.below bound.now) (P.target bound.now) self.now common_prefix_len }
         ensures count { IsLowerBound (P.below bound.now) self.now result }
     {
         let head = self.head_for(bound, common_prefix_len.unwrap_or(0));
@@ -128,9 +139,8 @@ impl<const N: usize> Node<N> {
         common_prefix_len: Option<usize>,
         head: Option<u64>,
     ) -> usize
-        requires can_find { CanFind (P.bytes bound.now) (P.below bound.now) self.now }
-        requires known { IsPrefixLenAt (P.bytes bound.now) (P.below bound.now) (P.target bound.now) common_prefix_len (entries_of self.now) 0 }
-        requires head { IsOwnHead (P.bytes bound.now) (P.target bound.now) (unwrap_or common_prefix_len 0) head (key_heads_of self.now) }
+        requires can_step { CanStepBy (P.bytes bound.now) (P.below bound.now) (P.target bound.now) self.now
+            common_prefix_len head }
         ensures count { IsLowerBound (P.below bound.now) self.now result }
     {
         match common_prefix_len {

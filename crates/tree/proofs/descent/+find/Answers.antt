@@ -21,15 +21,15 @@ step-step-requires g t c =
     let read = entries_read nodes c.args.slot header es h refl in
     let some : 0 < length es = let some : 1 ≤ length es = subst (λ (es : List Entry). 1 ≤ length es) read c.requires.can_reach.some in omega (arith, some) in (
       search rules,
-      (
-        record {
+      record {
+        can_find = record {
           headed = headed_at (P.bytes bound) nodes c.args.slot header c.requires.can_reach.headed h;
           partitioned = read_partitioned nodes (least_of g.row.N) c.args.height c.args.slot (P.below bound) header es
               c.if-height-eq0.false c.requires.can_reach.subtree c.requires.can_reach.partitioned h refl;
           some = some;
-        },
-        subst (λ es. IsPrefixLenAt (P.bytes bound) (P.below bound) (P.target bound) c.args.common_prefix_len es 0) read c.requires.known,
-      ),
+        };
+        known = subst (λ es. IsPrefixLenAt (P.bytes bound) (P.below bound) (P.target bound) c.args.common_prefix_len es 0) read c.requires.known;
+      },
     )
 
 pub find-requires : goal.find-requires

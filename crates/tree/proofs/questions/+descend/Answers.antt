@@ -2,13 +2,13 @@ use Rattle.std.proofs.Common.{rules, ◌≡◌, ◌≤◌, ◌<◌, All, ℕ, �
 use Rattle.std.proofs.lemmas.Option.{slice_get_read}
 use mir.Val.{SFits}
 use Rattle.tree.specs.declared.entry.Entry.{Entry}
-use Rattle.tree.specs.Finding.{CanFind}
+use Rattle.tree.specs.Finding.{CanStep}
 use Rattle.tree.specs.Heads.{AreHeads, IsPrefixLenAt}
 use Rattle.tree.specs.Item.{Tells}
 use Rattle.tree.specs.Item.{Item}
 use Rattle.tree.specs.Question.{IsTold}
 use Rattle.tree.proofs.Approaches.{approach_wider}
-use Rattle.tree.specs.Node.{entries_of, key_heads_of}
+use Rattle.tree.specs.Node.{key_heads_of}
 use Rattle.tree.specs.Path.{IsPartitioned}
 use Rattle.tree.specs.Subtree.{entries_at, items_in, IsChild, IsSubtree}
 use Rattle.tree.specs.Tree.{least_of}
@@ -78,39 +78,35 @@ partitioned_from g t c =
 
 -- what is asked of the search in a node
 asked : (g : Over) (t : ℕ) (c : After-entries-entries g t)
-    → CanFind (g.P.Bound.bytes c.args.question.now.from) (g.P.Bound.below c.args.question.now.from)
-    c.header_ref-node.result.now
+    → CanStep (g.P.Bound.bytes c.args.question.now.from) (g.P.Bound.below c.args.question.now.from)
+    (g.P.Bound.target c.args.question.now.from) c.header_ref-node.result.now (Some c.args.common_prefix_len)
 asked g t c =
     let is = c.entries-entries.ensures.entries in
     record {
-      headed = headed g t c;
-      partitioned = subst (IsPartitioned (λ (e : Entry). g.P.Bound.below c.args.question.now.from e.key)) is (partitioned_from g t c);
-      some = subst (λ (es : List Entry). 1 ≤ length es) is (some g t c);
+      can_find = record {
+        headed = headed g t c;
+        partitioned = subst (IsPartitioned (λ (e : Entry). g.P.Bound.below c.args.question.now.from e.key)) is (partitioned_from g t c);
+        some = subst (λ (es : List Entry). 1 ≤ length es) is (some g t c);
+      };
+      known = subst
+          (λ es. IsPrefixLenAt (g.P.Bound.bytes c.args.question.now.from) (g.P.Bound.below c.args.question.now.from)
+          (g.P.Bound.target c.args.question.now.from) (Some c.args.common_prefix_len) es 0) is (knows g t c);
     }
-
-known : (g : Over) (t : ℕ) (c : After-entries-entries g t)
-    → IsPrefixLenAt (g.P.Bound.bytes c.args.question.now.from) (g.P.Bound.below c.args.question.now.from)
-    (g.P.Bound.target c.args.question.now.from) (Some c.args.common_prefix_len) (entries_of c.header_ref-node.result.now) 0
-known g t c =
-    subst
-    (λ es. IsPrefixLenAt (g.P.Bound.bytes c.args.question.now.from) (g.P.Bound.below c.args.question.now.from)
-    (g.P.Bound.target c.args.question.now.from) (Some c.args.common_prefix_len) es 0) c.entries-entries.ensures.entries (knows g t c)
 
 pub head_for-own-requires : goal.head_for-own-requires
 head_for-own-requires g t c =
-    let at = (goal.at.head_for-own-requires g t c).After-entries-entries in
-    let a = asked g t at in (
+    let a = asked g t (goal.at.head_for-own-requires g t c).After-entries-entries in (
       search rules,
       (
-        a.headed,
-        (a.some, (λ e text there known_text count inside le. ((known g t at e there).1 text known_text count inside).0 le)),
+        a.can_find.headed,
+        (a.can_find.some, (λ e text there known_text count inside le. ((a.known e there).1 text known_text count inside).0 le)),
       ),
     )
 
 pub step_by-step-requires : goal.step_by-step-requires
 step_by-step-requires g t c =
     let at = (goal.at.step_by-step-requires g t c).After-entries-entries in
-    (search rules, (asked g t at, (known g t at, c.head_for-own.ensures.head)))
+    (search rules, record { can_step = asked g t at; head = c.head_for-own.ensures.head })
 
 -- the entry at which the search goes on is one of them
 within : (g : Over) (t : ℕ) (c : After-index-entries-step g t) → c.step_by-step.result.index < length c.entries-entries.result.now
@@ -123,8 +119,8 @@ is_clear-clear-requires g t c =
     let at = (goal.at.is_clear-clear-requires g t c).After-entries-entries in (
       search rules,
       (
-        asked g t at,
-        (known g t at, (c.head_for-own.ensures.head.head, (c.step_by-step.ensures.step.within, c.step_by-step.ensures.step.index_is))),
+        record { can_step = asked g t at; own_head = c.head_for-own.ensures.head.head },
+        (c.step_by-step.ensures.step.within, c.step_by-step.ensures.step.index_is),
       ),
     )
 

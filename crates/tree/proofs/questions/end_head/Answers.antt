@@ -24,7 +24,7 @@ head_given-requires g c =
           λ yes.
           let short : w.prefix_len.result ≤ question.targets_prefix_len = leb-true w.prefix_len.result question.targets_prefix_len
           (sym w.agrees-is ∙ yes) in
-          agrees_too near bytes key_heads other target question.targets_prefix_len c.args.own question.bytes c.requires.own
+          agrees_too near bytes key_heads other target question.targets_prefix_len c.args.own question.bytes c.requires.searched.own_head
           (sym c.is_some.ensures ∙ w.if-is_some.true) (omega (arith, short, w.prefix_len.ensures.prefix_len)) question.begin_alike
       | else-is_some w ↦ λ yes. absurd (let f : false ≡ true = sym w.if-is_some.false ∙ sym w.agrees-is ∙ yes in cc)
     ] in
@@ -32,7 +32,7 @@ head_given-requires g c =
     (known : near e.key ≡ Some text).
     subst (λ n. HaveCommonPrefix n text other) (sym c.min.ensures)
     (alike_for_other c.args.common_prefix_len question.targets_prefix_len text target other
-    ((c.requires.known e there).1 text (question.bytes e.key ∙ known)) question.begin_alike) in
+    ((c.requires.searched.can_step.known e there).1 text (question.bytes e.key ∙ known)) question.begin_alike) in
     -- the other bound knows the same bytes
-    let headed = key_heads_kept bytes near (λ key text is. sym (question.bytes key) ∙ is) key_heads c.requires.can_find.headed in
-    (search rules, (headed, (c.requires.can_find.some, (agrees, alike))))
+    let headed = key_heads_kept bytes near (λ key text is. sym (question.bytes key) ∙ is) key_heads c.requires.searched.can_step.can_find.headed in
+    (search rules, (headed, (c.requires.searched.can_step.can_find.some, (agrees, alike))))

@@ -32,9 +32,9 @@ lower_bound_from-requires g c =
       (
         record {
           headed = key_heads_kept (g.P.Bound.bytes question.from) (g.Q.Bound.bytes question.to)
-              (λ key text is. sym (question.bytes key) ∙ is) (key_heads_of c.args.node.now) c.requires.can_find.headed;
+              (λ key text is. sym (question.bytes key) ∙ is) (key_heads_of c.args.node.now) c.requires.searched.can_step.can_find.headed;
           partitioned = c.requires.to;
-          some = c.requires.can_find.some;
+          some = c.requires.searched.can_step.can_find.some;
         },
         (c.end_head-head.ensures.head, omega (arith, c.requires.begin.count_is, no_more p q question.nested es)),
       ),

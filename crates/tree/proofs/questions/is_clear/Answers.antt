@@ -14,7 +14,7 @@ returns-then-question-clause-next g c = λ _ e there.
     let es = entries_of c.args.node.now in
     elim c.then-question.branch [
       | then-question-via-then-question w ↦
-          let fails = next_fails p es c.args.index e c.requires.can_find.partitioned c.requires.last_below there in
+          let fails = next_fails p es c.args.index e c.requires.searched.can_step.can_find.partitioned c.requires.last_below there in
           elim (cases_Bool (g.Q.Bound.below question.to e.key)) [
             | inl t ↦ absurd (not_both (p e.key) (question.single w.if-question.true e.key t) fails)
             | inr f ↦ f

@@ -2,9 +2,9 @@ use Rattle.std.proofs.Common.{rules, ◌≡◌, ◌≤◌, ◌-◌, List, length
 use Rattle.std.proofs.lemmas.Bool.{not-false}
 use Rattle.std.proofs.lemmas.Int.{to_z-of_z}
 use Rattle.tree.specs.declared.entry.Entry.{Entry}
-use Rattle.tree.specs.Finding.{CanFind, IsOwnHead}
+use Rattle.tree.specs.Finding.{CanStep, IsOwnHead}
 use Rattle.tree.specs.Heads.{AreHeads, IsPrefixLenAt}
-use Rattle.tree.specs.Node.{entries_of, key_heads_of}
+use Rattle.tree.specs.Node.{key_heads_of}
 use Rattle.tree.specs.Path.{IsPartitioned}
 use Rattle.tree.specs.Subtree.{entries_at}
 use Rattle.tree.specs.Tree.{least_of}
@@ -69,23 +69,20 @@ partitioned_to g c =
 
 -- what is asked of the search in a node
 asked : (g : Over) (c : After-entries-entries g)
-    → CanFind (g.P.Bound.bytes c.args.question.now.from) (g.P.Bound.below c.args.question.now.from)
-    c.header_ref-node.result.now
+    → CanStep (g.P.Bound.bytes c.args.question.now.from) (g.P.Bound.below c.args.question.now.from)
+    (g.P.Bound.target c.args.question.now.from) c.header_ref-node.result.now (Some c.args.near.common_prefix_len)
 asked g c =
     let is = c.entries-entries.ensures.entries in
     record {
-      headed = headed g c;
-      partitioned = subst (IsPartitioned (λ (e : Entry). g.P.Bound.below c.args.question.now.from e.key)) is (partitioned_from g c);
-      some = subst (λ (es : List Entry). 1 ≤ length es) is (some g c);
+      can_find = record {
+        headed = headed g c;
+        partitioned = subst (IsPartitioned (λ (e : Entry). g.P.Bound.below c.args.question.now.from e.key)) is (partitioned_from g c);
+        some = subst (λ (es : List Entry). 1 ≤ length es) is (some g c);
+      };
+      known = subst
+          (λ es. IsPrefixLenAt (g.P.Bound.bytes c.args.question.now.from) (g.P.Bound.below c.args.question.now.from)
+          (g.P.Bound.target c.args.question.now.from) (Some c.args.near.common_prefix_len) es 0) is (knows g c);
     }
-
-known : (g : Over) (c : After-entries-entries g)
-    → IsPrefixLenAt (g.P.Bound.bytes c.args.question.now.from) (g.P.Bound.below c.args.question.now.from)
-    (g.P.Bound.target c.args.question.now.from) (Some c.args.near.common_prefix_len) (entries_of c.header_ref-node.result.now) 0
-known g c =
-    subst
-    (λ es. IsPrefixLenAt (g.P.Bound.bytes c.args.question.now.from) (g.P.Bound.below c.args.question.now.from)
-    (g.P.Bound.target c.args.question.now.from) (Some c.args.near.common_prefix_len) es 0) c.entries-entries.ensures.entries (knows g c)
 
 -- what the first look at the leaf gave
 own : (g : Over) (c : After-entries-entries g)
@@ -104,12 +101,12 @@ lower_bound_by_head-begin-requires g c =
     let bound = c.args.question.now.from in (
       search rules,
       (
-        a,
+        a.can_find,
         (
           (own g at).head,
           (λ none. all_known
-              (g.P.Bound.bytes bound) c.header_ref-node.result.now a.headed (g.P.Bound.target bound) (g.P.Bound.below bound)
-              (g.met.P.Bound.order bound) c.args.near.common_prefix_len a.some (known g at) ((own g at).none none)),
+              (g.P.Bound.bytes bound) c.header_ref-node.result.now a.can_find.headed (g.P.Bound.target bound) (g.P.Bound.below bound)
+              (g.met.P.Bound.order bound) c.args.near.common_prefix_len a.can_find.some a.known ((own g at).none none)),
         ),
       ),
     )
@@ -119,7 +116,7 @@ end_in-end-requires g c =
     let at = (goal.at.end_in-end-requires g c).After-entries-entries in
     let to = subst (IsPartitioned (λ (e : Entry). g.Q.Bound.below c.args.question.now.to e.key)) c.entries-entries.ensures.entries
     (partitioned_to g at) in
-    (search rules, (asked g at, (to, (known g at, ((own g at).head, c.lower_bound_by_head-begin.ensures.count)))))
+    (search rules, (record { can_step = asked g at; own_head = (own g at).head }, (to, c.lower_bound_by_head-begin.ensures.count)))
 
 -- the two bounds of a leaf
 leaf : (g : Over) (c : After-end_in-end g)

@@ -136,7 +136,7 @@ entry_for-requires-2 g c =
     let f = c.requires.can_merge.family in
     let p = pair a (least_of g.row.N) f.0 es i x y d e c.requires.can_merge.within x_is y_is f.1 in
     let b = c.redistribute.new.nodes in
-    let some : 0 < length (entries_at b x) = omega (arith, c.redistribute.ensures.left, c.requires.can_merge.fan_out) in
+    let some : 0 < length (entries_at b x) = omega (arith, c.redistribute.ensures.filled.left, c.requires.can_merge.fan_out) in
     (search rules, (live_if_some b x some, some))
 
 pub entry_for-requires-3 : goal.entry_for-requires-3
@@ -153,7 +153,7 @@ entry_for-requires-3 g c =
     let f = c.requires.can_merge.family in
     let p = pair a (least_of g.row.N) f.0 es i x y d e c.requires.can_merge.within x_is y_is f.1 in
     let b = c.redistribute.new.nodes in
-    let some : 0 < length (entries_at b y) = omega (arith, c.redistribute.ensures.right, c.requires.can_merge.fan_out) in
+    let some : 0 < length (entries_at b y) = omega (arith, c.redistribute.ensures.filled.right, c.requires.can_merge.fan_out) in
     (search rules, (live_if_some b y some, some))
 
 pub returns-then-count-clause-rebalanced : goal.returns-then-count-clause-rebalanced
@@ -199,8 +199,8 @@ returns-clause-rebalanced g c height family =
     let b = c.redistribute.new.nodes in
     let t = c.entry_for-2.result in
     let u = c.entry_for-3.result in
-    let left = c.redistribute.ensures.left in
-    let right = c.redistribute.ensures.right in
+    let left = c.redistribute.ensures.filled.left in
+    let right = c.redistribute.ensures.filled.right in
     let four = c.requires.can_merge.fan_out in
     rebalanced_by_sharing a b (least_of g.row.N) height es (entries_of c.set_with_head-3.new.self) i x y d e
     c.requires.can_merge.within x_is y_is family t u

@@ -35,25 +35,21 @@ returns-clause-entries g c =
     ∙ ap₂ (λ xs ys. xs ++ ys) (sym (entries_from_header a c.args.first c.header_mut-left.result.now c.header_mut-left.ensures.header))
     (sym (entries_from_header a c.args.second c.header-right.result c.header-right.ensures.header))
 
-pub returns-clause-left : goal.returns-clause-left
-returns-clause-left g c =
+pub returns-clause-filled : goal.returns-clause-filled
+returns-clause-filled g c =
     let left = c.redistribute_with_heads.new.self in
     let right = c.redistribute_with_heads.new.right in
+    let filled = c.redistribute_with_heads.ensures.filled in
     let a = c.args.nodes.now in
     let b = (with_header c.args.nodes.now c.args.first c.redistribute_with_heads.new.self) in
     let d = c.set_header.new.self in
-    subst (λ xs. g.row.N ≤ 2 * length xs)
-    (sym (entries_same b d c.args.first (put_others b d c.args.second right c.set_header.ensures.replaced c.args.first c.requires.two.apart)
-    ∙ put_entries a b c.args.first left refl))
-    c.redistribute_with_heads.ensures.left
-
-pub returns-clause-right : goal.returns-clause-right
-returns-clause-right g c =
-    let right = c.redistribute_with_heads.new.right in
-    let b = (with_header c.args.nodes.now c.args.first c.redistribute_with_heads.new.self) in
-    let d = c.set_header.new.self in
-    subst (λ xs. g.row.N ≤ 2 * length xs)
-    (sym (put_entries b d c.args.second right c.set_header.ensures.replaced)) c.redistribute_with_heads.ensures.right
+    record {
+      left = subst (λ xs. g.row.N ≤ 2 * length xs)
+          (sym (entries_same b d c.args.first (put_others b d c.args.second right c.set_header.ensures.replaced c.args.first c.requires.two.apart)
+          ∙ put_entries a b c.args.first left refl))
+          filled.left;
+      right = subst (λ xs. g.row.N ≤ 2 * length xs) (sym (put_entries b d c.args.second right c.set_header.ensures.replaced)) filled.right;
+    }
 
 pub returns-clause-changes : goal.returns-clause-changes
 returns-clause-changes g c =
@@ -85,10 +81,10 @@ redistribute_with_heads-requires g c =
         subst (λ xs. g.row.N < length xs + length (entries_of right)) (entries_from_header a c.args.first left c.header_mut-left.ensures.header)
             (subst (λ ys. g.row.N < length (entries_at a c.args.first) + length ys)
             (entries_from_header a c.args.second right c.header-right.ensures.header) c.requires.many),
-        (
-          headed_at bytes a c.args.first left c.requires.two.headed c.header_mut-left.ensures.header,
-          headed_at bytes a c.args.second right c.requires.two.headed c.header-right.ensures.header,
-        ),
+        record {
+          left = headed_at bytes a c.args.first left c.requires.two.headed c.header_mut-left.ensures.header;
+          right = headed_at bytes a c.args.second right c.requires.two.headed c.header-right.ensures.header;
+        },
       ),
     )
 
@@ -99,5 +95,5 @@ returns-clause-headed g c =
     let b = (with_header c.args.nodes.now c.args.first c.redistribute_with_heads.new.self) in
     headed_header bytes b c.set_header.new.self c.args.second c.redistribute_with_heads.new.right c.set_header.ensures.replaced
     (headed_header bytes a b c.args.first c.redistribute_with_heads.new.self refl c.requires.two.headed
-    c.redistribute_with_heads.ensures.headed)
-    c.redistribute_with_heads.ensures.right_headed
+    c.redistribute_with_heads.ensures.headed.left)
+    c.redistribute_with_heads.ensures.headed.right

@@ -21,27 +21,16 @@ splice_apart-right-requires g c =
     let len = ap (λ (xs : List Entry). length xs) es in (
       search rules,
       (
-        can.ordered,
-        (
-          omega (arith, can.within, len),
-          (
-            can.same_len,
-            (
-              can.few_new,
-              (
-                omega (arith, can.many, len),
-                (
-                  headed_at bytes c.args.nodes.now c.args.slot node can.headed header,
-                  (
-                    can.known,
-                    λ alike. subst (λ o. IfSome (option_map key_heads_of o)
-                        (λ own. AreHeadsBeside bytes own (keys_of c.args.new.now) c.args.heads.now)) header (can.beside alike),
-                  ),
-                ),
-              ),
-            ),
-          ),
-        ),
+        record {
+          ordered = can.ordered;
+          within = omega (arith, can.within, len);
+          same_len = can.same_len;
+          headed = headed_at bytes c.args.nodes.now c.args.slot node can.headed header;
+          known = can.known;
+          beside = λ alike. subst (λ o. IfSome (option_map key_heads_of o)
+              (λ own. AreHeadsBeside bytes own (keys_of c.args.new.now) c.args.heads.now)) header (can.beside alike);
+        },
+        (can.few_new, omega (arith, can.many, len)),
       ),
     )
 
@@ -78,11 +67,11 @@ returns-clause-stored g c =
       live_added = c.place.ensures.live;
       changes = changes;
       taken = omega (arith, changes.live, changes.spare);
-      filled = (
-        omega (arith, split.ensures.left, ap (λ (es : List Entry). length es) here),
-        omega (arith, split.ensures.right, ap (λ (es : List Entry). length es) c.place.ensures.entries),
-      );
-      headed = c.place.ensures.headed bytes split.ensures.right_headed
+      filled = record {
+        left = omega (arith, split.ensures.filled.left, ap (λ (es : List Entry). length es) here);
+        right = omega (arith, split.ensures.filled.right, ap (λ (es : List Entry). length es) c.place.ensures.entries);
+      };
+      headed = c.place.ensures.headed bytes split.ensures.headed.right
           (headed_header bytes old c.set_header.new.self c.args.slot split.new.self replaced c.requires.can_split.headed
-          split.ensures.headed);
+          split.ensures.headed.left);
     }

@@ -11,11 +11,15 @@ use Rattle.tree.proofs.root.change.Goals as goal
 
 pub common_prefix_len_at-requires : goal.common_prefix_len_at-requires
 common_prefix_len_at-requires g c =
-    let can = c.requires.changeable in (
+    let can = c.requires.can_change.changeable in (
       search rules,
       (
         live_subtree c.args.nodes.now (least_of g.row.N) c.args.root.now.height c.args.root.now.slot can.rooted.subtree,
-        can.some,
+        (
+          can.some,
+          subst (λ p. AllAreHeads (g.C.LeafBound.Bound.bytes p) (all_heads_of c.args.nodes.now)) (sym c.leaf_bound.ensures.leaf_bound)
+              c.requires.can_change.headed,
+        ),
       ),
     )
 
@@ -24,7 +28,7 @@ change_leaf-requires g c =
     let a = c.args.nodes.now in
     let root = c.args.root.now in
     let leaf_bound = g.C.LeafChange.bound_of c.args.change.now in
-    let can = c.requires.changeable in
+    let can = c.requires.can_change.changeable in
     let changeable : CanChange a root.height root.slot = record {
       fan_out = can.fan_out;
       few = can.few;
@@ -37,12 +41,22 @@ change_leaf-requires g c =
     } in
     let searched : CanSearch (g.C.LeafBound.Bound.bytes leaf_bound) (g.C.LeafBound.Bound.below leaf_bound)
     (g.C.LeafBound.Bound.target leaf_bound) a root.height root.slot c.common_prefix_len_at.result = record {
-      partitioned = c.requires.partitioned;
-      headed = c.requires.headed;
+      partitioned = c.requires.can_change.partitioned;
+      headed = c.requires.can_change.headed;
       known = subst (λ p. IsPrefixLenAt (g.C.LeafBound.Bound.bytes p) (g.C.LeafBound.Bound.below p) (g.C.LeafBound.Bound.target p)
           c.common_prefix_len_at.result (entries_at a root.slot) 0) c.leaf_bound.ensures.leaf_bound c.common_prefix_len_at.ensures.known;
-    } in
-    (search rules, (search rules, (changeable, (searched, (c.requires.wanted, c.requires.none_taken)))))
+    } in (
+      search rules,
+      (
+        search rules,
+        record {
+          changeable = changeable;
+          searched = searched;
+          wanted = c.requires.can_change.wanted;
+          none_taken = c.requires.can_change.none_taken;
+        },
+      ),
+    )
 
 pub grow-requires : goal.grow-requires
 grow-requires g c =
@@ -50,7 +64,7 @@ grow-requires g c =
     let b = c.change_leaf.new.nodes in
     let L = least_of g.row.N in
     let root = c.args.root.now in
-    let can = c.requires.changeable in
+    let can = c.requires.can_change.changeable in
     let put = c.change_leaf.ensures.changed in
     let is = sym c.in-Some.ensures.added in
     let changes = subst (λ o. Changes a b (slots_in a root.height root.slot) (slots_with b root.height root.slot o)) is
@@ -84,7 +98,7 @@ shrink-requires g c =
       record {
         subtree = put.subtree;
         distinct = changes.distinct;
-        linked = omega (arith, changes.live, c.requires.changeable.rooted.linked);
+        linked = omega (arith, changes.live, c.requires.can_change.changeable.rooted.linked);
         keyless = changes.keyless;
       },
     )

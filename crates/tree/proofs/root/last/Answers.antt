@@ -23,16 +23,16 @@ lower_bound-count-requires g c =
     let some : 1 ≤ length es = subst (λ es. 1 ≤ length es) read found.some in
     let positive : 0 < length es = omega (arith, some) in (
       search rules,
-      (
-        record {
+      record {
+        can_find = record {
           headed = headed_at (P.bytes bound) nodes c.reach-reached.result.leaf header c.requires.can_reach.headed
               c.header_ref-leaf.ensures.header;
           partitioned = subst (IsPartitioned (λ (e : Entry). P.below bound e.key)) read found.partitioned;
           some = positive;
-        },
-        subst (λ es. IsPrefixLenAt (P.bytes bound) (P.below bound) (P.target bound) c.reach-reached.result.common_prefix_len es 0) read
-            found.knows,
-      ),
+        };
+        known = subst (λ es. IsPrefixLenAt (P.bytes bound) (P.below bound) (P.target bound) c.reach-reached.result.common_prefix_len es 0) read
+            found.knows;
+      },
     )
 
 pub returns : goal.returns

@@ -7,7 +7,7 @@ use Rattle.tree.specs.Path.{index_in, first_key}
 use Rattle.tree.specs.Subtree.{entries_at, items_in, slots_in}
 use Rattle.tree.specs.Tree.{least_of}
 use Rattle.tree.specs.Replace.{child_at, items_of, items_with, IsRebalancedAt}
-use Rattle.tree.specs.Walk.{CanChange, CanSearch, IsChanged, IsChangedWithin, added_by}
+use Rattle.tree.specs.Walk.{CanChange, CanChangeLeaf, CanSearch, IsChanged, IsChangedWithin, added_by}
 use Rattle.tree.proofs.callers.Times.{distinct_if_once}
 use Rattle.tree.proofs.Changing.{moves_if_changes}
 use Rattle.tree.proofs.FirstKeys.{known_below}
@@ -24,25 +24,14 @@ use Rattle.tree.proofs.walk.+change_leaf.Goals.{After-index-entries-step, After-
 
 pub change-requires : goal.change-requires
 change-requires g t c =
-    let a = c.args.nodes.now in
-    let slot = c.args.slot in
     let change = c.args.change.now in
-    let leaf_bound = g.C.LeafChange.bound_of change in
-    let lowest = c.if-height-eq0.true in (
+    let leaf_bound = g.C.LeafChange.bound_of change in (
       search rules,
       (
         search rules,
-        (
-          subst (λ n. CanChange a n slot) lowest c.requires.changeable,
-          (
-            subst (λ n. CanSearch (g.C.LeafBound.Bound.bytes leaf_bound) (g.C.LeafBound.Bound.below leaf_bound)
-                (g.C.LeafBound.Bound.target leaf_bound) a n slot c.args.place.common_prefix_len) lowest c.requires.searched,
-            (
-              subst (λ n. g.C.LeafChange.wants change (items_in a n slot)) lowest c.requires.wanted,
-              c.requires.none_taken,
-            ),
-          ),
-        ),
+        subst (λ n. CanChangeLeaf (g.C.LeafBound.Bound.bytes leaf_bound) (g.C.LeafBound.Bound.below leaf_bound)
+            (g.C.LeafBound.Bound.target leaf_bound) (g.C.LeafChange.wants change) c.args.nodes.now n c.args.slot
+            c.args.place.common_prefix_len c.args.taken.now.items) c.if-height-eq0.true c.requires.can_change,
       ),
     )
 
@@ -76,15 +65,15 @@ step-step-requires g t c =
     let read = entries_from_header a slot node header in
     rw c.leaf_bound.ensures.leaf_bound (
       search rules,
-      (
-        record {
-          headed = headed_at bytes a slot node c.requires.searched.headed header;
+      record {
+        can_find = record {
+          headed = headed_at bytes a slot node c.requires.can_change.searched.headed header;
           partitioned = read_partitioned a (least_of g.row.N) c.args.height slot is_below node (entries_of node) c.if-height-eq0.false
-              c.requires.changeable.subtree c.requires.searched.partitioned header refl;
-          some = omega (arith, ap length read, c.requires.changeable.some);
-        },
-        subst (λ l. IsPrefixLenAt bytes is_below target c.args.place.common_prefix_len l 0) read c.requires.searched.known,
-      ),
+              c.requires.can_change.changeable.subtree c.requires.can_change.searched.partitioned header refl;
+          some = omega (arith, ap length read, c.requires.can_change.changeable.some);
+        };
+        known = subst (λ l. IsPrefixLenAt bytes is_below target c.args.place.common_prefix_len l 0) read c.requires.can_change.searched.known;
+      },
     )
 
 one_up : (n : ℕ) → ¬ (n ≡ 0) → suc (n - 1) ≡ n
@@ -102,7 +91,7 @@ at_child g t c =
     let es = entries_of c.header_ref-node.result.now in
     is_at c.args.nodes.now (least_of g.row.N) c.args.height (c.args.height - 1) c.args.slot is_below
     c.header_ref-node.result.now es c.entries-entries.result.now c.step-step.result.index c.index-entries-step.result
-    (one_up c.args.height c.if-height-eq0.false) c.requires.changeable.subtree c.requires.changeable.distinct
+    (one_up c.args.height c.if-height-eq0.false) c.requires.can_change.changeable.subtree c.requires.can_change.changeable.distinct
     c.header_ref-node.ensures.header refl c.entries-entries.ensures.entries
     (subst (λ p. c.step-step.result.index ≡ index_in (g.C.LeafBound.Bound.below p) es) c.leaf_bound.ensures.leaf_bound
     c.step-step.ensures.step.index_is)
@@ -129,32 +118,34 @@ change_leaf-requires g t c κs within =
     let step = subst (λ p. (i ≡ index_in (g.C.LeafBound.Bound.below p) es)
     × IsPrefixLenAt (g.C.LeafBound.Bound.bytes p) (g.C.LeafBound.Bound.below p) (g.C.LeafBound.Bound.target p) c.step-step.result.common_prefix_len es i)
     c.leaf_bound.ensures.leaf_bound (c.step-step.ensures.step.index_is, c.step-step.ensures.step.knows) in
-    let f = found a L n slot is_below node vs i d c.if-height-eq0.false c.requires.changeable.subtree
-    c.requires.searched.partitioned c.header_ref-node.ensures.header c.entries-entries.ensures.entries
+    let f = found a L n slot is_below node vs i d c.if-height-eq0.false c.requires.can_change.changeable.subtree
+    c.requires.can_change.searched.partitioned c.header_ref-node.ensures.header c.entries-entries.ensures.entries
     (step.0 ∙ ap (index_in is_below) (sym c.entries-entries.ensures.entries)) in
     let right = child_right a a L h es i x d at.within at.x_is at.few_below at.right in
     let filled : L ≤ length (entries_at a x) = subst (λ z. L ≤ length (entries_at a z)) (sym at.x_is) right.filled in
     let can : CanChange a h x = record {
-      fan_out = c.requires.changeable.fan_out;
-      few = c.requires.changeable.few;
+      fan_out = c.requires.can_change.changeable.fan_out;
+      few = c.requires.can_change.changeable.few;
       subtree = found_subtree a L n slot is_below x f;
       some = omega (arith, filled);
       branches = λ _. omega (arith, filled);
       distinct = distinct_if_once (slots_in a h x) (child_few a a L h es i x d at.within at.x_is at.few_below at.right);
-      keyless = c.requires.changeable.keyless;
-      room = omega (arith, c.requires.changeable.room);
+      keyless = c.requires.can_change.changeable.keyless;
+      room = omega (arith, c.requires.can_change.changeable.room);
     } in
     let search_on : CanSearch bytes is_below target a h x c.step-step.result.common_prefix_len = record {
       partitioned = found_partitioned a L n slot is_below x f;
-      headed = c.requires.searched.headed;
+      headed = c.requires.can_change.searched.headed;
       known = known_below a L n slot is_below x f bytes target c.step-step.result.common_prefix_len node i
           c.header_ref-node.ensures.header step.0 step.1;
     } in
     let split = items_split a L n h slot is_below es i x d (one_up n c.if-height-eq0.false) at in
     let wanted = g.met.C.LeafChange.part c.args.change.now (items_of a h (take i es)) (items_in a h x)
-    (items_of a h (drop (i + 1) es)) (subst (g.C.LeafChange.wants c.args.change.now) split c.requires.wanted) in (
+    (items_of a h (drop (i + 1) es)) (subst (g.C.LeafChange.wants c.args.change.now) split c.requires.can_change.wanted) in
+    let can_change : CanChangeLeaf bytes is_below target (g.C.LeafChange.wants c.args.change.now) a h x c.step-step.result.common_prefix_len
+    c.args.taken.now.items = record { changeable = can; searched = search_on; wanted = wanted; none_taken = c.requires.can_change.none_taken } in (
       search rules,
-      (search rules, (search rules, (search rules, (search rules, (search rules, (can, (search_on, (wanted, c.requires.none_taken)))))))),
+      (search rules, (search rules, (search rules, (search rules, (search rules, can_change))))),
     )
 
 pub raise_entry-requires : goal.raise_entry-requires
@@ -176,10 +167,10 @@ raise_entry-requires g t c =
     let read = read_beside a b L h slot is_below es i x d (slots_in b h x) at moves in
     let several : 2 ≤ length (entries_at b slot) =
     subst (λ l. 2 ≤ length l) (at.read ∙ sym read)
-    (c.requires.changeable.branches (omega (arith, c.if-height-eq0.false))) in (
+    (c.requires.can_change.changeable.branches (omega (arith, c.if-height-eq0.false))) in (
       search rules,
       record {
-        fan_out = c.requires.changeable.fan_out;
+        fan_out = c.requires.can_change.changeable.fan_out;
         live = live_beside a b L h slot is_below es i x d (slots_in b h x) at moves;
         within = subst (λ l. i < length l) (sym read) at.within;
         several = several;
@@ -209,10 +200,10 @@ rebalance_child-requires g t c =
     let read = read_beside a b L h slot is_below es i x d (slots_in b h x) at moves in
     let several : 2 ≤ length (entries_at b slot) =
     subst (λ l. 2 ≤ length l) (at.read ∙ sym read)
-    (c.requires.changeable.branches (omega (arith, c.if-height-eq0.false))) in (
+    (c.requires.can_change.changeable.branches (omega (arith, c.if-height-eq0.false))) in (
       search rules,
       record {
-        fan_out = c.requires.changeable.fan_out;
+        fan_out = c.requires.can_change.changeable.fan_out;
         live = live_beside a b L h slot is_below es i x d (slots_in b h x) at moves;
         within = subst (λ l. i < length l) (sym read) at.within;
         several = several;
@@ -247,13 +238,13 @@ insert_child-requires g t c =
     let filled_added : L ≤ length (entries_at b s) = put.filled.1 in (
       search rules,
       record {
-        fan_out = c.requires.changeable.fan_out;
+        fan_out = c.requires.can_change.changeable.fan_out;
         live = live_beside a b L h slot is_below es i x d now at moves;
         within = subst (λ l. i < length l) (sym read) at.within;
         some = omega (arith, filled);
         some_added = omega (arith, filled_added);
         keyless = moves.keyless;
-        room = omega (arith, put.taken, c.requires.changeable.room, c.if-height-eq0.false);
+        room = omega (arith, put.taken, c.requires.can_change.changeable.room, c.if-height-eq0.false);
         headed = subst (λ p. AllAreHeads (g.C.LeafBound.Bound.bytes p) (all_heads_of b))
             (sym (c.leaf_bound-in-Split.ensures.leaf_bound ∙ c.in-Split.ensures.leaf_bound)) put.headed;
       },
@@ -281,15 +272,15 @@ within g t c below key Gives now all both one key_is all_is changed =
     (entries_of c.header_ref-node.result.now) i
     (get_or c.entries-entries.result.now i c.index-entries-step.result).child
     c.index-entries-step.result (one_up c.args.height c.if-height-eq0.false) (at_child g t c) Gives
-    c.args.place.is_first below c.args.place.behind key now all c.requires.changeable.subtree
-    c.requires.searched.partitioned (first_if below c.args.place.is_first i both one)
+    c.args.place.is_first below c.args.place.behind key now all c.requires.can_change.changeable.subtree
+    c.requires.can_change.searched.partitioned (first_if below c.args.place.is_first i both one)
     (key_is ∙ ap (λ l. first_key c.args.place.behind (map item_of (drop (i + 1) l))) c.entries-entries.ensures.entries)
     all_is changed
 
 pub returns-in-Same-clause-changed : goal.returns-in-Same-clause-changed
 returns-in-Same-clause-changed g t c =
     let at = at_child g t (goal.at.returns-in-Same-clause-changed g t c).After-index-entries-step in
-    same_above _ _ _ _ _ _ _ _ _ _ _ (one_up c.args.height c.if-height-eq0.false) at c.requires.changeable
+    same_above _ _ _ _ _ _ _ _ _ _ _ (one_up c.args.height c.if-height-eq0.false) at c.requires.can_change.changeable
     c.in-Same.ensures.changed
 
 pub returns-in-Same-clause-items : goal.returns-in-Same-clause-items
@@ -344,7 +335,7 @@ returns-in-Raised-clause-changed g t c =
     let at = at_child g t here.After-index-entries-step in
     let put = c.in-Raised.ensures.changed in
     let fits : SFits w64 c.in-Raised.version = search rules in
-    rw (to_z-of_z w64 c.in-Raised.version fits) (raised_too _ _ _ _ _ _ _ _ _ _ _ (one_up c.args.height c.if-height-eq0.false) at c.requires.changeable
+    rw (to_z-of_z w64 c.in-Raised.version fits) (raised_too _ _ _ _ _ _ _ _ _ _ _ (one_up c.args.height c.if-height-eq0.false) at c.requires.can_change.changeable
     c.raise_entry.new.nodes
     (subst (λ p. AllAreHeads (g.C.LeafBound.Bound.bytes p) (all_heads_of c.raise_entry.new.nodes))
     (c.leaf_bound-in-Raised.ensures.leaf_bound ∙ c.in-Raised.ensures.leaf_bound) c.raise_entry.ensures.rest.headed)
@@ -380,7 +371,7 @@ returns-in-Changed-clause-changed g t c =
     let here = goal.at.returns-in-Changed-clause-changed g t c in
     let at = at_child g t here.After-index-entries-step in
     let put = c.in-Changed.ensures.changed in
-    changed_above _ _ _ _ _ _ _ _ _ _ _ (one_up c.args.height c.if-height-eq0.false) at c.requires.changeable
+    changed_above _ _ _ _ _ _ _ _ _ _ _ (one_up c.args.height c.if-height-eq0.false) at c.requires.can_change.changeable
     c.rebalance_child.new.nodes
     (subst (λ p. AllAreHeads (g.C.LeafBound.Bound.bytes p) (all_heads_of c.rebalance_child.new.nodes))
     (c.leaf_bound-in-Changed.ensures.leaf_bound ∙ c.in-Changed.ensures.leaf_bound) c.rebalance_child.ensures.rest.headed)
@@ -401,7 +392,7 @@ pub returns-in-Some-clause-changed : goal.returns-in-Some-clause-changed
 returns-in-Some-clause-changed g t c =
     let at = at_child g t (goal.at.returns-in-Some-clause-changed g t c).After-index-entries-step in
     let put = c.in-Some.ensures in
-    linked_above _ _ _ _ _ _ _ _ _ _ _ (one_up c.args.height c.if-height-eq0.false) at c.requires.changeable
+    linked_above _ _ _ _ _ _ _ _ _ _ _ (one_up c.args.height c.if-height-eq0.false) at c.requires.can_change.changeable
     c.insert_child.new.nodes
     (subst (λ p. AllAreHeads (g.C.LeafBound.Bound.bytes p) (all_heads_of c.insert_child.new.nodes))
     (c.leaf_bound-in-Split.ensures.leaf_bound ∙ c.in-Split.ensures.leaf_bound) put.stored.headed)
@@ -415,7 +406,7 @@ returns-in-Some-clause-items g t c =
     let put = c.in-Some.ensures in
     let split = c.in-Split.ensures.changed in
     let step = stepped_linked _ _ _ _ _ _ _ _ _ _ _ _ (one_up c.args.height c.if-height-eq0.false) at split.subtree
-    c.in-Split.added (Some c.in-Some.added) (moves_if_changes _ _ _ _ split.changes) c.requires.changeable.fan_out put.linked
+    c.in-Split.added (Some c.in-Some.added) (moves_if_changes _ _ _ _ split.changes) c.requires.can_change.changeable.fan_out put.linked
     split.neighbour split.filled.0 split.filled.1 put.stored.filled put.stored.live put.stored.live_added put.stored.changes in
     within g t here.After-index-entries-step _ _ _ _ _ c.if-place.below-true c.if-place.below-false c.key_at.ensures.key step.items c.in-Split.ensures.items
 
@@ -423,7 +414,7 @@ pub returns-in-None-clause-changed : goal.returns-in-None-clause-changed
 returns-in-None-clause-changed g t c =
     let at = at_child g t (goal.at.returns-in-None-clause-changed g t c).After-index-entries-step in
     let put = c.in-None.ensures in
-    linked_above _ _ _ _ _ _ _ _ _ _ _ (one_up c.args.height c.if-height-eq0.false) at c.requires.changeable
+    linked_above _ _ _ _ _ _ _ _ _ _ _ (one_up c.args.height c.if-height-eq0.false) at c.requires.can_change.changeable
     c.insert_child.new.nodes
     (subst (λ p. AllAreHeads (g.C.LeafBound.Bound.bytes p) (all_heads_of c.insert_child.new.nodes))
     (c.leaf_bound-in-Split.ensures.leaf_bound ∙ c.in-Split.ensures.leaf_bound) put.stored.headed)
@@ -437,6 +428,6 @@ returns-in-None-clause-items g t c =
     let put = c.in-None.ensures in
     let split = c.in-Split.ensures.changed in
     let step = stepped_linked _ _ _ _ _ _ _ _ _ _ _ _ (one_up c.args.height c.if-height-eq0.false) at split.subtree
-    c.in-Split.added None (moves_if_changes _ _ _ _ split.changes) c.requires.changeable.fan_out put.linked split.neighbour
+    c.in-Split.added None (moves_if_changes _ _ _ _ split.changes) c.requires.can_change.changeable.fan_out put.linked split.neighbour
     split.filled.0 split.filled.1 put.stored.filled put.stored.live put.stored.live_added put.stored.changes in
     within g t here.After-index-entries-step _ _ _ _ _ c.if-place.below-true c.if-place.below-false c.key_at.ensures.key step.items c.in-Split.ensures.items

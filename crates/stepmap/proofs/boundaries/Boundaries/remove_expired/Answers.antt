@@ -48,19 +48,14 @@ remove_expired-removal-requires g c =
       omega arith,
       (
         search rules,
-        (
-          key_is_partitioned keys tree c.self.invariant.stored key,
-          (
-            some_is_below keys tree c.self.invariant.stored key,
-            (
-              c.requires.count,
-              (
-                c.self.invariant.headed,
-                ((λ one. absurd (not_alone keys tree c.self.invariant.stored key (later g at) (there g at) one)), c.self.inside.none_taken),
-              ),
-            ),
-          ),
-        ),
+        record {
+          partitioned = key_is_partitioned keys tree c.self.invariant.stored key;
+          some = some_is_below keys tree c.self.invariant.stored key;
+          some_count = c.requires.count;
+          headed = c.self.invariant.headed;
+          first = λ one. absurd (not_alone keys tree c.self.invariant.stored key (later g at) (there g at) one);
+          none_taken = c.self.inside.none_taken;
+        },
       ),
     )
 

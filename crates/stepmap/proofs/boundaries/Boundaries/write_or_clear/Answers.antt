@@ -148,25 +148,15 @@ overwrite-written-requires g c =
       omega arith,
       (
         search rules,
-        (
-          bounds g at false begin,
-          (
-            bounds g at false end,
-            (
-              bounds g at true end,
-              (
-                some_items,
-                (
-                  omega (arith, room g at),
-                  (
-                    headed_with keys c.place-2.new.self (placed g at) (ready g at) tree c.self.invariant.headed,
-                    c.self.inside.none_taken,
-                  ),
-                ),
-              ),
-            ),
-          ),
-        ),
+        record {
+          from = bounds g at false begin;
+          to = bounds g at false end;
+          past = bounds g at true end;
+          some = some_items;
+          room = omega (arith, room g at);
+          headed = headed_with keys c.place-2.new.self (placed g at) (ready g at) tree c.self.invariant.headed;
+          none_taken = c.self.inside.none_taken;
+        },
       ),
     )
 

@@ -32,7 +32,7 @@ partitioned_is : (g : given.Over) (c : After-header_ref-leaf g)
 partitioned_is g c =
     let p = g.P.Bound.below c.args.self.now.bound.now in
     subst (λ es. IsPartitioned (λ (e : Entry). p e.key) es) (entries_are g c)
-    (entries_of_partitioned p (entries_at c.args.nodes.now c.args.slot) c.requires.searched.partitioned)
+    (entries_of_partitioned p (entries_at c.args.nodes.now c.args.slot) c.requires.can_change.searched.partitioned)
 
 pub lower_bound-below-requires : goal.lower_bound-below-requires
 lower_bound-below-requires g c =
@@ -40,20 +40,18 @@ lower_bound-below-requires g c =
     let bound = c.args.self.now.bound.now in
     let es = entries_of c.header_ref-leaf.result.now in
     let some : 0 < length es =
-    omega (arith, ap (λ (es : List Entry). length es) (entries_are g h), c.requires.changeable.some) in
-    let known =
-    subst (λ es. IsPrefixLenAt (g.P.Bound.bytes bound) (g.P.Bound.below bound) (g.P.Bound.target bound)
-    c.args.place.common_prefix_len es 0) (entries_are g h) c.requires.searched.known in (
-      omega (arith, c.requires.changeable.few),
-      (
-        record {
-          headed = headed_at (g.P.Bound.bytes bound) c.args.nodes.now c.args.slot c.header_ref-leaf.result.now c.requires.searched.headed
+    omega (arith, ap (λ (es : List Entry). length es) (entries_are g h), c.requires.can_change.changeable.some) in (
+      omega (arith, c.requires.can_change.changeable.few),
+      record {
+        can_find = record {
+          headed = headed_at (g.P.Bound.bytes bound) c.args.nodes.now c.args.slot c.header_ref-leaf.result.now c.requires.can_change.searched.headed
               c.header_ref-leaf.ensures.header;
           partitioned = partitioned_is g h;
           some = some;
-        },
-        known,
-      ),
+        };
+        known = subst (λ es. IsPrefixLenAt (g.P.Bound.bytes bound) (g.P.Bound.below bound) (g.P.Bound.target bound)
+            c.args.place.common_prefix_len es 0) (entries_are g h) c.requires.can_change.searched.known;
+      },
     )
 
 -- Where no entry passes, no item does.
@@ -64,7 +62,7 @@ returns-then-below-eq0-clause-items g c =
     let es = entries_of c.header_ref-leaf.result.now in
     let none : items_below p (map item_of es) ≡ [] =
     (items_parted p es 0 (partitioned_is g h) (omega (arith, c.lower_bound-below.ensures.count.count_is, c.if-below-eq0.true))).0 in (
-      λ _. (refl, ap (λ (l : List Entry). map item_of l) c.requires.none_taken),
+      λ _. (refl, ap (λ (l : List Entry). map item_of l) c.requires.can_change.none_taken),
       λ some. absurd (some (ap (λ es. items_below p (map item_of es)) (entries_are g h) ∙ none)),
     )
 
@@ -129,7 +127,7 @@ module _ (g : given.Over) (c : After-has_expired g) where
 
 pub returns-then-not-has_expired-clause-changed : goal.returns-then-not-has_expired-clause-changed
 returns-then-not-has_expired-clause-changed g c =
-    unchanged (g.P.Bound.bytes c.args.self.now.bound.now) c.args.nodes.now 0 c.args.slot c.requires.changeable c.requires.searched.headed
+    unchanged (g.P.Bound.bytes c.args.self.now.bound.now) c.args.nodes.now 0 c.args.slot c.requires.can_change.changeable c.requires.can_change.searched.headed
 
 -- Where none goes, all stay.
 pub returns-then-not-has_expired-clause-items : goal.returns-then-not-has_expired-clause-items
@@ -137,7 +135,7 @@ returns-then-not-has_expired-clause-items g c =
     let at = goal.at.returns-then-not-has_expired-clause-items g c in
     let t = at.After-has_expired in
     let h = at.After-header_ref-leaf in
-    let out : map item_of c.args.taken.now.items ≡ [] = ap (λ (l : List Entry). map item_of l) c.requires.none_taken in
+    let out : map item_of c.args.taken.now.items ≡ [] = ap (λ (l : List Entry). map item_of l) c.requires.can_change.none_taken in
     let looked_is : expired (edge g t) (before g t) (map item_of (run c.entries-2.result.now (begin g t) (end g t)))
     ≡ expired (edge g t) (before g t) (looked g t) =
     ap (λ xs. expired (edge g t) (before g t) (map item_of (run xs (begin g t) (end g t)))) c.entries-2.ensures.entries in
@@ -154,16 +152,16 @@ returns-then-not-has_expired-clause-items g c =
 pub lengthen_prefix-requires : goal.lengthen_prefix-requires
 lengthen_prefix-requires g c =
     let bytes = g.P.Bound.bytes c.args.self.now.bound.now in
-    let was = headed_at bytes c.args.nodes.now c.args.slot c.header_mut-leaf.result.now c.requires.searched.headed
+    let was = headed_at bytes c.args.nodes.now c.args.slot c.header_mut-leaf.result.now c.requires.can_change.searched.headed
     c.header_mut-leaf.ensures.header in
-    (omega (arith, c.requires.changeable.few), c.remove_expired.ensures.headed bytes was)
+    (omega (arith, c.requires.can_change.changeable.few), c.remove_expired.ensures.headed bytes was)
 
 pub returns-clause-changed : goal.returns-clause-changed
 returns-clause-changed g c =
     let bytes = g.P.Bound.bytes c.args.self.now.bound.now in
     let node = c.lengthen_prefix.new.self in
     leaf_put bytes c.args.nodes.now (with_header c.args.nodes.now c.args.slot node) c.args.slot node Changed refl
-    c.requires.changeable c.requires.searched.headed c.lengthen_prefix.ensures.headed refl (λ e. absurd (cc))
+    c.requires.can_change.changeable c.requires.can_change.searched.headed c.lengthen_prefix.ensures.headed refl (λ e. absurd (cc))
     (λ version e. absurd (cc))
 
 pub returns-clause-items : goal.returns-clause-items

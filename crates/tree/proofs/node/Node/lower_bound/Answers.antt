@@ -9,11 +9,11 @@ head_for-head-requires g c =
     let bound = c.args.bound.now in (
       search rules,
       (
-        c.requires.can_find.headed,
+        c.requires.can_step.can_find.headed,
         (
-          c.requires.can_find.some,
+          c.requires.can_step.can_find.some,
           begin_alike (g.P.Bound.bytes bound) (g.P.Bound.bytes bound) (g.P.Bound.below bound) (g.P.Bound.target bound)
-              (g.P.Bound.target bound) (entries_of c.args.self.now) c.args.common_prefix_len c.unwrap_or.result c.requires.known
+              (g.P.Bound.target bound) (entries_of c.args.self.now) c.args.common_prefix_len c.unwrap_or.result c.requires.can_step.known
               (omega (arith, c.unwrap_or.ensures)) refl (λ key. refl),
         ),
       ),
@@ -23,12 +23,9 @@ pub lower_bound_with-requires : goal.lower_bound_with-requires
 lower_bound_with-requires g c =
     let bound = c.args.bound.now in (
       search rules,
-      (
-        c.requires.can_find,
-        (
-          c.requires.known,
-          subst (λ n. IsOwnHead (g.P.Bound.bytes bound) (g.P.Bound.target bound) n c.head_for-head.result (key_heads_of c.args.self.now))
-              c.unwrap_or.ensures c.head_for-head.ensures.head,
-        ),
-      ),
+      record {
+        can_step = c.requires.can_step;
+        head = subst (λ n. IsOwnHead (g.P.Bound.bytes bound) (g.P.Bound.target bound) n c.head_for-head.result (key_heads_of c.args.self.now))
+            c.unwrap_or.ensures c.head_for-head.ensures.head;
+      },
     )

@@ -8,28 +8,30 @@ use Rattle.tree.proofs.node.Node.lower_bound_with.Goals as goal
 
 pub returns-in-None : goal.returns-in-None
 returns-in-None g c =
+    let can = c.requires.can_step.can_step in
     let es = entries_of c.args.self.now in
     let bound = c.args.bound.now in
-    let e = entry_at es 0 c.requires.can_find.some in
+    let e = entry_at es 0 can.can_find.some in
     let fails = subst (λ o. IsPrefixLen (g.P.Bound.bytes bound) (g.P.Bound.below bound) (g.P.Bound.target bound) o e.0.key)
-    c.in-None.is (c.requires.known e.0 e.1) in
-    let none = passing_before (λ (e : Entry). g.P.Bound.below bound e.key) es 0 e.0 c.requires.can_find.partitioned e.1 fails in
+    c.in-None.is (can.known e.0 e.1) in
+    let none = passing_before (λ (e : Entry). g.P.Bound.below bound e.key) es 0 e.0 can.can_find.partitioned e.1 fails in
     record { count = record { within = omega (arith); count_is = omega (arith, none) } }
 
 pub lower_bound_by_head-requires : goal.lower_bound_by_head-requires
 lower_bound_by_head-requires g c =
+    let can = c.requires.can_step.can_step in
     let bound = c.args.bound.now in
     let known = subst (λ o. IsPrefixLenAt (g.P.Bound.bytes bound) (g.P.Bound.below bound) (g.P.Bound.target bound) o
-    (entries_of c.args.self.now) 0) c.in-Some.is c.requires.known in (
+    (entries_of c.args.self.now) 0) c.in-Some.is can.known in (
       search rules,
       (
-        c.requires.can_find,
+        can.can_find,
         (
-          c.requires.head.head,
+          c.requires.can_step.head.head,
           (λ none. all_known
-              (g.P.Bound.bytes bound) c.args.self.now c.requires.can_find.headed (g.P.Bound.target bound) (g.P.Bound.below bound)
-              (g.met.P.Bound.order bound) c.in-Some.field-0 c.requires.can_find.some known
-              (λ filled. omega (arith, c.requires.head.none none filled, ap (λ o. unwrap_or o 0) c.in-Some.is))),
+              (g.P.Bound.bytes bound) c.args.self.now can.can_find.headed (g.P.Bound.target bound) (g.P.Bound.below bound)
+              (g.met.P.Bound.order bound) c.in-Some.field-0 can.can_find.some known
+              (λ filled. omega (arith, c.requires.can_step.head.none none filled, ap (λ o. unwrap_or o 0) c.in-Some.is))),
         ),
       ),
     )

@@ -21,8 +21,8 @@ known g c =
     let one = c.args.self.now in
     let other = c.args.right.now in
     subst (λ es. All P (keys_of es)) (sym c.redistribute.ensures.entries)
-    (keys_of_both P (entries_of one) (entries_of other) (all_known bytes (key_heads_of one) c.requires.headed)
-    (all_known bytes (key_heads_of other) c.requires.right_headed))
+    (keys_of_both P (entries_of one) (entries_of other) (all_known bytes (key_heads_of one) c.requires.headed.left)
+    (all_known bytes (key_heads_of other) c.requires.headed.right))
 
 pub compute_heads-requires : goal.compute_heads-requires
 compute_heads-requires g c = (
@@ -73,7 +73,7 @@ both_headed g c is_alike =
     sym (map-append key (entries_of left) (entries_of right)) ∙ ap keys_of c.redistribute.ensures.entries
     ∙ map-append key (entries_of one) (entries_of other) in
     headed_shared bytes (key_heads_of one) (key_heads_of other) (key_heads_of left) (key_heads_of right)
-    c.requires.headed c.requires.right_headed first.key begin.0 there begin.1 keys c.redistribute.ensures.heads.heads_are
+    c.requires.headed.left c.requires.headed.right first.key begin.0 there begin.1 keys c.redistribute.ensures.heads.heads_are
     (c.redistribute.ensures.heads.count ∙ sym (length-map (entries_of left) key))
     c.redistribute.ensures.heads.prefix_len c.redistribute.ensures.heads.right_prefix_len
 

@@ -23,13 +23,14 @@ record AreBoth (g : given.Over) (c : After-redistribute g) : Type 0 where
 
 both : (g : given.Over) (c : After-redistribute g) → AreBoth g c
 both g c =
+    let can = c.requires.can_splice in
     let node = c.args.self.now in
     let es = entries_of node in
     let hs = (key_heads_of node).heads in
     let from = c.args.from in
     let to = c.args.to in
     let within : to ≤ length hs =
-    omega (arith, c.requires.within, heads_count (g.P.Bound.bytes c.args.bound.now) es (key_heads_of node) c.requires.headed refl) in
+    omega (arith, can.within, heads_count (g.P.Bound.bytes c.args.bound.now) es (key_heads_of node) can.headed refl) in
     let split = c.split_off-right in
     elim c.if-from-new.branch [
       | then-from-new w ↦ record {
@@ -37,13 +38,13 @@ both g c =
             ∙ ap₂ (λ l r. entries_of l ++ entries_of r) w.self-is w.right-is
             ∙ ap₂ (λ xs ys. xs ++ ys) (w.splice.ensures.entries ∙ ap (λ xs. take from xs ++ (c.args.new.now ++ drop to xs)) split.ensures.left)
             split.ensures.right
-            ∙ apart_spliced es c.args.new.now from to c.requires.ordered c.requires.within;
+            ∙ apart_spliced es c.args.new.now from to can.ordered can.within;
         heads = c.redistribute.ensures.heads.heads_are
             ∙ ap₂ (λ l r. (key_heads_of l).heads ++ (key_heads_of r).heads) w.self-is w.right-is
             ∙ ap₂ (λ xs ys. xs ++ ys) (w.splice.ensures.heads.heads_are
             ∙ ap (λ xs. take from xs ++ (c.args.heads.now ++ drop to xs)) split.ensures.left_heads.heads_are)
             split.ensures.right_heads.heads_are
-            ∙ apart_spliced hs c.args.heads.now from to c.requires.ordered within;
+            ∙ apart_spliced hs c.args.heads.now from to can.ordered within;
         prefix_len = c.redistribute.ensures.heads.prefix_len ∙ ap (λ l. (key_heads_of l).prefix_len) w.self-is
             ∙ w.splice.ensures.heads.prefix_len ∙ split.ensures.left_heads.prefix_len;
         right_prefix_len = c.redistribute.ensures.heads.right_prefix_len ∙ ap (λ r. (key_heads_of r).prefix_len) w.right-is
@@ -54,14 +55,14 @@ both g c =
             ∙ ap₂ (λ l r. entries_of l ++ entries_of r) w.self-is w.right-is
             ∙ ap₂ (λ xs ys. xs ++ ys) (w.splice-else-from-new.ensures.entries ∙ ap (λ xs. take from xs ++ ([] ++ drop to xs)) split.ensures.left)
             (w.splice-else-from-new-2.ensures.entries ∙ ap (λ xs. take 0 xs ++ (c.args.new.now ++ drop 0 xs)) split.ensures.right)
-            ∙ apart_prepended es c.args.new.now from to c.requires.ordered c.requires.within;
+            ∙ apart_prepended es c.args.new.now from to can.ordered can.within;
         heads = c.redistribute.ensures.heads.heads_are
             ∙ ap₂ (λ l r. (key_heads_of l).heads ++ (key_heads_of r).heads) w.self-is w.right-is
             ∙ ap₂ (λ xs ys. xs ++ ys) (w.splice-else-from-new.ensures.heads.heads_are
             ∙ ap (λ xs. take from xs ++ ([] ++ drop to xs)) split.ensures.left_heads.heads_are)
             (w.splice-else-from-new-2.ensures.heads.heads_are
             ∙ ap (λ xs. take 0 xs ++ (c.args.heads.now ++ drop 0 xs)) split.ensures.right_heads.heads_are)
-            ∙ apart_prepended hs c.args.heads.now from to c.requires.ordered within;
+            ∙ apart_prepended hs c.args.heads.now from to can.ordered within;
         prefix_len = c.redistribute.ensures.heads.prefix_len ∙ ap (λ l. (key_heads_of l).prefix_len) w.self-is
             ∙ w.splice-else-from-new.ensures.heads.prefix_len ∙ split.ensures.left_heads.prefix_len;
         right_prefix_len = c.redistribute.ensures.heads.right_prefix_len ∙ ap (λ r. (key_heads_of r).prefix_len) w.right-is
@@ -74,6 +75,7 @@ both_headed : (g : given.Over) (c : After-redistribute g) → c.args.alike ≡ t
     → AreHeads (g.P.Bound.bytes c.args.bound.now) (key_heads_of c.redistribute.new.self)
     × AreHeads (g.P.Bound.bytes c.args.bound.now) (key_heads_of c.redistribute.new.right)
 both_headed g c alike =
+    let can = c.requires.can_splice in
     let bytes = g.P.Bound.bytes c.args.bound.now in
     let key : Entry → ℕ = λ e. e.key in
     let node = c.args.self.now in
@@ -88,8 +90,8 @@ both_headed g c alike =
       heads = (key_heads_of left).heads ++ (key_heads_of right).heads;
     } in
     headed_apart bytes all (key_heads_of left) (key_heads_of right)
-    (headed_spliced bytes (key_heads_of node) all c.requires.headed (keys_of new) c.args.heads.now c.args.from c.args.to c.requires.known
-    (c.requires.alike alike) (map_spliced key (entries_of node) new es c.args.from c.args.to b.entries) refl b.heads)
+    (headed_spliced bytes (key_heads_of node) all can.headed (keys_of new) c.args.heads.now c.args.from c.args.to can.known
+    (can.beside alike) (map_spliced key (entries_of node) new es c.args.from c.args.to b.entries) refl b.heads)
     (sym (map-append key (entries_of left) (entries_of right))) refl
     (c.redistribute.ensures.heads.count ∙ sym (length-map (entries_of left) key)) b.prefix_len b.right_prefix_len
 
@@ -97,11 +99,12 @@ both_headed g c alike =
 known : (g : given.Over) (c : After-redistribute g)
     → All (IsKnown (g.P.Bound.bytes c.args.bound.now)) (keys_of (entries_of c.redistribute.new.self ++ entries_of c.redistribute.new.right))
 known g c =
+    let can = c.requires.can_splice in
     let key : Entry → ℕ = λ e. e.key in
     let node = c.args.self.now in
     let es = entries_of c.redistribute.new.self ++ entries_of c.redistribute.new.right in
-    known_spliced (g.P.Bound.bytes c.args.bound.now) (key_heads_of node) c.requires.headed (keys_of c.args.new.now) (keys_of es)
-    c.args.from c.args.to c.requires.known (map_spliced key (entries_of node) c.args.new.now es c.args.from c.args.to (both g c).entries)
+    known_spliced (g.P.Bound.bytes c.args.bound.now) (key_heads_of node) can.headed (keys_of c.args.new.now) (keys_of es)
+    c.args.from c.args.to can.known (map_spliced key (entries_of node) c.args.new.now es c.args.from c.args.to (both g c).entries)
 
 pub lengthen_prefix-requires : goal.lengthen_prefix-requires
 lengthen_prefix-requires g c =

@@ -42,7 +42,7 @@ leaf_headed : (g : given.Over) (c : After-header_ref-leaf g)
     → AreHeads (g.Q.Bound.bytes c.args.self.now.new.now.to.now) (key_heads_of c.header_ref-leaf.result.now)
 leaf_headed g c =
     headed_at (g.Q.Bound.bytes c.args.self.now.new.now.to.now) c.args.nodes.now c.args.slot c.header_ref-leaf.result.now
-    c.requires.searched.headed c.header_ref-leaf.ensures.header
+    c.requires.can_change.searched.headed c.header_ref-leaf.ensures.header
 
 from_headed : (g : given.Over) (c : After-header_ref-leaf g)
     → AreHeads (g.P.Bound.bytes c.args.self.now.new.now.from.now) (key_heads_of c.header_ref-leaf.result.now)
@@ -66,7 +66,7 @@ entries_are g c =
 
 some_entry : (g : given.Over) (c : After-header_ref-leaf g) → 0 < length (entries_of c.header_ref-leaf.result.now)
 some_entry g c =
-    omega (arith, ap (λ (es : List Entry). length es) (entries_are g c), c.requires.changeable.some)
+    omega (arith, ap (λ (es : List Entry). length es) (entries_are g c), c.requires.can_change.changeable.some)
 
 -- what is known of its first key
 first_known : (g : given.Over) (c : After-header_ref-leaf g)
@@ -75,7 +75,7 @@ first_known : (g : given.Over) (c : After-header_ref-leaf g)
 first_known g c =
     let to = c.args.self.now.new.now.to.now in
     subst (λ es. IsPrefixLenAt (g.Q.Bound.bytes to) (g.Q.Bound.below to) (g.Q.Bound.target to) c.args.place.common_prefix_len es 0)
-    (entries_are g c) c.requires.searched.known
+    (entries_are g c) c.requires.can_change.searched.known
 
 -- the bounds of the leaf
 below_from : (g : given.Over) (c : After-header_ref-leaf g)
@@ -85,7 +85,7 @@ below_from g c =
     let p = g.P.Bound.below c.args.self.now.new.now.from.now in
     subst (λ es. IsPartitioned (λ (e : Entry). p e.key) es) (entries_are g c)
     (entries_of_partitioned p (entries_at c.args.nodes.now c.args.slot)
-    (part_partitioned p (items_in c.args.nodes.now 0 c.args.slot) c.requires.wanted))
+    (part_partitioned p (items_in c.args.nodes.now 0 c.args.slot) c.requires.can_change.wanted))
 
 below_to : (g : given.Over) (c : After-header_ref-leaf g)
     → IsPartitioned (λ (e : Entry). g.Q.Bound.below c.args.self.now.new.now.to.now e.key)
@@ -93,7 +93,7 @@ below_to : (g : given.Over) (c : After-header_ref-leaf g)
 below_to g c =
     let q = g.Q.Bound.below c.args.self.now.new.now.to.now in
     subst (λ es. IsPartitioned (λ (e : Entry). q e.key) es) (entries_are g c)
-    (entries_of_partitioned q (entries_at c.args.nodes.now c.args.slot) c.requires.searched.partitioned)
+    (entries_of_partitioned q (entries_at c.args.nodes.now c.args.slot) c.requires.can_change.searched.partitioned)
 
 pub head_for-to_head-requires : goal.head_for-to_head-requires
 head_for-to_head-requires g c =
@@ -101,7 +101,7 @@ head_for-to_head-requires g c =
     let to = c.args.self.now.new.now.to.now in
     let bytes = g.Q.Bound.bytes to in
     let target = g.Q.Bound.target to in (
-      omega (arith, c.requires.changeable.few),
+      omega (arith, c.requires.can_change.changeable.few),
       (
         leaf_headed g h,
         (
@@ -117,15 +117,15 @@ pub lower_bound_with-end-requires : goal.lower_bound_with-end-requires
 lower_bound_with-end-requires g c =
     let h = (goal.at.lower_bound_with-end-requires g c).After-header_ref-leaf in
     let to = c.args.self.now.new.now.to.now in (
-      omega (arith, c.requires.changeable.few),
-      (
-        record { headed = leaf_headed g h; partitioned = below_to g h; some = some_entry g h },
-        (
-          first_known g h,
-          subst (λ n. IsOwnHead (g.Q.Bound.bytes to) (g.Q.Bound.target to) n c.head_for-to_head.result
-              (key_heads_of c.header_ref-leaf.result.now)) c.unwrap_or-alike.ensures c.head_for-to_head.ensures.head,
-        ),
-      ),
+      omega (arith, c.requires.can_change.changeable.few),
+      record {
+        can_step = record {
+          can_find = record { headed = leaf_headed g h; partitioned = below_to g h; some = some_entry g h };
+          known = first_known g h;
+        };
+        head = subst (λ n. IsOwnHead (g.Q.Bound.bytes to) (g.Q.Bound.target to) n c.head_for-to_head.result
+            (key_heads_of c.header_ref-leaf.result.now)) c.unwrap_or-alike.ensures c.head_for-to_head.ensures.head;
+      },
     )
 
 -- The target of the first bound begins as all keys do, where that is told.
@@ -152,7 +152,7 @@ head_given-head-requires g c =
     let new = c.args.self.now.new.now in
     let from = g.P.Bound.target new.from.now in
     let to = g.Q.Bound.target new.to.now in (
-      omega (arith, c.requires.changeable.few),
+      omega (arith, c.requires.can_change.changeable.few),
       (
         from_headed g h,
         (
@@ -174,7 +174,7 @@ lower_bound_back-begin-requires g c =
     let new = c.args.self.now.new.now in
     let p = g.P.Bound.below new.from.now in
     let q = g.Q.Bound.below new.to.now in (
-      omega (arith, c.requires.changeable.few),
+      omega (arith, c.requires.can_change.changeable.few),
       (
         record { headed = from_headed g h; partitioned = below_from g h; some = some_entry g h },
         (
@@ -246,7 +246,7 @@ taken_out g c in_order =
     let all : begin + (end - begin) ≡ end = omega (arith, in_order) in
     let run_is : slice_range es begin end ≡ drop begin (take end es) =
     sym (drop-take begin (end - begin) es) ∙ ap (λ n. drop begin (take n es)) all in
-    ap (λ (l : List Entry). map item_of l) (put ∙ ap (λ (l : List Entry). l ++ slice_range out begin end) c.requires.none_taken
+    ap (λ (l : List Entry). map item_of l) (put ∙ ap (λ (l : List Entry). l ++ slice_range out begin end) c.requires.can_change.none_taken
     ∙ ap (λ (l : List Entry). slice_range l begin end) c.entries.ensures.entries ∙ run_is)
 
 -- An item before the run is in the leaf, or none stands before the leaf's, of which one passes.
@@ -308,7 +308,7 @@ overflow_add-begin g c =
     omega (
       arith,
       few_new g at.Joined-ended,
-      c.requires.changeable.few,
+      c.requires.can_change.changeable.few,
       ordered g at.After-lower_bound_back-begin,
       c.lower_bound_with-end.ensures.count.within,
       c.len.ensures.len,
@@ -345,7 +345,7 @@ split-added-requires g c =
     let h = at.After-header_ref-leaf in
     let j = at.Joined-ended in
     let bytes = g.Q.Bound.bytes c.args.self.now.new.now.to.now in
-    let can = c.requires.changeable in
+    let can = c.requires.can_change.changeable in
     let heads = take (length c.if-ended.entries.now) (c.unwrap_or-2.result ∷ c.unwrap_or-3.result ∷ []) in
     let same : length (entries_at c.args.nodes.now c.args.slot) ≡ length (entries_of c.header_ref-leaf.result.now) =
     ap (λ (es : List Entry). length es) (entries_are g h) in (
@@ -366,7 +366,7 @@ split-added-requires g c =
           c.len-2.ensures.len,
           c.len-2.ensures.most,
         );
-        headed = c.requires.searched.headed;
+        headed = c.requires.can_change.searched.headed;
         known = new_known g j;
         same_len = length-take-le (length c.if-ended.entries.now) (c.unwrap_or-2.result ∷ c.unwrap_or-3.result ∷ []) (few_new g j);
         beside = λ alike. subst (λ o. IfSome (option_map key_heads_of o) (λ own. AreHeadsBeside bytes own (keys_of c.if-ended.entries.now) heads))
@@ -386,33 +386,25 @@ splice_with_heads-requires g c =
     let same : read ≡ leaf = cc in
     let size : length (entries_of read) ≡ length (entries_of leaf) =
     ap (λ (node : Node g.row.N). length (entries_of node)) same in (
-      omega (arith, c.requires.changeable.few),
+      omega (arith, c.requires.can_change.changeable.few),
       (
-        ordered g at.After-lower_bound_back-begin,
-        (
-          omega (arith, size, c.lower_bound_with-end.ensures.count.within),
-          (
-            length-take-le (length c.if-ended.entries.now) (c.unwrap_or-2.result ∷ c.unwrap_or-3.result ∷ []) (few_new g j),
-            (
-              omega (
-                arith,
-                size,
-                c.if-begin-entries.false,
-                c.len-2.ensures.len,
-                c.len-2.ensures.most,
-                c.lower_bound_with-end.ensures.count.within,
-              ),
-              (
-                subst (λ (node : Node g.row.N). AreHeads bytes (key_heads_of node)) same (leaf_headed g h),
-                (
-                  new_known g j,
-                  λ alike. subst (λ (node : Node g.row.N). AreHeadsBeside bytes (key_heads_of node) (keys_of c.if-ended.entries.now)
-                      (take (length c.if-ended.entries.now) (c.unwrap_or-2.result ∷ c.unwrap_or-3.result ∷ []))) same
-                      (heads_beside g at.Joined-is_some-2 (second_key g j) (new_is g j) alike),
-                ),
-              ),
-            ),
-          ),
+        record {
+          ordered = ordered g at.After-lower_bound_back-begin;
+          within = omega (arith, size, c.lower_bound_with-end.ensures.count.within);
+          same_len = length-take-le (length c.if-ended.entries.now) (c.unwrap_or-2.result ∷ c.unwrap_or-3.result ∷ []) (few_new g j);
+          headed = subst (λ (node : Node g.row.N). AreHeads bytes (key_heads_of node)) same (leaf_headed g h);
+          known = new_known g j;
+          beside = λ alike. subst (λ (node : Node g.row.N). AreHeadsBeside bytes (key_heads_of node) (keys_of c.if-ended.entries.now)
+              (take (length c.if-ended.entries.now) (c.unwrap_or-2.result ∷ c.unwrap_or-3.result ∷ []))) same
+              (heads_beside g at.Joined-is_some-2 (second_key g j) (new_is g j) alike);
+        },
+        omega (
+          arith,
+          size,
+          c.if-begin-entries.false,
+          c.len-2.ensures.len,
+          c.len-2.ensures.most,
+          c.lower_bound_with-end.ensures.count.within,
         ),
       ),
     )
@@ -524,9 +516,9 @@ returns-then-not-place-clause-changed g c =
     let slot = c.args.slot in
     let node = c.remove.new.self in
     let headed = c.remove.ensures.headed bytes
-    (headed_at bytes old slot c.header_mut.result.now c.requires.searched.headed c.header_mut.ensures.header) in
-    leaf_put bytes old (with_header old slot node) slot node Changed refl c.requires.changeable
-    c.requires.searched.headed headed refl (λ e. absurd (cc)) (λ version e. absurd (cc))
+    (headed_at bytes old slot c.header_mut.result.now c.requires.can_change.searched.headed c.header_mut.ensures.header) in
+    leaf_put bytes old (with_header old slot node) slot node Changed refl c.requires.can_change.changeable
+    c.requires.can_change.searched.headed headed refl (λ e. absurd (cc)) (λ version e. absurd (cc))
 
 pub returns-then-not-place-clause-items : goal.returns-then-not-place-clause-items
 returns-then-not-place-clause-items g c =
@@ -589,8 +581,8 @@ returns-then-begin-entries-clause-changed g c =
       subtree = split.stored.live;
       neighbour = split.stored.live_added;
       filled = (
-        omega (arith, split.stored.filled.0, c.requires.changeable.fan_out),
-        omega (arith, split.stored.filled.1, c.requires.changeable.fan_out),
+        omega (arith, split.stored.filled.left, c.requires.can_change.changeable.fan_out),
+        omega (arith, split.stored.filled.right, c.requires.can_change.changeable.fan_out),
       );
       few_less = λ high. absurd (omega (arith, high));
       changes = split.stored.changes;
@@ -629,7 +621,7 @@ returns-then-begin-eq0-2-clause-changed g c =
     let slot = c.args.slot in
     let node = c.splice_with_heads.new.self in
     leaf_put (g.Q.Bound.bytes c.args.self.now.new.now.to.now) old (with_header old slot node) slot node Changed refl
-    c.requires.changeable c.requires.searched.headed c.splice_with_heads.ensures.headed refl (λ e. absurd (cc))
+    c.requires.can_change.changeable c.requires.can_change.searched.headed c.splice_with_heads.ensures.headed refl (λ e. absurd (cc))
     (λ version e. absurd (cc))
 
 pub returns-then-begin-eq0-2-clause-items : goal.returns-then-begin-eq0-2-clause-items
@@ -702,14 +694,14 @@ returns-clause-changed g c =
     c.lower_bound_back-begin.ensures.count.count_is) in
     let first_stays : IsRaised new.first.version was now =
     raised (p g j) (q g j) new.nested (item_of new.first) new.second c.if-end-len.ended was now
-    (part_partitioned (p g j) was c.requires.wanted) some gives.some
+    (part_partitioned (p g j) was c.requires.can_change.wanted) some gives.some
     (subst (λ o. IsOverwritten (p g j) (q g j) (item_of new.first) new.second o c.if-end-len.ended was now) none
     gives.written) in
     let version = new.first.version in
     let fits : SFits w64 version = search rules in
     let kept : to_z w64 (of_z w64 version) ≡ version = to_z-of_z w64 version fits in
     leaf_put (g.Q.Bound.bytes new.to.now) old (with_header old slot node) slot node
-    (Raised (to_z w64 (of_z w64 version))) refl c.requires.changeable c.requires.searched.headed
+    (Raised (to_z w64 (of_z w64 version))) refl c.requires.can_change.changeable c.requires.can_change.searched.headed
     c.splice_with_heads.ensures.headed refl (λ e. absurd (cc))
     (λ told e.
     let same : to_z w64 (of_z w64 version) ≡ told = cc in

@@ -1,12 +1,12 @@
-use Rattle.std.proofs.Common.{rules, ◌≡◌, ◌≢◌, ◌≤◌, ◌+◌, ◌-◌, ◌∙◌, ℕ, Bool, length, ap, sym, subst, arith}
-use Rattle.std.proofs.Common.{List, [], map, Fits, w64}
+use Rattle.std.proofs.Common.{rules, ◌≡◌, ◌≤◌, ◌+◌, ◌-◌, ◌∙◌, length, sym, subst, arith}
+use Rattle.std.proofs.Common.{[], map, Fits, w64}
 use Rattle.std.proofs.lemmas.List.{append-nil, length-map}
-use Rattle.tree.specs.Heads.{AllAreHeads}
 use Rattle.tree.specs.Item.{Item, item_of}
-use Rattle.tree.specs.Overwrite.{Overwrites, put_of}
-use Rattle.tree.specs.Path.{IsPartitioned, items_below}
+use Rattle.tree.specs.Overwrite.{CanOverwrite, Overwrites, put_of}
+use Rattle.tree.specs.Node.{heads_list}
+use Rattle.tree.specs.Path.{IsPartitioned}
 use Rattle.tree.specs.Subtree.{items_in}
-use Rattle.tree.specs.Tree.{Items, tree_heads}
+use Rattle.tree.specs.Tree.{Items}
 use Rattle.tree.proofs.Counting.{low, enough_spare}
 use Rattle.tree.proofs.HeadList.{headed_from_list, headed_in_list}
 use Rattle.tree.proofs.Inserting.{tree_put}
@@ -22,37 +22,32 @@ pub change-requires : goal.change-requires
 change-requires g c =
     let t = c.self.inside in
     let new = c.args.new.now in
-    let bytes = g.Q.Bound.bytes new.to.now in
-    let KeyBound : (ℕ → Bool) → List Item → Type 0 = λ is_below items. IsPartitioned (λ (x : Item). is_below x.key) items in
-    let items = items_in t.nodes t.root.height t.root.slot in
-    let items_are = sym (ap (λ v. v.items) c.self.view_is) in
+    let p = g.P.Bound.below new.from.now in
+    let can = subst (λ (v : Items). CanOverwrite p (g.Q.Bound.below new.to.now) (g.R.Bound.below new.past.now) (g.Q.Bound.bytes new.to.now) v
+    c.args.taken.now.items) (sym c.self.view_is) c.requires.can_overwrite in
     let height = low t.nodes t.root.slot t.root.height t.len t.room c.self.invariant (omega arith) in
-    let spare = enough_spare t.nodes t.root.slot t.root.height t.len t.room c.self.invariant in
-    let from = g.P.Bound.below new.from.now in (
+    let spare = enough_spare t.nodes t.root.slot t.root.height t.len t.room c.self.invariant in (
       omega (arith, c.self.invariant.few),
       (
         omega (arith, c.self.invariant.few),
-        (
-          record {
+        record {
+          changeable = record {
             fan_out = c.self.invariant.fan_out;
             few = c.self.invariant.few;
             low = height;
             rooted = c.self.invariant.rooted;
             some = root_some t.nodes t.root.slot t.root.height t.len t.room c.self.invariant;
             room = omega (arith, height, spare);
-          },
-          (
-            subst (KeyBound (g.Q.Bound.below new.to.now)) items_are c.requires.to,
-            (
-              headed_from_list bytes t.nodes
-                  (subst (λ (v : Items). AllAreHeads bytes (tree_heads v)) (sym c.self.view_is) c.requires.headed),
-              (
-                ([], [], subst (KeyBound from) (sym (append-nil items)) (subst (KeyBound from) items_are c.requires.from)),
-                c.requires.none_taken,
-              ),
-            ),
-          ),
-        ),
+          };
+          partitioned = can.to;
+          headed = headed_from_list (g.Q.Bound.bytes new.to.now) t.nodes can.headed;
+          wanted = (
+            [],
+            [],
+            subst (λ items. IsPartitioned (λ (x : Item). p x.key) items) (sym (append-nil (items_in t.nodes t.root.height t.root.slot))) can.from,
+          );
+          none_taken = can.none_taken;
+        },
       ),
     )
 
@@ -66,12 +61,18 @@ Done g c =
     (item_of new.first) new.second new.last n.change.written (map item_of n.taken.items)
     (items_in t.nodes t.root.height t.root.slot) (items_in n.nodes n.root.height n.root.slot)
 
-some_pass : (g : given.Over) (c : After-change g)
-    → items_below (g.Q.Bound.below c.args.new.now.to.now)
-    (items_in c.self.inside.nodes c.self.inside.root.height c.self.inside.root.slot) ≢ []
-some_pass g c none =
-    c.requires.some
-    (ap (λ (v : Items). items_below (g.Q.Bound.below c.args.new.now.to.now) v.items) (sym c.self.view_is) ∙ none)
+-- what is asked of the tree's nodes
+can : (g : given.Over) (c : After-change g)
+    → CanOverwrite (g.P.Bound.below c.args.new.now.from.now) (g.Q.Bound.below c.args.new.now.to.now)
+    (g.R.Bound.below c.args.new.now.past.now) (g.Q.Bound.bytes c.args.new.now.to.now) (record {
+      items = items_in c.self.inside.nodes c.self.inside.root.height c.self.inside.root.slot;
+      room = c.self.inside.room;
+      all_heads = heads_list c.self.inside.nodes;
+    }) c.args.taken.now.items
+can g c =
+    let new = c.args.new.now in
+    subst (λ (v : Items). CanOverwrite (g.P.Bound.below new.from.now) (g.Q.Bound.below new.to.now) (g.R.Bound.below new.past.now)
+    (g.Q.Bound.bytes new.to.now) v c.args.taken.now.items) (sym c.self.view_is) c.requires.can_overwrite
 
 done : (g : given.Over) (c : After-change g) → Done g c
 done g c =
@@ -81,12 +82,9 @@ done g c =
     let p = g.P.Bound.below new.from.now in
     let q = g.Q.Bound.below new.to.now in
     let past = g.R.Bound.below new.past.now in
-    let KeyBound : (ℕ → Bool) → List Item → Type 0 = λ is_below items. IsPartitioned (λ (x : Item). is_below x.key) items in
-    let items_are = sym (ap (λ v. v.items) c.self.view_is) in
     overwritten p q past new.nested (item_of new.first) new.second new.last n.change.written (map item_of n.taken.items)
     (items_in t.nodes t.root.height t.root.slot) (items_in n.nodes n.root.height n.root.slot) c.change.ensures.items
-    (subst (KeyBound p) items_are c.requires.from) (subst (KeyBound q) items_are c.requires.to)
-    (subst (KeyBound past) items_are c.requires.past) (some_pass g c)
+    (can g c).from (can g c).to (can g c).past (can g c).some
 
 -- how many items there are
 abbrev Counted : (g : given.Over) → After-change g → Type 0
@@ -105,22 +103,16 @@ counted g c =
     length-overwritten (g.P.Bound.below new.from.now) (g.Q.Bound.below new.to.now)
     (g.R.Bound.below new.past.now) new.nested (item_of new.first) new.second new.last n.change.written
     (map item_of n.taken.items) (items_in t.nodes t.root.height t.root.slot) (items_in n.nodes n.root.height n.root.slot)
-    (some_pass g c) (done g c)
+    (can g c).some (done g c)
 
 taken_is : (g : given.Over) (c : After-len g) → c.len.result ≡ length (map item_of c.change.new.taken.items)
 taken_is g c = c.len.ensures.value ∙ sym (length-map c.change.new.taken.items item_of)
-
--- there is room for one or two more
-room_left : (g : given.Over) (c : After-len g)
-    → length (items_in c.self.inside.nodes c.self.inside.root.height c.self.inside.root.slot) + 2 ≤ c.self.inside.room
-room_left g c = subst (λ (v : Items). length v.items + 2 ≤ v.room) (sym c.self.view_is) c.requires.room
 
 pub overflow_add-self : goal.overflow_add-self
 overflow_add-self g c =
     let t = c.self.inside in
     let fits : Fits w64 t.room = search rules in
-    let room : length (items_in t.nodes t.root.height t.root.slot) + 2 ≤ t.room =
-    subst (λ (v : Items). length v.items + 2 ≤ v.room) (sym c.self.view_is) c.requires.room in
+    let room = (can g (goal.at.overflow_add-self g c).After-change).room in
     omega (arith, fits, room, c.put.ensures.put, put_most c.change.new.change.written, c.self.invariant.counted)
 
 pub overflow_sub-self : goal.overflow_sub-self
@@ -142,7 +134,7 @@ invariant_of-self g c =
     let count = counted g at.After-change in
     let taken = taken_is g at.After-len in
     let put = c.put.ensures.put in
-    let room = room_left g at.After-len in
+    let room = (can g at.After-change).room in
     let most = put_most n.change.written in
     tree_put t.nodes n.nodes t.root.slot t.root.height n.root.slot n.root.height t.len
     (t.len + c.put.result - c.len.result) t.room c.self.invariant c.change.ensures.rooted

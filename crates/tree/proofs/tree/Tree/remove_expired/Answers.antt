@@ -2,12 +2,11 @@ use Rattle.std.proofs.Common.{◌≡◌, ◌≢◌, ◌≤◌, ◌+◌, ◌-◌,
 use Rattle.std.proofs.Common.{List, [], map}
 use Rattle.std.proofs.lemmas.Int.{to_z-of_z}
 use Rattle.std.proofs.lemmas.List.{length-map}
-use Rattle.tree.specs.Heads.{AllAreHeads}
 use Rattle.tree.specs.Item.{Item, item_of}
-use Rattle.tree.specs.Path.{IsPartitioned, items_below}
+use Rattle.tree.specs.Path.{items_below}
 use Rattle.tree.specs.Subtree.{items_in}
-use Rattle.tree.specs.Expire.{RemovesExpired}
-use Rattle.tree.specs.Tree.{Items, tree_heads}
+use Rattle.tree.specs.Expire.{CanRemoveExpired, RemovesExpired}
+use Rattle.tree.specs.Tree.{Items}
 use Rattle.tree.proofs.Counting.{low, enough_spare}
 use Rattle.tree.proofs.HeadList.{headed_from_list, headed_in_list}
 use Rattle.tree.proofs.Inserting.{tree_put}
@@ -22,30 +21,27 @@ pub change-requires : goal.change-requires
 change-requires g c =
     let t = c.self.inside in
     let bytes = g.P.Bound.bytes c.args.bound.now in
-    let p = g.P.Bound.below c.args.bound.now in
+    let can = subst (λ (v : Items). CanRemoveExpired (g.P.Bound.below c.args.bound.now) bytes c.args.count c.args.edge c.args.before v
+    c.args.taken.now.items) (sym c.self.view_is) c.requires.can_remove in
     let height = low t.nodes t.root.slot t.root.height t.len t.room c.self.invariant (omega arith) in
     let spare = enough_spare t.nodes t.root.slot t.root.height t.len t.room c.self.invariant in (
       omega (arith, c.self.invariant.few),
       (
         omega (arith, c.self.invariant.few),
-        (
-          record {
+        record {
+          changeable = record {
             fan_out = c.self.invariant.fan_out;
             few = c.self.invariant.few;
             low = height;
             rooted = c.self.invariant.rooted;
             some = root_some t.nodes t.root.slot t.root.height t.len t.room c.self.invariant;
             room = omega (arith, height, spare);
-          },
-          (
-            subst (λ items. IsPartitioned (λ (x : Item). p x.key) items) (sym (ap (λ v. v.items) c.self.view_is)) c.requires.partitioned,
-            (
-              headed_from_list bytes t.nodes
-                  (subst (λ (v : Items). AllAreHeads bytes (tree_heads v)) (sym c.self.view_is) c.requires.headed),
-              (tt, c.requires.none_taken),
-            ),
-          ),
-        ),
+          };
+          partitioned = can.partitioned;
+          headed = headed_from_list bytes t.nodes can.headed;
+          wanted = tt;
+          none_taken = can.none_taken;
+        },
       ),
     )
 
@@ -65,7 +61,7 @@ done g c =
     let edge : to_z w64 (of_z w64 c.args.edge) ≡ c.args.edge = to_z-of_z w64 c.args.edge c.ranges.edge in
     let before : to_z w64 (of_z w64 c.args.before) ≡ c.args.before = to_z-of_z w64 c.args.before c.ranges.before in
     let some : items_below p (items_in t.nodes t.root.height t.root.slot) ≢ [] = λ none.
-    c.requires.some (ap (λ (v : Items). items_below p v.items) (sym c.self.view_is) ∙ none) in
+    c.requires.can_remove.some (ap (λ (v : Items). items_below p v.items) (sym c.self.view_is) ∙ none) in
     unexpired_all p c.args.count c.args.edge c.args.before n.change.removal (map item_of n.taken.items)
     (items_in t.nodes t.root.height t.root.slot) (items_in n.nodes n.root.height n.root.slot)
     (rw (edge, before) at c.change.ensures.items) some
@@ -86,7 +82,7 @@ counted g c =
     let p = g.P.Bound.below c.args.bound.now in
     length-unexpired p c.args.count c.args.edge c.args.before n.change.removal (map item_of n.taken.items)
     (items_in t.nodes t.root.height t.root.slot) (items_in n.nodes n.root.height n.root.slot) None (done g c)
-    (λ one. c.requires.first (ap (λ (v : Items). length (items_below p v.items)) (sym c.self.view_is) ∙ one))
+    (λ one. c.requires.can_remove.first (ap (λ (v : Items). length (items_below p v.items)) (sym c.self.view_is) ∙ one))
 
 pub overflow_sub-self : goal.overflow_sub-self
 overflow_sub-self g c =
