@@ -1,13 +1,14 @@
 //! The union of the ranges that a batch writes: `ConflictBatch::combineWriteConflictRanges` of FoundationDB 7.1.
 
-ghost use Rattle.std.specs.Prelude.{◌≡◌, ◌<◌, ◌++◌, ◌∷◌, List, [], length, All, OnOk, Some, slice_get};
-ghost use Rattle.keys.specs.Key.{IsAtMost};
+ghost use Rattle.std.specs.Prelude.{◌≡◌, ◌<◌, ◌++◌, ◌∷◌, ℕ, List, [], length, All, IsTrue, OnOk, Some, slice_get};
+ghost use Rattle.keys.specs.Key.{IsAtMost, IsBefore};
 ghost use Rattle.keys.specs.Range.{IsEmpty};
+ghost use Rattle.keys.specs.Ranks.{run_or_none, runs_of, AreRanked};
 ghost use Rattle.keys.specs.declared.range.Range.{Range};
 ghost use Rattle.stepmap.specs.Uniting.{Unites};
 ghost use Rattle.conflict.specs.Union.{picked, AreSpanned, AreUnited, HaveWrittenInOrder};
 
-use keys::RangeList;
+use keys::{RangeList, Ranks};
 use std::alloc::{AllocError, Global};
 use std::marker::Model;
 
@@ -46,32 +47,41 @@ impl Union {
     }
 
     /// Replaces the spans by those of ranges that unite the ones marked as written. `order` lists ranges that aren't empty in the
-    /// order of their begins, and all of these that are marked. After an error the spans are unspecified, and the next call starts
+    /// order of their begins, and all of these that are marked. The ranks are those of all ranges. After an error the spans are unspecified, and the next call starts
     /// anew.
     pub fn gather<L: RangeList>(
         &mut self,
         ranges: &L,
+        ranks: &Ranks,
         order: &[u32],
         written: &[bool],
     ) -> Result<(), AllocError>
+        requires ranked { AreRanked (L.ranges ranges.now) ranks.now }
         requires in_order { HaveWrittenInOrder (L.ranges ranges.now) written.now order.now }
         requires count { length written.now ≡ length (L.ranges ranges.now) }
         ensures united { OnOk result ((united : List Range) × AreSpanned (L.ranges ranges.now) self.new united
             × Unites united (picked written.now (L.ranges ranges.now))) }
     {
+        let runs = ranks.runs();
         self.spans.clear();
         for index in order {
             let index = *index as usize;
             if written[index] {
-                self.add(ranges, index)?;
+                self.add(ranges, runs, index)?;
             }
         }
         Ok(())
     }
 
     // Adds the range at the index, which doesn't begin before any that was added. It is united with the last span unless it
-    // begins behind the end of that.
-    fn add<L: RangeList>(&mut self, ranges: &L, index: usize) -> Result<(), AllocError>
+    // begins behind the end of that. Most often the runs tell that it does, so that no byte of a key is read.
+    fn add<L: RangeList>(
+        &mut self,
+        ranges: &L,
+        runs: &[(u32, u32)],
+        index: usize,
+    ) -> Result<(), AllocError>
+        requires runs { (keys : List (List ℕ)) × (runs.now ≡ runs_of keys (L.ranges ranges.now)) }
         requires within { index < length (L.ranges ranges.now) }
         requires spanned { (united : List Range) × AreSpanned (L.ranges ranges.now) self.old united }
         ensures added { OnOk result ((range : Range) (added : List Range)
@@ -80,14 +90,16 @@ impl Union {
             → AreUnited (L.ranges ranges.now) self.old added
             → AreUnited (L.ranges ranges.now) self.new (added ++ range ∷ [])) }
     {
-        let range = ranges.range(index);
         if let Some(last) = self.spans.last_mut() {
-            let end = ranges.range(last.end).end();
-            if range.begin().cmp(end).is_le() {
-                if end.cmp(range.end()).is_lt() {
-                    last.end = index;
+            if !are_told_apart(runs[last.end], runs[index]) {
+                let range = ranges.range(index);
+                let end = ranges.range(last.end).end();
+                if range.begin().cmp(end).is_le() {
+                    if end.cmp(range.end()).is_lt() {
+                        last.end = index;
+                    }
+                    return Ok(());
                 }
-                return Ok(());
             }
         }
         self.spans.push(Span {
@@ -103,4 +115,14 @@ impl Union {
     {
         &self.spans
     }
+}
+
+// Returns whether the runs tell that the first range ends before the second one begins: a begin stands between. Where it is false
+// they may be apart, too.
+fn are_told_apart(first: (u32, u32), second: (u32, u32)) -> bool
+    ensures apart { IsTrue result → (keys : List (List ℕ)) (a b : Range) → first ≡ run_or_none keys a → second ≡ run_or_none keys b
+        → IsBefore a.end b.begin }
+{
+    // The run of an empty range ends at 0.
+    0 < first.1 && first.1 < second.0
 }

@@ -73,9 +73,12 @@ pub fn write_batch(
     stepmap::laws::counts();
     mark_written(&mut scratch.written, batch, entries)?;
     let ranges = batch.txns.ranges();
-    scratch
-        .union
-        .gather(&ranges, batch.txns.write_order(), &scratch.written)?;
+    scratch.union.gather(
+        &ranges,
+        batch.txns.ranks(),
+        batch.txns.write_order(),
+        &scratch.written,
+    )?;
     let spans = scratch.union.spans();
     gather_lengths(&mut scratch.lengths, &ranges, spans)?;
     steps.prepare(&scratch.lengths)?;

@@ -1,4 +1,4 @@
-use Rattle.std.proofs.Common.{◌≡◌, ◌<◌, ℤ, length, slice_get}
+use Rattle.std.proofs.Common.{◌<◌, ℤ, length, slice_get}
 use Rattle.std.proofs.lemmas.Option.{slice_get_within}
 use Rattle.keys.specs.Hash.{IsHashOf}
 use Rattle.keys.specs.declared.range.Range.{Range}

@@ -1,12 +1,8 @@
-use Rattle.std.proofs.Common.{◌≡◌, ◌<◌, ℕ, ℤ, List, ap, sym, subst, ◌∙◌, length, slice_get, slice_index_or, Some, arith}
-use Rattle.std.specs.Prelude.{Option, IsSomeAnd}
-use Rattle.std.proofs.lemmas.Option.{slice_get-get_or, slice_get_within}
+use Rattle.std.proofs.Common.{◌≡◌, ◌<◌, ℤ, ap, sym, subst, ◌∙◌, length, slice_get, Some}
+use Rattle.std.proofs.lemmas.Option.{slice_get_within}
 use Rattle.keys.specs.declared.range.Range.{Range}
 use Rattle.keys.specs.Hash.{IsHashOf}
-use Rattle.keys.proofs.callers.Lists.{some_at}
 use Rattle.keyspace.specs.declared.txn.Txn.{Txn}
-use Rattle.conflict.specs.Asking.{queries_named, AreNamed}
-use Rattle.conflict.specs.declared.read_name.ReadName.{ReadName}
 use Rattle.conflict.proofs.NamedQuery.{name, found, held}
 use Rattle.conflict.proofs.read_name.AskedReadsQueryList.query.Goals as goal
 

@@ -1,6 +1,8 @@
-use Rattle.std.proofs.Common.{◌≡◌, ◌-◌, ◌<◌, ◌++◌, ◌∷◌, ◌∙◌, [], length, take, refl, sym, ap, subst, arith}
+use Rattle.std.proofs.Common.{rules, ◌≡◌, ◌-◌, ◌<◌, ◌++◌, ◌∷◌, ◌∙◌, [], List, Some, get_or, slice_get, length, take, refl, sym, ap, subst, arith}
 use Rattle.std.specs.Prelude.{ℕ}
-use Rattle.std.proofs.lemmas.Option.{same_Some, slice_get_within}
+use Rattle.std.proofs.lemmas.Option.{get_or_from_slice_get, same_Some, slice_get_within}
+use Rattle.std.proofs.lemmas.List.{get_or-map, length-map}
+use Rattle.keys.specs.Ranks.{run_or_none, runs_of}
 use Rattle.keys.specs.Key.{IsBefore, IsAtMost}
 use Rattle.keys.specs.declared.range.Range.{Range}
 use Rattle.conflict.specs.declared.union.Span.{Span}
@@ -10,25 +12,57 @@ use Rattle.conflict.proofs.Comparing.{at_most_from_le, before_unless_le, before_
 use Rattle.conflict.proofs.LastSpan.{last_of, set_last, no_spans}
 use Rattle.conflict.proofs.Spanned.{spanned_at}
 use Rattle.conflict.proofs.UnionAdded.{united_first, united_behind, united_within, united_farther}
-use Rattle.conflict.proofs.union.Union.add.Goals.{then-is_lt, else-is_lt, in-Some+else-is_le, in_default}
+use Rattle.conflict.proofs.union.Union.add.Goals.{In-Some, then-is_lt, else-is_lt, in-Some+then-not-are_told_apart+else-is_le, in-Some+else-not-are_told_apart, in_default}
+use Rattle.conflict.proofs.union.Union.add.Given as given
 use Rattle.conflict.proofs.union.Union.add.Goals as goal
 
 abbrev alone : ℕ → Span
 alone index = record { begin = index; end = index }
 
+-- the range that the last span ends with
+last_ends : (ranges : List Range) (spans : List Span) (n : ℕ) (last : Span) (united : List Range) → AreSpanned ranges spans united
+    → n ≡ length spans → 0 < n → last ≡ get_or spans (n - 1) last → (ending : Range) × (slice_get ranges last.end ≡ Some ending)
+last_ends ranges spans n last united spanned count some is =
+    let at = spanned_at ranges spans united spanned (n - 1) last (omega (arith, count, some)) in
+    let ends = subst (λ (x : Span). EndsAt ranges x.end at.0.end) (sym is) at.2.ends in
+    (ends.0, ends.1)
+
+-- the run of a range
+run_at : (keys : List (List ℕ)) (ranges : List Range) (runs : List (ℕ × ℕ)) (i : ℕ) (range : Range) (d : ℕ × ℕ)
+    → runs ≡ runs_of keys ranges → slice_get ranges i ≡ Some range → get_or runs i d ≡ run_or_none keys range
+run_at keys ranges runs i range d is at =
+    ap (λ rs. get_or rs i d) is ∙ get_or-map (run_or_none keys) ranges i range d (slice_get_within ranges i range at)
+    ∙ ap (run_or_none keys) (get_or_from_slice_get ranges i range range at)
+
 pub range-requires : goal.range-requires
 range-requires g c =
     let ranges = g.L.RangeList.ranges c.args.ranges.now in
     let spans = c.self.inside.spans in
-    let last = c.in-Some.last.now in
-    let n = spans.len in
-    let count : n ≡ length spans.items = spans.ok.0 in
-    let some : 0 < n = c.in-Some.ensures.variant.0 refl in
-    let below : n - 1 < length spans.items = omega (arith, count, some) in
+    let some : 0 < spans.len = c.in-Some.ensures.variant.0 refl in
     let own = subst (λ xs. AreSpanned ranges xs c.requires.spanned.0) (sym c.self.view_is) c.requires.spanned.1 in
-    let at = spanned_at ranges spans.items c.requires.spanned.0 own (n - 1) last below in
-    let ends = subst (λ (x : Span). EndsAt ranges x.end at.0.end) (sym c.in-Some.ensures.value) at.2.ends in
-    record { within = slice_get_within ranges last.end ends.0 ends.1 }
+    let ends = last_ends ranges spans.items spans.len c.in-Some.last.now c.requires.spanned.0 own spans.ok.0 some c.in-Some.ensures.value in
+    record { within = slice_get_within ranges c.in-Some.last.now.end ends.0 ends.1 }
+
+-- A run stands at the index of the last range.
+run_there : (g : given.Over) (c : In-Some g) → c.in-Some.last.now.end < length c.args.runs.now
+run_there g c =
+    let ranges = g.L.RangeList.ranges c.args.ranges.now in
+    let spans = c.self.inside.spans in
+    let some : 0 < spans.len = c.in-Some.ensures.variant.0 refl in
+    let own = subst (λ xs. AreSpanned ranges xs c.requires.spanned.0) (sym c.self.view_is) c.requires.spanned.1 in
+    let ends = last_ends ranges spans.items spans.len c.in-Some.last.now c.requires.spanned.0 own spans.ok.0 some c.in-Some.ensures.value in
+    omega (
+      arith,
+      slice_get_within ranges c.in-Some.last.now.end ends.0 ends.1,
+      ap length c.requires.runs.1,
+      length-map ranges (run_or_none c.requires.runs.0),
+    )
+
+pub offset_bounds-runs-last : goal.offset_bounds-runs-last
+offset_bounds-runs-last g c = let within = run_there g (goal.at.offset_bounds-runs-last g c).In-Some in search rules
+
+pub bounds-runs-last : goal.bounds-runs-last
+bounds-runs-last g c = run_there g (goal.at.bounds-runs-last g c).In-Some
 
 pub returns-then-is_le : goal.returns-then-is_le
 returns-then-is_le g c =
@@ -82,14 +116,14 @@ returns g c =
     record {
       added = λ range added at filled earlier were.
           elim c.match-last_mut.branch [
-            | in-Some+else-is_le w ↦
+            | in-Some+then-not-are_told_apart+else-is_le w ↦
                 let last = w.in-Some.last.now in
                 let ending = w.range.result in
                 let some : 0 < n = w.in-Some.ensures.variant.0 refl in
                 let split = last_of spans.items n last spans.ok.0 some w.in-Some.ensures.value in
                 let was = subst (λ xs. AreUnited ranges xs added) (sym c.self.view_is ∙ split) were in
-                let same : c.range-range.result ≡ range = same_Some c.range-range.result range
-                (sym c.range-range.ensures.range ∙ at) in
+                let same : w.range-range.result ≡ range = same_Some w.range-range.result range
+                (sym w.range-range.ensures.range ∙ at) in
                 let begin : w.begin.result.now ≡ range.begin = w.begin.ensures.bytes ∙ ap (λ (r : Range). r.begin) same in
                 let behind : IsBefore ending.end range.begin =
                 before_unless_le w.begin.result.now w.end-end.result.now range.begin ending.end w.cmp.result
@@ -98,6 +132,22 @@ returns g c =
                 ∙ ap (λ xs. xs ++ own ∷ []) (set_last spans.items n last spans.ok.0 some) in
                 subst (λ xs. AreUnited ranges xs (added ++ range ∷ [])) (sym after)
                 (united_behind ranges c.args.index range at filled added front last ending w.range.ensures.range was behind)
+            | in-Some+else-not-are_told_apart w ↦
+                let last = w.in-Some.last.now in
+                let some : 0 < n = w.in-Some.ensures.variant.0 refl in
+                let split = last_of spans.items n last spans.ok.0 some w.in-Some.ensures.value in
+                let was = subst (λ xs. AreUnited ranges xs added) (sym c.self.view_is ∙ split) were in
+                let ends = last_ends ranges spans.items n last c.requires.spanned.0
+                (subst (λ xs. AreSpanned ranges xs c.requires.spanned.0) (sym c.self.view_is) c.requires.spanned.1) spans.ok.0 some
+                w.in-Some.ensures.value in
+                let behind : IsBefore ends.0.end range.begin =
+                w.are_told_apart.ensures.apart w.if-not-are_told_apart.false c.requires.runs.0 ends.0 range
+                (run_at c.requires.runs.0 ranges c.args.runs.now last.end ends.0 _ c.requires.runs.1 ends.1)
+                (run_at c.requires.runs.0 ranges c.args.runs.now c.args.index range _ c.requires.runs.1 at) in
+                let after = c.in_ok-push.ensures.items ∙ ap (λ (u : Inside). u.spans.items ++ own ∷ []) w.self-inside-is
+                ∙ ap (λ xs. xs ++ own ∷ []) (set_last spans.items n last spans.ok.0 some) in
+                subst (λ xs. AreUnited ranges xs (added ++ range ∷ [])) (sym after)
+                (united_behind ranges c.args.index range at filled added front last ends.0 ends.1 was behind)
             | in_default w ↦
                 let none = no_spans spans.items n spans.ok.0 w.in_default.ensures.variant.1 in
                 let was = subst (λ xs. AreUnited ranges xs added) (sym c.self.view_is ∙ none) were in
