@@ -45,8 +45,11 @@ def without(pattern: re.Pattern, text: str) -> str:
     """Returns the text without what the pattern opens, up to the closing brace, and without the comma or semicolon behind a ghost."""
     while match := pattern.search(text):
         end = end_of_braces(text, match.end() - 1)
-        if match.groupdict().get("ghost") and text[end : end + 1] in (",", ";"):
-            end += 1
+        if match.groupdict().get("ghost"):
+            if text.startswith(" by {", end):
+                end = end_of_braces(text, end + 4)
+            if text[end : end + 1] in (",", ";"):
+                end += 1
         text = text[: match.start()] + text[end:]
     return text
 
