@@ -3,8 +3,8 @@ use Rattle.std.proofs.Common.{ℕ, Bool, false, List, Option, Some}
 use Rattle.std.specs.Prelude.{ℤ}
 use Rattle.arena.specs.Arena.{Arena}
 use Rattle.tree.specs.declared.node.Node.{Node}
-use Rattle.tree.specs.declared.questions.Approach.{Approach}
-use Rattle.tree.specs.declared.questions.Approach.TheVariants.{Leaf, Clear, Open}
+use Rattle.tree.specs.declared.approach.Approach.{Approach}
+use Rattle.tree.specs.declared.approach.Approach.TheVariants.{Leaf, Clear, Open}
 use Rattle.tree.specs.Heads.{KeyBytes}
 use Rattle.tree.specs.Question.{IsApproach, IsLeading, IsTold}
 use Rattle.tree.specs.Subtree.{items_in}

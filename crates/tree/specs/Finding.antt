@@ -1,7 +1,7 @@
 -- What a search in a node goes by, and what it finds. This project's own.
 use Rattle.std.specs.Prelude.{◌≡◌, ◌≢◌, ◌≤◌, ◌<◌, ℕ, Bool, List, filter, length, get_or, Option, None, Some, unwrap_or, IfSome}
 use Rattle.tree.specs.declared.node.Node.{Node}
-use Rattle.tree.specs.declared.node.lower_bound.Step.{Step}
+use Rattle.tree.specs.declared.node.step.Step.{Step}
 use Rattle.tree.specs.Heads.{KeyHeads, KeyBytes, IsTargetHead, AreHeads, IsPrefixLenAt}
 use Rattle.tree.specs.Node.{entries_of, key_heads_of}
 use Rattle.tree.specs.Path.{IsPartitioned, index_in}

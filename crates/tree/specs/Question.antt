@@ -3,9 +3,9 @@ use Rattle.std.specs.Prelude.{◌≡◌, ◌≤◌, ◌<ℤ◌, ◌↔◌, ◌++
 use Rattle.std.specs.List.{All, Any}
 use Rattle.arena.specs.Arena.{Arena, IsLive}
 use Rattle.tree.specs.declared.node.Node.{Node}
-use Rattle.tree.specs.declared.questions.Approach.{Approach}
-use Rattle.tree.specs.declared.questions.Approach.TheVariants.{Leaf, Clear, Open}
-use Rattle.tree.specs.declared.questions.Near.{Near}
+use Rattle.tree.specs.declared.approach.Approach.{Approach}
+use Rattle.tree.specs.declared.approach.Approach.TheVariants.{Leaf, Clear, Open}
+use Rattle.tree.specs.declared.approach.Near.{Near}
 use Rattle.tree.specs.Finding.{IsOwnHead}
 use Rattle.tree.specs.Heads.{KeyBytes, IsPrefixLenAt}
 use Rattle.tree.specs.Item.{Item}

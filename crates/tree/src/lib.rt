@@ -5,6 +5,7 @@
 //! and the greatest version of its subtree.
 #![tactic(auto)]
 
+mod approach;
 mod bound;
 mod descent;
 mod entry;

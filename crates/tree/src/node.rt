@@ -8,8 +8,9 @@ use crate::entry::Entry;
 
 mod heads;
 mod lower_bound;
+mod step;
 
-pub use lower_bound::Step;
+pub use step::Step;
 
 // Stands where there is no head of a key: no head is above it.
 const PADDING: u64 = u64::MAX;

@@ -1,17 +1,9 @@
 //! A run of items written over: one or two come in its place.
 
-ghost use Rattle.std.specs.Prelude.{◌≡◌, ◌≤◌, ◌<◌, ◌+◌, ◌*◌, ◌++◌, ◌∷◌, ◌-◌, ℕ, [], true, length, take, drop, map, IfSome, None, Some};
-ghost use Rattle.std.specs.List.{All};
-ghost use Rattle.arena.specs.Arena.{IsLive, spare_of};
+ghost use Rattle.std.specs.Prelude.{◌≡◌, ◌<◌, ◌+◌, ◌-◌, ℕ, true, take, Some};
 ghost use Rattle.keys.specs.Key.{IsBytes};
-ghost use Rattle.tree.specs.Heads.{AllAreHeads, IsKnown};
 ghost use Rattle.tree.specs.Item.{item_of};
-ghost use Rattle.tree.specs.Rebalancing.{CanSplit, IsStored};
-ghost use Rattle.tree.specs.Node.{entries_of, all_heads_of, keys_of};
 ghost use Rattle.tree.specs.Overwrite.{GivesWritten, IsPartOfPartitioned, part_of_part, put_of};
-ghost use Rattle.tree.specs.Replace.{entries_at_both, Changes, IsKeyless};
-ghost use Rattle.tree.specs.Subtree.{entries_at};
-ghost use Rattle.tree.specs.Tree.{least_of};
 
 use crate::bound::Bound;
 use crate::entry::Entry;

@@ -1,20 +1,19 @@
 //! How questions are answered side by side. The way of each is gone down to its leaf, then each leaf is looked at for the
 //! first time, and then each question is answered. So the memory of the leaves is waited for at once.
 
-ghost use Rattle.std.specs.Prelude.{◌≡◌, ◌≢◌, ◌≤◌, ◌<◌, ◌<ℤ◌, ◌↔◌, ◌+◌, true, false, length, map, slice_get, Some, [], IfSome, IsTrue};
+ghost use Rattle.std.specs.Prelude.{◌≡◌, ◌≢◌, ◌≤◌, ◌<◌, ◌<ℤ◌, ◌↔◌, true, false, length, map, Some, [], IfSome, IsTrue};
 ghost use Rattle.std.specs.List.{All, AllZip, Any};
-ghost use Rattle.tree.specs.Finding.{HasHead, IsLowerBound, IsOwnHead, IsSearched};
-ghost use Rattle.tree.specs.Heads.{AllAreHeads, IsPrefixLenAt};
-ghost use Rattle.tree.specs.Node.{all_heads_of, entries_of, key_heads_of};
-ghost use Rattle.tree.specs.Path.{IsPartitioned, from_last, index_in, items_below};
+ghost use Rattle.tree.specs.Finding.{IsLowerBound, IsOwnHead, IsSearched};
+ghost use Rattle.tree.specs.Heads.{AllAreHeads};
+ghost use Rattle.tree.specs.Node.{all_heads_of, entries_of};
+ghost use Rattle.tree.specs.Path.{IsPartitioned, from_last, items_below};
 ghost use Rattle.tree.specs.Question.{IsApproach, IsAsked, IsLeading, IsLooked, IsNear, IsTold};
-ghost use Rattle.tree.specs.Subtree.{entries_at, items_in};
+ghost use Rattle.tree.specs.Subtree.{items_in};
 ghost use Rattle.tree.specs.Tree.{least_of};
-ghost use Rattle.tree.specs.declared.entry.Entry.{Entry};
 ghost use Rattle.tree.specs.declared.question.TheConstants.{SIDE};
 
+use crate::approach::{Approach, Near, descend_from, end_head};
 use crate::bound::Bound;
-use crate::descent::common_prefix_len_at;
 use crate::node::Node;
 use crate::question::{Question, SIDE};
 use crate::root::{Root, last};
@@ -23,152 +22,12 @@ use crate::span::any_above;
 use arena::{Arena, Slot};
 use arrayvec::ArrayVec;
 
-/// A leaf to which a way leads.
-#[derive(Clone, Copy, Debug)]
-pub struct Near {
-    pub leaf: Slot,
-    /// How many bytes the first key of the leaf and the target of the first bound begin with in common.
-    pub common_prefix_len: usize,
-    /// Tells that the items behind the leaf don't come before the second bound.
-    pub clear: bool,
-}
-
-/// Where the way of a question leads.
-#[derive(Clone, Copy, Debug, Default)]
-pub enum Approach {
-    /// To a leaf, whose memory hasn't been read.
-    Leaf(Near),
-    /// To a subtree that tells that no version is above the question's.
-    Clear,
-    /// Nowhere: the keys alone tell.
-    #[default]
-    Open,
-}
-
 /// Where the way of a question leads, and what the first look at the leaf gives.
 #[derive(Clone, Copy, Debug, Default)]
 pub struct Look {
     pub way: Approach,
     /// The head there of the target of the first bound, if it is known to begin as all keys of the leaf do.
     pub own: Option<u64>,
-}
-
-/// Goes down a subtree to the leaf that answers a question. `common_prefix_len` is how many bytes the first key of the subtree and
-/// the target of the first bound begin with in common. `clear` tells that the items behind the subtree don't come before the second
-/// bound.
-pub fn descend<P: Bound, Q: Bound, const N: usize>(
-    nodes: &Arena<Node<N>>,
-    slot: Slot,
-    height: usize,
-    question: &Question<P, Q>,
-    common_prefix_len: usize,
-    clear: bool,
-) -> Approach
-    requires asked { IsAsked nodes.now (least_of N) height slot (P.bytes question.now.from) (P.below question.now.from)
-        (Q.below question.now.to) }
-    requires known { IsPrefixLenAt (P.bytes question.now.from) (P.below question.now.from) (P.target question.now.from) (Some common_prefix_len)
-        (entries_at nodes.now slot) 0 }
-    ensures approach { IsApproach nodes.now height slot (P.bytes question.now.from) (P.below question.now.from)
-        (Q.below question.now.to) (P.target question.now.from) question.now.version clear result }
-{
-    if height == 0 {
-        return Approach::Leaf(Near {
-            leaf: slot,
-            common_prefix_len,
-            clear,
-        });
-    }
-    let node = nodes.header_ref(slot);
-    let entries = node.entries();
-    let own = node.head_for(&question.from, common_prefix_len);
-    let step = node.step_by(&question.from, common_prefix_len, own);
-    let clear = is_clear(node, step.index, question, common_prefix_len, own, clear);
-    let entry = entries[step.index];
-    if entry.version <= question.version {
-        return if clear {
-            Approach::Clear
-        } else {
-            Approach::Open
-        };
-    }
-    let Some(common_prefix_len) = step.common_prefix_len else {
-        return Approach::Open;
-    };
-    descend(
-        nodes,
-        entry.child,
-        height - 1,
-        question,
-        common_prefix_len,
-        clear,
-    )
-}
-
-// Returns whether the items behind the child at an index, that of the last entry below the first bound, don't come before the second
-// bound. `common_prefix_len` is how many bytes the first key of the node and the target of the first bound begin with in common, and
-// `own` is the head of that target, if it is known to begin as all keys do. `clear` tells of the items behind the node's what this
-// tells of those behind the child.
-fn is_clear<P: Bound, Q: Bound, const N: usize>(
-    node: &Node<N>,
-    index: usize,
-    question: &Question<P, Q>,
-    common_prefix_len: usize,
-    own: Option<u64>,
-    clear: bool,
-) -> bool
-    requires searched { IsSearched (P.bytes question.now.from) (P.below question.now.from) (P.target question.now.from) node.now
-        common_prefix_len own }
-    requires within { index < length (entries_of node.now) }
-    requires last_below { index ≡ index_in (P.below question.now.from) (entries_of node.now) }
-    ensures next { IsTrue result → (e : Entry) → slice_get (entries_of node.now) (index + 1) ≡ Some e
-        → Q.below question.now.to e.key ≡ false }
-    ensures last { IsTrue result → length (entries_of node.now) ≤ index + 1 → IsTrue clear }
-{
-    let next = index + 1;
-    // If the question is single, the next entry isn't below the second bound either.
-    if question.is_single || next == node.len() {
-        return clear;
-    }
-    let head = end_head(node, question, common_prefix_len, own);
-    !node.is_below_at(next, &question.to, head)
-}
-
-// Returns the head of the target of the second bound, if it is known to begin as all keys of the node do. `own` is that of the first
-// one's.
-fn end_head<P: Bound, Q: Bound, const N: usize>(
-    node: &Node<N>,
-    question: &Question<P, Q>,
-    common_prefix_len: usize,
-    own: Option<u64>,
-) -> Option<u64>
-    requires searched { IsSearched (P.bytes question.now.from) (P.below question.now.from) (P.target question.now.from) node.now
-        common_prefix_len own }
-    ensures head { HasHead (Q.bytes question.now.to) (Q.target question.now.to) result (key_heads_of node.now) }
-{
-    let targets_prefix_len = question.targets_prefix_len;
-    let agrees = own.is_some() && node.prefix_len() <= targets_prefix_len;
-    node.head_given(
-        agrees,
-        &question.to,
-        common_prefix_len.min(targets_prefix_len),
-    )
-}
-
-/// Goes down a tree so.
-pub fn descend_from<P: Bound, Q: Bound, const N: usize>(
-    nodes: &Arena<Node<N>>,
-    root: Root,
-    question: &Question<P, Q>,
-) -> Approach
-    requires asked { IsAsked nodes.now (least_of N) root.height root.slot (P.bytes question.now.from)
-        (P.below question.now.from) (Q.below question.now.to) }
-    requires some_below { items_below (P.below question.now.from) (items_in nodes.now root.height root.slot) ≢ [] }
-    ensures approach { IsApproach nodes.now root.height root.slot (P.bytes question.now.from) (P.below question.now.from)
-        (Q.below question.now.to) (P.target question.now.from) question.now.version true result }
-{
-    let Root { slot, height } = root;
-    let common_prefix_len = common_prefix_len_at(nodes, slot, &question.from).unwrap_or(0);
-    descend(nodes, slot, height, question, common_prefix_len, true)
 }
 
 /// Looks at the leaf to which a way leads, for the first time.

@@ -1,7 +1,7 @@
 //! The entries of a node, made right where a child has changed.
 
-ghost use Rattle.std.specs.Prelude.{◌≡◌, ◌≢◌, ◌≤◌, ◌<◌, ◌+◌, ◌*◌, ◌++◌, ◌∷◌, ℕ, [], length};
-ghost use Rattle.arena.specs.Arena.{IsLive, spare_of};
+ghost use Rattle.std.specs.Prelude.{◌≡◌, ◌≤◌, ◌<◌, ◌+◌, ◌++◌, ◌∷◌, ℕ, [], length};
+ghost use Rattle.arena.specs.Arena.{IsLive};
 ghost use Rattle.tree.specs.Item.{Tells};
 ghost use Rattle.tree.specs.Heads.{AllAreHeads, AreHeads, IsKnown, KeyBytes};
 ghost use Rattle.tree.specs.Rebalancing.{AreTwo, CanRebalanceIn, CanMerge, LosesOneAtMost};
@@ -9,7 +9,7 @@ ghost use Rattle.tree.specs.Node.{entries_of, key_heads_of, all_heads_of};
 ghost use Rattle.tree.specs.Splice.{AreHalfFull};
 ghost use Rattle.tree.specs.Subtree.{entries_at, items_in, IsSubtree};
 ghost use Rattle.tree.specs.Tree.{least_of};
-ghost use Rattle.tree.specs.Replace.{child_at, Changes, IsFamily, IsKeyless, IsRebalanced};
+ghost use Rattle.tree.specs.Replace.{Changes, IsFamily, IsRebalanced};
 
 use crate::bound::Bound;
 use crate::entry::Entry;

@@ -1,11 +1,10 @@
 //! A node above a changed child, rebalanced.
 
-ghost use Rattle.std.specs.Prelude.{◌≡◌, ◌≤◌, ◌<◌, ◌+◌, ◌*◌, ◌∷◌, ◌++◌, ℕ, [], length, take, drop, IfSome, IsTrue, Some};
-ghost use Rattle.std.specs.List.{AllZip};
+ghost use Rattle.std.specs.Prelude.{◌≡◌, ◌<◌, ◌+◌, ◌∷◌, ◌++◌, ℕ, [], take, drop, Some};
 ghost use Rattle.arena.specs.Arena.{IsLive, spare_of};
-ghost use Rattle.tree.specs.Heads.{AllAreHeads, AreHeads, IsHeadBeside, KeyBytes};
+ghost use Rattle.tree.specs.Heads.{AllAreHeads, AreHeads, KeyBytes};
 ghost use Rattle.tree.specs.Rebalancing.{CanInsertChild, CanRebalance, CanSplit, IsStored, LosesOneAtMost};
-ghost use Rattle.tree.specs.Node.{entries_of, key_heads_of, all_heads_of, keys_of};
+ghost use Rattle.tree.specs.Node.{entries_of, key_heads_of, all_heads_of};
 ghost use Rattle.tree.specs.Subtree.{entries_at};
 ghost use Rattle.tree.specs.Tree.{least_of};
 ghost use Rattle.tree.specs.Replace.{child_at, entries_at_both, Changes, IsFamilyAt, IsKeyless, IsLinked, IsRebalancedAt, TellsWritten};

@@ -1,17 +1,16 @@
 //! The root of a tree, and what becomes of it where a leaf changes.
 
 ghost use Rattle.std.specs.Prelude.{◌≡◌, ◌+◌, [], map, None, MatchOption, Some, true};
-ghost use Rattle.std.specs.List.{All, IsDistinct};
 ghost use Rattle.std.specs.FinMap as map_of;
-ghost use Rattle.arena.specs.Arena.{IsLive, spare_of};
+ghost use Rattle.arena.specs.Arena.{spare_of};
 ghost use Rattle.tree.specs.Item.{item_of};
 ghost use Rattle.tree.specs.Heads.{AllAreHeads, KeyBytes};
 ghost use Rattle.tree.specs.Rebalancing.{CanGrow, CanShrink};
 ghost use Rattle.tree.specs.Node.{all_heads_of};
-ghost use Rattle.tree.specs.Subtree.{entries_at, items_in, slots_in, IsSubtree};
+ghost use Rattle.tree.specs.Subtree.{items_in};
 ghost use Rattle.tree.specs.Path.{items_below};
 ghost use Rattle.tree.specs.Reached.{CanReach, IsReached};
-ghost use Rattle.tree.specs.Replace.{items_with, slots_with, IsKeyless};
+ghost use Rattle.tree.specs.Replace.{items_with};
 ghost use Rattle.tree.specs.Tree.{least_of, IsLast, IsRooted};
 ghost use Rattle.tree.specs.Walk.{CanChangeBy, IsChangedWithin};
 

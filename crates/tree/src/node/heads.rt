@@ -1,7 +1,6 @@
 //! The heads of a node's keys, behind the prefix that all of them have in common: how they are computed and kept.
 
-ghost use Rattle.std.specs.Prelude.{◌≡◌, ◌≢◌, ◌<◌, ◌≤◌, ◌+◌, ◌-◌, ◌*◌, ◌++◌, ◌⊎◌, ℕ, List, [], length, take, drop, get_or, slice_index, slice_set, Some, IfSome, IsTrue};
-ghost use Rattle.std.specs.Int.{w64, to_be_bytes};
+ghost use Rattle.std.specs.Prelude.{◌≡◌, ◌≢◌, ◌<◌, ◌≤◌, ◌+◌, ◌-◌, ◌*◌, ◌++◌, ℕ, List, [], length, take, drop, slice_set, Some, IfSome, IsTrue};
 ghost use Rattle.std.specs.List.{All, Contains};
 ghost use Rattle.tree.specs.Heads.{HasPrefix, AreHeads, IsHeadBeside, IsKnown, Begins};
 ghost use Rattle.tree.specs.Node.{entries_of, key_heads_of, keys_of};

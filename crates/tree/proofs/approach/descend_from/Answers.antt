@@ -3,7 +3,7 @@ use Rattle.tree.specs.Heads.{IsPrefixLenAt}
 use Rattle.tree.specs.Subtree.{entries_at}
 use Rattle.tree.specs.Tree.{least_of}
 use Rattle.tree.proofs.ToldKeys.{known_where_some}
-use Rattle.tree.proofs.questions.descend_from.Goals as goal
+use Rattle.tree.proofs.approach.descend_from.Goals as goal
 
 pub descend-requires : goal.descend-requires
 descend-requires g c =

@@ -4,8 +4,8 @@ use Rattle.std.proofs.lemmas.Option.{slice_get_past}
 use Rattle.tree.specs.Node.{entries_of}
 use Rattle.tree.proofs.callers.Partitions.{not_both}
 use Rattle.tree.proofs.ToldKeys.{next_fails}
-use Rattle.tree.proofs.questions.is_clear.Goals as goal
-use Rattle.tree.proofs.questions.is_clear.Goals.{then-question-via-then-question, then-question-via-else-question+then-next-len}
+use Rattle.tree.proofs.approach.is_clear.Goals as goal
+use Rattle.tree.proofs.approach.is_clear.Goals.{then-question-via-then-question, then-question-via-else-question+then-next-len}
 
 pub returns-then-question-clause-next : goal.returns-then-question-clause-next
 returns-then-question-clause-next g c = λ _ e there.

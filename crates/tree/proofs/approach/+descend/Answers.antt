@@ -19,9 +19,9 @@ use Rattle.tree.proofs.Looks.{IsLook, look_bound, look_tell, child_from, child_t
 use Rattle.tree.proofs.Told.{Clears, clears_behind, told_by_child, told_by_entry}
 use Rattle.tree.proofs.ToldKeys.{some_pass, last_passes}
 use Rattle.tree.proofs.FirstKeys.{child_at, knows_child}
-use Rattle.tree.proofs.questions.+descend.Given.{Over}
-use Rattle.tree.proofs.questions.+descend.Goals as goal
-use Rattle.tree.proofs.questions.+descend.Goals.{After-entries-entries, After-index-entries-step}
+use Rattle.tree.proofs.approach.+descend.Given.{Over}
+use Rattle.tree.proofs.approach.+descend.Goals as goal
+use Rattle.tree.proofs.approach.+descend.Goals.{After-entries-entries, After-index-entries-step}
 
 -- the entries that the code has read
 read : (g : Over) (t : ℕ) (c : After-entries-entries g t) → entries_at c.args.nodes.now c.args.slot ≡ c.entries-entries.result.now

@@ -1,4 +1,4 @@
-use Rattle.tree.proofs.questions.+descend.Given as goal
+use Rattle.tree.proofs.approach.+descend.Given as goal
 
 -- A child's subtree is lower.
 abbrev pub decreases-descend : goal.decreases-descend

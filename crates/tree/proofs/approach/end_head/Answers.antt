@@ -7,8 +7,8 @@ use Rattle.tree.specs.Node.{entries_of, key_heads_of}
 use Rattle.tree.proofs.Headed.{key_heads_kept}
 use Rattle.tree.proofs.NearBounds.{agrees_too}
 use Rattle.tree.proofs.ToldKeys.{alike_for_other}
-use Rattle.tree.proofs.questions.end_head.Goals as goal
-use Rattle.tree.proofs.questions.end_head.Goals.{then-is_some, else-is_some}
+use Rattle.tree.proofs.approach.end_head.Goals as goal
+use Rattle.tree.proofs.approach.end_head.Goals.{then-is_some, else-is_some}
 
 pub head_given-requires : goal.head_given-requires
 head_given-requires g c =
