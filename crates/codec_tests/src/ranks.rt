@@ -218,7 +218,7 @@ fn hashes_agree(txns: &Txns) -> bool {
     for index in 0..txns.len() {
         let reads = txns.txn(index).reads;
         for read in 0..reads.len() {
-            if txns.read_hash(index, read) != reads.get(read).single_hash() {
+            if txns.hash(txns.read_index(index, read) as usize) != reads.get(read).single_hash() {
                 return false;
             }
         }
@@ -231,7 +231,7 @@ fn show_hashes(alloc: Global, txns: &Txns) -> Result<String, Unmade> {
     let mut text = String::from_str(alloc, "hashes")?;
     for index in 0..txns.len() {
         for read in 0..txns.txn(index).reads.len() {
-            match txns.read_hash(index, read) {
+            match txns.hash(txns.read_index(index, read) as usize) {
                 Some(hash) => write!(text, " {hash:x}")?,
                 None => text.push_str(" -")?,
             }

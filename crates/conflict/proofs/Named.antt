@@ -2,10 +2,11 @@
 use Rattle.std.proofs.Common.{◌≡◌, ℕ, ◌+◌, ◌-◌, ◌<◌, ◌≤◌, ℤ, List, [], ◌∷◌, ◌++◌, length, map, get_or, take, drop, refl, sym, ap, ◌∙◌, arith, append_assoc, length-drop}
 use Rattle.std.specs.Prelude.{Option, Some, None, option_to_list, option_and_then, option_map, slice_get, slice_range, unwrap_or}
 use Rattle.std.proofs.lemmas.List.{map-append, map_push, length-map, take_all}
-use Rattle.std.proofs.lemmas.Option.{slice_get-map}
+use Rattle.std.proofs.lemmas.Option.{slice_get-map, none-some, same_Some, option_and_then_some}
 use Rattle.keys.specs.declared.range.Range.{Range}
 use Rattle.keys.proofs.callers.Lists.{range_more, some_at}
 use Rattle.keyspace.specs.declared.txn.Txn.{Txn}
+use Rattle.keyspace.specs.BatchRanges.{ranges_in}
 use Rattle.conflict.specs.declared.read_name.ReadName.{ReadName}
 use Rattle.conflict.specs.Asking.{asked_at, query_named, queries_named, AreNamed}
 
@@ -40,22 +41,23 @@ pub range_rest : {X : Type 0} (xs : List X) (from : ℕ) → slice_range xs from
 range_rest xs from = take_all (length xs - from) (drop from xs) (omega (arith, length-drop from xs))
 
 -- the name of one read range more is appended
-pub read_named : (txns : List Txn) (t : Txn) (from : ℕ) (names before : List ReadName) (name : ReadName)
-    → slice_get txns name.txn ≡ Some t → from ≤ name.read → name.read < length t.reads
+pub read_named : (txns : List Txn) (t : Txn) (from read : ℕ) (names before : List ReadName) (name : ReadName)
+    → slice_get txns name.txn ≡ Some t → from ≤ read → read < length t.reads
+    → ((range : Range) → slice_get t.reads read ≡ Some range → slice_get (ranges_in txns) name.range ≡ Some range)
     → map (query_named txns) names
-    ≡ map (query_named txns) before ++ map Some (asked_at t.snapshot (slice_range t.reads from name.read))
+    ≡ map (query_named txns) before ++ map Some (asked_at t.snapshot (slice_range t.reads from read))
     → map (query_named txns) (names ++ name ∷ [])
-    ≡ map (query_named txns) before ++ map Some (asked_at t.snapshot (slice_range t.reads from (name.read + 1)))
-read_named txns t from names before name at rises inside done =
-    let range = some_at t.reads name.read inside in
-    let ranges = slice_range t.reads from name.read in
+    ≡ map (query_named txns) before ++ map Some (asked_at t.snapshot (slice_range t.reads from (read + 1)))
+read_named txns t from read names before name at rises inside stands done =
+    let range = some_at t.reads read inside in
+    let ranges = slice_range t.reads from read in
     let query : Range × ℤ = (range.0, t.snapshot) in
     let Query = query_named txns in
     let is : Query name ≡ Some query =
-    ap (option_and_then (λ (u : Txn). option_map (λ range. (range, u.snapshot)) (slice_get u.reads name.read))) at
-    ∙ ap (option_map (λ range. (range, t.snapshot))) range.1 in
-    let asked : asked_at t.snapshot (slice_range t.reads from (name.read + 1)) ≡ asked_at t.snapshot ranges ++ query ∷ [] =
-    ap (asked_at t.snapshot) (range_more t.reads from name.read range.0 rises range.1)
+    ap (option_and_then (λ (u : Txn). option_map (λ range. (range, u.snapshot)) (slice_get (ranges_in txns) name.range))) at
+    ∙ ap (option_map (λ range. (range, t.snapshot))) (stands range.0 range.1) in
+    let asked : asked_at t.snapshot (slice_range t.reads from (read + 1)) ≡ asked_at t.snapshot ranges ++ query ∷ [] =
+    ap (asked_at t.snapshot) (range_more t.reads from read range.0 rises range.1)
     ∙ map-append (λ range. (range, t.snapshot)) ranges (range.0 ∷ []) in
     map_push Query names name ∙ ap (λ o. map Query names ++ o ∷ []) is
     ∙ ap (λ os. os ++ Some query ∷ []) done
@@ -63,29 +65,22 @@ read_named txns t from names before name at rises inside done =
     ∙ ap (λ os. map Query before ++ os)
     (sym (ap (map Some) asked ∙ map-append Some (asked_at t.snapshot ranges) (query ∷ [])))
 
--- the read range that a name asks for
-pub read_found : (txns : List Txn) (name : ReadName) (q : Range × ℤ) → query_named txns name ≡ Some q
-    → (t : Txn) × (slice_get txns name.txn ≡ Some t) × (slice_get t.reads name.read ≡ Some q.0) × (t.snapshot ≡ q.1)
-read_found txns name q is = by_txn (slice_get txns name.txn) refl is
-  where
-    of_txn : Txn → Option (Range × ℤ)
-    of_txn t = option_map (λ range. (range, t.snapshot)) (slice_get t.reads name.read)
+-- a range with its version
+paired : (o : Option Range) (version : ℤ) (q : Range × ℤ) → option_map (λ range. (range, version)) o ≡ Some q
+    → (o ≡ Some q.0) × (version ≡ q.1)
+paired None version q is = absurd (none-some q is)
+paired (Some range) version q is =
+    let same = same_Some (range, version) q is in
+    (ap (λ (p : Range × ℤ). Some p.0) same, ap (λ (p : Range × ℤ). p.1) same)
 
-    none_is_some : {X : Type 0} (x : X) → None ≡ Some x → ⊥
-    none_is_some x e = cc
-
-    by_range : (t : Txn) → slice_get txns name.txn ≡ Some t → (o : Option Range) → slice_get t.reads name.read ≡ o
-        → option_map (λ range. (range, t.snapshot)) o ≡ Some q
-        → (t : Txn) × (slice_get txns name.txn ≡ Some t) × (slice_get t.reads name.read ≡ Some q.0) × (t.snapshot ≡ q.1)
-    by_range t at None there it = absurd (none_is_some q it)
-    by_range t at (Some range) there it =
-        let same : (range, t.snapshot) ≡ q = ap (λ o. unwrap_or o q) it in
-        (t, at, there ∙ ap (λ (p : Range × ℤ). Some p.0) same, ap (λ (p : Range × ℤ). p.1) same)
-
-    by_txn : (o : Option Txn) → slice_get txns name.txn ≡ o → option_and_then of_txn o ≡ Some q
-        → (t : Txn) × (slice_get txns name.txn ≡ Some t) × (slice_get t.reads name.read ≡ Some q.0) × (t.snapshot ≡ q.1)
-    by_txn None at it = absurd (none_is_some q it)
-    by_txn (Some t) at it = by_range t at (slice_get t.reads name.read) refl it
+-- the range that a name asks for, and the transaction
+pub name_found : (txns : List Txn) (name : ReadName) (q : Range × ℤ) → query_named txns name ≡ Some q
+    → (slice_get (ranges_in txns) name.range ≡ Some q.0)
+    × ((t : Txn) × (slice_get txns name.txn ≡ Some t) × (t.snapshot ≡ q.1))
+name_found txns name q is =
+    option_and_then_some (λ (t : Txn). option_map (λ range. (range, t.snapshot)) (slice_get (ranges_in txns) name.range))
+    (slice_get txns name.txn) q is
+    (λ t at both. let parts = paired (slice_get (ranges_in txns) name.range) t.snapshot q both in (parts.0, (t, at, parts.1)))
 
 -- names and what they ask for
 module _ (txns : List Txn) (names : List ReadName) (named : AreNamed txns names) where

@@ -5,24 +5,27 @@ use Rattle.std.proofs.lemmas.Option.{slice_get-get_or}
 use Rattle.keys.specs.declared.range.Range.{Range}
 use Rattle.keys.proofs.callers.Lists.{some_at}
 use Rattle.keyspace.specs.declared.txn.Txn.{Txn}
+use Rattle.keyspace.specs.BatchRanges.{ranges_in}
 use Rattle.conflict.specs.Asking.{queries_named, AreNamed}
 use Rattle.conflict.specs.declared.read_name.ReadName.{ReadName}
-use Rattle.conflict.proofs.Named.{name_count, named_at, read_found}
+use Rattle.conflict.proofs.Named.{name_count, named_at, name_found}
 
 -- the name at an index
 abbrev pub name : List ReadName → ℕ → ReadName
-name names index = slice_index_or names index (record { txn = 0; read = 0 })
+name names index = slice_index_or names index (record { txn = 0; range = 0 })
 
--- the query at an index, and the read range that it is
+-- the query at an index, its range and its transaction
 pub found : (txns : List Txn) (names : List ReadName) → AreNamed txns names → (index : ℕ) → index < length (queries_named txns names)
     → (q : Range × ℤ) × (slice_get (queries_named txns names) index ≡ Some q)
-    × ((t : Txn) × (slice_get txns (name names index).txn ≡ Some t) × (slice_get t.reads (name names index).read ≡ Some q.0)
-    × (t.snapshot ≡ q.1))
+    × (slice_get (ranges_in txns) (name names index).range ≡ Some q.0)
+    × ((t : Txn) × (slice_get txns (name names index).txn ≡ Some t) × (t.snapshot ≡ q.1))
 found txns names named index within =
     let q = some_at (queries_named txns names) index within in
     let inside : index < length names = omega (arith, within, name_count txns names named) in
-    let is : slice_get names index ≡ Some (name names index) = slice_get-get_or names index (record { txn = 0; read = 0 }) inside in
-    (q.0, q.1, read_found txns (name names index) q.0 (named_at txns names named index (name names index) q.0 is q.1))
+    let is : slice_get names index ≡ Some (name names index) =
+    slice_get-get_or names index (record { txn = 0; range = 0 }) inside in
+    let it = name_found txns (name names index) q.0 (named_at txns names named index (name names index) q.0 is q.1) in
+    (q.0, q.1, it.0, it.1)
 
 -- what holds of what is found
 pub held : {X : Type 0} (P : X → Type 0) (o : Option X) (x : X) → o ≡ Some x → P x → IsSomeAnd o P

@@ -3,6 +3,7 @@ use Rattle.std.specs.Prelude.{◌≡◌, ◌↔◌, ℕ, ◌+◌, ℤ, Bool, fal
 use Rattle.std.specs.List.{AllZip, list_any}
 use Rattle.keys.specs.declared.range.Range.{Range}
 use Rattle.keyspace.specs.declared.txn.Txn.{Txn}
+use Rattle.keyspace.specs.BatchRanges.{ranges_in}
 use Rattle.keyspace.specs.Writes.{Write}
 use Rattle.keyspace.specs.Judge.{is_hit, is_too_old}
 use Rattle.conflict.specs.declared.asking.Part.{Part}
@@ -10,17 +11,17 @@ use Rattle.conflict.specs.declared.read_name.ReadName.{ReadName}
 use Rattle.stepmap.specs.StepMap.{Steps}
 use Rattle.stepmap.specs.Covers.{IsAbove}
 
--- what a name asks for: the read range, at the snapshot of its transaction
+-- what a name asks for: the range, at the snapshot of its transaction
 abbrev pub query_named : List Txn → ReadName → Option (Range × ℤ)
 query_named txns name =
-    option_and_then (λ t. option_map (λ range. (range, t.snapshot)) (slice_get t.reads name.read))
+    option_and_then (λ t. option_map (λ range. (range, t.snapshot)) (slice_get (ranges_in txns) name.range))
     (slice_get txns name.txn)
 
 -- what the names ask for, in order
 abbrev pub queries_named : List Txn → List ReadName → List (Range × ℤ)
 queries_named txns names = flat_map (λ name. option_to_list (query_named txns name)) names
 
--- each name is that of a read range
+-- each name is that of a range
 abbrev pub AreNamed : List Txn → List ReadName → Type 0
 AreNamed txns names = map (query_named txns) names ≡ map Some (queries_named txns names)
 

@@ -70,7 +70,8 @@ fn list_first(asked: &mut Vec<ReadName>, oldest: i64, batch: &Batch) -> Result<(
     asked.clear();
     for index in 0..batch.txns.len() {
         let txn = batch.txns.txn(index);
-        push_reads(asked, index as u16, &txn, 0, first_count(&txn, oldest))?;
+        let first = first_count(&txn, oldest);
+        push_reads(asked, &batch.txns, index as u16, 0, first)?;
     }
     Ok(())
 }
@@ -98,7 +99,7 @@ fn list_others(
         let (own, later) = rest.split_at(first);
         let from = others_from(&txn, oldest, own);
         let count = txn.reads.len();
-        push_reads(asked, index as u16, &txn, from, count)?;
+        push_reads(asked, &batch.txns, index as u16, from, count)?;
         parts.push(Part {
             first,
             others: count - from,

@@ -1,10 +1,10 @@
 //! The read ranges of the transactions of a batch, by indices, and the queries that they are.
 
-ghost use Rattle.std.specs.Prelude.{◌≡◌, ◌<◌, ◌≤◌, ◌++◌, List, length, map, slice_get, slice_range, Some, OnOk};
+ghost use Rattle.std.specs.Prelude.{◌≡◌, ◌≤◌, ◌++◌, length, map, slice_get, slice_range, Some, IsSomeAnd, OnOk};
 ghost use Rattle.keyspace.specs.declared.txn.Txn.{Txn};
 ghost use Rattle.conflict.specs.Asking.{asked_at, query_named, queries_named, AreNamed};
 
-use keyspace::{TxnRef, Txns};
+use keyspace::Txns;
 use std::alloc::AllocError;
 use stepmap::{QueryList, RangeQuery};
 
@@ -13,29 +13,29 @@ use stepmap::{QueryList, RangeQuery};
 pub struct ReadName {
     /// The index of the transaction.
     pub txn: u16,
-    /// The index among its read ranges.
-    pub read: u16,
+    /// The index of the range among those of all transactions.
+    pub range: u32,
 }
 
-/// Appends the names of those of the transaction's read ranges from one index up to another. It has this index itself.
+/// Appends the names of those read ranges of the transaction at the index that stand from one index up to another.
 pub fn push_reads(
     names: &mut Vec<ReadName>,
+    txns: &Txns,
     index: u16,
-    txn: &TxnRef<'_>,
     from: usize,
     to: usize,
 ) -> Result<(), AllocError>
     requires ordered { from ≤ to }
-    requires within { to ≤ length txn.now.reads }
-    ensures named { OnOk result ((txns : List Txn) → slice_get txns index ≡ Some txn.now
-        → map (query_named txns) names.new.items
-        ≡ map (query_named txns) names.old.items
-        ++ map Some (asked_at txn.now.snapshot (slice_range txn.now.reads from to))) }
+    requires within { IsSomeAnd (slice_get txns.now index) (λ txn. to ≤ length txn.reads) }
+    ensures named { OnOk result ((txn : Txn) → slice_get txns.now index ≡ Some txn
+        → map (query_named txns.now) names.new.items
+        ≡ map (query_named txns.now) names.old.items
+        ++ map Some (asked_at txn.snapshot (slice_range txn.reads from to))) }
 {
     for read in from..to {
         names.push(ReadName {
             txn: index,
-            read: read as u16,
+            range: txns.read_index(index as usize, read),
         })?;
     }
     Ok(())
@@ -68,8 +68,7 @@ impl QueryList for AskedReads<'_> {
     }
 
     fn hash(&self, index: usize) -> Option<u32> {
-        let name = self.names[index];
-        self.txns.read_hash(name.txn as usize, name.read as usize)
+        self.txns.hash(self.names[index].range as usize)
     }
 
     fn version(&self, index: usize) -> i64 {
@@ -79,22 +78,10 @@ impl QueryList for AskedReads<'_> {
 
     fn query(&self, index: usize) -> RangeQuery<'_> {
         let name = self.names[index];
-        let txn = self.txns.txn(name.txn as usize);
-        let hash = self.txns.read_hash(name.txn as usize, name.read as usize);
-        query_of(&txn, name.read as usize, hash)
-    }
-}
-
-// Returns the query for the read range at the index, which has this hash, at the snapshot of the transaction.
-fn query_of<'a>(txn: &TxnRef<'a>, read: usize, hash: Option<u32>) -> RangeQuery<'a>
-    requires within { read < length txn.now.reads }
-    ensures range { slice_get txn.now.reads read ≡ Some result.range }
-    ensures version { result.version ≡ txn.now.snapshot }
-    ensures hash { result.hash ≡ hash }
-{
-    RangeQuery {
-        range: txn.reads.get(read),
-        version: txn.snapshot,
-        hash,
+        RangeQuery {
+            range: self.txns.ranges().get(name.range as usize),
+            version: self.txns.snapshot(name.txn as usize),
+            hash: self.txns.hash(name.range as usize),
+        }
     }
 }

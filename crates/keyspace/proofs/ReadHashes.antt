@@ -1,6 +1,6 @@
 -- The read version of a transaction, and its read ranges, among all ranges of a batch, and the hashes of these.
-use Rattle.std.proofs.Common.{◌≡◌, ◌+◌, ◌-◌, ◌<◌, ◌≤◌, ℕ, Option, inl, inr, arith, List, length, take, refl, sym, ap, ◌∙◌, subst, Some, slice_get, slice_range, get_or}
-use Rattle.std.proofs.lemmas.List.{get_or-map}
+use Rattle.std.proofs.Common.{◌≡◌, ◌+◌, ◌-◌, ◌*◌, ◌<◌, ◌≤◌, ℕ, Option, inl, inr, arith, List, length, take, refl, sym, ap, ◌∙◌, subst, Some, slice_get, slice_range, get_or}
+use Rattle.std.proofs.lemmas.List.{get_or-map, length-map}
 use Rattle.std.proofs.lemmas.Option.{get_or_from_slice_get, slice_get_within}
 use Rattle.std.proofs.lemmas.Slice.Zip.{AllZip-long}
 use Rattle.keys.specs.Hash.{AreHashesOf, IsHashOf}
@@ -11,13 +11,13 @@ use Rattle.keyspace.specs.declared.txn.Txn.{Txn}
 use Rattle.keyspace.specs.declared.span.Span.{Span}
 use Rattle.keyspace.specs.declared.row.Row.{Row}
 use Rattle.keyspace.specs.BatchRanges.{ranges_in}
-use Rattle.keyspace.specs.Fields.{TxnFields, txn_fields, txns_with}
-use Rattle.keyspace.specs.Tables.{txn_told, txns_told, AreRows, AreTables}
+use Rattle.keyspace.specs.Fields.{TxnFields, range_fields, txn_fields, txns_with}
+use Rattle.keyspace.specs.Tables.{range_told, txn_told, txns_told, AreRows, AreTables}
 use Rattle.keyspace.proofs.callers.SameFields.{same_ranges}
 use Rattle.keyspace.proofs.FieldsBack.{fields_of_txns}
 use Rattle.keyspace.proofs.RangesTold.{part_told}
 use Rattle.keyspace.proofs.RowsInTurn.{rows_before, told_at}
-use Rattle.keyspace.proofs.TablesRanges.{ranges_told}
+use Rattle.keyspace.proofs.TablesRanges.{few_spans, ranges_told}
 use Rattle.keyspace.proofs.TablesTxns.{length-txns}
 
 module _ (buffer : List ℕ) (spans : List Span) (rows : List Row) (tables : AreTables buffer spans rows) where
@@ -61,6 +61,13 @@ module _ (buffer : List ℕ) (spans : List Span) (rows : List Row) (tables : Are
       let at : it.0 ≡ get_or rows index it.0 = sym (get_or_from_slice_get rows index it.0 it.0 it.1) in
       part_get (ranges_in txns) from (it.0.end - it.0.writes) read range
       (ap (λ (reads : List Range). slice_get reads read) (sym (reads_are index from it.0 txn before is at)) ∙ there)
+
+  -- there are only so many ranges
+  pub few_ranges : length (ranges_in txns) ≤ 2048 * length rows
+  few_ranges =
+      let told = ap length (ranges_told buffer spans rows tables tables.holds) in
+      let few = few_spans buffer spans rows tables in
+      omega (arith, few, told, length-map (ranges_in txns) range_fields, length-map spans (range_told buffer))
 
 module _ (ranges : List Range) (hashes : List (Option ℕ)) (are : AreHashesOf ranges hashes) (place : ℕ) (range : Range)
     (at : slice_get ranges place ≡ Some range) where

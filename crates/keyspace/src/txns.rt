@@ -38,6 +38,7 @@ pub struct Txns {
     // Of each range that is a single key; or none at all, where there is no such range.
     hashes: Vec<Option<u32>>,
     ghost tables: { AreTables buffer.items spans.items rows.items } by { AreTables-prop buffer.items spans.items rows.items },
+    ghost few: { vec_len rows ≤ MAX_TXNS },
 }
 
 impl Model for Txns {
@@ -129,14 +130,13 @@ impl Txns {
         self.rows[index].snapshot
     }
 
-    /// Returns what [`RangeRef::single_hash`](keys::RangeRef::single_hash) returns for a read range of a transaction, by their
-    /// indices, and looks at no key.
-    pub fn read_hash(&self, index: usize, read: usize) -> Option<u32>
+    /// Returns the index in [`Txns::ranges`] of a read range of a transaction, by their indices.
+    pub fn read_index(&self, index: usize, read: usize) -> u32
         requires within { IsSomeAnd (slice_get self.now index) (λ txn. read < length txn.reads) }
-        ensures hash { (txn : TxnValue) (range : Range) → slice_get self.now index ≡ Some txn
-            → slice_get txn.reads read ≡ Some range → IsHashOf range result }
+        ensures range { (txn : TxnValue) (range : Range) → slice_get self.now index ≡ Some txn
+            → slice_get txn.reads read ≡ Some range → slice_get (ranges_in self.now) result ≡ Some range }
     {
-        self.hash_at(first_span(&self.rows, index) as usize + read)
+        first_span(&self.rows, index) + read as u32
     }
 
     /// Returns the range at the index in [`Txns::ranges`], without copying its keys, and with its hash, without looking at them.
@@ -144,11 +144,12 @@ impl Txns {
         requires within { index < length (ranges_in self.now) }
         ensures range { slice_get (ranges_in self.now) index ≡ Some result }
     {
-        HashedRange::new(self.ranges().get(index), self.hash_at(index))
+        HashedRange::new(self.ranges().get(index), self.hash(index))
     }
 
-    // Returns what `RangeRef::single_hash` returns for the range at the index in `Txns::ranges`, and looks at no key.
-    fn hash_at(&self, index: usize) -> Option<u32>
+    /// Returns what [`RangeRef::single_hash`](keys::RangeRef::single_hash) returns for the range at the index in
+    /// [`Txns::ranges`], and looks at no key.
+    pub fn hash(&self, index: usize) -> Option<u32>
         ensures hash { (range : Range) → slice_get (ranges_in self.now) index ≡ Some range → IsHashOf range result }
     {
         match self.hashes.get(index) {

@@ -15,11 +15,11 @@ loop-index-preserved c =
     let oldest = to_z w64 (of_z w64 c.args.oldest) in
     let inside : i < length ts = omega (arith, c.loop-index-test.true, c.len-index-end.ensures.count) in
     let is = lent_at ts i t inside c.txn-txn.ensures.txn in
-    let reads : slice_range t.reads 0 c.first_count.result ≡ first_asked oldest t =
-    range_first t.reads c.first_count.result ∙ c.first_count.ensures.reads in
+    let reads : slice_range t.reads 0 c.first_count-first.result ≡ first_asked oldest t =
+    range_first t.reads c.first_count-first.result ∙ c.first_count-first.ensures.reads in
     let appended : map (query_named ts) c.push_reads.new.names.items
     ≡ map (query_named ts) c.loop-index.asked.items ++ map Some (asked_at t.snapshot (first_asked oldest t)) =
-    c.in_ok-push_reads.ensures.named ts c.txn-txn.ensures.txn
+    c.in_ok-push_reads.ensures.named t c.txn-txn.ensures.txn
     ∙ ap (λ ranges. map (query_named ts) c.loop-index.asked.items ++ map Some (asked_at t.snapshot ranges)) reads in
     let before = all_first oldest (take i ts) in
     named_more ts c.push_reads.new.names.items c.loop-index.asked.items before (asked_at t.snapshot (first_asked oldest t))

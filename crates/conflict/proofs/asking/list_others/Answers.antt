@@ -46,7 +46,7 @@ loop-index-preserved c =
     let more = asked_at t.snapshot (then_asked oldest t (take (length (first_asked oldest t)) rest)) in
     let appended : map (query_named ts) c.push_reads.new.names.items
     ≡ map (query_named ts) c.loop-index.asked.items ++ map Some more =
-    c.in_ok-push_reads.ensures.named ts c.txn-txn.ensures.txn
+    c.in_ok-push_reads.ensures.named t c.txn-txn.ensures.txn
     ∙ ap (λ ranges. map (query_named ts) c.loop-index.asked.items ++ map Some (asked_at t.snapshot ranges)) reads in
     let done = c.loop-index.invariant.1 in
     let left : c.len-count.result - from ≡ length (then_asked oldest t (take (length (first_asked oldest t)) rest)) =

@@ -1,51 +1,36 @@
-use Rattle.std.proofs.Common.{◌≡◌, ◌<◌, ℤ, ap, sym, subst, ◌∙◌, length, slice_get, Some}
+use Rattle.std.proofs.Common.{rules, SFits, w64, ◌≡◌, ◌<◌, ℤ, List, length, ap₂, sym, subst, ◌∙◌, Some}
+use Rattle.std.specs.Prelude.{IsSomeAnd}
+use Rattle.std.proofs.lemmas.Int.{to_z-of_z}
 use Rattle.std.proofs.lemmas.Option.{slice_get_within}
 use Rattle.keys.specs.declared.range.Range.{Range}
-use Rattle.keys.specs.Hash.{IsHashOf}
 use Rattle.keyspace.specs.declared.txn.Txn.{Txn}
-use Rattle.conflict.proofs.NamedQuery.{name, found, held}
+use Rattle.keyspace.specs.BatchRanges.{ranges_in}
+use Rattle.conflict.proofs.NamedQuery.{name, found}
 use Rattle.conflict.proofs.read_name.AskedReadsQueryList.query.Goals as goal
 
-pub txn-txn-requires : goal.txn-txn-requires
-txn-txn-requires c =
-    let a = c.args.self.now in
-    let f = found a.txns.now a.names.now a.named c.args.index c.requires.within in
-    record { within = slice_get_within a.txns.now (name a.names.now c.args.index).txn f.2.0 f.2.1 }
-
-pub read_hash-hash-requires : goal.read_hash-hash-requires
-read_hash-hash-requires c =
+pub get-requires : goal.get-requires
+get-requires c =
     let a = c.args.self.now in
     let f = found a.txns.now a.names.now a.named c.args.index c.requires.within in
     let at = name a.names.now c.args.index in
     record {
-      within = held (λ (t : Txn). at.read < length t.reads) (slice_get a.txns.now at.txn) f.2.0 f.2.1
-          (slice_get_within f.2.0.reads at.read f.0.0 f.2.2);
+      within = subst (λ (ranges : List Range). at.range < length ranges) (sym c.ranges-2.ensures.ranges)
+          (slice_get_within (ranges_in a.txns.now) at.range f.0.0 f.2);
     }
 
-pub query_of-requires : goal.query_of-requires
-query_of-requires c =
+pub snapshot-requires : goal.snapshot-requires
+snapshot-requires c =
     let a = c.args.self.now in
     let f = found a.txns.now a.names.now a.named c.args.index c.requires.within in
-    let same : c.txn-txn.result ≡ f.2.0 = let lent = c.txn-txn.ensures.txn in let is = f.2.1 in cc in
-    record {
-      within = subst (λ (t : Txn). (name a.names.now c.args.index).read < length t.reads) (sym same)
-          (slice_get_within f.2.0.reads (name a.names.now c.args.index).read f.0.0 f.2.2);
-    }
+    record { within = slice_get_within a.txns.now (name a.names.now c.args.index).txn f.3.0 f.3.1 }
 
-pub returns : goal.returns
-returns c =
+pub returns-clause-query : goal.returns-clause-query
+returns-clause-query c =
     let a = c.args.self.now in
     let f = found a.txns.now a.names.now a.named c.args.index c.requires.within in
-    let at = name a.names.now c.args.index in
-    let same : c.txn-txn.result ≡ f.2.0 = let lent = c.txn-txn.ensures.txn in let is = f.2.1 in cc in
-    let range : c.query_of.result.range ≡ f.0.0 =
-    let lent = c.query_of.ensures.range in
-    let is = subst (λ (t : Txn). slice_get t.reads at.read ≡ Some f.0.0) (sym same) f.2.2 in cc in
-    let snapshot : c.query_of.result.version ≡ f.0.1 =
-    c.query_of.ensures.version ∙ ap (λ (t : Txn). t.snapshot) same ∙ f.2.3 in
-    record {
-      query = f.1 ∙ ap (λ (r : Range). Some (r, f.0.1)) (sym range)
-          ∙ ap (λ (s : ℤ). Some (c.query_of.result.range, s)) (sym snapshot);
-      hash = subst (IsHashOf c.query_of.result.range) (sym c.query_of.ensures.hash)
-          (subst (λ r. IsHashOf r c.read_hash-hash.result) (sym range) (c.read_hash-hash.ensures.hash f.2.0 f.0.0 f.2.1 f.2.2));
-    }
+    let range : f.0.0 ≡ c.get.result =
+    let all = c.ranges-2.ensures.ranges in let lent = c.get.ensures.range in let is = f.2 in cc in
+    let same = subst (λ o. IsSomeAnd o (λ (t : Txn). c.snapshot.result ≡ t.snapshot)) f.3.1 c.snapshot.ensures.snapshot in
+    let fits : SFits w64 c.snapshot.result = search rules in
+    f.1 ∙ ap₂ (λ (r : Range) (version : ℤ). Some (r, version)) range
+    (sym (to_z-of_z w64 c.snapshot.result fits ∙ same ∙ f.3.2))

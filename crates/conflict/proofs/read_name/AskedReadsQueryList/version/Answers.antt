@@ -12,15 +12,15 @@ pub snapshot-requires : goal.snapshot-requires
 snapshot-requires c =
     let a = c.args.self.now in
     let f = found a.txns.now a.names.now a.named c.args.index c.requires.within in
-    record { within = slice_get_within a.txns.now (name a.names.now c.args.index).txn f.2.0 f.2.1 }
+    record { within = slice_get_within a.txns.now (name a.names.now c.args.index).txn f.3.0 f.3.1 }
 
 pub returns : goal.returns
 returns c =
     let a = c.args.self.now in
     let f = found a.txns.now a.names.now a.named c.args.index c.requires.within in
-    let same = subst (λ o. IsSomeAnd o (λ (t : Txn). c.snapshot.result ≡ t.snapshot)) f.2.1 c.snapshot.ensures.snapshot in
+    let same = subst (λ o. IsSomeAnd o (λ (t : Txn). c.snapshot.result ≡ t.snapshot)) f.3.1 c.snapshot.ensures.snapshot in
     let fits : SFits w64 c.snapshot.result = search rules in
     record {
       version = held (λ (q : Range × ℤ). _ ≡ q.1) (slice_get (queries_named a.txns.now a.names.now) c.args.index) f.0 f.1
-          (to_z-of_z w64 c.snapshot.result fits ∙ same ∙ f.2.3);
+          (to_z-of_z w64 c.snapshot.result fits ∙ same ∙ f.3.2);
     }

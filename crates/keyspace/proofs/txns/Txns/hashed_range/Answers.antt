@@ -5,6 +5,6 @@ use Rattle.keyspace.proofs.txns.Txns.hashed_range.Goals as goal
 
 pub new-requires : goal.new-requires
 new-requires c = record {
-  hash = c.hash_at.ensures.hash c.get.result
+  hash = c.hash.ensures.hash c.get.result
       (ap (λ (ranges : List Range). slice_get ranges c.args.index) (sym c.ranges-2.ensures.ranges) ∙ c.get.ensures.range);
 }

@@ -5,7 +5,7 @@ use Rattle.keyspace.specs.BatchRanges.{ranges_in}
 use Rattle.keyspace.specs.Fields.{txns_with}
 use Rattle.keyspace.specs.Tables.{txns_told}
 use Rattle.keyspace.proofs.ReadHashes.{hash_found, hash_missing}
-use Rattle.keyspace.proofs.txns.Txns.hash_at.Goals as goal
+use Rattle.keyspace.proofs.txns.Txns.hash.Goals as goal
 
 pub returns-in-Some : goal.returns-in-Some
 returns-in-Some c =

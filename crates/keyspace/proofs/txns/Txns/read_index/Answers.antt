@@ -1,14 +1,15 @@
-use Rattle.std.proofs.Common.{◌≡◌, ◌+◌, ◌<◌, ℕ, List, length, take, refl, sym, ap, ◌∙◌, subst}
+use Rattle.std.proofs.Common.{arith, ◌≡◌, ◌+◌, ◌<◌, ℕ, List, length, take, refl, sym, ap, ◌∙◌, subst}
 use Rattle.std.specs.Prelude.{Option, Some, None, IsSomeAnd, slice_get}
+use Rattle.std.proofs.lemmas.Option.{slice_get_within}
 use Rattle.keys.specs.declared.range.Range.{Range}
 use Rattle.keys.proofs.callers.Lists.{some_at}
 use Rattle.keyspace.specs.declared.txn.Txn.{Txn}
 use Rattle.keyspace.specs.declared.row.Row.{Row}
 use Rattle.keyspace.specs.BatchRanges.{ranges_in}
 use Rattle.keyspace.specs.Tables.{AreRows}
-use Rattle.keyspace.proofs.ReadHashes.{row_within, read_at}
-use Rattle.keyspace.proofs.txns.Txns.read_hash.Goals.{After-first_span}
-use Rattle.keyspace.proofs.txns.Txns.read_hash.Goals as goal
+use Rattle.keyspace.proofs.ReadHashes.{row_within, read_at, few_ranges}
+use Rattle.keyspace.proofs.txns.Txns.read_index.Goals.{After-first_span}
+use Rattle.keyspace.proofs.txns.Txns.read_index.Goals as goal
 
 -- the transaction at the index, with a range at the other
 named : (found : Option Txn) (read : ℕ) → IsSomeAnd found (λ txn. read < length txn.reads)
@@ -36,7 +37,18 @@ place c txn range is there =
     ∙ read_at tables.buffer.items tables.spans.items tables.rows.items tables.tables c.args.index c.args.read
     c.first_span.result txn range before (ap (λ (txns : List Txn). slice_get txns c.args.index) c.self.view_is ∙ is) there
 
+pub overflow_add-result : goal.overflow_add-result
+overflow_add-result c =
+    let at = goal.at.overflow_add-result c in
+    let tables = c.self.inside in
+    let it = named (slice_get c.args.self.now c.args.index) c.args.read c.requires.within in
+    let within = slice_get_within (ranges_in c.args.self.now) (c.first_span.result + c.args.read) it.2.0
+    (place at.After-first_span it.0 it.2.0 it.1 it.2.1) in
+    let count = ap (λ (txns : List Txn). length (ranges_in txns)) c.self.view_is in
+    let few = few_ranges tables.buffer.items tables.spans.items tables.rows.items tables.tables in
+    omega (arith, within, count, few, tables.few, tables.rows.ok.0)
+
 pub returns : goal.returns
 returns c =
     let at = goal.at.returns c in
-    record { hash = λ txn range is there. c.hash_at.ensures.hash range (place at.After-first_span txn range is there) }
+    record { range = place at.After-first_span }
