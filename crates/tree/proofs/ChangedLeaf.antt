@@ -1,19 +1,26 @@
 -- A subtree that stays as it is, and a leaf that is changed where it lies.
-use Rattle.std.proofs.Common.{◌≡◌, ℕ, ℤ, ◌≤◌, [], ◌∷◌, None, length, refl, sym, subst, arith, inl}
+use Rattle.std.proofs.Common.{◌≡◌, ℕ, ℤ, ◌≤◌, ◌∙◌, Bool, List, [], ◌∷◌, Option, None, Some, length, refl, sym, subst, arith, inl}
 use Rattle.std.specs.Prelude.{IfSome}
-use Rattle.arena.specs.Arena.{Arena, with_header}
+use Rattle.arena.specs.Arena.{Arena, header_at, with_header}
+use Rattle.tree.specs.declared.entry.Entry.{Entry}
 use Rattle.tree.specs.declared.node.Node.{Node}
 use Rattle.tree.specs.declared.walk.Outcome.{Outcome}
-use Rattle.tree.specs.declared.walk.Outcome.TheVariants.{Same, Raised}
+use Rattle.tree.specs.declared.walk.Outcome.TheVariants.{Same, Raised, Changed}
+use Rattle.tree.specs.Finding.{CanFind, CanStep}
 use Rattle.tree.specs.Heads.{KeyBytes, AllAreHeads, AreHeads}
 use Rattle.tree.specs.Node.{key_heads_of, all_heads_of}
+use Rattle.tree.specs.Item.{Item}
+use Rattle.tree.specs.Overwrite.{IsPartOfPartitioned}
 use Rattle.tree.specs.Replace.{slots_with, Changes}
 use Rattle.tree.specs.Subtree.{entries_at, items_in, IsSubtree}
 use Rattle.tree.specs.Tree.{least_of}
-use Rattle.tree.specs.Walk.{CanChange, IsChanged, IsRaised, added_by}
+use Rattle.tree.specs.Walk.{CanChange, CanChangeLeaf, IsChanged, IsRaised, added_by}
 use Rattle.tree.proofs.Changing.{changes_if_moves}
+use Rattle.tree.proofs.Headed.{headed_at, key_heads_kept}
 use Rattle.tree.proofs.KnownKeys.{headed_header}
-use Rattle.tree.proofs.Placing.{put_live, put_moves}
+use Rattle.tree.proofs.Leaves.{entries_of_partitioned}
+use Rattle.tree.proofs.Placing.{entries_from_header, put_live, put_moves}
+use Rattle.tree.proofs.WrittenLeaf.{part_partitioned}
 
 -- A subtree that stays as it is.
 pub unchanged : {N : ℕ} (bytes : KeyBytes) (nodes : Arena (Node N)) (height slot : ℕ) → CanChange nodes height slot
@@ -57,4 +64,43 @@ leaf_put {N} bytes old new slot node outcome put can all headed none same raised
       changes = subst (λ o. Changes old new (slot ∷ []) (slots_with new 0 slot o)) (sym none) changes;
       taken = omega (arith, changes.live, changes.spare);
       headed = headed_header bytes old new slot node put all headed;
+    }
+
+-- likewise where nothing is told of its first key
+pub leaf_changed : {N : ℕ} {bytes : KeyBytes} {is_below : ℕ → Bool} {target : List ℕ} {Wants : List Item → Type 0}
+    {nodes : Arena (Node N)} {slot : ℕ} {shared : Option ℕ} {taken : List Entry} (node : Node N)
+    → CanChangeLeaf bytes is_below target Wants nodes 0 slot shared taken → AreHeads bytes (key_heads_of node)
+    → IsChanged bytes nodes (with_header nodes slot node) 0 slot Changed
+leaf_changed {N} {bytes} {is_below} {target} {Wants} {nodes} {slot} {shared} {taken} node can headed =
+    leaf_put bytes nodes (with_header nodes slot node) slot node Changed refl can.changeable can.searched.headed headed refl
+    (λ e. absurd (cc)) (λ version e. absurd (cc))
+
+-- In a leaf that may be changed, and that was read, the bound can be sought.
+pub leaf_can_step : {N : ℕ} {bytes : KeyBytes} {is_below : ℕ → Bool} {target : List ℕ} {Wants : List Item → Type 0}
+    {nodes : Arena (Node N)} {slot : ℕ} {shared : Option ℕ} {taken : List Entry} {leaf : Node N}
+    → CanChangeLeaf bytes is_below target Wants nodes 0 slot shared taken → header_at nodes slot ≡ Some leaf
+    → CanStep bytes is_below target leaf shared
+leaf_can_step {N} {bytes} {is_below} {target} {Wants} {nodes} {slot} {shared} {taken} {leaf} can header =
+    let read = entries_from_header nodes slot leaf header in
+    let partitioned = entries_of_partitioned is_below (entries_at nodes slot) can.searched.partitioned in
+    record {
+      can_find = record {
+        headed = headed_at bytes nodes slot leaf can.searched.headed header;
+        partitioned = rw read at partitioned;
+        some = rw read at can.changeable.some;
+      };
+      known = rw read at can.searched.known;
+    }
+
+-- So can another bound, of keys that have the same bytes, that goes through items of which the leaf's are a part.
+pub leaf_can_find : {N : ℕ} {bytes : KeyBytes} {is_below : ℕ → Bool} {leaf : Node N} (nodes : Arena (Node N)) (slot : ℕ)
+    → CanFind bytes is_below leaf → (near : KeyBytes) (other : ℕ → Bool) → ((key : ℕ) → near key ≡ bytes key)
+    → header_at nodes slot ≡ Some leaf → IsPartOfPartitioned other (items_in nodes 0 slot) → CanFind near other leaf
+leaf_can_find {N} {bytes} {is_below} {leaf} nodes slot can near other same header part =
+    let partitioned = entries_of_partitioned other (entries_at nodes slot)
+    (part_partitioned other (items_in nodes 0 slot) part) in
+    record {
+      headed = key_heads_kept bytes near (λ key text is. same key ∙ is) (key_heads_of leaf) can.headed;
+      partitioned = rw (entries_from_header nodes slot leaf header) at partitioned;
+      some = can.some;
     }

@@ -1,12 +1,11 @@
 -- How many entries of a leaf pass, and the keys that it has once it is changed.
-use Rattle.std.proofs.Common.{rules, option_map, unwrap_or, ◌≢◌, ◌≡◌, inl, ℕ, zero, suc, ◌≤◌, Bool, not, List, [], ◌∷◌, ◌++◌, Some, length, get_or, set, take, drop, filter, All, refl, sym, ◌∙◌, ap, subst, arith}
+use Rattle.std.proofs.Common.{rules, option_map, unwrap_or, ◌≢◌, ◌≡◌, inl, ℕ, zero, suc, ◌≤◌, Bool, not, List, [], ◌∷◌, Some, length, get_or, set, take, drop, filter, refl, sym, ◌∙◌, ap, subst, arith}
 use Rattle.std.specs.Prelude.{IfSome}
 use Rattle.std.proofs.lemmas.List.{take_at, drop_at, length-map}
-use Rattle.std.proofs.lemmas.List.Elements.{All-nil, All-cons, All-head, All-tail}
+use Rattle.std.proofs.lemmas.List.Elements.{All-nil, All-cons}
 use Rattle.std.specs.FinMap as finite
 use Rattle.std.specs.Ordering.{nat_cmp}
 use Rattle.arena.specs.Arena.{Arena, Record, record_at}
-use Rattle.keys.specs.Head.{head_of}
 use Rattle.keys.specs.Key.{IsBytes}
 use Rattle.tree.specs.declared.entry.Entry.{Entry}
 use Rattle.tree.specs.declared.node.Node.{Node}
@@ -16,6 +15,7 @@ use Rattle.tree.specs.Node.{entries_of, key_heads_of, all_heads_of, keys_of}
 use Rattle.tree.specs.Path.{IsPartitioned}
 use Rattle.tree.specs.Subtree.{entries_at, items_in, IsSubtree}
 use Rattle.tree.specs.Tree.{IsTree}
+use Rattle.tree.proofs.HeadOrder.{empty_head}
 use Rattle.tree.proofs.Headed.{headed_put}
 
 -- so many entries are below the bound, and the others stand behind them
@@ -53,21 +53,6 @@ module _ {N : ℕ} where
       keys_set (x ∷ es) zero d e same = ap (λ k. k ∷ keys_of es) same
       keys_set (x ∷ es) (suc i) d e same = ap (λ ks. x.key ∷ ks) (keys_set es i d e same)
 
-module _ (P : ℕ → Type 0) where
-  -- what holds of all keys, and of that of an entry, holds of all where it is inserted
-  pub keys_inserted : (es : List Entry) (i : ℕ) (e : Entry) → All P (keys_of es) → P e.key
-      → All P (keys_of (take i es ++ e ∷ drop i es))
-  keys_inserted [] zero e a p = All-cons P e.key [] p a
-  keys_inserted [] (suc i) e a p = All-cons P e.key [] p a
-  keys_inserted (x ∷ es) zero e a p = All-cons P e.key (keys_of (x ∷ es)) p a
-  keys_inserted (x ∷ es) (suc i) e a p =
-      All-cons P x.key (keys_of (take i es ++ e ∷ drop i es)) (All-head P x.key (keys_of es) a)
-      (keys_inserted es i e (All-tail P x.key (keys_of es) a) p)
-
-empty_head : head_behind 0 [] ≡ 0
-unfolding head_of
-empty_head = refl
-
 no_bytes : IsBytes []
 no_bytes = search rules
 
@@ -80,7 +65,7 @@ headed_empty bytes key empty =
       beginning = [];
       prefix_len = refl;
       begins = All-cons (Begins bytes []) key [] (record { text = []; known = empty; are_bytes = no_bytes; begins = inl refl }) (All-nil (Begins bytes []));
-      heads = ap (λ d. d ∷ []) (sym (ap (head_behind 0) text ∙ empty_head));
+      heads = ap (λ d. d ∷ []) (sym (ap (head_behind 0) text ∙ empty_head 0));
     }
 
 -- an arena whose only node has the empty key alone

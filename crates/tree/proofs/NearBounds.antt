@@ -28,39 +28,36 @@ begin_alike bytes near is_below target other es (Some known) n knows most alike 
     let tells = (knows e is).1 text (sym (same e.key) ∙ there) count within in
     tells.0 (omega (arith, few, most)) ∙ sym (fewer_alike count n other target few alike)
 
+-- What begins as far alike as what begins as all keys do does so too.
+prefix_too : (bytes near : KeyBytes) (key_heads : KeyHeads) (target other : List ℕ) → ((key : ℕ) → near key ≡ bytes key)
+    → HasPrefix near key_heads other → take key_heads.prefix_len other ≡ take key_heads.prefix_len target
+    → HasPrefix bytes key_heads target
+prefix_too bytes near key_heads target other same a alike = record {
+  key = a.key;
+  text = a.text;
+  there = a.there;
+  known = sym (same a.key) ∙ a.known;
+  long = a.long;
+  same = a.same ∙ alike;
+}
+
 -- What begins as far alike as what another bound looks for, which has a head, begins as all keys do.
 pub agrees_too : (bytes near : KeyBytes) (key_heads : KeyHeads) (target other : List ℕ) (shared : ℕ) (head : Option ℕ)
     → ((key : ℕ) → near key ≡ bytes key) → IfSome head (IsTargetHead near key_heads other) → is_some head ≡ true
     → key_heads.prefix_len ≤ shared → take shared other ≡ take shared target → HasPrefix bytes key_heads target
 agrees_too bytes near key_heads target other shared None same for some short alike = absurd (let t : false ≡ true = some in cc)
 agrees_too bytes near key_heads target other shared (Some head) same for some short alike =
-    let a = for.agrees in
-    record {
-      key = a.key;
-      text = a.text;
-      there = a.there;
-      known = sym (same a.key) ∙ a.known;
-      long = a.long;
-      same = a.same ∙ fewer_alike key_heads.prefix_len shared other target short alike;
-    }
+    prefix_too bytes near key_heads target other same for.agrees
+    (fewer_alike key_heads.prefix_len shared other target short alike)
 
 -- The head of what another bound looks for is that of the same bytes.
 pub same_head : (bytes near : KeyBytes) (key_heads : KeyHeads) (target other : List ℕ) → ((key : ℕ) → near key ≡ bytes key)
     → other ≡ target → (head : ℕ) → IsTargetHead near key_heads other head → IsTargetHead bytes key_heads target head
-same_head bytes near key_heads target other same is head for =
-    let a = for.agrees in
-    record {
-      agrees = record {
-        key = a.key;
-        text = a.text;
-        there = a.there;
-        known = sym (same a.key) ∙ a.known;
-        long = a.long;
-        same = a.same ∙ ap (take key_heads.prefix_len) is;
-      };
-      head_is = for.head_is ∙ ap (head_behind key_heads.prefix_len) is;
-      are_bytes = subst IsBytes is for.are_bytes;
-    }
+same_head bytes near key_heads target other same is head for = record {
+  agrees = prefix_too bytes near key_heads target other same for.agrees (ap (take key_heads.prefix_len) is);
+  head_is = for.head_is ∙ ap (head_behind key_heads.prefix_len) is;
+  are_bytes = subst IsBytes is for.are_bytes;
+}
 
 -- It is that of a key that has these bytes, where it is known.
 pub key_beside : (bytes near : KeyBytes) (key_heads : KeyHeads) (own : List ℕ) (head : Option ℕ) → ((key : ℕ) → near key ≡ bytes key)
@@ -69,14 +66,13 @@ pub key_beside : (bytes near : KeyBytes) (key_heads : KeyHeads) (own : List ℕ)
 key_beside bytes near key_heads own None same for some key is are_bytes = absurd (let t : false ≡ true = some in cc)
 key_beside bytes near key_heads own (Some head) same for some key is are_bytes =
     target_beside bytes key_heads key head (record { text = own; known = is; are_bytes = are_bytes })
-    (λ text there. let s : Some own ≡ Some text = sym is ∙ there in let e : own ≡ text = cc in same_head bytes near key_heads text own same e head for)
+    (λ text there. let s : Some own ≡ Some text = sym is ∙ there in same_head bytes near key_heads text own same (cc) head for)
 
 -- what holds of both keys holds of those of the entries that are put in
 pub both_put : (P : ℕ → Type 0) (ended : Bool) (first second : Entry) → P first.key → P second.key
     → All P (keys_of (entries_put ended first second))
 both_put P true first second p q = All-cons P first.key [] p (All-nil P)
-both_put P false first second p q =
-    All-cons P first.key (second.key ∷ []) p (All-cons P second.key [] q (All-nil P))
+both_put P false first second p q = All-cons P first.key (second.key ∷ []) p (All-cons P second.key [] q (All-nil P))
 
 -- what holds of both keys and their heads holds of as many heads as entries are put in
 pub both_zipped : (R : ℕ → ℕ → Type 0) (ended : Bool) (first second : Entry) (one other : ℕ) → R first.key one → R second.key other

@@ -1,13 +1,13 @@
 -- What is put in place of a run: one entry, and a second one unless the run is ended.
 use Rattle.std.proofs.Common.{◌≡◌, ◌≢◌, ℕ, ◌≤◌, inl, inr, Bool, true, false, not, ◌&&◌, if◌then◌else◌, List}
-use Rattle.std.proofs.Common.{[], ◌∷◌, ◌++◌, Option, Some, None, MatchOption, IsTrue, length, filter}
-use Rattle.std.proofs.Common.{map, refl, sym, ◌∙◌, ap, subst, arith}
+use Rattle.std.proofs.Common.{[], ◌∷◌, ◌++◌, Option, Some, None, MatchOption, length, filter}
+use Rattle.std.proofs.Common.{map, refl, ◌∙◌, ap, arith}
 use Rattle.std.proofs.lemmas.Bool.{cases_Bool}
 use Rattle.tree.specs.declared.entry.Entry.{Entry}
 use Rattle.tree.specs.Item.{Item, item_of}
-use Rattle.tree.specs.Path.{IsPartitioned, items_below, behind, between, first_key}
+use Rattle.tree.specs.Path.{IsPartitioned, items_below, behind, first_key}
 use Rattle.tree.specs.Tree.{ended_by}
-use Rattle.tree.proofs.callers.Partitions.{not_both, none_pass, rest_fails, IsPartitioned-parts}
+use Rattle.tree.proofs.callers.Partitions.{not_both, none_pass, rest_fails}
 
 -- the entries that are put in
 abbrev pub entries_put : Bool → Entry → Entry → List Entry
@@ -37,7 +37,7 @@ between_is q r (x ∷ items) =
     ]
 
 -- There is one that passes exactly if the first one does.
-first_tells : (r : ℕ → Bool) (items : List Item) (key : Option ℕ) (post : ℕ → Type 0) (result : Bool)
+pub first_tells : (r : ℕ → Bool) (items : List Item) (key : Option ℕ) (post : ℕ → Type 0) (result : Bool)
     → IsPartitioned (λ x. r x.key) items → key ≡ first_key None items → MatchOption key (result ≡ false) post
     → ((k : ℕ) → post k → result ≡ r k)
     → (result ≡ true → items_below r items ≢ []) × (items_below r items ≢ [] → result ≡ true)
@@ -55,15 +55,3 @@ first_tells r (x ∷ items) (Some k) post result partitioned is tested says =
           let none : filter p (x ∷ items) ≡ [] = (none_pass p (x ∷ items) (rest_fails p x items partitioned f)).0 in
           (λ ok. absurd (not_both result ok (told ∙ f)), λ some. absurd (some none))
     ]
-
--- The item behind the first bound tells whether there is one before the second.
-pub told_between : (q r : ℕ → Bool) (items : List Item) (key : Option ℕ) (post : ℕ → Type 0) (result : Bool)
-    → IsPartitioned (λ x. q x.key) items → IsPartitioned (λ x. r x.key) items → key ≡ first_key None (behind q items)
-    → MatchOption key (result ≡ false) post → ((k : ℕ) → post k → result ≡ r k)
-    → (IsTrue result → between (Some q) (Some r) items ≢ []) × (between (Some q) (Some r) items ≢ [] → IsTrue result)
-told_between q r items key post result first second is tested says =
-    let p = λ (x : Item). r x.key in
-    let parts = IsPartitioned-parts p (items_below q items) (behind q items) (subst (IsPartitioned p) first second) in
-    let told = first_tells r (behind q items) key post result parts.1 is tested says in
-    let same = between_is q r items in
-    (λ ok none. told.0 ok (sym same ∙ none), λ some. told.1 (λ none. some (same ∙ none)))

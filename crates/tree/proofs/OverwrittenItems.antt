@@ -9,8 +9,9 @@ use Rattle.tree.specs.Item.{Item}
 use Rattle.tree.specs.Overwrite.{Overwrites, first_is_below, put_of}
 use Rattle.tree.specs.Path.{IsPartitioned, items_below, behind, between, first_key}
 use Rattle.tree.specs.Tree.{ended_by}
+use Rattle.tree.proofs.callers.Partitions.{IsPartitioned-parts}
 use Rattle.tree.proofs.Inserting.{ended_some}
-use Rattle.tree.proofs.Overwriting.{told_between}
+use Rattle.tree.proofs.Overwriting.{between_is, first_tells}
 
 -- two at most
 pub put_most : (written : Written) → put_of written ≤ 2
@@ -51,25 +52,16 @@ module _ (p q r : ℕ → Bool) (nested : (key : ℕ) → p key ≡ true → q k
       let end = ended_some (items_below q was) some in
       let x : Item = record { key = second; version = unwrap_or given end.last.version } in
       let now_is = ap length (h.written end.last (end.front, end.is)) in
-      let sizes = length-between was in
       let all = length-append (items_below p was) (first ∷ ended_by ended x ++ behind q was) in
       let new = length-append (ended_by ended x) (behind q was) in (
-        omega (arith, sizes, ap length h.run_is, now_is, all, new, length-put ended x),
+        omega (arith, length-between was, ap length h.run_is, now_is, all, new, length-put ended x),
         omega (arith, now_is, all),
       )
   length-overwritten first second given (Partly last) run was now some h =
       let now_is = ap length h.now_is in
-      let all = length-append (items_below p was) (h.kept ++ behind q was) in
-      let rest = length-append h.kept (behind q was) in (
-        omega (arith, length-between was, ap length h.run_is, now_is, all, rest, length-append h.kept run),
-        omega (
-          arith,
-          now_is,
-          all,
-          rest,
-          length-append (items_below p was) h.kept,
-          some_left (items_below p was ++ h.kept) h.first,
-        ),
+      let left = some_left (items_below p was ++ h.kept) h.first in (
+        omega (arith, length-between was, ap length h.run_is, now_is, length-append {A = Item}),
+        omega (arith, now_is, left, length-append {A = Item}),
       )
 
 -- Whether the first key behind a bound is below another one tells whether an item stands between the two.
@@ -77,8 +69,11 @@ pub told_by_first : (q r : ℕ → Bool) (items : List Item) (ended : Bool) → 
     → IsPartitioned (λ x. r x.key) items → ended ≡ first_is_below r (first_key None (behind q items))
     → (IsTrue ended → between (Some q) (Some r) items ≢ []) × (between (Some q) (Some r) items ≢ [] → IsTrue ended)
 told_by_first q r items ended first second is =
-    told_between q r items (first_key None (behind q items)) (λ k. ended ≡ r k) ended first second refl
-    (tested (first_key None (behind q items)) is) (λ k same. same)
+    let p = λ (x : Item). r x.key in
+    let key = first_key None (behind q items) in
+    let parts = IsPartitioned-parts p (items_below q items) (behind q items) (rw first at second) in
+    let told = first_tells r (behind q items) key (λ k. ended ≡ r k) ended parts.1 refl (tested key is) (λ k same. same) in
+    rw (between_is q r items) told
   where
     tested : (key : Option ℕ) → ended ≡ first_is_below r key → MatchOption key (ended ≡ false) (λ k. ended ≡ r k)
     tested None is = is

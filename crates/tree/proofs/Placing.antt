@@ -10,9 +10,6 @@ use Rattle.tree.specs.Replace.{IsKeyless}
 use Rattle.tree.proofs.callers.Times.{times, once_cases}
 use Rattle.tree.proofs.Changing.{Moves, moves_beside, moves_header, record_put, record_kept}
 
-one_spare : (spare slots then : ℕ) → 0 < spare → then + 1 ≡ cond (nat_eq spare 0) slots spare → then + 1 ≡ spare
-one_spare spare slots then some e = e ∙ ap (λ b. cond b slots spare) (ne_eqb spare 0 (λ none. omega arith))
-
 -- slots that differ stand once in the list of both
 pub pair_once : (x y : ℕ) → x ≢ y → (s : ℕ) → times s (x ∷ y ∷ []) ≤ 1
 pair_once x y apart s = elim (once_cases s x) [
@@ -82,7 +79,7 @@ module _ {N : ℕ} where
 
   pub placed_spare : (a b : Arena (Node N)) → 0 < spare_of a 0
       → spare_of b 0 + 1 ≡ cond (nat_eq (spare_of a 0) 0) (slots_of 0) (spare_of a 0) → spare_of b 0 + 1 ≡ spare_of a 0
-  placed_spare a b some e = one_spare (spare_of a 0) (slots_of 0) (spare_of b 0) some e
+  placed_spare a b some e = e ∙ ap (λ b. cond b (slots_of 0) (spare_of a 0)) (ne_eqb (spare_of a 0) 0 (λ none. omega arith))
 
   -- one of two slots is changed
   pub moves_first : (a b : Arena (Node N)) (x y : ℕ) → x ≢ y → IsLive a y → Moves a b (x ∷ []) (x ∷ [])

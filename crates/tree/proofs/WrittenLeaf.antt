@@ -1,9 +1,9 @@
 -- The items of a leaf of which a run is written over, and what tells whether the run is ended.
 use Rattle.std.proofs.Common.{◌≡◌, ◌≢◌, ◌⊎◌, inl, inr, ℕ, ℤ, ◌-◌, ◌<◌, ◌≤◌, Bool, true, false, not, List, [], ◌∷◌, ◌++◌, Option}
 use Rattle.std.proofs.Common.{Bor, Some, None, MatchOption, length, get_or, slice_get, take, drop, filter, map, All, Any, refl, sym}
-use Rattle.std.proofs.Common.{◌∙◌, ap, ap₂, subst, arith}
+use Rattle.std.proofs.Common.{◌∙◌, ap, arith, length-append}
 use Rattle.std.proofs.lemmas.List.{append-nil, map-append, length-map, length-take-le, take-append-drop, drop_at, at_drop_more, at_drop_all}
-use Rattle.std.proofs.lemmas.List.Elements.{All-nil, All-cons, All-tail, All-append, All-filter, All-weaker, Contains-get_or, filter-append, filter_passes}
+use Rattle.std.proofs.lemmas.List.Elements.{All-nil, All-cons, All-head, All-append, All-filter, All-weaker, Contains-get_or, filter-append, filter_passes}
 use Rattle.std.proofs.lemmas.Option.{slice_get-get_or}
 use Rattle.std.specs.Prelude.{option_copied}
 use Rattle.keys.proofs.callers.SomeElement.{Any-first, Any-right}
@@ -13,7 +13,7 @@ use Rattle.tree.specs.Overwrite.{IsOverwritten, IsPartOfPartitioned, first_is_be
 use Rattle.tree.specs.Path.{IsPartitioned, items_below, behind, between, first_key}
 use Rattle.tree.specs.Tree.{IsLast, ended_by}
 use Rattle.tree.specs.Walk.{IsRaised}
-use Rattle.tree.proofs.callers.Partitions.{none_fail, IsPartitioned-parts}
+use Rattle.tree.proofs.callers.Partitions.{All-back, none_fail, IsPartitioned-parts}
 use Rattle.tree.proofs.Inserting.{ended_some, same_ends}
 use Rattle.tree.proofs.LeafChange.{parted}
 use Rattle.tree.proofs.Leaves.{IsLeaf, filter-items, last_passing}
@@ -63,12 +63,11 @@ module _ (p q : ℕ → Bool) (nested : (key : ℕ) → p key ≡ true → q key
       let from = (parted p es begin first_bound begins).0 in
       let to = (parted q es end second_bound ends).0 in
       let pass : All (λ (e : Entry). q e.key ≡ true) front =
-      subst (All (λ (e : Entry). q e.key ≡ true)) (sym from)
+      rw from
       (All-weaker (λ (e : Entry). p e.key ≡ true) (λ (e : Entry). q e.key ≡ true) (λ e. nested e.key)
       (filter (λ (e : Entry). p e.key) es) (filter_passes (λ (e : Entry). p e.key) es)) in
       let all : take end es ≡ front ++ filter there rest =
-      to ∙ ap (filter there) (sym (take-append-drop begin es)) ∙ filter-append there front rest
-      ∙ ap (λ xs. xs ++ filter there rest) (none_fail there front pass).0 in
+      cc (to, take-append-drop begin es, filter-append there front rest, (none_fail there front pass).0) in
       sym (ap (drop begin) all ∙ drop_at front (filter there rest) begin (length-take-le begin es within))
 
   -- and the items
@@ -81,14 +80,8 @@ module _ (p q : ℕ → Bool) (nested : (key : ℕ) → p key ≡ true → q key
   pub replaced : (new now : List Entry) → now ≡ take begin es ++ (new ++ drop end es)
       → map item_of now ≡ items_below p (map item_of es) ++ (map item_of new ++ behind q (map item_of es))
   replaced new now now_is =
-      ap (map item_of) now_is ∙ map-append item_of (take begin es) (new ++ drop end es)
-      ∙ ap (λ xs. map item_of (take begin es) ++ xs) (map-append item_of new (drop end es))
-      ∙ ap₂ (λ xs ys. xs ++ (map item_of new ++ ys)) (sym (items_parted p es begin first_bound begins).0)
-      (sym (items_parted q es end second_bound ends).1)
-
-no_last : (xs : List Item) (x : Item) → xs ++ x ∷ [] ≢ []
-no_last [] x e = cc
-no_last (y ∷ xs) x e = cc
+      rw (now_is, map-append item_of (take begin es) (new ++ drop end es), map-append item_of new (drop end es))
+      (rw ((items_parted p es begin first_bound begins).0, (items_parted q es end second_bound ends).1))
 
 -- The last entry below the bound, where it is lent, has the version of the last such item.
 pub last_version : (q : ℕ → Bool) (es passed : List Entry) (lent : Option (Bor Entry)) (version otherwise : ℤ)
@@ -102,7 +95,7 @@ last_version q es passed lent version otherwise post same is told says x ends =
     by_last : (lent : Option (Bor Entry)) → MatchOption lent (version ≡ otherwise) post
         → MatchOption (option_copied lent) (items_below q (map item_of es) ≡ [])
         (λ e. IsLast (item_of e) (items_below q (map item_of es))) → version ≡ x.version
-    by_last None told none = absurd (no_last ends.0 x (sym ends.1 ∙ none))
+    by_last None told none = absurd (omega (arith, length-append ends.0 (x ∷ []), ap length (sym ends.1 ∙ none)))
     by_last (Some e) told there =
         says e told
         ∙ ap (λ (x : Item). x.version) (same_ends there.0 ends.0 (item_of e.now) x (sym there.1 ∙ ends.1)).1
@@ -130,25 +123,19 @@ raised p q nested first second ended was now partitioned some some_second writte
     let P : Item → Type 0 = λ x. (x.version ≡ first.version) ⊎ Known x in
     let own : All P was = All-weaker Known P (λ x k. inr k) was (own_version was) in
     let last : Known end.last =
-    All-last Known end.front end.last
-    (subst (All Known) end.is (All-filter (λ (x : Item). q x.key) Known was (own_version was))) in
+    All-head Known end.last [] (All-back Known end.front (end.last ∷ [])
+    (rw end.is at (All-filter (λ (x : Item). q x.key) Known was (own_version was)))) in
     record {
       first = ap (first_key None) now_is ∙ first_of_front (items_below p was) rest (behind p was) some
           ∙ ap (first_key None) (sym partitioned);
-      there = subst (Any (λ (x : Item). x.version ≡ first.version)) (sym now_is)
-          (Any-right (λ (x : Item). x.version ≡ first.version) (items_below p was) rest
-          (Any-first (λ (x : Item). x.version ≡ first.version) first (ended_by ended x ++ behind q was) refl));
-      others = subst (All P) (sym now_is)
+      there = rw now_is (Any-right (λ (x : Item). x.version ≡ first.version) (items_below p was) rest (Any-first _ first _ refl));
+      others = rw now_is
           (All-append P (items_below p was) rest (All-filter (λ (x : Item). p x.key) P was own)
-          (All-cons P first (ended_by ended x ++ behind q was) (inl refl)
-          (All-append P (ended_by ended x) (behind q was) (All-ended_by P ended x (inr last))
+          (All-cons P first _ (inl refl)
+          (All-append P _ (behind q was) (All-ended_by P ended x (inr last))
           (All-filter (λ (x : Item). not (q x.key)) P was own))));
     }
   where
-    All-last : (P : Item → Type 0) (xs : List Item) (x : Item) → All P (xs ++ x ∷ []) → P x
-    All-last P [] x all = all 0 x (omega arith)
-    All-last P (y ∷ xs) x all = All-last P xs x (All-tail P y (xs ++ x ∷ []) all)
-
     -- what holds of an item holds of one that ends a run, if there is one
     All-ended_by : (P : Item → Type 0) (is_ended : Bool) (x : Item) → P x → All P (ended_by is_ended x)
     All-ended_by P true x holds = All-nil P

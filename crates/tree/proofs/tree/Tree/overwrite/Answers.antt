@@ -1,10 +1,8 @@
 use Rattle.std.proofs.Common.{rules, ◌≡◌, ◌≤◌, ◌+◌, ◌-◌, ◌∙◌, length, sym, subst, arith}
-use Rattle.std.proofs.Common.{[], map, Fits, w64}
+use Rattle.std.proofs.Common.{List, [], map, Fits, w64}
 use Rattle.std.proofs.lemmas.List.{append-nil, length-map}
 use Rattle.tree.specs.Item.{Item, item_of}
-use Rattle.tree.specs.Overwrite.{CanOverwrite, Overwrites, put_of}
-use Rattle.tree.specs.Node.{heads_list}
-use Rattle.tree.specs.Path.{IsPartitioned}
+use Rattle.tree.specs.Overwrite.{Overwrites, put_of}
 use Rattle.tree.specs.Subtree.{items_in}
 use Rattle.tree.specs.Tree.{Items}
 use Rattle.tree.proofs.Counting.{low, enough_spare}
@@ -22,9 +20,7 @@ pub change-requires : goal.change-requires
 change-requires g c =
     let t = c.self.inside in
     let new = c.args.new.now in
-    let p = g.P.Bound.below new.from.now in
-    let can = subst (λ (v : Items). CanOverwrite p (g.Q.Bound.below new.to.now) (g.R.Bound.below new.past.now) (g.Q.Bound.bytes new.to.now) v
-    c.args.taken.now.items) (sym c.self.view_is) c.requires.can_overwrite in
+    let can = rw (← c.self.view_is) at c.requires.can_overwrite in
     let height = low t.nodes t.root.slot t.root.height t.len t.room c.self.invariant (omega arith) in
     let spare = enough_spare t.nodes t.root.slot t.root.height t.len t.room c.self.invariant in (
       omega (arith, c.self.invariant.few),
@@ -41,69 +37,35 @@ change-requires g c =
           };
           partitioned = can.to;
           headed = headed_from_list (g.Q.Bound.bytes new.to.now) t.nodes can.headed;
-          wanted = (
-            [],
-            [],
-            subst (λ items. IsPartitioned (λ (x : Item). p x.key) items) (sym (append-nil (items_in t.nodes t.root.height t.root.slot))) can.from,
-          );
+          wanted = ([], [], rw (append-nil (items_in t.nodes t.root.height t.root.slot)) can.from);
           none_taken = can.none_taken;
         },
       ),
     )
 
--- what became of the items
-abbrev Done : (g : given.Over) → After-change g → Type 0
-Done g c =
-    let t = c.self.inside in
-    let n = c.change.new in
-    let new = c.args.new.now in
-    Overwrites (g.P.Bound.below new.from.now) (g.Q.Bound.below new.to.now) (g.R.Bound.below new.past.now)
-    (item_of new.first) new.second new.last n.change.written (map item_of n.taken.items)
-    (items_in t.nodes t.root.height t.root.slot) (items_in n.nodes n.root.height n.root.slot)
+module _ (g : given.Over) (c : After-change g) where
+  abbrev was : List Item
+  was = items_in c.self.inside.nodes c.self.inside.root.height c.self.inside.root.slot
 
--- what is asked of the tree's nodes
-can : (g : given.Over) (c : After-change g)
-    → CanOverwrite (g.P.Bound.below c.args.new.now.from.now) (g.Q.Bound.below c.args.new.now.to.now)
-    (g.R.Bound.below c.args.new.now.past.now) (g.Q.Bound.bytes c.args.new.now.to.now) (record {
-      items = items_in c.self.inside.nodes c.self.inside.root.height c.self.inside.root.slot;
-      room = c.self.inside.room;
-      all_heads = heads_list c.self.inside.nodes;
-    }) c.args.taken.now.items
-can g c =
-    let new = c.args.new.now in
-    subst (λ (v : Items). CanOverwrite (g.P.Bound.below new.from.now) (g.Q.Bound.below new.to.now) (g.R.Bound.below new.past.now)
-    (g.Q.Bound.bytes new.to.now) v c.args.taken.now.items) (sym c.self.view_is) c.requires.can_overwrite
+  abbrev now : List Item
+  now = items_in c.change.new.nodes c.change.new.root.height c.change.new.root.slot
 
-done : (g : given.Over) (c : After-change g) → Done g c
-done g c =
-    let t = c.self.inside in
-    let n = c.change.new in
-    let new = c.args.new.now in
-    let p = g.P.Bound.below new.from.now in
-    let q = g.Q.Bound.below new.to.now in
-    let past = g.R.Bound.below new.past.now in
-    overwritten p q past new.nested (item_of new.first) new.second new.last n.change.written (map item_of n.taken.items)
-    (items_in t.nodes t.root.height t.root.slot) (items_in n.nodes n.root.height n.root.slot) c.change.ensures.items
-    (can g c).from (can g c).to (can g c).past (can g c).some
+  abbrev taken : List Item
+  taken = map item_of c.change.new.taken.items
 
--- how many items there are
-abbrev Counted : (g : given.Over) → After-change g → Type 0
-Counted g c =
-    let t = c.self.inside in
-    let n = c.change.new in
-    (length (items_in n.nodes n.root.height n.root.slot) + length (map item_of n.taken.items)
-    ≡ length (items_in t.nodes t.root.height t.root.slot) + put_of n.change.written)
-    × (1 ≤ length (items_in n.nodes n.root.height n.root.slot))
+  -- what became of the items
+  done : Overwrites (g.P.Bound.below c.args.new.now.from.now) (g.Q.Bound.below c.args.new.now.to.now)
+      (g.R.Bound.below c.args.new.now.past.now) (item_of c.args.new.now.first) c.args.new.now.second c.args.new.now.last
+      c.change.new.change.written taken was now
+  done =
+      let can = rw (← c.self.view_is) at c.requires.can_overwrite in
+      overwritten _ _ _ c.args.new.now.nested _ _ _ _ taken was now c.change.ensures.items can.from can.to can.past can.some
 
-counted : (g : given.Over) (c : After-change g) → Counted g c
-counted g c =
-    let t = c.self.inside in
-    let n = c.change.new in
-    let new = c.args.new.now in
-    length-overwritten (g.P.Bound.below new.from.now) (g.Q.Bound.below new.to.now)
-    (g.R.Bound.below new.past.now) new.nested (item_of new.first) new.second new.last n.change.written
-    (map item_of n.taken.items) (items_in t.nodes t.root.height t.root.slot) (items_in n.nodes n.root.height n.root.slot)
-    (can g c).some (done g c)
+  -- how many items there are
+  counted : (length now + length taken ≡ length was + put_of c.change.new.change.written) × (1 ≤ length now)
+  counted =
+      let can = rw (← c.self.view_is) at c.requires.can_overwrite in
+      length-overwritten _ _ _ c.args.new.now.nested _ _ _ _ taken was now can.some done
 
 taken_is : (g : given.Over) (c : After-len g) → c.len.result ≡ length (map item_of c.change.new.taken.items)
 taken_is g c = c.len.ensures.value ∙ sym (length-map c.change.new.taken.items item_of)
@@ -112,8 +74,8 @@ pub overflow_add-self : goal.overflow_add-self
 overflow_add-self g c =
     let t = c.self.inside in
     let fits : Fits w64 t.room = search rules in
-    let room = (can g (goal.at.overflow_add-self g c).After-change).room in
-    omega (arith, fits, room, c.put.ensures.put, put_most c.change.new.change.written, c.self.invariant.counted)
+    let can = rw (← c.self.view_is) at c.requires.can_overwrite in
+    omega (arith, fits, can.room, c.put.ensures.put, put_most c.change.new.change.written, c.self.invariant.counted)
 
 pub overflow_sub-self : goal.overflow_sub-self
 overflow_sub-self g c =
@@ -134,22 +96,21 @@ invariant_of-self g c =
     let count = counted g at.After-change in
     let taken = taken_is g at.After-len in
     let put = c.put.ensures.put in
-    let room = (can g at.After-change).room in
+    let can = rw (← c.self.view_is) at c.requires.can_overwrite in
     let most = put_most n.change.written in
     tree_put t.nodes n.nodes t.root.slot t.root.height n.root.slot n.root.height t.len
     (t.len + c.put.result - c.len.result) t.room c.self.invariant c.change.ensures.rooted
     c.change.ensures.spare (omega (arith, count.0, taken, put, c.self.invariant.counted))
     (omega (arith, count.0, count.1, taken, put, c.self.invariant.counted))
-    (omega (arith, room, count.0, taken, put, most, c.self.invariant.counted))
+    (omega (arith, can.room, count.0, taken, put, most, c.self.invariant.counted))
 
 pub returns-clause-items : goal.returns-clause-items
 returns-clause-items g c =
     let at = (goal.at.returns-clause-items g c).After-change in
-    let n = c.change.new in
     let new = c.args.new.now in
     subst (λ (v : Items). Overwrites (g.P.Bound.below new.from.now) (g.Q.Bound.below new.to.now)
-    (g.R.Bound.below new.past.now) (item_of new.first) new.second new.last n.change.written
-    (map item_of n.taken.items) v.items (items_in n.nodes n.root.height n.root.slot)) c.self.view_is (done g at)
+    (g.R.Bound.below new.past.now) (item_of new.first) new.second new.last c.change.new.change.written
+    (taken g at) v.items (now g at)) c.self.view_is (done g at)
 
 pub returns-clause-headed : goal.returns-clause-headed
 returns-clause-headed g c =
