@@ -17,8 +17,7 @@ common_prefix_len_at-requires g c =
         live_subtree c.args.nodes.now (least_of g.row.N) c.args.root.now.height c.args.root.now.slot can.rooted.subtree,
         (
           can.some,
-          subst (λ p. AllAreHeads (g.C.LeafBound.Bound.bytes p) (all_heads_of c.args.nodes.now)) (sym c.leaf_bound.ensures.leaf_bound)
-              c.requires.can_change.headed,
+          rw c.leaf_bound.ensures.leaf_bound c.requires.can_change.headed,
         ),
       ),
     )
@@ -60,43 +59,31 @@ change_leaf-requires g c =
 
 pub grow-requires : goal.grow-requires
 grow-requires g c =
-    let a = c.args.nodes.now in
-    let b = c.change_leaf.new.nodes in
-    let L = least_of g.row.N in
-    let root = c.args.root.now in
     let can = c.requires.can_change.changeable in
     let put = c.change_leaf.ensures.changed in
-    let is = sym c.in-Some.ensures.added in
-    let changes = subst (λ o. Changes a b (slots_in a root.height root.slot) (slots_with b root.height root.slot o)) is
-    put.changes in (
+    let changes = rw (← c.in-Some.ensures.added) at put.changes in (
       search rules,
       record {
         fan_out = can.fan_out;
         few = can.few;
         low = can.low;
         first = put.subtree;
-        second = subst (λ o. IfSome o (λ s. IsSubtree b L root.height s)) is put.neighbour;
-        filled = subst (λ o. IfSome o (λ s. (L ≤ length (entries_at b root.slot)) × (L ≤ length (entries_at b s)))) is put.filled;
+        second = rw (← c.in-Some.ensures.added) at put.neighbour;
+        filled = rw (← c.in-Some.ensures.added) at put.filled;
         distinct = changes.distinct;
         linked = omega (arith, changes.live, can.rooted.linked);
         keyless = changes.keyless;
         room = omega (arith, put.taken, can.room);
-        headed = subst (λ p. AllAreHeads (g.C.LeafBound.Bound.bytes p) (all_heads_of b))
-            (sym (c.leaf_bound-in-Some.ensures.leaf_bound ∙ c.change_leaf.ensures.leaf_bound)) put.headed;
+        headed = rw (c.leaf_bound-in-Some.ensures.leaf_bound ∙ c.change_leaf.ensures.leaf_bound) put.headed;
       },
     )
 
 pub shrink-requires : goal.shrink-requires
 shrink-requires g c =
-    let a = c.args.nodes.now in
-    let b = c.change_leaf.new.nodes in
-    let root = c.args.root.now in
-    let put = c.change_leaf.ensures.changed in
-    let changes = subst (λ o. Changes a b (slots_in a root.height root.slot) (slots_with b root.height root.slot o))
-    (sym c.in-None.ensures.added) put.changes in (
+    let changes = rw (← c.in-None.ensures.added) at c.change_leaf.ensures.changed.changes in (
       search rules,
       record {
-        subtree = put.subtree;
+        subtree = c.change_leaf.ensures.changed.subtree;
         distinct = changes.distinct;
         linked = omega (arith, changes.live, c.requires.can_change.changeable.rooted.linked);
         keyless = changes.keyless;
@@ -105,31 +92,18 @@ shrink-requires g c =
 
 pub returns-in-Some-clause-items : goal.returns-in-Some-clause-items
 returns-in-Some-clause-items g c =
-    let root = c.args.root.now in
-    let change = c.args.change.now in
-    subst (IsChangedWithin (g.C.LeafBound.Bound.below (g.C.LeafChange.bound_of change))
-    (g.C.LeafChange.gives change c.change_leaf.new.change (map item_of c.change_leaf.new.taken.items)) true None
-    (items_in c.args.nodes.now root.height root.slot))
-    (ap (items_with c.change_leaf.new.nodes root.height root.slot) (sym c.in-Some.ensures.added) ∙ sym c.grow.ensures.items)
-    c.change_leaf.ensures.items
+    rw c.grow.ensures.items (rw (← c.in-Some.ensures.added) at c.change_leaf.ensures.items)
 
 pub returns-in-Some-clause-spare : goal.returns-in-Some-clause-spare
 returns-in-Some-clause-spare g c = c.grow.ensures.spare ∙ c.change_leaf.ensures.changed.changes.spare
 
 pub returns-in-Some-clause-headed : goal.returns-in-Some-clause-headed
 returns-in-Some-clause-headed g c =
-    subst (λ p. AllAreHeads (g.C.LeafBound.Bound.bytes p) (all_heads_of c.grow.new.nodes))
-    (c.leaf_bound-in-Some.ensures.leaf_bound ∙ c.change_leaf.ensures.leaf_bound) c.grow.ensures.headed
+    rw (c.leaf_bound-in-Some.ensures.leaf_bound ∙ c.change_leaf.ensures.leaf_bound) at c.grow.ensures.headed
 
 pub returns-in-None-clause-items : goal.returns-in-None-clause-items
 returns-in-None-clause-items g c =
-    let root = c.args.root.now in
-    let change = c.args.change.now in
-    subst (IsChangedWithin (g.C.LeafBound.Bound.below (g.C.LeafChange.bound_of change))
-    (g.C.LeafChange.gives change c.change_leaf.new.change (map item_of c.change_leaf.new.taken.items)) true None
-    (items_in c.args.nodes.now root.height root.slot))
-    (ap (items_with c.change_leaf.new.nodes root.height root.slot) (sym c.in-None.ensures.added) ∙ sym c.shrink.ensures.items)
-    c.change_leaf.ensures.items
+    rw c.shrink.ensures.items (rw (← c.in-None.ensures.added) at c.change_leaf.ensures.items)
 
 pub returns-in-None-clause-spare : goal.returns-in-None-clause-spare
 returns-in-None-clause-spare g c = c.shrink.ensures.spare ∙ c.change_leaf.ensures.changed.changes.spare
