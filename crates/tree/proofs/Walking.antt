@@ -4,6 +4,7 @@ use Rattle.std.specs.Prelude.{ℤ, ◌≤ℤ◌}
 use Rattle.std.proofs.lemmas.Bool.{cases_Bool}
 use Rattle.std.proofs.lemmas.Int.{ints}
 use Rattle.std.proofs.lemmas.List.Elements.{All-nil, All-cons, All-head, All-append, All-drop, All-weaker}
+use Rattle.std.proofs.lemmas.List.{get_or_default}
 use Rattle.std.proofs.lemmas.Option.{get_or_from_slice_get}
 use Rattle.arena.specs.Arena.{Arena}
 use Rattle.keys.proofs.callers.SomeElement.{Any-first, Any-later, Any-left, Any-none, Any-parts, Any-right}
@@ -38,13 +39,7 @@ none_among is_below xs fail any =
 
 -- Each version of items is that of one of them.
 each_there : (xs : List Item) → All (λ x. Any (λ w. x.version ≡ w.version) xs) xs
-each_there [] = All-nil (λ (x : Item). Any (λ (w : Item). x.version ≡ w.version) [])
-each_there (y ∷ ys) =
-    All-cons (λ (x : Item). Any (λ (w : Item). x.version ≡ w.version) (y ∷ ys)) y ys
-    (Any-first (λ (w : Item). y.version ≡ w.version) y ys refl)
-    (All-weaker (λ (x : Item). Any (λ (w : Item). x.version ≡ w.version) ys)
-    (λ (x : Item). Any (λ (w : Item). x.version ≡ w.version) (y ∷ ys))
-    (λ x h. Any-later (λ (w : Item). x.version ≡ w.version) y ys h) ys (each_there ys))
+each_there xs k d within = (k, get_or xs k d, within, get_or_default xs k (get_or xs k d) d within, refl)
 
 same_first : (key : Option ℕ) (xs ys : List Item) → first_key None xs ≡ first_key None ys
     → first_key key xs ≡ first_key key ys
@@ -125,24 +120,16 @@ module _ (front part back now : List Item) where
   pub raised_around : (version : ℤ) → IsRaised version part now
       → IsRaised version (front ++ (part ++ back)) (front ++ (now ++ back))
   raised_around version r =
-      let all = front ++ (part ++ back) in
-      let There = λ (x : Item). Any (λ (w : Item). x.version ≡ w.version) all in
-      let Is = λ (x : Item). (x.version ≡ version) ⊎ There x in
-      let in_front : All Is front =
-      All-weaker (λ (x : Item). Any (λ (w : Item). x.version ≡ w.version) front) Is
-      (λ x h. inr (Any-left (λ (w : Item). x.version ≡ w.version) front (part ++ back) h)) front (each_there front) in
-      let behind : All Is back =
-      All-weaker (λ (x : Item). Any (λ (w : Item). x.version ≡ w.version) back) Is
-      (λ x h. inr (Any-right (λ (w : Item). x.version ≡ w.version) front (part ++ back)
-      (Any-right (λ (w : Item). x.version ≡ w.version) part back h))) back (each_there back) in
-      let inside : All Is now =
-      All-weaker (λ (x : Item). (x.version ≡ version) ⊎ Any (λ (w : Item). x.version ≡ w.version) part) Is
-      (λ x h. elim h [
+      let Same = λ (x w : Item). x.version ≡ w.version in
+      let Is = λ (x : Item). (x.version ≡ version) ⊎ Any (Same x) (front ++ (part ++ back)) in
+      let in_front : All Is front = λ k d h. inr (Any-left (Same (get_or front k d)) front (part ++ back) (each_there front k d h)) in
+      let behind : All Is back = λ k d h. inr (Any-right (Same (get_or back k d)) front (part ++ back)
+      (Any-right (Same (get_or back k d)) part back (each_there back k d h))) in
+      let inside : All Is now = λ k d h. elim (r.others k d h) [
         | inl same ↦ inl same
         | inr there ↦
-            inr (Any-right (λ (w : Item). x.version ≡ w.version) front (part ++ back)
-            (Any-left (λ (w : Item). x.version ≡ w.version) part back there))
-      ]) now r.others in
+            inr (Any-right (Same (get_or now k d)) front (part ++ back) (Any-left (Same (get_or now k d)) part back there))
+      ] in
       record {
         first = first_key-append None front (now ++ back)
             ∙ ap (λ k. first_key k front)
@@ -160,21 +147,16 @@ tells_raised : (e : Entry) (version : ℤ) (was now : List Item) → Tells e was
 tells_raised e version was now tells raised le = by_items now refl
   where
     bound : All (λ x. x.version ≤ℤ version) now
-    bound =
-        All-weaker (λ (x : Item). (x.version ≡ version) ⊎ Any (λ (w : Item). x.version ≡ w.version) was)
-        (λ (x : Item). x.version ≤ℤ version)
-        (λ x h. elim h [
-          | inl same ↦ omega (arith, ints, same)
-          | inr there ↦
-              let least = subst (λ (w : Item). w.version ≤ℤ e.version) there.3
-              (tells.greatest.bound there.0 there.1 there.2) in
-              omega (arith, ints, there.4, least, le)
-        ]) now raised.others
+    bound k d within = elim (raised.others k d within) [
+      | inl same ↦ omega (arith, ints, same)
+      | inr there ↦
+          let least = rw there.3 at (tells.greatest.bound there.0 there.1 there.2) in
+          omega (arith, ints, there.4, least, le)
+    ]
 
     by_items : (xs : List Item) → now ≡ xs → Tells (record e { version = version }) now
     by_items [] none =
-        absurd (Any-none (λ (x : Item). x.version ≡ version)
-        (subst (Any (λ (x : Item). x.version ≡ version)) none raised.there))
+        absurd (Any-none (λ (x : Item). x.version ≡ version) (rw none at raised.there))
     by_items (x ∷ xs) is =
         let same : Some x.key ≡ Some tells.first.key =
         ap (first_key None) (sym is) ∙ raised.first ∙ ap (first_key None) tells.items_are in

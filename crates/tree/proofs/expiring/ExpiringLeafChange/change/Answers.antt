@@ -116,14 +116,9 @@ module _ (g : given.Over) (c : After-has_expired g) where
       let told = c.look_at-self.ensures in
       let last = subst (λ xs. IsLast c.look_at-self.result.last (map version_of (run xs begin end))) c.entries.ensures.entries told.last in
       let next = told.next ∙ ap (λ xs. first_key c.args.place.behind (map item_of (drop end xs))) c.entries.ensures.entries in
-      let Removal : ℤ → ℤ → List Entry → Type 0 = λ edge before es.
-      RemovesExpired p t.count edge before c.look_at-self.result out c.args.place.behind (map item_of es) now in
-      subst (Removal t.edge t.before) (sym read)
-      (subst (λ b. Removal t.edge b es) before_is
-      (subst (λ e. Removal e before es) edge_is
-      (leaf_unexpired es begin end some_looked within p partitioned
+      rw read (rw (edge_is, before_is) at (leaf_unexpired es begin end some_looked within p partitioned
       (omega (arith, c.lower_bound-below.ensures.count.count_is, c.if-below-eq0.false)) t.count edge before c.look_at-self.result
-      out c.args.place.behind now (omega (arith, c.min.ensures)) told.looked_at last now_is out_is next)))
+      out c.args.place.behind now (omega (arith, c.min.ensures)) told.looked_at last now_is out_is next))
 
 pub returns-then-not-has_expired-clause-changed : goal.returns-then-not-has_expired-clause-changed
 returns-then-not-has_expired-clause-changed g c =
