@@ -39,20 +39,19 @@ module _ {N : ℕ} where
     pub child : x ≡ child_in is_below (entries_at a slot)
     pub live : IsLive a slot
 
-  pub is_at : (a : Arena (Node N)) (least height lower slot : ℕ) (is_below : ℕ → Bool) (node : Node N) (us vs : List Entry) (i : ℕ) (d : Entry)
+  pub is_at : (a : Arena (Node N)) (least height lower slot : ℕ) (is_below : ℕ → Bool) (node : Node N) (vs : List Entry) (i : ℕ) (d : Entry)
       → suc lower ≡ height → IsSubtree a least height slot → IsDistinct nat_eq (slots_in a height slot) → header_at a slot ≡ Some node
-      → us ≡ entries_of node → vs ≡ entries_of node → i ≡ index_in is_below us → i < length us
+      → vs ≡ entries_of node → i ≡ index_in is_below (entries_of node) → i < length (entries_of node)
       → IsAt a least height lower slot is_below (entries_of node) i (get_or vs i d).child
-  is_at a least height lower slot is_below node us vs i d next subtree distinct header us_is vs_is index within =
+  is_at a least height lower slot is_below node vs i d next subtree distinct header vs_is index inside =
       let es = entries_of node in
       let read : entries_at a slot ≡ es = entries_from_header a slot node header in
       let tree : IsSubtree a least (suc lower) slot = rw (← next) at subtree in
       let few : (s : ℕ) → times s (slots_in a (suc lower) slot) ≤ 1 = once_if_distinct (slots_in a (suc lower) slot) (rw (← next) at distinct) in
       let slots_are : slots_in a (suc lower) slot ≡ slot ∷ slots_of a lower es = ap (λ l. slot ∷ slots_of a lower l) read in
-      let inside : i < length es = subst (λ l. i < length l) us_is within in
       let x_is : (get_or vs i d).child ≡ (get_or es i d).child = ap (λ (l : List Entry). (get_or l i d).child) vs_is in
       let x_at : (get_or vs i d).child ≡ child_at es i = x_is ∙ sym (child_is es i d inside) in
-      let at : i ≡ index_in is_below (entries_at a slot) = index ∙ ap (index_in is_below) (us_is ∙ sym read) in
+      let at : i ≡ index_in is_below (entries_at a slot) = index ∙ ap (index_in is_below) (sym read) in
       record {
         next = next;
         subtree = subtree;

@@ -24,34 +24,13 @@ use Rattle.tree.proofs.walk.+change_leaf.Goals as goal
 use Rattle.tree.proofs.walk.+change_leaf.Goals.{After-index-entries-step, After-raise_entry, After-rebalance_child}
 
 pub change-requires : goal.change-requires
-change-requires g t c =
-    let change = c.args.change.now in
-    let leaf_bound = g.C.LeafChange.bound_of change in (
-      search rules,
-      (
-        search rules,
-        subst (λ n. CanChangeLeaf (g.C.LeafBound.Bound.bytes leaf_bound) (g.C.LeafBound.Bound.below leaf_bound)
-            (g.C.LeafBound.Bound.target leaf_bound) (g.C.LeafChange.wants change) c.args.nodes.now n c.args.slot
-            c.args.place.common_prefix_len c.args.taken.now.items) c.if-height-eq0.true c.requires.can_change,
-      ),
-    )
+change-requires g t c = (search rules, (search rules, rw c.if-height-eq0.true at c.requires.can_change))
 
 pub returns-then-height-eq0-clause-changed : goal.returns-then-height-eq0-clause-changed
-returns-then-height-eq0-clause-changed g t c =
-    subst (λ n. IsChanged (g.C.LeafBound.Bound.bytes (g.C.LeafChange.bound_of c.args.change.now)) c.args.nodes.now
-    c.change.new.nodes n c.args.slot c.change.result) (sym c.if-height-eq0.true) c.change.ensures.changed
+returns-then-height-eq0-clause-changed g t c = rw c.if-height-eq0.true c.change.ensures.changed
 
 pub returns-then-height-eq0-clause-items : goal.returns-then-height-eq0-clause-items
-returns-then-height-eq0-clause-items g t c =
-    let change = c.args.change.now in
-    within_leaf (g.C.LeafBound.Bound.below (g.C.LeafChange.bound_of change))
-    (g.C.LeafChange.gives change c.change.new.self (map item_of c.change.new.taken.items)) c.args.place.is_first
-    c.args.place.behind (items_in c.args.nodes.now c.args.height c.args.slot)
-    (items_with c.change.new.nodes c.args.height c.args.slot (added_by c.change.result))
-    (subst (λ n. g.C.LeafChange.gives change c.change.new.self (map item_of c.change.new.taken.items) c.args.place.is_first
-    c.args.place.behind (items_in c.args.nodes.now n c.args.slot)
-    (items_with c.change.new.nodes n c.args.slot (added_by c.change.result)))
-    (sym c.if-height-eq0.true) c.change.ensures.items)
+returns-then-height-eq0-clause-items g t c = within_leaf _ _ _ _ _ _ (rw c.if-height-eq0.true c.change.ensures.items)
 
 pub step-step-requires : goal.step-step-requires
 step-step-requires g t c =
@@ -60,7 +39,6 @@ step-step-requires g t c =
     let leaf_bound = g.C.LeafChange.bound_of c.args.change.now in
     let bytes = g.C.LeafBound.Bound.bytes leaf_bound in
     let is_below = g.C.LeafBound.Bound.below leaf_bound in
-    let target = g.C.LeafBound.Bound.target leaf_bound in
     let node = c.header_ref-node.result.now in
     let header = c.header_ref-node.ensures.header in
     let read = entries_from_header a slot node header in
@@ -73,7 +51,7 @@ step-step-requires g t c =
               c.requires.can_change.changeable.subtree c.requires.can_change.searched.partitioned header refl;
           some = omega (arith, ap length read, c.requires.can_change.changeable.some);
         };
-        known = subst (λ l. IsPrefixLenAt bytes is_below target c.args.place.common_prefix_len l 0) read c.requires.can_change.searched.known;
+        known = rw read at c.requires.can_change.searched.known;
       },
     )
 
@@ -94,11 +72,53 @@ module _ (g : Over) (t : ℕ) (c : After-index-entries-step g t) where
   at_child : IsAt c.args.nodes.now (least_of g.row.N) c.args.height (c.args.height - 1) c.args.slot is_below es i x
   at_child =
       is_at c.args.nodes.now (least_of g.row.N) c.args.height (c.args.height - 1) c.args.slot is_below
-      c.header_ref-node.result.now es c.entries-entries.result.now i c.index-entries-step.result
+      c.header_ref-node.result.now c.entries-entries.result.now i c.index-entries-step.result
       (omega (arith, c.if-height-eq0.false)) c.requires.can_change.changeable.subtree c.requires.can_change.changeable.distinct
-      c.header_ref-node.ensures.header refl c.entries-entries.ensures.entries
-      (subst (λ p. i ≡ index_in (g.C.LeafBound.Bound.below p) es) c.leaf_bound.ensures.leaf_bound c.step-step.ensures.step.index_is)
-      c.step-step.ensures.step.within
+      c.header_ref-node.ensures.header c.entries-entries.ensures.entries
+      (rw c.leaf_bound.ensures.leaf_bound at c.step-step.ensures.step.index_is) c.step-step.ensures.step.within
+
+  -- The child can be changed.
+  can_change_child : CanChangeLeaf (g.C.LeafBound.Bound.bytes (g.C.LeafChange.bound_of c.args.change.now)) is_below
+      (g.C.LeafBound.Bound.target (g.C.LeafChange.bound_of c.args.change.now)) (g.C.LeafChange.wants c.args.change.now)
+      c.args.nodes.now (c.args.height - 1) x c.step-step.result.common_prefix_len c.args.taken.now.items
+  can_change_child =
+      let at = at_child in
+      let a = c.args.nodes.now in
+      let L = least_of g.row.N in
+      let n = c.args.height in
+      let h = n - 1 in
+      let can = c.requires.can_change in
+      let node = c.header_ref-node.result.now in
+      let vs = c.entries-entries.result.now in
+      let vs_is = c.entries-entries.ensures.entries in
+      let header = c.header_ref-node.ensures.header in
+      let index_is = rw c.leaf_bound.ensures.leaf_bound at c.step-step.ensures.step.index_is in
+      let f = found a L n c.args.slot is_below node vs i c.index-entries-step.result c.if-height-eq0.false can.changeable.subtree
+      can.searched.partitioned header vs_is (index_is ∙ ap (index_in is_below) (sym vs_is)) in
+      let right = child_right a a L h es i x at.d at.within at.x_is at.few_below at.right in
+      let filled : L ≤ length (entries_at a x) = rw at.x_is right.filled in
+      record {
+        changeable = record {
+          fan_out = can.changeable.fan_out;
+          few = can.changeable.few;
+          subtree = found_subtree a L n c.args.slot is_below x f;
+          some = omega (arith, filled);
+          branches = λ _. omega (arith, filled);
+          distinct = distinct_if_once (slots_in a h x)
+              (child_few a a L h es i x at.d at.within at.x_is at.few_below at.right);
+          keyless = can.changeable.keyless;
+          room = omega (arith, can.changeable.room);
+        };
+        searched = record {
+          partitioned = found_partitioned a L n c.args.slot is_below x f;
+          headed = can.searched.headed;
+          known = known_below a L n c.args.slot is_below x f _ _ c.step-step.result.common_prefix_len node i header index_is
+              (rw c.leaf_bound.ensures.leaf_bound at c.step-step.ensures.step.knows);
+        };
+        wanted = g.met.C.LeafChange.part c.args.change.now (items_of a h (take i es)) (items_in a h x)
+            (items_of a h (drop (i + 1) es)) (subst (g.C.LeafChange.wants c.args.change.now) (items_split at) can.wanted);
+        none_taken = can.none_taken;
+      }
 
   -- A leaf of the child is changed.
   within : (below : Bool) (key : Option ℕ) (Gives : Bool → Option ℕ → List Item → List Item → Type 0) (now all : List Item)
@@ -118,49 +138,8 @@ module _ (g : Over) (t : ℕ) (c : After-index-entries-step g t) where
 
 pub change_leaf-requires : goal.change_leaf-requires
 change_leaf-requires g t c κs low =
-    let k = (goal.at.change_leaf-requires g t c).After-index-entries-step in
-    let at = at_child g t k in
-    let a = c.args.nodes.now in
-    let L = least_of g.row.N in
-    let h = c.args.height - 1 in
-    let leaf_bound = g.C.LeafChange.bound_of c.args.change.now in
-    let bytes = g.C.LeafBound.Bound.bytes leaf_bound in
-    let target = g.C.LeafBound.Bound.target leaf_bound in
-    let shared = c.step-step.result.common_prefix_len in
-    let node = c.header_ref-node.result.now in
-    let vs = c.entries-entries.result.now in
-    let step = subst (λ p. (i g t k ≡ index_in (g.C.LeafBound.Bound.below p) (es g t k))
-    × IsPrefixLenAt (g.C.LeafBound.Bound.bytes p) (g.C.LeafBound.Bound.below p) (g.C.LeafBound.Bound.target p) shared (es g t k) (i g t k))
-    c.leaf_bound.ensures.leaf_bound (c.step-step.ensures.step.index_is, c.step-step.ensures.step.knows) in
-    let f = found a L c.args.height c.args.slot (is_below g t k) node vs (i g t k) c.index-entries-step.result c.if-height-eq0.false c.requires.can_change.changeable.subtree
-    c.requires.can_change.searched.partitioned c.header_ref-node.ensures.header c.entries-entries.ensures.entries
-    (step.0 ∙ ap (index_in (is_below g t k)) (sym c.entries-entries.ensures.entries)) in
-    let right = child_right a a L h (es g t k) (i g t k) (x g t k) at.d at.within at.x_is at.few_below at.right in
-    let filled : L ≤ length (entries_at a (x g t k)) = rw at.x_is right.filled in
-    let can : CanChange a h (x g t k) = record {
-      fan_out = c.requires.can_change.changeable.fan_out;
-      few = c.requires.can_change.changeable.few;
-      subtree = found_subtree a L c.args.height c.args.slot (is_below g t k) (x g t k) f;
-      some = omega (arith, filled);
-      branches = λ _. omega (arith, filled);
-      distinct = distinct_if_once (slots_in a h (x g t k))
-          (child_few a a L h (es g t k) (i g t k) (x g t k) at.d at.within at.x_is at.few_below at.right);
-      keyless = c.requires.can_change.changeable.keyless;
-      room = omega (arith, c.requires.can_change.changeable.room);
-    } in
-    let search_on : CanSearch bytes (is_below g t k) target a h (x g t k) shared = record {
-      partitioned = found_partitioned a L c.args.height c.args.slot (is_below g t k) (x g t k) f;
-      headed = c.requires.can_change.searched.headed;
-      known = known_below a L c.args.height c.args.slot (is_below g t k) (x g t k) f bytes target shared node (i g t k)
-          c.header_ref-node.ensures.header step.0 step.1;
-    } in
-    let wanted = g.met.C.LeafChange.part c.args.change.now (items_of a h (take (i g t k) (es g t k))) (items_in a h (x g t k))
-    (items_of a h (drop (i g t k + 1) (es g t k))) (subst (g.C.LeafChange.wants c.args.change.now) (items_split at) c.requires.can_change.wanted) in
-    let can_change : CanChangeLeaf bytes (is_below g t k) target (g.C.LeafChange.wants c.args.change.now) a h (x g t k) shared
-    c.args.taken.now.items = record { changeable = can; searched = search_on; wanted = wanted; none_taken = c.requires.can_change.none_taken } in (
-      search rules,
-      (search rules, (search rules, (search rules, (search rules, (search rules, can_change))))),
-    )
+    let can = can_change_child g t (goal.at.change_leaf-requires g t c).After-index-entries-step in
+    (search rules, (search rules, (search rules, (search rules, (search rules, (search rules, can))))))
 
 pub raise_entry-requires : goal.raise_entry-requires
 raise_entry-requires g t c =
