@@ -150,9 +150,7 @@ module _ {N : ℕ} where
         (drop (i + 1) (entries_at b slot)) (entries_at_both w slot added)) where
       insert_entry : IsLinked b x s (take i es) (drop (i + 1) es) (entries_at_both w slot added)
       insert_entry =
-          subst (λ z. IsLinked b z s (take i es) (drop (i + 1) es) (entries_at_both w slot added)) (sym at.x_at)
-          (subst (λ l. IsLinked b (child_at l i) s (take i l) (drop (i + 1) l) (entries_at_both w slot added))
-          (read_beside at moves) linked)
+          rw at.x_at (rw (read_beside at moves) at linked)
 
       pub one_less : added ≡ None → length (entries_at a slot) ≤ length (entries_at w slot) + 1
       one_less none =
@@ -187,9 +185,8 @@ module _ {N : ℕ} where
 
       pub family_at : IsFamilyAt b least lower slot i
       family_at = record {
-        family = subst (λ l. IsFamily b least lower l i (i + 1)) (sym (read_beside at moves)) changed.0;
-        apart = subst (λ l. ¬ Contains (slots_of b lower l) slot) (sym (read_beside at moves))
-            (λ has. let below = times_if_contains slot (slots_of b lower es) has in
+        family = rw (read_beside at moves) changed.0;
+        apart = rw (read_beside at moves) (λ has. let below = times_if_contains slot (slots_of b lower es) has in
             absurd (omega (arith, own.few slot, once_same slot, below)));
       }
 
@@ -204,7 +201,6 @@ module _ {N : ℕ} where
             neighbour = tt;
             moves = moves_trans a b w (slots_in a (suc lower) slot) (slots_in b (suc lower) slot)
                 (slots_in w (suc lower) slot)
-                (subst (Moves a b (slots_in a (suc lower) slot)) (ap (λ l. slot ∷ slots_of b lower l) (sym (read_beside at moves)))
-                (subst (λ l. Moves a b l (slot ∷ slots_of b lower es)) (sym at.slots_are) own))
+                (rw (at.read, read_beside at moves) own)
                 (moves_if_changes b w (slots_in b (suc lower) slot) (slots_in w (suc lower) slot) rebalanced.changes);
           })

@@ -188,11 +188,9 @@ module _ {N : ℕ} {a : Arena (Node N)} {least height lower slot : ℕ} {is_belo
   around_at partitioned =
       let all = entries_at a slot in
       let w = way a least lower slot is_below (rw (← at.next) at at.subtree) (rw (← at.next) at partitioned) in
-      let Pass = λ (es : List Entry). All (λ (x : Item). is_below x.key ≡ true) (items_of a lower es) in
-      let Fail = λ (es : List Entry). All (λ (x : Item). is_below x.key ≡ false) (items_of a lower es) in
       record {
-        pass = subst (λ l. Pass (take i l)) at.read (subst (λ n. Pass (take n all)) (sym at.index) w.before);
-        fail = subst (λ l. Fail (drop (i + 1) l)) at.read (subst (λ n. Fail (drop (n + 1) all)) (sym at.index) w.behind);
+        pass = rw (← at.index, at.read) at w.before;
+        fail = rw (← at.index, at.read) at w.behind;
         found = elim (none_or_some (length (filter (λ (e : Entry). is_below e.key) all))) [
           | inl none ↦
               let zero_is : index_in is_below all ≡ 0 = omega arith in
@@ -200,11 +198,8 @@ module _ {N : ℕ} {a : Arena (Node N)} {least height lower slot : ℕ} {is_belo
           | inr some ↦
               let passed = index_passes (λ (e : Entry). is_below e.key) all w.entry w.entries some w.is in
               let t = w.kept.tells in
-              let first : is_below t.first.key ≡ true = subst (λ k. is_below k ≡ true) t.key passed in
-              let same : w.entry.child ≡ x = w.child ∙ sym at.child in
-              inr (subst (λ s. Any (λ (x : Item). is_below x.key ≡ true) (items_in a lower s)) same
-              (subst (Any (λ (x : Item). is_below x.key ≡ true)) (sym t.items_are)
-              (Any-first (λ (x : Item). is_below x.key ≡ true) t.first t.others first)))
+              let first = Any-first (λ (x : Item). is_below x.key ≡ true) t.first t.others (rw t.key at passed) in
+              inr (rw (at.child ∙ sym w.child, t.items_are) first)
         ];
       }
 

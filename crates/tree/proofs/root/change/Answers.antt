@@ -24,33 +24,26 @@ common_prefix_len_at-requires g c =
 
 pub change_leaf-requires : goal.change_leaf-requires
 change_leaf-requires g c =
-    let a = c.args.nodes.now in
-    let root = c.args.root.now in
-    let leaf_bound = g.C.LeafChange.bound_of c.args.change.now in
-    let can = c.requires.can_change.changeable in
-    let changeable : CanChange a root.height root.slot = record {
-      fan_out = can.fan_out;
-      few = can.few;
-      subtree = can.rooted.subtree;
-      some = can.some;
-      branches = can.rooted.branches;
-      distinct = can.rooted.distinct;
-      keyless = can.rooted.keyless;
-      room = omega (arith, can.room);
-    } in
-    let searched : CanSearch (g.C.LeafBound.Bound.bytes leaf_bound) (g.C.LeafBound.Bound.below leaf_bound)
-    (g.C.LeafBound.Bound.target leaf_bound) a root.height root.slot c.common_prefix_len_at.result = record {
-      partitioned = c.requires.can_change.partitioned;
-      headed = c.requires.can_change.headed;
-      known = subst (λ p. IsPrefixLenAt (g.C.LeafBound.Bound.bytes p) (g.C.LeafBound.Bound.below p) (g.C.LeafBound.Bound.target p)
-          c.common_prefix_len_at.result (entries_at a root.slot) 0) c.leaf_bound.ensures.leaf_bound c.common_prefix_len_at.ensures.known;
-    } in (
+    let can = c.requires.can_change.changeable in (
       search rules,
       (
         search rules,
         record {
-          changeable = changeable;
-          searched = searched;
+          changeable = record {
+            fan_out = can.fan_out;
+            few = can.few;
+            subtree = can.rooted.subtree;
+            some = can.some;
+            branches = can.rooted.branches;
+            distinct = can.rooted.distinct;
+            keyless = can.rooted.keyless;
+            room = omega (arith, can.room);
+          };
+          searched = record {
+            partitioned = c.requires.can_change.partitioned;
+            headed = c.requires.can_change.headed;
+            known = rw c.leaf_bound.ensures.leaf_bound at c.common_prefix_len_at.ensures.known;
+          };
           wanted = c.requires.can_change.wanted;
           none_taken = c.requires.can_change.none_taken;
         },

@@ -27,11 +27,10 @@ lower_bound-count-requires g c =
         can_find = record {
           headed = headed_at (P.bytes bound) nodes c.reach-reached.result.leaf header c.requires.can_reach.headed
               c.header_ref-leaf.ensures.header;
-          partitioned = subst (IsPartitioned (λ (e : Entry). P.below bound e.key)) read found.partitioned;
+          partitioned = rw read at found.partitioned;
           some = positive;
         };
-        known = subst (λ es. IsPrefixLenAt (P.bytes bound) (P.below bound) (P.target bound) c.reach-reached.result.common_prefix_len es 0) read
-            found.knows;
+        known = rw read at found.knows;
       },
     )
 
