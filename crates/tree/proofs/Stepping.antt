@@ -1,7 +1,7 @@
 -- A change at a node above the leaves: what is known of the node, and what holds of it afterwards.
 use Rattle.std.proofs.Common.{◌≡◌, ℕ, suc, ◌+◌, ◌<◌, ◌≤◌, Bool, List, [], ◌∷◌, ◌++◌, length, length-append, append-nil, get_or, take, drop, Option, Some, None, refl, sym, ap, subst, ◌∙◌, arith}
 use Rattle.std.specs.Prelude.{IfSome, nat_eq}
-use Rattle.std.specs.List.{Contains, IsDistinct}
+use Rattle.std.specs.List.{IsDistinct}
 use Rattle.std.proofs.lemmas.List.{length-take-le, length-drop}
 use Rattle.arena.specs.Arena.{Arena, IsLive, header_at, record_at}
 use Rattle.tree.specs.declared.entry.Entry.{Entry}

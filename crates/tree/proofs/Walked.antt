@@ -6,7 +6,7 @@ use Rattle.arena.specs.Arena.{Arena, IsLive, spare_of}
 use Rattle.tree.specs.declared.entry.Entry.{Entry}
 use Rattle.tree.specs.declared.node.Node.{Node}
 use Rattle.tree.specs.declared.walk.Outcome.{Outcome}
-use Rattle.tree.specs.declared.walk.Outcome.TheVariants.{Same, Raised, Changed, Split}
+use Rattle.tree.specs.declared.walk.Outcome.TheVariants.{Raised, Changed, Split}
 use Rattle.tree.specs.Heads.{KeyBytes, AllAreHeads}
 use Rattle.tree.specs.Item.{Item}
 use Rattle.tree.specs.Node.{all_heads_of}
@@ -46,29 +46,6 @@ outcome_of (Some slot) = Split slot
 
 module _ {N : ℕ} {a : Arena (Node N)} {height lower slot : ℕ} {is_below : ℕ → Bool} {es : List Entry}
     {i x : ℕ} (at : IsAt a (least_of N) height lower slot is_below es i x) (can : CanChange a height slot) where
-  -- Nothing was changed.
-  pub same_above : {bytes : KeyBytes} {b : Arena (Node N)} → IsChanged bytes a b lower x Same → IsChanged bytes a b height slot Same
-  same_above {bytes = bytes} {b = b} below =
-      let same : b ≡ a = below.same refl in
-      subst (λ b. IsChanged bytes a b height slot Same) (sym same) (record {
-        same = λ is. refl;
-        raised = λ version is. absurd (cc);
-        subtree = can.subtree;
-        neighbour = tt;
-        filled = tt;
-        few_less = λ above none. omega arith;
-        changes = record {
-          distinct = can.distinct;
-          slots = λ s has. inl has;
-          others = λ s none live. refl;
-          live = refl;
-          spare = refl;
-          keyless = can.keyless;
-        };
-        taken = omega arith;
-        headed = subst (λ b. AllAreHeads bytes (all_heads_of b)) same below.headed;
-      })
-
   -- The child was changed.
   module _ {b : Arena (Node N)} (below : IsSubtree b (least_of N) lower x)
       (changes : Changes a b (slots_in a lower x) (slots_in b lower x)) where

@@ -1,4 +1,4 @@
-use Rattle.std.proofs.Common.{rules, ◌≡◌, ◌≢◌, ◌∙◌, ◌+◌, ◌&&◌, int_lt, [], drop, map, ap, sym, subst, refl, true, false, SFits, w64, ℤ, to_z, of_z, arith}
+use Rattle.std.proofs.Common.{rules, ◌≡◌, ◌≢◌, ◌∙◌, ◌+◌, ◌&&◌, int_lt, [], drop, map, ap, sym, refl, true, false, SFits, w64, to_z, of_z, arith}
 use Rattle.std.proofs.lemmas.Int.{to_z-of_z}
 use Rattle.std.proofs.lemmas.List.{drop_all}
 use Rattle.tree.specs.Item.{item_of}

@@ -1,7 +1,4 @@
-use Rattle.std.proofs.Common.{◌≡◌, ◌≢◌, ℕ, ◌+◌, [], ◌∷◌, Some, None, Ok, IfOk, cond, option_map, ap, subst, Result}
-use Rattle.std.specs.Prelude.{nat_eq}
-use Rattle.std.specs.FinMap as map
-use Rattle.arena.specs.Arena.{record_at, spare_of, slots_of}
+use Rattle.std.proofs.Common.{[], ◌∷◌, option_map, ap}
 use Rattle.tree.proofs.Changing.{changes_if_moves, moves_placed}
 use Rattle.tree.proofs.Placing.{placed_spare}
 use Rattle.tree.proofs.Headed.{headed_put}

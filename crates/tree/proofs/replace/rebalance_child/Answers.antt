@@ -1,4 +1,4 @@
-use Rattle.std.proofs.Common.{◌≡◌, ◌≤◌, ◌+◌, ◌∷◌, List, length, length-append, length-take-le, length-drop, get_or, take, drop, option_map, refl, sym, ap, subst, ◌∙◌, arith, rules}
+use Rattle.std.proofs.Common.{◌≡◌, ◌≤◌, ◌+◌, List, length, get_or, refl, sym, ap, subst, ◌∙◌, arith, rules}
 use Rattle.std.specs.Prelude.{slice_set}
 use Rattle.std.proofs.lemmas.List.{length-set}
 use Rattle.arena.specs.Arena.{with_header}
@@ -8,7 +8,7 @@ use Rattle.tree.specs.Subtree.{entries_at, IsSubtree}
 use Rattle.tree.specs.Tree.{least_of}
 use Rattle.tree.specs.Replace.{IsFamily, IsRebalanced}
 use Rattle.tree.proofs.KnownKeys.{headed_header}
-use Rattle.tree.proofs.Placing.{entries_from_header, put_entries, put_record_is, put_others}
+use Rattle.tree.proofs.Placing.{entries_from_header, put_entries}
 use Rattle.tree.proofs.Sharing.{set_one}
 use Rattle.tree.proofs.Rebalancing.{live_subtree, rebalanced_by_entry}
 use Rattle.tree.proofs.Storing.{rebalanced_at}

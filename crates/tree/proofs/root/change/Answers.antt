@@ -1,11 +1,5 @@
-use Rattle.std.proofs.Common.{rules, ◌≤◌, true, None, IfSome, length, map, sym, ap, subst, ◌∙◌, arith}
-use Rattle.tree.specs.Heads.{AllAreHeads, IsPrefixLenAt}
-use Rattle.tree.specs.Item.{item_of}
-use Rattle.tree.specs.Node.{all_heads_of}
-use Rattle.tree.specs.Replace.{items_with, slots_with, Changes}
-use Rattle.tree.specs.Subtree.{entries_at, items_in, slots_in, IsSubtree}
+use Rattle.std.proofs.Common.{rules, ◌∙◌, arith}
 use Rattle.tree.specs.Tree.{least_of}
-use Rattle.tree.specs.Walk.{CanChange, CanSearch, IsChangedWithin}
 use Rattle.tree.proofs.Rebalancing.{live_subtree}
 use Rattle.tree.proofs.root.change.Goals as goal
 

@@ -1,6 +1,5 @@
-use Rattle.std.proofs.Common.{arith, add-one, rules, ◌≡◌, suc, ◌+◌, List, [], ◌∷◌, ◌++◌, ◌∙◌, ap, ap₂, sym, subst, length, take, drop}
-use Rattle.std.specs.Prelude.{nat_eq}
-use Rattle.std.specs.List.{All, IsDistinct}
+use Rattle.std.proofs.Common.{arith, add-one, rules, ◌≡◌, suc, List, [], ◌∷◌, ◌++◌, ◌∙◌, ap, sym, subst, length, take, drop}
+use Rattle.std.specs.List.{All}
 use Rattle.std.proofs.lemmas.List.{append-nil}
 use Rattle.std.proofs.lemmas.List.Elements.{All-nil, All-cons}
 use Rattle.tree.specs.declared.entry.Entry.{Entry}
@@ -8,7 +7,7 @@ use Rattle.tree.specs.Heads.{IsKnown}
 use Rattle.tree.specs.Node.{entries_of, keys_of}
 use Rattle.tree.specs.Subtree.{items_in, slots_in}
 use Rattle.tree.specs.Replace.{AreChildren, items_of, slots_of}
-use Rattle.tree.specs.Tree.{least_of, IsRooted}
+use Rattle.tree.specs.Tree.{least_of}
 use Rattle.tree.proofs.Frames.{IsRight}
 use Rattle.tree.proofs.Changing.{moves_if_changes}
 use Rattle.tree.proofs.Rooting.{Rooted, right_entry, grown}

@@ -1,8 +1,5 @@
-use Rattle.std.proofs.Common.{arith, [], ◌∷◌, ◌≡◌, suc, ◌-◌, ◌∙◌, ap, sym, subst, length, get_or}
-use Rattle.std.specs.Prelude.{nat_eq}
-use Rattle.std.specs.List.{IsDistinct}
-use Rattle.tree.specs.Subtree.{items_in, slots_in, IsSubtree}
-use Rattle.tree.specs.Tree.{least_of}
+use Rattle.std.proofs.Common.{arith, [], ◌∷◌, ◌≡◌, suc, ◌-◌, ◌∙◌, ap, subst, length, get_or}
+use Rattle.tree.specs.Subtree.{items_in}
 use Rattle.tree.proofs.Changing.{Moves, moves_released}
 use Rattle.tree.proofs.Found.{entries_read}
 use Rattle.tree.proofs.Headed.{headed_released}

@@ -2,14 +2,14 @@ use Rattle.std.proofs.Common.{◌≡◌, ◌≤◌, ◌+◌, ◌-◌, ◌⊎◌,
 use Rattle.std.proofs.lemmas.Int.{to_z-of_z}
 use Rattle.tree.specs.declared.entry.Entry.{Entry}
 use Rattle.tree.specs.Item.{Item, item_of}
-use Rattle.tree.specs.Heads.{IsPrefixLenAt}
 use Rattle.tree.specs.Node.{entries_of}
 use Rattle.tree.specs.Path.{index_in, first_key}
 use Rattle.tree.specs.Subtree.{entries_at, items_in, slots_in}
 use Rattle.tree.specs.Tree.{least_of}
-use Rattle.tree.specs.Replace.{items_of, items_with, IsRebalancedAt}
-use Rattle.tree.specs.Walk.{CanChange, CanChangeLeaf, CanSearch, IsChanged, IsChangedWithin, added_by}
+use Rattle.tree.specs.Replace.{items_of, IsRebalancedAt}
+use Rattle.tree.specs.Walk.{CanChangeLeaf, IsChangedWithin}
 use Rattle.tree.proofs.callers.Times.{distinct_if_once}
+use Rattle.tree.proofs.ChangedLeaf.{unchanged}
 use Rattle.tree.proofs.Changing.{moves_if_changes}
 use Rattle.tree.proofs.FirstKeys.{known_below}
 use Rattle.tree.proofs.Headed.{headed_at}
@@ -18,7 +18,7 @@ use Rattle.tree.proofs.Found.{read_partitioned, found, found_subtree, found_part
 use Rattle.tree.proofs.Replacing.{child_right, child_few}
 use Rattle.tree.proofs.Stepping.{IsAt, is_at, items_split, read_beside}
 use Rattle.tree.proofs.Walking.{first_if, within_at, raised_at}
-use Rattle.tree.proofs.Walked.{within_leaf, same_above, can_rebalance, can_insert, family, step_rebalanced, changed_above, raised_too, step_linked, linked_above}
+use Rattle.tree.proofs.Walked.{within_leaf, can_rebalance, can_insert, family, step_rebalanced, changed_above, raised_too, step_linked, linked_above}
 use Rattle.tree.proofs.walk.+change_leaf.Given.{Over}
 use Rattle.tree.proofs.walk.+change_leaf.Goals as goal
 use Rattle.tree.proofs.walk.+change_leaf.Goals.{After-index-entries-step, After-raise_entry, After-rebalance_child}
@@ -169,17 +169,15 @@ insert_child-requires g t c =
 
 pub returns-in-Same-clause-changed : goal.returns-in-Same-clause-changed
 returns-in-Same-clause-changed g t c =
-    let at = at_child g t (goal.at.returns-in-Same-clause-changed g t c).After-index-entries-step in
-    same_above at c.requires.can_change.changeable c.in-Same.ensures.changed
+    rw (c.in-Same.ensures.changed.same refl) (unchanged _ c.args.nodes.now c.args.height c.args.slot
+    c.requires.can_change.changeable c.requires.can_change.searched.headed)
 
 pub returns-in-Same-clause-items : goal.returns-in-Same-clause-items
 returns-in-Same-clause-items g t c =
     let k = (goal.at.returns-in-Same-clause-items g t c).After-index-entries-step in
-    let h = c.args.height - 1 in
-    within g t k _ _ _ _ _ c.if-place.below-true c.if-place.below-false c.key_at.ensures.key
-    (subst (λ b. items_in b c.args.height c.args.slot ≡ items_of c.args.nodes.now h (take (i g t k) (es g t k))
-    ++ (items_in b h (x g t k) ++ items_of c.args.nodes.now h (drop (i g t k + 1) (es g t k))))
-    (sym (c.in-Same.ensures.changed.same refl)) (items_split (at_child g t k))) c.in-Same.ensures.items
+    let same = c.in-Same.ensures.changed.same refl in
+    rw same (within g t k _ _ _ _ _ c.if-place.below-true c.if-place.below-false c.key_at.ensures.key
+    (items_split (at_child g t k)) (rw same at c.in-Same.ensures.items))
 
 -- the node rebalanced where an item of one version came in
 raised_entry : (g : Over) (t : ℕ) (c : After-raise_entry g t)

@@ -1,15 +1,14 @@
-use Rattle.std.proofs.Common.{rules, Bool, false, IsTrue, ◌∷◌, ℕ, ℤ, ◌≡◌, ◌≢◌, ◌≤◌, ◌<◌, ◌+◌, ◌-◌, ◌∙◌, ◌++◌, ap, sym, subst, refl, List, [], length, take, drop, map, arith, to_z, of_z, w64}
+use Rattle.std.proofs.Common.{rules, Bool, false, IsTrue, ◌∷◌, ℕ, ℤ, ◌≡◌, ◌≢◌, ◌≤◌, ◌<◌, ◌+◌, ◌-◌, ◌∙◌, ◌++◌, ap, sym, refl, List, [], length, take, drop, map, arith, to_z, of_z, w64}
 use Rattle.std.proofs.lemmas.Int.{to_z-of_z}
 use Rattle.arena.specs.Arena.{with_header}
 use Rattle.tree.specs.declared.entry.Entry.{Entry}
 use Rattle.tree.specs.declared.walk.Outcome.TheVariants.{Changed}
-use Rattle.tree.specs.Heads.{IsPrefixLenAt}
-use Rattle.tree.specs.Item.{Item, item_of, version_of}
+use Rattle.tree.specs.Item.{Item, item_of}
 use Rattle.tree.specs.Node.{entries_of}
 use Rattle.tree.specs.Path.{IsPartitioned, first_key, items_below}
 use Rattle.tree.specs.Subtree.{entries_at}
 use Rattle.tree.specs.Expire.{RemovesExpired}
-use Rattle.tree.specs.Tree.{IsLast, unexpired, expired}
+use Rattle.tree.specs.Tree.{unexpired, expired}
 use Rattle.tree.proofs.ChangedLeaf.{leaf_put, unchanged}
 use Rattle.tree.proofs.Headed.{headed_at}
 use Rattle.tree.proofs.LastRun.{leaf_unexpired, untouched}

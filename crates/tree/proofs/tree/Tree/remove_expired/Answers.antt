@@ -1,12 +1,10 @@
-use Rattle.std.proofs.Common.{◌≡◌, ◌≢◌, ◌≤◌, ◌+◌, ◌-◌, ◌∙◌, None, length, ap, sym, subst, arith, to_z, of_z, w64}
-use Rattle.std.proofs.Common.{List, [], map}
+use Rattle.std.proofs.Common.{◌≡◌, ◌≤◌, ◌+◌, ◌-◌, ◌∙◌, None, length, sym, arith, to_z, of_z, w64}
+use Rattle.std.proofs.Common.{List, map}
 use Rattle.std.proofs.lemmas.Int.{to_z-of_z}
 use Rattle.std.proofs.lemmas.List.{length-map}
 use Rattle.tree.specs.Item.{Item, item_of}
-use Rattle.tree.specs.Path.{items_below}
 use Rattle.tree.specs.Subtree.{items_in}
-use Rattle.tree.specs.Expire.{CanRemoveExpired, RemovesExpired}
-use Rattle.tree.specs.Tree.{Items}
+use Rattle.tree.specs.Expire.{RemovesExpired}
 use Rattle.tree.proofs.Counting.{low, enough_spare}
 use Rattle.tree.proofs.HeadList.{headed_from_list, headed_in_list}
 use Rattle.tree.proofs.Inserting.{tree_put}
