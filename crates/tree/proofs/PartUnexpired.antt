@@ -68,7 +68,8 @@ length-unexpired p count edge before removal run was now next h first =
       omega (arith, now_is, is_below, looked, ap length h.run_is, expired_or_kept edge before h.looked, length-partitioned p was),
       elim (none_or_some (length h.front)) [
         | inl none ↦
-            let first_is = first_stays edge before h.looked (omega (arith, h.looked_at, h.some)) (first (omega (arith, is_below, none))) in
+            let first_is = first_stays edge before h.looked (omega (arith, h.looked_at, h.some))
+            (first (omega (arith, is_below, none))) in
             omega (arith, now_is, first_is)
         | inr filled ↦ omega (arith, now_is)
       ],

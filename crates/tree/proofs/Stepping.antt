@@ -23,7 +23,8 @@ use Rattle.tree.proofs.Storing.{IsStored, moves_own, stored}
 
 module _ {N : ℕ} where
   -- the node at a slot, and the child at an index, at which a bound goes on
-  pub record IsAt (a : Arena (Node N)) (least height lower slot : ℕ) (is_below : ℕ → Bool) (es : List Entry) (i x : ℕ) : Type 0 where
+  pub record IsAt (a : Arena (Node N)) (least height lower slot : ℕ) (is_below : ℕ → Bool) (es : List Entry) (i x : ℕ)
+      : Type 0 where
     pub next : suc lower ≡ height
     pub subtree : IsSubtree a least height slot
     pub read : entries_at a slot ≡ es
@@ -39,7 +40,8 @@ module _ {N : ℕ} where
     pub child : x ≡ child_in is_below (entries_at a slot)
     pub live : IsLive a slot
 
-  pub is_at : (a : Arena (Node N)) (least height lower slot : ℕ) (is_below : ℕ → Bool) (node : Node N) (vs : List Entry) (i : ℕ) (d : Entry)
+  pub is_at : (a : Arena (Node N)) (least height lower slot : ℕ) (is_below : ℕ → Bool) (node : Node N) (vs : List Entry)
+      (i : ℕ) (d : Entry)
       → suc lower ≡ height → IsSubtree a least height slot → IsDistinct nat_eq (slots_in a height slot) → header_at a slot ≡ Some node
       → vs ≡ entries_of node → i ≡ index_in is_below (entries_of node) → i < length (entries_of node)
       → IsAt a least height lower slot is_below (entries_of node) i (get_or vs i d).child
@@ -47,7 +49,8 @@ module _ {N : ℕ} where
       let es = entries_of node in
       let read : entries_at a slot ≡ es = entries_from_header a slot node header in
       let tree : IsSubtree a least (suc lower) slot = rw (← next) at subtree in
-      let few : (s : ℕ) → times s (slots_in a (suc lower) slot) ≤ 1 = once_if_distinct (slots_in a (suc lower) slot) (rw (← next) at distinct) in
+      let few : (s : ℕ) → times s (slots_in a (suc lower) slot) ≤ 1 =
+      once_if_distinct (slots_in a (suc lower) slot) (rw (← next) at distinct) in
       let slots_are : slots_in a (suc lower) slot ≡ slot ∷ slots_of a lower es = ap (λ l. slot ∷ slots_of a lower l) read in
       let x_is : (get_or vs i d).child ≡ (get_or es i d).child = ap (λ (l : List Entry). (get_or l i d).child) vs_is in
       let x_at : (get_or vs i d).child ≡ child_at es i = x_is ∙ sym (child_is es i d inside) in

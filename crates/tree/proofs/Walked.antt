@@ -72,7 +72,8 @@ module _ {N : ℕ} {a : Arena (Node N)} {height lower slot : ℕ} {is_below : �
       pub step_rebalanced : IsStepped a w (least_of N) height lower slot es i (items_in b lower x) None
       step_rebalanced = stepped_rebalanced at b w below moves rebalanced
 
-      module _ {bytes : KeyBytes} (headed : AllAreHeads bytes (all_heads_of w)) (taken : spare_of a 0 ≤ spare_of b 0 + (lower + 1))
+      module _ {bytes : KeyBytes} (headed : AllAreHeads bytes (all_heads_of w))
+          (taken : spare_of a 0 ≤ spare_of b 0 + (lower + 1))
           (less : length (entries_at b slot) ≤ length (entries_at w slot) + 1) (spare : spare_of b 0 ≤ spare_of w 0) where
         pub changed_above : IsChanged bytes a w height slot Changed
         changed_above = record {
@@ -94,7 +95,8 @@ module _ {N : ℕ} {a : Arena (Node N)} {height lower slot : ℕ} {is_below : �
           raised = λ other is. (
               let same : version ≡ other = cc in
               subst (λ v. IsRaised v (items_in a height slot) (items_in w height slot)) same
-              (raised_above at version (items_in b lower x) (items_in w height slot) step_rebalanced.items (was.raised version refl))
+              (raised_above at version (items_in b lower x) (items_in w height slot) step_rebalanced.items
+              (was.raised version refl))
               );
           subtree = step_rebalanced.subtree;
           neighbour = tt;
@@ -144,7 +146,7 @@ module _ {N : ℕ} {a : Arena (Node N)} {height lower slot : ℕ} {is_below : �
         where
           by_added : (o : Option ℕ) → added ≡ o → IsChanged bytes a w height slot (outcome_of o)
           by_added None none =
-              let step = subst (IsStepped a w (least_of N) height lower slot es i (items_in b lower x ++ items_in b lower s)) none step_linked in
+              let step = rw none at step_linked in
               record {
                 same = λ is. absurd (cc);
                 raised = λ version is. absurd (cc);
@@ -157,7 +159,7 @@ module _ {N : ℕ} {a : Arena (Node N)} {height lower slot : ℕ} {is_below : �
                 headed = headed;
               }
           by_added (Some t) some =
-              let step = subst (IsStepped a w (least_of N) height lower slot es i (items_in b lower x ++ items_in b lower s)) some step_linked in
+              let step = rw some at step_linked in
               let both = subst (λ o. IfSome o (λ s. AreHalfFull N (entries_at w slot) (entries_at w s))) some half in
               record {
                 same = λ is. absurd (cc);

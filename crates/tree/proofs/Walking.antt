@@ -122,7 +122,8 @@ module _ (front part back now : List Item) where
   raised_around version r =
       let Same = λ (x w : Item). x.version ≡ w.version in
       let Is = λ (x : Item). (x.version ≡ version) ⊎ Any (Same x) (front ++ (part ++ back)) in
-      let in_front : All Is front = λ k d h. inr (Any-left (Same (get_or front k d)) front (part ++ back) (each_there front k d h)) in
+      let in_front : All Is front =
+      λ k d h. inr (Any-left (Same (get_or front k d)) front (part ++ back) (each_there front k d h)) in
       let behind : All Is back = λ k d h. inr (Any-right (Same (get_or back k d)) front (part ++ back)
       (Any-right (Same (get_or back k d)) part back (each_there back k d h))) in
       let inside : All Is now = λ k d h. elim (r.others k d h) [

@@ -67,7 +67,8 @@ find-requires g t c κs within =
               },
               known_below nodes least c.args.height c.args.slot is_below _ f (g.P.Bound.bytes c.args.bound.now)
                   (g.P.Bound.target c.args.bound.now) c.step-step.result.common_prefix_len c.header_ref-node.result.now
-                  c.step-step.result.index c.header_ref-node.ensures.header c.step-step.ensures.step.index_is c.step-step.ensures.step.knows,
+                  c.step-step.result.index c.header_ref-node.ensures.header c.step-step.ensures.step.index_is
+                  c.step-step.ensures.step.knows,
             ),
           ),
         ),

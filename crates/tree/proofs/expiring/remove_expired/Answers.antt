@@ -13,7 +13,8 @@ use Rattle.tree.proofs.expiring.remove_expired.Goals.{then-last-edge, else-last-
 pub push-requires : goal.push-requires
 push-requires g c =
     let inv = c.loop-index.invariant.removal in
-    omega (arith, length-map c.loop-index.taken.items item_of, c.entries.ensures.most, inv.same_length, inv.counted, c.requires.within)
+    let taken = length-map c.loop-index.taken.items item_of in
+    omega (arith, taken, c.entries.ensures.most, inv.same_length, inv.counted, c.requires.within)
 
 pub loop-index-init : goal.loop-index-init
 loop-index-init g c =

@@ -56,7 +56,8 @@ returns-then-len-least-clause-rebalanced g c height family =
     let rebalanced =
     rebalanced_by_entry a L height es (entries_of node) i x d t c.requires.can_rebalance.within x_is family.family c.requires.can_rebalance.keyless
     c.entry_for-entry.ensures.child (c.entry_for-entry.ensures.tells height L) filled parts in
-    let some : 1 ≤ length (entries_of node) = omega (arith, ap length now_is, length-set es i t, c.requires.can_rebalance.within) in
+    let some : 1 ≤ length (entries_of node) =
+    omega (arith, ap length now_is, length-set es i t, c.requires.can_rebalance.within) in
     rebalanced_at a a (with_header a slot node) L height slot i node (entries_of node) c.requires.can_rebalance.live family rebalanced some
     refl refl
 

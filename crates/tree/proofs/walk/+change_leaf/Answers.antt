@@ -244,7 +244,8 @@ pub returns-in-Some-clause-changed : goal.returns-in-Some-clause-changed
 returns-in-Some-clause-changed g t c =
     let at = at_child g t (goal.at.returns-in-Some-clause-changed g t c).After-index-entries-step in
     let put = c.in-Some.ensures in
-    linked_above at c.requires.can_change.changeable c.in-Split.ensures.changed (Some c.in-Some.added) put.linked put.stored.filled put.stored.live put.stored.live_added put.stored.changes
+    linked_above at c.requires.can_change.changeable c.in-Split.ensures.changed (Some c.in-Some.added) put.linked put.stored.filled
+    put.stored.live put.stored.live_added put.stored.changes
     (rw (c.leaf_bound-in-Split.ensures.leaf_bound ∙ c.in-Split.ensures.leaf_bound) at put.stored.headed) put.stored.taken
 
 pub returns-in-Some-clause-items : goal.returns-in-Some-clause-items
@@ -259,7 +260,8 @@ pub returns-in-None-clause-changed : goal.returns-in-None-clause-changed
 returns-in-None-clause-changed g t c =
     let at = at_child g t (goal.at.returns-in-None-clause-changed g t c).After-index-entries-step in
     let put = c.in-None.ensures in
-    linked_above at c.requires.can_change.changeable c.in-Split.ensures.changed None put.linked put.stored.filled put.stored.live put.stored.live_added put.stored.changes
+    linked_above at c.requires.can_change.changeable c.in-Split.ensures.changed None put.linked put.stored.filled
+    put.stored.live put.stored.live_added put.stored.changes
     (rw (c.leaf_bound-in-Split.ensures.leaf_bound ∙ c.in-Split.ensures.leaf_bound) at put.stored.headed) put.stored.taken
 
 pub returns-in-None-clause-items : goal.returns-in-None-clause-items

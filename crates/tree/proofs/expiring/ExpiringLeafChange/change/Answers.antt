@@ -30,7 +30,8 @@ partitioned_is : (g : given.Over) (c : After-header_ref-leaf g)
     → IsPartitioned (λ (e : Entry). g.P.Bound.below c.args.self.now.bound.now e.key) (entries_of c.header_ref-leaf.result.now)
 partitioned_is g c =
     let p = g.P.Bound.below c.args.self.now.bound.now in
-    rw (entries_are g c) at (entries_of_partitioned p (entries_at c.args.nodes.now c.args.slot) c.requires.can_change.searched.partitioned)
+    rw (entries_are g c) at (entries_of_partitioned p (entries_at c.args.nodes.now c.args.slot)
+    c.requires.can_change.searched.partitioned)
 
 pub lower_bound-below-requires : goal.lower_bound-below-requires
 lower_bound-below-requires g c =
