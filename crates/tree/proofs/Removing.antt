@@ -1,5 +1,5 @@
 -- The removal of the expired items of a run, entry by entry.
-use Rattle.std.proofs.Common.{◌≡◌, ◌≢◌, ℕ, suc, ◌+◌, ◌-◌, ◌<◌, ◌≤◌, ℤ, int_lt, int_le, ◌&&◌, Bool, true, false, List, [], ◌∷◌, ◌++◌, length, get_or, map, take, drop, set, refl, sym, ◌∙◌, ap, subst, arith, inl, inr, length-append, length-drop, drop-cons, append_assoc}
+use Rattle.std.proofs.Common.{add-one, ◌≡◌, ◌≢◌, ℕ, suc, ◌+◌, ◌-◌, ◌<◌, ◌≤◌, ℤ, int_lt, int_le, ◌&&◌, Bool, true, false, List, [], ◌∷◌, ◌++◌, length, get_or, map, take, drop, set, refl, sym, ◌∙◌, ap, arith, inl, inr, length-append, length-drop, drop-cons, append_assoc}
 use Rattle.std.proofs.lemmas.Int.{ints}
 use Rattle.std.proofs.lemmas.List.{append-nil, get_or-drop, map-append, take_more, take_more_set, drop-set-lt}
 use Rattle.std.proofs.Math.ListN.{length-set}
@@ -36,8 +36,7 @@ expired_or_kept edge before (x ∷ xs) =
 from_index : (es : List Entry) (index : ℕ) (e : Entry) → index < length es → e ≡ get_or es index e
     → drop index es ≡ e ∷ drop (index + 1) es
 from_index es index e inside is =
-    let one : index + 1 ≡ suc index = omega arith in
-    drop-cons es index e inside ∙ ap (λ x. x ∷ drop (suc index) es) (sym is) ∙ ap (λ n. e ∷ drop n es) (sym one)
+    rw add-one (drop-cons es index e inside ∙ ap (λ x. x ∷ drop (suc index) es) (sym is))
 
 -- where none goes, all stay
 pub all_stay : (edge before : ℤ) (xs : List Item) → expired edge before xs ≡ [] → unexpired edge before xs ≡ xs
@@ -163,14 +162,10 @@ module _ (edge before last : ℤ) (es now : List Entry) (out : List Item) (from 
   pub all_kept : (after : List Entry) → after ≡ take kept now ++ drop to now
       → map item_of after ≡ map item_of (take from es) ++ (unexpired edge before (map item_of (run es from to)) ++ map item_of (drop to es))
   all_kept after is =
-      let front = map item_of (take kept now) in
-      let first : front ≡ map item_of (take from es) ++ unexpired edge before (map item_of (run es from to)) =
-      sym (append-nil front) ∙ ap (λ l. front ++ unexpired edge last (map item_of l)) (sym none_ahead) ∙ t.stayed in
-      let behind : drop to now ≡ drop to es = subst (λ n. drop n now ≡ drop n es) end t.ahead in
-      ap (map item_of) is ∙ map-append item_of (take kept now) (drop to now)
-      ∙ ap (λ l. l ++ map item_of (drop to now)) first ∙ ap (λ l. (map item_of (take from es) ++ unexpired edge before (map item_of (run es from to))) ++ map item_of l) behind
-      ∙ append_assoc (map item_of (take from es)) (unexpired edge before (map item_of (run es from to))) (map item_of (drop to es))
+      let stayed = rw (none_ahead, append-nil) at t.stayed in
+      let behind : drop to now ≡ drop to es = rw end at t.ahead in
+      rw (is, map-append, stayed, behind, append_assoc) refl
 
   -- Those that went are all that go.
   pub all_expired : out ≡ expired edge before (map item_of (run es from to))
-  all_expired = sym (append-nil out) ∙ ap (λ l. out ++ expired edge last (map item_of l)) (sym none_ahead) ∙ t.went
+  all_expired = rw (none_ahead, append-nil) at t.went
