@@ -1,5 +1,5 @@
 -- Changes of the slots that are used, by how often each stands in the lists.
-use Rattle.std.proofs.Common.{◌≡◌, ◌≢◌, ◌⊎◌, inl, inr, ℕ, zero, suc, ◌+◌, ◌-◌, ◌≤◌, true, false, cond, List, [], ◌∷◌, length, Option, Some, None, IsSome, is_some, option_map, unwrap_or, refl, sym, ap, subst, ◌∙◌, arith}
+use Rattle.std.proofs.Common.{◌≡◌, ◌≢◌, ◌⊎◌, inl, inr, ℕ, zero, suc, ◌+◌, ◌-◌, ◌≤◌, true, false, cond, List, [], ◌∷◌, length, Option, Some, None, IsSome, is_some, unwrap_or, refl, sym, ap, ◌∙◌, arith}
 use Rattle.std.specs.Prelude.{IfSome}
 use Rattle.std.specs.FinMap as map
 use Rattle.std.specs.Ordering.{nat_cmp, eq_by_cmp}
@@ -26,6 +26,9 @@ none_or_live (Some x) = inr refl
 
 not_both : {X : Type 0} (o : Option X) → o ≡ None → IsSome o → ⊥
 not_both o none live = let e : is_some o ≡ false = ap is_some none in cc
+
+once_few : (s x : ℕ) → once s x ≤ 1
+once_few s x = elim (once_cases s x) [ inl same ↦ omega (arith, same.1) | inr other ↦ omega (arith, other.1) ]
 
 no_key : (o : Option (List ℕ)) → IfSome o (λ key. key ≡ []) → unwrap_or o [] ≡ []
 no_key None h = refl
@@ -136,9 +139,6 @@ module _ {N : ℕ} where
       → ((s : ℕ) → 1 ≤ times s zs → IsLive a s) → ((s : ℕ) → times s xs + times s zs ≤ 1) → Agree a b zs
   moves_agree a b xs ys zs h live few s some = h.others s (omega (arith, few s)) (live s some)
 
-  abbrev key_of : Option (Record (Node N)) → Option (List ℕ)
-  key_of o = option_map (λ r. r.key) o
-
   module _ (a : Arena (Node N)) (slot : ℕ) (node : Node N) where
     abbrev put_record : Record (Node N)
     put_record = record { header = node; key = unwrap_or (key_at a slot) [] }
@@ -157,18 +157,14 @@ module _ {N : ℕ} where
         map.len-insert nat_cmp_total a.records slot put_record
         ∙ ap (λ b. cond b (map.len a.records) (map.len a.records + 1)) live in
         record {
-          few = λ s. elim (once_cases s slot) [
-            | inl same ↦ omega (arith, same.1)
-            | inr other ↦ omega (arith, other.1)
-          ];
+          few = λ s. omega (arith, once_few s slot);
           from = λ s some. inl some;
           others = λ s none alive. record_kept s (λ same. let e : once s slot ≡ 1 = ap (once s) (sym same) ∙ once_same s in omega arith);
           live = omega arith;
           spare = omega arith;
           keyless = λ s. elim (same_or_other s slot) [
-            | inl same ↦ subst (λ o. IfSome (key_of o) (λ key. key ≡ [])) (sym (ap (record_at (with_header a slot node)) same ∙ record_put))
-                (no_key (key_at a slot) (keyless slot))
-            | inr other ↦ subst (λ o. IfSome (key_of o) (λ key. key ≡ [])) (sym (record_kept s other)) (keyless s)
+            | inl same ↦ rw (same, record_put) (no_key (key_at a slot) (keyless slot))
+            | inr other ↦ rw (record_kept s other) (keyless s)
           ];
         }
 
@@ -184,10 +180,7 @@ module _ {N : ℕ} where
       ap map.len placed ∙ map.len-insert nat_cmp_total a.records slot r
       ∙ ap (λ o. cond (is_some o) (map.len a.records) (map.len a.records + 1)) free in
       record {
-        few = λ s. elim (once_cases s slot) [
-          | inl same ↦ omega (arith, same.1)
-          | inr other ↦ omega (arith, other.1)
-        ];
+        few = λ s. omega (arith, once_few s slot);
         from = λ s some. elim (once_cases s slot) [
           | inl same ↦ inr (ap (record_at a) (sym same.0) ∙ free)
           | inr other ↦ absurd (omega (arith, other.1))
@@ -196,8 +189,8 @@ module _ {N : ℕ} where
         live = omega arith;
         spare = omega arith;
         keyless = λ s. elim (same_or_other s slot) [
-          | inl same ↦ subst (λ o. IfSome (key_of o) (λ key. key ≡ [])) (sym (ap (record_at b) same ∙ here)) refl
-          | inr other ↦ subst (λ o. IfSome (key_of o) (λ key. key ≡ [])) (sym (others s other)) (keyless s)
+          | inl same ↦ rw (same, here) refl
+          | inr other ↦ rw (others s other) (keyless s)
         ];
       }
 
@@ -220,8 +213,8 @@ module _ {N : ℕ} where
         live = omega arith;
         spare = omega arith;
         keyless = λ s. elim (same_or_other s slot) [
-          | inl same ↦ subst (λ o. IfSome (key_of o) (λ key. key ≡ [])) (sym (ap (record_at b) same ∙ here)) tt
-          | inr other ↦ subst (λ o. IfSome (key_of o) (λ key. key ≡ [])) (sym (others s other)) (keyless s)
+          | inl same ↦ rw (same, here) tt
+          | inr other ↦ rw (others s other) (keyless s)
         ];
       }
     where

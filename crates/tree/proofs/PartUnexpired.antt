@@ -1,6 +1,6 @@
 -- Items of which a run is swept of expired items: what is said of a leaf's is said of all of them, and how many stay.
 use Rattle.std.proofs.Common.{◌≡◌, ◌≢◌, ℕ, ℤ, ◌+◌, ◌≤◌, ◌≤ℤ◌, int_lt, ◌&&◌, Bool, true, false, inl, inr, List, [], ◌∷◌, ◌++◌, Option, None}
-use Rattle.std.proofs.Common.{length, sym, ◌∙◌, ap, subst, arith, append_assoc, length-append, refl}
+use Rattle.std.proofs.Common.{length, sym, ◌∙◌, ap, arith, append_assoc, length-append, refl}
 use Rattle.std.proofs.lemmas.Int.{ints}
 use Rattle.tree.specs.declared.expiring.Removal.{Removal}
 use Rattle.tree.specs.Item.{Item}
@@ -28,9 +28,7 @@ unexpired_all p count edge before removal run was now c some =
     some_here p p (λ key t. t) c.before c.leaf c.behind c.items_below c.failing c.found
     (λ none. some (ap (items_below p) c.was_is ∙ none)) in
     let h = c.gives.1 here in
-    let all = c.before ++ (c.leaf ++ c.behind) in
-    let whole : RemovesExpired p count edge before removal run None all (c.before ++ (c.changed ++ c.behind)) =
-    record {
+    rw (c.was_is, c.now_is) record {
       front = c.before ++ h.front;
       first = h.first;
       looked = h.looked;
@@ -46,9 +44,7 @@ unexpired_all p count edge before removal run was now c some =
       run_is = h.run_is;
       last = h.last;
       next_is = h.next_is ∙ sym (first_key-append None h.rest c.behind);
-    } in
-    subst (λ xs. RemovesExpired p count edge before removal run None xs now) (sym c.was_is)
-    (subst (λ xs. RemovesExpired p count edge before removal run None all xs) (sym c.now_is) whole)
+    }
 
 not_under : (edge before : ℤ) → edge ≤ℤ before → int_lt before edge ≡ false
 not_under edge before h = grind (arith, ints)
@@ -66,34 +62,15 @@ pub length-unexpired : (p : ℕ → Bool) (count : ℕ) (edge before : ℤ) (rem
     (next : Option ℕ) → RemovesExpired p count edge before removal run next was now
     → (length (items_below p was) ≡ 1 → edge ≤ℤ before) → (length now + length run ≡ length was) × (1 ≤ length now)
 length-unexpired p count edge before removal run was now next h first =
-    let now_is = ap length h.now_is in
-    let all = length-append h.front (unexpired edge before h.looked ++ h.rest) in
-    let stay = length-append (unexpired edge before h.looked) h.rest in
-    let is_below : length (items_below p was) ≡ length h.front + 1 =
-    omega (arith, ap length h.front_is, length-append h.front (h.first ∷ [])) in
-    let looked = ap length h.looked_is in
-    let behind_too = length-append h.looked h.rest in (
-      omega (
-        arith,
-        now_is,
-        all,
-        stay,
-        is_below,
-        looked,
-        behind_too,
-        ap length h.run_is,
-        expired_or_kept edge before h.looked,
-        length-partitioned p was,
-      ),
+    let now_is = simp length-append at (ap length h.now_is) in
+    let looked = simp length-append at (ap length h.looked_is) in
+    let is_below = simp length-append at (ap length h.front_is) in (
+      omega (arith, now_is, is_below, looked, ap length h.run_is, expired_or_kept edge before h.looked, length-partitioned p was),
       elim (none_or_some (length h.front)) [
         | inl none ↦
-            omega (
-              arith,
-              now_is,
-              all,
-              stay,
-              first_stays edge before h.looked (omega (arith, h.looked_at, h.some)) (first (omega (arith, is_below, none))),
-            )
-        | inr filled ↦ omega (arith, now_is, all)
+            let first_is = first_stays edge before h.looked (omega (arith, h.looked_at, h.some))
+            (first (omega (arith, is_below, none))) in
+            omega (arith, now_is, first_is)
+        | inr filled ↦ omega (arith, now_is)
       ],
     )

@@ -1,5 +1,5 @@
 -- The removal of the expired items of a run, entry by entry.
-use Rattle.std.proofs.Common.{◌≡◌, ◌≢◌, ℕ, suc, ◌+◌, ◌-◌, ◌<◌, ◌≤◌, ℤ, int_lt, int_le, ◌&&◌, Bool, true, false, List, [], ◌∷◌, ◌++◌, length, get_or, map, take, drop, set, refl, sym, ◌∙◌, ap, subst, arith, inl, inr, length-append, length-drop, drop-cons, append_assoc}
+use Rattle.std.proofs.Common.{add-one, ◌≡◌, ◌≢◌, ℕ, suc, ◌+◌, ◌-◌, ◌<◌, ◌≤◌, ℤ, int_lt, int_le, ◌&&◌, Bool, true, false, List, [], ◌∷◌, ◌++◌, length, get_or, map, take, drop, set, refl, sym, ◌∙◌, ap, arith, inl, inr, length-append, length-drop, drop-cons, append_assoc}
 use Rattle.std.proofs.lemmas.Int.{ints}
 use Rattle.std.proofs.lemmas.List.{append-nil, get_or-drop, map-append, take_more, take_more_set, drop-set-lt}
 use Rattle.std.proofs.Math.ListN.{length-set}
@@ -36,8 +36,7 @@ expired_or_kept edge before (x ∷ xs) =
 from_index : (es : List Entry) (index : ℕ) (e : Entry) → index < length es → e ≡ get_or es index e
     → drop index es ≡ e ∷ drop (index + 1) es
 from_index es index e inside is =
-    let one : index + 1 ≡ suc index = omega arith in
-    drop-cons es index e inside ∙ ap (λ x. x ∷ drop (suc index) es) (sym is) ∙ ap (λ n. e ∷ drop n es) (sym one)
+    rw add-one (drop-cons es index e inside ∙ ap (λ x. x ∷ drop (suc index) es) (sym is))
 
 -- where none goes, all stay
 pub all_stay : (edge before : ℤ) (xs : List Item) → expired edge before xs ≡ [] → unexpired edge before xs ≡ xs
@@ -55,17 +54,13 @@ pub one_passed : (edge last : ℤ) (es : List Entry) (index : ℕ) (e : Entry) �
     → (int_lt last edge && int_lt e.version edge) ≡ false
     → expired edge last (map item_of (drop index es)) ≡ expired edge e.version (map item_of (drop (index + 1) es))
 one_passed edge last es index e inside is f =
-    ap (λ l. expired edge last (map item_of l)) (from_index es index e inside is)
-    ∙ (stays edge last (item_of e) (map item_of (drop (index + 1) es)) f).1
+    rw (from_index es index e inside is, f) refl
 
 -- Where the entry at an index goes, one goes.
 pub one_found : (edge last : ℤ) (es : List Entry) (index : ℕ) (e : Entry) → index < length es → e ≡ get_or es index e
     → (int_lt last edge && int_lt e.version edge) ≡ true → expired edge last (map item_of (drop index es)) ≢ []
 one_found edge last es index e inside is t none =
-    let found : item_of e ∷ expired edge e.version (map item_of (drop (index + 1) es)) ≡ [] =
-    sym (goes edge last (item_of e) (map item_of (drop (index + 1) es)) t).1
-    ∙ ap (λ l. expired edge last (map item_of l)) (sym (from_index es index e inside is)) ∙ none in
-    absurd (cc)
+    let found = rw (from_index es index e inside is, t) at none in absurd (cc)
 
 -- the version of the last entry of a run is the last of the versions
 pub last_at : (es : List Entry) (from to : ℕ) (e : Entry) → from < to → to ≤ length es → e ≡ get_or es (to - 1) e
@@ -139,10 +134,8 @@ module _ (edge before last : ℤ) (es now : List Entry) (out : List Item) (from 
         counted = omega (arith, t.counted);
         same_length = length-set now kept e ∙ t.same_length;
         ahead = drop-set-lt (index + 1) now kept e (omega (arith, t.counted)) ∙ n.1;
-        stayed = ap (λ l. l ++ unexpired edge e.version (map item_of rest)) taken
-            ∙ append_assoc front (item_of e ∷ []) (unexpired edge e.version (map item_of rest))
-            ∙ ap (λ l. front ++ l) (sym s.0) ∙ ap (λ l. front ++ unexpired edge last (map item_of l)) (sym n.0) ∙ t.stayed;
-        went = ap (λ l. out ++ l) (sym s.1) ∙ ap (λ l. out ++ expired edge last (map item_of l)) (sym n.0) ∙ t.went;
+        stayed = rw (taken, append_assoc) (rw (n.0, s.0) at t.stayed);
+        went = rw (n.0, s.1) at t.went;
       }
 
   -- an entry goes
@@ -152,15 +145,12 @@ module _ (edge before last : ℤ) (es now : List Entry) (out : List Item) (from 
       let n = next_of es now index to e lt within t.same_length t.ahead is in
       let rest = run es (index + 1) to in
       let s = goes edge last (item_of e) (map item_of rest) g in
-      let front = map item_of (take kept now) in
-      let more = expired edge e.version (map item_of rest) in
       record {
         counted = omega (arith, t.counted, length-append out (item_of e ∷ []));
         same_length = t.same_length;
         ahead = n.1;
-        stayed = ap (λ l. front ++ l) (sym s.0) ∙ ap (λ l. front ++ unexpired edge last (map item_of l)) (sym n.0) ∙ t.stayed;
-        went = append_assoc out (item_of e ∷ []) more ∙ ap (λ l. out ++ l) (sym s.1)
-            ∙ ap (λ l. out ++ expired edge last (map item_of l)) (sym n.0) ∙ t.went;
+        stayed = rw (n.0, s.0) at t.stayed;
+        went = rw append_assoc (rw (n.0, s.1) at t.went);
       }
 
 module _ (edge before last : ℤ) (es now : List Entry) (out : List Item) (from to index kept : ℕ) (t : RemovesExpired edge before last es now out from to index kept)
@@ -172,14 +162,10 @@ module _ (edge before last : ℤ) (es now : List Entry) (out : List Item) (from 
   pub all_kept : (after : List Entry) → after ≡ take kept now ++ drop to now
       → map item_of after ≡ map item_of (take from es) ++ (unexpired edge before (map item_of (run es from to)) ++ map item_of (drop to es))
   all_kept after is =
-      let front = map item_of (take kept now) in
-      let first : front ≡ map item_of (take from es) ++ unexpired edge before (map item_of (run es from to)) =
-      sym (append-nil front) ∙ ap (λ l. front ++ unexpired edge last (map item_of l)) (sym none_ahead) ∙ t.stayed in
-      let behind : drop to now ≡ drop to es = subst (λ n. drop n now ≡ drop n es) end t.ahead in
-      ap (map item_of) is ∙ map-append item_of (take kept now) (drop to now)
-      ∙ ap (λ l. l ++ map item_of (drop to now)) first ∙ ap (λ l. (map item_of (take from es) ++ unexpired edge before (map item_of (run es from to))) ++ map item_of l) behind
-      ∙ append_assoc (map item_of (take from es)) (unexpired edge before (map item_of (run es from to))) (map item_of (drop to es))
+      let stayed = rw (none_ahead, append-nil) at t.stayed in
+      let behind : drop to now ≡ drop to es = rw end at t.ahead in
+      rw (is, map-append, stayed, behind, append_assoc) refl
 
   -- Those that went are all that go.
   pub all_expired : out ≡ expired edge before (map item_of (run es from to))
-  all_expired = sym (append-nil out) ∙ ap (λ l. out ++ expired edge last (map item_of l)) (sym none_ahead) ∙ t.went
+  all_expired = rw (none_ahead, append-nil) at t.went

@@ -66,18 +66,16 @@ module _ {N : ℕ} where
         ap₂ (λ l m. l ++ m) (ap (slots_in b height) (sym insert_entry.first_child)) (ap (slots_in b height) (sym insert_entry.second_child) ∙ sym (append-nil _)) in
         let two_items : items_of b height (t ∷ u ∷ []) ≡ items_in b height x ++ items_in b height added =
         ap₂ (λ l m. l ++ m) (ap (items_in b height) insert_entry.first_child) (append-nil _ ∙ ap (items_in b height) insert_entry.second_child) in
-        let then : Moves a b (slots_of a height (here ∷ [])) (slots_of b height (t ∷ u ∷ [])) =
-        subst (λ l. Moves a b l (slots_of b height (t ∷ u ∷ []))) one_slots (subst (Moves a b (slots_in a height x)) two_slots moves) in
+        let then = rw (one_slots, two_slots) at moves in
         let r = replaced a b least height (take i es) (here ∷ []) (drop (i + 1) es) (t ∷ u ∷ []) few_split before behind then
         (All-cons (IsRight b least height) t (u ∷ []) (right_child b least height x t insert_entry.first_child filled_x below_x (insert_entry.first_tells height least below_x))
         (All-cons (IsRight b least height) u [] (right_child b least height added u insert_entry.second_child filled_added below_added (insert_entry.second_tells height least below_added))
         (All-nil (IsRight b least height)))) in
         record {
-          children = subst (AreChildren b least height) (sym insert_entry.entries) r.children;
+          children = rw insert_entry.entries r.children;
           items = ap (items_of b height) insert_entry.entries ∙ r.items
               ∙ ap (λ l. items_of a height (take i es) ++ (l ++ items_of a height (drop (i + 1) es))) two_items;
-          moves = subst (λ l. Moves a b (slots_of a height l) (slots_of b height now)) (sym split)
-              (subst (λ l. Moves a b (slots_of a height (take i es ++ (here ∷ [] ++ drop (i + 1) es))) (slots_of b height l)) (sym insert_entry.entries) r.moves);
+          moves = rw (split, insert_entry.entries) r.moves;
         }
 
     -- the child was changed, and its entry isn't right yet
@@ -87,11 +85,9 @@ module _ {N : ℕ} where
     family_loose moves below =
         let then_slots : slots_in b height x ≡ slots_of b height (here ∷ []) = ap (slots_in b height) x_is ∙ sym (append-nil _) in
         let then_items : items_of b height (here ∷ []) ≡ items_in b height x = append-nil _ ∙ ap (items_in b height) (sym x_is) in
-        let then : Moves a b (slots_of a height (here ∷ [])) (slots_of b height (here ∷ [])) =
-        subst (λ l. Moves a b l (slots_of b height (here ∷ []))) one_slots (subst (Moves a b (slots_in a height x)) then_slots moves) in
+        let then = rw (one_slots, then_slots) at moves in
         let l = loose a b least height (take i es) (here ∷ []) (drop (i + 1) es) (here ∷ []) few_split before behind then in
-        let all : Moves a b (slots_of a height es) (slots_of b height es) =
-        subst (λ l. Moves a b (slots_of a height l) (slots_of b height l)) (sym split) l.moves in
+        let all : Moves a b (slots_of a height es) (slots_of b height es) = rw split l.moves in
         let below_here : IsSubtree b least height here.child = subst (IsSubtree b least height) x_is below in
         let below_all : All (λ e. IsSubtree b least height e.child) (take i es ++ (here ∷ [] ++ drop (i + 1) es)) =
         All-append (λ (e : Entry). IsSubtree b least height e.child) (take i es) (here ∷ [] ++ drop (i + 1) es) (below_of b least height (take i es) l.front)
@@ -99,7 +95,7 @@ module _ {N : ℕ} where
         (below_of b least height (drop (i + 1) es) l.back)) in (
           record {
             distinct = distinct_if_once (slots_of b height es) all.few;
-            below = subst (All (λ e. IsSubtree b least height e.child)) (sym split) below_all;
+            below = rw split below_all;
             before = l.front;
             behind = l.back;
           },

@@ -1,7 +1,7 @@
 -- A change at a node above the leaves: what is known of the node, and what holds of it afterwards.
 use Rattle.std.proofs.Common.{◌≡◌, ℕ, suc, ◌+◌, ◌<◌, ◌≤◌, Bool, List, [], ◌∷◌, ◌++◌, length, length-append, append-nil, get_or, take, drop, Option, Some, None, refl, sym, ap, subst, ◌∙◌, arith}
 use Rattle.std.specs.Prelude.{IfSome, nat_eq}
-use Rattle.std.specs.List.{Contains, IsDistinct}
+use Rattle.std.specs.List.{IsDistinct}
 use Rattle.std.proofs.lemmas.List.{length-take-le, length-drop}
 use Rattle.arena.specs.Arena.{Arena, IsLive, header_at, record_at}
 use Rattle.tree.specs.declared.entry.Entry.{Entry}
@@ -23,41 +23,48 @@ use Rattle.tree.proofs.Storing.{IsStored, moves_own, stored}
 
 module _ {N : ℕ} where
   -- the node at a slot, and the child at an index, at which a bound goes on
-  pub record IsAt (a : Arena (Node N)) (least height slot : ℕ) (is_below : ℕ → Bool) (es : List Entry) (i x : ℕ) (d : Entry) : Type 0 where
+  pub record IsAt (a : Arena (Node N)) (least height lower slot : ℕ) (is_below : ℕ → Bool) (es : List Entry) (i x : ℕ)
+      : Type 0 where
+    pub next : suc lower ≡ height
+    pub subtree : IsSubtree a least height slot
     pub read : entries_at a slot ≡ es
-    pub slots_are : slots_in a (suc height) slot ≡ slot ∷ slots_of a height es
-    pub few : (s : ℕ) → times s (slots_in a (suc height) slot) ≤ 1
-    pub few_below : (s : ℕ) → times s (slots_of a height es) ≤ 1
-    pub right : AreChildren a least height es
+    pub slots_are : slots_in a (suc lower) slot ≡ slot ∷ slots_of a lower es
+    pub few : (s : ℕ) → times s (slots_in a (suc lower) slot) ≤ 1
+    pub few_below : (s : ℕ) → times s (slots_of a lower es) ≤ 1
+    pub right : AreChildren a least lower es
     pub within : i < length es
+    pub d : Entry
     pub x_is : x ≡ (get_or es i d).child
     pub x_at : x ≡ child_at es i
     pub index : i ≡ index_in is_below (entries_at a slot)
     pub child : x ≡ child_in is_below (entries_at a slot)
     pub live : IsLive a slot
 
-  pub is_at : (a : Arena (Node N)) (least height lower slot : ℕ) (is_below : ℕ → Bool) (node : Node N) (us vs : List Entry) (i : ℕ) (d : Entry)
+  pub is_at : (a : Arena (Node N)) (least height lower slot : ℕ) (is_below : ℕ → Bool) (node : Node N) (vs : List Entry)
+      (i : ℕ) (d : Entry)
       → suc lower ≡ height → IsSubtree a least height slot → IsDistinct nat_eq (slots_in a height slot) → header_at a slot ≡ Some node
-      → us ≡ entries_of node → vs ≡ entries_of node → i ≡ index_in is_below us → i < length us
-      → IsAt a least lower slot is_below (entries_of node) i (get_or vs i d).child d
-  is_at a least height lower slot is_below node us vs i d next subtree distinct header us_is vs_is index within =
+      → vs ≡ entries_of node → i ≡ index_in is_below (entries_of node) → i < length (entries_of node)
+      → IsAt a least height lower slot is_below (entries_of node) i (get_or vs i d).child
+  is_at a least height lower slot is_below node vs i d next subtree distinct header vs_is index inside =
       let es = entries_of node in
       let read : entries_at a slot ≡ es = entries_from_header a slot node header in
-      let tree : IsSubtree a least (suc lower) slot = subst (λ n. IsSubtree a least n slot) (sym next) subtree in
+      let tree : IsSubtree a least (suc lower) slot = rw (← next) at subtree in
       let few : (s : ℕ) → times s (slots_in a (suc lower) slot) ≤ 1 =
-      once_if_distinct (slots_in a (suc lower) slot) (subst (λ n. IsDistinct nat_eq (slots_in a n slot)) (sym next) distinct) in
+      once_if_distinct (slots_in a (suc lower) slot) (rw (← next) at distinct) in
       let slots_are : slots_in a (suc lower) slot ≡ slot ∷ slots_of a lower es = ap (λ l. slot ∷ slots_of a lower l) read in
-      let inside : i < length es = subst (λ l. i < length l) us_is within in
       let x_is : (get_or vs i d).child ≡ (get_or es i d).child = ap (λ (l : List Entry). (get_or l i d).child) vs_is in
       let x_at : (get_or vs i d).child ≡ child_at es i = x_is ∙ sym (child_is es i d inside) in
-      let at : i ≡ index_in is_below (entries_at a slot) = index ∙ ap (index_in is_below) (us_is ∙ sym read) in
+      let at : i ≡ index_in is_below (entries_at a slot) = index ∙ ap (index_in is_below) (sym read) in
       record {
+        next = next;
+        subtree = subtree;
         read = read;
         slots_are = slots_are;
         few = few;
         few_below = λ s. (let all : times s (slot ∷ slots_of a lower es) ≤ 1 = subst (λ l. times s l ≤ 1) slots_are (few s) in omega arith);
         right = subst (AreChildren a least lower) read tree.2;
         within = inside;
+        d = d;
         x_is = x_is;
         x_at = x_at;
         index = at;
@@ -65,46 +72,34 @@ module _ {N : ℕ} where
         live = tree.0;
       }
 
-  -- the items of the node: those of the children before the child, its own, and those of the children behind it
-  pub items_split : (a : Arena (Node N)) (least height lower slot : ℕ) (is_below : ℕ → Bool) (es : List Entry) (i x : ℕ)
-      (d : Entry) → suc lower ≡ height → IsAt a least lower slot is_below es i x d
-      → items_in a height slot
-      ≡ items_of a lower (take i es) ++ (items_in a lower x ++ items_of a lower (drop (i + 1) es))
-  items_split a least height lower slot is_below es i x d next at =
-      ap (λ n. items_in a n slot) (sym next) ∙ ap (items_of a lower) (at.read ∙ around_one es i d at.within)
-      ∙ items_of-append a lower (take i es) (get_or es i d ∷ [] ++ drop (i + 1) es)
-      ∙ ap (λ z. items_of a lower (take i es) ++ (items_in a lower z ++ items_of a lower (drop (i + 1) es))) (sym at.x_is)
+  module _ {a : Arena (Node N)} {least height lower slot : ℕ} {is_below : ℕ → Bool} {es : List Entry} {i x : ℕ}
+      (at : IsAt a least height lower slot is_below es i x) where
+    -- the items of the node: those of the children before the child, its own, and those of the children behind it
+    pub items_split : items_in a height slot
+        ≡ items_of a lower (take i es) ++ (items_in a lower x ++ items_of a lower (drop (i + 1) es))
+    items_split =
+        ap (λ n. items_in a n slot) (sym at.next) ∙ ap (items_of a lower) (at.read ∙ around_one es i at.d at.within)
+        ∙ items_of-append a lower (take i es) (get_or es i at.d ∷ [] ++ drop (i + 1) es)
+        ∙ ap (λ z. items_of a lower (take i es) ++ (items_in a lower z ++ items_of a lower (drop (i + 1) es))) (sym at.x_is)
 
-  -- the node's own slot stays
-  kept_beside : (a b : Arena (Node N)) (least height slot : ℕ) (is_below : ℕ → Bool) (es : List Entry) (i x : ℕ)
-      (d : Entry) (now : List ℕ) → IsAt a least height slot is_below es i x d → Moves a b (slots_in a height x) now
-      → record_at b slot ≡ record_at a slot
-  kept_beside a b least height slot is_below es i x d now at moves =
-      let all : times slot (slot ∷ slots_of a height es) ≤ 1 = subst (λ l. times slot l ≤ 1) at.slots_are (at.few slot) in
-      let A = get_or es i d in
-      let split : times slot (slots_of a height es) ≡ times slot (slots_of a height (take i es ++ (A ∷ [] ++ drop (i + 1) es))) =
-      ap (λ l. times slot (slots_of a height l)) (around_one es i d at.within) in
-      let parts = times-slots_of a height slot (take i es) (A ∷ [] ++ drop (i + 1) es) in
-      let more = times-slots_of a height slot (A ∷ []) (drop (i + 1) es) in
-      let last = times-slots_of a height slot (A ∷ []) [] in
-      let one : times slot (slots_of a height (A ∷ [])) ≡ times slot (slots_in a height x) =
-      one_slot a height A slot ∙ ap (λ z. times slot (slots_in a height z)) (sym at.x_is) in
-      moves.others slot (omega (arith, once_same slot)) at.live
-    where
-      one_slot : (a : Arena (Node N)) (height : ℕ) (e : Entry) (s : ℕ) → times s (slots_of a height (e ∷ [])) ≡ times s (slots_in a height e.child)
-      one_slot a height e s = ap (times s) (append-nil (slots_in a height e.child))
+    module _ {b : Arena (Node N)} {now : List ℕ} (moves : Moves a b (slots_in a lower x) now) where
+      -- the node's own slot stays
+      kept_beside : record_at b slot ≡ record_at a slot
+      kept_beside =
+          let all : times slot (slot ∷ slots_of a lower es) ≤ 1 = subst (λ l. times slot l ≤ 1) at.slots_are (at.few slot) in
+          let A = get_or es i at.d in
+          let split = ap (λ l. times slot (slots_of a lower l)) (around_one es i at.d at.within) in
+          let parts = times-slots_of a lower slot (take i es) (A ∷ [] ++ drop (i + 1) es) in
+          let more = times-slots_of a lower slot (A ∷ []) (drop (i + 1) es) in
+          let one : times slot (slots_of a lower (A ∷ [])) ≡ times slot (slots_in a lower x) =
+          ap (times slot) (append-nil (slots_in a lower A.child) ∙ ap (slots_in a lower) (sym at.x_is)) in
+          moves.others slot (omega (arith, once_same slot)) at.live
 
-  pub live_beside : (a b : Arena (Node N)) (least height slot : ℕ) (is_below : ℕ → Bool) (es : List Entry) (i x : ℕ)
-      (d : Entry) (now : List ℕ)
-      → IsAt a least height slot is_below es i x d → Moves a b (slots_in a height x) now → IsLive b slot
-  live_beside a b least height slot is_below es i x d now at moves =
-      live_same a b slot (kept_beside a b least height slot is_below es i x d now at moves) at.live
+      pub live_beside : IsLive b slot
+      live_beside = live_same a b slot kept_beside at.live
 
-  pub read_beside : (a b : Arena (Node N)) (least height slot : ℕ) (is_below : ℕ → Bool) (es : List Entry) (i x : ℕ)
-      (d : Entry) (now : List ℕ)
-      → IsAt a least height slot is_below es i x d → Moves a b (slots_in a height x) now → entries_at b slot ≡ es
-  read_beside a b least height slot is_below es i x d now at moves =
-      entries_same a b slot (kept_beside a b least height slot is_below es i x d now at moves) ∙ at.read
+      pub read_beside : entries_at b slot ≡ es
+      read_beside = entries_same a b slot kept_beside ∙ at.read
 
   -- What holds afterwards. The items of the child are others, and stand among those of its neighbours.
   pub record IsStepped (a w : Arena (Node N)) (least height lower slot : ℕ) (es : List Entry) (i : ℕ) (middle : List Item)
@@ -120,13 +115,12 @@ module _ {N : ℕ} where
       → items_of b lower now ≡ items_of a lower (take i es) ++ (middle ++ items_of a lower (drop (i + 1) es))
       → IsStored a w least lower slot added (items_of b lower now)
       → IsStepped a w least height lower slot es i middle added
-  stepped a b w least height lower slot es now i middle added next items stored =
-      subst (λ n. IsStepped a w least n lower slot es i middle added) next (record {
-        items = stored.items_are ∙ items;
-        subtree = stored.subtree;
-        neighbour = stored.neighbour;
-        changes = changes_if_moves a w (slots_in a (suc lower) slot) (slots_with w (suc lower) slot added) stored.moves;
-      })
+  stepped a b w least height lower slot es now i middle added next items stored = rw (← next) record {
+    items = stored.items_are ∙ items;
+    subtree = stored.subtree;
+    neighbour = stored.neighbour;
+    changes = changes_if_moves a w (slots_in a (suc lower) slot) (slots_with w (suc lower) slot added) stored.moves;
+  }
 
   -- the two parts of a node that was split have entries, and so has one that wasn't
   pub some_left : (w : Arena (Node N)) (slot : ℕ) (added : Option ℕ) (p q : List Entry) (t u : Entry) → 4 ≤ N
@@ -150,9 +144,8 @@ module _ {N : ℕ} where
       omega (arith, ap length is, length-append (take i es) (t ∷ u ∷ drop (i + 1) es), length-take-le i es (omega arith), length-drop (i + 1) es)
   one_more w slot (Some s) es i t u within is none = absurd (cc)
 
-  module _ (a b w : Arena (Node N)) (least height lower slot : ℕ) (is_below : ℕ → Bool) (es : List Entry) (i x : ℕ)
-      (d : Entry) (next : suc lower ≡ height) (at : IsAt a least lower slot is_below es i x d)
-      (below : IsSubtree b least lower x) where
+  module _ {a : Arena (Node N)} {least height lower slot : ℕ} {is_below : ℕ → Bool} {es : List Entry} {i x : ℕ}
+      (at : IsAt a least height lower slot is_below es i x) (b w : Arena (Node N)) (below : IsSubtree b least lower x) where
     -- the child was split, and the node linked to both parts
     module _ (s : ℕ) (added : Option ℕ)
         (moves : Moves a b (slots_in a lower x) (slots_in b lower x ++ slots_in b lower s)) (four : 4 ≤ N)
@@ -160,9 +153,7 @@ module _ {N : ℕ} where
         (drop (i + 1) (entries_at b slot)) (entries_at_both w slot added)) where
       insert_entry : IsLinked b x s (take i es) (drop (i + 1) es) (entries_at_both w slot added)
       insert_entry =
-          subst (λ z. IsLinked b z s (take i es) (drop (i + 1) es) (entries_at_both w slot added)) (sym at.x_at)
-          (subst (λ l. IsLinked b (child_at l i) s (take i l) (drop (i + 1) l) (entries_at_both w slot added))
-          (read_beside a b least lower slot is_below es i x d (slots_in b lower x ++ slots_in b lower s) at moves) linked)
+          rw at.x_at (rw (read_beside at moves) at linked)
 
       pub one_less : added ≡ None → length (entries_at a slot) ≤ length (entries_at w slot) + 1
       one_less none =
@@ -176,11 +167,11 @@ module _ {N : ℕ} where
       stepped_linked below_added filled_x filled_added half live live_added changes =
           let now = entries_at_both w slot added in
           let middle = items_in b lower x ++ items_in b lower s in
-          let step = step_linked a b least lower es i x d at.within at.x_is at.few_below at.right s now insert_entry below
+          let step = step_linked a b least lower es i x at.d at.within at.x_is at.few_below at.right s now insert_entry below
           below_added filled_x filled_added moves in
           let some = some_left w slot added (take i es) (drop (i + 1) es) insert_entry.first insert_entry.second four insert_entry.entries
           half in
-          stepped a b w least height lower slot es now i middle added next step.items
+          stepped a b w least height lower slot es now i middle added at.next step.items
           (stored a b w least lower slot es at.slots_are at.few at.live now step.moves step.children added refl some
           (some_right w slot added four half) live live_added
           (moves_if_changes b w (slot ∷ []) (slot ∷ slot_taken added) changes))
@@ -190,19 +181,15 @@ module _ {N : ℕ} where
       changed : IsFamily b least lower es i (i + 1) × Moves a b (slots_of a lower es) (slots_of b lower es)
           × (items_of b lower es
           ≡ items_of a lower (take i es) ++ (items_in b lower x ++ items_of a lower (drop (i + 1) es)))
-      changed = family_loose a b least lower es i x d at.within at.x_is at.few_below at.right moves below
-
-      read : entries_at b slot ≡ es
-      read = read_beside a b least lower slot is_below es i x d (slots_in b lower x) at moves
+      changed = family_loose a b least lower es i x at.d at.within at.x_is at.few_below at.right moves below
 
       own : Moves a b (slot ∷ slots_of a lower es) (slot ∷ slots_of b lower es)
       own = moves_own a b w least lower slot es at.slots_are at.few at.live es changed.1
 
       pub family_at : IsFamilyAt b least lower slot i
       family_at = record {
-        family = subst (λ l. IsFamily b least lower l i (i + 1)) (sym read) changed.0;
-        apart = subst (λ l. ¬ Contains (slots_of b lower l) slot) (sym read)
-            (λ has. let below = times_if_contains slot (slots_of b lower es) has in
+        family = rw (read_beside at moves) changed.0;
+        apart = rw (read_beside at moves) (λ has. let below = times_if_contains slot (slots_of b lower es) has in
             absurd (omega (arith, own.few slot, once_same slot, below)));
       }
 
@@ -210,14 +197,13 @@ module _ {N : ℕ} where
       pub stepped_rebalanced : IsRebalancedAt b w least lower slot
           → IsStepped a w least height lower slot es i (items_in b lower x) None
       stepped_rebalanced rebalanced =
-          stepped a b w least height lower slot es es i (items_in b lower x) None next changed.2
+          stepped a b w least height lower slot es es i (items_in b lower x) None at.next changed.2
           (record {
-            items_are = rebalanced.items ∙ ap (items_of b lower) read;
+            items_are = rebalanced.items ∙ ap (items_of b lower) (read_beside at moves);
             subtree = rebalanced.subtree;
             neighbour = tt;
             moves = moves_trans a b w (slots_in a (suc lower) slot) (slots_in b (suc lower) slot)
                 (slots_in w (suc lower) slot)
-                (subst (Moves a b (slots_in a (suc lower) slot)) (ap (λ l. slot ∷ slots_of b lower l) (sym read))
-                (subst (λ l. Moves a b l (slot ∷ slots_of b lower es)) (sym at.slots_are) own))
+                (rw (at.read, read_beside at moves) own)
                 (moves_if_changes b w (slots_in b (suc lower) slot) (slots_in w (suc lower) slot) rebalanced.changes);
           })

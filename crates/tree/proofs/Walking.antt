@@ -3,16 +3,17 @@ use Rattle.std.proofs.Common.{◌≡◌, ◌⊎◌, ◌↔◌, inl, inr, ℕ, ze
 use Rattle.std.specs.Prelude.{ℤ, ◌≤ℤ◌}
 use Rattle.std.proofs.lemmas.Bool.{cases_Bool}
 use Rattle.std.proofs.lemmas.Int.{ints}
-use Rattle.std.proofs.lemmas.List.Elements.{All-nil, All-cons, All-head, All-append, All-drop, All-weaker}
+use Rattle.std.proofs.lemmas.List.Elements.{All-head, All-append, All-drop, All-weaker}
+use Rattle.std.proofs.lemmas.List.{get_or_default}
 use Rattle.std.proofs.lemmas.Option.{get_or_from_slice_get}
 use Rattle.arena.specs.Arena.{Arena}
-use Rattle.keys.proofs.callers.SomeElement.{Any-first, Any-later, Any-left, Any-none, Any-parts, Any-right}
+use Rattle.keys.proofs.callers.SomeElement.{Any-first, Any-left, Any-none, Any-parts, Any-right}
 use Rattle.tree.specs.declared.entry.Entry.{Entry}
 use Rattle.tree.specs.declared.node.Node.{Node}
 use Rattle.tree.specs.Item.{Item, Tells, item_of}
 use Rattle.tree.specs.Path.{IsPartitioned, index_in, first_key}
 use Rattle.tree.specs.Replace.{items_of, AreChildren, TellsWritten}
-use Rattle.tree.specs.Subtree.{entries_at, items_in, IsSubtree}
+use Rattle.tree.specs.Subtree.{entries_at, items_in}
 use Rattle.tree.specs.Walk.{IsChangedWithin, IsFoundAmong, IsRaised}
 use Rattle.tree.proofs.callers.Partitions.{not_both}
 use Rattle.tree.proofs.callers.Times.{none_or_some}
@@ -38,13 +39,7 @@ none_among is_below xs fail any =
 
 -- Each version of items is that of one of them.
 each_there : (xs : List Item) → All (λ x. Any (λ w. x.version ≡ w.version) xs) xs
-each_there [] = All-nil (λ (x : Item). Any (λ (w : Item). x.version ≡ w.version) [])
-each_there (y ∷ ys) =
-    All-cons (λ (x : Item). Any (λ (w : Item). x.version ≡ w.version) (y ∷ ys)) y ys
-    (Any-first (λ (w : Item). y.version ≡ w.version) y ys refl)
-    (All-weaker (λ (x : Item). Any (λ (w : Item). x.version ≡ w.version) ys)
-    (λ (x : Item). Any (λ (w : Item). x.version ≡ w.version) (y ∷ ys))
-    (λ x h. Any-later (λ (w : Item). x.version ≡ w.version) y ys h) ys (each_there ys))
+each_there xs k d within = (k, get_or xs k d, within, get_or_default xs k (get_or xs k d) d within, refl)
 
 same_first : (key : Option ℕ) (xs ys : List Item) → first_key None xs ≡ first_key None ys
     → first_key key xs ≡ first_key key ys
@@ -125,24 +120,17 @@ module _ (front part back now : List Item) where
   pub raised_around : (version : ℤ) → IsRaised version part now
       → IsRaised version (front ++ (part ++ back)) (front ++ (now ++ back))
   raised_around version r =
-      let all = front ++ (part ++ back) in
-      let There = λ (x : Item). Any (λ (w : Item). x.version ≡ w.version) all in
-      let Is = λ (x : Item). (x.version ≡ version) ⊎ There x in
+      let Same = λ (x w : Item). x.version ≡ w.version in
+      let Is = λ (x : Item). (x.version ≡ version) ⊎ Any (Same x) (front ++ (part ++ back)) in
       let in_front : All Is front =
-      All-weaker (λ (x : Item). Any (λ (w : Item). x.version ≡ w.version) front) Is
-      (λ x h. inr (Any-left (λ (w : Item). x.version ≡ w.version) front (part ++ back) h)) front (each_there front) in
-      let behind : All Is back =
-      All-weaker (λ (x : Item). Any (λ (w : Item). x.version ≡ w.version) back) Is
-      (λ x h. inr (Any-right (λ (w : Item). x.version ≡ w.version) front (part ++ back)
-      (Any-right (λ (w : Item). x.version ≡ w.version) part back h))) back (each_there back) in
-      let inside : All Is now =
-      All-weaker (λ (x : Item). (x.version ≡ version) ⊎ Any (λ (w : Item). x.version ≡ w.version) part) Is
-      (λ x h. elim h [
+      λ k d h. inr (Any-left (Same (get_or front k d)) front (part ++ back) (each_there front k d h)) in
+      let behind : All Is back = λ k d h. inr (Any-right (Same (get_or back k d)) front (part ++ back)
+      (Any-right (Same (get_or back k d)) part back (each_there back k d h))) in
+      let inside : All Is now = λ k d h. elim (r.others k d h) [
         | inl same ↦ inl same
         | inr there ↦
-            inr (Any-right (λ (w : Item). x.version ≡ w.version) front (part ++ back)
-            (Any-left (λ (w : Item). x.version ≡ w.version) part back there))
-      ]) now r.others in
+            inr (Any-right (Same (get_or now k d)) front (part ++ back) (Any-left (Same (get_or now k d)) part back there))
+      ] in
       record {
         first = first_key-append None front (now ++ back)
             ∙ ap (λ k. first_key k front)
@@ -160,21 +148,16 @@ tells_raised : (e : Entry) (version : ℤ) (was now : List Item) → Tells e was
 tells_raised e version was now tells raised le = by_items now refl
   where
     bound : All (λ x. x.version ≤ℤ version) now
-    bound =
-        All-weaker (λ (x : Item). (x.version ≡ version) ⊎ Any (λ (w : Item). x.version ≡ w.version) was)
-        (λ (x : Item). x.version ≤ℤ version)
-        (λ x h. elim h [
-          | inl same ↦ omega (arith, ints, same)
-          | inr there ↦
-              let least = subst (λ (w : Item). w.version ≤ℤ e.version) there.3
-              (tells.greatest.bound there.0 there.1 there.2) in
-              omega (arith, ints, there.4, least, le)
-        ]) now raised.others
+    bound k d within = elim (raised.others k d within) [
+      | inl same ↦ omega (arith, ints, same)
+      | inr there ↦
+          let least = rw there.3 at (tells.greatest.bound there.0 there.1 there.2) in
+          omega (arith, ints, there.4, least, le)
+    ]
 
     by_items : (xs : List Item) → now ≡ xs → Tells (record e { version = version }) now
     by_items [] none =
-        absurd (Any-none (λ (x : Item). x.version ≡ version)
-        (subst (Any (λ (x : Item). x.version ≡ version)) none raised.there))
+        absurd (Any-none (λ (x : Item). x.version ≡ version) (rw none at raised.there))
     by_items (x ∷ xs) is =
         let same : Some x.key ≡ Some tells.first.key =
         ap (first_key None) (sym is) ∙ raised.first ∙ ap (first_key None) tells.items_are in
@@ -198,20 +181,17 @@ none_at a least lower (e ∷ es) (suc i) right within none =
     sym (ap (λ xs. xs ++ items_of a lower (take i es)) t.items_are) ∙ none in
     absurd (cc)
 
-module _ {N : ℕ} (a : Arena (Node N)) (least height lower slot : ℕ) (is_below : ℕ → Bool) (es : List Entry) (i x : ℕ)
-    (d : Entry) (next : suc lower ≡ height) (at : IsAt a least lower slot is_below es i x d) where
+module _ {N : ℕ} {a : Arena (Node N)} {least height lower slot : ℕ} {is_below : ℕ → Bool} {es : List Entry} {i x : ℕ}
+    (at : IsAt a least height lower slot is_below es i x) where
   -- The child is the part of the items of the node in which the search goes on.
-  around_at : IsSubtree a least height slot → IsPartitioned (λ x. is_below x.key) (items_in a height slot)
+  around_at : IsPartitioned (λ x. is_below x.key) (items_in a height slot)
       → IsAround is_below (items_of a lower (take i es)) (items_in a lower x) (items_of a lower (drop (i + 1) es))
-  around_at subtree partitioned =
+  around_at partitioned =
       let all = entries_at a slot in
-      let w = way a least lower slot is_below (subst (λ n. IsSubtree a least n slot) (sym next) subtree)
-      (subst (λ n. IsPartitioned (λ (x : Item). is_below x.key) (items_in a n slot)) (sym next) partitioned) in
-      let Pass = λ (es : List Entry). All (λ (x : Item). is_below x.key ≡ true) (items_of a lower es) in
-      let Fail = λ (es : List Entry). All (λ (x : Item). is_below x.key ≡ false) (items_of a lower es) in
+      let w = way a least lower slot is_below (rw (← at.next) at at.subtree) (rw (← at.next) at partitioned) in
       record {
-        pass = subst (λ l. Pass (take i l)) at.read (subst (λ n. Pass (take n all)) (sym at.index) w.before);
-        fail = subst (λ l. Fail (drop (i + 1) l)) at.read (subst (λ n. Fail (drop (n + 1) all)) (sym at.index) w.behind);
+        pass = rw (← at.index, at.read) at w.before;
+        fail = rw (← at.index, at.read) at w.behind;
         found = elim (none_or_some (length (filter (λ (e : Entry). is_below e.key) all))) [
           | inl none ↦
               let zero_is : index_in is_below all ≡ 0 = omega arith in
@@ -219,62 +199,50 @@ module _ {N : ℕ} (a : Arena (Node N)) (least height lower slot : ℕ) (is_belo
           | inr some ↦
               let passed = index_passes (λ (e : Entry). is_below e.key) all w.entry w.entries some w.is in
               let t = w.kept.tells in
-              let first : is_below t.first.key ≡ true = subst (λ k. is_below k ≡ true) t.key passed in
-              let there : Any (λ (x : Item). is_below x.key ≡ true) (items_in a lower w.entry.child) =
-              subst (Any (λ (x : Item). is_below x.key ≡ true)) (sym t.items_are)
-              (Any-first (λ (x : Item). is_below x.key ≡ true) t.first t.others first) in
-              let same : w.entry.child ≡ x = w.child ∙ sym at.child in
-              inr (subst (λ s. Any (λ (x : Item). is_below x.key ≡ true) (items_in a lower s)) same there)
+              let first = Any-first (λ (x : Item). is_below x.key ≡ true) t.first t.others (rw t.key at passed) in
+              inr (rw (at.child ∙ sym w.child, t.items_are) first)
         ];
       }
 
   -- A leaf of the child is changed.
   pub within_at : (Gives : Bool → Option ℕ → List Item → List Item → Type 0) (is_first below_first : Bool)
-      (key below_key : Option ℕ) (now all : List Item) → IsSubtree a least height slot
-      → IsPartitioned (λ x. is_below x.key) (items_in a height slot) → (IsTrue below_first ↔ (IsTrue is_first × (i ≡ 0)))
+      (key below_key : Option ℕ) (now all : List Item) → IsPartitioned (λ x. is_below x.key) (items_in a height slot)
+      → (IsTrue below_first ↔ (IsTrue is_first × (i ≡ 0)))
       → below_key ≡ first_key key (map item_of (drop (i + 1) es))
       → all ≡ items_of a lower (take i es) ++ (now ++ items_of a lower (drop (i + 1) es))
       → IsChangedWithin is_below Gives below_first below_key (items_in a lower x) now
       → IsChangedWithin is_below Gives is_first key (items_in a height slot) all
-  within_at Gives is_first below_first key below_key now all subtree partitioned first_is key_is all_is c =
-      let front = items_of a lower (take i es) in
-      let back = items_of a lower (drop (i + 1) es) in
-      let part = items_in a lower x in
+  within_at Gives is_first below_first key below_key now all partitioned first_is key_is all_is c =
       let tell : All (λ e. Tells e (items_in a lower e.child)) (drop (i + 1) es) =
       All-drop (λ (e : Entry). Tells e (items_in a lower e.child)) (i + 1) es
       (All-weaker (IsRight a least lower) (λ (e : Entry). Tells e (items_in a lower e.child)) (λ e k. k.tells) es at.right) in
-      let below_is : below_key ≡ first_key key back =
+      let below_is : below_key ≡ first_key key (items_of a lower (drop (i + 1) es)) =
       key_is ∙ first_key-children (λ (e : Entry). items_in a lower e.child) key (drop (i + 1) es) tell in
-      let first : IsTrue below_first ↔ (IsTrue is_first × (front ≡ [])) = (
+      let first : IsTrue below_first ↔ (IsTrue is_first × (items_of a lower (take i es) ≡ [])) = (
         λ h. (let b = first_is.0 h in (b.0, ap (λ n. items_of a lower (take n es)) b.1)),
         λ h. first_is.1 (h.0, none_at a least lower es i at.right at.within h.1),
       ) in
-      subst (λ xs. IsChangedWithin is_below Gives is_first key xs all)
-      (sym (items_split a least height lower slot is_below es i x d next at))
-      (subst (IsChangedWithin is_below Gives is_first key (front ++ (part ++ back))) (sym all_is)
-      (within_around front part back now is_below Gives is_first below_first key below_key (around_at subtree partitioned) first
-      below_is c))
+      rw (items_split at, all_is) (within_around (items_of a lower (take i es)) (items_in a lower x)
+      (items_of a lower (drop (i + 1) es)) now is_below Gives is_first below_first key below_key (around_at partitioned)
+      first below_is c)
 
   -- An item of this version came into the child.
   pub raised_above : (version : ℤ) (now all : List Item)
       → all ≡ items_of a lower (take i es) ++ (now ++ items_of a lower (drop (i + 1) es))
       → IsRaised version (items_in a lower x) now → IsRaised version (items_in a height slot) all
   raised_above version now all all_is raised =
-      let front = items_of a lower (take i es) in
-      let back = items_of a lower (drop (i + 1) es) in
-      let part = items_in a lower x in
-      subst (λ xs. IsRaised version xs all) (sym (items_split a least height lower slot is_below es i x d next at))
-      (subst (IsRaised version (front ++ (part ++ back))) (sym all_is) (raised_around front part back now version raised))
+      rw (items_split at, all_is) (raised_around (items_of a lower (take i es)) (items_in a lower x)
+      (items_of a lower (drop (i + 1) es)) now version raised)
 
   -- The child's entry would be right with that version, unless it has a greater one.
   pub raised_at : (b : Arena (Node N)) (version : ℤ) → entries_at b slot ≡ es
       → IsRaised version (items_in a lower x) (items_in b lower x) → TellsWritten b lower slot i version
   raised_at b version read raised e here le =
       let there : slice_get es i ≡ Some e = subst (λ l. slice_get l i ≡ Some e) read here in
-      let same : get_or es i d ≡ e = get_or_from_slice_get es i e d there in
+      let same : get_or es i at.d ≡ e = get_or_from_slice_get es i e at.d there in
       let child : x ≡ e.child = at.x_is ∙ ap (λ (e : Entry). e.child) same in
       let right : Tells e (items_in a lower e.child) =
-      subst (λ e. Tells e (items_in a lower e.child)) same (at.right i d at.within).tells in
-      let tells : Tells e (items_in a lower x) = subst (λ s. Tells e (items_in a lower s)) (sym child) right in
+      subst (λ e. Tells e (items_in a lower e.child)) same (at.right i at.d at.within).tells in
+      let tells : Tells e (items_in a lower x) = rw child right in
       subst (λ s. Tells (record e { version = version }) (items_in b lower s)) child
       (tells_raised e version (items_in a lower x) (items_in b lower x) tells raised le)

@@ -1,16 +1,9 @@
 -- What a bound through the items of a subtree says of its entries and of the children's subtrees.
-use Rattle.std.proofs.Common.{◌≡◌, ℕ, zero, suc, ◌+◌, ◌-◌, ◌<◌, ◌≤◌, ◌⊎◌, Bool, true, false, List, [], ◌∷◌, ◌++◌, Some, length, get_or, slice_get, pos, take, drop, filter, flat_map, All, refl, sym, ◌∙◌, ap, subst, inl, inr, arith}
+use Rattle.std.proofs.Common.{◌≡◌, ℕ, zero, suc, ◌+◌, ◌-◌, ◌<◌, ◌≤◌, ◌⊎◌, Bool, true, false, List, [], ◌∷◌, ◌++◌, Some, length, get_or, slice_get, pos, take, drop, filter, flat_map, All, refl, ◌∙◌, ap, subst, inl, inr, arith}
 use Rattle.std.proofs.lemmas.Bool.{cases_Bool}
 use Rattle.std.proofs.lemmas.Option.{slice_get-get_or}
 use Rattle.std.proofs.lemmas.Grind.{flat_map-append}
-use Rattle.std.proofs.lemmas.List.Elements.{
-  All-nil,
-  All-cons,
-  All-head,
-  All-tail,
-  All-append,
-  All-weaker,
-}
+use Rattle.std.proofs.lemmas.List.Elements.{All-nil, All-cons, All-head, All-tail, All-append, All-weaker}
 use Rattle.arena.specs.Arena.{Arena}
 use Rattle.tree.specs.declared.entry.Entry.{Entry}
 use Rattle.tree.specs.declared.node.Node.{Node}
@@ -42,18 +35,12 @@ module _ (is_below : ℕ → Bool) (below : Entry → List Item) where
   items_fail : (e : Entry) (rest : List Item) → Tells e (below e) → IsPartitioned (λ x. is_below x.key) (below e ++ rest)
       → is_below e.key ≡ false → AllFail (below e ++ rest)
   items_fail e rest t c f =
-      let same : below e ++ rest ≡ t.first ∷ t.others ++ rest = ap (λ xs. xs ++ rest) t.items_are in
-      let first : is_below t.first.key ≡ false = subst (λ k. is_below k ≡ false) t.key f in
-      subst AllFail (sym same)
-      (rest_fails (λ (x : Item). is_below x.key) t.first (t.others ++ rest)
-      (subst (IsPartitioned (λ (x : Item). is_below x.key)) same c) first)
+      rw t.items_are (rest_fails (λ (x : Item). is_below x.key) t.first (t.others ++ rest) (rw t.items_are at c) (rw t.key at f))
 
   entry_fails : (e : Entry) (rest : List Item) → Tells e (below e) → AllFail (below e ++ rest)
       → is_below e.key ≡ false
   entry_fails e rest t a =
-      let same : below e ++ rest ≡ t.first ∷ t.others ++ rest = ap (λ xs. xs ++ rest) t.items_are in
-      subst (λ k. is_below k ≡ false) (sym t.key)
-      (All-head (λ (x : Item). is_below x.key ≡ false) t.first (t.others ++ rest) (subst AllFail same a))
+      rw t.key (All-head (λ (x : Item). is_below x.key ≡ false) t.first (t.others ++ rest) (rw t.items_are at a))
 
   entries_fail : (es : List Entry) → AllTell es → AllFail (flat_map below es)
       → All (λ e. is_below e.key ≡ false) es

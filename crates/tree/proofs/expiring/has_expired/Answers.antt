@@ -1,4 +1,4 @@
-use Rattle.std.proofs.Common.{rules, ◌≡◌, ◌≢◌, ◌∙◌, ◌+◌, ◌&&◌, int_lt, [], drop, map, ap, sym, subst, refl, true, false, SFits, w64, ℤ, to_z, of_z, arith}
+use Rattle.std.proofs.Common.{rules, ◌≡◌, ◌≢◌, ◌∙◌, ◌+◌, ◌&&◌, int_lt, [], drop, map, ap, sym, refl, true, false, SFits, w64, to_z, of_z, arith}
 use Rattle.std.proofs.lemmas.Int.{to_z-of_z}
 use Rattle.std.proofs.lemmas.List.{drop_all}
 use Rattle.tree.specs.Item.{item_of}
@@ -25,10 +25,8 @@ returns-then-entry-edge c =
     let both : (int_lt last (to_z w64 (of_z w64 c.args.edge)) && int_lt e.version (to_z w64 (of_z w64 c.args.edge))) ≡ true =
     rw (c.if-last-edge.true, below) refl in
     let found = one_found (to_z w64 (of_z w64 c.args.edge)) last es i e c.loop-entry-test.true c.entry-item.is both in
-    let Found : ℤ → ℤ → Type 0 = λ edge before. expired edge before (map item_of es) ≢ [] in
-    let some : Found c.args.edge c.args.before =
-    subst (λ e. Found e c.args.before) edge (subst (λ b. Found (to_z w64 (of_z w64 c.args.edge)) b) before
-    (λ none. found (sym c.loop-entry.invariant ∙ none))) in
+    let out = rw (edge, before) at c.loop-entry.invariant in
+    let some : expired c.args.edge c.args.before (map item_of es) ≢ [] = λ none. found (rw edge (sym out ∙ none)) in
     record { expired = (λ _. some, λ _. refl) }
 
 pub loop-entry-preserved : goal.loop-entry-preserved
@@ -55,10 +53,8 @@ returns c =
     let i = c.loop-entry.entry-index in
     let edge : to_z w64 (of_z w64 c.args.edge) ≡ c.args.edge = to_z-of_z w64 c.args.edge c.ranges.edge in
     let before : to_z w64 (of_z w64 c.args.before) ≡ c.args.before = to_z-of_z w64 c.args.before c.ranges.before in
-    let None : ℤ → ℤ → Type 0 = λ edge before. expired edge before (map item_of es) ≡ [] in
     let last = to_z w64 c.loop-entry.last-bits in
     let behind : drop i es ≡ [] = drop_all i es (omega (arith, c.loop-entry-test.false)) in
-    let none : None c.args.edge c.args.before =
-    subst (λ e. None e c.args.before) edge (subst (λ b. None (to_z w64 (of_z w64 c.args.edge)) b) before
-    (c.loop-entry.invariant ∙ ap (λ l. expired (to_z w64 (of_z w64 c.args.edge)) last (map item_of l)) behind)) in
+    let none : expired c.args.edge c.args.before (map item_of es) ≡ [] =
+    (rw (edge, before) at c.loop-entry.invariant) ∙ ap (λ l. expired c.args.edge last (map item_of l)) behind in
     record { expired = (λ said. absurd (cc), λ some. absurd (some none)) }

@@ -1,30 +1,20 @@
-use Rattle.std.proofs.Common.{rules, ◌≡◌, ◌<◌, ◌++◌, ◌∷◌, [], take, drop, map, get_or, set, ℕ, ◌+◌, ◌∙◌, ap, sym, subst, true, false, List, w64, ℤ, to_z, of_z, SFits, ◌&&◌, int_lt, int_le, arith, refl, length}
+use Rattle.std.proofs.Common.{rules, ◌≡◌, ◌<◌, ◌++◌, ◌∷◌, [], map, get_or, set, ◌+◌, ◌∙◌, ap, sym, true, false, List, w64, to_z, of_z, SFits, ◌&&◌, int_lt, int_le, arith, refl, length}
 use Rattle.std.proofs.lemmas.Int.{to_z-of_z}
 use Rattle.std.proofs.lemmas.List.{length-map, map-append}
 use Rattle.std.proofs.lemmas.Option.{slice_get_read}
 use Rattle.arrayvec.specs.ArrayVec.{ArrayVec}
 use Rattle.tree.specs.declared.entry.Entry.{Entry}
-use Rattle.tree.specs.Item.{Item, item_of}
-use Rattle.tree.specs.declared.node.Node.{Node}
-use Rattle.tree.specs.Heads.{AreHeads}
-use Rattle.tree.specs.Node.{entries_of, key_heads_of}
-use Rattle.tree.specs.Tree.{unexpired, expired}
-use Rattle.tree.proofs.Removing.{RemovesExpired, run, one_stays, one_goes, not_below, is_below, one_not_below, all_kept, all_expired}
+use Rattle.tree.specs.Item.{item_of}
+use Rattle.tree.specs.Node.{entries_of}
+use Rattle.tree.proofs.Removing.{one_stays, one_goes, not_below, is_below, one_not_below, all_kept, all_expired}
 use Rattle.tree.proofs.expiring.remove_expired.Goals as goal
 use Rattle.tree.proofs.expiring.remove_expired.Goals.{then-last-edge, else-last-edge, then-version-edge, else-version-edge}
 
 pub push-requires : goal.push-requires
 push-requires g c =
     let inv = c.loop-index.invariant.removal in
-    omega (
-      arith,
-      length-map c.loop-index.taken.items item_of,
-      c.entries.ensures.most,
-      inv.same_length,
-      inv.counted,
-      c.loop-index-test.true,
-      c.requires.within,
-    )
+    let taken = length-map c.loop-index.taken.items item_of in
+    omega (arith, taken, c.entries.ensures.most, inv.same_length, inv.counted, c.requires.within)
 
 pub loop-index-init : goal.loop-index-init
 loop-index-init g c =
@@ -55,7 +45,6 @@ loop-index-preserved g c =
     let same : to_z w64 (of_z w64 e.version) ≡ e.version = to_z-of_z w64 e.version fits in
     let is = c.index-entries-index.is ∙ ap (λ (l : List Entry). get_or l i e) c.entries.ensures.entries in
     let here : i < c.args.to = c.loop-index-test.true in
-    let Removal : List Entry → List Item → ℕ → ℤ → Type 0 = λ now out kept v. RemovesExpired edge before v es now out c.args.from c.args.to (i + 1) kept in
     let inv = c.loop-index.invariant in
     let within = c.requires.within in
     let stays = one_stays edge before last es now out c.args.from c.args.to i kept e inv.removal here within is in
@@ -73,12 +62,9 @@ loop-index-preserved g c =
                 let at : int_le edge (to_z w64 (of_z w64 e.version)) ≡ true = sym u.value-is ∙ w.if-version-edge.true in
                 one_not_below (int_lt last edge) (int_lt e.version edge) (not_below edge e.version (ap (int_le edge) (sym same) ∙ at))
           ] in
-          let t : Removal (set now kept e) out (kept + 1) e.version = stays both in
           record {
-            removal = rw (nodes, outs, kept_is, same) t;
-            headed = λ bytes h.
-                subst (λ (n : Node g.row.N). AreHeads bytes (key_heads_of n)) (sym w.node-is)
-                (w.copy.ensures.headed bytes (inv.headed bytes h));
+            removal = rw (nodes, outs, kept_is, same) (stays both);
+            headed = λ bytes h. rw w.node-is (w.copy.ensures.headed bytes (inv.headed bytes h));
           }
       | else-version-edge w ↦
           let nodes : entries_of c.if-version-edge.node ≡ now = ap entries_of w.node-is in
@@ -94,11 +80,9 @@ loop-index-preserved g c =
                 let a : int_lt last edge ≡ true = is_below edge last u.if-last-edge.false in
                 rw (a, b) refl
           ] in
-          let t : Removal now (out ++ item_of e ∷ []) kept e.version = goes both in
           record {
-            removal = rw (nodes, outs, kept_is, same) t;
-            headed = λ bytes h.
-                subst (λ (n : Node g.row.N). AreHeads bytes (key_heads_of n)) (sym w.node-is) (inv.headed bytes h);
+            removal = rw (nodes, outs, kept_is, same) (goes both);
+            headed = λ bytes h. rw w.node-is (inv.headed bytes h);
           }
     ]
 
@@ -107,21 +91,12 @@ returns-clause-kept g c =
     let end : c.loop-index.index ≡ c.args.to = omega arith in
     let edge : to_z w64 (of_z w64 c.args.edge) ≡ c.args.edge = to_z-of_z w64 c.args.edge c.ranges.edge in
     let before : to_z w64 (of_z w64 c.args.before) ≡ c.args.before = to_z-of_z w64 c.args.before c.ranges.before in
-    let es = entries_of c.args.node.now in
-    let from = c.args.from in
-    let to = c.args.to in
-    let Kept : ℤ → ℤ → Type 0 = λ edge before. map item_of (entries_of c.remove.new.self)
-    ≡ map item_of (take from es) ++ (unexpired edge before (map item_of (run es from to)) ++ map item_of (drop to es)) in
-    subst (λ (e : ℤ). Kept e c.args.before) edge (subst (λ (b : ℤ). Kept (to_z w64 (of_z w64 c.args.edge)) b) before
-    (all_kept _ _ _ _ _ _ _ _ _ _ c.loop-index.invariant.removal end c.requires.within (entries_of c.remove.new.self)
-    c.remove.ensures.entries))
+    rw (edge, before) at (all_kept _ _ _ _ _ _ _ _ _ _ c.loop-index.invariant.removal end c.requires.within
+    (entries_of c.remove.new.self) c.remove.ensures.entries)
 
 pub returns-clause-taken : goal.returns-clause-taken
 returns-clause-taken g c =
     let end : c.loop-index.index ≡ c.args.to = omega arith in
     let edge : to_z w64 (of_z w64 c.args.edge) ≡ c.args.edge = to_z-of_z w64 c.args.edge c.ranges.edge in
     let before : to_z w64 (of_z w64 c.args.before) ≡ c.args.before = to_z-of_z w64 c.args.before c.ranges.before in
-    let looked = map item_of (run (entries_of c.args.node.now) c.args.from c.args.to) in
-    let Expired : ℤ → ℤ → Type 0 = λ edge before. map item_of c.loop-index.taken.items ≡ expired edge before looked in
-    subst (λ (e : ℤ). Expired e c.args.before) edge (subst (λ (b : ℤ). Expired (to_z w64 (of_z w64 c.args.edge)) b) before
-    (all_expired _ _ _ _ _ _ _ _ _ _ c.loop-index.invariant.removal end c.requires.within))
+    rw (edge, before) at (all_expired _ _ _ _ _ _ _ _ _ _ c.loop-index.invariant.removal end c.requires.within)

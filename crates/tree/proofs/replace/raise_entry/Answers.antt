@@ -1,5 +1,6 @@
-use Rattle.std.proofs.Common.{◌≡◌, ◌≤◌, ◌≤ℤ◌, ◌+◌, ◌∷◌, w64, to_z, of_z, ℤ, List, Some, length, length-append, length-take-le, length-drop, get_or, take, drop, option_map, refl, sym, ap, subst, ◌∙◌, arith, rules}
+use Rattle.std.proofs.Common.{◌≡◌, ◌≤◌, ◌≤ℤ◌, w64, to_z, of_z, ℤ, List, Some, length, get_or, refl, sym, ap, subst, ◌∙◌, arith, rules}
 use Rattle.std.specs.Prelude.{slice_get, slice_set}
+use Rattle.std.proofs.lemmas.List.{length-set}
 use Rattle.std.proofs.lemmas.Int.{ints, to_z-of_z}
 use Rattle.std.proofs.lemmas.Option.{slice_get-get_or}
 use Rattle.arena.specs.Arena.{with_header}
@@ -8,9 +9,10 @@ use Rattle.tree.specs.Item.{Tells}
 use Rattle.tree.specs.Node.{entries_of}
 use Rattle.tree.specs.Subtree.{entries_at, items_in, IsSubtree}
 use Rattle.tree.specs.Tree.{least_of}
-use Rattle.tree.proofs.Headed.{headed_at, headed_put}
+use Rattle.tree.proofs.Headed.{headed_at}
+use Rattle.tree.proofs.KnownKeys.{headed_header}
 use Rattle.tree.proofs.LeafChange.{key_heads_stays}
-use Rattle.tree.proofs.Placing.{entries_from_header, put_entries, put_record_is, put_others}
+use Rattle.tree.proofs.Placing.{entries_from_header, put_entries}
 use Rattle.tree.proofs.Sharing.{set_one}
 use Rattle.tree.proofs.Rebalancing.{live_subtree, rebalanced_by_entry}
 use Rattle.tree.proofs.Storing.{rebalanced_at}
@@ -66,7 +68,7 @@ returns-clause-rebalanced g c height family tells =
     rebalanced_by_entry a L height es (entries_of node) i x d t c.requires.can_rebalance.within (ap (λ (e : Entry). e.child) d_is)
     family.family c.requires.can_rebalance.keyless refl (λ subtree. told) filled parts in
     let some : 1 ≤ length (entries_of node) =
-    omega (arith, ap length parts, length-append (take i es) (t ∷ drop (i + 1) es)) in
+    omega (arith, ap length now_is, length-set es i t, c.requires.can_rebalance.within) in
     rebalanced_at a a (with_header a slot node) L height slot i node (entries_of node) c.requires.can_rebalance.live family rebalanced some
     refl refl
 
@@ -74,7 +76,6 @@ pub returns-clause-rest : goal.returns-clause-rest
 returns-clause-rest g c =
     let a = c.args.nodes.now in
     let slot = c.args.slot in
-    let es = entries_at a slot in
     let i = c.args.index in
     let d = c.index-entries-index.result in
     let t : Entry = record d { version = to_z w64 (of_z w64 c.args.version) } in
@@ -86,22 +87,12 @@ returns-clause-rest g c =
     let here = entries_from_header a slot old c.header_mut.ensures.header in
     let d_is : d ≡ get_or (entries_of old) i d =
     c.index-entries-index.is ∙ ap (λ (l : List Entry). get_or l i d) (c.entries.ensures.entries ∙ sym read ∙ here) in
-    let now_is : entries_of node ≡ slice_set es i t =
-    c.set.ensures.entries ∙ ap (λ (l : List Entry). slice_set l i t) (sym here) in
-    let parts = put_entries a b slot node refl ∙ now_is ∙ set_one es i t c.requires.can_rebalance.within in
+    let now_is = put_entries a b slot node refl ∙ c.set.ensures.entries in
     let headed =
     key_heads_stays bytes old node i d t c.set.ensures.key_heads c.set.ensures.entries (ap (λ (e : Entry). e.key) d_is)
     (headed_at bytes a slot old c.requires.can_rebalance.headed c.header_mut.ensures.header) in
     record {
-      few_less = omega (
-        arith,
-        c.requires.can_rebalance.within,
-        ap length parts,
-        length-append (take i es) (t ∷ drop (i + 1) es),
-        length-take-le i es (omega (arith, c.requires.can_rebalance.within)),
-        length-drop (i + 1) es,
-      );
+      few_less = omega (arith, ap length now_is, ap length here, length-set {A = Entry});
       spare = search rules;
-      headed = headed_put bytes a b slot node c.requires.can_rebalance.headed
-          (ap (option_map (λ r. r.header)) (put_record_is a b slot node refl)) headed (put_others a b slot node refl);
+      headed = headed_header bytes a b slot node refl c.requires.can_rebalance.headed headed;
     }

@@ -1,13 +1,14 @@
-use Rattle.std.proofs.Common.{◌≡◌, ◌≤◌, ◌+◌, ◌∷◌, List, length, length-append, length-take-le, length-drop, get_or, take, drop, option_map, refl, sym, ap, subst, ◌∙◌, arith, rules}
+use Rattle.std.proofs.Common.{◌≡◌, ◌≤◌, ◌+◌, List, length, get_or, refl, sym, ap, subst, ◌∙◌, arith, rules}
 use Rattle.std.specs.Prelude.{slice_set}
+use Rattle.std.proofs.lemmas.List.{length-set}
 use Rattle.arena.specs.Arena.{with_header}
 use Rattle.tree.specs.declared.entry.Entry.{Entry}
 use Rattle.tree.specs.Node.{entries_of}
 use Rattle.tree.specs.Subtree.{entries_at, IsSubtree}
 use Rattle.tree.specs.Tree.{least_of}
 use Rattle.tree.specs.Replace.{IsFamily, IsRebalanced}
-use Rattle.tree.proofs.Headed.{headed_put}
-use Rattle.tree.proofs.Placing.{entries_from_header, put_entries, put_record_is, put_others}
+use Rattle.tree.proofs.KnownKeys.{headed_header}
+use Rattle.tree.proofs.Placing.{entries_from_header, put_entries}
 use Rattle.tree.proofs.Sharing.{set_one}
 use Rattle.tree.proofs.Rebalancing.{live_subtree, rebalanced_by_entry}
 use Rattle.tree.proofs.Storing.{rebalanced_at}
@@ -56,7 +57,7 @@ returns-then-len-least-clause-rebalanced g c height family =
     rebalanced_by_entry a L height es (entries_of node) i x d t c.requires.can_rebalance.within x_is family.family c.requires.can_rebalance.keyless
     c.entry_for-entry.ensures.child (c.entry_for-entry.ensures.tells height L) filled parts in
     let some : 1 ≤ length (entries_of node) =
-    omega (arith, ap length parts, length-append (take i es) (t ∷ drop (i + 1) es)) in
+    omega (arith, ap length now_is, length-set es i t, c.requires.can_rebalance.within) in
     rebalanced_at a a (with_header a slot node) L height slot i node (entries_of node) c.requires.can_rebalance.live family rebalanced some
     refl refl
 
@@ -64,29 +65,15 @@ pub returns-then-len-least-clause-rest : goal.returns-then-len-least-clause-rest
 returns-then-len-least-clause-rest g c =
     let a = c.args.nodes.now in
     let slot = c.args.slot in
-    let es = entries_at a slot in
-    let i = c.args.index in
-    let t = c.entry_for-entry.result in
     let node = c.set_with_head.new.self in
-    let here = entries_from_header a slot c.header_mut.result.now c.header_mut.ensures.header in
-    let now_is : entries_of node ≡ slice_set es i t =
-    c.set_with_head.ensures.entries ∙ ap (λ (l : List Entry). slice_set l i t) (sym here) in
-    let after : entries_at (with_header a slot node) slot ≡ entries_of node =
-    put_entries a (with_header a slot node) slot node refl in
-    let parts = after ∙ now_is ∙ set_one es i t c.requires.can_rebalance.within in
     let b = with_header a slot node in
+    let here = entries_from_header a slot c.header_mut.result.now c.header_mut.ensures.header in
+    let now_is = put_entries a b slot node refl ∙ c.set_with_head.ensures.entries in
     record {
-      few_less = omega (
-        arith,
-        c.requires.can_rebalance.within,
-        ap length parts,
-        length-append (take i es) (t ∷ drop (i + 1) es),
-        length-take-le i es (omega (arith, c.requires.can_rebalance.within)),
-        length-drop (i + 1) es,
-      );
+      few_less = omega (arith, ap length now_is, ap length here, length-set {A = Entry});
       spare = search rules;
-      headed = headed_put (g.P.Bound.bytes c.args.bound.now) a b slot node c.requires.can_rebalance.headed
-          (ap (option_map (λ r. r.header)) (put_record_is a b slot node refl)) c.set_with_head.ensures.headed (put_others a b slot node refl);
+      headed = headed_header (g.P.Bound.bytes c.args.bound.now) a b slot node refl c.requires.can_rebalance.headed
+          c.set_with_head.ensures.headed;
     }
 
 pub returns-clause-rebalanced : goal.returns-clause-rebalanced
@@ -119,7 +106,6 @@ returns-clause-rest g c =
     record {
       few_less = omega (arith, c.rebalance.ensures.rest.few_less, read, ap length here, ap length c.lengthen_prefix.ensures.entries);
       spare = search rules;
-      headed = headed_put (g.P.Bound.bytes c.args.bound.now) b w slot node c.rebalance.ensures.rest.headed
-          (ap (option_map (λ r. r.header)) (put_record_is b w slot node c.set_header.ensures.replaced))
-          c.lengthen_prefix.ensures.headed (put_others b w slot node c.set_header.ensures.replaced);
+      headed = headed_header (g.P.Bound.bytes c.args.bound.now) b w slot node c.set_header.ensures.replaced
+          c.rebalance.ensures.rest.headed c.lengthen_prefix.ensures.headed;
     }

@@ -1,11 +1,5 @@
-use Rattle.std.proofs.Common.{rules, ◌≤◌, true, None, IfSome, length, map, sym, ap, subst, ◌∙◌, arith}
-use Rattle.tree.specs.Heads.{AllAreHeads, IsPrefixLenAt}
-use Rattle.tree.specs.Item.{item_of}
-use Rattle.tree.specs.Node.{all_heads_of}
-use Rattle.tree.specs.Replace.{items_with, slots_with, Changes}
-use Rattle.tree.specs.Subtree.{entries_at, items_in, slots_in, IsSubtree}
+use Rattle.std.proofs.Common.{rules, ◌∙◌, arith}
 use Rattle.tree.specs.Tree.{least_of}
-use Rattle.tree.specs.Walk.{CanChange, CanSearch, IsChangedWithin}
 use Rattle.tree.proofs.Rebalancing.{live_subtree}
 use Rattle.tree.proofs.root.change.Goals as goal
 
@@ -17,41 +11,33 @@ common_prefix_len_at-requires g c =
         live_subtree c.args.nodes.now (least_of g.row.N) c.args.root.now.height c.args.root.now.slot can.rooted.subtree,
         (
           can.some,
-          subst (λ p. AllAreHeads (g.C.LeafBound.Bound.bytes p) (all_heads_of c.args.nodes.now)) (sym c.leaf_bound.ensures.leaf_bound)
-              c.requires.can_change.headed,
+          rw c.leaf_bound.ensures.leaf_bound c.requires.can_change.headed,
         ),
       ),
     )
 
 pub change_leaf-requires : goal.change_leaf-requires
 change_leaf-requires g c =
-    let a = c.args.nodes.now in
-    let root = c.args.root.now in
-    let leaf_bound = g.C.LeafChange.bound_of c.args.change.now in
-    let can = c.requires.can_change.changeable in
-    let changeable : CanChange a root.height root.slot = record {
-      fan_out = can.fan_out;
-      few = can.few;
-      subtree = can.rooted.subtree;
-      some = can.some;
-      branches = can.rooted.branches;
-      distinct = can.rooted.distinct;
-      keyless = can.rooted.keyless;
-      room = omega (arith, can.room);
-    } in
-    let searched : CanSearch (g.C.LeafBound.Bound.bytes leaf_bound) (g.C.LeafBound.Bound.below leaf_bound)
-    (g.C.LeafBound.Bound.target leaf_bound) a root.height root.slot c.common_prefix_len_at.result = record {
-      partitioned = c.requires.can_change.partitioned;
-      headed = c.requires.can_change.headed;
-      known = subst (λ p. IsPrefixLenAt (g.C.LeafBound.Bound.bytes p) (g.C.LeafBound.Bound.below p) (g.C.LeafBound.Bound.target p)
-          c.common_prefix_len_at.result (entries_at a root.slot) 0) c.leaf_bound.ensures.leaf_bound c.common_prefix_len_at.ensures.known;
-    } in (
+    let can = c.requires.can_change.changeable in (
       search rules,
       (
         search rules,
         record {
-          changeable = changeable;
-          searched = searched;
+          changeable = record {
+            fan_out = can.fan_out;
+            few = can.few;
+            subtree = can.rooted.subtree;
+            some = can.some;
+            branches = can.rooted.branches;
+            distinct = can.rooted.distinct;
+            keyless = can.rooted.keyless;
+            room = omega (arith, can.room);
+          };
+          searched = record {
+            partitioned = c.requires.can_change.partitioned;
+            headed = c.requires.can_change.headed;
+            known = rw c.leaf_bound.ensures.leaf_bound at c.common_prefix_len_at.ensures.known;
+          };
           wanted = c.requires.can_change.wanted;
           none_taken = c.requires.can_change.none_taken;
         },
@@ -60,43 +46,31 @@ change_leaf-requires g c =
 
 pub grow-requires : goal.grow-requires
 grow-requires g c =
-    let a = c.args.nodes.now in
-    let b = c.change_leaf.new.nodes in
-    let L = least_of g.row.N in
-    let root = c.args.root.now in
     let can = c.requires.can_change.changeable in
     let put = c.change_leaf.ensures.changed in
-    let is = sym c.in-Some.ensures.added in
-    let changes = subst (λ o. Changes a b (slots_in a root.height root.slot) (slots_with b root.height root.slot o)) is
-    put.changes in (
+    let changes = rw (← c.in-Some.ensures.added) at put.changes in (
       search rules,
       record {
         fan_out = can.fan_out;
         few = can.few;
         low = can.low;
         first = put.subtree;
-        second = subst (λ o. IfSome o (λ s. IsSubtree b L root.height s)) is put.neighbour;
-        filled = subst (λ o. IfSome o (λ s. (L ≤ length (entries_at b root.slot)) × (L ≤ length (entries_at b s)))) is put.filled;
+        second = rw (← c.in-Some.ensures.added) at put.neighbour;
+        filled = rw (← c.in-Some.ensures.added) at put.filled;
         distinct = changes.distinct;
         linked = omega (arith, changes.live, can.rooted.linked);
         keyless = changes.keyless;
         room = omega (arith, put.taken, can.room);
-        headed = subst (λ p. AllAreHeads (g.C.LeafBound.Bound.bytes p) (all_heads_of b))
-            (sym (c.leaf_bound-in-Some.ensures.leaf_bound ∙ c.change_leaf.ensures.leaf_bound)) put.headed;
+        headed = rw (c.leaf_bound-in-Some.ensures.leaf_bound ∙ c.change_leaf.ensures.leaf_bound) put.headed;
       },
     )
 
 pub shrink-requires : goal.shrink-requires
 shrink-requires g c =
-    let a = c.args.nodes.now in
-    let b = c.change_leaf.new.nodes in
-    let root = c.args.root.now in
-    let put = c.change_leaf.ensures.changed in
-    let changes = subst (λ o. Changes a b (slots_in a root.height root.slot) (slots_with b root.height root.slot o))
-    (sym c.in-None.ensures.added) put.changes in (
+    let changes = rw (← c.in-None.ensures.added) at c.change_leaf.ensures.changed.changes in (
       search rules,
       record {
-        subtree = put.subtree;
+        subtree = c.change_leaf.ensures.changed.subtree;
         distinct = changes.distinct;
         linked = omega (arith, changes.live, c.requires.can_change.changeable.rooted.linked);
         keyless = changes.keyless;
@@ -105,31 +79,18 @@ shrink-requires g c =
 
 pub returns-in-Some-clause-items : goal.returns-in-Some-clause-items
 returns-in-Some-clause-items g c =
-    let root = c.args.root.now in
-    let change = c.args.change.now in
-    subst (IsChangedWithin (g.C.LeafBound.Bound.below (g.C.LeafChange.bound_of change))
-    (g.C.LeafChange.gives change c.change_leaf.new.change (map item_of c.change_leaf.new.taken.items)) true None
-    (items_in c.args.nodes.now root.height root.slot))
-    (ap (items_with c.change_leaf.new.nodes root.height root.slot) (sym c.in-Some.ensures.added) ∙ sym c.grow.ensures.items)
-    c.change_leaf.ensures.items
+    rw c.grow.ensures.items (rw (← c.in-Some.ensures.added) at c.change_leaf.ensures.items)
 
 pub returns-in-Some-clause-spare : goal.returns-in-Some-clause-spare
 returns-in-Some-clause-spare g c = c.grow.ensures.spare ∙ c.change_leaf.ensures.changed.changes.spare
 
 pub returns-in-Some-clause-headed : goal.returns-in-Some-clause-headed
 returns-in-Some-clause-headed g c =
-    subst (λ p. AllAreHeads (g.C.LeafBound.Bound.bytes p) (all_heads_of c.grow.new.nodes))
-    (c.leaf_bound-in-Some.ensures.leaf_bound ∙ c.change_leaf.ensures.leaf_bound) c.grow.ensures.headed
+    rw (c.leaf_bound-in-Some.ensures.leaf_bound ∙ c.change_leaf.ensures.leaf_bound) at c.grow.ensures.headed
 
 pub returns-in-None-clause-items : goal.returns-in-None-clause-items
 returns-in-None-clause-items g c =
-    let root = c.args.root.now in
-    let change = c.args.change.now in
-    subst (IsChangedWithin (g.C.LeafBound.Bound.below (g.C.LeafChange.bound_of change))
-    (g.C.LeafChange.gives change c.change_leaf.new.change (map item_of c.change_leaf.new.taken.items)) true None
-    (items_in c.args.nodes.now root.height root.slot))
-    (ap (items_with c.change_leaf.new.nodes root.height root.slot) (sym c.in-None.ensures.added) ∙ sym c.shrink.ensures.items)
-    c.change_leaf.ensures.items
+    rw c.shrink.ensures.items (rw (← c.in-None.ensures.added) at c.change_leaf.ensures.items)
 
 pub returns-in-None-clause-spare : goal.returns-in-None-clause-spare
 returns-in-None-clause-spare g c = c.shrink.ensures.spare ∙ c.change_leaf.ensures.changed.changes.spare

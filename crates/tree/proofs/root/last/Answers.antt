@@ -2,9 +2,8 @@ use Rattle.std.proofs.Common.{rules, ◌≡◌, ◌≤◌, ◌<◌, ◌∙◌, l
 use Rattle.std.specs.Prelude.{not}
 use Rattle.std.proofs.Math.Seq.{take-append_seam}
 use Rattle.tree.specs.declared.entry.Entry.{Entry}
-use Rattle.tree.specs.Heads.{IsPrefixLenAt}
 use Rattle.tree.specs.Node.{entries_of}
-use Rattle.tree.specs.Path.{IsPartitioned, before_leaf, behind_leaf}
+use Rattle.tree.specs.Path.{before_leaf, behind_leaf}
 use Rattle.tree.specs.Subtree.{entries_at, items_in}
 use Rattle.tree.proofs.Found.{entries_read}
 use Rattle.tree.proofs.Headed.{headed_at}
@@ -27,11 +26,10 @@ lower_bound-count-requires g c =
         can_find = record {
           headed = headed_at (P.bytes bound) nodes c.reach-reached.result.leaf header c.requires.can_reach.headed
               c.header_ref-leaf.ensures.header;
-          partitioned = subst (IsPartitioned (λ (e : Entry). P.below bound e.key)) read found.partitioned;
+          partitioned = rw read at found.partitioned;
           some = positive;
         };
-        known = subst (λ es. IsPrefixLenAt (P.bytes bound) (P.below bound) (P.target bound) c.reach-reached.result.common_prefix_len es 0) read
-            found.knows;
+        known = rw read at found.knows;
       },
     )
 

@@ -1,15 +1,14 @@
-use Rattle.std.proofs.Common.{rules, Bool, false, IsTrue, ◌∷◌, ℕ, ℤ, ◌≡◌, ◌≢◌, ◌≤◌, ◌<◌, ◌+◌, ◌-◌, ◌∙◌, ◌++◌, ap, sym, subst, refl, List, [], length, take, drop, map, arith, to_z, of_z, w64}
+use Rattle.std.proofs.Common.{rules, Bool, false, IsTrue, ◌∷◌, ℕ, ℤ, ◌≡◌, ◌≢◌, ◌≤◌, ◌<◌, ◌+◌, ◌-◌, ◌∙◌, ◌++◌, ap, sym, refl, List, [], length, take, drop, map, arith, to_z, of_z, w64}
 use Rattle.std.proofs.lemmas.Int.{to_z-of_z}
 use Rattle.arena.specs.Arena.{with_header}
 use Rattle.tree.specs.declared.entry.Entry.{Entry}
 use Rattle.tree.specs.declared.walk.Outcome.TheVariants.{Changed}
-use Rattle.tree.specs.Heads.{IsPrefixLenAt}
-use Rattle.tree.specs.Item.{Item, item_of, version_of}
+use Rattle.tree.specs.Item.{Item, item_of}
 use Rattle.tree.specs.Node.{entries_of}
 use Rattle.tree.specs.Path.{IsPartitioned, first_key, items_below}
 use Rattle.tree.specs.Subtree.{entries_at}
 use Rattle.tree.specs.Expire.{RemovesExpired}
-use Rattle.tree.specs.Tree.{IsLast, unexpired, expired}
+use Rattle.tree.specs.Tree.{unexpired, expired}
 use Rattle.tree.proofs.ChangedLeaf.{leaf_put, unchanged}
 use Rattle.tree.proofs.Headed.{headed_at}
 use Rattle.tree.proofs.LastRun.{leaf_unexpired, untouched}
@@ -31,8 +30,8 @@ partitioned_is : (g : given.Over) (c : After-header_ref-leaf g)
     → IsPartitioned (λ (e : Entry). g.P.Bound.below c.args.self.now.bound.now e.key) (entries_of c.header_ref-leaf.result.now)
 partitioned_is g c =
     let p = g.P.Bound.below c.args.self.now.bound.now in
-    subst (λ es. IsPartitioned (λ (e : Entry). p e.key) es) (entries_are g c)
-    (entries_of_partitioned p (entries_at c.args.nodes.now c.args.slot) c.requires.can_change.searched.partitioned)
+    rw (entries_are g c) at (entries_of_partitioned p (entries_at c.args.nodes.now c.args.slot)
+    c.requires.can_change.searched.partitioned)
 
 pub lower_bound-below-requires : goal.lower_bound-below-requires
 lower_bound-below-requires g c =
@@ -49,8 +48,7 @@ lower_bound-below-requires g c =
           partitioned = partitioned_is g h;
           some = some;
         };
-        known = subst (λ es. IsPrefixLenAt (g.P.Bound.bytes bound) (g.P.Bound.below bound) (g.P.Bound.target bound)
-            c.args.place.common_prefix_len es 0) (entries_are g h) c.requires.can_change.searched.known;
+        known = rw (entries_are g h) at c.requires.can_change.searched.known;
       },
     )
 
@@ -114,16 +112,11 @@ module _ (g : given.Over) (c : After-has_expired g) where
       let t = c.args.self.now in
       let p = g.P.Bound.below t.bound.now in
       let told = c.look_at-self.ensures in
-      let last = subst (λ xs. IsLast c.look_at-self.result.last (map version_of (run xs begin end))) c.entries.ensures.entries told.last in
+      let last = rw c.entries.ensures.entries at told.last in
       let next = told.next ∙ ap (λ xs. first_key c.args.place.behind (map item_of (drop end xs))) c.entries.ensures.entries in
-      let Removal : ℤ → ℤ → List Entry → Type 0 = λ edge before es.
-      RemovesExpired p t.count edge before c.look_at-self.result out c.args.place.behind (map item_of es) now in
-      subst (Removal t.edge t.before) (sym read)
-      (subst (λ b. Removal t.edge b es) before_is
-      (subst (λ e. Removal e before es) edge_is
-      (leaf_unexpired es begin end some_looked within p partitioned
+      rw read (rw (edge_is, before_is) at (leaf_unexpired es begin end some_looked within p partitioned
       (omega (arith, c.lower_bound-below.ensures.count.count_is, c.if-below-eq0.false)) t.count edge before c.look_at-self.result
-      out c.args.place.behind now (omega (arith, c.min.ensures)) told.looked_at last now_is out_is next)))
+      out c.args.place.behind now (omega (arith, c.min.ensures)) told.looked_at last now_is out_is next))
 
 pub returns-then-not-has_expired-clause-changed : goal.returns-then-not-has_expired-clause-changed
 returns-then-not-has_expired-clause-changed g c =
@@ -176,9 +169,7 @@ returns-clause-items g c =
     let new = with_header old slot node in
     let there : entries_of c.header_mut-leaf.result.now ≡ es g t =
     sym (entries_from_header old slot c.header_mut-leaf.result.now c.header_mut-leaf.ensures.header) ∙ entries_are g h in
-    let kept = subst (λ xs. map item_of (entries_of c.remove_expired.new.node) ≡ map item_of (take (begin g t) xs)
-    ++ (unexpired (edge g t) (before g t) (map item_of (run xs (begin g t) (end g t))) ++ map item_of (drop (end g t) xs)))
-    there c.remove_expired.ensures.kept in
+    let kept = rw there at c.remove_expired.ensures.kept in
     let after : entries_at new slot ≡ entries_of c.remove_expired.new.node =
     put_entries old new slot node refl ∙ c.lengthen_prefix.ensures.entries in
     let out = c.remove_expired.ensures.taken

@@ -1,12 +1,10 @@
-use Rattle.std.proofs.Common.{◌≡◌, ◌≢◌, ◌≤◌, ◌+◌, ◌-◌, ◌∙◌, None, length, ap, sym, subst, arith, to_z, of_z, w64}
-use Rattle.std.proofs.Common.{List, [], map}
+use Rattle.std.proofs.Common.{◌≡◌, ◌≤◌, ◌+◌, ◌-◌, ◌∙◌, None, length, sym, arith, to_z, of_z, w64}
+use Rattle.std.proofs.Common.{List, map}
 use Rattle.std.proofs.lemmas.Int.{to_z-of_z}
 use Rattle.std.proofs.lemmas.List.{length-map}
 use Rattle.tree.specs.Item.{Item, item_of}
-use Rattle.tree.specs.Path.{items_below}
 use Rattle.tree.specs.Subtree.{items_in}
-use Rattle.tree.specs.Expire.{CanRemoveExpired, RemovesExpired}
-use Rattle.tree.specs.Tree.{Items}
+use Rattle.tree.specs.Expire.{RemovesExpired}
 use Rattle.tree.proofs.Counting.{low, enough_spare}
 use Rattle.tree.proofs.HeadList.{headed_from_list, headed_in_list}
 use Rattle.tree.proofs.Inserting.{tree_put}
@@ -21,8 +19,7 @@ pub change-requires : goal.change-requires
 change-requires g c =
     let t = c.self.inside in
     let bytes = g.P.Bound.bytes c.args.bound.now in
-    let can = subst (λ (v : Items). CanRemoveExpired (g.P.Bound.below c.args.bound.now) bytes c.args.count c.args.edge c.args.before v
-    c.args.taken.now.items) (sym c.self.view_is) c.requires.can_remove in
+    let can = rw (← c.self.view_is) at c.requires.can_remove in
     let height = low t.nodes t.root.slot t.root.height t.len t.room c.self.invariant (omega arith) in
     let spare = enough_spare t.nodes t.root.slot t.root.height t.len t.room c.self.invariant in (
       omega (arith, c.self.invariant.few),
@@ -45,44 +42,28 @@ change-requires g c =
       ),
     )
 
--- what became of the items
-abbrev Done : (g : given.Over) → After-change g → List Item → Type 0
-Done g c was =
-    let n = c.change.new in
-    RemovesExpired (g.P.Bound.below c.args.bound.now) c.args.count c.args.edge c.args.before n.change.removal
-    (map item_of n.taken.items) None was (items_in n.nodes n.root.height n.root.slot)
+module _ (g : given.Over) (c : After-change g) where
+  abbrev was : List Item
+  was = items_in c.self.inside.nodes c.self.inside.root.height c.self.inside.root.slot
 
-done : (g : given.Over) (c : After-change g)
-    → Done g c (items_in c.self.inside.nodes c.self.inside.root.height c.self.inside.root.slot)
-done g c =
-    let t = c.self.inside in
-    let n = c.change.new in
-    let p = g.P.Bound.below c.args.bound.now in
-    let edge : to_z w64 (of_z w64 c.args.edge) ≡ c.args.edge = to_z-of_z w64 c.args.edge c.ranges.edge in
-    let before : to_z w64 (of_z w64 c.args.before) ≡ c.args.before = to_z-of_z w64 c.args.before c.ranges.before in
-    let some : items_below p (items_in t.nodes t.root.height t.root.slot) ≢ [] = λ none.
-    c.requires.can_remove.some (ap (λ (v : Items). items_below p v.items) (sym c.self.view_is) ∙ none) in
-    unexpired_all p c.args.count c.args.edge c.args.before n.change.removal (map item_of n.taken.items)
-    (items_in t.nodes t.root.height t.root.slot) (items_in n.nodes n.root.height n.root.slot)
-    (rw (edge, before) at c.change.ensures.items) some
+  abbrev now : List Item
+  now = items_in c.change.new.nodes c.change.new.root.height c.change.new.root.slot
 
--- how many items there are
-abbrev Counted : (g : given.Over) → After-change g → Type 0
-Counted g c =
-    let t = c.self.inside in
-    let n = c.change.new in
-    (length (items_in n.nodes n.root.height n.root.slot) + length (map item_of n.taken.items)
-    ≡ length (items_in t.nodes t.root.height t.root.slot))
-    × (1 ≤ length (items_in n.nodes n.root.height n.root.slot))
+  -- what became of the items
+  done : RemovesExpired (g.P.Bound.below c.args.bound.now) c.args.count c.args.edge c.args.before c.change.new.change.removal
+      (map item_of c.change.new.taken.items) None was now
+  done =
+      let edge : to_z w64 (of_z w64 c.args.edge) ≡ c.args.edge = to_z-of_z w64 c.args.edge c.ranges.edge in
+      let before : to_z w64 (of_z w64 c.args.before) ≡ c.args.before = to_z-of_z w64 c.args.before c.ranges.before in
+      let can = rw (← c.self.view_is) at c.requires.can_remove in
+      unexpired_all _ c.args.count c.args.edge c.args.before c.change.new.change.removal _ was now
+      (rw (edge, before) at c.change.ensures.items) can.some
 
-counted : (g : given.Over) (c : After-change g) → Counted g c
-counted g c =
-    let t = c.self.inside in
-    let n = c.change.new in
-    let p = g.P.Bound.below c.args.bound.now in
-    length-unexpired p c.args.count c.args.edge c.args.before n.change.removal (map item_of n.taken.items)
-    (items_in t.nodes t.root.height t.root.slot) (items_in n.nodes n.root.height n.root.slot) None (done g c)
-    (λ one. c.requires.can_remove.first (ap (λ (v : Items). length (items_below p v.items)) (sym c.self.view_is) ∙ one))
+  -- how many items there are
+  counted : (length now + length (map item_of c.change.new.taken.items) ≡ length was) × (1 ≤ length now)
+  counted =
+      let can = rw (← c.self.view_is) at c.requires.can_remove in
+      length-unexpired _ c.args.count c.args.edge c.args.before c.change.new.change.removal _ was now None done can.first
 
 pub overflow_sub-self : goal.overflow_sub-self
 overflow_sub-self g c =
@@ -104,9 +85,7 @@ invariant_of-self g c =
     (omega (arith, count.0, taken, c.self.invariant.counted, c.self.invariant.within))
 
 pub returns-clause-removal : goal.returns-clause-removal
-returns-clause-removal g c =
-    let at = (goal.at.returns-clause-removal g c).After-change in
-    subst (λ (v : Items). Done g at v.items) c.self.view_is (done g at)
+returns-clause-removal g c = rw (← c.self.view_is) (done g (goal.at.returns-clause-removal g c).After-change)
 
 pub returns-clause-headed : goal.returns-clause-headed
 returns-clause-headed g c =
