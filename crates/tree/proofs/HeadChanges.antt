@@ -1,15 +1,15 @@
 -- What nodes know of the bytes of their keys, through changes of these.
-use Rattle.std.proofs.Math.Nat.{min-le_left, min-le_right}
 use Rattle.std.proofs.Common.{◌≡◌, ◌≢◌, ◌⊎◌, inl, inr, ℕ, ◌+◌, ◌-◌, ◌<◌, ◌≤◌, min, List, [], ◌∷◌, ◌++◌, Some, length, get_or, take, drop, map, All, refl, sym, ◌∙◌, ap, ap₂, subst, arith}
 use Rattle.std.specs.Prelude.{unwrap_or, slice_get, slice_set}
 use Rattle.std.specs.List.{AllZip, Contains}
-use Rattle.std.proofs.lemmas.List.{get_or-map, get_or-take, length-map, length-take, length-take-le, drop_at, map-append, map-set, map_more, nil_from_length, set-get_or, take_all, take_at, take-map, drop-map, take-take, take_more_set}
+use Rattle.std.proofs.lemmas.List.{get_or-map, get_or-take, length-map, length-take, length-take-le, drop_at, map-append, map-set, map_more, nil_from_length, set-get_or, take_all, take_at, take-map, drop-map, take_more_set}
 use Rattle.std.proofs.lemmas.Option.{slice_get_within, get_or_from_slice_get}
 use Rattle.std.proofs.lemmas.List.Elements.{All-nil, All-cons, All-append, All-contains, All-drop, All-more, All-set, All-take, All-weaker}
 use Rattle.tree.specs.declared.entry.Entry.{Entry}
 use Rattle.tree.specs.Heads.{KeyBytes, IsKnown, Begins, KeyHeads, AreHeads, HasPrefix, IsHeadBeside, IsTargetHead, head_behind, head_at}
 use Rattle.tree.specs.Node.{keys_of}
 use Rattle.tree.proofs.Headed.{all_known, begins_if_long}
+use Rattle.tree.proofs.HeadOrder.{take_fewer}
 use Rattle.tree.proofs.callers.Partitions.{All-front, All-back}
 
 -- One more element of the second list becomes that of the first one.
@@ -40,10 +40,7 @@ keys_count es len most = length-map (take len es) (λ (e : Entry). e.key) ∙ le
 -- what is computed of elements where others are put in place of those from one index up to another
 pub map_spliced : {X Y : Type 0} (f : X → Y) (xs new now : List X) (from to : ℕ) → now ≡ take from xs ++ (new ++ drop to xs)
     → map f now ≡ take from (map f xs) ++ (map f new ++ drop to (map f xs))
-map_spliced f xs new now from to is =
-    ap (map f) is ∙ map-append f (take from xs) (new ++ drop to xs)
-    ∙ ap₂ (λ ys zs. ys ++ zs) (sym (take-map f from xs))
-    (map-append f new (drop to xs) ∙ ap (λ ys. map f new ++ ys) (sym (drop-map f to xs)))
+map_spliced f xs new now from to is = simp (is, map-append, take-map, drop-map)
 
 -- the key of an entry is one of the keys
 pub keys_there : (es : List Entry) (i : ℕ) (e : Entry) → i < length es → get_or es i e ≡ e → Contains (keys_of es) e.key
@@ -105,7 +102,7 @@ module _ (bytes : KeyBytes) where
       d k.text k.known ∙ ap (λ o. head_behind prefix_len (unwrap_or o [])) (sym k.known)
 
   -- A text that begins as all keys do begins with these bytes.
-  prefix_begins : (key_heads : KeyHeads) (h : AreHeads bytes key_heads) (text : List ℕ) → HasPrefix bytes key_heads text
+  pub prefix_begins : (key_heads : KeyHeads) (h : AreHeads bytes key_heads) (text : List ℕ) → HasPrefix bytes key_heads text
       → take (length h.beginning) text ≡ h.beginning
   prefix_begins key_heads h text a =
       let b = All-contains (Begins bytes h.beginning) key_heads.keys a.key h.begins a.there in
@@ -115,19 +112,18 @@ module _ (bytes : KeyBytes) where
       ap (λ n. take n text) h.prefix_len ∙ sym a.same ∙ ap₂ take (sym h.prefix_len) (sym texts)
       ∙ begins_if_long h.beginning b.text b.begins long
 
+  -- a known key whose text is empty or begins with these bytes
+  begins_with : (beginning : List ℕ) (key : ℕ) (k : IsKnown bytes key) → (k.text ≡ []) ⊎ (take (length beginning) k.text ≡ beginning)
+      → Begins bytes beginning key
+  begins_with beginning key k begins = record { text = k.text; known = k.known; are_bytes = k.are_bytes; begins = begins }
+
   -- A key that begins as all others do for so many bytes begins with these.
   pub agrees_begins : (key_heads : KeyHeads) (h : AreHeads bytes key_heads) (key : ℕ) → IsKnown bytes key
       → BeginsAsThese bytes key_heads key → Begins bytes h.beginning key
-  agrees_begins key_heads h key k agrees =
-      record {
-        text = k.text;
-        known = k.known;
-        are_bytes = k.are_bytes;
-        begins = elim (agrees k.text k.known) [
-          | inl empty ↦ inl empty
-          | inr a ↦ inr (prefix_begins key_heads h k.text a)
-        ];
-      }
+  agrees_begins key_heads h key k agrees = begins_with h.beginning key k (elim (agrees k.text k.known) [
+    | inl empty ↦ inl empty
+    | inr a ↦ inr (prefix_begins key_heads h k.text a)
+  ])
 
   -- a key of the node itself does
   pub key_agrees : (key_heads : KeyHeads) (h : AreHeads bytes key_heads) (key : ℕ) → Contains key_heads.keys key → BeginsAsThese bytes key_heads key
@@ -142,14 +138,7 @@ module _ (bytes : KeyBytes) where
           text = text;
           there = there;
           known = known;
-          long = omega (
-            arith,
-            ap length texts,
-            ap length same,
-            h.prefix_len,
-            length-take (length h.beginning) b.text,
-            min-le_right (length h.beginning) (length b.text),
-          );
+          long = omega (arith, ap length texts, ap length same, h.prefix_len, length-take (length h.beginning) b.text);
           same = refl;
         })
       ]
@@ -168,8 +157,7 @@ module _ (bytes : KeyBytes) where
         there = there;
         known = b.known;
         long = omega (arith, enough, (within b.text text b.known known).0);
-        same = sym (take-take key_heads.prefix_len count b.text enough) ∙ ap (take key_heads.prefix_len) (same b.text text b.known known)
-            ∙ take-take key_heads.prefix_len count text enough;
+        same = take_fewer key_heads.prefix_len count b.text text enough (same b.text text b.known known);
       }
 
   -- keys that begin as all others do
@@ -177,6 +165,14 @@ module _ (bytes : KeyBytes) where
       → All (BeginsAsThese bytes key_heads) keys → All (Begins bytes h.beginning) keys
   all_begin key_heads h keys known agree i d inside =
       agrees_begins key_heads h (get_or keys i d) (known i d inside) (agree i d inside)
+
+  -- a key that begins as the first one does for fewer bytes, too
+  begin_fewer : (first count less : ℕ) → less ≤ count → (key : ℕ) → BeginsAsFirst bytes first count key
+      → BeginsAsFirst bytes first less key
+  begin_fewer first count less fewer key begins a b one other = elim (begins a b one other) [
+    | inl empty ↦ inl empty
+    | inr h ↦ inr (omega (arith, h.0, fewer), take_fewer less count a b fewer h.1)
+  ]
 
   -- one key more that begins as the first one does, for fewer bytes perhaps
   pub first_more : (first count common i : ℕ) (keys : List ℕ) (key : ℕ) → i < length keys → key ≡ get_or keys i key
@@ -186,26 +182,11 @@ module _ (bytes : KeyBytes) where
       → All (BeginsAsFirst bytes first (min count common)) (take (i + 1) keys)
   first_more first count common i keys key inside is same within before =
       let less = min count common in
-      let fewer : less ≤ common = min-le_right count common in
-      let here : BeginsAsFirst bytes first less key = λ a b one other. inr (
-        omega (arith, (within a b one other).0, fewer),
-        sym (take-take less common a fewer) ∙ ap (take less) (same a b one other) ∙ take-take less common b fewer,
-      ) in
       All-more (BeginsAsFirst bytes first less) keys i key inside
-      (All-weaker (BeginsAsFirst bytes first count) (BeginsAsFirst bytes first less) weaker (take i keys) before)
-      (subst (BeginsAsFirst bytes first less) is here)
-    where
-      weaker : (k : ℕ) → BeginsAsFirst bytes first count k → BeginsAsFirst bytes first (min count common) k
-      weaker k b one other is_one is_other =
-          let less = min count common in
-          let fewer : less ≤ count = min-le_left count common in
-          elim (b one other is_one is_other) [
-            | inl empty ↦ inl empty
-            | inr h ↦ inr (
-              omega (arith, h.0, fewer),
-              sym (take-take less count one fewer) ∙ ap (take less) h.1 ∙ take-take less count other fewer,
-            )
-          ]
+      (All-weaker (BeginsAsFirst bytes first count) (BeginsAsFirst bytes first less) (begin_fewer first count less (omega arith))
+      (take i keys) before)
+      (subst (BeginsAsFirst bytes first less) is (begin_fewer first common less (omega arith) key
+      (λ a b one other. inr ((within a b one other).0, same a b one other))))
 
   -- an empty key more
   pub first_empty : (first count i : ℕ) (keys : List ℕ) (key : ℕ) → i < length keys → key ≡ get_or keys i key
@@ -229,27 +210,16 @@ module _ (bytes : KeyBytes) where
         long,
         λ i d inside.
             let other = known i d inside in
-            record {
-              text = other.text;
-              known = other.known;
-              are_bytes = other.are_bytes;
-              begins = elim (common i d inside text other.text is other.known) [
-                | inl empty ↦ inl empty
-                | inr h ↦ inr (ap (λ n. take n other.text) (length-take-le count text long) ∙ sym h.1)
-              ];
-            },
+            begins_with (take count text) (get_or keys i d) other (elim (common i d inside text other.text is other.known) [
+              | inl empty ↦ inl empty
+              | inr h ↦ inr (ap (λ n. take n other.text) (length-take-le count text long) ∙ sym h.1)
+            ]),
       )
 
   -- Where no bytes are asked for, known keys begin with them.
   pub begin_none : (keys : List ℕ) → All (IsKnown bytes) keys
       → (beginning : List ℕ) × (length beginning ≡ 0) × All (Begins bytes beginning) keys
-  begin_none keys known = (
-    [],
-    refl,
-    λ i d inside.
-        let k = known i d inside in
-        record { text = k.text; known = k.known; are_bytes = k.are_bytes; begins = inr refl },
-  )
+  begin_none keys known = ([], refl, λ i d inside. begins_with [] (get_or keys i d) (known i d inside) (inr refl))
 
   -- Another key that begins alike is set.
   pub headed_set : (key_heads new : KeyHeads) (h : AreHeads bytes key_heads) (i key head : ℕ) → IsKnown bytes key → BeginsAsThese bytes key_heads key
@@ -404,18 +374,8 @@ module _ (bytes : KeyBytes) where
   pub headed_removed : (key_heads new : KeyHeads) (h : AreHeads bytes key_heads) (from to : ℕ)
       → new.keys ≡ take from key_heads.keys ++ drop to key_heads.keys → new.prefix_len ≡ key_heads.prefix_len
       → new.heads ≡ take from key_heads.heads ++ drop to key_heads.heads → AreHeads bytes new
-  headed_removed key_heads new h from to keys prefix_len heads =
-      let P = Begins bytes h.beginning in
-      let f = head_at bytes key_heads.prefix_len in
-      record {
-        beginning = h.beginning;
-        prefix_len = h.prefix_len ∙ sym prefix_len;
-        begins = subst (All P) (sym keys) (All-spliced P key_heads.keys [] from to h.begins (All-nil P));
-        heads = heads ∙ ap (λ ds. take from ds ++ drop to ds) h.heads
-            ∙ ap₂ (λ xs ys. xs ++ ys) (take-map f from key_heads.keys) (drop-map f to key_heads.keys)
-            ∙ sym (map-append f (take from key_heads.keys) (drop to key_heads.keys))
-            ∙ ap₂ (λ n xs. map (head_at bytes n) xs) (sym prefix_len) (sym keys);
-      }
+  headed_removed key_heads new h from to =
+      headed_spliced key_heads new h [] [] from to (All-nil (IsKnown bytes)) tt
 
 -- The head of the key of an entry, behind so many bytes, is that of its bytes.
 pub head_read : (es : List Entry) (len i : ℕ) (e : Entry) → i < len → len ≤ length es → e ≡ get_or es i e

@@ -1,8 +1,8 @@
 -- What the bytes with which a key and the target begin, and the heads of what stands behind, tell of the two.
-use Rattle.std.proofs.Common.{◌≡◌, ◌≢◌, ℕ, zero, suc, ◌+◌, ◌-◌, ◌<◌, ◌≤◌, Bool, nat_lt, List, [], ◌∷◌, ◌++◌, length, get_or, take, drop, replicate, slice_index, refl, sym, ap, subst, ◌∙◌, inl, inr, arith, length-take, get_or-take, lt-ltb, le-ltb}
+use Rattle.std.proofs.Common.{◌≡◌, ◌≢◌, ℕ, zero, suc, ◌+◌, ◌-◌, ◌<◌, ◌≤◌, Bool, nat_lt, List, [], ◌∷◌, ◌++◌, length, get_or, take, drop, replicate, slice_index, refl, sym, ap, subst, ◌∙◌, inl, inr, arith, length-take, get_or-take, take-add, lt-ltb, le-ltb}
 use Rattle.std.specs.Int.{w64, to_be_bytes, from_be_bytes}
 use Rattle.std.proofs.lemmas.Bool.{cases_lt, cases_order}
-use Rattle.std.proofs.lemmas.List.{take-take, take-append-le, take-append-drop, take_more_same, length-take-le, drop-take, length-drop, get_or_append_left}
+use Rattle.std.proofs.lemmas.List.{take-take, take-append-le, take_more_same, length-take-le, drop-take, length-drop, get_or_append_left}
 use Rattle.std.proofs.lemmas.List.Elements.{All-drop}
 use Rattle.keys.specs.Key.{IsBytes, IsBefore}
 use Rattle.keys.specs.Head.{first_eight, head_of}
@@ -12,18 +12,12 @@ use Rattle.tree.specs.Heads.{head_behind, IsBelowInOrder, IsCommonPrefixLen}
 abbrev IsByte : ℕ → Type 0
 IsByte byte = byte < 256
 
-take_fewer : (m n : ℕ) (a b : List ℕ) → m ≤ n → take n a ≡ take n b → take m a ≡ take m b
+pub take_fewer : (m n : ℕ) (a b : List ℕ) → m ≤ n → take n a ≡ take n b → take m a ≡ take m b
 take_fewer m n a b le same = sym (take-take m n a le) ∙ ap (take m) same ∙ take-take m n b le
 
 same_at : (i n : ℕ) (a b : List ℕ) → i < n → take n a ≡ take n b → get_or a i 0 ≡ get_or b i 0
 same_at i n a b less same =
     sym (get_or-take n a i 0 less) ∙ ap (λ (l : List ℕ). get_or l i 0) same ∙ get_or-take n b i 0 less
-
-take_sum : (m n : ℕ) (a : List ℕ) → take (m + n) a ≡ take m a ++ take n (drop m a)
-take_sum m n a =
-    sym (take-append-drop m (take (m + n) a))
-    ∙ ap (λ front. front ++ drop m (take (m + n) a)) (take-take m (m + n) a (omega arith))
-    ∙ ap (λ back. take m a ++ back) (drop-take m n a)
 
 -- The second one has as many bytes.
 pub as_long : (n : ℕ) (a b : List ℕ) → n ≤ length a → take n a ≡ take n b → n ≤ length b
@@ -166,10 +160,10 @@ common_with_behind prefix_len m a b long same tells count within =
           let n = count - prefix_len in
           let sum : prefix_len + n ≡ count = omega arith in
           let inside : n ≤ length (drop prefix_len a) = omega (arith, length-drop prefix_len a) in (
-            (λ le. ap (λ k. take k a) (sym sum) ∙ take_sum prefix_len n a
+            (λ le. ap (λ k. take k a) (sym sum) ∙ take-add prefix_len n a
                 ∙ ap (λ front. front ++ take n (drop prefix_len a)) same
                 ∙ ap (λ back. take prefix_len b ++ back) ((tells n inside).0 (omega arith))
-                ∙ sym (take_sum prefix_len n b) ∙ ap (λ k. take k b) sum),
+                ∙ sym (take-add prefix_len n b) ∙ ap (λ k. take k b) sum),
             (λ alike.
                 let rest : take n (drop prefix_len a) ≡ take n (drop prefix_len b) =
                 sym (drop-take prefix_len n a)

@@ -1,10 +1,9 @@
 -- What the leaf that a bound finds says of the items below the bound.
-use Rattle.std.proofs.Common.{◌≡◌, ℕ, zero, suc, ◌+◌, ◌-◌, ◌<◌, ◌≤◌, inl, inr, Bool, true, false, not, List, [], ◌∷◌, ◌++◌, Option, Some, length, get_or, slice_get, take, drop, filter, flat_map, map, All, refl, sym, ◌∙◌, ap, subst, arith}
+use Rattle.std.proofs.Common.{◌≡◌, ℕ, zero, suc, ◌+◌, ◌-◌, ◌≤◌, inl, inr, Bool, true, false, not, List, [], ◌∷◌, ◌++◌, Option, Some, length, slice_get, take, drop, filter, flat_map, map, All, refl, sym, ◌∙◌, ap, subst, arith}
 use Rattle.std.specs.Prelude.{MatchOption}
 use Rattle.std.proofs.lemmas.Bool.{cases_Bool}
-use Rattle.std.proofs.lemmas.Option.{slice_get-get_or}
-use Rattle.std.proofs.lemmas.List.{get_or_append_left, append-nil, append_assoc, map-append}
-use Rattle.std.proofs.lemmas.List.Elements.{All-nil, All-cons, All-head, All-tail, All-append, All-map, filter-append, filter_passes}
+use Rattle.std.proofs.lemmas.List.{append-nil, append_assoc, map-append}
+use Rattle.std.proofs.lemmas.List.Elements.{All-nil, All-cons, All-head, All-tail, All-append, All-map, filter-append}
 use Rattle.arena.specs.Arena.{Arena}
 use Rattle.tree.specs.declared.entry.Entry.{Entry}
 use Rattle.tree.specs.declared.node.Node.{Node}
@@ -14,25 +13,13 @@ use Rattle.tree.specs.Subtree.{entries_at, items_in, IsSubtree}
 use Rattle.tree.specs.Tree.{IsLast}
 use Rattle.tree.proofs.callers.Times.{none_or_some}
 use Rattle.tree.proofs.callers.Partitions.{not_both, none_pass, none_passed, none_fail, IsPartitioned-parts, IsPartitioned-from_falls, Falls, Falls-below_from}
+use Rattle.tree.proofs.HeadCounts.{passing_at}
 use Rattle.tree.proofs.Ways.{way}
 
 -- the last of those that pass does
 pub index_passes : {X : Type 0} (p : X → Bool) (xs : List X) (x : X) → IsPartitioned p xs → 1 ≤ length (filter p xs)
     → slice_get xs (length (filter p xs) - 1) ≡ Some x → p x ≡ true
-index_passes p xs x partitioned some is =
-    let front = filter p xs in
-    let rest = filter (λ y. not (p y)) xs in
-    let i = length front - 1 in
-    let inside : i < length front = omega arith in
-    let within : i < length (front ++ rest) = omega (arith, length-front front rest) in
-    let read : slice_get (front ++ rest) i ≡ Some (get_or (front ++ rest) i x) = slice_get-get_or (front ++ rest) i x within in
-    let here : slice_get (front ++ rest) i ≡ Some x = ap (λ l. slice_get l i) (sym partitioned) ∙ is in
-    let same : get_or front i x ≡ x = let e : get_or (front ++ rest) i x ≡ x = cc in sym (get_or_append_left front rest x i inside) ∙ e in
-    subst (λ y. p y ≡ true) same (filter_passes p xs i x inside)
-  where
-    length-front : {X : Type 0} (xs ys : List X) → length xs ≤ length (xs ++ ys)
-    length-front [] ys = omega arith
-    length-front (x ∷ xs) ys = omega (arith, length-front xs ys)
+index_passes p xs x partitioned some is = passing_at p xs (length (filter p xs) - 1) x partitioned is (omega arith)
 
 -- Where no entry of the leaf passes, no item of the subtree does, and none stands before the leaf.
 pub none_before : {N : ℕ} (nodes : Arena (Node N)) (least height slot : ℕ) (is_below : ℕ → Bool) → IsSubtree nodes least height slot

@@ -1,19 +1,13 @@
 -- What lies from one bound to another, in parts.
 use Rattle.std.proofs.Common.{◌≡◌, ℕ, suc, ◌+◌, ◌-◌, ◌<◌, ◌≤◌, Bool, true, false, not, ◌&&◌, List, [], ◌∷◌, ◌++◌, length, get_or, take, drop, filter, flat_map, All, refl, sym, ◌∙◌, ap, subst, inl, inr, arith, drop-cons, take-add, take_at, drop_at, take-append-drop, append-nil, length-drop}
 use Rattle.std.specs.Prelude.{slice_range}
-use Rattle.std.proofs.lemmas.Bool.{cases_Bool}
+use Rattle.std.proofs.lemmas.Bool.{and_right, cases_Bool}
 use Rattle.std.proofs.lemmas.Grind.{flat_map-append}
 use Rattle.std.proofs.lemmas.List.{drop-drop, drop-take, get_or-drop}
-use Rattle.std.proofs.lemmas.List.Elements.{
-  All-head,
-  All-tail,
-  All-take,
-  All-drop,
-  filter-append,
-}
+use Rattle.std.proofs.lemmas.List.Elements.{All-head, All-tail, All-take, All-drop, filter-append}
 use Rattle.tree.specs.declared.entry.Entry.{Entry}
 use Rattle.tree.specs.Path.{IsPartitioned}
-use Rattle.tree.proofs.callers.Partitions.{passed, failed, All-front, All-back}
+use Rattle.tree.proofs.callers.Partitions.{none_pass, none_fail, passed, failed, All-front, All-back}
 use Rattle.tree.proofs.Ways.{around_element}
 
 module _ {X : Type 0} where
@@ -41,25 +35,14 @@ module _ {X : Type 0} where
     span-append xs ys = filter-append (λ x. not (p x) && q x) xs ys
 
     pub span_before : (xs : List X) → All (λ x. p x ≡ true) xs → span p q xs ≡ []
-    span_before [] a = refl
-    span_before (x ∷ xs) a =
-        let t = All-head (λ x. p x ≡ true) x xs a in
-        rw t (span_before xs (All-tail (λ x. p x ≡ true) x xs a))
+    span_before xs a = (none_pass (λ x. not (p x) && q x) xs (λ i d inside. rw (a i d inside) refl)).0
 
     pub span_behind : (xs : List X) → All (λ x. q x ≡ false) xs → span p q xs ≡ []
-    span_behind [] a = refl
-    span_behind (x ∷ xs) a =
-        let f = All-head (λ x. q x ≡ false) x xs a in
-        let i = span_behind xs (All-tail (λ x. q x ≡ false) x xs a) in
-        elim (cases_Bool (p x)) [ inl t ↦ rw t i | inr t ↦ rw (t, f) i ]
+    span_behind xs a =
+        (none_pass (λ x. not (p x) && q x) xs (λ i d inside. and_right (not (p (get_or xs i d))) (q (get_or xs i d)) (a i d inside))).0
 
     pub span_all : (xs : List X) → All (λ x. p x ≡ false) xs → All (λ x. q x ≡ true) xs → span p q xs ≡ xs
-    span_all [] a b = refl
-    span_all (x ∷ xs) a b =
-        let f = All-head (λ x. p x ≡ false) x xs a in
-        let t = All-head (λ x. q x ≡ true) x xs b in
-        rw (f, t)
-        (ap (λ ys. x ∷ ys) (span_all xs (All-tail (λ x. p x ≡ false) x xs a) (All-tail (λ x. q x ≡ true) x xs b)))
+    span_all xs a b = (none_fail (λ x. not (p x) && q x) xs (λ i d inside. rw (a i d inside, b i d inside) refl)).0
 
     pub span_to_end : (xs : List X) → All (λ x. q x ≡ true) xs → span p q xs ≡ span p (λ x. true) xs
     span_to_end [] b = refl

@@ -1,4 +1,4 @@
-use Rattle.std.proofs.Common.{rules, ◌≡◌, ◌≤◌, ℕ, [], ◌++◌, ◌∙◌, true, length, take, drop, ap, ap₂, refl, sym, arith}
+use Rattle.std.proofs.Common.{rules, ◌≡◌, ◌≤◌, ℕ, ◌++◌, ◌∙◌, true, length, take, drop, refl, sym, arith}
 use Rattle.std.specs.List.{All}
 use Rattle.std.proofs.lemmas.List.{length-map, map-append}
 use Rattle.tree.specs.declared.entry.Entry.{Entry}
@@ -33,41 +33,14 @@ both g c =
     omega (arith, can.within, heads_count (g.P.Bound.bytes c.args.bound.now) es (key_heads_of node) can.headed refl) in
     let split = c.split_off-right in
     elim c.if-from-new.branch [
-      | then-from-new w ↦ record {
-        entries = c.redistribute.ensures.entries
-            ∙ ap₂ (λ l r. entries_of l ++ entries_of r) w.self-is w.right-is
-            ∙ ap₂ (λ xs ys. xs ++ ys) (w.splice.ensures.entries ∙ ap (λ xs. take from xs ++ (c.args.new.now ++ drop to xs)) split.ensures.left)
-            split.ensures.right
-            ∙ apart_spliced es c.args.new.now from to can.ordered can.within;
-        heads = c.redistribute.ensures.heads.heads_are
-            ∙ ap₂ (λ l r. (key_heads_of l).heads ++ (key_heads_of r).heads) w.self-is w.right-is
-            ∙ ap₂ (λ xs ys. xs ++ ys) (w.splice.ensures.heads.heads_are
-            ∙ ap (λ xs. take from xs ++ (c.args.heads.now ++ drop to xs)) split.ensures.left_heads.heads_are)
-            split.ensures.right_heads.heads_are
-            ∙ apart_spliced hs c.args.heads.now from to can.ordered within;
-        prefix_len = c.redistribute.ensures.heads.prefix_len ∙ ap (λ l. (key_heads_of l).prefix_len) w.self-is
-            ∙ w.splice.ensures.heads.prefix_len ∙ split.ensures.left_heads.prefix_len;
-        right_prefix_len = c.redistribute.ensures.heads.right_prefix_len ∙ ap (λ r. (key_heads_of r).prefix_len) w.right-is
-            ∙ split.ensures.right_heads.prefix_len;
-      }
-      | else-from-new w ↦ record {
-        entries = c.redistribute.ensures.entries
-            ∙ ap₂ (λ l r. entries_of l ++ entries_of r) w.self-is w.right-is
-            ∙ ap₂ (λ xs ys. xs ++ ys) (w.splice-else-from-new.ensures.entries ∙ ap (λ xs. take from xs ++ ([] ++ drop to xs)) split.ensures.left)
-            (w.splice-else-from-new-2.ensures.entries ∙ ap (λ xs. take 0 xs ++ (c.args.new.now ++ drop 0 xs)) split.ensures.right)
-            ∙ apart_prepended es c.args.new.now from to can.ordered can.within;
-        heads = c.redistribute.ensures.heads.heads_are
-            ∙ ap₂ (λ l r. (key_heads_of l).heads ++ (key_heads_of r).heads) w.self-is w.right-is
-            ∙ ap₂ (λ xs ys. xs ++ ys) (w.splice-else-from-new.ensures.heads.heads_are
-            ∙ ap (λ xs. take from xs ++ ([] ++ drop to xs)) split.ensures.left_heads.heads_are)
-            (w.splice-else-from-new-2.ensures.heads.heads_are
-            ∙ ap (λ xs. take 0 xs ++ (c.args.heads.now ++ drop 0 xs)) split.ensures.right_heads.heads_are)
-            ∙ apart_prepended hs c.args.heads.now from to can.ordered within;
-        prefix_len = c.redistribute.ensures.heads.prefix_len ∙ ap (λ l. (key_heads_of l).prefix_len) w.self-is
-            ∙ w.splice-else-from-new.ensures.heads.prefix_len ∙ split.ensures.left_heads.prefix_len;
-        right_prefix_len = c.redistribute.ensures.heads.right_prefix_len ∙ ap (λ r. (key_heads_of r).prefix_len) w.right-is
-            ∙ w.splice-else-from-new-2.ensures.heads.prefix_len ∙ split.ensures.right_heads.prefix_len;
-      }
+      | then-from-new w ↦
+          let entries = apart_spliced es c.args.new.now from to can.ordered can.within in
+          let heads = apart_spliced hs c.args.heads.now from to can.ordered within in
+          record { entries = cc; heads = cc; prefix_len = cc; right_prefix_len = cc }
+      | else-from-new w ↦
+          let entries = apart_prepended es c.args.new.now from to can.ordered can.within in
+          let heads = apart_prepended hs c.args.heads.now from to can.ordered within in
+          record { entries = cc; heads = cc; prefix_len = cc; right_prefix_len = cc }
     ]
 
 -- the heads of both are right where the new keys begin as all others do
