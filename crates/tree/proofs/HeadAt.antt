@@ -61,9 +61,7 @@ module _ (bytes : KeyBytes) (key_heads : KeyHeads) (h : AreHeads bytes key_heads
               let begins : take key_heads.prefix_len own.text ≡ h.beginning = ap (λ n. take n own.text) (sym h.prefix_len) ∙ same in
               inr (begins, omega (arith, h.prefix_len, ap length begins, length-take key_heads.prefix_len own.text))
         ];
-        head = ap (λ (ds : List ℕ). get_or ds index 0) h.heads
-            ∙ get_or-map (head_at bytes key_heads.prefix_len) key_heads.keys index key 0 inside ∙ ap (head_at bytes key_heads.prefix_len) read
-            ∙ ap (λ o. head_behind key_heads.prefix_len (unwrap_or o [])) own.known;
+        head = cc (get_or-map (head_at bytes key_heads.prefix_len) key_heads.keys index key 0 inside);
       }
 
   -- what is known of its bytes

@@ -16,15 +16,12 @@ use Rattle.tree.proofs.callers.Partitions.{All-front, All-back}
 pub map_further : {X Y : Type 0} (f : X → Y) (xs : List X) (ys : List Y) (i : ℕ) (x : X) (y : Y)
     → i < length xs → i < length ys → x ≡ get_or xs i x → y ≡ f x → take i ys ≡ map f (take i xs)
     → take (i + 1) (slice_set ys i y) ≡ map f (take (i + 1) xs)
-map_further f xs ys i x y inside room is new before =
-    take_more_set ys i y room ∙ ap (λ zs. zs ++ y ∷ []) before ∙ ap (λ z. map f (take i xs) ++ z ∷ []) (new ∙ ap f is)
-    ∙ sym (map_more f xs i x inside)
+map_further f xs ys i x y inside room is new before = cc (take_more_set ys i y room, map_more f xs i x inside)
 
 -- The second list is that of the first one, whole.
 pub map_whole : {X Y : Type 0} (f : X → Y) (xs : List X) (ys : List Y) (len i : ℕ) → length xs ≡ len → i ≡ len
     → take i ys ≡ map f (take i xs) → take len ys ≡ map f xs
-map_whole f xs ys len i count end is =
-    ap (λ n. take n ys) (sym end) ∙ is ∙ ap (map f) (take_all i xs (omega (arith, count, end)))
+map_whole f xs ys len i count end is = cc (take_all i xs (omega (arith, count, end)))
 
 -- Elements are put in place of those from one index up to another.
 pub All-spliced : {X : Type 0} (P : X → Type 0) (xs new : List X) (from to : ℕ) → All P xs → All P new
@@ -68,8 +65,8 @@ module _ (es : List Entry) (len i : ℕ) (e : Entry) (inside : i < len) (most : 
   -- its head
   pub head_there : (f : ℕ → ℕ) (heads : List ℕ) → take len heads ≡ map f (keys_of (take len es)) → get_or heads i 0 ≡ f e.key
   head_there f heads right =
-      sym (get_or-take len heads i 0 inside) ∙ ap (λ xs. get_or xs i 0) right
-      ∙ get_or-map f (keys_of (take len es)) i e.key 0 (omega (arith, keys_count es len most)) ∙ ap f (sym key_read)
+      let mapped = get_or-map f (keys_of (take len es)) i e.key 0 (omega (arith, keys_count es len most)) in
+      cc (get_or-take len heads i 0 inside, mapped, key_read)
 
   -- with its head one more is right
   pub head_next : (f : ℕ → ℕ) (heads : List ℕ) (head : ℕ) → i < length heads → head ≡ f e.key
@@ -231,9 +228,7 @@ module _ (bytes : KeyBytes) where
         beginning = h.beginning;
         prefix_len = h.prefix_len ∙ sym prefix_len;
         begins = subst (All P) (sym keys) (All-set P key_heads.keys i key (agrees_begins key_heads h key k agrees) h.begins);
-        heads = heads ∙ ap₂ (λ xs d. slice_set xs i d) h.heads right
-            ∙ sym (map-set (head_at bytes key_heads.prefix_len) key_heads.keys i key)
-            ∙ ap₂ (λ n xs. map (head_at bytes n) xs) (sym prefix_len) (sym keys);
+        heads = cc (map-set (head_at bytes key_heads.prefix_len) key_heads.keys i key);
       }
 
   -- then the keys are known
@@ -275,16 +270,13 @@ module _ (bytes : KeyBytes) where
       → now.keys ≡ take from key_heads.keys ++ (new ++ drop to key_heads.keys) → now.prefix_len ≡ key_heads.prefix_len
       → now.heads ≡ take from key_heads.heads ++ (heads ++ drop to key_heads.heads) → AreHeads bytes now
   headed_spliced key_heads now h new heads from to known given keys_are prefix_len heads_are =
-      let f = head_at bytes key_heads.prefix_len in
       let right = beside_right key_heads new heads given in
       record {
         beginning = h.beginning;
         prefix_len = h.prefix_len ∙ sym prefix_len;
         begins = subst (All (Begins bytes h.beginning)) (sym keys_are)
             (All-spliced (Begins bytes h.beginning) key_heads.keys new from to h.begins (all_begin key_heads h new known right.1));
-        heads = heads_are ∙ ap₂ (λ ds es. take from ds ++ (es ++ drop to ds)) h.heads right.0
-            ∙ sym (map_spliced f key_heads.keys new now.keys from to keys_are)
-            ∙ ap (λ n. map (head_at bytes n) now.keys) (sym prefix_len);
+        heads = cc (right.0, map_spliced (head_at bytes key_heads.prefix_len) key_heads.keys new now.keys from to keys_are);
       }
 
   -- There are as many heads as entries.
@@ -323,10 +315,7 @@ module _ (bytes : KeyBytes) where
         prefix_len = h.prefix_len ∙ sym prefix_len;
         begins = subst (All P) (sym keys) (All-append P one.keys other.keys h.begins
             (subst (λ b. All (Begins bytes b) other.keys) (same_beginning one other h others key as_many there agrees) others.begins));
-        heads = heads
-            ∙ ap₂ (λ xs ys. xs ++ ys) h.heads (others.heads ∙ ap (λ n. map (head_at bytes n) other.keys) (sym as_many))
-            ∙ sym (map-append (head_at bytes one.prefix_len) one.keys other.keys)
-            ∙ ap₂ (λ n xs. map (head_at bytes n) xs) (sym prefix_len) (sym keys);
+        heads = cc (map-append (head_at bytes one.prefix_len) one.keys other.keys);
       }
 
   -- Heads that are right of all keys are right of those in front, and of those behind.
@@ -338,23 +327,19 @@ module _ (bytes : KeyBytes) where
       let P = Begins bytes h.beginning in
       let n = length front.keys in
       let begins : All P (front.keys ++ back.keys) = subst (All P) (sym keys) h.begins in
-      let both : front.heads ++ back.heads ≡ map f front.keys ++ map f back.keys =
-      heads ∙ h.heads ∙ ap (map f) (sym keys) ∙ map-append f front.keys back.keys in (
+      let mapped = map-append f front.keys back.keys in
+      let len = length-map front.keys f in (
         record {
           beginning = h.beginning;
           prefix_len = h.prefix_len ∙ sym front_len;
           begins = All-front P front.keys back.keys begins;
-          heads = sym (take_at front.heads back.heads n count) ∙ ap (take n) both
-              ∙ take_at (map f front.keys) (map f back.keys) n (length-map front.keys f)
-              ∙ ap (λ m. map (head_at bytes m) front.keys) (sym front_len);
+          heads = cc (take_at front.heads back.heads n count, take_at (map f front.keys) (map f back.keys) n len);
         },
         record {
           beginning = h.beginning;
           prefix_len = h.prefix_len ∙ sym back_len;
           begins = All-back P front.keys back.keys begins;
-          heads = sym (drop_at front.heads back.heads n count) ∙ ap (drop n) both
-              ∙ drop_at (map f front.keys) (map f back.keys) n (length-map front.keys f)
-              ∙ ap (λ m. map (head_at bytes m) back.keys) (sym back_len);
+          heads = cc (drop_at front.heads back.heads n count, drop_at (map f front.keys) (map f back.keys) n len);
         },
       )
 

@@ -93,20 +93,13 @@ module _ (is_below : ℕ → Bool) (items before after : List Item) (es : List E
   pub passing_is : items_below is_below items ≡ before ++ map item_of (filter (λ e. is_below e.key) es)
   passing_is =
       let p = λ (x : Item). is_below x.key in
-      let here = filter p (map item_of es) in
-      ap (filter p) leaf.items_are ∙ filter-append p before (map item_of es ++ after)
-      ∙ ap (λ xs. xs ++ filter p (map item_of es ++ after)) (none_fail p before leaf.pass).0
-      ∙ ap (λ xs. before ++ xs) (filter-append p (map item_of es) after ∙ ap (λ xs. here ++ xs) (none_pass p after leaf.fail).0
-      ∙ append-nil here ∙ filter-items is_below es)
+      simp (leaf.items_are, filter-append, (none_fail p before leaf.pass).0, (none_pass p after leaf.fail).0, append-nil, filter-items is_below es)
 
   pub behind_is : behind is_below items ≡ map item_of (filter (λ e. not (is_below e.key)) es) ++ after
   behind_is =
-      let p = λ (x : Item). not (is_below x.key) in
-      ap (filter p) leaf.items_are ∙ filter-append p before (map item_of es ++ after)
-      ∙ ap (λ xs. xs ++ filter p (map item_of es ++ after)) (none_fail (λ (x : Item). is_below x.key) before leaf.pass).1
-      ∙ filter-append p (map item_of es) after
-      ∙ ap (λ xs. xs ++ filter p after) (filter-items (λ k. not (is_below k)) es)
-      ∙ ap (λ xs. map item_of (filter (λ (e : Entry). not (is_below e.key)) es) ++ xs) (none_pass (λ (x : Item). is_below x.key) after leaf.fail).1
+      let p = λ (x : Item). is_below x.key in
+      simp (leaf.items_are, filter-append, (none_fail p before leaf.pass).1, (none_pass p after leaf.fail).1,
+          filter-items (λ k. not (is_below k)) es)
 
   pub leaf_partitioned_by_keys : IsPartitioned (λ x. is_below x.key) items → IsPartitioned (λ e. is_below e.key) es
   leaf_partitioned_by_keys partitioned =

@@ -117,12 +117,8 @@ module _ {X : Type 0} where
       let inside = subst (All (λ x. q x ≡ true)) is (All-drop (λ x. q x ≡ true) i (take j xs) sooner) in
       let outside = All-take (λ x. p x ≡ false) (j - i) (drop i xs) later in
       ap (span p q) (in_parts xs i j le)
-      ∙ span-append p q (take i xs) (slice_range xs i j ++ drop j xs)
-      ∙ ap (λ ys. ys ++ span p q (slice_range xs i j ++ drop j xs)) (span_before p q (take i xs) front)
-      ∙ span-append p q (slice_range xs i j) (drop j xs)
-      ∙ ap (λ ys. span p q (slice_range xs i j) ++ ys) (span_behind p q (drop j xs) back)
-      ∙ append-nil (span p q (slice_range xs i j))
-      ∙ span_all p q (slice_range xs i j) outside inside
+      ∙ simp (filter-append, span_before p q (take i xs) front, span_behind p q (drop j xs) back,
+          span_all p q (slice_range xs i j) outside inside, append-nil)
 
 -- the items of children from one bound to another
 module _ {X : Type 0} (below : Entry → List X) (p q : X → Bool) (es : List Entry) (i j : ℕ) (d : Entry)
@@ -138,12 +134,7 @@ module _ {X : Type 0} (below : Entry → List X) (p q : X → Bool) (es : List E
       let b = flat_map below (drop (i + 1) es) in
       let behind = subst (λ k. All (λ x. q x ≡ false) (flat_map below (drop (k + 1) es))) (sym same) back in
       ap (λ xs. span p q (flat_map below xs)) (around_element es i d inside)
-      ∙ ap (span p q) (flat_map-append below (take i es) (get_or es i d ∷ drop (i + 1) es))
-      ∙ span-append p q a (c ++ b)
-      ∙ ap (λ ys. ys ++ span p q (c ++ b)) (span_before p q a front)
-      ∙ span-append p q c b
-      ∙ ap (λ ys. span p q c ++ ys) (span_behind p q b behind)
-      ∙ append-nil (span p q c)
+      ∙ simp (flat_map-append, filter-append, span_before p q a front, span_behind p q b behind, append-nil)
 
   two_elements : i < j → j < length es
       → drop (i + 1) es ≡ slice_range es (i + 1) j ++ get_or es j d ∷ drop (j + 1) es
@@ -196,15 +187,5 @@ module _ {X : Type 0} (below : Entry → List X) (p q : X → Bool) (es : List E
       let l_before = All-front (λ x. q x ≡ true) l m before in
       let m_before = All-back (λ x. q x ≡ true) l m before in
       ap (span p q) whole
-      ∙ span-append p q a (l ++ (m ++ (r ++ b)))
-      ∙ ap (λ ys. ys ++ span p q (l ++ (m ++ (r ++ b)))) (span_before p q a front)
-      ∙ span-append p q l (m ++ (r ++ b))
-      ∙ ap (λ ys. ys ++ span p q (m ++ (r ++ b))) (span_to_end p q l l_before)
-      ∙ ap (λ ys. span p (λ x. true) l ++ ys)
-      (span-append p q m (r ++ b)
-      ∙ ap (λ ys. ys ++ span p q (r ++ b)) (span_all p q m m_after m_before)
-      ∙ ap (λ ys. m ++ ys)
-      (span-append p q r b
-      ∙ ap (λ ys. span p q r ++ ys) (span_behind p q b back)
-      ∙ append-nil (span p q r)
-      ∙ span_from_begin p q r r_after))
+      ∙ simp (filter-append, span_before p q a front, span_to_end p q l l_before, span_all p q m m_after m_before,
+          span_behind p q b back, append-nil, span_from_begin p q r r_after)
