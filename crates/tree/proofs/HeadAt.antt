@@ -121,9 +121,8 @@ module _ (bytes : KeyBytes) (key_heads : KeyHeads) (h : AreHeads bytes key_heads
         elim k.begins [
           | inr long ↦
               let same : take key_heads.prefix_len k.text ≡ take key_heads.prefix_len target = long.0 ∙ sought_begins target is.agrees in
-              ap (λ d. nat_lt d head) k.head ∙ ap (nat_lt (head_behind key_heads.prefix_len k.text)) is.head_is
-              ∙ told_by_heads key_heads.prefix_len k.text target (is_below key) k.are_bytes is.are_bytes long.1 same apart
-              (order key k.text k.known)
+              cc (is.head_is, told_by_heads key_heads.prefix_len k.text target (is_below key) k.are_bytes is.are_bytes long.1 same apart
+                  (order key k.text k.known))
           | inl empty ↦
               let own : get_or key_heads.heads index 0 ≡ 0 =
               k.head ∙ ap (head_behind key_heads.prefix_len) empty ∙ empty_head key_heads.prefix_len in

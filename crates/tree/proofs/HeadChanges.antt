@@ -103,11 +103,9 @@ module _ (bytes : KeyBytes) where
       → take (length h.beginning) text ≡ h.beginning
   prefix_begins key_heads h text a =
       let b = All-contains (Begins bytes h.beginning) key_heads.keys a.key h.begins a.there in
-      let one : Some b.text ≡ Some a.text = sym b.known ∙ a.known in
-      let texts : b.text ≡ a.text = cc in
+      let texts : b.text ≡ a.text = cc (b.known, a.known) in
       let long : length h.beginning ≤ length b.text = omega (arith, a.long, h.prefix_len, ap length texts) in
-      ap (λ n. take n text) h.prefix_len ∙ sym a.same ∙ ap₂ take (sym h.prefix_len) (sym texts)
-      ∙ begins_if_long h.beginning b.text b.begins long
+      cc (h.prefix_len, a.same, begins_if_long h.beginning b.text b.begins long)
 
   -- a known key whose text is empty or begins with these bytes
   begins_with : (beginning : List ℕ) (key : ℕ) (k : IsKnown bytes key) → (k.text ≡ []) ⊎ (take (length beginning) k.text ≡ beginning)
@@ -126,8 +124,7 @@ module _ (bytes : KeyBytes) where
   pub key_agrees : (key_heads : KeyHeads) (h : AreHeads bytes key_heads) (key : ℕ) → Contains key_heads.keys key → BeginsAsThese bytes key_heads key
   key_agrees key_heads h key there text known =
       let b = All-contains (Begins bytes h.beginning) key_heads.keys key h.begins there in
-      let one : Some text ≡ Some b.text = sym known ∙ b.known in
-      let texts : text ≡ b.text = cc in
+      let texts : text ≡ b.text = cc (b.known) in
       elim b.begins [
         | inl empty ↦ inl (texts ∙ empty)
         | inr same ↦ inr (record {
