@@ -20,10 +20,8 @@ pub first_tells : (under : Entry → List Item) (es : List Entry) (e : Entry) �
 first_tells under [] e is tell x xs same = absurd (cc)
 first_tells under (d ∷ es) e is tell x xs same =
     let t = All-head (λ e. Tells e (under e)) d es tell in
-    let one : d ≡ e = cc in
     let front : t.first ∷ t.others ++ flat_map under es ≡ x ∷ xs = sym (ap (λ ys. ys ++ flat_map under es) t.items_are) ∙ same in
-    let first : t.first ≡ x = cc in
-    sym (ap (λ (e : Entry). e.key) one) ∙ t.key ∙ ap (λ (x : Item). x.key) first
+    cc (t.key)
 
 -- the items of an entry of a node of this height: its own one, or those of its child
 abbrev pub items_under : {N : ℕ} → Arena (Node N) → ℕ → Entry → List Item

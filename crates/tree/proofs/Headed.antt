@@ -95,8 +95,7 @@ module _ {N : ℕ} where
   headed_put bytes old new slot node all is headed others s =
       elim (same_or_other s slot) [
         | inl same ↦ subst (λ o. IfSome (option_map key_heads_of o) (AreHeads bytes)) (sym is ∙ ap (header_at new) same) headed
-        | inr other ↦
-            subst (λ o. IfSome (option_map key_heads_of (option_map (λ r. r.header) o)) (AreHeads bytes)) (sym (others s other)) (all s)
+        | inr other ↦ rw (others s other) (all s)
       ]
 
   -- One slot has no node any more, and all others have the same.
@@ -111,6 +110,5 @@ module _ {N : ℕ} where
         | inl same ↦
             subst (λ o. IfSome (option_map key_heads_of (option_map (λ r. r.header) o)) (AreHeads bytes))
             (sym none ∙ ap (record_at new) same) tt
-        | inr other ↦
-            subst (λ o. IfSome (option_map key_heads_of (option_map (λ r. r.header) o)) (AreHeads bytes)) (sym (others s other)) (all s)
+        | inr other ↦ rw (others s other) (all s)
       ]

@@ -11,16 +11,11 @@ use Rattle.tree.proofs.rebalance.rebalance.Goals as goal
 pub header_ref-requires : goal.header_ref-requires
 header_ref-requires g c =
     let a = c.args.nodes.now in
-    let es = entries_of c.args.node.now in
     let i = c.args.index in
     let d = c.index-entries-index.result in
     let x = (get_or c.entries.result.now i d).child in
-    let x_is : x ≡ (get_or es i d).child = ap (λ (l : List Entry). (get_or l i d).child) c.entries.ensures.entries in
     let f = c.requires.can_rebalance.family in
-    record {
-      live = live_subtree a (least_of g.row.N) f.0 x
-          (subst (IsSubtree a (least_of g.row.N) f.0) (sym x_is) (f.1.below i d c.requires.can_rebalance.within));
-    }
+    record { live = live_subtree a (least_of g.row.N) f.0 x (rw c.entries.ensures.entries (f.1.below i d c.requires.can_rebalance.within)) }
 
 pub returns-then-len-least-clause-rebalanced : goal.returns-then-len-least-clause-rebalanced
 returns-then-len-least-clause-rebalanced g c height family =
@@ -46,9 +41,6 @@ merge_or_redistribute-requires g c =
     let a = c.args.nodes.now in
     let es = entries_of c.args.node.now in
     let i = c.args.index in
-    let d = c.index-entries-index.result in
-    let x = (get_or c.entries.result.now i d).child in
-    let x_is : x ≡ (get_or es i d).child = ap (λ (l : List Entry). (get_or l i d).child) c.entries.ensures.entries in
     let can = c.requires.can_rebalance in
     let f = can.family in
     let j = c.saturating_sub.result in
@@ -58,7 +50,7 @@ merge_or_redistribute-requires g c =
         record {
           fan_out = can.fan_out;
           within = omega (arith, can.within, can.several, j_is);
-          filled = filled_pair a (least_of g.row.N) f.0 es i j d can.within can.several j_is f.1;
+          filled = filled_pair a (least_of g.row.N) f.0 es i j c.index-entries-index.result can.within can.several j_is f.1;
           keyless = can.keyless;
           family = (f.0, widened a (least_of g.row.N) f.0 es i j (omega (arith, j_is)) (omega (arith, j_is)) f.1);
           headed = can.headed;
@@ -69,13 +61,8 @@ merge_or_redistribute-requires g c =
 
 pub set_with_head-requires : goal.set_with_head-requires
 set_with_head-requires g c =
-    let bytes = g.P.Bound.bytes c.args.bound.now in (
-      search rules,
-      (
-        c.requires.can_rebalance.within,
-        (c.requires.headed, c.entry_for.ensures.known bytes c.requires.can_rebalance.headed),
-      ),
-    )
+    let known = c.entry_for.ensures.known (g.P.Bound.bytes c.args.bound.now) c.requires.can_rebalance.headed in
+    (search rules, (c.requires.can_rebalance.within, (c.requires.headed, known)))
 
 pub returns-clause-rebalanced : goal.returns-clause-rebalanced
 returns-clause-rebalanced g c height family =

@@ -17,8 +17,7 @@ returns-clause-heads g c =
     let len : now.len ≡ 0 + length heads + (node.len - 0) = omega (arith, count, c.move_tail.ensures.len) in
     let before : take (0 + length heads + (node.len - 0)) now.heads
     ≡ take (0 + length heads + (node.len - 0)) (copy_within node.heads 0 node.len (0 + length heads)) =
-    ap (λ n. take n now.heads) (sym len) ∙ c.move_tail.ensures.heads
-    ∙ ap₂ (λ n m. take n (copy_within node.heads 0 node.len m)) len (sym count) in
+    cc (len, count, c.move_tail.ensures.heads) in
     record {
       prefix_len = c.move_tail.ensures.prefix_len;
       heads_are = ap₂ (λ n m. take n (heads ++ drop m now.heads)) len (omega (arith, count))
