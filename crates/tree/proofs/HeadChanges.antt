@@ -98,67 +98,10 @@ module _ (bytes : KeyBytes) where
   head_known prefix_len key head k d =
       d k.text k.known ∙ ap (λ o. head_behind prefix_len (unwrap_or o [])) (sym k.known)
 
-  -- A text that begins as all keys do begins with these bytes.
-  pub prefix_begins : (key_heads : KeyHeads) (h : AreHeads bytes key_heads) (text : List ℕ) → HasPrefix bytes key_heads text
-      → take (length h.beginning) text ≡ h.beginning
-  prefix_begins key_heads h text a =
-      let b = All-contains (Begins bytes h.beginning) key_heads.keys a.key h.begins a.there in
-      let texts : b.text ≡ a.text = cc (b.known, a.known) in
-      let long : length h.beginning ≤ length b.text = omega (arith, a.long, h.prefix_len, ap length texts) in
-      cc (h.prefix_len, a.same, begins_if_long h.beginning b.text b.begins long)
-
   -- a known key whose text is empty or begins with these bytes
   begins_with : (beginning : List ℕ) (key : ℕ) (k : IsKnown bytes key) → (k.text ≡ []) ⊎ (take (length beginning) k.text ≡ beginning)
       → Begins bytes beginning key
   begins_with beginning key k begins = record { text = k.text; known = k.known; are_bytes = k.are_bytes; begins = begins }
-
-  -- A key that begins as all others do for so many bytes begins with these.
-  pub agrees_begins : (key_heads : KeyHeads) (h : AreHeads bytes key_heads) (key : ℕ) → IsKnown bytes key
-      → BeginsAsThese bytes key_heads key → Begins bytes h.beginning key
-  agrees_begins key_heads h key k agrees = begins_with h.beginning key k (elim (agrees k.text k.known) [
-    | inl empty ↦ inl empty
-    | inr a ↦ inr (prefix_begins key_heads h k.text a)
-  ])
-
-  -- a key of the node itself does
-  pub key_agrees : (key_heads : KeyHeads) (h : AreHeads bytes key_heads) (key : ℕ) → Contains key_heads.keys key → BeginsAsThese bytes key_heads key
-  key_agrees key_heads h key there text known =
-      let b = All-contains (Begins bytes h.beginning) key_heads.keys key h.begins there in
-      let texts : text ≡ b.text = cc (b.known) in
-      elim b.begins [
-        | inl empty ↦ inl (texts ∙ empty)
-        | inr same ↦ inr (record {
-          key = key;
-          text = text;
-          there = there;
-          known = known;
-          long = omega (arith, ap length texts, ap length same, h.prefix_len, length-take (length h.beginning) b.text);
-          same = refl;
-        })
-      ]
-
-  -- and a key that begins as one of them for so many bytes does
-  pub common_agrees : (key_heads : KeyHeads) (h : AreHeads bytes key_heads) (first key count : ℕ) → Contains key_heads.keys first
-      → key_heads.prefix_len ≤ count
-      → ((a b : List ℕ) → bytes first ≡ Some a → bytes key ≡ Some b → take count a ≡ take count b)
-      → ((a b : List ℕ) → bytes first ≡ Some a → bytes key ≡ Some b → (count ≤ length a) × (count ≤ length b))
-      → (text : List ℕ) → bytes key ≡ Some text → HasPrefix bytes key_heads text
-  common_agrees key_heads h first key count there enough same within text known =
-      let b = All-contains (Begins bytes h.beginning) key_heads.keys first h.begins there in
-      record {
-        key = first;
-        text = b.text;
-        there = there;
-        known = b.known;
-        long = omega (arith, enough, (within b.text text b.known known).0);
-        same = take_fewer key_heads.prefix_len count b.text text enough (same b.text text b.known known);
-      }
-
-  -- keys that begin as all others do
-  pub all_begin : (key_heads : KeyHeads) (h : AreHeads bytes key_heads) (keys : List ℕ) → All (IsKnown bytes) keys
-      → All (BeginsAsThese bytes key_heads) keys → All (Begins bytes h.beginning) keys
-  all_begin key_heads h keys known agree i d inside =
-      agrees_begins key_heads h (get_or keys i d) (known i d inside) (agree i d inside)
 
   -- a key that begins as the first one does for fewer bytes, too
   begin_fewer : (first count less : ℕ) → less ≤ count → (key : ℕ) → BeginsAsFirst bytes first count key
@@ -215,31 +158,6 @@ module _ (bytes : KeyBytes) where
       → (beginning : List ℕ) × (length beginning ≡ 0) × All (Begins bytes beginning) keys
   begin_none keys known = ([], refl, λ i d inside. begins_with [] (get_or keys i d) (known i d inside) (inr refl))
 
-  -- Another key that begins alike is set.
-  pub headed_set : (key_heads new : KeyHeads) (h : AreHeads bytes key_heads) (i key head : ℕ) → IsKnown bytes key → BeginsAsThese bytes key_heads key
-      → head ≡ head_at bytes key_heads.prefix_len key → new.keys ≡ slice_set key_heads.keys i key → new.prefix_len ≡ key_heads.prefix_len
-      → new.heads ≡ slice_set key_heads.heads i head → AreHeads bytes new
-  headed_set key_heads new h i key head k agrees right keys prefix_len heads =
-      let P = Begins bytes h.beginning in
-      record {
-        beginning = h.beginning;
-        prefix_len = h.prefix_len ∙ sym prefix_len;
-        begins = subst (All P) (sym keys) (All-set P key_heads.keys i key (agrees_begins key_heads h key k agrees) h.begins);
-        heads = cc (map-set (head_at bytes key_heads.prefix_len) key_heads.keys i key);
-      }
-
-  -- then the keys are known
-  pub known_set : (key_heads : KeyHeads) → AreHeads bytes key_heads → (i key : ℕ) → IsKnown bytes key → (keys : List ℕ)
-      → keys ≡ slice_set key_heads.keys i key → All (IsKnown bytes) keys
-  known_set key_heads h i key k keys is =
-      subst (All (IsKnown bytes)) (sym is) (All-set (IsKnown bytes) key_heads.keys i key k (all_known bytes key_heads h))
-
-  -- those where others are put in place of some
-  pub known_spliced : (key_heads : KeyHeads) → AreHeads bytes key_heads → (new keys : List ℕ) (from to : ℕ) → All (IsKnown bytes) new
-      → keys ≡ take from key_heads.keys ++ (new ++ drop to key_heads.keys) → All (IsKnown bytes) keys
-  known_spliced key_heads h new keys from to known is =
-      subst (All (IsKnown bytes)) (sym is) (All-spliced (IsKnown bytes) key_heads.keys new from to (all_known bytes key_heads h) known)
-
   -- The head of a target is that of a key with its bytes.
   pub target_beside : (key_heads : KeyHeads) (key head : ℕ) → IsKnown bytes key
       → ((text : List ℕ) → bytes key ≡ Some text → IsTargetHead bytes key_heads text head) → IsHeadBeside bytes key_heads key head
@@ -260,60 +178,12 @@ module _ (bytes : KeyBytes) where
         All-cons (BeginsAsThese bytes key_heads) key keys given.0.begins rest.1,
       )
 
-  -- Others are put in place of those from one index up to another, with the heads given.
-  pub headed_spliced : (key_heads now : KeyHeads) → AreHeads bytes key_heads → (new heads : List ℕ) (from to : ℕ)
-      → All (IsKnown bytes) new
-      → AllZip (IsHeadBeside bytes key_heads) new heads
-      → now.keys ≡ take from key_heads.keys ++ (new ++ drop to key_heads.keys) → now.prefix_len ≡ key_heads.prefix_len
-      → now.heads ≡ take from key_heads.heads ++ (heads ++ drop to key_heads.heads) → AreHeads bytes now
-  headed_spliced key_heads now h new heads from to known given keys_are prefix_len heads_are =
-      let right = beside_right key_heads new heads given in
-      record {
-        beginning = h.beginning;
-        prefix_len = h.prefix_len ∙ sym prefix_len;
-        begins = subst (All (Begins bytes h.beginning)) (sym keys_are)
-            (All-spliced (Begins bytes h.beginning) key_heads.keys new from to h.begins (all_begin key_heads h new known right.1));
-        heads = cc (right.0, map_spliced (head_at bytes key_heads.prefix_len) key_heads.keys new now.keys from to keys_are);
-      }
-
   -- There are as many heads as entries.
   pub heads_count : (es : List Entry) (key_heads : KeyHeads) → AreHeads bytes key_heads → key_heads.keys ≡ keys_of es
       → length key_heads.heads ≡ length es
   heads_count es key_heads h is =
       ap length h.heads ∙ length-map key_heads.keys (head_at bytes key_heads.prefix_len) ∙ ap length is
       ∙ length-map es (λ (e : Entry). e.key)
-
-  -- Where one key of a second node begins as the keys of a first one do, all of both begin with the same bytes, if with as many.
-  same_beginning : (one other : KeyHeads) (h : AreHeads bytes one) (others : AreHeads bytes other) (key : ℕ)
-      → one.prefix_len ≡ other.prefix_len → Contains other.keys key
-      → ((text : List ℕ) → bytes key ≡ Some text → HasPrefix bytes one text) → others.beginning ≡ h.beginning
-  same_beginning one other h others key as_many there agrees =
-      let k = All-contains (Begins bytes others.beginning) other.keys key others.begins there in
-      let begins : take (length h.beginning) k.text ≡ h.beginning = prefix_begins one h k.text (agrees k.text k.known) in
-      let lengths : length others.beginning ≡ length h.beginning = others.prefix_len ∙ sym as_many ∙ sym h.prefix_len in
-      elim k.begins [
-        | inr same ↦ sym same ∙ ap (λ n. take n k.text) lengths ∙ begins
-        | inl empty ↦
-            let none : length h.beginning ≡ 0 =
-            omega (arith, ap length begins, length-take (length h.beginning) k.text, ap length empty) in
-            nil_from_length others.beginning (lengths ∙ none) ∙ sym (nil_from_length h.beginning none)
-      ]
-
-  -- Those of the second are put behind those of the first one, with their heads.
-  pub headed_joined : (one other now : KeyHeads) → AreHeads bytes one → AreHeads bytes other → (key : ℕ)
-      → one.prefix_len ≡ other.prefix_len → Contains other.keys key
-      → ((text : List ℕ) → bytes key ≡ Some text → HasPrefix bytes one text)
-      → now.keys ≡ one.keys ++ other.keys → now.prefix_len ≡ one.prefix_len → now.heads ≡ one.heads ++ other.heads
-      → AreHeads bytes now
-  headed_joined one other now h others key as_many there agrees keys prefix_len heads =
-      let P = Begins bytes h.beginning in
-      record {
-        beginning = h.beginning;
-        prefix_len = h.prefix_len ∙ sym prefix_len;
-        begins = subst (All P) (sym keys) (All-append P one.keys other.keys h.begins
-            (subst (λ b. All (Begins bytes b) other.keys) (same_beginning one other h others key as_many there agrees) others.begins));
-        heads = cc (map-append (head_at bytes one.prefix_len) one.keys other.keys);
-      }
 
   -- Heads that are right of all keys are right of those in front, and of those behind.
   pub headed_apart : (all front back : KeyHeads) → AreHeads bytes all
@@ -340,24 +210,133 @@ module _ (bytes : KeyBytes) where
         },
       )
 
-  -- Two neighbours whose keys all begin alike share them, with their heads.
-  pub headed_shared : (one other left right : KeyHeads) → AreHeads bytes one → AreHeads bytes other → (key : ℕ)
-      → one.prefix_len ≡ other.prefix_len → Contains other.keys key
-      → ((text : List ℕ) → bytes key ≡ Some text → HasPrefix bytes one text)
-      → left.keys ++ right.keys ≡ one.keys ++ other.keys → left.heads ++ right.heads ≡ one.heads ++ other.heads
-      → length left.heads ≡ length left.keys → left.prefix_len ≡ one.prefix_len → right.prefix_len ≡ other.prefix_len
-      → AreHeads bytes left × AreHeads bytes right
-  headed_shared one other left right h others key as_many there agrees keys heads count left_len right_len =
-      let all : KeyHeads = record { keys = one.keys ++ other.keys; prefix_len = one.prefix_len; heads = one.heads ++ other.heads } in
-      headed_apart all left right (headed_joined one other all h others key as_many there agrees refl refl refl) keys heads count left_len
-      (right_len ∙ sym as_many)
+  -- a node that knows its keys' bytes
+  module _ (key_heads : KeyHeads) (h : AreHeads bytes key_heads) where
+    -- A text that begins as all keys do begins with these bytes.
+    pub prefix_begins : (text : List ℕ) → HasPrefix bytes key_heads text → take (length h.beginning) text ≡ h.beginning
+    prefix_begins text a =
+        let b = All-contains (Begins bytes h.beginning) key_heads.keys a.key h.begins a.there in
+        let texts : b.text ≡ a.text = cc (b.known, a.known) in
+        let long : length h.beginning ≤ length b.text = omega (arith, a.long, h.prefix_len, ap length texts) in
+        cc (h.prefix_len, a.same, begins_if_long h.beginning b.text b.begins long)
 
-  -- Those from one index up to another are taken out, with their heads.
-  pub headed_removed : (key_heads new : KeyHeads) (h : AreHeads bytes key_heads) (from to : ℕ)
-      → new.keys ≡ take from key_heads.keys ++ drop to key_heads.keys → new.prefix_len ≡ key_heads.prefix_len
-      → new.heads ≡ take from key_heads.heads ++ drop to key_heads.heads → AreHeads bytes new
-  headed_removed key_heads new h from to =
-      headed_spliced key_heads new h [] [] from to (All-nil (IsKnown bytes)) tt
+    -- A key that begins as all others do for so many bytes begins with these.
+    agrees_begins : (key : ℕ) → IsKnown bytes key → BeginsAsThese bytes key_heads key → Begins bytes h.beginning key
+    agrees_begins key k agrees = begins_with h.beginning key k (elim (agrees k.text k.known) [
+      | inl empty ↦ inl empty
+      | inr a ↦ inr (prefix_begins k.text a)
+    ])
+
+    -- a key of the node itself does
+    pub key_agrees : (key : ℕ) → Contains key_heads.keys key → BeginsAsThese bytes key_heads key
+    key_agrees key there text known =
+        let b = All-contains (Begins bytes h.beginning) key_heads.keys key h.begins there in
+        let texts : text ≡ b.text = cc (b.known) in
+        elim b.begins [
+          | inl empty ↦ inl (texts ∙ empty)
+          | inr same ↦ inr (record {
+            key = key;
+            text = text;
+            there = there;
+            known = known;
+            long = omega (arith, ap length texts, ap length same, h.prefix_len, length-take (length h.beginning) b.text);
+            same = refl;
+          })
+        ]
+
+    -- and a key that begins as one of them for so many bytes does
+    pub common_agrees : (first key count : ℕ) → Contains key_heads.keys first → key_heads.prefix_len ≤ count
+        → ((a b : List ℕ) → bytes first ≡ Some a → bytes key ≡ Some b → take count a ≡ take count b)
+        → ((a b : List ℕ) → bytes first ≡ Some a → bytes key ≡ Some b → (count ≤ length a) × (count ≤ length b))
+        → (text : List ℕ) → bytes key ≡ Some text → HasPrefix bytes key_heads text
+    common_agrees first key count there enough same within text known =
+        let b = All-contains (Begins bytes h.beginning) key_heads.keys first h.begins there in
+        record {
+          key = first;
+          text = b.text;
+          there = there;
+          known = b.known;
+          long = omega (arith, enough, (within b.text text b.known known).0);
+          same = take_fewer key_heads.prefix_len count b.text text enough (same b.text text b.known known);
+        }
+
+    -- Another key that begins alike is set.
+    pub headed_set : (new : KeyHeads) (i key head : ℕ) → IsKnown bytes key → BeginsAsThese bytes key_heads key
+        → head ≡ head_at bytes key_heads.prefix_len key → new.keys ≡ slice_set key_heads.keys i key
+        → new.prefix_len ≡ key_heads.prefix_len → new.heads ≡ slice_set key_heads.heads i head → AreHeads bytes new
+    headed_set new i key head k agrees right keys prefix_len heads = record {
+      beginning = h.beginning;
+      prefix_len = h.prefix_len ∙ sym prefix_len;
+      begins = rw keys (All-set (Begins bytes h.beginning) key_heads.keys i key (agrees_begins key k agrees) h.begins);
+      heads = cc (map-set (head_at bytes key_heads.prefix_len) key_heads.keys i key);
+    }
+
+    -- then the keys are known
+    pub known_set : (i key : ℕ) → IsKnown bytes key → (keys : List ℕ) → keys ≡ slice_set key_heads.keys i key → All (IsKnown bytes) keys
+    known_set i key k keys is = rw is (All-set (IsKnown bytes) key_heads.keys i key k (all_known bytes key_heads h))
+
+    -- those where others are put in place of some
+    pub known_spliced : (new keys : List ℕ) (from to : ℕ) → All (IsKnown bytes) new
+        → keys ≡ take from key_heads.keys ++ (new ++ drop to key_heads.keys) → All (IsKnown bytes) keys
+    known_spliced new keys from to known is =
+        rw is (All-spliced (IsKnown bytes) key_heads.keys new from to (all_known bytes key_heads h) known)
+
+    -- Others are put in place of those from one index up to another, with the heads given.
+    pub headed_spliced : (now : KeyHeads) (new heads : List ℕ) (from to : ℕ) → All (IsKnown bytes) new
+        → AllZip (IsHeadBeside bytes key_heads) new heads
+        → now.keys ≡ take from key_heads.keys ++ (new ++ drop to key_heads.keys) → now.prefix_len ≡ key_heads.prefix_len
+        → now.heads ≡ take from key_heads.heads ++ (heads ++ drop to key_heads.heads) → AreHeads bytes now
+    headed_spliced now new heads from to known given keys_are prefix_len heads_are =
+        let right = beside_right key_heads new heads given in
+        let begin = λ (i d : ℕ) (inside : i < length new). agrees_begins (get_or new i d) (known i d inside) (right.1 i d inside) in
+        record {
+          beginning = h.beginning;
+          prefix_len = h.prefix_len ∙ sym prefix_len;
+          begins = rw keys_are (All-spliced (Begins bytes h.beginning) key_heads.keys new from to h.begins begin);
+          heads = cc (right.0, map_spliced (head_at bytes key_heads.prefix_len) key_heads.keys new now.keys from to keys_are);
+        }
+
+    -- Those from one index up to another are taken out, with their heads.
+    pub headed_removed : (new : KeyHeads) (from to : ℕ) → new.keys ≡ take from key_heads.keys ++ drop to key_heads.keys
+        → new.prefix_len ≡ key_heads.prefix_len → new.heads ≡ take from key_heads.heads ++ drop to key_heads.heads
+        → AreHeads bytes new
+    headed_removed new from to = headed_spliced new [] [] from to (All-nil (IsKnown bytes)) tt
+
+  -- two nodes, where one key of the second begins as the keys of the first do, and as many bytes are known
+  module _ (one other : KeyHeads) (h : AreHeads bytes one) (others : AreHeads bytes other) (key : ℕ)
+      (as_many : one.prefix_len ≡ other.prefix_len) (there : Contains other.keys key)
+      (agrees : (text : List ℕ) → bytes key ≡ Some text → HasPrefix bytes one text) where
+    -- All keys of both begin with the same bytes.
+    same_beginning : others.beginning ≡ h.beginning
+    same_beginning =
+        let k = All-contains (Begins bytes others.beginning) other.keys key others.begins there in
+        let begins : take (length h.beginning) k.text ≡ h.beginning = prefix_begins one h k.text (agrees k.text k.known) in
+        let lengths : length others.beginning ≡ length h.beginning = cc (h.prefix_len, others.prefix_len) in
+        elim k.begins [
+          | inr same ↦ cc
+          | inl empty ↦
+              let none : length h.beginning ≡ 0 =
+              omega (arith, ap length begins, length-take (length h.beginning) k.text, ap length empty) in
+              nil_from_length others.beginning (lengths ∙ none) ∙ sym (nil_from_length h.beginning none)
+        ]
+
+    -- Those of the second are put behind those of the first one, with their heads.
+    pub headed_joined : (now : KeyHeads) → now.keys ≡ one.keys ++ other.keys → now.prefix_len ≡ one.prefix_len
+        → now.heads ≡ one.heads ++ other.heads → AreHeads bytes now
+    headed_joined now keys prefix_len heads = record {
+      beginning = h.beginning;
+      prefix_len = h.prefix_len ∙ sym prefix_len;
+      begins = rw keys (All-append (Begins bytes h.beginning) one.keys other.keys h.begins (rw same_beginning at others.begins));
+      heads = cc (map-append (head_at bytes one.prefix_len) one.keys other.keys);
+    }
+
+    -- Two neighbours whose keys all begin alike share them, with their heads.
+    pub headed_shared : (left right : KeyHeads) → left.keys ++ right.keys ≡ one.keys ++ other.keys
+        → left.heads ++ right.heads ≡ one.heads ++ other.heads → length left.heads ≡ length left.keys
+        → left.prefix_len ≡ one.prefix_len → right.prefix_len ≡ other.prefix_len → AreHeads bytes left × AreHeads bytes right
+    headed_shared left right keys heads count left_len right_len =
+        let all : KeyHeads = record { keys = one.keys ++ other.keys; prefix_len = one.prefix_len; heads = one.heads ++ other.heads } in
+        headed_apart all left right (headed_joined all refl refl refl) keys heads count left_len (right_len ∙ sym as_many)
 
 -- The head of the key of an entry, behind so many bytes, is that of its bytes.
 pub head_read : (es : List Entry) (len i : ℕ) (e : Entry) → i < len → len ≤ length es → e ≡ get_or es i e

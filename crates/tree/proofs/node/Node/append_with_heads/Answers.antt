@@ -30,7 +30,6 @@ lengthen_prefix-requires g c =
     let one = c.args.self.now in
     let other = c.args.other.now in
     let now = c.append.new.self in
-    let now = c.append.new.self in
     let es = c.entries.result.now in
     let first = c.in-Some.first.now in
     let get : slice_get es 0 ≡ Some first = sym {b = slice_get es 0} c.in-Some.ensures.value in
@@ -47,8 +46,8 @@ lengthen_prefix-requires g c =
       | else-self-other w ↦ absurd (w.if-self-other.false (eqb-true one.prefix_len other.prefix_len (sym w.alike-is ∙ c.if-not-alike.false)))
     ] in (
       search rules,
-      headed_joined bytes (key_heads_of one) (key_heads_of other) (key_heads_of now) c.requires.headed c.requires.other_headed first.key alike.0
-          there alike.1
+      headed_joined bytes (key_heads_of one) (key_heads_of other) c.requires.headed c.requires.other_headed first.key alike.0
+          there alike.1 (key_heads_of now)
           (ap keys_of (c.append.ensures.entries ∙ ap (λ es. entries_of one ++ es) c.entries-2.ensures.entries) ∙ map-append (λ (e : Entry). e.key) (entries_of one) (entries_of other))
           c.append.ensures.heads.prefix_len
           (c.append.ensures.heads.heads_are ∙ ap (λ hs. (key_heads_of one).heads ++ hs) c.heads.ensures.heads),

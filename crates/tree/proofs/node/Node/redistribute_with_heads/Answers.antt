@@ -72,8 +72,8 @@ both_headed g c is_alike =
     let keys : keys_of (entries_of left) ++ keys_of (entries_of right) ≡ keys_of (entries_of one) ++ keys_of (entries_of other) =
     sym (map-append key (entries_of left) (entries_of right)) ∙ ap keys_of c.redistribute.ensures.entries
     ∙ map-append key (entries_of one) (entries_of other) in
-    headed_shared bytes (key_heads_of one) (key_heads_of other) (key_heads_of left) (key_heads_of right)
-    c.requires.headed.left c.requires.headed.right first.key begin.0 there begin.1 keys c.redistribute.ensures.heads.heads_are
+    headed_shared bytes (key_heads_of one) (key_heads_of other) c.requires.headed.left c.requires.headed.right first.key begin.0
+    there begin.1 (key_heads_of left) (key_heads_of right) keys c.redistribute.ensures.heads.heads_are
     (c.redistribute.ensures.heads.count ∙ sym (length-map (entries_of left) key))
     c.redistribute.ensures.heads.prefix_len c.redistribute.ensures.heads.right_prefix_len
 

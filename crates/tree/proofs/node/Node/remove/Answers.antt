@@ -26,5 +26,5 @@ returns g c =
     let keys_are = map_spliced (λ (e : Entry). e.key) (entries_of node) [] _ from to entries_are in
     record {
       entries = entries_are;
-      headed = λ bytes h. headed_removed bytes key_heads _ h from to keys_are c.move_tail.ensures.prefix_len heads_are;
+      headed = λ bytes h. headed_removed bytes key_heads h _ from to keys_are c.move_tail.ensures.prefix_len heads_are;
     }

@@ -63,7 +63,7 @@ both_headed g c alike =
       heads = (key_heads_of left).heads ++ (key_heads_of right).heads;
     } in
     headed_apart bytes all (key_heads_of left) (key_heads_of right)
-    (headed_spliced bytes (key_heads_of node) all can.headed (keys_of new) c.args.heads.now c.args.from c.args.to can.known
+    (headed_spliced bytes (key_heads_of node) can.headed all (keys_of new) c.args.heads.now c.args.from c.args.to can.known
     (can.beside alike) (map_spliced key (entries_of node) new es c.args.from c.args.to b.entries) refl b.heads)
     (sym (map-append key (entries_of left) (entries_of right))) refl
     (c.redistribute.ensures.heads.count ∙ sym (length-map (entries_of left) key)) b.prefix_len b.right_prefix_len
