@@ -162,6 +162,5 @@ module _ {N : ℕ} where
         children = subst (AreChildren b least height) (sym now_is) h.children;
         items = cc (h.items, items_of-append a height middle (drop to was), items_of-append a height (take from was) (middle ++ drop to was));
         changes = changes_if_moves a b (slots_of a height was) (slots_of b height now)
-            (subst (λ l. Moves a b (slots_of a height l) (slots_of b height now)) (sym was_is)
-            (subst (λ l. Moves a b (slots_of a height (take from was ++ (middle ++ drop to was))) (slots_of b height l)) (sym now_is) h.moves));
+            (subst (λ l. Moves a b (slots_of a height l) (slots_of b height now)) (sym was_is) (rw now_is h.moves));
       }

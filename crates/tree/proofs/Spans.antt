@@ -83,25 +83,20 @@ module _ {X : Type 0} where
       → All (λ x. p x ≡ true) (take (length (filter p xs)) xs)
   before_partitioned p xs c =
       let e : take (length (filter p xs)) xs ≡ filter p xs =
-      ap (take (length (filter p xs))) c
-      ∙ take_at (filter p xs) (filter (λ x. not (p x)) xs) (length (filter p xs)) refl in
+      cc (take_at (filter p xs) (filter (λ x. not (p x)) xs) (length (filter p xs)) refl) in
       subst (All (λ x. p x ≡ true)) (sym e) (passed p xs)
 
   pub behind_partitioned : (p : X → Bool) (xs : List X) → IsPartitioned p xs
       → All (λ x. p x ≡ false) (drop (length (filter p xs)) xs)
   behind_partitioned p xs c =
       let e : drop (length (filter p xs)) xs ≡ filter (λ x. not (p x)) xs =
-      ap (drop (length (filter p xs))) c
-      ∙ drop_at (filter p xs) (filter (λ x. not (p x)) xs) (length (filter p xs)) refl in
+      cc (drop_at (filter p xs) (filter (λ x. not (p x)) xs) (length (filter p xs)) refl) in
       subst (All (λ x. p x ≡ false)) (sym e) (failed p xs)
 
   in_parts : (xs : List X) (i j : ℕ) → i ≤ j → xs ≡ take i xs ++ (slice_range xs i j ++ drop j xs)
   in_parts xs i j le =
       let up : i + (j - i) ≡ j = omega arith in
-      sym (take-append-drop i xs)
-      ∙ ap (λ ys. take i xs ++ ys)
-      (sym (take-append-drop (j - i) (drop i xs))
-      ∙ ap (λ ys. slice_range xs i j ++ ys) (drop-drop (j - i) i xs ∙ ap (λ n. drop n xs) up))
+      cc (take-append-drop i xs, take-append-drop (j - i) (drop i xs), drop-drop (j - i) i xs)
 
   -- the part of a list from one bound to another
   pub span_range : (p q : X → Bool) (xs : List X) (i j : ℕ) → IsPartitioned p xs → IsPartitioned q xs → i ≤ j
@@ -112,8 +107,7 @@ module _ {X : Type 0} where
       let sooner = subst (λ k. All (λ x. q x ≡ true) (take k xs)) (sym n) (before_partitioned q xs d) in
       let back = subst (λ k. All (λ x. q x ≡ false) (drop k xs)) (sym n) (behind_partitioned q xs d) in
       let up : i + (j - i) ≡ j = omega arith in
-      let is : drop i (take j xs) ≡ slice_range xs i j =
-      ap (λ k. drop i (take k xs)) (sym up) ∙ drop-take i (j - i) xs in
+      let is : drop i (take j xs) ≡ slice_range xs i j = cc (drop-take i (j - i) xs) in
       let inside = subst (All (λ x. q x ≡ true)) is (All-drop (λ x. q x ≡ true) i (take j xs) sooner) in
       let outside = All-take (λ x. p x ≡ false) (j - i) (drop i xs) later in
       ap (span p q) (in_parts xs i j le)
@@ -144,9 +138,7 @@ module _ {X : Type 0} (below : Entry → List X) (p q : X → Bool) (es : List E
       let at : i + 1 + k ≡ j = omega arith in
       let past : i + 1 + (k + 1) ≡ j + 1 = omega arith in
       let some : k < length rest = rw (length-drop (i + 1) es) (omega arith) in
-      around_element rest k d some
-      ∙ ap (λ e. take k rest ++ e ∷ drop (k + 1) rest) (get_or-drop (i + 1) es k d ∙ ap (λ n. get_or es n d) at)
-      ∙ ap (λ ys. take k rest ++ get_or es j d ∷ ys) (drop-drop (k + 1) (i + 1) es ∙ ap (λ n. drop n es) past)
+      cc (around_element rest k d some, get_or-drop (i + 1) es k d, drop-drop (k + 1) (i + 1) es)
 
   up_to_second : i < j → j < length es → take j es ≡ take i es ++ get_or es i d ∷ slice_range es (i + 1) j
   up_to_second lt inside =
@@ -170,16 +162,12 @@ module _ {X : Type 0} (below : Entry → List X) (p q : X → Bool) (es : List E
       let r = below (get_or es j d) in
       let b = flat_map below (drop (j + 1) es) in
       let rest : flat_map below (drop (i + 1) es) ≡ m ++ (r ++ b) =
-      ap (flat_map below) (two_elements lt inside)
-      ∙ flat_map-append below (slice_range es (i + 1) j) (get_or es j d ∷ drop (j + 1) es) in
+      cc (two_elements lt inside, flat_map-append below (slice_range es (i + 1) j) (get_or es j d ∷ drop (j + 1) es)) in
       let begin : flat_map below (take j es) ≡ a ++ (l ++ m) =
-      ap (flat_map below) (up_to_second lt inside)
-      ∙ flat_map-append below (take i es) (get_or es i d ∷ slice_range es (i + 1) j) in
+      cc (up_to_second lt inside, flat_map-append below (take i es) (get_or es i d ∷ slice_range es (i + 1) j)) in
       let within : i < length es = omega arith in
       let whole : flat_map below es ≡ a ++ (l ++ (m ++ (r ++ b))) =
-      ap (flat_map below) (around_element es i d within)
-      ∙ flat_map-append below (take i es) (get_or es i d ∷ drop (i + 1) es)
-      ∙ ap (λ ys. a ++ (l ++ ys)) rest in
+      cc (around_element es i d within, flat_map-append below (take i es) (get_or es i d ∷ drop (i + 1) es), rest) in
       let after = subst (All (λ x. p x ≡ false)) rest later in
       let before = All-back (λ x. q x ≡ true) a (l ++ m) (subst (All (λ x. q x ≡ true)) begin sooner) in
       let m_after = All-front (λ x. p x ≡ false) m (r ++ b) after in

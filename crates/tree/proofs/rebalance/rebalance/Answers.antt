@@ -27,10 +27,9 @@ returns-then-len-least-clause-rebalanced g c height family =
     let x_is : x ≡ (get_or es i d).child = ap (λ (l : List Entry). (get_or l i d).child) c.entries.ensures.entries in
     let f = c.requires.can_rebalance.family in
     let t = c.entry_for.result in
-    let len : length (entries_at a x) ≡ c.len.result =
-    ap length (entries_from_header a x c.header_ref.result.now c.header_ref.ensures.header) ∙ sym c.len.ensures.len in
+    let len = ap length (entries_from_header a x c.header_ref.result.now c.header_ref.ensures.header) in
     let filled : least_of g.row.N ≤ length (entries_at a x) =
-    subst (λ n. n ≤ length (entries_at a x)) c.least.ensures.least (omega (arith, len, c.if-len-least.true)) in
+    omega (arith, len, c.len.ensures.len, c.least.ensures.least, c.if-len-least.true) in
     rebalanced_by_entry a (least_of g.row.N) height es (entries_of c.set_with_head.new.self) i x d t
     c.requires.can_rebalance.within x_is family c.requires.can_rebalance.keyless
     c.entry_for.ensures.child (c.entry_for.ensures.tells height (least_of g.row.N)) filled

@@ -70,14 +70,17 @@ both_headed g c alike =
 
 -- all keys are known
 known : (g : given.Over) (c : After-redistribute g)
-    → All (IsKnown (g.P.Bound.bytes c.args.bound.now)) (keys_of (entries_of c.redistribute.new.self ++ entries_of c.redistribute.new.right))
+    → All (IsKnown (g.P.Bound.bytes c.args.bound.now)) (keys_of (entries_of c.redistribute.new.self))
+    × All (IsKnown (g.P.Bound.bytes c.args.bound.now)) (keys_of (entries_of c.redistribute.new.right))
 known g c =
     let can = c.requires.can_splice in
-    let key : Entry → ℕ = λ e. e.key in
+    let bytes = g.P.Bound.bytes c.args.bound.now in
     let node = c.args.self.now in
-    let es = entries_of c.redistribute.new.self ++ entries_of c.redistribute.new.right in
-    known_spliced (g.P.Bound.bytes c.args.bound.now) (key_heads_of node) can.headed (keys_of c.args.new.now) (keys_of es)
-    c.args.from c.args.to can.known (map_spliced key (entries_of node) c.args.new.now es c.args.from c.args.to (both g c).entries)
+    let one = entries_of c.redistribute.new.self in
+    let other = entries_of c.redistribute.new.right in
+    let all = known_spliced bytes (key_heads_of node) can.headed (keys_of c.args.new.now) (keys_of (one ++ other)) c.args.from c.args.to can.known
+    (map_spliced (λ (e : Entry). e.key) (entries_of node) c.args.new.now (one ++ other) c.args.from c.args.to (both g c).entries) in
+    (keys_in_front (IsKnown bytes) one other all, keys_at_back (IsKnown bytes) one other all)
 
 pub lengthen_prefix-requires : goal.lengthen_prefix-requires
 lengthen_prefix-requires g c =
@@ -88,15 +91,8 @@ lengthen_prefix-requires-then-alike g c =
     (search rules, (both_headed g (goal.at.lengthen_prefix-requires-then-alike g c).After-redistribute c.if-alike.true).1)
 
 pub compute_heads-requires : goal.compute_heads-requires
-compute_heads-requires g c = (
-  search rules,
-  keys_in_front (IsKnown (g.P.Bound.bytes c.args.bound.now)) (entries_of c.redistribute.new.self) (entries_of c.redistribute.new.right)
-      (known g (goal.at.compute_heads-requires g c).After-redistribute),
-)
+compute_heads-requires g c = (search rules, (known g (goal.at.compute_heads-requires g c).After-redistribute).0)
 
 pub compute_heads-requires-else-alike : goal.compute_heads-requires-else-alike
-compute_heads-requires-else-alike g c = (
-  search rules,
-  keys_at_back (IsKnown (g.P.Bound.bytes c.args.bound.now)) (entries_of c.redistribute.new.self) (entries_of c.redistribute.new.right)
-      (known g (goal.at.compute_heads-requires-else-alike g c).After-redistribute),
-)
+compute_heads-requires-else-alike g c =
+    (search rules, (known g (goal.at.compute_heads-requires-else-alike g c).After-redistribute).1)
