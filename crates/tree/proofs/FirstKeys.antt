@@ -92,11 +92,8 @@ module _ {N : ℕ} (nodes : Arena (Node N)) (least height slot : ℕ) (is_below 
   known_below bytes target known header index h i k =
       let e = f.way.entry in
       let read : entries_at nodes slot ≡ entries_of header = entries_read nodes slot header (entries_of header) h refl in
-      let at : slice_get (entries_of header) index ≡ Some e =
-      ap (slice_get (entries_of header)) i ∙ subst (λ xs. slice_get xs (index_in is_below xs) ≡ Some e) read f.way.is in
+      let at : slice_get (entries_of header) index ≡ Some e = cc (i, f.way.is) in
       knows_child nodes least (height - 1) e child bytes is_below target known f.way.kept f.is (k e at)
 
   pub some_below : 1 ≤ least → 1 ≤ length (entries_at nodes child)
-  some_below some =
-      let filled : least ≤ length (entries_at nodes child) = subst (λ s. least ≤ length (entries_at nodes s)) (sym f.is) f.way.kept.filled in
-      omega (arith, some, filled)
+  some_below some = omega (arith, some, f.way.kept.filled, ap (λ s. length (entries_at nodes s)) f.is)

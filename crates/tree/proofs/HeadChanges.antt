@@ -56,8 +56,8 @@ module _ (es : List Entry) (len i : ℕ) (e : Entry) (inside : i < len) (most : 
   -- its key
   pub key_read : e.key ≡ get_or (keys_of (take len es)) i e.key
   key_read =
-      sym (get_or-map (λ (x : Entry). x.key) (take len es) i e e.key (omega (arith, length-take-le len es most))
-      ∙ ap (λ (x : Entry). x.key) (get_or-take len es i e inside ∙ sym is))
+      let mapped = get_or-map (λ (x : Entry). x.key) (take len es) i e e.key (omega (arith, length-take-le len es most)) in
+      cc (mapped, get_or-take len es i e inside)
 
   pub key_there : Contains (keys_of (take len es)) e.key
   key_there = (i, omega (arith, keys_count es len most), sym key_read)
@@ -78,9 +78,7 @@ module _ (es : List Entry) (len i : ℕ) (e : Entry) (inside : i < len) (most : 
   -- another entry of the same key in its place changes no key
   pub key_stays : (new : Entry) → e.key ≡ new.key → keys_of (slice_set (take len es) i new) ≡ keys_of (take len es)
   key_stays new same =
-      map-set (λ (x : Entry). x.key) (take len es) i new
-      ∙ ap (λ k. slice_set (keys_of (take len es)) i k) (sym same ∙ key_read)
-      ∙ set-get_or (keys_of (take len es)) i e.key
+      cc (map-set (λ (x : Entry). x.key) (take len es) i new, key_read, set-get_or (keys_of (take len es)) i e.key)
 
 -- A key is empty, or begins as the keys do of which this is known.
 abbrev pub BeginsAsThese : KeyBytes → KeyHeads → ℕ → Type 0
@@ -182,8 +180,7 @@ module _ (bytes : KeyBytes) where
   pub heads_count : (es : List Entry) (key_heads : KeyHeads) → AreHeads bytes key_heads → key_heads.keys ≡ keys_of es
       → length key_heads.heads ≡ length es
   heads_count es key_heads h is =
-      ap length h.heads ∙ length-map key_heads.keys (head_at bytes key_heads.prefix_len) ∙ ap length is
-      ∙ length-map es (λ (e : Entry). e.key)
+      cc (h.heads, length-map key_heads.keys (head_at bytes key_heads.prefix_len), length-map es (λ (e : Entry). e.key))
 
   -- Heads that are right of all keys are right of those in front, and of those behind.
   pub headed_apart : (all front back : KeyHeads) → AreHeads bytes all

@@ -1,8 +1,9 @@
 -- What the leaf that a bound finds says of the items below the bound.
-use Rattle.std.proofs.Common.{◌≡◌, ℕ, zero, suc, ◌+◌, ◌-◌, ◌≤◌, inl, inr, Bool, true, false, not, List, [], ◌∷◌, ◌++◌, Option, Some, length, slice_get, take, drop, filter, flat_map, map, All, refl, sym, ◌∙◌, ap, subst, arith}
+use Rattle.std.proofs.Common.{◌≡◌, ℕ, zero, suc, ◌+◌, ◌-◌, ◌≤◌, inl, inr, Bool, true, false, not, List, [], ◌∷◌, ◌++◌, Option, Some, length, get_or, slice_get, take, drop, filter, flat_map, map, All, refl, sym, ◌∙◌, ap, subst, arith}
 use Rattle.std.specs.Prelude.{MatchOption}
 use Rattle.std.proofs.lemmas.Bool.{cases_Bool}
-use Rattle.std.proofs.lemmas.List.{append-nil, append_assoc, map-append}
+use Rattle.std.proofs.lemmas.Option.{slice_get-get_or}
+use Rattle.std.proofs.lemmas.List.{drop_all, drop_more, take-append-drop, append-nil, append_assoc, map-append}
 use Rattle.std.proofs.lemmas.List.Elements.{All-nil, All-cons, All-head, All-tail, All-append, All-map, filter-append}
 use Rattle.arena.specs.Arena.{Arena}
 use Rattle.tree.specs.declared.entry.Entry.{Entry}
@@ -107,26 +108,19 @@ module _ (is_below : ℕ → Bool) (items before after : List Item) (es : List E
       let rest = (IsPartitioned-parts p before (map item_of es ++ after) (subst (IsPartitioned p) leaf.items_are partitioned)).1 in
       entries_of_partitioned is_below es (IsPartitioned-parts p (map item_of es) after rest).0
 
--- the last of a list that isn't empty
-record LastAt {X : Type 0} (x : X) (xs : List X) : Type 0 where
-  last : X
-  read : slice_get (x ∷ xs) (length xs) ≡ Some last
-  is_last : IsLast last (x ∷ xs)
-
-last_at : {X : Type 0} (x : X) (xs : List X) → LastAt x xs
-last_at x [] = record { last = x; read = refl; is_last = ([], refl) }
-last_at x (y ∷ ys) =
-    let r = last_at y ys in
-    record { last = r.last; read = r.read; is_last = (x ∷ r.is_last.0, ap (λ l. x ∷ l) r.is_last.1) }
-
+-- the last of a list, if there is one
 match_last : {X : Type 0} (P : Type 0) (Q : X → Type 0) (xs : List X) (result : Option X) → result ≡ slice_get xs (length xs - 1)
     → (xs ≡ [] → P) → ((x : X) → IsLast x xs → Q x) → MatchOption result P Q
 match_last P Q [] result is none some = subst (λ o. MatchOption o P Q) (sym is) (none refl)
 match_last P Q (x ∷ xs) result is none some =
-    let r = last_at x xs in
-    let less : suc (length xs) - 1 ≡ length xs = omega arith in
-    let e : result ≡ Some r.last = is ∙ ap (slice_get (x ∷ xs)) less ∙ r.read in
-    subst (λ o. MatchOption o P Q) (sym e) (some r.last r.is_last)
+    let all = x ∷ xs in
+    let i = length xs in
+    let last = get_or all i x in
+    let less : suc i - 1 ≡ i = omega arith in
+    let e : result ≡ Some last = is ∙ ap (slice_get all) less ∙ slice_get-get_or all i x (omega arith) in
+    let parts : all ≡ take i all ++ last ∷ [] =
+    cc (take-append-drop i all, drop_more all i x (omega arith), drop_all (i + 1) all (omega arith)) in
+    subst (λ o. MatchOption o P Q) (sym e) (some last (take i all, parts))
 
 -- The last entry below the bound is the last such item.
 pub last_passing : (is_below : ℕ → Bool) (items before after : List Item) (es passed : List Entry) (result : Option Entry)
@@ -138,8 +132,7 @@ last_passing is_below items before after es passed result leaf same is =
     (λ none. front ∙ ap (λ xs. before ++ map item_of xs) none ∙ ap (λ xs. xs ++ []) (leaf.none (sym same ∙ none)))
     (λ e last. (
       before ++ map item_of last.0,
-      front ∙ ap (λ xs. before ++ map item_of xs) last.1 ∙ ap (λ xs. before ++ xs) (map-append item_of last.0 (e ∷ []))
-          ∙ sym (append_assoc before (map item_of last.0) (item_of e ∷ [])),
+      cc (front, last.1, map-append item_of last.0 (e ∷ []), append_assoc before (map item_of last.0) (item_of e ∷ [])),
     ))
 
 -- the leaf that a bound finds is one

@@ -10,7 +10,7 @@ use Rattle.tree.specs.Subtree.{entries_at, items_in, slots_in, IsSubtree}
 use Rattle.tree.specs.Replace.{child_at, items_of, slots_of, AreChildren, Changes, IsFamily, IsKeyless, IsRebalanced}
 use Rattle.tree.proofs.callers.Times.{none_or_some, times, times-append, once_if_distinct}
 use Rattle.tree.proofs.Frames.{IsRight, live_in, own_slot}
-use Rattle.tree.proofs.Changing.{Moves, moves_if_changes, moves_same}
+use Rattle.tree.proofs.Changing.{moves_if_changes, moves_same}
 use Rattle.tree.proofs.Families.{times-slots_of}
 use Rattle.tree.proofs.Sharing.{child_is, around_one, around_two, merged, evened, rebalanced}
 
@@ -41,10 +41,8 @@ module _ {N : ℕ} where
   pair a least height es i x y d e within x_is y_is family =
       let A = get_or es i d in
       let B = get_or es (i + 1) e in
-      let first : IsSubtree a least height x = subst (IsSubtree a least height) (sym x_is)
-      (family.below i d (omega arith)) in
-      let second : IsSubtree a least height y = subst (IsSubtree a least height) (sym y_is)
-      (family.below (i + 1) e within) in
+      let first : IsSubtree a least height x = rw x_is (family.below i d (omega arith)) in
+      let second : IsSubtree a least height y = rw y_is (family.below (i + 1) e within) in
       let few : (s : ℕ) → times s (slots_in a height x ++ slots_in a height y) ≤ 1 = λ (s : ℕ).
       let all : times s (slots_of a height es) ≤ 1 = once_if_distinct (slots_of a height es) family.distinct s in
       let split : times s (slots_of a height es) ≡ times s (slots_of a height (take i es ++ (A ∷ B ∷ [] ++ drop (i + 2) es))) =

@@ -1,4 +1,4 @@
-use Rattle.std.proofs.Common.{◌≡◌, ◌<◌, List, ◌∷◌, drop-cons, length, get_or, drop, sym, ap, subst, ◌∙◌, arith, rules}
+use Rattle.std.proofs.Common.{◌≡◌, ◌<◌, List, ◌∷◌, drop-cons, length, get_or, drop, sym, ap, subst, ◌∙◌, rules}
 use Rattle.std.specs.Prelude.{ℤ}
 use mir.Val.{SFits}
 use mir.Syntax.{w64}

@@ -35,9 +35,8 @@ returns-clause-changes g c =
     let y = c.args.second in
     let put = put_moves a b x merged c.set_header.ensures.replaced c.requires.two.live_first c.requires.two.keyless in
     let live_x = put_live a b x merged c.set_header.ensures.replaced in
-    let live_y =
-    live_same a b y (put_others a b x merged c.set_header.ensures.replaced y (λ same. c.requires.two.apart (sym same)))
-    c.requires.two.live_second in
+    let kept = put_others a b x merged c.set_header.ensures.replaced y (λ same. c.requires.two.apart (sym same)) in
+    let live_y = live_same a b y kept c.requires.two.live_second in
     let expired = moves_released b d y put.keyless live_y c.release.ensures.released c.release.ensures.others
     (released_spare b d y live_y put.keyless c.release.ensures.spare) in
     changes_if_moves a d (x ∷ y ∷ []) (x ∷ [])

@@ -56,15 +56,13 @@ returns-clause-changes g c =
     let left = c.redistribute_with_heads.new.self in
     let right = c.redistribute_with_heads.new.right in
     let a = c.args.nodes.now in
-    let b = (with_header c.args.nodes.now c.args.first c.redistribute_with_heads.new.self) in
+    let b = with_header a c.args.first left in
     let d = c.set_header.new.self in
     let x = c.args.first in
     let y = c.args.second in
     let put = put_moves a b x left refl c.requires.two.live_first c.requires.two.keyless in
     let live_x = put_live a b x left refl in
-    let live_y =
-    live_same a b y (put_others a b x left refl y (λ same. c.requires.two.apart (sym same)))
-    c.requires.two.live_second in
+    let live_y = live_same a b y (put_others a b x left refl y (λ same. c.requires.two.apart (sym same))) c.requires.two.live_second in
     let then = put_moves b d y right c.set_header.ensures.replaced live_y put.keyless in
     changes_if_moves a d (x ∷ y ∷ []) (x ∷ y ∷ [])
     (moves_trans a b d (x ∷ y ∷ []) (x ∷ y ∷ []) (x ∷ y ∷ []) (moves_first a b x y c.requires.two.apart c.requires.two.live_second put)

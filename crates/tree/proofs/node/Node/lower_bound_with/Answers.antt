@@ -1,6 +1,5 @@
-use Rattle.std.proofs.Common.{rules, ap, subst, unwrap_or, arith}
+use Rattle.std.proofs.Common.{rules, ap, unwrap_or, arith}
 use Rattle.tree.specs.declared.entry.Entry.{Entry}
-use Rattle.tree.specs.Heads.{IsPrefixLen, IsPrefixLenAt}
 use Rattle.tree.specs.Node.{entries_of}
 use Rattle.tree.proofs.HeadAt.{entry_at, all_known}
 use Rattle.tree.proofs.HeadCounts.{passing_before}

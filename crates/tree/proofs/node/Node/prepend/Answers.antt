@@ -1,4 +1,4 @@
-use Rattle.std.proofs.Common.{arith, ◌≡◌, ◌≤◌, ◌+◌, ◌-◌, ◌++◌, ◌∙◌, ap, ap₂, sym, length, take, drop}
+use Rattle.std.proofs.Common.{arith, ◌≡◌, ◌≤◌, ◌+◌, ◌-◌, length, take}
 use Rattle.std.specs.List.{copy_within}
 use Rattle.std.proofs.lemmas.List.{length-take-le}
 use Rattle.tree.proofs.Splicing.{take-spliced_before}
@@ -20,8 +20,6 @@ returns-clause-heads g c =
     cc (len, count, c.move_tail.ensures.heads) in
     record {
       prefix_len = c.move_tail.ensures.prefix_len;
-      heads_are = ap₂ (λ n m. take n (heads ++ drop m now.heads)) len (omega (arith, count))
-          ∙ take-spliced_before node.heads now.heads heads node.len 0 0 (omega arith) (omega arith) (omega arith) (omega (arith, count, room))
-          (omega arith) before
-          ∙ ap (λ hs. hs ++ take node.len node.heads) c.copy_from_slice-2.ensures.after;
+      heads_are = cc (len, count, c.copy_from_slice-2.ensures.after, take-spliced_before node.heads now.heads heads node.len 0 0
+              (omega arith) (omega arith) (omega arith) (omega (arith, count, room)) (omega arith) before);
     }

@@ -1,4 +1,4 @@
-use Rattle.std.proofs.Common.{arith, refl, ◌≡◌, ◌≤◌, ℕ, ◌/◌, ◌+◌, ◌-◌, List, ◌++◌, ◌∙◌, sym, ap, append_assoc, length, length-append, length-drop, take, drop}
+use Rattle.std.proofs.Common.{arith, refl, ◌≡◌, ◌≤◌, ℕ, ◌/◌, ◌+◌, ◌-◌, List, ◌++◌, ap, append_assoc, length, length-append, length-drop, take, drop}
 use Rattle.std.specs.List.{copy_within}
 use Rattle.std.proofs.lemmas.List.{take-append-drop, take_all, length-take-le}
 use Rattle.tree.specs.Node.{entries_of, key_heads_of}

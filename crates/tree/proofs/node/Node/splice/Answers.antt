@@ -1,5 +1,4 @@
-use Rattle.std.proofs.Common.{arith, ◌≡◌, ◌≤◌, ◌+◌, ◌-◌, ◌++◌, ◌∙◌, ap, ap₂, sym, length, take, drop}
-use Rattle.std.specs.List.{copy_within}
+use Rattle.std.proofs.Common.{arith, ◌≡◌, ◌≤◌, ◌+◌, ◌-◌, length}
 use Rattle.std.proofs.lemmas.List.{length-take-le}
 use Rattle.tree.specs.Node.{entries_of}
 use Rattle.tree.proofs.Splicing.{take-spliced, take-spliced_before}
@@ -21,12 +20,12 @@ returns g c =
     let same : length heads ≡ length new = c.requires.same_len in
     let sum : now.len ≡ from + length heads + (node.len - to) = omega (arith, count, same) in
     record {
-      entries = cc (count, c.copy_few.ensures.copied, take-spliced node.entries moved new node.len from to (omega arith)
+      entries = cc (c.copy_few.ensures.copied, take-spliced node.entries moved new node.len from to (omega arith)
               c.requires.ordered within (omega (arith, c.requires.room, len)) c.move_tail.ensures.entries);
       heads = record {
         prefix_len = c.move_tail.ensures.prefix_len;
-        heads_are = cc (sum, same, c.copy_few-2.ensures.copied, take-spliced_before node.heads now.heads heads node.len from to (omega arith)
+        heads_are = cc (c.copy_few-2.ensures.copied, take-spliced_before node.heads now.heads heads node.len from to (omega arith)
                 c.requires.ordered within (omega (arith, c.requires.room, len, same))
-                (omega (arith, c.move_tail.ensures.size, now.within, count)) (cc (sum, same, c.move_tail.ensures.heads)));
+                (omega (arith, c.move_tail.ensures.size, now.within, count)) (cc (c.move_tail.ensures.heads)));
       };
     }
