@@ -79,8 +79,12 @@ module _ {N : ℕ} where
       record {
         front = children_same a b least height before agree_before right_before;
         back = children_same a b least height behind agree_behind right_behind;
-        items = cc (items_of-append b height before (new ++ behind), items_of-append b height new behind,
-                items_of_same a b height before agree_before, items_of_same a b height behind agree_behind);
+        items = cc (
+          items_of-append b height before (new ++ behind),
+          items_of-append b height new behind,
+          items_of_same a b height before agree_before,
+          items_of_same a b height behind agree_behind,
+        );
         moves = moves_beside a b ys ws (xs ++ zs) _ _ moves
             (λ s. omega (arith, count s, times-append s xs zs))
             (λ s. omega (arith, then_count s, times-append s xs zs))

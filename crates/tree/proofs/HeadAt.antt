@@ -120,8 +120,9 @@ module _ (bytes : KeyBytes) (key_heads : KeyHeads) (h : AreHeads bytes key_heads
         elim k.begins [
           | inr long ↦
               let same : take key_heads.prefix_len k.text ≡ take key_heads.prefix_len target = long.0 ∙ sought_begins target is.agrees in
-              cc (is.head_is, told_by_heads key_heads.prefix_len k.text target (is_below key) k.are_bytes is.are_bytes long.1 same apart
-                  (order key k.text k.known))
+              let told = told_by_heads key_heads.prefix_len k.text target (is_below key) k.are_bytes is.are_bytes long.1 same apart
+              (order key k.text k.known) in
+              cc (is.head_is, told)
           | inl empty ↦
               let own : get_or key_heads.heads index 0 ≡ 0 =
               k.head ∙ ap (head_behind key_heads.prefix_len) empty ∙ empty_head key_heads.prefix_len in
@@ -210,7 +211,8 @@ pub stay : {N : ℕ} (bytes : KeyBytes) (is_below : ℕ → Bool) (target : List
 stay bytes is_below target node known can none =
     let e = entry_at (entries_of node) 0 can.can_find.some in
     let first = rw none at can.known in
-    let few = passing_before (λ (e : Entry). is_below e.key) (entries_of node) 0 e.0 can.can_find.partitioned e.1 (first e.0 e.1) in
+    let few =
+    passing_before (λ (e : Entry). is_below e.key) (entries_of node) 0 e.0 can.can_find.partitioned e.1 (first e.0 e.1) in
     record { step = record { index_is = omega (arith, few); within = can.can_find.some; knows = first } }
 
 -- A head that isn't the greatest number is that of an entry.

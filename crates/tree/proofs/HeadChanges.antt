@@ -97,8 +97,8 @@ module _ (bytes : KeyBytes) where
       d k.text k.known ∙ ap (λ o. head_behind prefix_len (unwrap_or o [])) (sym k.known)
 
   -- a known key whose text is empty or begins with these bytes
-  begins_with : (beginning : List ℕ) (key : ℕ) (k : IsKnown bytes key) → (k.text ≡ []) ⊎ (take (length beginning) k.text ≡ beginning)
-      → Begins bytes beginning key
+  begins_with : (beginning : List ℕ) (key : ℕ) (k : IsKnown bytes key)
+      → (k.text ≡ []) ⊎ (take (length beginning) k.text ≡ beginning) → Begins bytes beginning key
   begins_with beginning key k begins = record { text = k.text; known = k.known; are_bytes = k.are_bytes; begins = begins }
 
   -- a key that begins as the first one does for fewer bytes, too
@@ -269,7 +269,8 @@ module _ (bytes : KeyBytes) where
     }
 
     -- then the keys are known
-    pub known_set : (i key : ℕ) → IsKnown bytes key → (keys : List ℕ) → keys ≡ slice_set key_heads.keys i key → All (IsKnown bytes) keys
+    pub known_set : (i key : ℕ) → IsKnown bytes key → (keys : List ℕ) → keys ≡ slice_set key_heads.keys i key
+        → All (IsKnown bytes) keys
     known_set i key k keys is = rw is (All-set (IsKnown bytes) key_heads.keys i key k (all_known bytes key_heads h))
 
     -- those where others are put in place of some
@@ -285,7 +286,8 @@ module _ (bytes : KeyBytes) where
         → now.heads ≡ take from key_heads.heads ++ (heads ++ drop to key_heads.heads) → AreHeads bytes now
     headed_spliced now new heads from to known given keys_are prefix_len heads_are =
         let right = beside_right key_heads new heads given in
-        let begin = λ (i d : ℕ) (inside : i < length new). agrees_begins (get_or new i d) (known i d inside) (right.1 i d inside) in
+        let begin = λ (i d : ℕ) (inside : i < length new).
+        agrees_begins (get_or new i d) (known i d inside) (right.1 i d inside) in
         record {
           beginning = h.beginning;
           prefix_len = h.prefix_len ∙ sym prefix_len;
@@ -332,7 +334,8 @@ module _ (bytes : KeyBytes) where
         → left.heads ++ right.heads ≡ one.heads ++ other.heads → length left.heads ≡ length left.keys
         → left.prefix_len ≡ one.prefix_len → right.prefix_len ≡ other.prefix_len → AreHeads bytes left × AreHeads bytes right
     headed_shared left right keys heads count left_len right_len =
-        let all : KeyHeads = record { keys = one.keys ++ other.keys; prefix_len = one.prefix_len; heads = one.heads ++ other.heads } in
+        let all : KeyHeads =
+        record { keys = one.keys ++ other.keys; prefix_len = one.prefix_len; heads = one.heads ++ other.heads } in
         headed_apart all left right (headed_joined all refl refl refl) keys heads count left_len (right_len ∙ sym as_many)
 
 -- The head of the key of an entry, behind so many bytes, is that of its bytes.

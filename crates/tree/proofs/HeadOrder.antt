@@ -118,7 +118,8 @@ take-first_eight : (n : ℕ) (a : List ℕ) → n ≤ 8 → n ≤ length a → t
 take-first_eight n a few within = cc (take-take n 8 (a ++ replicate 8 0) few, take-append-le n a (replicate 8 0) within)
 
 get_or-first_eight : (i : ℕ) (a : List ℕ) → i < 8 → i < length a → get_or (first_eight a) i 0 ≡ get_or a i 0
-get_or-first_eight i a few within = cc (get_or-take 8 (a ++ replicate 8 0) i 0 few, get_or_append_left a (replicate 8 0) 0 i within)
+get_or-first_eight i a few within =
+    cc (get_or-take 8 (a ++ replicate 8 0) i 0 few, get_or_append_left a (replicate 8 0) 0 i within)
 
 -- Two byte strings begin alike as far as their first eight bytes do, zeros for those that are missing, if the first one isn't
 -- the later one.

@@ -94,13 +94,16 @@ module _ (is_below : ℕ → Bool) (items before after : List Item) (es : List E
   pub passing_is : items_below is_below items ≡ before ++ map item_of (filter (λ e. is_below e.key) es)
   passing_is =
       let p = λ (x : Item). is_below x.key in
-      simp (leaf.items_are, filter-append, (none_fail p before leaf.pass).0, (none_pass p after leaf.fail).0, append-nil, filter-items is_below es)
+      let front = (none_fail p before leaf.pass).0 in
+      let back = (none_pass p after leaf.fail).0 in
+      simp (leaf.items_are, filter-append, front, back, append-nil, filter-items is_below es)
 
   pub behind_is : behind is_below items ≡ map item_of (filter (λ e. not (is_below e.key)) es) ++ after
   behind_is =
       let p = λ (x : Item). is_below x.key in
-      simp (leaf.items_are, filter-append, (none_fail p before leaf.pass).1, (none_pass p after leaf.fail).1,
-          filter-items (λ k. not (is_below k)) es)
+      let front = (none_fail p before leaf.pass).1 in
+      let back = (none_pass p after leaf.fail).1 in
+      simp (leaf.items_are, filter-append, front, back, filter-items (λ k. not (is_below k)) es)
 
   pub leaf_partitioned_by_keys : IsPartitioned (λ x. is_below x.key) items → IsPartitioned (λ e. is_below e.key) es
   leaf_partitioned_by_keys partitioned =

@@ -60,7 +60,8 @@ module _ {N : ℕ} where
         live_second = live_subtree a least height y second;
         apart = λ same.
             let count : ℕ → ℕ = λ z. times x (slots_in a height z) in
-            absurd (omega (arith, few x, times-append x (slots_in a height x) (slots_in a height y), own_slot a height x, ap count same));
+            let both = times-append x (slots_in a height x) (slots_in a height y) in
+            absurd (omega (arith, few x, both, own_slot a height x, ap count same));
         few = few;
       }
 
@@ -161,10 +162,10 @@ module _ {N : ℕ} where
       → least ≤ length (entries_at a (child_at es j)) + length (entries_at a (child_at es (j + 1)))
   filled_pair a least height es i j d within several j_is family =
       let count : ℕ → ℕ = λ z. length (entries_at a z) in elim (none_or_some i) [
-    | inl first ↦
-        let right = right_behind a least height es i (i + 1) (j + 1) d (omega arith) (omega arith) family in
-        omega (arith, ap count (child_is es (j + 1) d (omega arith)), right.filled)
-    | inr later ↦
-        let right = right_before a least height es i (i + 1) j d (omega arith) (omega arith) family in
-        omega (arith, ap count (child_is es j d (omega arith)), right.filled)
-  ]
+        | inl first ↦
+            let right = right_behind a least height es i (i + 1) (j + 1) d (omega arith) (omega arith) family in
+            omega (arith, ap count (child_is es (j + 1) d (omega arith)), right.filled)
+        | inr later ↦
+            let right = right_before a least height es i (i + 1) j d (omega arith) (omega arith) family in
+            omega (arith, ap count (child_is es j d (omega arith)), right.filled)
+      ]

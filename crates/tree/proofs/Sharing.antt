@@ -42,8 +42,9 @@ pub set_both : (es : List Entry) (i : ℕ) (t u : Entry) → i + 1 < length es
 set_both es i t u within =
     let len : length (set es i t) ≡ length es = length-set es i t in
     let next : suc (i + 1) ≡ i + 2 = omega arith in
-    cc (next, set_split (set es i t) (i + 1) u (omega arith), take_more_set es i t (omega arith), drop-set-lt (i + 2) es i t (omega arith),
-        append_assoc (take i es) (t ∷ []) (u ∷ drop (i + 2) es))
+    let parts = append_assoc (take i es) (t ∷ []) (u ∷ drop (i + 2) es) in
+    let back = drop-set-lt (i + 2) es i t (omega arith) in
+    cc (set_split (set es i t) (i + 1) u (omega arith), take_more_set es i t (omega arith), back, parts)
 
 pub set_one : (es : List Entry) (i : ℕ) (t : Entry) → i < length es
     → set es i t ≡ take i es ++ (t ∷ [] ++ drop (i + 1) es)
@@ -133,10 +134,11 @@ module _ {N : ℕ} where
       (λ s some. agree s (omega (arith, parts s))) in
       let all_vs = holds a b least height y vs (live_if_some b y some_y) refl some_y right_vs
       (λ s some. agree s (omega (arith, parts s))) in
+      let parts_are = items_of-append a height (entries_at a x) (entries_at a y) in
       record {
         first = all_us.subtree;
         second = all_vs.subtree;
-        items = cc (all_us.items, all_vs.items, items_of-append a height us vs, items_of-append a height (entries_at a x) (entries_at a y));
+        items = cc (all_us.items, all_vs.items, items_of-append a height us vs, parts_are);
         moves = subst (Moves a b (slots_in a (suc height) x ++ slots_in a (suc height) y))
             (sym (ap₂ (λ l m. l ++ m) all_us.slots all_vs.slots))
             (moves_beside a b (x ∷ y ∷ []) (x ∷ y ∷ []) (slots_of a height (us ++ vs)) (x ∷ xs ++ (y ∷ ys))
@@ -158,9 +160,10 @@ module _ {N : ℕ} where
       let few : (s : ℕ) → times s (slots_of a height (take from was ++ (middle ++ drop to was))) ≤ 1 =
       λ (s : ℕ). subst (λ l. times s (slots_of a height l) ≤ 1) was_is (once_if_distinct (slots_of a height was) family.distinct s) in
       let h = replaced a b least height (take from was) middle (drop to was) new few family.before family.behind moves right in
+      let rest_are = items_of-append a height middle (drop to was) in
       record {
         children = subst (AreChildren b least height) (sym now_is) h.children;
-        items = cc (h.items, items_of-append a height middle (drop to was), items_of-append a height (take from was) (middle ++ drop to was));
+        items = cc (h.items, rest_are, items_of-append a height (take from was) (middle ++ drop to was));
         changes = changes_if_moves a b (slots_of a height was) (slots_of b height now)
             (subst (λ l. Moves a b (slots_of a height l) (slots_of b height now)) (sym was_is) (rw now_is h.moves));
       }

@@ -39,7 +39,8 @@ module _ {X : Type 0} where
 
     pub span_behind : (xs : List X) → All (λ x. q x ≡ false) xs → span p q xs ≡ []
     span_behind xs a =
-        (none_pass (λ x. not (p x) && q x) xs (λ i d inside. and_right (not (p (get_or xs i d))) (q (get_or xs i d)) (a i d inside))).0
+        (none_pass (λ x. not (p x) && q x) xs
+        (λ i d inside. and_right (not (p (get_or xs i d))) (q (get_or xs i d)) (a i d inside))).0
 
     pub span_all : (xs : List X) → All (λ x. p x ≡ false) xs → All (λ x. q x ≡ true) xs → span p q xs ≡ xs
     span_all xs a b = (none_fail (λ x. not (p x) && q x) xs (λ i d inside. rw (a i d inside, b i d inside) refl)).0
@@ -110,9 +111,10 @@ module _ {X : Type 0} where
       let is : drop i (take j xs) ≡ slice_range xs i j = cc (drop-take i (j - i) xs) in
       let inside = subst (All (λ x. q x ≡ true)) is (All-drop (λ x. q x ≡ true) i (take j xs) sooner) in
       let outside = All-take (λ x. p x ≡ false) (j - i) (drop i xs) later in
-      ap (span p q) (in_parts xs i j le)
-      ∙ simp (filter-append, span_before p q (take i xs) front, span_behind p q (drop j xs) back,
-          span_all p q (slice_range xs i j) outside inside, append-nil)
+      let none_first = span_before p q (take i xs) front in
+      let none_last = span_behind p q (drop j xs) back in
+      let whole = span_all p q (slice_range xs i j) outside inside in
+      ap (span p q) (in_parts xs i j le) ∙ simp (filter-append, none_first, none_last, whole, append-nil)
 
 -- the items of children from one bound to another
 module _ {X : Type 0} (below : Entry → List X) (p q : X → Bool) (es : List Entry) (i j : ℕ) (d : Entry)
@@ -174,6 +176,9 @@ module _ {X : Type 0} (below : Entry → List X) (p q : X → Bool) (es : List E
       let r_after = All-front (λ x. p x ≡ false) r b (All-back (λ x. p x ≡ false) m (r ++ b) after) in
       let l_before = All-front (λ x. q x ≡ true) l m before in
       let m_before = All-back (λ x. q x ≡ true) l m before in
-      ap (span p q) whole
-      ∙ simp (filter-append, span_before p q a front, span_to_end p q l l_before, span_all p q m m_after m_before,
-          span_behind p q b back, append-nil, span_from_begin p q r r_after)
+      let none_first = span_before p q a front in
+      let none_last = span_behind p q b back in
+      let left_is = span_to_end p q l l_before in
+      let middle_is = span_all p q m m_after m_before in
+      let right_is = span_from_begin p q r r_after in
+      ap (span p q) whole ∙ simp (filter-append, none_first, left_is, middle_is, none_last, append-nil, right_is)

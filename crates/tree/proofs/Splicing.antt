@@ -25,7 +25,8 @@ take-spliced xs ys others len from to within ordered most room after =
     let moved_len : length moved ≡ len - to = length-take-le (len - to) (drop to xs) (omega (arith, length-drop to xs)) in
     let front_len : length (take from xs) ≡ from = length-take-le from xs (omega arith) in
     let ys_is : ys ≡ head ++ (moved ++ rest) = after ∙ append_assoc head moved rest in
-    let front : take from ys ≡ take from xs = cc (take-append-le from head (moved ++ rest) (omega arith), take-take from end xs (omega arith)) in
+    let kept = take-take from end xs (omega arith) in
+    let front : take from ys ≡ take from xs = cc (kept, take-append-le from head (moved ++ rest) (omega arith)) in
     let back : drop (end - from) (drop from ys) ≡ moved ++ rest =
     drop-drop (end - from) from ys ∙ ap (λ n. drop n ys) (omega arith) ∙ ap (drop end) ys_is ∙ drop_at head (moved ++ rest) end head_len in
     let whole : take from ys ++ (others ++ drop (end - from) (drop from ys)) ≡ (take from xs ++ (others ++ moved)) ++ rest =
@@ -34,7 +35,8 @@ take-spliced xs ys others len from to within ordered most room after =
     omega (arith, length-append (take from xs) (others ++ moved), length-append others moved) in
     let add : to + (len - to) ≡ len = omega arith in
     let part : moved ≡ drop to (take len xs) = sym (drop-take to (len - to) xs) ∙ ap (λ n. drop to (take n xs)) add in
-    cc (whole, take_at (take from xs ++ (others ++ moved)) rest (end + (len - to)) new_len, take-take from len xs (omega arith), part)
+    let all = take_at (take from xs ++ (others ++ moved)) rest (end + (len - to)) new_len in
+    cc (whole, all, take-take from len xs (omega arith), part)
 
 -- What others are written over matters as far as elements are taken.
 put_taken : {X : Type 0} (ys others : List X) (from n : ℕ) → from ≤ length ys → from + length others ≤ n
@@ -48,8 +50,7 @@ put_taken ys others from n within room =
     let rest : drop (end - from) (drop from ys) ≡ drop end ys = drop-drop (end - from) from ys ∙ ap (λ i. drop i ys) (omega arith) in
     let before = append_assoc (take from ys) others (drop (end - from) (drop from ys)) in
     let after = append_assoc (take from ys) others (take (n - end) (drop end ys)) in
-    cc (before, rest, count, take-append-add front (drop end ys) (n - end), after, take-take from n ys (omega arith),
-        drop-take end (n - end) ys, sum)
+    cc (take-append-add front (drop end ys) (n - end), take-take from n ys (omega arith), drop-take end (n - end) ys)
 
 -- Elements are moved and written as above, but behind them anything may stand.
 pub take-spliced_before : {X : Type 0} (xs ys others : List X) (len from to : ℕ) → len ≤ length xs → from ≤ to → to ≤ len

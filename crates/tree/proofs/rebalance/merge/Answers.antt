@@ -11,7 +11,8 @@ release-requires g c =
     let merged = c.append_with_heads.new.self in
     let a = c.args.nodes.now in
     let b = c.set_header.new.self in
-    let kept = put_others a b c.args.first merged c.set_header.ensures.replaced c.args.second (λ same. c.requires.two.apart (sym same)) in
+    let kept =
+    put_others a b c.args.first merged c.set_header.ensures.replaced c.args.second (λ same. c.requires.two.apart (sym same)) in
     record { live = live_same a b c.args.second kept c.requires.two.live_second }
 
 pub returns-clause-entries : goal.returns-clause-entries

@@ -23,7 +23,8 @@ module _ (g : given.Over) (c : After-index-entries-index-2 g) where
   first_is = ap (λ (l : List Entry). (get_or l c.args.index c.index-entries-index.result).child) c.entries.ensures.entries
 
   second_is : second ≡ (get_or (entries_of c.args.node.now) (c.args.index + 1) c.index-entries-index-2.result).child
-  second_is = ap (λ (l : List Entry). (get_or l (c.args.index + 1) c.index-entries-index-2.result).child) c.entries-2.ensures.entries
+  second_is =
+      ap (λ (l : List Entry). (get_or l (c.args.index + 1) c.index-entries-index-2.result).child) c.entries-2.ensures.entries
 
   two : AreTwo (g.P.Bound.bytes c.args.bound.now) c.args.nodes.now first second
   two =
@@ -60,17 +61,17 @@ pub merge-requires : goal.merge-requires
 merge-requires g c =
     let a = c.args.nodes.now in
     let s = (goal.at.merge-requires g c).After-index-entries-index-2 in
-    let first_len = entries_from_header a (first g s) c.header_ref.result.now c.header_ref.ensures.header in
-    let second_len = entries_from_header a (second g s) c.header_ref-2.result.now c.header_ref-2.ensures.header in
-    (search rules, (two g s, omega (arith, ap length first_len, ap length second_len, c.len.ensures.len, c.len-2.ensures.len, c.if-count.true)))
+    let first_len = ap length (entries_from_header a (first g s) c.header_ref.result.now c.header_ref.ensures.header) in
+    let second_len = ap length (entries_from_header a (second g s) c.header_ref-2.result.now c.header_ref-2.ensures.header) in
+    (search rules, (two g s, omega (arith, first_len, second_len, c.len.ensures.len, c.len-2.ensures.len, c.if-count.true)))
 
 pub redistribute-requires : goal.redistribute-requires
 redistribute-requires g c =
     let a = c.args.nodes.now in
     let s = (goal.at.redistribute-requires g c).After-index-entries-index-2 in
-    let first_len = entries_from_header a (first g s) c.header_ref.result.now c.header_ref.ensures.header in
-    let second_len = entries_from_header a (second g s) c.header_ref-2.result.now c.header_ref-2.ensures.header in
-    (search rules, (two g s, omega (arith, ap length first_len, ap length second_len, c.len.ensures.len, c.len-2.ensures.len, c.if-count.false)))
+    let first_len = ap length (entries_from_header a (first g s) c.header_ref.result.now c.header_ref.ensures.header) in
+    let second_len = ap length (entries_from_header a (second g s) c.header_ref-2.result.now c.header_ref-2.ensures.header) in
+    (search rules, (two g s, omega (arith, first_len, second_len, c.len.ensures.len, c.len-2.ensures.len, c.if-count.false)))
 
 pub entry_for-requires : goal.entry_for-requires
 entry_for-requires g c =
@@ -105,11 +106,11 @@ returns-then-count-clause-rebalanced g c height family =
     let t = c.entry_for.result in
     let all = ap length c.merge.ensures.entries ∙ length-append (entries_at a x) (entries_at a y) in
     rebalanced_by_merge a b (least_of g.row.N) height es (entries_of c.remove.new.self) c.args.index x y
-    c.index-entries-index.result c.index-entries-index-2.result c.requires.can_merge.within (first_is g s) (second_is g s) family t
-    c.entry_for.ensures.child (c.entry_for.ensures.tells height (least_of g.row.N)) c.merge.ensures.changes c.merge.ensures.entries
+    c.index-entries-index.result c.index-entries-index-2.result c.requires.can_merge.within (first_is g s) (second_is g s)
+    family t c.entry_for.ensures.child (c.entry_for.ensures.tells height (least_of g.row.N)) c.merge.ensures.changes c.merge.ensures.entries
     (omega (arith, filled g s, all)) (omega (arith, filled g s, all))
-    (c.remove.ensures.entries ∙ ap (λ (l : List Entry). take (c.args.index + 1) l ++ drop (c.args.index + 2) l) c.set_with_head.ensures.entries
-    ∙ set_removed es c.args.index t c.requires.can_merge.within)
+    (c.remove.ensures.entries ∙ ap (λ (l : List Entry). take (c.args.index + 1) l ++ drop (c.args.index + 2) l)
+    c.set_with_head.ensures.entries ∙ set_removed es c.args.index t c.requires.can_merge.within)
 
 pub returns-clause-rebalanced : goal.returns-clause-rebalanced
 returns-clause-rebalanced g c height family =
@@ -120,8 +121,8 @@ returns-clause-rebalanced g c height family =
     let u = c.entry_for-3.result in
     let shared = c.redistribute.ensures in
     let four = c.requires.can_merge.fan_out in
-    rebalanced_by_sharing c.args.nodes.now c.redistribute.new.nodes (least_of g.row.N) height es (entries_of c.set_with_head-3.new.self) i
-    (first g s) (second g s) c.index-entries-index.result c.index-entries-index-2.result
+    rebalanced_by_sharing c.args.nodes.now c.redistribute.new.nodes (least_of g.row.N) height es
+    (entries_of c.set_with_head-3.new.self) i (first g s) (second g s) c.index-entries-index.result c.index-entries-index-2.result
     c.requires.can_merge.within (first_is g s) (second_is g s) family t u
     c.entry_for-2.ensures.child c.entry_for-3.ensures.child (c.entry_for-2.ensures.tells height (least_of g.row.N))
     (c.entry_for-3.ensures.tells height (least_of g.row.N)) shared.changes shared.entries
@@ -134,7 +135,8 @@ pub returns-then-count-clause-rest : goal.returns-then-count-clause-rest
 returns-then-count-clause-rest g c =
     let es = c.set_with_head.new.self in
     let within = c.requires.can_merge.within in
-    let same = ap length c.set_with_head.ensures.entries ∙ length-set (entries_of c.args.node.now) c.args.index c.entry_for.result in
+    let same =
+    ap length c.set_with_head.ensures.entries ∙ length-set (entries_of c.args.node.now) c.args.index c.entry_for.result in
     record {
       few_less = omega (
         arith,
@@ -175,7 +177,8 @@ set_with_head-requires-2 g c =
 pub set_with_head-requires-3 : goal.set_with_head-requires-3
 set_with_head-requires-3 g c =
     let bytes = g.P.Bound.bytes c.args.bound.now in
-    let count = ap length c.set_with_head-2.ensures.entries ∙ length-set (entries_of c.args.node.now) c.args.index c.entry_for-2.result in (
+    let count =
+    ap length c.set_with_head-2.ensures.entries ∙ length-set (entries_of c.args.node.now) c.args.index c.entry_for-2.result in (
       search rules,
       (
         omega (arith, c.requires.can_merge.within, count),

@@ -15,7 +15,10 @@ header_ref-requires g c =
     let d = c.index-entries-index.result in
     let x = (get_or c.entries.result.now i d).child in
     let f = c.requires.can_rebalance.family in
-    record { live = live_subtree a (least_of g.row.N) f.0 x (rw c.entries.ensures.entries (f.1.below i d c.requires.can_rebalance.within)) }
+    record {
+      live = live_subtree a (least_of g.row.N) f.0 x
+          (rw c.entries.ensures.entries (f.1.below i d c.requires.can_rebalance.within));
+    }
 
 pub returns-then-len-least-clause-rebalanced : goal.returns-then-len-least-clause-rebalanced
 returns-then-len-least-clause-rebalanced g c height family =

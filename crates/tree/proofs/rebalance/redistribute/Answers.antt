@@ -27,8 +27,8 @@ left_then g c =
     let left = c.redistribute_with_heads.new.self in
     let b = with_header a c.args.first left in
     entries_same b c.set_header.new.self c.args.first
-    (put_others b c.set_header.new.self c.args.second c.redistribute_with_heads.new.right c.set_header.ensures.replaced c.args.first
-    c.requires.two.apart)
+    (put_others b c.set_header.new.self c.args.second c.redistribute_with_heads.new.right c.set_header.ensures.replaced
+    c.args.first c.requires.two.apart)
     ∙ put_entries a b c.args.first left refl
 
 right_then : (g : given.Over) (c : After-set_header g)
@@ -62,7 +62,8 @@ returns-clause-changes g c =
     let y = c.args.second in
     let put = put_moves a b x left refl c.requires.two.live_first c.requires.two.keyless in
     let live_x = put_live a b x left refl in
-    let live_y = live_same a b y (put_others a b x left refl y (λ same. c.requires.two.apart (sym same))) c.requires.two.live_second in
+    let live_y =
+    live_same a b y (put_others a b x left refl y (λ same. c.requires.two.apart (sym same))) c.requires.two.live_second in
     let then = put_moves b d y right c.set_header.ensures.replaced live_y put.keyless in
     changes_if_moves a d (x ∷ y ∷ []) (x ∷ y ∷ [])
     (moves_trans a b d (x ∷ y ∷ []) (x ∷ y ∷ []) (x ∷ y ∷ []) (moves_first a b x y c.requires.two.apart c.requires.two.live_second put)
@@ -73,11 +74,12 @@ redistribute_with_heads-requires g c =
     let bytes = g.P.Bound.bytes c.args.bound.now in
     let a = c.args.nodes.now in
     let left = c.header_mut-left.result.now in
-    let right = c.header-right.result in (
+    let right = c.header-right.result in
+    let left_was = entries_from_header a c.args.first left c.header_mut-left.ensures.header in
+    let right_was = entries_from_header a c.args.second right c.header-right.ensures.header in (
       search rules,
       (
-        rw (← entries_from_header a c.args.first left c.header_mut-left.ensures.header,
-            ← entries_from_header a c.args.second right c.header-right.ensures.header) c.requires.many,
+        rw (← left_was, ← right_was) c.requires.many,
         record {
           left = headed_at bytes a c.args.first left c.requires.two.headed c.header_mut-left.ensures.header;
           right = headed_at bytes a c.args.second right c.requires.two.headed c.header-right.ensures.header;

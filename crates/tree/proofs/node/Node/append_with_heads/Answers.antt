@@ -36,6 +36,7 @@ lengthen_prefix-requires g c =
     let there : Contains (keys_of (entries_of other)) first.key =
     subst (λ es. Contains (keys_of es) first.key) c.entries.ensures.entries
     (keys_there es 0 first (slice_get_within es 0 first get) (get_or_from_slice_get es 0 first first get)) in
+    let mapped = map-append (λ (e : Entry). e.key) (entries_of one) (entries_of other) in
     let alike : (one.prefix_len ≡ other.prefix_len)
     × ((text : List ℕ) → bytes first.key ≡ Some text → HasPrefix bytes (key_heads_of one) text) =
     elim c.if-self-other.branch [
@@ -45,7 +46,7 @@ lengthen_prefix-requires g c =
       search rules,
       headed_joined bytes (key_heads_of one) (key_heads_of other) c.requires.headed c.requires.other_headed first.key alike.0
           there alike.1 (key_heads_of now)
-          (cc (c.append.ensures.entries, c.entries-2.ensures.entries, map-append (λ (e : Entry). e.key) (entries_of one) (entries_of other)))
+          (cc (c.append.ensures.entries, c.entries-2.ensures.entries, mapped))
           c.append.ensures.heads.prefix_len
           (cc (c.append.ensures.heads.heads_are, c.heads.ensures.heads)),
     )

@@ -20,6 +20,11 @@ returns-clause-heads g c =
     cc (len, count, c.move_tail.ensures.heads) in
     record {
       prefix_len = c.move_tail.ensures.prefix_len;
-      heads_are = cc (len, count, c.copy_from_slice-2.ensures.after, take-spliced_before node.heads now.heads heads node.len 0 0
-              (omega arith) (omega arith) (omega arith) (omega (arith, count, room)) (omega arith) before);
+      heads_are = cc (
+        len,
+        count,
+        c.copy_from_slice-2.ensures.after,
+        take-spliced_before node.heads now.heads heads node.len 0 0
+            (omega arith) (omega arith) (omega arith) (omega (arith, count, room)) (omega arith) before,
+      );
     }

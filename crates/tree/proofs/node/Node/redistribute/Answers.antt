@@ -12,8 +12,9 @@ module _ {X : Type 0} where
       → (length (take now ys) ≡ half) × (take now ys ++ right ≡ take len xs ++ rest)
   moved_right xs ys part right rest len half now room within is after same right_is =
       let front : take now ys ≡ take half (take len xs) = cc (take-cut xs ys len half room within after) in
-      let back = take_all (length part - half) (drop half part) (omega (arith, length-drop half part)) in (
-        omega (arith, ap length front, length-take-le len xs room, length-take-le half (take len xs) (omega (arith, within, length-take-le len xs room))),
+      let back = take_all (length part - half) (drop half part) (omega (arith, length-drop half part)) in
+      let size = length-take-le len xs room in (
+        omega (arith, ap length front, size, length-take-le half (take len xs) (omega (arith, within, size))),
         cc (back, take-append-drop half (take len xs), append_assoc (take half (take len xs)) (drop half (take len xs)) rest),
       )
 
@@ -23,9 +24,9 @@ module _ {X : Type 0} where
       → (length left ≡ length all + more) × (left ++ take now ys ≡ all ++ take len xs)
   moved_left all xs ys part left len more now room within is after same left_is =
       let rest = take len xs in
-      let back : take now ys ≡ drop more rest = cc (take-removed xs ys len 0 more room (omega arith) within after) in (
-        omega (arith, ap length left_is, length-append all (take more part), ap length same, length-take-le len xs room,
-            length-take-le more part (omega (arith, ap length same, length-take-le len xs room))),
+      let back : take now ys ≡ drop more rest = cc (take-removed xs ys len 0 more room (omega arith) within after) in
+      let size = length-take-le more part (omega (arith, ap length same, length-take-le len xs room)) in (
+        omega (arith, ap length left_is, length-append all (take more part), size),
         cc (take-append-drop more rest, append_assoc all (take more rest) (drop more rest)),
       )
 
@@ -34,9 +35,9 @@ returns-then-self-half-clause-entries g c =
     let left = c.args.self.now in
     let half = (left.len + c.args.right.now.len) / 2 in
     let new = c.move_tail.new.self in
-    (moved_right left.entries new.entries c.entries.result.now (entries_of c.prepend.new.self) (entries_of c.args.right.now) left.len half
-    new.len (omega arith) (omega (arith, c.if-self-half.true)) (omega (arith, c.move_tail.ensures.len)) c.move_tail.ensures.entries
-    c.entries.ensures.entries c.prepend.ensures.entries).1
+    (moved_right left.entries new.entries c.entries.result.now (entries_of c.prepend.new.self) (entries_of c.args.right.now)
+    left.len half new.len (omega arith) (omega (arith, c.if-self-half.true)) (omega (arith, c.move_tail.ensures.len))
+    c.move_tail.ensures.entries c.entries.ensures.entries c.prepend.ensures.entries).1
 
 pub returns-then-self-half-clause-heads : goal.returns-then-self-half-clause-heads
 returns-then-self-half-clause-heads g c =
@@ -46,8 +47,8 @@ returns-then-self-half-clause-heads g c =
     let new = c.move_tail.new.self in
     let within : half ≤ left.len = omega (arith, c.if-self-half.true) in
     let len : new.len ≡ half = omega (arith, c.move_tail.ensures.len) in
-    let entries = moved_right left.entries new.entries c.entries.result.now (entries_of c.prepend.new.self) (entries_of right) left.len half
-    new.len (omega arith) within len c.move_tail.ensures.entries c.entries.ensures.entries c.prepend.ensures.entries in
+    let entries = moved_right left.entries new.entries c.entries.result.now (entries_of c.prepend.new.self) (entries_of right)
+    left.len half new.len (omega arith) within len c.move_tail.ensures.entries c.entries.ensures.entries c.prepend.ensures.entries in
     let heads = moved_right left.heads (copy_within left.heads left.len left.len half) c.heads.result.now
     (key_heads_of c.prepend.new.self).heads (key_heads_of right).heads left.len half
     new.len (omega arith) within len refl c.heads.ensures.heads c.prepend.ensures.heads.heads_are in
@@ -63,9 +64,9 @@ returns-else-self-half-clause-entries g c =
     let left = c.args.self.now in
     let right = c.args.right.now in
     let new = c.move_tail-else-self-half.new.self in
-    (moved_left (entries_of left) right.entries new.entries c.entries-else-self-half.result.now (entries_of c.append.new.self) right.len
-    ((left.len + right.len) / 2 - left.len) new.len (omega arith) (omega arith) (omega (arith, c.move_tail-else-self-half.ensures.len))
-    c.move_tail-else-self-half.ensures.entries c.entries-else-self-half.ensures.entries c.append.ensures.entries).1
+    (moved_left (entries_of left) right.entries new.entries c.entries-else-self-half.result.now (entries_of c.append.new.self)
+    right.len ((left.len + right.len) / 2 - left.len) new.len (omega arith) (omega arith)
+    (omega (arith, c.move_tail-else-self-half.ensures.len)) c.move_tail-else-self-half.ensures.entries c.entries-else-self-half.ensures.entries c.append.ensures.entries).1
 
 pub returns-else-self-half-clause-heads : goal.returns-else-self-half-clause-heads
 returns-else-self-half-clause-heads g c =
@@ -74,16 +75,17 @@ returns-else-self-half-clause-heads g c =
     let more = (left.len + right.len) / 2 - left.len in
     let new = c.move_tail-else-self-half.new.self in
     let len : new.len ≡ right.len - (more - 0) = omega (arith, c.move_tail-else-self-half.ensures.len) in
-    let entries = moved_left (entries_of left) right.entries new.entries c.entries-else-self-half.result.now (entries_of c.append.new.self)
-    right.len more new.len (omega arith) (omega arith) len
+    let entries = moved_left (entries_of left) right.entries new.entries c.entries-else-self-half.result.now
+    (entries_of c.append.new.self) right.len more new.len (omega arith) (omega arith) len
     c.move_tail-else-self-half.ensures.entries c.entries-else-self-half.ensures.entries c.append.ensures.entries in
-    let heads = moved_left (key_heads_of left).heads right.heads (copy_within right.heads more right.len 0) c.heads-else-self-half.result.now
-    (key_heads_of c.append.new.self).heads right.len more new.len (omega arith) (omega arith) len
+    let heads = moved_left (key_heads_of left).heads right.heads (copy_within right.heads more right.len 0)
+    c.heads-else-self-half.result.now (key_heads_of c.append.new.self).heads right.len more new.len (omega arith) (omega arith) len
     refl c.heads-else-self-half.ensures.heads c.append.ensures.heads.heads_are in
+    let left_heads = length-take-le left.len left.heads (omega arith) in
+    let left_entries = length-take-le left.len left.entries (omega arith) in
     record {
       prefix_len = c.append.ensures.heads.prefix_len;
       right_prefix_len = c.move_tail-else-self-half.ensures.prefix_len;
       heads_are = cc (heads.1, c.move_tail-else-self-half.ensures.heads);
-      count = omega (arith, heads.0, entries.0, length-take-le left.len left.heads (omega arith),
-          length-take-le left.len left.entries (omega arith));
+      count = omega (arith, heads.0, entries.0, left_heads, left_entries);
     }

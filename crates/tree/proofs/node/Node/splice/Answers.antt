@@ -20,12 +20,18 @@ returns g c =
     let same : length heads ≡ length new = c.requires.same_len in
     let sum : now.len ≡ from + length heads + (node.len - to) = omega (arith, count, same) in
     record {
-      entries = cc (c.copy_few.ensures.copied, take-spliced node.entries moved new node.len from to (omega arith)
-              c.requires.ordered within (omega (arith, c.requires.room, len)) c.move_tail.ensures.entries);
+      entries = cc (
+        c.copy_few.ensures.copied,
+        take-spliced node.entries moved new node.len from to (omega arith)
+            c.requires.ordered within (omega (arith, c.requires.room, len)) c.move_tail.ensures.entries,
+      );
       heads = record {
         prefix_len = c.move_tail.ensures.prefix_len;
-        heads_are = cc (c.copy_few-2.ensures.copied, take-spliced_before node.heads now.heads heads node.len from to (omega arith)
-                c.requires.ordered within (omega (arith, c.requires.room, len, same))
-                (omega (arith, c.move_tail.ensures.size, now.within, count)) (cc (c.move_tail.ensures.heads)));
+        heads_are = cc (
+          c.copy_few-2.ensures.copied,
+          take-spliced_before node.heads now.heads heads node.len from to (omega arith)
+              c.requires.ordered within (omega (arith, c.requires.room, len, same))
+              (omega (arith, c.move_tail.ensures.size, now.within, count)) (cc (c.move_tail.ensures.heads)),
+        );
       };
     }

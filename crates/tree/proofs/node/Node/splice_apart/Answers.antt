@@ -78,8 +78,9 @@ known g c =
     let node = c.args.self.now in
     let one = entries_of c.redistribute.new.self in
     let other = entries_of c.redistribute.new.right in
-    let all = known_spliced bytes (key_heads_of node) can.headed (keys_of c.args.new.now) (keys_of (one ++ other)) c.args.from c.args.to can.known
-    (map_spliced (λ (e : Entry). e.key) (entries_of node) c.args.new.now (one ++ other) c.args.from c.args.to (both g c).entries) in
+    let all = known_spliced bytes (key_heads_of node) can.headed (keys_of c.args.new.now) (keys_of (one ++ other))
+    c.args.from c.args.to can.known (map_spliced (λ (e : Entry). e.key) (entries_of node) c.args.new.now (one ++ other)
+    c.args.from c.args.to (both g c).entries) in
     (keys_in_front (IsKnown bytes) one other all, keys_at_back (IsKnown bytes) one other all)
 
 pub lengthen_prefix-requires : goal.lengthen_prefix-requires
