@@ -120,8 +120,8 @@ module _ (bytes : KeyBytes) (key_heads : KeyHeads) (h : AreHeads bytes key_heads
         elim k.begins [
           | inr long ↦
               let same : take key_heads.prefix_len k.text ≡ take key_heads.prefix_len target = long.0 ∙ sought_begins target is.agrees in
-              let told = told_by_heads key_heads.prefix_len k.text target (is_below key) k.are_bytes is.are_bytes long.1 same apart
-              (order key k.text k.known) in
+              let told = told_by_heads key_heads.prefix_len k.text target (is_below key) k.are_bytes is.are_bytes long.1 same
+              apart (order key k.text k.known) in
               cc (is.head_is, told)
           | inl empty ↦
               let own : get_or key_heads.heads index 0 ≡ 0 =

@@ -107,8 +107,8 @@ returns-then-count-clause-rebalanced g c height family =
     let all = ap length c.merge.ensures.entries ∙ length-append (entries_at a x) (entries_at a y) in
     rebalanced_by_merge a b (least_of g.row.N) height es (entries_of c.remove.new.self) c.args.index x y
     c.index-entries-index.result c.index-entries-index-2.result c.requires.can_merge.within (first_is g s) (second_is g s)
-    family t c.entry_for.ensures.child (c.entry_for.ensures.tells height (least_of g.row.N)) c.merge.ensures.changes c.merge.ensures.entries
-    (omega (arith, filled g s, all)) (omega (arith, filled g s, all))
+    family t c.entry_for.ensures.child (c.entry_for.ensures.tells height (least_of g.row.N))
+    c.merge.ensures.changes c.merge.ensures.entries (omega (arith, filled g s, all)) (omega (arith, filled g s, all))
     (c.remove.ensures.entries ∙ ap (λ (l : List Entry). take (c.args.index + 1) l ++ drop (c.args.index + 2) l)
     c.set_with_head.ensures.entries ∙ set_removed es c.args.index t c.requires.can_merge.within)
 

@@ -18,13 +18,6 @@ returns-clause-heads g c =
     let before : take (0 + length heads + (node.len - 0)) now.heads
     ≡ take (0 + length heads + (node.len - 0)) (copy_within node.heads 0 node.len (0 + length heads)) =
     cc (len, count, c.move_tail.ensures.heads) in
-    record {
-      prefix_len = c.move_tail.ensures.prefix_len;
-      heads_are = cc (
-        len,
-        count,
-        c.copy_from_slice-2.ensures.after,
-        take-spliced_before node.heads now.heads heads node.len 0 0
-            (omega arith) (omega arith) (omega arith) (omega (arith, count, room)) (omega arith) before,
-      );
-    }
+    let spliced = take-spliced_before node.heads now.heads heads node.len 0 0 (omega arith) (omega arith) (omega arith)
+    (omega (arith, count, room)) (omega arith) before in
+    record { prefix_len = c.move_tail.ensures.prefix_len; heads_are = cc (c.copy_from_slice-2.ensures.after, spliced) }

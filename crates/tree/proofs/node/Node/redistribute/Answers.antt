@@ -48,7 +48,8 @@ returns-then-self-half-clause-heads g c =
     let within : half ≤ left.len = omega (arith, c.if-self-half.true) in
     let len : new.len ≡ half = omega (arith, c.move_tail.ensures.len) in
     let entries = moved_right left.entries new.entries c.entries.result.now (entries_of c.prepend.new.self) (entries_of right)
-    left.len half new.len (omega arith) within len c.move_tail.ensures.entries c.entries.ensures.entries c.prepend.ensures.entries in
+    left.len half new.len (omega arith) within len c.move_tail.ensures.entries
+    c.entries.ensures.entries c.prepend.ensures.entries in
     let heads = moved_right left.heads (copy_within left.heads left.len left.len half) c.heads.result.now
     (key_heads_of c.prepend.new.self).heads (key_heads_of right).heads left.len half
     new.len (omega arith) within len refl c.heads.ensures.heads c.prepend.ensures.heads.heads_are in
@@ -66,7 +67,8 @@ returns-else-self-half-clause-entries g c =
     let new = c.move_tail-else-self-half.new.self in
     (moved_left (entries_of left) right.entries new.entries c.entries-else-self-half.result.now (entries_of c.append.new.self)
     right.len ((left.len + right.len) / 2 - left.len) new.len (omega arith) (omega arith)
-    (omega (arith, c.move_tail-else-self-half.ensures.len)) c.move_tail-else-self-half.ensures.entries c.entries-else-self-half.ensures.entries c.append.ensures.entries).1
+    (omega (arith, c.move_tail-else-self-half.ensures.len)) c.move_tail-else-self-half.ensures.entries
+    c.entries-else-self-half.ensures.entries c.append.ensures.entries).1
 
 pub returns-else-self-half-clause-heads : goal.returns-else-self-half-clause-heads
 returns-else-self-half-clause-heads g c =
@@ -79,8 +81,8 @@ returns-else-self-half-clause-heads g c =
     (entries_of c.append.new.self) right.len more new.len (omega arith) (omega arith) len
     c.move_tail-else-self-half.ensures.entries c.entries-else-self-half.ensures.entries c.append.ensures.entries in
     let heads = moved_left (key_heads_of left).heads right.heads (copy_within right.heads more right.len 0)
-    c.heads-else-self-half.result.now (key_heads_of c.append.new.self).heads right.len more new.len (omega arith) (omega arith) len
-    refl c.heads-else-self-half.ensures.heads c.append.ensures.heads.heads_are in
+    c.heads-else-self-half.result.now (key_heads_of c.append.new.self).heads right.len more new.len (omega arith) (omega arith)
+    len refl c.heads-else-self-half.ensures.heads c.append.ensures.heads.heads_are in
     let left_heads = length-take-le left.len left.heads (omega arith) in
     let left_entries = length-take-le left.len left.entries (omega arith) in
     record {
