@@ -20,8 +20,10 @@ returns g c =
     let left : now.len ≡ node.len - (to - from) = omega (arith, c.move_tail.ensures.len) in
     let entries_are : take now.len now.entries ≡ take from (entries_of node) ++ drop to (entries_of node) =
     cc (left, take-removed node.entries now.entries node.len from to (omega arith) ordered most c.move_tail.ensures.entries) in
-    let moved = take-removed node.heads (copy_within node.heads to node.len from) node.len from to (omega arith) ordered most refl in
-    let heads_are : take now.len now.heads ≡ take from key_heads.heads ++ drop to key_heads.heads = cc (c.move_tail.ensures.heads) in
+    let moved = take-removed node.heads (copy_within node.heads to node.len from) node.len from to (omega arith)
+    ordered most refl in
+    let heads_are : take now.len now.heads ≡ take from key_heads.heads ++ drop to key_heads.heads =
+    cc (c.move_tail.ensures.heads) in
     let keys_are = map_spliced (λ (e : Entry). e.key) (entries_of node) [] _ from to entries_are in
     record {
       entries = entries_are;
