@@ -1,5 +1,5 @@
 -- Entries of which some in the middle are replaced, and the node that has them.
-use Rattle.std.proofs.Common.{◌≡◌, inl, inr, ℕ, suc, ◌+◌, ◌≤◌, List, ◌∷◌, ◌++◌, length, length-append, sym, ap, ap₂, subst, ◌∙◌, arith}
+use Rattle.std.proofs.Common.{◌≡◌, inl, inr, ℕ, suc, ◌+◌, ◌≤◌, List, ◌∷◌, ◌++◌, length, length-append, sym, ap, subst, ◌∙◌, arith}
 use Rattle.std.proofs.lemmas.List.Concat.{flat_map-append}
 use Rattle.std.proofs.lemmas.List.Elements.{All-append}
 use Rattle.arena.specs.Arena.{Arena, IsLive}
@@ -71,19 +71,20 @@ module _ {N : ℕ} where
       let same_behind : slots_of b height behind ≡ zs = slots_of_same a b height behind agree_behind in
       let ws = slots_of b height new in
       let then_count : (s : ℕ) → times s (slots_of b height (before ++ (new ++ behind))) ≡ times s xs + (times s ws + times s zs) =
-      λ (s : ℕ). times-slots_of b height s before (new ++ behind)
-      ∙ ap₂ (λ m n. m + n) (ap (times s) same_before) (times-slots_of b height s new behind ∙ ap (λ l. times s ws + times s l) same_behind) in
+      λ (s : ℕ). cc (times-slots_of b height s before (new ++ behind), times-slots_of b height s new behind) in
       let len : length (slots_of a height (before ++ (middle ++ behind))) ≡ length xs + (length ys + length zs) =
       length-slots_of a height before (middle ++ behind) ∙ ap (λ n. length xs + n) (length-slots_of a height middle behind) in
       let then_len : length (slots_of b height (before ++ (new ++ behind))) ≡ length xs + (length ws + length zs) =
-      length-slots_of b height before (new ++ behind)
-      ∙ ap₂ (λ m n. m + n) (ap length same_before) (length-slots_of b height new behind ∙ ap (λ l. length ws + length l) same_behind) in
+      cc (length-slots_of b height before (new ++ behind), length-slots_of b height new behind) in
       record {
         front = children_same a b least height before agree_before right_before;
         back = children_same a b least height behind agree_behind right_behind;
-        items = items_of-append b height before (new ++ behind)
-            ∙ ap₂ (λ l m. l ++ m) (items_of_same a b height before agree_before)
-            (items_of-append b height new behind ∙ ap (λ l. items_of b height new ++ l) (items_of_same a b height behind agree_behind));
+        items = cc (
+          items_of-append b height before (new ++ behind),
+          items_of-append b height new behind,
+          items_of_same a b height before agree_before,
+          items_of_same a b height behind agree_behind,
+        );
         moves = moves_beside a b ys ws (xs ++ zs) _ _ moves
             (λ s. omega (arith, count s, times-append s xs zs))
             (λ s. omega (arith, then_count s, times-append s xs zs))
@@ -98,10 +99,9 @@ module _ {N : ℕ} where
 
   -- the same where these are right
   pub record Replaced (a b : Arena (Node N)) (least height : ℕ) (before middle behind new : List Entry) : Type 0 where
+    pub kept : Loose a b least height before middle behind new
+    pub open kept use *
     pub children : AreChildren b least height (before ++ (new ++ behind))
-    pub items : items_of b height (before ++ (new ++ behind))
-        ≡ items_of a height before ++ (items_of b height new ++ items_of a height behind)
-    pub moves : Moves a b (slots_of a height (before ++ (middle ++ behind))) (slots_of b height (before ++ (new ++ behind)))
 
   pub replaced : (a b : Arena (Node N)) (least height : ℕ) (before middle behind new : List Entry)
       → ((s : ℕ) → times s (slots_of a height (before ++ (middle ++ behind))) ≤ 1)
@@ -110,12 +110,8 @@ module _ {N : ℕ} where
       → Replaced a b least height before middle behind new
   replaced a b least height before middle behind new few right_before right_behind moves right_new =
       let h = loose a b least height before middle behind new few right_before right_behind moves in
-      record {
-        children = All-append (IsRight b least height) before (new ++ behind) h.front
-            (All-append (IsRight b least height) new behind right_new h.back);
-        items = h.items;
-        moves = h.moves;
-      }
+      let later = All-append (IsRight b least height) new behind right_new h.back in
+      record { kept = h; children = All-append (IsRight b least height) before (new ++ behind) h.front later }
 
   -- what a slot above a leaf is seen as, once these entries stand there
   pub record Holds (a b : Arena (Node N)) (least height slot : ℕ) (entries : List Entry) : Type 0 where

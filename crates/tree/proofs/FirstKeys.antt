@@ -20,10 +20,8 @@ pub first_tells : (under : Entry → List Item) (es : List Entry) (e : Entry) �
 first_tells under [] e is tell x xs same = absurd (cc)
 first_tells under (d ∷ es) e is tell x xs same =
     let t = All-head (λ e. Tells e (under e)) d es tell in
-    let one : d ≡ e = cc in
     let front : t.first ∷ t.others ++ flat_map under es ≡ x ∷ xs = sym (ap (λ ys. ys ++ flat_map under es) t.items_are) ∙ same in
-    let first : t.first ≡ x = cc in
-    sym (ap (λ (e : Entry). e.key) one) ∙ t.key ∙ ap (λ (x : Item). x.key) first
+    cc (t.key)
 
 -- the items of an entry of a node of this height: its own one, or those of its child
 abbrev pub items_under : {N : ℕ} → Arena (Node N) → ℕ → Entry → List Item
@@ -94,11 +92,8 @@ module _ {N : ℕ} (nodes : Arena (Node N)) (least height slot : ℕ) (is_below 
   known_below bytes target known header index h i k =
       let e = f.way.entry in
       let read : entries_at nodes slot ≡ entries_of header = entries_read nodes slot header (entries_of header) h refl in
-      let at : slice_get (entries_of header) index ≡ Some e =
-      ap (slice_get (entries_of header)) i ∙ subst (λ xs. slice_get xs (index_in is_below xs) ≡ Some e) read f.way.is in
+      let at : slice_get (entries_of header) index ≡ Some e = cc (i, f.way.is) in
       knows_child nodes least (height - 1) e child bytes is_below target known f.way.kept f.is (k e at)
 
   pub some_below : 1 ≤ least → 1 ≤ length (entries_at nodes child)
-  some_below some =
-      let filled : least ≤ length (entries_at nodes child) = subst (λ s. least ≤ length (entries_at nodes s)) (sym f.is) f.way.kept.filled in
-      omega (arith, some, filled)
+  some_below some = omega (arith, some, f.way.kept.filled, ap (λ s. length (entries_at nodes s)) f.is)

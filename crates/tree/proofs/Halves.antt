@@ -49,65 +49,48 @@ module _ {N : ℕ} {nodes : Arena (Node N)} {least height slot : ℕ} {f t : ℕ
   right_span = span (λ (x : Item). false) (λ (x : Item). t x.key) right_items
 
   first_within : h.first < length h.es
-  first_within =
-      let i = first_inside nodes least height slot f t h.es h.begin h.end h.look h.some in
-      let is = h.first_is in omega (arith, i, is)
+  first_within = omega (arith, first_inside _ _ _ _ _ _ _ _ _ h.look h.some, h.first_is)
 
   last_within : h.last < length h.es
-  last_within =
-      let i = last_inside nodes least height slot f t h.es h.begin h.end h.look h.some in
-      let is = h.last_is in omega (arith, i, is)
+  last_within = omega (arith, last_inside _ _ _ _ _ _ _ _ _ h.look h.some, h.last_is)
 
   pub left_tells : Tells h.left left_items
-  left_tells =
-      child_tells nodes least height slot f t h.es h.begin h.end h.look h.some h.first h.left first_within h.left_at
+  left_tells = child_tells _ _ _ _ _ _ _ _ _ h.look h.some h.first h.left first_within h.left_at
 
   pub right_tells : Tells h.right right_items
-  right_tells =
-      child_tells nodes least height slot f t h.es h.begin h.end h.look h.some h.last h.right last_within h.right_at
+  right_tells = child_tells _ _ _ _ _ _ _ _ _ h.look h.some h.last h.right last_within h.right_at
 
   pub middle_tells : All (λ e. Tells e (items_in nodes (height - 1) e.child)) middle
   middle_tells =
       let p = λ (e : Entry). Tells e (items_in nodes (height - 1) e.child) in
-      All-take p _ _
-      (All-drop p (h.first + 1) h.es (look_tell nodes least height slot f t h.es h.begin h.end h.look h.some))
+      All-take p _ _ (All-drop p (h.first + 1) h.es (look_tell _ _ _ _ _ _ _ _ _ h.look h.some))
 
   -- what the search in the left child asks, and that in the right one
   pub left_subtree : IsSubtree nodes least (height - 1) h.left.child
-  left_subtree =
-      child_subtree nodes least height slot f t h.es h.begin h.end h.look h.some h.first h.left first_within h.left_at
+  left_subtree = child_subtree _ _ _ _ _ _ _ _ _ h.look h.some h.first h.left first_within h.left_at
 
   pub left_from : IsPartitioned (λ x. f x.key) left_items
-  left_from =
-      child_from nodes least height slot f t h.es h.begin h.end h.look h.some h.first h.left first_within h.left_at
+  left_from = child_from _ _ _ _ _ _ _ _ _ h.look h.some h.first h.left first_within h.left_at
 
   pub left_to : IsPartitioned (λ x. t x.key) left_items
-  left_to =
-      child_to nodes least height slot f t h.es h.begin h.end h.look h.some h.first h.left first_within h.left_at
+  left_to = child_to _ _ _ _ _ _ _ _ _ h.look h.some h.first h.left first_within h.left_at
 
   pub right_subtree : IsSubtree nodes least (height - 1) h.right.child
-  right_subtree =
-      child_subtree nodes least height slot f t h.es h.begin h.end h.look h.some h.last h.right last_within h.right_at
+  right_subtree = child_subtree _ _ _ _ _ _ _ _ _ h.look h.some h.last h.right last_within h.right_at
 
   pub right_to : IsPartitioned (λ x. t x.key) right_items
-  right_to =
-      child_to nodes least height slot f t h.es h.begin h.end h.look h.some h.last h.right last_within h.right_at
+  right_to = child_to _ _ _ _ _ _ _ _ _ h.look h.some h.last h.right last_within h.right_at
 
   -- the two children are apart, or the same
   pub apart : (h.first ≡ h.last → ⊥) → (h.first + 1 ≤ h.last) × (h.last < length h.es)
-  apart two =
-      (look_apart nodes least height slot f t h.es h.begin h.end h.look h.some h.first h.last h.first_is h.last_is two, last_within)
+  apart two = (look_apart _ _ _ _ _ _ _ _ _ h.look h.some h.first h.last h.first_is h.last_is two, last_within)
 
   pub in_one : h.first ≡ h.last
       → span (λ (x : Item). f x.key) (λ (x : Item). t x.key) (items_in nodes height slot)
       ≡ span (λ (x : Item). f x.key) (λ (x : Item). t x.key) left_items
-  in_one same =
-      look_one nodes least height slot f t h.es h.begin h.end h.look h.some h.first h.last h.first_is h.last_is h.left
-      h.left_at same
+  in_one = look_one _ _ _ _ _ _ _ _ _ h.look h.some h.first h.last h.first_is h.last_is h.left h.left_at
 
   pub in_two : (h.first ≡ h.last → ⊥)
       → span (λ (x : Item). f x.key) (λ (x : Item). t x.key) (items_in nodes height slot)
       ≡ left_span ++ (middle_items ++ right_span)
-  in_two two =
-      look_two nodes least height slot f t h.es h.begin h.end h.look h.some h.first h.last h.first_is h.last_is h.left
-      h.right h.left_at h.right_at two
+  in_two = look_two _ _ _ _ _ _ _ _ _ h.look h.some h.first h.last h.first_is h.last_is h.left h.right h.left_at h.right_at

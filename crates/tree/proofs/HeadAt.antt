@@ -1,6 +1,5 @@
 -- What a node's heads tells of the key at an index.
-use Rattle.std.proofs.Common.{◌≡◌, ◌≢◌, ◌⊎◌, ℕ, ◌+◌, ◌-◌, ◌<◌, ◌≤◌, Bool, true, false, nat_lt, List, [], ◌∷◌, length, filter, get_or, take, slice_get, slice_index, option_map, Some, All, refl, sym, ap, subst, ◌∙◌, inl, inr, arith, length-take, get_or-take, lt-ltb, le-ltb, ltb-true}
-use Rattle.std.specs.Prelude.{unwrap_or}
+use Rattle.std.proofs.Common.{◌≡◌, ◌≢◌, ◌⊎◌, ℕ, ◌+◌, ◌-◌, ◌<◌, ◌≤◌, Bool, true, false, nat_lt, List, [], ◌∷◌, length, filter, get_or, take, slice_get, slice_index, option_map, Option, None, Some, All, refl, sym, ap, subst, ◌∙◌, inl, inr, arith, length-take, get_or-take, lt-ltb, le-ltb, ltb-true}
 use Rattle.std.specs.Int.{w64, to_be_bytes}
 use Rattle.std.proofs.lemmas.Bool.{cases_lt}
 use Rattle.std.proofs.lemmas.List.{get_or_default, get_or-map, length-take-le}
@@ -12,13 +11,11 @@ use Rattle.tree.specs.declared.node.TheConstants.{PADDING}
 use Rattle.tree.specs.Node.{entries_of, key_heads_of, keys_of}
 use Rattle.tree.specs.Heads.{KeyBytes, Begins, head_behind, head_at, KeyHeads, AreHeads, IsBelowInOrder, IsCommonPrefixLen, IsPrefixLenAt, HasPrefix, IsTargetHead}
 use Rattle.tree.specs.Path.{IsPartitioned}
+use Rattle.tree.specs.Finding.{CanStep, IsStep}
 use Rattle.tree.proofs.callers.Partitions.{length-items_below, none_fail, not_both}
-use Rattle.tree.proofs.HeadChanges.{heads_count}
+use Rattle.tree.proofs.HeadChanges.{heads_count, prefix_begins}
 use Rattle.tree.proofs.HeadCounts.{passing_before, passing_inside}
 use Rattle.tree.proofs.HeadOrder.{empty_head, empty_before, empty_before_too, tells_empty, told_by_heads, before_too, tells_too, common_by_heads}
-
-some_same : {X : Type 0} (a b : X) → Some a ≡ Some b → a ≡ b
-some_same a b e = cc
 
 -- an entry, where there are so many
 pub entry_at : (entries : List Entry) (index : ℕ) → index < length entries
@@ -47,11 +44,6 @@ pub record IsKeyAt (bytes : KeyBytes) (key_heads : KeyHeads) (beginning : List �
   pub begins : (text ≡ []) ⊎ ((take key_heads.prefix_len text ≡ beginning) × (key_heads.prefix_len ≤ length text))
   pub head : get_or key_heads.heads index 0 ≡ head_behind key_heads.prefix_len text
 
--- a list without an element
-nothing_in : (xs : List ℕ) → length xs ≡ 0 → xs ≡ []
-nothing_in [] none = refl
-nothing_in (x ∷ xs) none = absurd (omega arith)
-
 module _ (bytes : KeyBytes) (key_heads : KeyHeads) (h : AreHeads bytes key_heads) where
   pub key_at : (index key : ℕ) → slice_get key_heads.keys index ≡ Some key → IsKeyAt bytes key_heads h.beginning index key
   key_at index key there =
@@ -68,17 +60,14 @@ module _ (bytes : KeyBytes) (key_heads : KeyHeads) (h : AreHeads bytes key_heads
               let begins : take key_heads.prefix_len own.text ≡ h.beginning = ap (λ n. take n own.text) (sym h.prefix_len) ∙ same in
               inr (begins, omega (arith, h.prefix_len, ap length begins, length-take key_heads.prefix_len own.text))
         ];
-        head = ap (λ (ds : List ℕ). get_or ds index 0) h.heads
-            ∙ get_or-map (head_at bytes key_heads.prefix_len) key_heads.keys index key 0 inside ∙ ap (head_at bytes key_heads.prefix_len) read
-            ∙ ap (λ o. head_behind key_heads.prefix_len (unwrap_or o [])) own.known;
+        head = cc (get_or-map (head_at bytes key_heads.prefix_len) key_heads.keys index key 0 inside);
       }
 
   -- what is known of its bytes
   text_at : (index key : ℕ) (there : slice_get key_heads.keys index ≡ Some key) (text : List ℕ) → bytes key ≡ Some text
       → (key_at index key there).text ≡ text
   text_at index key there text known =
-      let k = key_at index key there in
-      some_same k.text text (sym k.known ∙ known)
+      let is = (key_at index key there).known in cc
 
   -- a key whose head isn't zero isn't empty
   long_at : (index key : ℕ) (there : slice_get key_heads.keys index ≡ Some key)
@@ -96,17 +85,7 @@ module _ (bytes : KeyBytes) (key_heads : KeyHeads) (h : AreHeads bytes key_heads
 
   -- The target begins as all keys do.
   sought_begins : (target : List ℕ) → HasPrefix bytes key_heads target → h.beginning ≡ take key_heads.prefix_len target
-  sought_begins target agrees =
-      let there : slice_get key_heads.keys agrees.there.0 ≡ Some agrees.key =
-      slice_get-get_or key_heads.keys agrees.there.0 agrees.key agrees.there.1 ∙ ap Some agrees.there.2 in
-      let k = key_at agrees.there.0 agrees.key there in
-      let same : k.text ≡ agrees.text = text_at agrees.there.0 agrees.key there agrees.text agrees.known in
-      elim k.begins [
-        | inr long ↦ sym long.0 ∙ ap (take key_heads.prefix_len) same ∙ agrees.same
-        | inl empty ↦
-            let none : key_heads.prefix_len ≡ 0 = omega (arith, agrees.long, ap length same, ap length empty) in
-            nothing_in h.beginning (h.prefix_len ∙ none) ∙ sym (ap (λ n. take n target) none)
-      ]
+  sought_begins target agrees = sym (prefix_begins bytes key_heads h target agrees) ∙ ap (λ n. take n target) h.prefix_len
 
   -- It does if it begins as one of them that isn't empty.
   pub agrees_at : (index key : ℕ) (target : List ℕ) → slice_get key_heads.keys index ≡ Some key
@@ -141,9 +120,9 @@ module _ (bytes : KeyBytes) (key_heads : KeyHeads) (h : AreHeads bytes key_heads
         elim k.begins [
           | inr long ↦
               let same : take key_heads.prefix_len k.text ≡ take key_heads.prefix_len target = long.0 ∙ sought_begins target is.agrees in
-              ap (λ d. nat_lt d head) k.head ∙ ap (nat_lt (head_behind key_heads.prefix_len k.text)) is.head_is
-              ∙ told_by_heads key_heads.prefix_len k.text target (is_below key) k.are_bytes is.are_bytes long.1 same apart
-              (order key k.text k.known)
+              let told = told_by_heads key_heads.prefix_len k.text target (is_below key) k.are_bytes is.are_bytes long.1 same
+              apart (order key k.text k.known) in
+              cc (is.head_is, told)
           | inl empty ↦
               let own : get_or key_heads.heads index 0 ≡ 0 =
               k.head ∙ ap (head_behind key_heads.prefix_len) empty ∙ empty_head key_heads.prefix_len in
@@ -214,9 +193,6 @@ module _ (bytes : KeyBytes) (key_heads : KeyHeads) (h : AreHeads bytes key_heads
         let k = key_at index key there in
         let own = k.head in
         let other = is.head_is in
-        let begin : take count (to_be_bytes w64 (head_behind key_heads.prefix_len k.text))
-        ≡ take count (to_be_bytes w64 (head_behind key_heads.prefix_len target)) =
-        sym (ap (λ d. take count (to_be_bytes w64 d)) own) ∙ alike ∙ ap (λ d. take count (to_be_bytes w64 d)) other in
         subst (λ t. IsCommonPrefixLen (key_heads.prefix_len + count) t target) (text_at index key there text known)
         (elim k.begins [
           | inl empty ↦
@@ -224,11 +200,20 @@ module _ (bytes : KeyBytes) (key_heads : KeyHeads) (h : AreHeads bytes key_heads
           | inr begins ↦
               let same : take key_heads.prefix_len k.text ≡ take key_heads.prefix_len target = begins.0 ∙ sought_begins target is.agrees in
               common_by_heads key_heads.prefix_len count k.text target k.are_bytes is.are_bytes begins.1 same
-              (λ e. apart (own ∙ e ∙ sym other)) few begin
-              (λ less e. differ less (ap (λ d. slice_index (to_be_bytes w64 d) count) own ∙ e
-              ∙ sym (ap (λ d. slice_index (to_be_bytes w64 d) count) other)))
+              (λ e. apart (own ∙ e ∙ sym other)) few (cc) (λ less e. differ less (cc))
               (not_behind key k.text k.known passed)
         ])
+
+-- Where nothing is known of the first key, it isn't below the bound, and a step stays there.
+pub stay : {N : ℕ} (bytes : KeyBytes) (is_below : ℕ → Bool) (target : List ℕ) (node : Node N) (known : Option ℕ)
+    → CanStep bytes is_below target node known → known ≡ None
+    → record { step : IsStep bytes is_below target node (record { index = 0; common_prefix_len = None }) }
+stay bytes is_below target node known can none =
+    let e = entry_at (entries_of node) 0 can.can_find.some in
+    let first = rw none at can.known in
+    let few =
+    passing_before (λ (e : Entry). is_below e.key) (entries_of node) 0 e.0 can.can_find.partitioned e.1 (first e.0 e.1) in
+    record { step = record { index_is = omega (arith, few); within = can.can_find.some; knows = first } }
 
 -- A head that isn't the greatest number is that of an entry.
 pub filled_within : {N : ℕ} (bytes : KeyBytes) (node : Node N) → AreHeads bytes (key_heads_of node) → length node.heads ≡ N

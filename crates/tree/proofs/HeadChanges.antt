@@ -1,30 +1,27 @@
 -- What nodes know of the bytes of their keys, through changes of these.
-use Rattle.std.proofs.Math.Nat.{min-le_left, min-le_right}
 use Rattle.std.proofs.Common.{◌≡◌, ◌≢◌, ◌⊎◌, inl, inr, ℕ, ◌+◌, ◌-◌, ◌<◌, ◌≤◌, min, List, [], ◌∷◌, ◌++◌, Some, length, get_or, take, drop, map, All, refl, sym, ◌∙◌, ap, ap₂, subst, arith}
 use Rattle.std.specs.Prelude.{unwrap_or, slice_get, slice_set}
 use Rattle.std.specs.List.{AllZip, Contains}
-use Rattle.std.proofs.lemmas.List.{get_or-map, get_or-take, length-map, length-take, length-take-le, drop_at, map-append, map-set, map_more, nil_from_length, set-get_or, take_all, take_at, take-map, drop-map, take-take, take_more_set}
+use Rattle.std.proofs.lemmas.List.{get_or-map, get_or-take, length-map, length-take, length-take-le, drop_at, map-append, map-set, map_more, nil_from_length, set-get_or, take_all, take_at, take-map, drop-map, take_more_set}
 use Rattle.std.proofs.lemmas.Option.{slice_get_within, get_or_from_slice_get}
 use Rattle.std.proofs.lemmas.List.Elements.{All-nil, All-cons, All-append, All-contains, All-drop, All-more, All-set, All-take, All-weaker}
 use Rattle.tree.specs.declared.entry.Entry.{Entry}
 use Rattle.tree.specs.Heads.{KeyBytes, IsKnown, Begins, KeyHeads, AreHeads, HasPrefix, IsHeadBeside, IsTargetHead, head_behind, head_at}
 use Rattle.tree.specs.Node.{keys_of}
 use Rattle.tree.proofs.Headed.{all_known, begins_if_long}
+use Rattle.tree.proofs.HeadOrder.{take_fewer}
 use Rattle.tree.proofs.callers.Partitions.{All-front, All-back}
 
 -- One more element of the second list becomes that of the first one.
 pub map_further : {X Y : Type 0} (f : X → Y) (xs : List X) (ys : List Y) (i : ℕ) (x : X) (y : Y)
     → i < length xs → i < length ys → x ≡ get_or xs i x → y ≡ f x → take i ys ≡ map f (take i xs)
     → take (i + 1) (slice_set ys i y) ≡ map f (take (i + 1) xs)
-map_further f xs ys i x y inside room is new before =
-    take_more_set ys i y room ∙ ap (λ zs. zs ++ y ∷ []) before ∙ ap (λ z. map f (take i xs) ++ z ∷ []) (new ∙ ap f is)
-    ∙ sym (map_more f xs i x inside)
+map_further f xs ys i x y inside room is new before = cc (take_more_set ys i y room, map_more f xs i x inside)
 
 -- The second list is that of the first one, whole.
 pub map_whole : {X Y : Type 0} (f : X → Y) (xs : List X) (ys : List Y) (len i : ℕ) → length xs ≡ len → i ≡ len
     → take i ys ≡ map f (take i xs) → take len ys ≡ map f xs
-map_whole f xs ys len i count end is =
-    ap (λ n. take n ys) (sym end) ∙ is ∙ ap (map f) (take_all i xs (omega (arith, count, end)))
+map_whole f xs ys len i count end is = cc (take_all i xs (omega (arith, count, end)))
 
 -- Elements are put in place of those from one index up to another.
 pub All-spliced : {X : Type 0} (P : X → Type 0) (xs new : List X) (from to : ℕ) → All P xs → All P new
@@ -40,10 +37,7 @@ keys_count es len most = length-map (take len es) (λ (e : Entry). e.key) ∙ le
 -- what is computed of elements where others are put in place of those from one index up to another
 pub map_spliced : {X Y : Type 0} (f : X → Y) (xs new now : List X) (from to : ℕ) → now ≡ take from xs ++ (new ++ drop to xs)
     → map f now ≡ take from (map f xs) ++ (map f new ++ drop to (map f xs))
-map_spliced f xs new now from to is =
-    ap (map f) is ∙ map-append f (take from xs) (new ++ drop to xs)
-    ∙ ap₂ (λ ys zs. ys ++ zs) (sym (take-map f from xs))
-    (map-append f new (drop to xs) ∙ ap (λ ys. map f new ++ ys) (sym (drop-map f to xs)))
+map_spliced f xs new now from to is = simp (is, map-append, take-map, drop-map)
 
 -- the key of an entry is one of the keys
 pub keys_there : (es : List Entry) (i : ℕ) (e : Entry) → i < length es → get_or es i e ≡ e → Contains (keys_of es) e.key
@@ -62,8 +56,8 @@ module _ (es : List Entry) (len i : ℕ) (e : Entry) (inside : i < len) (most : 
   -- its key
   pub key_read : e.key ≡ get_or (keys_of (take len es)) i e.key
   key_read =
-      sym (get_or-map (λ (x : Entry). x.key) (take len es) i e e.key (omega (arith, length-take-le len es most))
-      ∙ ap (λ (x : Entry). x.key) (get_or-take len es i e inside ∙ sym is))
+      let mapped = get_or-map (λ (x : Entry). x.key) (take len es) i e e.key (omega (arith, length-take-le len es most)) in
+      cc (mapped, get_or-take len es i e inside)
 
   pub key_there : Contains (keys_of (take len es)) e.key
   key_there = (i, omega (arith, keys_count es len most), sym key_read)
@@ -71,8 +65,8 @@ module _ (es : List Entry) (len i : ℕ) (e : Entry) (inside : i < len) (most : 
   -- its head
   pub head_there : (f : ℕ → ℕ) (heads : List ℕ) → take len heads ≡ map f (keys_of (take len es)) → get_or heads i 0 ≡ f e.key
   head_there f heads right =
-      sym (get_or-take len heads i 0 inside) ∙ ap (λ xs. get_or xs i 0) right
-      ∙ get_or-map f (keys_of (take len es)) i e.key 0 (omega (arith, keys_count es len most)) ∙ ap f (sym key_read)
+      let mapped = get_or-map f (keys_of (take len es)) i e.key 0 (omega (arith, keys_count es len most)) in
+      cc (get_or-take len heads i 0 inside, mapped, key_read)
 
   -- with its head one more is right
   pub head_next : (f : ℕ → ℕ) (heads : List ℕ) (head : ℕ) → i < length heads → head ≡ f e.key
@@ -84,9 +78,7 @@ module _ (es : List Entry) (len i : ℕ) (e : Entry) (inside : i < len) (most : 
   -- another entry of the same key in its place changes no key
   pub key_stays : (new : Entry) → e.key ≡ new.key → keys_of (slice_set (take len es) i new) ≡ keys_of (take len es)
   key_stays new same =
-      map-set (λ (x : Entry). x.key) (take len es) i new
-      ∙ ap (λ k. slice_set (keys_of (take len es)) i k) (sym same ∙ key_read)
-      ∙ set-get_or (keys_of (take len es)) i e.key
+      cc (map-set (λ (x : Entry). x.key) (take len es) i new, key_read, set-get_or (keys_of (take len es)) i e.key)
 
 -- A key is empty, or begins as the keys do of which this is known.
 abbrev pub BeginsAsThese : KeyBytes → KeyHeads → ℕ → Type 0
@@ -104,79 +96,18 @@ module _ (bytes : KeyBytes) where
   head_known prefix_len key head k d =
       d k.text k.known ∙ ap (λ o. head_behind prefix_len (unwrap_or o [])) (sym k.known)
 
-  -- A text that begins as all keys do begins with these bytes.
-  prefix_begins : (key_heads : KeyHeads) (h : AreHeads bytes key_heads) (text : List ℕ) → HasPrefix bytes key_heads text
-      → take (length h.beginning) text ≡ h.beginning
-  prefix_begins key_heads h text a =
-      let b = All-contains (Begins bytes h.beginning) key_heads.keys a.key h.begins a.there in
-      let one : Some b.text ≡ Some a.text = sym b.known ∙ a.known in
-      let texts : b.text ≡ a.text = cc in
-      let long : length h.beginning ≤ length b.text = omega (arith, a.long, h.prefix_len, ap length texts) in
-      ap (λ n. take n text) h.prefix_len ∙ sym a.same ∙ ap₂ take (sym h.prefix_len) (sym texts)
-      ∙ begins_if_long h.beginning b.text b.begins long
+  -- a known key whose text is empty or begins with these bytes
+  begins_with : (beginning : List ℕ) (key : ℕ) (k : IsKnown bytes key)
+      → (k.text ≡ []) ⊎ (take (length beginning) k.text ≡ beginning) → Begins bytes beginning key
+  begins_with beginning key k begins = record { text = k.text; known = k.known; are_bytes = k.are_bytes; begins = begins }
 
-  -- A key that begins as all others do for so many bytes begins with these.
-  pub agrees_begins : (key_heads : KeyHeads) (h : AreHeads bytes key_heads) (key : ℕ) → IsKnown bytes key
-      → BeginsAsThese bytes key_heads key → Begins bytes h.beginning key
-  agrees_begins key_heads h key k agrees =
-      record {
-        text = k.text;
-        known = k.known;
-        are_bytes = k.are_bytes;
-        begins = elim (agrees k.text k.known) [
-          | inl empty ↦ inl empty
-          | inr a ↦ inr (prefix_begins key_heads h k.text a)
-        ];
-      }
-
-  -- a key of the node itself does
-  pub key_agrees : (key_heads : KeyHeads) (h : AreHeads bytes key_heads) (key : ℕ) → Contains key_heads.keys key → BeginsAsThese bytes key_heads key
-  key_agrees key_heads h key there text known =
-      let b = All-contains (Begins bytes h.beginning) key_heads.keys key h.begins there in
-      let one : Some text ≡ Some b.text = sym known ∙ b.known in
-      let texts : text ≡ b.text = cc in
-      elim b.begins [
-        | inl empty ↦ inl (texts ∙ empty)
-        | inr same ↦ inr (record {
-          key = key;
-          text = text;
-          there = there;
-          known = known;
-          long = omega (
-            arith,
-            ap length texts,
-            ap length same,
-            h.prefix_len,
-            length-take (length h.beginning) b.text,
-            min-le_right (length h.beginning) (length b.text),
-          );
-          same = refl;
-        })
-      ]
-
-  -- and a key that begins as one of them for so many bytes does
-  pub common_agrees : (key_heads : KeyHeads) (h : AreHeads bytes key_heads) (first key count : ℕ) → Contains key_heads.keys first
-      → key_heads.prefix_len ≤ count
-      → ((a b : List ℕ) → bytes first ≡ Some a → bytes key ≡ Some b → take count a ≡ take count b)
-      → ((a b : List ℕ) → bytes first ≡ Some a → bytes key ≡ Some b → (count ≤ length a) × (count ≤ length b))
-      → (text : List ℕ) → bytes key ≡ Some text → HasPrefix bytes key_heads text
-  common_agrees key_heads h first key count there enough same within text known =
-      let b = All-contains (Begins bytes h.beginning) key_heads.keys first h.begins there in
-      record {
-        key = first;
-        text = b.text;
-        there = there;
-        known = b.known;
-        long = omega (arith, enough, (within b.text text b.known known).0);
-        same = sym (take-take key_heads.prefix_len count b.text enough) ∙ ap (take key_heads.prefix_len) (same b.text text b.known known)
-            ∙ take-take key_heads.prefix_len count text enough;
-      }
-
-  -- keys that begin as all others do
-  pub all_begin : (key_heads : KeyHeads) (h : AreHeads bytes key_heads) (keys : List ℕ) → All (IsKnown bytes) keys
-      → All (BeginsAsThese bytes key_heads) keys → All (Begins bytes h.beginning) keys
-  all_begin key_heads h keys known agree i d inside =
-      agrees_begins key_heads h (get_or keys i d) (known i d inside) (agree i d inside)
+  -- a key that begins as the first one does for fewer bytes, too
+  begin_fewer : (first count less : ℕ) → less ≤ count → (key : ℕ) → BeginsAsFirst bytes first count key
+      → BeginsAsFirst bytes first less key
+  begin_fewer first count less fewer key begins a b one other = elim (begins a b one other) [
+    | inl empty ↦ inl empty
+    | inr h ↦ inr (omega (arith, h.0, fewer), take_fewer less count a b fewer h.1)
+  ]
 
   -- one key more that begins as the first one does, for fewer bytes perhaps
   pub first_more : (first count common i : ℕ) (keys : List ℕ) (key : ℕ) → i < length keys → key ≡ get_or keys i key
@@ -186,26 +117,11 @@ module _ (bytes : KeyBytes) where
       → All (BeginsAsFirst bytes first (min count common)) (take (i + 1) keys)
   first_more first count common i keys key inside is same within before =
       let less = min count common in
-      let fewer : less ≤ common = min-le_right count common in
-      let here : BeginsAsFirst bytes first less key = λ a b one other. inr (
-        omega (arith, (within a b one other).0, fewer),
-        sym (take-take less common a fewer) ∙ ap (take less) (same a b one other) ∙ take-take less common b fewer,
-      ) in
       All-more (BeginsAsFirst bytes first less) keys i key inside
-      (All-weaker (BeginsAsFirst bytes first count) (BeginsAsFirst bytes first less) weaker (take i keys) before)
-      (subst (BeginsAsFirst bytes first less) is here)
-    where
-      weaker : (k : ℕ) → BeginsAsFirst bytes first count k → BeginsAsFirst bytes first (min count common) k
-      weaker k b one other is_one is_other =
-          let less = min count common in
-          let fewer : less ≤ count = min-le_left count common in
-          elim (b one other is_one is_other) [
-            | inl empty ↦ inl empty
-            | inr h ↦ inr (
-              omega (arith, h.0, fewer),
-              sym (take-take less count one fewer) ∙ ap (take less) h.1 ∙ take-take less count other fewer,
-            )
-          ]
+      (All-weaker (BeginsAsFirst bytes first count) (BeginsAsFirst bytes first less) (begin_fewer first count less (omega arith))
+      (take i keys) before)
+      (subst (BeginsAsFirst bytes first less) is (begin_fewer first common less (omega arith) key
+      (λ a b one other. inr ((within a b one other).0, same a b one other))))
 
   -- an empty key more
   pub first_empty : (first count i : ℕ) (keys : List ℕ) (key : ℕ) → i < length keys → key ≡ get_or keys i key
@@ -229,54 +145,16 @@ module _ (bytes : KeyBytes) where
         long,
         λ i d inside.
             let other = known i d inside in
-            record {
-              text = other.text;
-              known = other.known;
-              are_bytes = other.are_bytes;
-              begins = elim (common i d inside text other.text is other.known) [
-                | inl empty ↦ inl empty
-                | inr h ↦ inr (ap (λ n. take n other.text) (length-take-le count text long) ∙ sym h.1)
-              ];
-            },
+            begins_with (take count text) (get_or keys i d) other (elim (common i d inside text other.text is other.known) [
+              | inl empty ↦ inl empty
+              | inr h ↦ inr (ap (λ n. take n other.text) (length-take-le count text long) ∙ sym h.1)
+            ]),
       )
 
   -- Where no bytes are asked for, known keys begin with them.
   pub begin_none : (keys : List ℕ) → All (IsKnown bytes) keys
       → (beginning : List ℕ) × (length beginning ≡ 0) × All (Begins bytes beginning) keys
-  begin_none keys known = (
-    [],
-    refl,
-    λ i d inside.
-        let k = known i d inside in
-        record { text = k.text; known = k.known; are_bytes = k.are_bytes; begins = inr refl },
-  )
-
-  -- Another key that begins alike is set.
-  pub headed_set : (key_heads new : KeyHeads) (h : AreHeads bytes key_heads) (i key head : ℕ) → IsKnown bytes key → BeginsAsThese bytes key_heads key
-      → head ≡ head_at bytes key_heads.prefix_len key → new.keys ≡ slice_set key_heads.keys i key → new.prefix_len ≡ key_heads.prefix_len
-      → new.heads ≡ slice_set key_heads.heads i head → AreHeads bytes new
-  headed_set key_heads new h i key head k agrees right keys prefix_len heads =
-      let P = Begins bytes h.beginning in
-      record {
-        beginning = h.beginning;
-        prefix_len = h.prefix_len ∙ sym prefix_len;
-        begins = subst (All P) (sym keys) (All-set P key_heads.keys i key (agrees_begins key_heads h key k agrees) h.begins);
-        heads = heads ∙ ap₂ (λ xs d. slice_set xs i d) h.heads right
-            ∙ sym (map-set (head_at bytes key_heads.prefix_len) key_heads.keys i key)
-            ∙ ap₂ (λ n xs. map (head_at bytes n) xs) (sym prefix_len) (sym keys);
-      }
-
-  -- then the keys are known
-  pub known_set : (key_heads : KeyHeads) → AreHeads bytes key_heads → (i key : ℕ) → IsKnown bytes key → (keys : List ℕ)
-      → keys ≡ slice_set key_heads.keys i key → All (IsKnown bytes) keys
-  known_set key_heads h i key k keys is =
-      subst (All (IsKnown bytes)) (sym is) (All-set (IsKnown bytes) key_heads.keys i key k (all_known bytes key_heads h))
-
-  -- those where others are put in place of some
-  pub known_spliced : (key_heads : KeyHeads) → AreHeads bytes key_heads → (new keys : List ℕ) (from to : ℕ) → All (IsKnown bytes) new
-      → keys ≡ take from key_heads.keys ++ (new ++ drop to key_heads.keys) → All (IsKnown bytes) keys
-  known_spliced key_heads h new keys from to known is =
-      subst (All (IsKnown bytes)) (sym is) (All-spliced (IsKnown bytes) key_heads.keys new from to (all_known bytes key_heads h) known)
+  begin_none keys known = ([], refl, λ i d inside. begins_with [] (get_or keys i d) (known i d inside) (inr refl))
 
   -- The head of a target is that of a key with its bytes.
   pub target_beside : (key_heads : KeyHeads) (key head : ℕ) → IsKnown bytes key
@@ -298,66 +176,11 @@ module _ (bytes : KeyBytes) where
         All-cons (BeginsAsThese bytes key_heads) key keys given.0.begins rest.1,
       )
 
-  -- Others are put in place of those from one index up to another, with the heads given.
-  pub headed_spliced : (key_heads now : KeyHeads) → AreHeads bytes key_heads → (new heads : List ℕ) (from to : ℕ)
-      → All (IsKnown bytes) new
-      → AllZip (IsHeadBeside bytes key_heads) new heads
-      → now.keys ≡ take from key_heads.keys ++ (new ++ drop to key_heads.keys) → now.prefix_len ≡ key_heads.prefix_len
-      → now.heads ≡ take from key_heads.heads ++ (heads ++ drop to key_heads.heads) → AreHeads bytes now
-  headed_spliced key_heads now h new heads from to known given keys_are prefix_len heads_are =
-      let f = head_at bytes key_heads.prefix_len in
-      let right = beside_right key_heads new heads given in
-      record {
-        beginning = h.beginning;
-        prefix_len = h.prefix_len ∙ sym prefix_len;
-        begins = subst (All (Begins bytes h.beginning)) (sym keys_are)
-            (All-spliced (Begins bytes h.beginning) key_heads.keys new from to h.begins (all_begin key_heads h new known right.1));
-        heads = heads_are ∙ ap₂ (λ ds es. take from ds ++ (es ++ drop to ds)) h.heads right.0
-            ∙ sym (map_spliced f key_heads.keys new now.keys from to keys_are)
-            ∙ ap (λ n. map (head_at bytes n) now.keys) (sym prefix_len);
-      }
-
   -- There are as many heads as entries.
   pub heads_count : (es : List Entry) (key_heads : KeyHeads) → AreHeads bytes key_heads → key_heads.keys ≡ keys_of es
       → length key_heads.heads ≡ length es
   heads_count es key_heads h is =
-      ap length h.heads ∙ length-map key_heads.keys (head_at bytes key_heads.prefix_len) ∙ ap length is
-      ∙ length-map es (λ (e : Entry). e.key)
-
-  -- Where one key of a second node begins as the keys of a first one do, all of both begin with the same bytes, if with as many.
-  same_beginning : (one other : KeyHeads) (h : AreHeads bytes one) (others : AreHeads bytes other) (key : ℕ)
-      → one.prefix_len ≡ other.prefix_len → Contains other.keys key
-      → ((text : List ℕ) → bytes key ≡ Some text → HasPrefix bytes one text) → others.beginning ≡ h.beginning
-  same_beginning one other h others key as_many there agrees =
-      let k = All-contains (Begins bytes others.beginning) other.keys key others.begins there in
-      let begins : take (length h.beginning) k.text ≡ h.beginning = prefix_begins one h k.text (agrees k.text k.known) in
-      let lengths : length others.beginning ≡ length h.beginning = others.prefix_len ∙ sym as_many ∙ sym h.prefix_len in
-      elim k.begins [
-        | inr same ↦ sym same ∙ ap (λ n. take n k.text) lengths ∙ begins
-        | inl empty ↦
-            let none : length h.beginning ≡ 0 =
-            omega (arith, ap length begins, length-take (length h.beginning) k.text, ap length empty) in
-            nil_from_length others.beginning (lengths ∙ none) ∙ sym (nil_from_length h.beginning none)
-      ]
-
-  -- Those of the second are put behind those of the first one, with their heads.
-  pub headed_joined : (one other now : KeyHeads) → AreHeads bytes one → AreHeads bytes other → (key : ℕ)
-      → one.prefix_len ≡ other.prefix_len → Contains other.keys key
-      → ((text : List ℕ) → bytes key ≡ Some text → HasPrefix bytes one text)
-      → now.keys ≡ one.keys ++ other.keys → now.prefix_len ≡ one.prefix_len → now.heads ≡ one.heads ++ other.heads
-      → AreHeads bytes now
-  headed_joined one other now h others key as_many there agrees keys prefix_len heads =
-      let P = Begins bytes h.beginning in
-      record {
-        beginning = h.beginning;
-        prefix_len = h.prefix_len ∙ sym prefix_len;
-        begins = subst (All P) (sym keys) (All-append P one.keys other.keys h.begins
-            (subst (λ b. All (Begins bytes b) other.keys) (same_beginning one other h others key as_many there agrees) others.begins));
-        heads = heads
-            ∙ ap₂ (λ xs ys. xs ++ ys) h.heads (others.heads ∙ ap (λ n. map (head_at bytes n) other.keys) (sym as_many))
-            ∙ sym (map-append (head_at bytes one.prefix_len) one.keys other.keys)
-            ∙ ap₂ (λ n xs. map (head_at bytes n) xs) (sym prefix_len) (sym keys);
-      }
+      cc (h.heads, length-map key_heads.keys (head_at bytes key_heads.prefix_len), length-map es (λ (e : Entry). e.key))
 
   -- Heads that are right of all keys are right of those in front, and of those behind.
   pub headed_apart : (all front back : KeyHeads) → AreHeads bytes all
@@ -368,54 +191,152 @@ module _ (bytes : KeyBytes) where
       let P = Begins bytes h.beginning in
       let n = length front.keys in
       let begins : All P (front.keys ++ back.keys) = subst (All P) (sym keys) h.begins in
-      let both : front.heads ++ back.heads ≡ map f front.keys ++ map f back.keys =
-      heads ∙ h.heads ∙ ap (map f) (sym keys) ∙ map-append f front.keys back.keys in (
+      let mapped = map-append f front.keys back.keys in
+      let len = length-map front.keys f in (
         record {
           beginning = h.beginning;
           prefix_len = h.prefix_len ∙ sym front_len;
           begins = All-front P front.keys back.keys begins;
-          heads = sym (take_at front.heads back.heads n count) ∙ ap (take n) both
-              ∙ take_at (map f front.keys) (map f back.keys) n (length-map front.keys f)
-              ∙ ap (λ m. map (head_at bytes m) front.keys) (sym front_len);
+          heads = cc (take_at front.heads back.heads n count, take_at (map f front.keys) (map f back.keys) n len);
         },
         record {
           beginning = h.beginning;
           prefix_len = h.prefix_len ∙ sym back_len;
           begins = All-back P front.keys back.keys begins;
-          heads = sym (drop_at front.heads back.heads n count) ∙ ap (drop n) both
-              ∙ drop_at (map f front.keys) (map f back.keys) n (length-map front.keys f)
-              ∙ ap (λ m. map (head_at bytes m) back.keys) (sym back_len);
+          heads = cc (drop_at front.heads back.heads n count, drop_at (map f front.keys) (map f back.keys) n len);
         },
       )
 
-  -- Two neighbours whose keys all begin alike share them, with their heads.
-  pub headed_shared : (one other left right : KeyHeads) → AreHeads bytes one → AreHeads bytes other → (key : ℕ)
-      → one.prefix_len ≡ other.prefix_len → Contains other.keys key
-      → ((text : List ℕ) → bytes key ≡ Some text → HasPrefix bytes one text)
-      → left.keys ++ right.keys ≡ one.keys ++ other.keys → left.heads ++ right.heads ≡ one.heads ++ other.heads
-      → length left.heads ≡ length left.keys → left.prefix_len ≡ one.prefix_len → right.prefix_len ≡ other.prefix_len
-      → AreHeads bytes left × AreHeads bytes right
-  headed_shared one other left right h others key as_many there agrees keys heads count left_len right_len =
-      let all : KeyHeads = record { keys = one.keys ++ other.keys; prefix_len = one.prefix_len; heads = one.heads ++ other.heads } in
-      headed_apart all left right (headed_joined one other all h others key as_many there agrees refl refl refl) keys heads count left_len
-      (right_len ∙ sym as_many)
+  -- a node that knows its keys' bytes
+  module _ (key_heads : KeyHeads) (h : AreHeads bytes key_heads) where
+    -- A text that begins as all keys do begins with these bytes.
+    pub prefix_begins : (text : List ℕ) → HasPrefix bytes key_heads text → take (length h.beginning) text ≡ h.beginning
+    prefix_begins text a =
+        let b = All-contains (Begins bytes h.beginning) key_heads.keys a.key h.begins a.there in
+        let texts : b.text ≡ a.text = cc (b.known, a.known) in
+        let long : length h.beginning ≤ length b.text = omega (arith, a.long, h.prefix_len, ap length texts) in
+        cc (h.prefix_len, a.same, begins_if_long h.beginning b.text b.begins long)
 
-  -- Those from one index up to another are taken out, with their heads.
-  pub headed_removed : (key_heads new : KeyHeads) (h : AreHeads bytes key_heads) (from to : ℕ)
-      → new.keys ≡ take from key_heads.keys ++ drop to key_heads.keys → new.prefix_len ≡ key_heads.prefix_len
-      → new.heads ≡ take from key_heads.heads ++ drop to key_heads.heads → AreHeads bytes new
-  headed_removed key_heads new h from to keys prefix_len heads =
-      let P = Begins bytes h.beginning in
-      let f = head_at bytes key_heads.prefix_len in
-      record {
-        beginning = h.beginning;
-        prefix_len = h.prefix_len ∙ sym prefix_len;
-        begins = subst (All P) (sym keys) (All-spliced P key_heads.keys [] from to h.begins (All-nil P));
-        heads = heads ∙ ap (λ ds. take from ds ++ drop to ds) h.heads
-            ∙ ap₂ (λ xs ys. xs ++ ys) (take-map f from key_heads.keys) (drop-map f to key_heads.keys)
-            ∙ sym (map-append f (take from key_heads.keys) (drop to key_heads.keys))
-            ∙ ap₂ (λ n xs. map (head_at bytes n) xs) (sym prefix_len) (sym keys);
-      }
+    -- A key that begins as all others do for so many bytes begins with these.
+    agrees_begins : (key : ℕ) → IsKnown bytes key → BeginsAsThese bytes key_heads key → Begins bytes h.beginning key
+    agrees_begins key k agrees = begins_with h.beginning key k (elim (agrees k.text k.known) [
+      | inl empty ↦ inl empty
+      | inr a ↦ inr (prefix_begins k.text a)
+    ])
+
+    -- a key of the node itself does
+    pub key_agrees : (key : ℕ) → Contains key_heads.keys key → BeginsAsThese bytes key_heads key
+    key_agrees key there text known =
+        let b = All-contains (Begins bytes h.beginning) key_heads.keys key h.begins there in
+        let texts : text ≡ b.text = cc (b.known) in
+        elim b.begins [
+          | inl empty ↦ inl (texts ∙ empty)
+          | inr same ↦ inr (record {
+            key = key;
+            text = text;
+            there = there;
+            known = known;
+            long = omega (arith, ap length texts, ap length same, h.prefix_len, length-take (length h.beginning) b.text);
+            same = refl;
+          })
+        ]
+
+    -- and a key that begins as one of them for so many bytes does
+    pub common_agrees : (first key count : ℕ) → Contains key_heads.keys first → key_heads.prefix_len ≤ count
+        → ((a b : List ℕ) → bytes first ≡ Some a → bytes key ≡ Some b → take count a ≡ take count b)
+        → ((a b : List ℕ) → bytes first ≡ Some a → bytes key ≡ Some b → (count ≤ length a) × (count ≤ length b))
+        → (text : List ℕ) → bytes key ≡ Some text → HasPrefix bytes key_heads text
+    common_agrees first key count there enough same within text known =
+        let b = All-contains (Begins bytes h.beginning) key_heads.keys first h.begins there in
+        record {
+          key = first;
+          text = b.text;
+          there = there;
+          known = b.known;
+          long = omega (arith, enough, (within b.text text b.known known).0);
+          same = take_fewer key_heads.prefix_len count b.text text enough (same b.text text b.known known);
+        }
+
+    -- Another key that begins alike is set.
+    pub headed_set : (new : KeyHeads) (i key head : ℕ) → IsKnown bytes key → BeginsAsThese bytes key_heads key
+        → head ≡ head_at bytes key_heads.prefix_len key → new.keys ≡ slice_set key_heads.keys i key
+        → new.prefix_len ≡ key_heads.prefix_len → new.heads ≡ slice_set key_heads.heads i head → AreHeads bytes new
+    headed_set new i key head k agrees right keys prefix_len heads = record {
+      beginning = h.beginning;
+      prefix_len = h.prefix_len ∙ sym prefix_len;
+      begins = rw keys (All-set (Begins bytes h.beginning) key_heads.keys i key (agrees_begins key k agrees) h.begins);
+      heads = cc (map-set (head_at bytes key_heads.prefix_len) key_heads.keys i key);
+    }
+
+    -- then the keys are known
+    pub known_set : (i key : ℕ) → IsKnown bytes key → (keys : List ℕ) → keys ≡ slice_set key_heads.keys i key
+        → All (IsKnown bytes) keys
+    known_set i key k keys is = rw is (All-set (IsKnown bytes) key_heads.keys i key k (all_known bytes key_heads h))
+
+    -- those where others are put in place of some
+    pub known_spliced : (new keys : List ℕ) (from to : ℕ) → All (IsKnown bytes) new
+        → keys ≡ take from key_heads.keys ++ (new ++ drop to key_heads.keys) → All (IsKnown bytes) keys
+    known_spliced new keys from to known is =
+        rw is (All-spliced (IsKnown bytes) key_heads.keys new from to (all_known bytes key_heads h) known)
+
+    -- Others are put in place of those from one index up to another, with the heads given.
+    pub headed_spliced : (now : KeyHeads) (new heads : List ℕ) (from to : ℕ) → All (IsKnown bytes) new
+        → AllZip (IsHeadBeside bytes key_heads) new heads
+        → now.keys ≡ take from key_heads.keys ++ (new ++ drop to key_heads.keys) → now.prefix_len ≡ key_heads.prefix_len
+        → now.heads ≡ take from key_heads.heads ++ (heads ++ drop to key_heads.heads) → AreHeads bytes now
+    headed_spliced now new heads from to known given keys_are prefix_len heads_are =
+        let right = beside_right key_heads new heads given in
+        let begin = λ (i d : ℕ) (inside : i < length new).
+        agrees_begins (get_or new i d) (known i d inside) (right.1 i d inside) in
+        record {
+          beginning = h.beginning;
+          prefix_len = h.prefix_len ∙ sym prefix_len;
+          begins = rw keys_are (All-spliced (Begins bytes h.beginning) key_heads.keys new from to h.begins begin);
+          heads = cc (right.0, map_spliced (head_at bytes key_heads.prefix_len) key_heads.keys new now.keys from to keys_are);
+        }
+
+    -- Those from one index up to another are taken out, with their heads.
+    pub headed_removed : (new : KeyHeads) (from to : ℕ) → new.keys ≡ take from key_heads.keys ++ drop to key_heads.keys
+        → new.prefix_len ≡ key_heads.prefix_len → new.heads ≡ take from key_heads.heads ++ drop to key_heads.heads
+        → AreHeads bytes new
+    headed_removed new from to = headed_spliced new [] [] from to (All-nil (IsKnown bytes)) tt
+
+  -- two nodes, where one key of the second begins as the keys of the first do, and as many bytes are known
+  module _ (one other : KeyHeads) (h : AreHeads bytes one) (others : AreHeads bytes other) (key : ℕ)
+      (as_many : one.prefix_len ≡ other.prefix_len) (there : Contains other.keys key)
+      (agrees : (text : List ℕ) → bytes key ≡ Some text → HasPrefix bytes one text) where
+    -- All keys of both begin with the same bytes.
+    same_beginning : others.beginning ≡ h.beginning
+    same_beginning =
+        let k = All-contains (Begins bytes others.beginning) other.keys key others.begins there in
+        let begins : take (length h.beginning) k.text ≡ h.beginning = prefix_begins one h k.text (agrees k.text k.known) in
+        let lengths : length others.beginning ≡ length h.beginning = cc (h.prefix_len, others.prefix_len) in
+        elim k.begins [
+          | inr same ↦ cc
+          | inl empty ↦
+              let none : length h.beginning ≡ 0 =
+              omega (arith, ap length begins, length-take (length h.beginning) k.text, ap length empty) in
+              nil_from_length others.beginning (lengths ∙ none) ∙ sym (nil_from_length h.beginning none)
+        ]
+
+    -- Those of the second are put behind those of the first one, with their heads.
+    pub headed_joined : (now : KeyHeads) → now.keys ≡ one.keys ++ other.keys → now.prefix_len ≡ one.prefix_len
+        → now.heads ≡ one.heads ++ other.heads → AreHeads bytes now
+    headed_joined now keys prefix_len heads = record {
+      beginning = h.beginning;
+      prefix_len = h.prefix_len ∙ sym prefix_len;
+      begins = rw keys (All-append (Begins bytes h.beginning) one.keys other.keys h.begins (rw same_beginning at others.begins));
+      heads = cc (map-append (head_at bytes one.prefix_len) one.keys other.keys);
+    }
+
+    -- Two neighbours whose keys all begin alike share them, with their heads.
+    pub headed_shared : (left right : KeyHeads) → left.keys ++ right.keys ≡ one.keys ++ other.keys
+        → left.heads ++ right.heads ≡ one.heads ++ other.heads → length left.heads ≡ length left.keys
+        → left.prefix_len ≡ one.prefix_len → right.prefix_len ≡ other.prefix_len → AreHeads bytes left × AreHeads bytes right
+    headed_shared left right keys heads count left_len right_len =
+        let all : KeyHeads =
+        record { keys = one.keys ++ other.keys; prefix_len = one.prefix_len; heads = one.heads ++ other.heads } in
+        headed_apart all left right (headed_joined all refl refl refl) keys heads count left_len (right_len ∙ sym as_many)
 
 -- The head of the key of an entry, behind so many bytes, is that of its bytes.
 pub head_read : (es : List Entry) (len i : ℕ) (e : Entry) → i < len → len ≤ length es → e ≡ get_or es i e

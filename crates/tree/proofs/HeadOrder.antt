@@ -1,8 +1,8 @@
 -- What the bytes with which a key and the target begin, and the heads of what stands behind, tell of the two.
-use Rattle.std.proofs.Common.{◌≡◌, ◌≢◌, ℕ, zero, suc, ◌+◌, ◌-◌, ◌<◌, ◌≤◌, Bool, nat_lt, List, [], ◌∷◌, ◌++◌, length, get_or, take, drop, replicate, slice_index, refl, sym, ap, subst, ◌∙◌, inl, inr, arith, length-take, get_or-take, lt-ltb, le-ltb}
+use Rattle.std.proofs.Common.{◌≡◌, ◌≢◌, ℕ, zero, suc, ◌+◌, ◌-◌, ◌<◌, ◌≤◌, Bool, nat_lt, List, [], ◌∷◌, ◌++◌, length, get_or, take, drop, replicate, slice_index, refl, sym, ap, subst, ◌∙◌, inl, inr, arith, length-take, get_or-take, take-add, lt-ltb, le-ltb}
 use Rattle.std.specs.Int.{w64, to_be_bytes, from_be_bytes}
 use Rattle.std.proofs.lemmas.Bool.{cases_lt, cases_order}
-use Rattle.std.proofs.lemmas.List.{take-take, take-append-le, take-append-drop, take_more_same, length-take-le, drop-take, length-drop, get_or_append_left}
+use Rattle.std.proofs.lemmas.List.{take-take, take-append-le, take_more_same, length-take-le, drop-take, length-drop, get_or_append_left}
 use Rattle.std.proofs.lemmas.List.Elements.{All-drop}
 use Rattle.keys.specs.Key.{IsBytes, IsBefore}
 use Rattle.keys.specs.Head.{first_eight, head_of}
@@ -12,18 +12,11 @@ use Rattle.tree.specs.Heads.{head_behind, IsBelowInOrder, IsCommonPrefixLen}
 abbrev IsByte : ℕ → Type 0
 IsByte byte = byte < 256
 
-take_fewer : (m n : ℕ) (a b : List ℕ) → m ≤ n → take n a ≡ take n b → take m a ≡ take m b
-take_fewer m n a b le same = sym (take-take m n a le) ∙ ap (take m) same ∙ take-take m n b le
+pub take_fewer : (m n : ℕ) (a b : List ℕ) → m ≤ n → take n a ≡ take n b → take m a ≡ take m b
+take_fewer m n a b le same = cc (take-take m n a le, take-take m n b le)
 
 same_at : (i n : ℕ) (a b : List ℕ) → i < n → take n a ≡ take n b → get_or a i 0 ≡ get_or b i 0
-same_at i n a b less same =
-    sym (get_or-take n a i 0 less) ∙ ap (λ (l : List ℕ). get_or l i 0) same ∙ get_or-take n b i 0 less
-
-take_sum : (m n : ℕ) (a : List ℕ) → take (m + n) a ≡ take m a ++ take n (drop m a)
-take_sum m n a =
-    sym (take-append-drop m (take (m + n) a))
-    ∙ ap (λ front. front ++ drop m (take (m + n) a)) (take-take m (m + n) a (omega arith))
-    ∙ ap (λ back. take m a ++ back) (drop-take m n a)
+same_at i n a b less same = cc (get_or-take n a i 0 less, get_or-take n b i 0 less)
 
 -- The second one has as many bytes.
 pub as_long : (n : ℕ) (a b : List ℕ) → n ≤ length a → take n a ≡ take n b → n ≤ length b
@@ -122,12 +115,11 @@ module _ (shared prefix_len : ℕ) (first text target : List ℕ) (less : shared
   )
 
 take-first_eight : (n : ℕ) (a : List ℕ) → n ≤ 8 → n ≤ length a → take n (first_eight a) ≡ take n a
-take-first_eight n a few within =
-    take-take n 8 (a ++ replicate 8 0) few ∙ take-append-le n a (replicate 8 0) within
+take-first_eight n a few within = cc (take-take n 8 (a ++ replicate 8 0) few, take-append-le n a (replicate 8 0) within)
 
 get_or-first_eight : (i : ℕ) (a : List ℕ) → i < 8 → i < length a → get_or (first_eight a) i 0 ≡ get_or a i 0
 get_or-first_eight i a few within =
-    get_or-take 8 (a ++ replicate 8 0) i 0 few ∙ get_or_append_left a (replicate 8 0) 0 i within
+    cc (get_or-take 8 (a ++ replicate 8 0) i 0 few, get_or_append_left a (replicate 8 0) 0 i within)
 
 -- Two byte strings begin alike as far as their first eight bytes do, zeros for those that are missing, if the first one isn't
 -- the later one.
@@ -137,22 +129,20 @@ alike_in_eight m a b few same differ not_behind count within = (
   (λ le. elim (cases_lt (length b) count) [
     | inl short ↦
         let n = length b in
+        let fewer = take_fewer n m (first_eight a) (first_eight b) (omega arith) same in
         let part : take n b ≡ take n a =
-        sym (take-first_eight n b (omega arith) (omega arith))
-        ∙ sym (take_fewer n m (first_eight a) (first_eight b) (omega arith) same)
-        ∙ take-first_eight n a (omega arith) (omega arith) in
+        cc (take-first_eight n b (omega arith) (omega arith), take-first_eight n a (omega arith) (omega arith)) in
         absurd (not_behind (behind_shorter n b a refl (omega arith) part))
     | inr long ↦
-        sym (take-first_eight count a (omega arith) within)
-        ∙ take_fewer count m (first_eight a) (first_eight b) le same
-        ∙ take-first_eight count b (omega arith) long
+        let fewer = take_fewer count m (first_eight a) (first_eight b) le same in
+        cc (take-first_eight count a (omega arith) within, take-first_eight count b (omega arith) long)
   ]),
   (λ alike. elim (cases_lt m count) [
     | inr le ↦ le
     | inl more ↦
         let long = as_long count a b within alike in
-        absurd (differ (get_or-first_eight m a few (omega arith) ∙ same_at m count a b more alike
-        ∙ sym (get_or-first_eight m b few (omega arith))))
+        let same = same_at m count a b more alike in
+        absurd (differ (cc (get_or-first_eight m a few (omega arith), get_or-first_eight m b few (omega arith))))
   ]),
 )
 
@@ -166,15 +156,10 @@ common_with_behind prefix_len m a b long same tells count within =
           let n = count - prefix_len in
           let sum : prefix_len + n ≡ count = omega arith in
           let inside : n ≤ length (drop prefix_len a) = omega (arith, length-drop prefix_len a) in (
-            (λ le. ap (λ k. take k a) (sym sum) ∙ take_sum prefix_len n a
-                ∙ ap (λ front. front ++ take n (drop prefix_len a)) same
-                ∙ ap (λ back. take prefix_len b ++ back) ((tells n inside).0 (omega arith))
-                ∙ sym (take_sum prefix_len n b) ∙ ap (λ k. take k b) sum),
+            (λ le. cc (sum, take-add prefix_len n a, (tells n inside).0 (omega arith), take-add prefix_len n b)),
             (λ alike.
                 let rest : take n (drop prefix_len a) ≡ take n (drop prefix_len b) =
-                sym (drop-take prefix_len n a)
-                ∙ ap (drop prefix_len) (ap (λ k. take k a) sum ∙ alike ∙ ap (λ k. take k b) (sym sum))
-                ∙ drop-take prefix_len n b in
+                cc (sum, alike, drop-take prefix_len n a, drop-take prefix_len n b) in
                 let le : n ≤ m = (tells n inside).1 rest in
                 omega arith),
           )
@@ -189,8 +174,7 @@ whole_eight : (m : ℕ) (a b : List ℕ) → 8 ≤ m → m ≤ 8 → take m (fir
     → first_eight a ≡ first_eight b
 whole_eight m a b many few same =
     let all : m ≡ 8 = omega arith in
-    sym (take-take 8 8 (a ++ replicate 8 0) (omega arith)) ∙ ap (λ k. take k (first_eight a)) (sym all) ∙ same
-    ∙ ap (λ k. take k (first_eight b)) all ∙ take-take 8 8 (b ++ replicate 8 0) (omega arith)
+    cc (all, take-take 8 8 (a ++ replicate 8 0) (omega arith), take-take 8 8 (b ++ replicate 8 0) (omega arith))
 
 -- Where the heads behind a common beginning differ, and the key isn't behind the target, the two begin alike as far as the bytes of
 -- the heads do.
@@ -206,13 +190,11 @@ common_by_heads prefix_len m text target text_bytes sought_bytes long same apart
     let s = drop prefix_len target in
     let t_is = head_of-bytes t (All-drop IsByte prefix_len text text_bytes) in
     let s_is = head_of-bytes s (All-drop IsByte prefix_len target sought_bytes) in
-    let eight : take m (first_eight t) ≡ take m (first_eight s) =
-    sym (ap (take m) t_is) ∙ alike ∙ ap (take m) s_is in
+    let eight : take m (first_eight t) ≡ take m (first_eight s) = cc in
     elim (cases_lt m 8) [
       | inr many ↦ absurd (apart (same_head t s (whole_eight m t s many few eight)))
       | inl less ↦
-          let next : get_or (first_eight t) m 0 ≢ get_or (first_eight s) m 0 =
-          λ e. differ less (ap (λ (l : List ℕ). get_or l m 0) t_is ∙ e ∙ sym (ap (λ (l : List ℕ). get_or l m 0) s_is)) in
+          let next : get_or (first_eight t) m 0 ≢ get_or (first_eight s) m 0 = λ e. differ less (cc) in
           common_with_behind prefix_len m text target long same
           (alike_in_eight m t s less eight next
           (λ before. not_behind (behind_common prefix_len target text sought_long long (sym same) ∙ before)))

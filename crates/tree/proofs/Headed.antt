@@ -95,8 +95,7 @@ module _ {N : ℕ} where
   headed_put bytes old new slot node all is headed others s =
       elim (same_or_other s slot) [
         | inl same ↦ subst (λ o. IfSome (option_map key_heads_of o) (AreHeads bytes)) (sym is ∙ ap (header_at new) same) headed
-        | inr other ↦
-            subst (λ o. IfSome (option_map key_heads_of (option_map (λ r. r.header) o)) (AreHeads bytes)) (sym (others s other)) (all s)
+        | inr other ↦ rw (others s other) (all s)
       ]
 
   -- One slot has no node any more, and all others have the same.
@@ -108,9 +107,6 @@ module _ {N : ℕ} where
       ap (λ m. finite.get m slot) released ∙ finite.get-remove nat_cmp_total old.records slot slot
       ∙ ap (λ b. cond b None (finite.get old.records slot)) (same_number slot slot refl) in
       elim (same_or_other s slot) [
-        | inl same ↦
-            subst (λ o. IfSome (option_map key_heads_of (option_map (λ r. r.header) o)) (AreHeads bytes))
-            (sym none ∙ ap (record_at new) same) tt
-        | inr other ↦
-            subst (λ o. IfSome (option_map key_heads_of (option_map (λ r. r.header) o)) (AreHeads bytes)) (sym (others s other)) (all s)
+        | inl same ↦ rw (← same, none) tt
+        | inr other ↦ rw (others s other) (all s)
       ]

@@ -86,13 +86,8 @@ module _ {N : ℕ} where
   own_keys a least height (e ∷ es) all =
       let t = (All-head (IsRight a least height) e es all).tells in
       let later = own_keys a least height es (All-tail (IsRight a least height) e es all) in
-      let first : Contains (keys_in (items_in a height e.child)) e.key =
-      subst (λ xs. Contains (keys_in xs) e.key) (sym t.items_are) (zero, omega arith, sym t.key) in
-      let one = All-cons (Contains (keys_in (items_in a height e.child))) e.key [] first
-      (All-nil (Contains (keys_in (items_in a height e.child)))) in
-      let P = Contains (keys_in (items_of a height (e ∷ es))) in
-      All-cons P e.key (keys_of es)
-      (All-head P e.key [] (in_front (items_in a height e.child) (items_of a height es) (e.key ∷ []) one))
+      All-cons (Contains (keys_in (items_of a height (e ∷ es)))) e.key (keys_of es)
+      (subst (λ xs. Contains (keys_in (xs ++ items_of a height es)) e.key) (sym t.items_are) (zero, omega arith, sym t.key))
       (at_back (items_in a height e.child) (items_of a height es) (keys_of es) later)
 
   keys_below : (a : Arena (Node N)) (least height s : ℕ)

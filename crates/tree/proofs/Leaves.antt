@@ -1,10 +1,10 @@
 -- What the leaf that a bound finds says of the items below the bound.
-use Rattle.std.proofs.Common.{◌≡◌, ℕ, zero, suc, ◌+◌, ◌-◌, ◌<◌, ◌≤◌, inl, inr, Bool, true, false, not, List, [], ◌∷◌, ◌++◌, Option, Some, length, get_or, slice_get, take, drop, filter, flat_map, map, All, refl, sym, ◌∙◌, ap, subst, arith}
+use Rattle.std.proofs.Common.{◌≡◌, ℕ, zero, suc, ◌+◌, ◌-◌, ◌≤◌, inl, inr, Bool, true, false, not, List, [], ◌∷◌, ◌++◌, Option, Some, length, get_or, slice_get, take, drop, filter, flat_map, map, All, refl, sym, ◌∙◌, ap, subst, arith}
 use Rattle.std.specs.Prelude.{MatchOption}
 use Rattle.std.proofs.lemmas.Bool.{cases_Bool}
 use Rattle.std.proofs.lemmas.Option.{slice_get-get_or}
-use Rattle.std.proofs.lemmas.List.{get_or_append_left, append-nil, append_assoc, map-append}
-use Rattle.std.proofs.lemmas.List.Elements.{All-nil, All-cons, All-head, All-tail, All-append, All-map, filter-append, filter_passes}
+use Rattle.std.proofs.lemmas.List.{drop_all, drop_more, take-append-drop, append-nil, append_assoc, map-append}
+use Rattle.std.proofs.lemmas.List.Elements.{All-nil, All-cons, All-head, All-tail, All-append, All-map, filter-append}
 use Rattle.arena.specs.Arena.{Arena}
 use Rattle.tree.specs.declared.entry.Entry.{Entry}
 use Rattle.tree.specs.declared.node.Node.{Node}
@@ -14,25 +14,13 @@ use Rattle.tree.specs.Subtree.{entries_at, items_in, IsSubtree}
 use Rattle.tree.specs.Tree.{IsLast}
 use Rattle.tree.proofs.callers.Times.{none_or_some}
 use Rattle.tree.proofs.callers.Partitions.{not_both, none_pass, none_passed, none_fail, IsPartitioned-parts, IsPartitioned-from_falls, Falls, Falls-below_from}
+use Rattle.tree.proofs.HeadCounts.{passing_at}
 use Rattle.tree.proofs.Ways.{way}
 
 -- the last of those that pass does
 pub index_passes : {X : Type 0} (p : X → Bool) (xs : List X) (x : X) → IsPartitioned p xs → 1 ≤ length (filter p xs)
     → slice_get xs (length (filter p xs) - 1) ≡ Some x → p x ≡ true
-index_passes p xs x partitioned some is =
-    let front = filter p xs in
-    let rest = filter (λ y. not (p y)) xs in
-    let i = length front - 1 in
-    let inside : i < length front = omega arith in
-    let within : i < length (front ++ rest) = omega (arith, length-front front rest) in
-    let read : slice_get (front ++ rest) i ≡ Some (get_or (front ++ rest) i x) = slice_get-get_or (front ++ rest) i x within in
-    let here : slice_get (front ++ rest) i ≡ Some x = ap (λ l. slice_get l i) (sym partitioned) ∙ is in
-    let same : get_or front i x ≡ x = let e : get_or (front ++ rest) i x ≡ x = cc in sym (get_or_append_left front rest x i inside) ∙ e in
-    subst (λ y. p y ≡ true) same (filter_passes p xs i x inside)
-  where
-    length-front : {X : Type 0} (xs ys : List X) → length xs ≤ length (xs ++ ys)
-    length-front [] ys = omega arith
-    length-front (x ∷ xs) ys = omega (arith, length-front xs ys)
+index_passes p xs x partitioned some is = passing_at p xs (length (filter p xs) - 1) x partitioned is (omega arith)
 
 -- Where no entry of the leaf passes, no item of the subtree does, and none stands before the leaf.
 pub none_before : {N : ℕ} (nodes : Arena (Node N)) (least height slot : ℕ) (is_below : ℕ → Bool) → IsSubtree nodes least height slot
@@ -106,20 +94,16 @@ module _ (is_below : ℕ → Bool) (items before after : List Item) (es : List E
   pub passing_is : items_below is_below items ≡ before ++ map item_of (filter (λ e. is_below e.key) es)
   passing_is =
       let p = λ (x : Item). is_below x.key in
-      let here = filter p (map item_of es) in
-      ap (filter p) leaf.items_are ∙ filter-append p before (map item_of es ++ after)
-      ∙ ap (λ xs. xs ++ filter p (map item_of es ++ after)) (none_fail p before leaf.pass).0
-      ∙ ap (λ xs. before ++ xs) (filter-append p (map item_of es) after ∙ ap (λ xs. here ++ xs) (none_pass p after leaf.fail).0
-      ∙ append-nil here ∙ filter-items is_below es)
+      let front = (none_fail p before leaf.pass).0 in
+      let back = (none_pass p after leaf.fail).0 in
+      simp (leaf.items_are, filter-append, front, back, append-nil, filter-items is_below es)
 
   pub behind_is : behind is_below items ≡ map item_of (filter (λ e. not (is_below e.key)) es) ++ after
   behind_is =
-      let p = λ (x : Item). not (is_below x.key) in
-      ap (filter p) leaf.items_are ∙ filter-append p before (map item_of es ++ after)
-      ∙ ap (λ xs. xs ++ filter p (map item_of es ++ after)) (none_fail (λ (x : Item). is_below x.key) before leaf.pass).1
-      ∙ filter-append p (map item_of es) after
-      ∙ ap (λ xs. xs ++ filter p after) (filter-items (λ k. not (is_below k)) es)
-      ∙ ap (λ xs. map item_of (filter (λ (e : Entry). not (is_below e.key)) es) ++ xs) (none_pass (λ (x : Item). is_below x.key) after leaf.fail).1
+      let p = λ (x : Item). is_below x.key in
+      let front = (none_fail p before leaf.pass).1 in
+      let back = (none_pass p after leaf.fail).1 in
+      simp (leaf.items_are, filter-append, front, back, filter-items (λ k. not (is_below k)) es)
 
   pub leaf_partitioned_by_keys : IsPartitioned (λ x. is_below x.key) items → IsPartitioned (λ e. is_below e.key) es
   leaf_partitioned_by_keys partitioned =
@@ -127,26 +111,19 @@ module _ (is_below : ℕ → Bool) (items before after : List Item) (es : List E
       let rest = (IsPartitioned-parts p before (map item_of es ++ after) (subst (IsPartitioned p) leaf.items_are partitioned)).1 in
       entries_of_partitioned is_below es (IsPartitioned-parts p (map item_of es) after rest).0
 
--- the last of a list that isn't empty
-record LastAt {X : Type 0} (x : X) (xs : List X) : Type 0 where
-  last : X
-  read : slice_get (x ∷ xs) (length xs) ≡ Some last
-  is_last : IsLast last (x ∷ xs)
-
-last_at : {X : Type 0} (x : X) (xs : List X) → LastAt x xs
-last_at x [] = record { last = x; read = refl; is_last = ([], refl) }
-last_at x (y ∷ ys) =
-    let r = last_at y ys in
-    record { last = r.last; read = r.read; is_last = (x ∷ r.is_last.0, ap (λ l. x ∷ l) r.is_last.1) }
-
+-- the last of a list, if there is one
 match_last : {X : Type 0} (P : Type 0) (Q : X → Type 0) (xs : List X) (result : Option X) → result ≡ slice_get xs (length xs - 1)
     → (xs ≡ [] → P) → ((x : X) → IsLast x xs → Q x) → MatchOption result P Q
 match_last P Q [] result is none some = subst (λ o. MatchOption o P Q) (sym is) (none refl)
 match_last P Q (x ∷ xs) result is none some =
-    let r = last_at x xs in
-    let less : suc (length xs) - 1 ≡ length xs = omega arith in
-    let e : result ≡ Some r.last = is ∙ ap (slice_get (x ∷ xs)) less ∙ r.read in
-    subst (λ o. MatchOption o P Q) (sym e) (some r.last r.is_last)
+    let all = x ∷ xs in
+    let i = length xs in
+    let last = get_or all i x in
+    let less : suc i - 1 ≡ i = omega arith in
+    let e : result ≡ Some last = is ∙ ap (slice_get all) less ∙ slice_get-get_or all i x (omega arith) in
+    let parts : all ≡ take i all ++ last ∷ [] =
+    cc (take-append-drop i all, drop_more all i x (omega arith), drop_all (i + 1) all (omega arith)) in
+    subst (λ o. MatchOption o P Q) (sym e) (some last (take i all, parts))
 
 -- The last entry below the bound is the last such item.
 pub last_passing : (is_below : ℕ → Bool) (items before after : List Item) (es passed : List Entry) (result : Option Entry)
@@ -158,8 +135,7 @@ last_passing is_below items before after es passed result leaf same is =
     (λ none. front ∙ ap (λ xs. before ++ map item_of xs) none ∙ ap (λ xs. xs ++ []) (leaf.none (sym same ∙ none)))
     (λ e last. (
       before ++ map item_of last.0,
-      front ∙ ap (λ xs. before ++ map item_of xs) last.1 ∙ ap (λ xs. before ++ xs) (map-append item_of last.0 (e ∷ []))
-          ∙ sym (append_assoc before (map item_of last.0) (item_of e ∷ [])),
+      cc (front, last.1, map-append item_of last.0 (e ∷ []), append_assoc before (map item_of last.0) (item_of e ∷ [])),
     ))
 
 -- the leaf that a bound finds is one

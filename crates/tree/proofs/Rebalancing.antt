@@ -10,7 +10,7 @@ use Rattle.tree.specs.Subtree.{entries_at, items_in, slots_in, IsSubtree}
 use Rattle.tree.specs.Replace.{child_at, items_of, slots_of, AreChildren, Changes, IsFamily, IsKeyless, IsRebalanced}
 use Rattle.tree.proofs.callers.Times.{none_or_some, times, times-append, once_if_distinct}
 use Rattle.tree.proofs.Frames.{IsRight, live_in, own_slot}
-use Rattle.tree.proofs.Changing.{Moves, moves_if_changes, moves_same}
+use Rattle.tree.proofs.Changing.{moves_if_changes, moves_same}
 use Rattle.tree.proofs.Families.{times-slots_of}
 use Rattle.tree.proofs.Sharing.{child_is, around_one, around_two, merged, evened, rebalanced}
 
@@ -41,10 +41,8 @@ module _ {N : ℕ} where
   pair a least height es i x y d e within x_is y_is family =
       let A = get_or es i d in
       let B = get_or es (i + 1) e in
-      let first : IsSubtree a least height x = subst (IsSubtree a least height) (sym x_is)
-      (family.below i d (omega arith)) in
-      let second : IsSubtree a least height y = subst (IsSubtree a least height) (sym y_is)
-      (family.below (i + 1) e within) in
+      let first : IsSubtree a least height x = rw x_is (family.below i d (omega arith)) in
+      let second : IsSubtree a least height y = rw y_is (family.below (i + 1) e within) in
       let few : (s : ℕ) → times s (slots_in a height x ++ slots_in a height y) ≤ 1 = λ (s : ℕ).
       let all : times s (slots_of a height es) ≤ 1 = once_if_distinct (slots_of a height es) family.distinct s in
       let split : times s (slots_of a height es) ≡ times s (slots_of a height (take i es ++ (A ∷ B ∷ [] ++ drop (i + 2) es))) =
@@ -53,18 +51,17 @@ module _ {N : ℕ} where
       let more = times-append s (slots_in a height A.child) (slots_of a height (B ∷ [] ++ drop (i + 2) es)) in
       let last = times-append s (slots_in a height B.child) (slots_of a height (drop (i + 2) es)) in
       let both = times-append s (slots_in a height x) (slots_in a height y) in
-      let same_x : times s (slots_in a height x) ≡ times s (slots_in a height A.child) = ap (λ z. times s (slots_in a height z)) x_is in
-      let same_y : times s (slots_in a height y) ≡ times s (slots_in a height B.child) = ap (λ z. times s (slots_in a height z)) y_is in
-      omega arith in
+      let count : ℕ → ℕ = λ z. times s (slots_in a height z) in
+      omega (arith, ap count x_is, ap count y_is) in
       record {
         first = first;
         second = second;
         live_first = live_subtree a least height x first;
         live_second = live_subtree a least height y second;
         apart = λ same.
-            let here : 1 ≤ times x (slots_in a height x) = own_slot a height x in
-            let there : 1 ≤ times x (slots_in a height y) = subst (λ z. 1 ≤ times x (slots_in a height z)) same here in
-            absurd (omega (arith, few x, times-append x (slots_in a height x) (slots_in a height y)));
+            let count : ℕ → ℕ = λ z. times x (slots_in a height z) in
+            let both = times-append x (slots_in a height x) (slots_in a height y) in
+            absurd (omega (arith, few x, both, own_slot a height x, ap count same));
         few = few;
       }
 
@@ -91,8 +88,7 @@ module _ {N : ℕ} where
         (All-cons (IsRight b least height) t [] (right_child b least height x t child filled j.subtree (tells j.subtree))
         (All-nil (IsRight b least height)))
         (one_items ∙ j.items ∙ items_are)
-        (subst (λ l. Moves a b l (slots_of b height (t ∷ []))) slots_are
-        (subst (Moves a b (slots_in a height x ++ slots_in a height y)) one_slots j.moves))
+        (rw (← slots_are, ← one_slots) j.moves)
 
     pub rebalanced_by_sharing : (t u : Entry) → t.child ≡ x → u.child ≡ y → (IsSubtree b least height x → Tells t (items_in b height x))
         → (IsSubtree b least height y → Tells u (items_in b height y)) → Changes a b (x ∷ y ∷ []) (x ∷ y ∷ [])
@@ -112,8 +108,7 @@ module _ {N : ℕ} where
         (All-cons (IsRight b least height) u [] (right_child b least height y u child_u filled_y v.second (tells_u v.second))
         (All-nil (IsRight b least height))))
         (two_items ∙ v.items ∙ items_are)
-        (subst (λ l. Moves a b l (slots_of b height (t ∷ u ∷ []))) slots_are
-        (subst (Moves a b (slots_in a height x ++ slots_in a height y)) two_slots v.moves))
+        (rw (← slots_are, ← two_slots) v.moves)
 
   -- the entry of a changed child is made right, and no node is changed
   pub rebalanced_by_entry : (a : Arena (Node N)) (least height : ℕ) (was now : List Entry) (i x : ℕ) (d t : Entry)
@@ -158,23 +153,19 @@ module _ {N : ℕ} where
       → IsFamily a least height es i to → IsRight a least height (get_or es k d)
   right_behind a least height es i to k d behind within family =
       let sum : to + (k - to) ≡ k = omega arith in
-      subst (λ n. IsRight a least height (get_or es n d)) sum
-      (subst (IsRight a least height) (get_or-drop to es (k - to) d)
-      (family.behind (k - to) d (omega (arith, length-drop to es))))
+      let same : get_or (drop to es) (k - to) d ≡ get_or es k d = cc (sum, get_or-drop to es (k - to) d) in
+      subst (IsRight a least height) same (family.behind (k - to) d (omega (arith, length-drop to es)))
 
   -- one of the two is filled
   pub filled_pair : (a : Arena (Node N)) (least height : ℕ) (es : List Entry) (i j : ℕ) (d : Entry) → i < length es → 2 ≤ length es
       → j ≡ i - 1 → IsFamily a least height es i (i + 1)
       → least ≤ length (entries_at a (child_at es j)) + length (entries_at a (child_at es (j + 1)))
-  filled_pair a least height es i j d within several j_is family = elim (none_or_some i) [
-    | inl first ↦
-        let right = right_behind a least height es i (i + 1) (j + 1) d (omega arith) (omega arith) family in
-        let one : least ≤ length (entries_at a (child_at es (j + 1))) =
-        subst (λ z. least ≤ length (entries_at a z)) (sym (child_is es (j + 1) d (omega arith))) right.filled in
-        omega arith
-    | inr later ↦
-        let right = right_before a least height es i (i + 1) j d (omega arith) (omega arith) family in
-        let one : least ≤ length (entries_at a (child_at es j)) =
-        subst (λ z. least ≤ length (entries_at a z)) (sym (child_is es j d (omega arith))) right.filled in
-        omega arith
-  ]
+  filled_pair a least height es i j d within several j_is family =
+      let count : ℕ → ℕ = λ z. length (entries_at a z) in elim (none_or_some i) [
+        | inl first ↦
+            let right = right_behind a least height es i (i + 1) (j + 1) d (omega arith) (omega arith) family in
+            omega (arith, ap count (child_is es (j + 1) d (omega arith)), right.filled)
+        | inr later ↦
+            let right = right_before a least height es i (i + 1) j d (omega arith) (omega arith) family in
+            omega (arith, ap count (child_is es j d (omega arith)), right.filled)
+      ]

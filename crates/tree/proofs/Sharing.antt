@@ -28,9 +28,7 @@ pub around_two : (es : List Entry) (i : ℕ) (d e : Entry) → i + 1 < length es
     → es ≡ take i es ++ (get_or es i d ∷ get_or es (i + 1) e ∷ [] ++ drop (i + 2) es)
 around_two es i d e within =
     let next : i + 1 + 1 ≡ i + 2 = omega arith in
-    sym (take-append-drop i es)
-    ∙ ap (λ l. take i es ++ l) (drop_more es i d (omega arith)
-    ∙ ap (λ l. get_or es i d ∷ l) (drop_more es (i + 1) e within ∙ ap (λ n. get_or es (i + 1) e ∷ drop n es) next))
+    cc (take-append-drop i es, drop_more es i d (omega arith), drop_more es (i + 1) e within)
 
 -- one of them set and the other removed, and both set
 pub set_removed : (es : List Entry) (i : ℕ) (t : Entry) → i + 1 < length es
@@ -44,10 +42,9 @@ pub set_both : (es : List Entry) (i : ℕ) (t u : Entry) → i + 1 < length es
 set_both es i t u within =
     let len : length (set es i t) ≡ length es = length-set es i t in
     let next : suc (i + 1) ≡ i + 2 = omega arith in
-    set_split (set es i t) (i + 1) u (omega arith)
-    ∙ ap₂ (λ l m. l ++ u ∷ m) (take_more_set es i t (omega arith))
-    (ap (λ n. drop n (set es i t)) next ∙ drop-set-lt (i + 2) es i t (omega arith))
-    ∙ append_assoc (take i es) (t ∷ []) (u ∷ drop (i + 2) es)
+    let parts = append_assoc (take i es) (t ∷ []) (u ∷ drop (i + 2) es) in
+    let back = drop-set-lt (i + 2) es i t (omega arith) in
+    cc (set_split (set es i t) (i + 1) u (omega arith), take_more_set es i t (omega arith), back, parts)
 
 pub set_one : (es : List Entry) (i : ℕ) (t : Entry) → i < length es
     → set es i t ≡ take i es ++ (t ∷ [] ++ drop (i + 1) es)
@@ -112,8 +109,7 @@ module _ {N : ℕ} where
   evened a b least zero x y moves here some_x some_y h k few = record {
     first = live_if_some b x some_x;
     second = live_if_some b y some_y;
-    items = sym (map-append item_of (entries_at b x) (entries_at b y)) ∙ ap (map item_of) here
-        ∙ map-append item_of (entries_at a x) (entries_at a y);
+    items = cc (map-append item_of (entries_at b x) (entries_at b y), map-append item_of (entries_at a x) (entries_at a y));
     moves = moves;
   }
   evened a b least (suc height) x y moves here some_x some_y h k few =
@@ -138,11 +134,11 @@ module _ {N : ℕ} where
       (λ s some. agree s (omega (arith, parts s))) in
       let all_vs = holds a b least height y vs (live_if_some b y some_y) refl some_y right_vs
       (λ s some. agree s (omega (arith, parts s))) in
+      let parts_are = items_of-append a height (entries_at a x) (entries_at a y) in
       record {
         first = all_us.subtree;
         second = all_vs.subtree;
-        items = ap₂ (λ l m. l ++ m) all_us.items all_vs.items ∙ sym (items_of-append a height us vs)
-            ∙ ap (items_of a height) here ∙ items_of-append a height (entries_at a x) (entries_at a y);
+        items = cc (all_us.items, all_vs.items, items_of-append a height us vs, parts_are);
         moves = subst (Moves a b (slots_in a (suc height) x ++ slots_in a (suc height) y))
             (sym (ap₂ (λ l m. l ++ m) all_us.slots all_vs.slots))
             (moves_beside a b (x ∷ y ∷ []) (x ∷ y ∷ []) (slots_of a height (us ++ vs)) (x ∷ xs ++ (y ∷ ys))
@@ -164,14 +160,10 @@ module _ {N : ℕ} where
       let few : (s : ℕ) → times s (slots_of a height (take from was ++ (middle ++ drop to was))) ≤ 1 =
       λ (s : ℕ). subst (λ l. times s (slots_of a height l) ≤ 1) was_is (once_if_distinct (slots_of a height was) family.distinct s) in
       let h = replaced a b least height (take from was) middle (drop to was) new few family.before family.behind moves right in
+      let rest_are = items_of-append a height middle (drop to was) in
       record {
         children = subst (AreChildren b least height) (sym now_is) h.children;
-        items = ap (items_of b height) now_is ∙ h.items
-            ∙ ap (λ l. items_of a height (take from was) ++ l) (ap (λ l. l ++ items_of a height (drop to was)) items
-            ∙ sym (items_of-append a height middle (drop to was)))
-            ∙ sym (items_of-append a height (take from was) (middle ++ drop to was))
-            ∙ ap (items_of a height) (sym was_is);
+        items = cc (h.items, rest_are, items_of-append a height (take from was) (middle ++ drop to was));
         changes = changes_if_moves a b (slots_of a height was) (slots_of b height now)
-            (subst (λ l. Moves a b (slots_of a height l) (slots_of b height now)) (sym was_is)
-            (subst (λ l. Moves a b (slots_of a height (take from was ++ (middle ++ drop to was))) (slots_of b height l)) (sym now_is) h.moves));
+            (subst (λ l. Moves a b (slots_of a height l) (slots_of b height now)) (sym was_is) (rw now_is h.moves));
       }

@@ -1,19 +1,13 @@
 -- What lies from one bound to another, in parts.
 use Rattle.std.proofs.Common.{◌≡◌, ℕ, suc, ◌+◌, ◌-◌, ◌<◌, ◌≤◌, Bool, true, false, not, ◌&&◌, List, [], ◌∷◌, ◌++◌, length, get_or, take, drop, filter, flat_map, All, refl, sym, ◌∙◌, ap, subst, inl, inr, arith, drop-cons, take-add, take_at, drop_at, take-append-drop, append-nil, length-drop}
 use Rattle.std.specs.Prelude.{slice_range}
-use Rattle.std.proofs.lemmas.Bool.{cases_Bool}
+use Rattle.std.proofs.lemmas.Bool.{and_right, cases_Bool}
 use Rattle.std.proofs.lemmas.Grind.{flat_map-append}
 use Rattle.std.proofs.lemmas.List.{drop-drop, drop-take, get_or-drop}
-use Rattle.std.proofs.lemmas.List.Elements.{
-  All-head,
-  All-tail,
-  All-take,
-  All-drop,
-  filter-append,
-}
+use Rattle.std.proofs.lemmas.List.Elements.{All-head, All-tail, All-take, All-drop, filter-append}
 use Rattle.tree.specs.declared.entry.Entry.{Entry}
 use Rattle.tree.specs.Path.{IsPartitioned}
-use Rattle.tree.proofs.callers.Partitions.{passed, failed, All-front, All-back}
+use Rattle.tree.proofs.callers.Partitions.{none_pass, none_fail, passed, failed, All-front, All-back}
 use Rattle.tree.proofs.Ways.{around_element}
 
 module _ {X : Type 0} where
@@ -41,25 +35,15 @@ module _ {X : Type 0} where
     span-append xs ys = filter-append (λ x. not (p x) && q x) xs ys
 
     pub span_before : (xs : List X) → All (λ x. p x ≡ true) xs → span p q xs ≡ []
-    span_before [] a = refl
-    span_before (x ∷ xs) a =
-        let t = All-head (λ x. p x ≡ true) x xs a in
-        rw t (span_before xs (All-tail (λ x. p x ≡ true) x xs a))
+    span_before xs a = (none_pass (λ x. not (p x) && q x) xs (λ i d inside. rw (a i d inside) refl)).0
 
     pub span_behind : (xs : List X) → All (λ x. q x ≡ false) xs → span p q xs ≡ []
-    span_behind [] a = refl
-    span_behind (x ∷ xs) a =
-        let f = All-head (λ x. q x ≡ false) x xs a in
-        let i = span_behind xs (All-tail (λ x. q x ≡ false) x xs a) in
-        elim (cases_Bool (p x)) [ inl t ↦ rw t i | inr t ↦ rw (t, f) i ]
+    span_behind xs a =
+        (none_pass (λ x. not (p x) && q x) xs
+        (λ i d inside. and_right (not (p (get_or xs i d))) (q (get_or xs i d)) (a i d inside))).0
 
     pub span_all : (xs : List X) → All (λ x. p x ≡ false) xs → All (λ x. q x ≡ true) xs → span p q xs ≡ xs
-    span_all [] a b = refl
-    span_all (x ∷ xs) a b =
-        let f = All-head (λ x. p x ≡ false) x xs a in
-        let t = All-head (λ x. q x ≡ true) x xs b in
-        rw (f, t)
-        (ap (λ ys. x ∷ ys) (span_all xs (All-tail (λ x. p x ≡ false) x xs a) (All-tail (λ x. q x ≡ true) x xs b)))
+    span_all xs a b = (none_fail (λ x. not (p x) && q x) xs (λ i d inside. rw (a i d inside, b i d inside) refl)).0
 
     pub span_to_end : (xs : List X) → All (λ x. q x ≡ true) xs → span p q xs ≡ span p (λ x. true) xs
     span_to_end [] b = refl
@@ -100,25 +84,20 @@ module _ {X : Type 0} where
       → All (λ x. p x ≡ true) (take (length (filter p xs)) xs)
   before_partitioned p xs c =
       let e : take (length (filter p xs)) xs ≡ filter p xs =
-      ap (take (length (filter p xs))) c
-      ∙ take_at (filter p xs) (filter (λ x. not (p x)) xs) (length (filter p xs)) refl in
+      cc (take_at (filter p xs) (filter (λ x. not (p x)) xs) (length (filter p xs)) refl) in
       subst (All (λ x. p x ≡ true)) (sym e) (passed p xs)
 
   pub behind_partitioned : (p : X → Bool) (xs : List X) → IsPartitioned p xs
       → All (λ x. p x ≡ false) (drop (length (filter p xs)) xs)
   behind_partitioned p xs c =
       let e : drop (length (filter p xs)) xs ≡ filter (λ x. not (p x)) xs =
-      ap (drop (length (filter p xs))) c
-      ∙ drop_at (filter p xs) (filter (λ x. not (p x)) xs) (length (filter p xs)) refl in
+      cc (drop_at (filter p xs) (filter (λ x. not (p x)) xs) (length (filter p xs)) refl) in
       subst (All (λ x. p x ≡ false)) (sym e) (failed p xs)
 
   in_parts : (xs : List X) (i j : ℕ) → i ≤ j → xs ≡ take i xs ++ (slice_range xs i j ++ drop j xs)
   in_parts xs i j le =
       let up : i + (j - i) ≡ j = omega arith in
-      sym (take-append-drop i xs)
-      ∙ ap (λ ys. take i xs ++ ys)
-      (sym (take-append-drop (j - i) (drop i xs))
-      ∙ ap (λ ys. slice_range xs i j ++ ys) (drop-drop (j - i) i xs ∙ ap (λ n. drop n xs) up))
+      cc (take-append-drop i xs, take-append-drop (j - i) (drop i xs), drop-drop (j - i) i xs)
 
   -- the part of a list from one bound to another
   pub span_range : (p q : X → Bool) (xs : List X) (i j : ℕ) → IsPartitioned p xs → IsPartitioned q xs → i ≤ j
@@ -129,17 +108,13 @@ module _ {X : Type 0} where
       let sooner = subst (λ k. All (λ x. q x ≡ true) (take k xs)) (sym n) (before_partitioned q xs d) in
       let back = subst (λ k. All (λ x. q x ≡ false) (drop k xs)) (sym n) (behind_partitioned q xs d) in
       let up : i + (j - i) ≡ j = omega arith in
-      let is : drop i (take j xs) ≡ slice_range xs i j =
-      ap (λ k. drop i (take k xs)) (sym up) ∙ drop-take i (j - i) xs in
+      let is : drop i (take j xs) ≡ slice_range xs i j = cc (drop-take i (j - i) xs) in
       let inside = subst (All (λ x. q x ≡ true)) is (All-drop (λ x. q x ≡ true) i (take j xs) sooner) in
       let outside = All-take (λ x. p x ≡ false) (j - i) (drop i xs) later in
-      ap (span p q) (in_parts xs i j le)
-      ∙ span-append p q (take i xs) (slice_range xs i j ++ drop j xs)
-      ∙ ap (λ ys. ys ++ span p q (slice_range xs i j ++ drop j xs)) (span_before p q (take i xs) front)
-      ∙ span-append p q (slice_range xs i j) (drop j xs)
-      ∙ ap (λ ys. span p q (slice_range xs i j) ++ ys) (span_behind p q (drop j xs) back)
-      ∙ append-nil (span p q (slice_range xs i j))
-      ∙ span_all p q (slice_range xs i j) outside inside
+      let none_first = span_before p q (take i xs) front in
+      let none_last = span_behind p q (drop j xs) back in
+      let whole = span_all p q (slice_range xs i j) outside inside in
+      ap (span p q) (in_parts xs i j le) ∙ simp (filter-append, none_first, none_last, whole, append-nil)
 
 -- the items of children from one bound to another
 module _ {X : Type 0} (below : Entry → List X) (p q : X → Bool) (es : List Entry) (i j : ℕ) (d : Entry)
@@ -155,12 +130,7 @@ module _ {X : Type 0} (below : Entry → List X) (p q : X → Bool) (es : List E
       let b = flat_map below (drop (i + 1) es) in
       let behind = subst (λ k. All (λ x. q x ≡ false) (flat_map below (drop (k + 1) es))) (sym same) back in
       ap (λ xs. span p q (flat_map below xs)) (around_element es i d inside)
-      ∙ ap (span p q) (flat_map-append below (take i es) (get_or es i d ∷ drop (i + 1) es))
-      ∙ span-append p q a (c ++ b)
-      ∙ ap (λ ys. ys ++ span p q (c ++ b)) (span_before p q a front)
-      ∙ span-append p q c b
-      ∙ ap (λ ys. span p q c ++ ys) (span_behind p q b behind)
-      ∙ append-nil (span p q c)
+      ∙ simp (flat_map-append, filter-append, span_before p q a front, span_behind p q b behind, append-nil)
 
   two_elements : i < j → j < length es
       → drop (i + 1) es ≡ slice_range es (i + 1) j ++ get_or es j d ∷ drop (j + 1) es
@@ -170,9 +140,7 @@ module _ {X : Type 0} (below : Entry → List X) (p q : X → Bool) (es : List E
       let at : i + 1 + k ≡ j = omega arith in
       let past : i + 1 + (k + 1) ≡ j + 1 = omega arith in
       let some : k < length rest = rw (length-drop (i + 1) es) (omega arith) in
-      around_element rest k d some
-      ∙ ap (λ e. take k rest ++ e ∷ drop (k + 1) rest) (get_or-drop (i + 1) es k d ∙ ap (λ n. get_or es n d) at)
-      ∙ ap (λ ys. take k rest ++ get_or es j d ∷ ys) (drop-drop (k + 1) (i + 1) es ∙ ap (λ n. drop n es) past)
+      cc (around_element rest k d some, get_or-drop (i + 1) es k d, drop-drop (k + 1) (i + 1) es)
 
   up_to_second : i < j → j < length es → take j es ≡ take i es ++ get_or es i d ∷ slice_range es (i + 1) j
   up_to_second lt inside =
@@ -196,32 +164,21 @@ module _ {X : Type 0} (below : Entry → List X) (p q : X → Bool) (es : List E
       let r = below (get_or es j d) in
       let b = flat_map below (drop (j + 1) es) in
       let rest : flat_map below (drop (i + 1) es) ≡ m ++ (r ++ b) =
-      ap (flat_map below) (two_elements lt inside)
-      ∙ flat_map-append below (slice_range es (i + 1) j) (get_or es j d ∷ drop (j + 1) es) in
+      cc (two_elements lt inside, flat_map-append below (slice_range es (i + 1) j) (get_or es j d ∷ drop (j + 1) es)) in
       let begin : flat_map below (take j es) ≡ a ++ (l ++ m) =
-      ap (flat_map below) (up_to_second lt inside)
-      ∙ flat_map-append below (take i es) (get_or es i d ∷ slice_range es (i + 1) j) in
+      cc (up_to_second lt inside, flat_map-append below (take i es) (get_or es i d ∷ slice_range es (i + 1) j)) in
       let within : i < length es = omega arith in
       let whole : flat_map below es ≡ a ++ (l ++ (m ++ (r ++ b))) =
-      ap (flat_map below) (around_element es i d within)
-      ∙ flat_map-append below (take i es) (get_or es i d ∷ drop (i + 1) es)
-      ∙ ap (λ ys. a ++ (l ++ ys)) rest in
+      cc (around_element es i d within, flat_map-append below (take i es) (get_or es i d ∷ drop (i + 1) es), rest) in
       let after = subst (All (λ x. p x ≡ false)) rest later in
       let before = All-back (λ x. q x ≡ true) a (l ++ m) (subst (All (λ x. q x ≡ true)) begin sooner) in
       let m_after = All-front (λ x. p x ≡ false) m (r ++ b) after in
       let r_after = All-front (λ x. p x ≡ false) r b (All-back (λ x. p x ≡ false) m (r ++ b) after) in
       let l_before = All-front (λ x. q x ≡ true) l m before in
       let m_before = All-back (λ x. q x ≡ true) l m before in
-      ap (span p q) whole
-      ∙ span-append p q a (l ++ (m ++ (r ++ b)))
-      ∙ ap (λ ys. ys ++ span p q (l ++ (m ++ (r ++ b)))) (span_before p q a front)
-      ∙ span-append p q l (m ++ (r ++ b))
-      ∙ ap (λ ys. ys ++ span p q (m ++ (r ++ b))) (span_to_end p q l l_before)
-      ∙ ap (λ ys. span p (λ x. true) l ++ ys)
-      (span-append p q m (r ++ b)
-      ∙ ap (λ ys. ys ++ span p q (r ++ b)) (span_all p q m m_after m_before)
-      ∙ ap (λ ys. m ++ ys)
-      (span-append p q r b
-      ∙ ap (λ ys. span p q r ++ ys) (span_behind p q b back)
-      ∙ append-nil (span p q r)
-      ∙ span_from_begin p q r r_after))
+      let none_first = span_before p q a front in
+      let none_last = span_behind p q b back in
+      let left_is = span_to_end p q l l_before in
+      let middle_is = span_all p q m m_after m_before in
+      let right_is = span_from_begin p q r r_after in
+      ap (span p q) whole ∙ simp (filter-append, none_first, left_is, middle_is, none_last, append-nil, right_is)

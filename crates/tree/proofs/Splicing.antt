@@ -1,5 +1,5 @@
 -- Entries of a node in whose place others are put.
-use Rattle.std.proofs.Common.{◌≡◌, ℕ, ◌+◌, ◌-◌, ◌≤◌, List, [], ◌++◌, length, take, drop, sym, ◌∙◌, ap, ap₂, arith, length-append, length-drop, append_assoc, refl}
+use Rattle.std.proofs.Common.{◌≡◌, ℕ, ◌+◌, ◌-◌, ◌≤◌, List, [], ◌++◌, length, take, drop, sym, ◌∙◌, ap, arith, length-append, length-drop, append_assoc, refl}
 use Rattle.std.specs.List.{copy_within}
 use Rattle.std.proofs.Math.Seq.{take-append-add}
 use Rattle.std.proofs.lemmas.List.{length-take, length-take-le, append-nil, drop_all, take-append-drop, take-take, take-append-le, take_at, drop_at, drop-drop, drop-take}
@@ -8,10 +8,8 @@ use Rattle.std.proofs.lemmas.List.{length-take, length-take-le, append-nil, drop
 pub not_moved : {X : Type 0} (xs : List X) (from end to : ℕ) → from ≡ to → xs ≡ copy_within xs from end to
 not_moved xs from end to same =
     let moved = end - from in
-    sym (take-append-drop (from + moved) xs)
-    ∙ ap (λ ys. ys ++ drop (from + moved) xs) (sym (take-append-drop from (take (from + moved) xs))
-    ∙ ap₂ (λ ys zs. ys ++ zs) (take-take from (from + moved) xs (omega arith)) (drop-take from moved xs))
-    ∙ ap (λ n. copy_within xs from end n) same
+    let part = take-append-drop from (take (from + moved) xs) in
+    cc (take-append-drop (from + moved) xs, part, take-take from (from + moved) xs (omega arith), drop-take from moved xs)
 
 -- The entries behind a run are moved to the end of the new ones, and these are written before them.
 pub take-spliced : {X : Type 0} (xs ys others : List X) (len from to : ℕ) → len ≤ length xs → from ≤ to → to ≤ len
@@ -27,20 +25,18 @@ take-spliced xs ys others len from to within ordered most room after =
     let moved_len : length moved ≡ len - to = length-take-le (len - to) (drop to xs) (omega (arith, length-drop to xs)) in
     let front_len : length (take from xs) ≡ from = length-take-le from xs (omega arith) in
     let ys_is : ys ≡ head ++ (moved ++ rest) = after ∙ append_assoc head moved rest in
-    let front : take from ys ≡ take from xs =
-    ap (take from) ys_is ∙ take-append-le from head (moved ++ rest) (omega arith) ∙ take-take from end xs (omega arith) in
+    let kept = take-take from end xs (omega arith) in
+    let front : take from ys ≡ take from xs = cc (kept, take-append-le from head (moved ++ rest) (omega arith)) in
     let back : drop (end - from) (drop from ys) ≡ moved ++ rest =
     drop-drop (end - from) from ys ∙ ap (λ n. drop n ys) (omega arith) ∙ ap (drop end) ys_is ∙ drop_at head (moved ++ rest) end head_len in
     let whole : take from ys ++ (others ++ drop (end - from) (drop from ys)) ≡ (take from xs ++ (others ++ moved)) ++ rest =
-    ap (λ p. p ++ (others ++ drop (end - from) (drop from ys))) front ∙ ap (λ q. take from xs ++ (others ++ q)) back
-    ∙ ap (λ q. take from xs ++ q) (sym (append_assoc others moved rest)) ∙ sym (append_assoc (take from xs) (others ++ moved) rest) in
+    cc (front, back, append_assoc others moved rest, append_assoc (take from xs) (others ++ moved) rest) in
     let new_len : length (take from xs ++ (others ++ moved)) ≡ end + (len - to) =
     omega (arith, length-append (take from xs) (others ++ moved), length-append others moved) in
     let add : to + (len - to) ≡ len = omega arith in
     let part : moved ≡ drop to (take len xs) = sym (drop-take to (len - to) xs) ∙ ap (λ n. drop to (take n xs)) add in
-    ap (take (end + (len - to))) whole ∙ take_at (take from xs ++ (others ++ moved)) rest (end + (len - to)) new_len
-    ∙ ap (λ p. p ++ (others ++ moved)) (sym (take-take from len xs (omega arith)))
-    ∙ ap (λ q. take from (take len xs) ++ (others ++ q)) part
+    let all = take_at (take from xs ++ (others ++ moved)) rest (end + (len - to)) new_len in
+    cc (whole, all, take-take from len xs (omega arith), part)
 
 -- What others are written over matters as far as elements are taken.
 put_taken : {X : Type 0} (ys others : List X) (from n : ℕ) → from ≤ length ys → from + length others ≤ n
@@ -52,11 +48,9 @@ put_taken ys others from n within room =
     let sum : end + (n - end) ≡ n = omega arith in
     let count : n ≡ length front + (n - end) = omega (arith, length-append (take from ys) others, length-take-le from ys within) in
     let rest : drop (end - from) (drop from ys) ≡ drop end ys = drop-drop (end - from) from ys ∙ ap (λ i. drop i ys) (omega arith) in
-    ap (take n) (sym (append_assoc (take from ys) others (drop (end - from) (drop from ys))) ∙ ap (λ q. front ++ q) rest)
-    ∙ ap (λ i. take i (front ++ drop end ys)) count ∙ take-append-add front (drop end ys) (n - end)
-    ∙ append_assoc (take from ys) others (take (n - end) (drop end ys))
-    ∙ ap₂ (λ p q. p ++ (others ++ q)) (sym (take-take from n ys (omega arith)))
-    (sym (drop-take end (n - end) ys) ∙ ap (λ i. drop end (take i ys)) sum)
+    let before = append_assoc (take from ys) others (drop (end - from) (drop from ys)) in
+    let after = append_assoc (take from ys) others (take (n - end) (drop end ys)) in
+    cc (take-append-add front (drop end ys) (n - end), take-take from n ys (omega arith), drop-take end (n - end) ys)
 
 -- Elements are moved and written as above, but behind them anything may stand.
 pub take-spliced_before : {X : Type 0} (xs ys others : List X) (len from to : ℕ) → len ≤ length xs → from ≤ to → to ≤ len
@@ -77,8 +71,7 @@ pub apart_spliced : {X : Type 0} (xs new : List X) (from to : ℕ) → from ≤ 
     → (take from (take to xs) ++ (new ++ drop to (take to xs))) ++ drop to xs ≡ take from xs ++ (new ++ drop to xs)
 apart_spliced xs new from to ordered within =
     let none : drop to (take to xs) ≡ [] = drop_all to (take to xs) (omega (arith, length-take-le to xs within)) in
-    ap₂ (λ p q. (p ++ (new ++ q)) ++ drop to xs) (take-take from to xs ordered) none
-    ∙ ap (λ q. (take from xs ++ q) ++ drop to xs) (append-nil new) ∙ append_assoc (take from xs) new (drop to xs)
+    cc (take-take from to xs ordered, none, append-nil new, append_assoc (take from xs) new (drop to xs))
 
 -- Or the new ones are put before the second part.
 pub apart_prepended : {X : Type 0} (xs new : List X) (from to : ℕ) → from ≤ to → to ≤ length xs
@@ -86,5 +79,4 @@ pub apart_prepended : {X : Type 0} (xs new : List X) (from to : ℕ) → from �
     ≡ take from xs ++ (new ++ drop to xs)
 apart_prepended xs new from to ordered within =
     let none : drop to (take to xs) ≡ [] = drop_all to (take to xs) (omega (arith, length-take-le to xs within)) in
-    ap₂ (λ p q. (p ++ q) ++ (new ++ drop to xs)) (take-take from to xs ordered) none
-    ∙ ap (λ p. p ++ (new ++ drop to xs)) (append-nil (take from xs))
+    cc (take-take from to xs ordered, none, append-nil (take from xs))

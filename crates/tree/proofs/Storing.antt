@@ -9,7 +9,7 @@ use Rattle.tree.specs.Item.{Item}
 use Rattle.tree.specs.Node.{entries_of}
 use Rattle.tree.specs.Subtree.{entries_at, slots_in, IsSubtree}
 use Rattle.tree.specs.Replace.{entries_at_both, items_with, slots_with, slot_taken, items_of, slots_of, AreChildren, IsFamilyAt, IsRebalanced, IsRebalancedAt}
-use Rattle.tree.proofs.callers.Times.{times, once, once_same, once_cases, once_if_distinct, times-append, times_unless_contains}
+use Rattle.tree.proofs.callers.Times.{times, once_same, once_cases, once_if_distinct, times-append, times_unless_contains}
 use Rattle.tree.proofs.Frames.{Agree, IsRight, live_same}
 use Rattle.tree.proofs.Changing.{Moves, moves_beside, moves_agree, moves_trans, moves_if_changes, changes_if_moves}
 use Rattle.tree.proofs.Families.{items_of-append, times-slots_of, length-slots_of, live_children, holds}
@@ -31,13 +31,7 @@ module _ {N : ℕ} where
     -- the node's own slot isn't touched below
     module _ (now : List Entry) (moves : Moves a b (slots_of a height es) (slots_of b height now)) where
       pub live_own : IsLive b slot
-      live_own = live_same a b slot (moves.others slot (own_apart (few_of slot) (once_here slot)) live) live
-        where
-          own_apart : {n m : ℕ} → n + m ≤ 1 → 1 ≤ n → m ≡ 0
-          own_apart h k = omega arith
-
-          once_here : (s : ℕ) → 1 ≤ once s s
-          once_here s = omega (arith, once_same s)
+      live_own = live_same a b slot (moves.others slot (omega (arith, few_of slot, once_same slot)) live) live
 
       pub moves_own : Moves a b (slot ∷ slots_of a height es) (slot ∷ slots_of b height now)
       moves_own = moves_beside a b (slots_of a height es) (slots_of b height now) (slot ∷ []) (slot ∷ slots_of a height es)
@@ -57,8 +51,7 @@ module _ {N : ℕ} where
             items_are = h.items;
             subtree = h.subtree;
             neighbour = tt;
-            moves = subst (λ l. Moves a w l (slots_in w (suc height) slot)) (sym slots_are)
-                (subst (Moves a w (slot ∷ slots_of a height es)) (sym h.slots)
+            moves = rw slots_are (subst (Moves a w (slot ∷ slots_of a height es)) (sym h.slots)
                 (moves_trans a b w (slot ∷ slots_of a height es) (slot ∷ slots_of b height now) (slot ∷ slots_of b height now) moves_own
                 (moves_beside b w (slot ∷ []) (slot ∷ []) (slots_of b height now) (slot ∷ slots_of b height now) (slot ∷ slots_of b height now)
                 changes (λ s. omega arith) (λ s. omega arith) (omega arith) (omega arith) moves_own.few
@@ -84,8 +77,7 @@ module _ {N : ℕ} where
             items_are = ap₂ (λ l m. l ++ m) h.items k.items ∙ sym (items_of-append b height us vs) ∙ ap (items_of b height) (sym now_is);
             subtree = h.subtree;
             neighbour = k.subtree;
-            moves = subst (λ l. Moves a w l (slots_in w (suc height) slot ++ slots_in w (suc height) s)) (sym slots_are)
-                (subst (Moves a w (slot ∷ slots_of a height es)) (sym (ap₂ (λ l m. l ++ m) h.slots k.slots))
+            moves = rw slots_are (subst (Moves a w (slot ∷ slots_of a height es)) (sym (ap₂ (λ l m. l ++ m) h.slots k.slots))
                 (moves_trans a b w (slot ∷ slots_of a height es) (slot ∷ slots_of b height now) (slot ∷ xs ++ (s ∷ ys)) moves_own
                 (moves_beside b w (slot ∷ []) (slot ∷ s ∷ []) (slots_of b height now) (slot ∷ slots_of b height now) (slot ∷ xs ++ (s ∷ ys))
                 changes (λ q. omega arith) (λ q. omega (arith, count q, times-append q xs (s ∷ ys))) (omega arith)

@@ -1,4 +1,4 @@
-use Rattle.std.proofs.Common.{◌≡◌, ◌<◌, List, [], ◌∷◌, length, get_or, drop, sym, ap, subst, ◌∙◌, arith, rules}
+use Rattle.std.proofs.Common.{◌≡◌, ◌<◌, List, ◌∷◌, drop-cons, length, get_or, drop, sym, ap, subst, ◌∙◌, rules}
 use Rattle.std.specs.Prelude.{ℤ}
 use mir.Val.{SFits}
 use mir.Syntax.{w64}
@@ -15,10 +15,6 @@ use Rattle.tree.proofs.Headed.{common_prefix_len_at}
 use Rattle.tree.proofs.KnownKeys.{key_of_one}
 use Rattle.tree.proofs.rebalance.entry_for.Goals as goal
 
-first_and_rest : (xs : List Entry) (x : Entry) → 0 < length xs → x ≡ get_or xs 0 x → xs ≡ x ∷ drop 1 xs
-first_and_rest [] x some is = absurd (omega arith)
-first_and_rest (y ∷ ys) x some is = ap (λ z. z ∷ ys) (sym is)
-
 pub returns-clause-tells : goal.returns-clause-tells
 returns-clause-tells g c height least h =
     let a = c.args.nodes.now in
@@ -28,7 +24,8 @@ returns-clause-tells g c height least h =
     let here : entries_at a c.args.child ≡ entries_of node = entries_from_header a c.args.child node c.header_ref-node.ensures.header in
     let same : xs ≡ entries_at a c.args.child = c.entries.ensures.entries ∙ sym here in
     let some : 0 < length xs = subst (λ l. 0 < length l) (sym same) c.requires.some in
-    let parts : xs ≡ e ∷ drop 1 xs = first_and_rest xs e some c.index-entries-0.is in
+    let first : xs ≡ get_or xs 0 e ∷ drop 1 xs = drop-cons xs 0 e some in
+    let parts : xs ≡ e ∷ drop 1 xs = cc (c.index-entries-0.is) in
     let r = c.greatest.result in
     let fits : SFits w64 r = search rules in
     let greatest : IsGreatest version_of r (e ∷ drop 1 xs) =

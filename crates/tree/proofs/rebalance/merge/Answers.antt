@@ -1,4 +1,4 @@
-use Rattle.std.proofs.Common.{[], ◌∷◌, ◌++◌, length, sym, ap, ap₂, ◌∙◌, arith, rules}
+use Rattle.std.proofs.Common.{[], ◌∷◌, length, sym, ap, arith, rules}
 use Rattle.tree.proofs.Frames.{entries_same, live_same}
 use Rattle.tree.proofs.Changing.{changes_if_moves, moves_trans, moves_released}
 use Rattle.tree.proofs.Placing.{entries_from_header, put_entries, put_live, put_others, put_moves, moves_first, moves_second, released_spare}
@@ -11,22 +11,20 @@ release-requires g c =
     let merged = c.append_with_heads.new.self in
     let a = c.args.nodes.now in
     let b = c.set_header.new.self in
-    record {
-      live = live_same a b c.args.second
-          (put_others a b c.args.first merged c.set_header.ensures.replaced c.args.second (λ same. c.requires.two.apart (sym same)))
-          c.requires.two.live_second;
-    }
+    let kept =
+    put_others a b c.args.first merged c.set_header.ensures.replaced c.args.second (λ same. c.requires.two.apart (sym same)) in
+    record { live = live_same a b c.args.second kept c.requires.two.live_second }
 
 pub returns-clause-entries : goal.returns-clause-entries
 returns-clause-entries g c =
     let merged = c.append_with_heads.new.self in
     let a = c.args.nodes.now in
     let b = c.set_header.new.self in
-    entries_same b c.release.new.self c.args.first (c.release.ensures.others c.args.first c.requires.two.apart)
-    ∙ put_entries a b c.args.first merged c.set_header.ensures.replaced
-    ∙ c.append_with_heads.ensures.entries
-    ∙ ap₂ (λ xs ys. xs ++ ys) (sym (entries_from_header a c.args.first c.header-merged.result c.header-merged.ensures.header))
-    (sym (entries_from_header a c.args.second c.header_ref.result.now c.header_ref.ensures.header))
+    let first_was = entries_from_header a c.args.first c.header-merged.result c.header-merged.ensures.header in
+    let second_was = entries_from_header a c.args.second c.header_ref.result.now c.header_ref.ensures.header in
+    let put = put_entries a b c.args.first merged c.set_header.ensures.replaced in
+    let kept = entries_same b c.release.new.self c.args.first (c.release.ensures.others c.args.first c.requires.two.apart) in
+    cc
 
 pub returns-clause-changes : goal.returns-clause-changes
 returns-clause-changes g c =
@@ -38,9 +36,8 @@ returns-clause-changes g c =
     let y = c.args.second in
     let put = put_moves a b x merged c.set_header.ensures.replaced c.requires.two.live_first c.requires.two.keyless in
     let live_x = put_live a b x merged c.set_header.ensures.replaced in
-    let live_y =
-    live_same a b y (put_others a b x merged c.set_header.ensures.replaced y (λ same. c.requires.two.apart (sym same)))
-    c.requires.two.live_second in
+    let kept = put_others a b x merged c.set_header.ensures.replaced y (λ same. c.requires.two.apart (sym same)) in
+    let live_y = live_same a b y kept c.requires.two.live_second in
     let expired = moves_released b d y put.keyless live_y c.release.ensures.released c.release.ensures.others
     (released_spare b d y live_y put.keyless c.release.ensures.spare) in
     changes_if_moves a d (x ∷ y ∷ []) (x ∷ [])

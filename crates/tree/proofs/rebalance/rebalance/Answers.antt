@@ -1,7 +1,7 @@
-use Rattle.std.proofs.Common.{◌≡◌, ◌≤◌, ◌-◌, List, length, length-set, get_or, sym, ap, subst, ◌∙◌, arith, rules}
+use Rattle.std.proofs.Common.{◌≡◌, ◌≤◌, ◌-◌, List, length, length-set, get_or, ap, ◌∙◌, arith, rules}
 use Rattle.tree.specs.declared.entry.Entry.{Entry}
 use Rattle.tree.specs.Node.{entries_of}
-use Rattle.tree.specs.Subtree.{entries_at, IsSubtree}
+use Rattle.tree.specs.Subtree.{entries_at}
 use Rattle.tree.specs.Tree.{least_of}
 use Rattle.tree.proofs.Placing.{entries_from_header}
 use Rattle.tree.proofs.Sharing.{set_one}
@@ -11,15 +11,13 @@ use Rattle.tree.proofs.rebalance.rebalance.Goals as goal
 pub header_ref-requires : goal.header_ref-requires
 header_ref-requires g c =
     let a = c.args.nodes.now in
-    let es = entries_of c.args.node.now in
     let i = c.args.index in
     let d = c.index-entries-index.result in
     let x = (get_or c.entries.result.now i d).child in
-    let x_is : x ≡ (get_or es i d).child = ap (λ (l : List Entry). (get_or l i d).child) c.entries.ensures.entries in
     let f = c.requires.can_rebalance.family in
     record {
       live = live_subtree a (least_of g.row.N) f.0 x
-          (subst (IsSubtree a (least_of g.row.N) f.0) (sym x_is) (f.1.below i d c.requires.can_rebalance.within));
+          (rw c.entries.ensures.entries (f.1.below i d c.requires.can_rebalance.within));
     }
 
 pub returns-then-len-least-clause-rebalanced : goal.returns-then-len-least-clause-rebalanced
@@ -32,10 +30,9 @@ returns-then-len-least-clause-rebalanced g c height family =
     let x_is : x ≡ (get_or es i d).child = ap (λ (l : List Entry). (get_or l i d).child) c.entries.ensures.entries in
     let f = c.requires.can_rebalance.family in
     let t = c.entry_for.result in
-    let len : length (entries_at a x) ≡ c.len.result =
-    ap length (entries_from_header a x c.header_ref.result.now c.header_ref.ensures.header) ∙ sym c.len.ensures.len in
+    let len = ap length (entries_from_header a x c.header_ref.result.now c.header_ref.ensures.header) in
     let filled : least_of g.row.N ≤ length (entries_at a x) =
-    subst (λ n. n ≤ length (entries_at a x)) c.least.ensures.least (omega (arith, len, c.if-len-least.true)) in
+    omega (arith, len, c.len.ensures.len, c.least.ensures.least, c.if-len-least.true) in
     rebalanced_by_entry a (least_of g.row.N) height es (entries_of c.set_with_head.new.self) i x d t
     c.requires.can_rebalance.within x_is family c.requires.can_rebalance.keyless
     c.entry_for.ensures.child (c.entry_for.ensures.tells height (least_of g.row.N)) filled
@@ -46,9 +43,6 @@ merge_or_redistribute-requires g c =
     let a = c.args.nodes.now in
     let es = entries_of c.args.node.now in
     let i = c.args.index in
-    let d = c.index-entries-index.result in
-    let x = (get_or c.entries.result.now i d).child in
-    let x_is : x ≡ (get_or es i d).child = ap (λ (l : List Entry). (get_or l i d).child) c.entries.ensures.entries in
     let can = c.requires.can_rebalance in
     let f = can.family in
     let j = c.saturating_sub.result in
@@ -58,7 +52,7 @@ merge_or_redistribute-requires g c =
         record {
           fan_out = can.fan_out;
           within = omega (arith, can.within, can.several, j_is);
-          filled = filled_pair a (least_of g.row.N) f.0 es i j d can.within can.several j_is f.1;
+          filled = filled_pair a (least_of g.row.N) f.0 es i j c.index-entries-index.result can.within can.several j_is f.1;
           keyless = can.keyless;
           family = (f.0, widened a (least_of g.row.N) f.0 es i j (omega (arith, j_is)) (omega (arith, j_is)) f.1);
           headed = can.headed;
@@ -69,13 +63,8 @@ merge_or_redistribute-requires g c =
 
 pub set_with_head-requires : goal.set_with_head-requires
 set_with_head-requires g c =
-    let bytes = g.P.Bound.bytes c.args.bound.now in (
-      search rules,
-      (
-        c.requires.can_rebalance.within,
-        (c.requires.headed, c.entry_for.ensures.known bytes c.requires.can_rebalance.headed),
-      ),
-    )
+    let known = c.entry_for.ensures.known (g.P.Bound.bytes c.args.bound.now) c.requires.can_rebalance.headed in
+    (search rules, (c.requires.can_rebalance.within, (c.requires.headed, known)))
 
 pub returns-clause-rebalanced : goal.returns-clause-rebalanced
 returns-clause-rebalanced g c height family =

@@ -30,26 +30,23 @@ lengthen_prefix-requires g c =
     let one = c.args.self.now in
     let other = c.args.other.now in
     let now = c.append.new.self in
-    let now = c.append.new.self in
     let es = c.entries.result.now in
     let first = c.in-Some.first.now in
     let get : slice_get es 0 ≡ Some first = sym {b = slice_get es 0} c.in-Some.ensures.value in
     let there : Contains (keys_of (entries_of other)) first.key =
     subst (λ es. Contains (keys_of es) first.key) c.entries.ensures.entries
     (keys_there es 0 first (slice_get_within es 0 first get) (get_or_from_slice_get es 0 first first get)) in
+    let mapped = map-append (λ (e : Entry). e.key) (entries_of one) (entries_of other) in
     let alike : (one.prefix_len ≡ other.prefix_len)
     × ((text : List ℕ) → bytes first.key ≡ Some text → HasPrefix bytes (key_heads_of one) text) =
     elim c.if-self-other.branch [
-      | then-self-other w ↦ (
-        w.if-self-other.true,
-        w.begins-alike.ensures.agrees (sym w.alike-is ∙ c.if-not-alike.false),
-      )
+      | then-self-other w ↦ (w.if-self-other.true, w.begins-alike.ensures.agrees (sym w.alike-is ∙ c.if-not-alike.false))
       | else-self-other w ↦ absurd (w.if-self-other.false (eqb-true one.prefix_len other.prefix_len (sym w.alike-is ∙ c.if-not-alike.false)))
     ] in (
       search rules,
-      headed_joined bytes (key_heads_of one) (key_heads_of other) (key_heads_of now) c.requires.headed c.requires.other_headed first.key alike.0
-          there alike.1
-          (ap keys_of (c.append.ensures.entries ∙ ap (λ es. entries_of one ++ es) c.entries-2.ensures.entries) ∙ map-append (λ (e : Entry). e.key) (entries_of one) (entries_of other))
+      headed_joined bytes (key_heads_of one) (key_heads_of other) c.requires.headed c.requires.other_headed first.key alike.0
+          there alike.1 (key_heads_of now)
+          (cc (c.append.ensures.entries, c.entries-2.ensures.entries, mapped))
           c.append.ensures.heads.prefix_len
-          (c.append.ensures.heads.heads_are ∙ ap (λ hs. (key_heads_of one).heads ++ hs) c.heads.ensures.heads),
+          (cc (c.append.ensures.heads.heads_are, c.heads.ensures.heads)),
     )

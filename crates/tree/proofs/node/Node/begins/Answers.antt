@@ -1,4 +1,4 @@
-use Rattle.std.proofs.Common.{◌≡◌, ◌≤◌, ◌-◌, ◌∙◌, length, Some, slice_get, ap, sym, arith}
+use Rattle.std.proofs.Common.{◌≡◌, ◌≤◌, ◌-◌, length, Some, slice_get, arith}
 use Rattle.std.proofs.lemmas.Bool.{leb-true}
 use Rattle.tree.specs.Node.{entries_of, key_heads_of}
 use Rattle.tree.proofs.HeadChanges.{common_agrees, last_there}
@@ -10,8 +10,7 @@ returns-in-Some g c =
     let bytes = g.P.Bound.bytes c.args.bound.now in
     let last = c.in-Some.last.now in
     let get : slice_get (entries_of node) (length (entries_of node) - 1) ≡ Some last =
-    ap (λ es. slice_get es (length es - 1)) (sym c.entries.ensures.entries)
-    ∙ sym {b = slice_get c.entries.result.now (length c.entries.result.now - 1)} c.in-Some.ensures.value in
+    cc (c.entries.ensures.entries, c.in-Some.ensures.value) in
     record {
       agrees =
           λ enough. let least : c.prefix_len.result ≤ c.common_prefix_len.result = leb-true c.prefix_len.result c.common_prefix_len.result enough in

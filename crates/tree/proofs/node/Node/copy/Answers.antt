@@ -37,7 +37,7 @@ returns-clause-headed g c bytes h =
     let there = key_there node.entries node.len from e from_inside most is in
     let known = All-contains (IsKnown bytes) key_heads.keys e.key (all_known bytes key_heads h) there in
     let read = get_or node.entries from e in
-    headed_set bytes key_heads _ h to e.key (get_or node.heads from 0) known (key_agrees bytes key_heads h e.key there)
+    headed_set bytes key_heads h _ to e.key (get_or node.heads from 0) known (key_agrees bytes key_heads h e.key there)
     (head_there node.entries node.len from e from_inside most is (head_at bytes node.prefix_len) node.heads h.heads)
     (ap keys_of (take-set-lt node.len node.entries to read to_inside)
     ∙ map-set (λ (x : Entry). x.key) (entries_of node) to read

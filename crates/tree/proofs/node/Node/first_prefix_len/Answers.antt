@@ -1,4 +1,4 @@
-use Rattle.std.proofs.Common.{◌≡◌, ℕ, ◌<◌, ◌+◌, ◌∙◌, sym, ap, get_or, get_or-take, slice_index, subst, arith, length-take, take, lt-ltb}
+use Rattle.std.proofs.Common.{◌≡◌, ◌<◌, ◌+◌, ◌∙◌, sym, ap, get_or, get_or-take, slice_index, subst, arith, length-take, take, lt-ltb}
 use Rattle.std.specs.Int.{w64, to_be_bytes}
 use Rattle.std.specs.List.{Contains}
 use Rattle.std.proofs.lemmas.Option.{slice_get_within, get_or_from_slice_get}
@@ -7,9 +7,6 @@ use Rattle.tree.specs.Heads.{Begins, IsTargetHead, IsCommonPrefixLen, head_behin
 use Rattle.tree.specs.Node.{entries_of, key_heads_of}
 use Rattle.tree.proofs.HeadAt.{key_there, common_at, less_passes}
 use Rattle.tree.proofs.node.Node.first_prefix_len.Goals as goal
-
-sum : (prefix_len count : ℕ) → prefix_len ≡ 0 → prefix_len + count ≡ count
-sum prefix_len count none = omega (arith, none)
 
 pub returns-then-self-head : goal.returns-then-self-head
 returns-then-self-head g c = record {
@@ -38,6 +35,7 @@ returns-then-self-head g c = record {
         head_is = c.head-head.ensures.head ∙ ap (λ n. head_behind n target) (sym none);
         are_bytes = c.head-head.ensures.are_bytes;
       } in
+      let sum : key_heads.prefix_len + c.same_bytes.result ≡ c.same_bytes.result = omega (arith, none) in
       let inside : 0 < node.len = omega (arith, c.requires.some, length-take node.len node.entries) in
       let own : get_or key_heads.heads 0 0 ≡ slice_index node.heads 0 = get_or-take node.len node.heads 0 0 inside in
       let less : get_or key_heads.heads 0 0 < head = omega (arith, own, c.if-self-head.true) in
@@ -46,7 +44,7 @@ returns-then-self-head g c = record {
       (lt-ltb (get_or key_heads.heads 0 0) head less) in (
         passed,
         λ text known.
-            subst (λ n. IsCommonPrefixLen n text target) (sum key_heads.prefix_len c.same_bytes.result none)
+            subst (λ n. IsCommonPrefixLen n text target) sum
             (common_at bytes key_heads h target (g.P.Bound.below bound) (g.met.P.Bound.order bound) 0 e.key head c.same_bytes.result at is
             passed (λ same. absurd (omega (arith, same, less))) c.same_bytes.ensures.within
             (ap (λ d. take c.same_bytes.result (to_be_bytes w64 d)) own ∙ c.same_bytes.ensures.same)

@@ -1,6 +1,5 @@
-use Rattle.std.proofs.Common.{rules, ap, subst, unwrap_or, arith}
+use Rattle.std.proofs.Common.{rules, ap, unwrap_or, arith}
 use Rattle.tree.specs.declared.entry.Entry.{Entry}
-use Rattle.tree.specs.Heads.{IsPrefixLen, IsPrefixLenAt}
 use Rattle.tree.specs.Node.{entries_of}
 use Rattle.tree.proofs.HeadAt.{entry_at, all_known}
 use Rattle.tree.proofs.HeadCounts.{passing_before}
@@ -12,17 +11,16 @@ returns-in-None g c =
     let es = entries_of c.args.self.now in
     let bound = c.args.bound.now in
     let e = entry_at es 0 can.can_find.some in
-    let fails = subst (λ o. IsPrefixLen (g.P.Bound.bytes bound) (g.P.Bound.below bound) (g.P.Bound.target bound) o e.0.key)
-    c.in-None.is (can.known e.0 e.1) in
-    let none = passing_before (λ (e : Entry). g.P.Bound.below bound e.key) es 0 e.0 can.can_find.partitioned e.1 fails in
+    let fails = rw c.in-None.is at can.known in
+    let none =
+    passing_before (λ (e : Entry). g.P.Bound.below bound e.key) es 0 e.0 can.can_find.partitioned e.1 (fails e.0 e.1) in
     record { count = record { within = omega (arith); count_is = omega (arith, none) } }
 
 pub lower_bound_by_head-requires : goal.lower_bound_by_head-requires
 lower_bound_by_head-requires g c =
     let can = c.requires.can_step.can_step in
     let bound = c.args.bound.now in
-    let known = subst (λ o. IsPrefixLenAt (g.P.Bound.bytes bound) (g.P.Bound.below bound) (g.P.Bound.target bound) o
-    (entries_of c.args.self.now) 0) c.in-Some.is can.known in (
+    let known = rw c.in-Some.is at can.known in (
       search rules,
       (
         can.can_find,

@@ -1,4 +1,4 @@
-use Rattle.std.proofs.Common.{arith, ◌≡◌, ◌≤◌, ◌+◌, ◌-◌, ◌++◌, ◌∙◌, ap, ap₂, sym, length, take, drop}
+use Rattle.std.proofs.Common.{arith, ◌≡◌, ◌≤◌, ◌+◌, ◌-◌, length, take}
 use Rattle.std.specs.List.{copy_within}
 use Rattle.std.proofs.lemmas.List.{length-take-le}
 use Rattle.tree.proofs.Splicing.{take-spliced_before}
@@ -17,12 +17,7 @@ returns-clause-heads g c =
     let len : now.len ≡ 0 + length heads + (node.len - 0) = omega (arith, count, c.move_tail.ensures.len) in
     let before : take (0 + length heads + (node.len - 0)) now.heads
     ≡ take (0 + length heads + (node.len - 0)) (copy_within node.heads 0 node.len (0 + length heads)) =
-    ap (λ n. take n now.heads) (sym len) ∙ c.move_tail.ensures.heads
-    ∙ ap₂ (λ n m. take n (copy_within node.heads 0 node.len m)) len (sym count) in
-    record {
-      prefix_len = c.move_tail.ensures.prefix_len;
-      heads_are = ap₂ (λ n m. take n (heads ++ drop m now.heads)) len (omega (arith, count))
-          ∙ take-spliced_before node.heads now.heads heads node.len 0 0 (omega arith) (omega arith) (omega arith) (omega (arith, count, room))
-          (omega arith) before
-          ∙ ap (λ hs. hs ++ take node.len node.heads) c.copy_from_slice-2.ensures.after;
-    }
+    cc (len, count, c.move_tail.ensures.heads) in
+    let spliced = take-spliced_before node.heads now.heads heads node.len 0 0 (omega arith) (omega arith) (omega arith)
+    (omega (arith, count, room)) (omega arith) before in
+    record { prefix_len = c.move_tail.ensures.prefix_len; heads_are = cc (c.copy_from_slice-2.ensures.after, spliced) }

@@ -51,7 +51,7 @@ returns-clause-headed g c =
     let right : head ≡ head_at bytes old.prefix_len key =
     head_known bytes c.prefix_len.result key head c.requires.known c.head_of.ensures.head
     ∙ ap (λ n. head_at bytes n key) (c.prefix_len.ensures.prefix_len ∙ prefix_len) in
-    headed_set bytes (key_heads_of old) now c.requires.headed i key head c.requires.known
+    headed_set bytes (key_heads_of old) c.requires.headed now i key head c.requires.known
     (λ text known. inr (c.begins-begins.ensures.agrees c.if-not-begins.false text known)) right
     (ap keys_of c.set-2.ensures.entries ∙ map-set (λ (x : Entry). x.key) (entries_of old) i c.args.entry) prefix_len
     (take-set-lt new.len new.heads i head inside

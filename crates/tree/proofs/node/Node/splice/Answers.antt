@@ -1,5 +1,4 @@
-use Rattle.std.proofs.Common.{arith, ◌≡◌, ◌≤◌, ◌+◌, ◌-◌, ◌++◌, ◌∙◌, ap, ap₂, sym, length, take, drop}
-use Rattle.std.specs.List.{copy_within}
+use Rattle.std.proofs.Common.{arith, ◌≡◌, ◌≤◌, ◌+◌, ◌-◌, length}
 use Rattle.std.proofs.lemmas.List.{length-take-le}
 use Rattle.tree.specs.Node.{entries_of}
 use Rattle.tree.proofs.Splicing.{take-spliced, take-spliced_before}
@@ -21,16 +20,18 @@ returns g c =
     let same : length heads ≡ length new = c.requires.same_len in
     let sum : now.len ≡ from + length heads + (node.len - to) = omega (arith, count, same) in
     record {
-      entries = ap₂ (λ n xs. take n (take from moved ++ (xs ++ drop (end - from) (drop from moved)))) count c.copy_few.ensures.copied
-          ∙ take-spliced node.entries moved new node.len from to (omega arith) c.requires.ordered within (omega (arith, c.requires.room, len))
-          c.move_tail.ensures.entries;
+      entries = cc (
+        c.copy_few.ensures.copied,
+        take-spliced node.entries moved new node.len from to (omega arith)
+            c.requires.ordered within (omega (arith, c.requires.room, len)) c.move_tail.ensures.entries,
+      );
       heads = record {
         prefix_len = c.move_tail.ensures.prefix_len;
-        heads_are = ap₂ (λ n xs. take n (take from now.heads ++ (xs ++ drop (end - from) (drop from now.heads)))) sum c.copy_few-2.ensures.copied
-            ∙ ap (λ n. take (from + length heads + (node.len - to)) (take from now.heads ++ (heads ++ drop (from + n - from) (drop from now.heads)))) (sym same)
-            ∙ take-spliced_before node.heads now.heads heads node.len from to (omega arith) c.requires.ordered within
-            (omega (arith, c.requires.room, len, same)) (omega (arith, c.move_tail.ensures.size, now.within, count))
-            (ap (λ n. take n now.heads) (sym sum) ∙ c.move_tail.ensures.heads
-            ∙ ap₂ (λ n m. take n (copy_within node.heads to node.len m)) sum (ap (λ n. from + n) (sym same)));
+        heads_are = cc (
+          c.copy_few-2.ensures.copied,
+          take-spliced_before node.heads now.heads heads node.len from to (omega arith)
+              c.requires.ordered within (omega (arith, c.requires.room, len, same))
+              (omega (arith, c.move_tail.ensures.size, now.within, count)) (cc (c.move_tail.ensures.heads)),
+        );
       };
     }

@@ -1,4 +1,4 @@
-use Rattle.std.proofs.Common.{rules, ◌≡◌, ◌≤◌, ℕ, [], ◌++◌, ◌∙◌, true, length, take, drop, ap, ap₂, refl, sym, arith}
+use Rattle.std.proofs.Common.{rules, ◌≡◌, ◌≤◌, ℕ, ◌++◌, ◌∙◌, true, length, take, drop, refl, sym, arith}
 use Rattle.std.specs.List.{All}
 use Rattle.std.proofs.lemmas.List.{length-map, map-append}
 use Rattle.tree.specs.declared.entry.Entry.{Entry}
@@ -33,41 +33,14 @@ both g c =
     omega (arith, can.within, heads_count (g.P.Bound.bytes c.args.bound.now) es (key_heads_of node) can.headed refl) in
     let split = c.split_off-right in
     elim c.if-from-new.branch [
-      | then-from-new w ↦ record {
-        entries = c.redistribute.ensures.entries
-            ∙ ap₂ (λ l r. entries_of l ++ entries_of r) w.self-is w.right-is
-            ∙ ap₂ (λ xs ys. xs ++ ys) (w.splice.ensures.entries ∙ ap (λ xs. take from xs ++ (c.args.new.now ++ drop to xs)) split.ensures.left)
-            split.ensures.right
-            ∙ apart_spliced es c.args.new.now from to can.ordered can.within;
-        heads = c.redistribute.ensures.heads.heads_are
-            ∙ ap₂ (λ l r. (key_heads_of l).heads ++ (key_heads_of r).heads) w.self-is w.right-is
-            ∙ ap₂ (λ xs ys. xs ++ ys) (w.splice.ensures.heads.heads_are
-            ∙ ap (λ xs. take from xs ++ (c.args.heads.now ++ drop to xs)) split.ensures.left_heads.heads_are)
-            split.ensures.right_heads.heads_are
-            ∙ apart_spliced hs c.args.heads.now from to can.ordered within;
-        prefix_len = c.redistribute.ensures.heads.prefix_len ∙ ap (λ l. (key_heads_of l).prefix_len) w.self-is
-            ∙ w.splice.ensures.heads.prefix_len ∙ split.ensures.left_heads.prefix_len;
-        right_prefix_len = c.redistribute.ensures.heads.right_prefix_len ∙ ap (λ r. (key_heads_of r).prefix_len) w.right-is
-            ∙ split.ensures.right_heads.prefix_len;
-      }
-      | else-from-new w ↦ record {
-        entries = c.redistribute.ensures.entries
-            ∙ ap₂ (λ l r. entries_of l ++ entries_of r) w.self-is w.right-is
-            ∙ ap₂ (λ xs ys. xs ++ ys) (w.splice-else-from-new.ensures.entries ∙ ap (λ xs. take from xs ++ ([] ++ drop to xs)) split.ensures.left)
-            (w.splice-else-from-new-2.ensures.entries ∙ ap (λ xs. take 0 xs ++ (c.args.new.now ++ drop 0 xs)) split.ensures.right)
-            ∙ apart_prepended es c.args.new.now from to can.ordered can.within;
-        heads = c.redistribute.ensures.heads.heads_are
-            ∙ ap₂ (λ l r. (key_heads_of l).heads ++ (key_heads_of r).heads) w.self-is w.right-is
-            ∙ ap₂ (λ xs ys. xs ++ ys) (w.splice-else-from-new.ensures.heads.heads_are
-            ∙ ap (λ xs. take from xs ++ ([] ++ drop to xs)) split.ensures.left_heads.heads_are)
-            (w.splice-else-from-new-2.ensures.heads.heads_are
-            ∙ ap (λ xs. take 0 xs ++ (c.args.heads.now ++ drop 0 xs)) split.ensures.right_heads.heads_are)
-            ∙ apart_prepended hs c.args.heads.now from to can.ordered within;
-        prefix_len = c.redistribute.ensures.heads.prefix_len ∙ ap (λ l. (key_heads_of l).prefix_len) w.self-is
-            ∙ w.splice-else-from-new.ensures.heads.prefix_len ∙ split.ensures.left_heads.prefix_len;
-        right_prefix_len = c.redistribute.ensures.heads.right_prefix_len ∙ ap (λ r. (key_heads_of r).prefix_len) w.right-is
-            ∙ w.splice-else-from-new-2.ensures.heads.prefix_len ∙ split.ensures.right_heads.prefix_len;
-      }
+      | then-from-new w ↦
+          let entries = apart_spliced es c.args.new.now from to can.ordered can.within in
+          let heads = apart_spliced hs c.args.heads.now from to can.ordered within in
+          record { entries = cc; heads = cc; prefix_len = cc; right_prefix_len = cc }
+      | else-from-new w ↦
+          let entries = apart_prepended es c.args.new.now from to can.ordered can.within in
+          let heads = apart_prepended hs c.args.heads.now from to can.ordered within in
+          record { entries = cc; heads = cc; prefix_len = cc; right_prefix_len = cc }
     ]
 
 -- the heads of both are right where the new keys begin as all others do
@@ -90,21 +63,25 @@ both_headed g c alike =
       heads = (key_heads_of left).heads ++ (key_heads_of right).heads;
     } in
     headed_apart bytes all (key_heads_of left) (key_heads_of right)
-    (headed_spliced bytes (key_heads_of node) all can.headed (keys_of new) c.args.heads.now c.args.from c.args.to can.known
+    (headed_spliced bytes (key_heads_of node) can.headed all (keys_of new) c.args.heads.now c.args.from c.args.to can.known
     (can.beside alike) (map_spliced key (entries_of node) new es c.args.from c.args.to b.entries) refl b.heads)
     (sym (map-append key (entries_of left) (entries_of right))) refl
     (c.redistribute.ensures.heads.count ∙ sym (length-map (entries_of left) key)) b.prefix_len b.right_prefix_len
 
 -- all keys are known
 known : (g : given.Over) (c : After-redistribute g)
-    → All (IsKnown (g.P.Bound.bytes c.args.bound.now)) (keys_of (entries_of c.redistribute.new.self ++ entries_of c.redistribute.new.right))
+    → All (IsKnown (g.P.Bound.bytes c.args.bound.now)) (keys_of (entries_of c.redistribute.new.self))
+    × All (IsKnown (g.P.Bound.bytes c.args.bound.now)) (keys_of (entries_of c.redistribute.new.right))
 known g c =
     let can = c.requires.can_splice in
-    let key : Entry → ℕ = λ e. e.key in
+    let bytes = g.P.Bound.bytes c.args.bound.now in
     let node = c.args.self.now in
-    let es = entries_of c.redistribute.new.self ++ entries_of c.redistribute.new.right in
-    known_spliced (g.P.Bound.bytes c.args.bound.now) (key_heads_of node) can.headed (keys_of c.args.new.now) (keys_of es)
-    c.args.from c.args.to can.known (map_spliced key (entries_of node) c.args.new.now es c.args.from c.args.to (both g c).entries)
+    let one = entries_of c.redistribute.new.self in
+    let other = entries_of c.redistribute.new.right in
+    let all = known_spliced bytes (key_heads_of node) can.headed (keys_of c.args.new.now) (keys_of (one ++ other))
+    c.args.from c.args.to can.known (map_spliced (λ (e : Entry). e.key) (entries_of node) c.args.new.now (one ++ other)
+    c.args.from c.args.to (both g c).entries) in
+    (keys_in_front (IsKnown bytes) one other all, keys_at_back (IsKnown bytes) one other all)
 
 pub lengthen_prefix-requires : goal.lengthen_prefix-requires
 lengthen_prefix-requires g c =
@@ -115,15 +92,8 @@ lengthen_prefix-requires-then-alike g c =
     (search rules, (both_headed g (goal.at.lengthen_prefix-requires-then-alike g c).After-redistribute c.if-alike.true).1)
 
 pub compute_heads-requires : goal.compute_heads-requires
-compute_heads-requires g c = (
-  search rules,
-  keys_in_front (IsKnown (g.P.Bound.bytes c.args.bound.now)) (entries_of c.redistribute.new.self) (entries_of c.redistribute.new.right)
-      (known g (goal.at.compute_heads-requires g c).After-redistribute),
-)
+compute_heads-requires g c = (search rules, (known g (goal.at.compute_heads-requires g c).After-redistribute).0)
 
 pub compute_heads-requires-else-alike : goal.compute_heads-requires-else-alike
-compute_heads-requires-else-alike g c = (
-  search rules,
-  keys_at_back (IsKnown (g.P.Bound.bytes c.args.bound.now)) (entries_of c.redistribute.new.self) (entries_of c.redistribute.new.right)
-      (known g (goal.at.compute_heads-requires-else-alike g c).After-redistribute),
-)
+compute_heads-requires-else-alike g c =
+    (search rules, (known g (goal.at.compute_heads-requires-else-alike g c).After-redistribute).1)

@@ -21,7 +21,7 @@ returns-else-not-alike-clause-headed g c =
     let old = c.args.self.now in
     let new = c.args.new.now in
     let now = c.splice.new.self in
-    headed_spliced (g.P.Bound.bytes c.args.bound.now) (key_heads_of old) (key_heads_of now) can.headed (keys_of new) c.args.heads.now
-    c.args.from c.args.to can.known (can.beside c.if-not-alike.false)
+    headed_spliced (g.P.Bound.bytes c.args.bound.now) (key_heads_of old) can.headed (key_heads_of now) (keys_of new)
+    c.args.heads.now c.args.from c.args.to can.known (can.beside c.if-not-alike.false)
     (map_spliced (λ (e : Entry). e.key) (entries_of old) new (entries_of now) c.args.from c.args.to c.splice.ensures.entries)
     c.splice.ensures.heads.prefix_len c.splice.ensures.heads.heads_are
