@@ -31,9 +31,6 @@ module _ {X : Type 0} where
   IsPartitioned-all (x ∷ xs) = ap (λ ys. x ∷ ys) (IsPartitioned-all xs)
 
   module _ (p q : X → Bool) where
-    pub span-append : (xs ys : List X) → span p q (xs ++ ys) ≡ span p q xs ++ span p q ys
-    span-append xs ys = filter-append (λ x. not (p x) && q x) xs ys
-
     pub span_before : (xs : List X) → All (λ x. p x ≡ true) xs → span p q xs ≡ []
     span_before xs a = (none_pass (λ x. not (p x) && q x) xs (λ i d inside. rw (a i d inside) refl)).0
 
