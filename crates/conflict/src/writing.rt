@@ -82,6 +82,7 @@ pub fn write_batch(
     let spans = scratch.union.spans();
     gather_lengths(&mut scratch.lengths, &ranges, spans)?;
     steps.prepare(&scratch.lengths)?;
+    note_keys(steps, &batch.txns, spans, batch.version);
     write_prepared(steps, &batch.txns, spans, batch.version);
     Ok(spans.len())
 }
@@ -102,6 +103,25 @@ fn gather_lengths<L: RangeList>(
         lengths.push(KeyLengths::of(range_of(ranges, *span)))?;
     }
     Ok(())
+}
+
+// Notes each single key among the united ranges before it is written.
+fn note_keys(steps: &mut StepMap, txns: &Txns, spans: &[Span], version: i64)
+    ensures same { steps.new ≡ steps.old }
+{
+    for span in spans {
+        if let Some(hash) = single_hash(txns, *span) {
+            steps.note_key(hash, version);
+        }
+    }
+}
+
+// Returns the hash of the united range of the span, if that is one of the batch's ranges and a single key.
+fn single_hash(txns: &Txns, span: Span) -> Option<u32> {
+    if span.begin == span.end {
+        return txns.hash(span.begin);
+    }
+    None
 }
 
 // Writes the united ranges one after the other, where none is written yet. Takes no memory. The next range is looked up

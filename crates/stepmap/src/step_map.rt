@@ -198,6 +198,15 @@ impl StepMap {
         Ok(())
     }
 
+    /// Notes that a key of this hash, as `keys::key_hash` returns it, is going to be written at the version. The function stays
+    /// as it is, and no answer is another one. Where many keys are written, the hashes of all of them come first, so that the
+    /// memory which the filter has for them is waited for at once. It takes no memory.
+    pub fn note_key(&mut self, hash: u32, version: i64)
+        ensures same { self.new ≡ self.old }
+    {
+        self.filter.write_key(hash, version);
+    }
+
     /// Sets the version on the range; elsewhere the function stays as it is. The range's keys have the lengths that were
     /// prepared next. It takes no memory: the keys are copied into what was taken.
     pub fn write(&mut self, range: HashedRange<'_>, version: i64)

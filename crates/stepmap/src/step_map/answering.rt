@@ -71,8 +71,11 @@ impl StepMap {
             → (more : List Bool) × (marks.new.items ≡ old ++ more)
             × AreMarked self.now (L.queries queries.now) (length old) more places.new.items) }
     {
-        let bounds = self.bounds_from(queries, marks.len(), SIDE - places.len());
+        let bounds = self.bounds_from(queries, marks.len(), SIDE);
         for bound in bounds.as_slice() {
+            if places.is_full() {
+                break;
+            }
             let place = marks.len();
             let is_open = self.is_open(queries, place, *bound);
             if is_open {

@@ -78,9 +78,9 @@ write_prepared-requires-clause-start c = λ united told_spans.
     let turn = c.writing.ensures.in_turn united version
     (apart c.ranges-ranges.result c.spans-spans.result.now (committed c.args.batch.now.txns c.args.entries.now) one united
     spans) in
-    subst (λ v. IsWriting united v 0 c.prepare.new.self c.prepare.new.self) (sym (to_z-of_z w64 version fits))
+    rw c.note_keys.ensures.same (subst (λ v. IsWriting united v 0 c.prepare.new.self c.prepare.new.self) (sym (to_z-of_z w64 version fits))
     (turn.start c.prepare.new.self told.steps ready (told.newest version c.requires.newest)
-    (subst (λ edge. edge ≤ℤ version) (sym told.edge) c.requires.late))
+    (subst (λ edge. edge ≤ℤ version) (sym told.edge) c.requires.late)))
 
 -- the ranges that the spans name are written at the batch's version
 wrote : (c : After-write_prepared) → (united : List Range)
@@ -90,7 +90,7 @@ wrote c united spans =
     let version = c.args.batch.now.version in
     let fits : SFits w64 version = search rules in
     subst (λ v. IsWriting united v (length united) c.prepare.new.self c.write_prepared.new.steps)
-    (to_z-of_z w64 version fits) (c.write_prepared.ensures.written united
+    (to_z-of_z w64 version fits) (rw c.note_keys.ensures.same at c.write_prepared.ensures.written united
     (subst (λ (ranges : List Range). AreSpanned ranges c.spans-spans.result.now united) c.ranges-ranges.ensures.ranges spans))
 
 -- and so what the batch commits is
