@@ -11,6 +11,7 @@ use Rattle.tree.proofs.HeadChanges.{target_beside}
 use Rattle.tree.specs.Heads.{KeyBytes, HaveCommonPrefix, IsPrefixLenAt, KeyHeads, HasPrefix, IsHeadBeside, IsTargetHead, head_behind}
 use Rattle.tree.specs.Node.{keys_of}
 use Rattle.tree.proofs.Overwriting.{entries_put}
+use Rattle.tree.proofs.Spans.{fewer_before}
 
 -- what begins alike does so as far as fewer bytes
 pub fewer_alike : (fewer n : ℕ) (a b : List ℕ) → fewer ≤ n → take n a ≡ take n b → take fewer a ≡ take fewer b
@@ -83,14 +84,4 @@ both_zipped R false first second one other p q = (p, (q, tt))
 -- no more are below the first bound than the second
 pub no_more : (p q : ℕ → Bool) → ((key : ℕ) → p key ≡ true → q key ≡ true) → (es : List Entry)
     → length (filter (λ e. p e.key) es) ≤ length (filter (λ e. q e.key) es)
-no_more p q nested [] = omega arith
-no_more p q nested (e ∷ es) =
-    let i = no_more p q nested es in
-    elim (cases_Bool (p e.key)) [
-      | inl t ↦ let u = nested e.key t in rw (t, u) (omega (arith, i))
-      | inr f ↦
-          elim (cases_Bool (q e.key)) [
-            | inl t ↦ rw (f, t) (omega (arith, i))
-            | inr n ↦ rw (f, n) (omega (arith, i))
-          ]
-    ]
+no_more p q nested es = fewer_before (λ (e : Entry). p e.key) (λ (e : Entry). q e.key) (λ e. nested e.key) es

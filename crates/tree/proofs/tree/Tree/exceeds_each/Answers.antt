@@ -28,29 +28,19 @@ inside : (g : Over) (c : After-self g) → record {
 }
 inside g c =
     let t = c.self.inside in
-    let qs = c.args.questions.now in
-    let view = sym c.self.view_is in
-    let from = subst (λ (v : Items). All (λ q. IsPartitioned (λ (x : Item). g.P.Bound.below q.from x.key) v.items) qs) view
-    c.requires.from in
-    let to = subst (λ (v : Items). All (λ q. IsPartitioned (λ (x : Item). g.Q.Bound.below q.to x.key) v.items) qs) view
-    c.requires.to in
-    let headed = All-weaker (λ q. AllAreHeads (g.P.Bound.bytes q.from) (tree_heads c.args.self.now))
-    (λ q. AllAreHeads (g.P.Bound.bytes q.from) (all_heads_of t.nodes))
-    (λ q h. headed_from_list (g.P.Bound.bytes q.from) t.nodes
-    (subst (λ v. AllAreHeads (g.P.Bound.bytes q.from) (tree_heads v)) view h)) qs c.requires.headed in
+    let headed = rw (← c.self.view_is) at c.requires.headed in
     record {
       asked = λ i q within. record {
         can_reach = record {
           subtree = c.self.invariant.rooted.subtree;
           some = root_some t.nodes t.root.slot t.root.height t.len t.room c.self.invariant;
-          partitioned = from i q within;
-          headed = headed i q within;
+          partitioned = (rw (← c.self.view_is) at c.requires.from) i q within;
+          headed = headed_from_list _ t.nodes (headed i q within);
         };
-        to = to i q within;
+        to = (rw (← c.self.view_is) at c.requires.to) i q within;
       };
-      items_below = subst (λ (v : Items). All (λ q. filter (λ (x : Item). g.P.Bound.below q.from x.key) v.items ≢ []) qs) view
-          c.requires.some;
-      headed = headed;
+      items_below = rw (← c.self.view_is) at c.requires.some;
+      headed = λ i q within. headed_from_list _ t.nodes (headed i q within);
     }
 
 pub descend_each-ways-requires : goal.descend_each-ways-requires
@@ -60,43 +50,16 @@ descend_each-ways-requires g c =
 
 pub look_at_each-looks-requires : goal.look_at_each-looks-requires
 look_at_each-looks-requires g c =
-    let t = c.self.inside in
-    let i = inside g (goal.at.look_at_each-looks-requires g c).After-self in
-    let qs = c.args.questions.now in
-    let ways = c.descend_each-ways.result.items in
-    let leading : AllZip
-    (λ q way. IsLeading t.nodes (g.P.Bound.bytes q.from) (g.P.Bound.below q.from) (g.P.Bound.target q.from) way) qs ways =
-    AllZip-weaker _ _
-    (λ q way is. leading_of t.nodes (g.P.Bound.bytes q.from) (g.P.Bound.below q.from) (g.Q.Bound.below q.to)
-    (g.P.Bound.target q.from) q.version t.root.height t.root.slot true way is) qs ways c.descend_each-ways.ensures.ways in (
-      search rules,
-      (
-        c.requires.few,
-        (
-          subst
-              (λ ways. AllZip (λ q way. IsLeading t.nodes (g.P.Bound.bytes q.from) (g.P.Bound.below q.from)
-              (g.P.Bound.target q.from) way) qs ways) (sym c.as_slice.ensures.value) leading,
-          i.headed,
-        ),
-      ),
-    )
+    let ways = c.descend_each-ways.ensures.ways in
+    let leading = AllZip-weaker _ _ (λ q way. leading_of _ _ _ _ _ _ _ _ _ way) c.args.questions.now _ ways in
+    (search rules, (c.requires.few, (rw c.as_slice.ensures.value leading, (inside g (goal.at.look_at_each-looks-requires g c).After-self).headed)))
 
 pub answer_each-requires : goal.answer_each-requires
 answer_each-requires g c =
-    let t = c.self.inside in
     let i = inside g (goal.at.answer_each-requires g c).After-self in
     let qs = c.args.questions.now in
-    let looks = c.look_at_each-looks.result.items in
-    let made : map (λ (l : Look). l.way) looks ≡ c.descend_each-ways.result.items = c.look_at_each-looks.ensures.ways ∙ c.as_slice.ensures.value in
-    let ways : AllZip
-    (λ q way. IsApproach t.nodes t.root.height t.root.slot (g.P.Bound.bytes q.from) (g.P.Bound.below q.from)
-    (g.Q.Bound.below q.to) (g.P.Bound.target q.from) q.version true way) qs (map (λ (l : Look). l.way) looks) =
-    subst
-    (λ ways. AllZip
-    (λ q way. IsApproach t.nodes t.root.height t.root.slot (g.P.Bound.bytes q.from) (g.P.Bound.below q.from)
-    (g.Q.Bound.below q.to) (g.P.Bound.target q.from) q.version true way) qs ways) (sym made)
-    c.descend_each-ways.ensures.ways in
-    let value = sym c.as_slice-2.ensures.value in (
+    let looks = c.look_at_each-looks.ensures in
+    let ways = rw (← c.as_slice.ensures.value, ← looks.ways) at c.descend_each-ways.ensures.ways in (
       search rules,
       (
         c.requires.few,
@@ -104,25 +67,11 @@ answer_each-requires g c =
           i.asked,
           (
             i.items_below,
-            (
-              subst
-                  (λ looks. AllZip (λ q l. IsApproach t.nodes t.root.height t.root.slot (g.P.Bound.bytes q.from)
-                  (g.P.Bound.below q.from) (g.Q.Bound.below q.to) (g.P.Bound.target q.from) q.version true l.way)
-                  qs looks) value (AllZip-unmap _ (λ (l : Look). l.way) qs looks ways),
-              subst
-                  (λ looks. AllZip (λ q l. IsLooked t.nodes (g.P.Bound.bytes q.from) (g.P.Bound.target q.from) l.way l.own)
-                  qs looks) value c.look_at_each-looks.ensures.looked,
-            ),
+            rw c.as_slice-2.ensures.value (AllZip-unmap _ (λ (l : Look). l.way) qs c.look_at_each-looks.result.items ways, looks.looked),
           ),
         ),
       ),
     )
 
 pub returns : goal.returns
-returns g c = record {
-  told = subst
-      (λ (v : Items). AllZip (λ q above. IsTrue above ↔ Any (λ (x : Item). q.version <ℤ x.version)
-      (from_last (g.P.Bound.below q.from) (Some (g.Q.Bound.below q.to)) v.items)) c.args.questions.now
-      c.answer_each.result.items)
-      c.self.view_is c.answer_each.ensures.told;
-}
+returns g c = record { told = rw (← c.self.view_is) c.answer_each.ensures.told }
