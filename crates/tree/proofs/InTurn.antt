@@ -5,8 +5,8 @@ use Rattle.std.proofs.lemmas.List.{map-append, take_all, take_more}
 use Rattle.std.proofs.lemmas.Slice.Zip.{all_zipped_more}
 
 -- one element more is made of another list, where the lists are so long after it
-pub map-turn : {X Y : Type 0} (f : X → Y) (xs zs : List X) (ys : List Y) (i n : ℕ) (x : X) → i < length ys → f x ≡ get_or ys i (f x)
-    → n ≡ i + 1 → zs ≡ xs ++ x ∷ [] → map f xs ≡ take i ys → map f zs ≡ take n ys
+pub map-turn : {X Y : Type 0} (f : X → Y) (xs zs : List X) (ys : List Y) (i n : ℕ) (x : X) → i < length ys
+    → f x ≡ get_or ys i (f x) → n ≡ i + 1 → zs ≡ xs ++ x ∷ [] → map f xs ≡ take i ys → map f zs ≡ take n ys
 map-turn f xs zs ys i n x inside is more pushed made =
     rw (more, pushed, take_more ys i (f x) inside, map-append f xs (x ∷ []), made, ← is) refl
 
@@ -35,7 +35,8 @@ module _ {X Y : Type 0} (R : X → Y → Type 0) where
   AllZip-weaker S f (x ∷ xs) [] all = absurd all
   AllZip-weaker S f (x ∷ xs) (y ∷ ys) all = (f x y all.0, AllZip-weaker S f xs ys all.1)
 
-  pub AllZip-unmap : {Z : Type 0} (f : Z → Y) (xs : List X) (zs : List Z) → AllZip R xs (map f zs) → AllZip (λ x z. R x (f z)) xs zs
+  pub AllZip-unmap : {Z : Type 0} (f : Z → Y) (xs : List X) (zs : List Z) → AllZip R xs (map f zs)
+      → AllZip (λ x z. R x (f z)) xs zs
   AllZip-unmap f [] [] all = all
   AllZip-unmap f [] (z ∷ zs) all = absurd all
   AllZip-unmap f (x ∷ xs) [] all = absurd all

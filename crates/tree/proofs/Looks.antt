@@ -125,7 +125,7 @@ module _ {N : ℕ} (nodes : Arena (Node N)) (least height slot : ℕ) (f t : ℕ
       let c = partitioned-entries p es (rw at at k.from) in
       let d = partitioned-entries q es (rw at at k.to) in
       rw (at, filter-items (λ (x : Item). not (p x) && q x) es)
-      (ap (map item_of) (span_range (λ (e : Entry). f e.key) (λ (e : Entry). t e.key) es begin end c d look_ordered k.begin_is k.end_is))
+      (ap (map item_of) (span_range _ _ es begin end c d look_ordered k.begin_is k.end_is))
 
   module _ (some : height ≡ 0 → ⊥) where
     abbrev pub below : Entry → List Item

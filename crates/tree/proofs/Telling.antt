@@ -37,9 +37,9 @@ module _ {N : ℕ} (a : Arena (Node N)) (least height : ℕ) where
       one_reaches [] right any = absurd (Any-none _ any)
       one_reaches (e ∷ es) right any =
           elim (Any-cases _ e es any) [
-            | inl here ↦ Any-left _ _ (items_of a height es)
-                (rw (← here) (All-head (IsRight a least height) e es right).tells.greatest.reached)
-            | inr later ↦ Any-right _ (items_in a height e.child) _ (one_reaches es (All-tail (IsRight a least height) e es right) later)
+            | inl here ↦ Any-left _ _ (items_of a height es) (rw (← here) (right 0 e (omega arith)).tells.greatest.reached)
+            | inr later ↦
+                Any-right _ (items_in a height e.child) _ (one_reaches es (λ k d within. right (suc k) d (omega arith)) later)
           ]
 
 -- an entry with the first key and the greatest version of a node's entries tells the items below

@@ -32,16 +32,16 @@ module _ {X : Type 0} (p q : X → Bool) (n : (x : X) → p x ≡ true → q x �
   none_of_fewer xs a i d inside =
       elim (cases_Bool (p (get_or xs i d))) [ inl t ↦ absurd (not_both _ (n _ t) (a i d inside)) | inr h ↦ h ]
 
-  -- From the last one before the first bound to the second one, where one of a part is below the bound, all before it are, and none
-  -- behind it is before the second bound.
+  -- From the last one before the first bound to the second one, where one of a part is below the bound, all before it are, and
+  -- none behind it is before the second bound.
   from_last_part : (a c b : List X) → All (λ x. p x ≡ true) a → 1 ≤ length (filter p c)
       → All (λ x. q x ≡ false) b → from_last_of p q (a ++ (c ++ b)) ≡ from_last_of p q c
   from_last_part a c b before some behind =
       let count : length (a ++ filter p c) - 1 ≡ length a + (length (filter p c) - 1) =
       omega (arith, some, length-append a (filter p c)) in
-      rw (filter_around p a c b before (none_of_fewer b behind),
-      filter_around q a c b (All-weaker (λ x. p x ≡ true) (λ x. q x ≡ true) n a before) behind, count)
-      (drop-append-add a (filter q c) (length (filter p c) - 1))
+      let ps = filter_around p a c b before (none_of_fewer b behind) in
+      let qs = filter_around q a c b (λ i d inside. n _ (before i d inside)) behind in
+      rw (ps, qs, count) (drop-append-add a (filter q c) (length (filter p c) - 1))
 
 -- None of these is below the bound.
 abbrev AllFail : (ℕ → Bool) → List Item → Type 0
@@ -92,8 +92,7 @@ module _ (p q : ℕ → Bool) (v : ℤ) (n : (key : ℕ) → p key ≡ true → 
             absurd (omega (arith, some, ap length z.0))
       ] in
       let rest = (IsPartitioned-parts (λ (x : Item). q x.key) before (part ++ after) d).1 in
-      rw (from_last_part (λ (x : Item). p x.key) (λ (x : Item). q x.key) (λ x. n x.key) before part after front some (behind after k rest))
-      answer
+      rw (from_last_part _ (λ (x : Item). q x.key) (λ x. n x.key) before part after front some (behind after k rest)) answer
 
   -- what is told of all items
   pub told_of_all : (items : List Item) (b : Bool) → IsTold p q v true items (Some b) → IsPartitioned (λ x. p x.key) items

@@ -6,10 +6,11 @@ use Rattle.tree.specs.Finding.{CanStep}
 use Rattle.tree.specs.Question.{IsAsked, IsTold}
 use Rattle.tree.proofs.Approaches.{approach_wider}
 use Rattle.tree.specs.Node.{entries_of}
-use Rattle.tree.specs.Subtree.{items_in, IsChild, IsSubtree}
+use Rattle.tree.specs.Subtree.{items_in}
 use Rattle.tree.specs.Tree.{least_of}
 use Rattle.tree.proofs.Above.{at_most_tested}
 use Rattle.tree.proofs.FirstKeys.{knows_child}
+use Rattle.tree.proofs.Frames.{IsRight}
 use Rattle.tree.proofs.Looks.{IsLook, can_step_at, look_tell, child_is, child_from, child_to}
 use Rattle.tree.proofs.Placing.{entries_from_header}
 use Rattle.tree.proofs.Told.{clears_behind, told_by_child, told_by_entry}
@@ -72,16 +73,16 @@ module _ (g : Over) (t : ℕ) (c : After-index-entries-step g t) where
   is : e ≡ get_or es c.step_by-step.result.index e
   is = rw (← c.entries-entries.ensures.entries) c.index-entries-step.is
 
-  child : IsChild c.args.nodes.now (least_of g.row.N) (c.args.height - 1) (IsSubtree c.args.nodes.now (least_of g.row.N) (c.args.height - 1)) e
-  child = child_is _ _ _ _ _ _ _ _ _ look c.if-height-eq0.false c.step_by-step.result.index e c.step_by-step.ensures.step.within is
+  child : IsRight c.args.nodes.now (least_of g.row.N) (c.args.height - 1) e
+  child = child_is _ _ _ _ _ _ _ _ _ look c.if-height-eq0.false _ e c.step_by-step.ensures.step.within is
 
   -- What is told of its items is told of those of the node.
   told : (result : Option Bool)
-      → IsTold p q c.args.question.now.version c.is_clear-clear.result (items_in c.args.nodes.now (c.args.height - 1) e.child) result
+      → IsTold p q c.args.question.now.version c.is_clear-clear.result
+      (items_in c.args.nodes.now (c.args.height - 1) e.child) result
       → IsTold p q c.args.question.now.version c.args.clear (items_in c.args.nodes.now c.args.height c.args.slot) result
   told result =
-      told_by_child _ _ _ _ _ _ _ _ _ look c.args.question.now.version c.args.clear c.if-height-eq0.false
-      c.step_by-step.result.index e c.step_by-step.ensures.step.within is c.is_clear-clear.result result
+      told_by_child _ _ _ _ _ _ _ _ _ look _ c.args.clear c.if-height-eq0.false _ e c.step_by-step.ensures.step.within is _ result
       (clears_behind q _ es (c.step_by-step.result.index + 1) c.args.clear c.is_clear-clear.result
       (look_tell _ _ _ _ _ _ _ _ _ look c.if-height-eq0.false) c.is_clear-clear.ensures.next c.is_clear-clear.ensures.last)
 
@@ -103,7 +104,7 @@ descend-requires g t c κs within_lives =
     } in
     let there = slice_get_read (es g t at) _ c.step_by-step.result.index (e g t at) refl step.within (is g t at) in
     let knows = knows_child _ _ _ _ _ (g.P.Bound.bytes c.args.question.now.from) (g.P.Bound.below c.args.question.now.from)
-    (g.P.Bound.target c.args.question.now.from) c.step_by-step.result.common_prefix_len node refl (step.knows c.index-entries-step.result there) in
+    (g.P.Bound.target c.args.question.now.from) c.step_by-step.result.common_prefix_len node refl (step.knows _ there) in
     (search rules, (search rules, (search rules, (search rules, (search rules, (asked, rw c.in-Some.is at knows))))))
 
 pub returns-then-height-eq0 : goal.returns-then-height-eq0
@@ -134,8 +135,9 @@ returns-then-clear g t c =
     let fits : SFits w64 entry.version = search rules in
     let le = at_most_tested entry.version v fits (search rules) c.if-entry-question.true in
     let some = some_pass (p g t at) (es g t at) a.can_find.some (λ e there. (a.known e there).0) in
-    let passed = last_passes (p g t at) (es g t at) _ entry a.can_find.partitioned some c.step_by-step.ensures.step.index_is (is g t at) in
+    let index_is = c.step_by-step.ensures.step.index_is in
+    let passed = last_passes (p g t at) _ _ entry a.can_find.partitioned some index_is (is g t at) in
     record {
       approach = told g t at (Some false)
-          (told_by_entry (p g t at) (q g t at) v c.args.question.now.nested entry _ _ (child g t at).tells passed c.if-clear.true le);
+          (told_by_entry _ _ v c.args.question.now.nested entry _ _ (child g t at).tells passed c.if-clear.true le);
     }

@@ -12,8 +12,8 @@ descend_from-requires g c =
 
 pub loop-question-preserved : goal.loop-question-preserved
 loop-question-preserved g c =
-    AllZip-turn _ c.args.questions.now _ _ c.loop-question.ways.items _ _ c.descend_from.result c.loop-question-test.true
-    c.question-item.is refl c.push.ensures.items c.loop-question.invariant c.descend_from.ensures.approach
+    AllZip-turn _ _ _ _ _ _ _ _ c.loop-question-test.true c.question-item.is refl c.push.ensures.items c.loop-question.invariant
+    c.descend_from.ensures.approach
 
 pub push-requires : goal.push-requires
 push-requires g c =

@@ -73,12 +73,13 @@ returns g c =
     let a = asked g (goal.at.returns g c).After-entries-entries in
     let k = leaf g (goal.at.returns g c).After-end_in-end in
     let least = some_pass (g.P.Bound.below c.args.question.now.from) _ a.can_find.some (λ e is. (a.known e is).0) in
-    let said = rw (to_z-of_z w64 c.args.question.now.version (search rules), c.entries-entries.ensures.entries) at c.any_above.ensures.above in
+    let kept = to_z-of_z w64 c.args.question.now.version (search rules) in
     record {
       told = told_by_leaf _ _ _ _ _ _ _ _ _ k c.args.question.now.version c.args.near.clear c.any_above.result refl
           (omega (arith, least, k.begin_is))
           (λ all. elim c.else-end-entries.branch [
             | else-end-entries-via-then-end-entries+else-not-near w ↦ not-false c.args.near.clear w.if-not-near.false
             | else-end-entries-via-else-end-entries w ↦ absurd (w.if-end-entries.false (rw c.entries-entries.ensures.entries all))
-          ]) said;
+          ])
+          (rw (kept, c.entries-entries.ensures.entries) at c.any_above.ensures.above);
     }

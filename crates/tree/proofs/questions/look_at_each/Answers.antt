@@ -5,46 +5,34 @@ use Rattle.tree.specs.declared.questions.Look.{Look}
 use Rattle.tree.proofs.InTurn.{AllZip-at, AllZip-turn, AllZip-whole, map-turn}
 use Rattle.tree.proofs.questions.look_at_each.Given.{Over}
 use Rattle.tree.proofs.questions.look_at_each.Goals as goal
-use Rattle.tree.proofs.questions.look_at_each.Goals.{In-Some, In-None}
-
--- where the loop stands in the two lists
-turn : (g : Over) (c : In-Some g) → let i = length c.loop-question.yielded in
-    (i < length c.args.questions.now) × (i < length c.args.ways.now)
-    × (c.in-Some.question.now ≡ get_or c.args.questions.now i c.in-Some.question.now)
-    × (c.in-Some.way.now ≡ get_or c.args.ways.now i c.in-Some.way.now)
-turn g c =
-    let t = zip_turn c.args.questions.now c.args.ways.now c.loop-question.yielded c.into_iter-question-iterator.result
-    c.loop-question.question-iterator c.next.new.self (Some (c.in-Some.question, c.in-Some.way)) (search rules) (search rules)
-    c.loop-question.yielded_by (c.in-Some.question, c.in-Some.way) refl c.in-Some.ensures.steps in
-    (t.0, t.1, t.2 c.in-Some.question.now, t.3 c.in-Some.way.now)
+use Rattle.tree.proofs.questions.look_at_each.Goals.{In-None}
 
 -- All are gone through at its end.
 whole : (g : Over) (c : In-None g) → (length c.args.questions.now ≤ length c.loop-question.yielded)
     × (length c.args.ways.now ≤ length c.loop-question.yielded)
 whole g c =
     let same = AllZip-long _ c.args.questions.now c.args.ways.now c.requires.leading in
-    let end = zip_end c.args.questions.now c.args.ways.now c.loop-question.yielded c.into_iter-question-iterator.result
-    c.loop-question.question-iterator c.next.new.self None (search rules) (search rules) c.loop-question.yielded_by refl c.in-None.ensures.steps in
+    let end = zip_end c.args.questions.now c.args.ways.now _ _ _ c.next.new.self _ (search rules) (search rules)
+    c.loop-question.yielded_by refl c.in-None.ensures.steps in
     (omega arith, omega arith)
 
 pub look_at-requires : goal.look_at-requires
 look_at-requires g c =
-    let t = turn g (goal.at.look_at-requires g c).In-Some in
-    let qs = c.args.questions.now in (
-      search rules,
-      (AllZip-at _ qs c.args.ways.now _ _ _ t.0 t.2 t.3 c.requires.leading, rw t.2 (c.requires.headed _ _ t.0)),
-    )
+    -- where the loop stands in the two lists
+    let t = zip_turn c.args.questions.now c.args.ways.now _ _ _ c.next.new.self _ (search rules) (search rules)
+    c.loop-question.yielded_by (c.in-Some.question, c.in-Some.way) refl c.in-Some.ensures.steps in
+    let is = t.2 c.in-Some.question.now in
+    (search rules, (AllZip-at _ _ _ _ _ _ t.0 is (t.3 _) c.requires.leading, rw is (c.requires.headed _ _ t.0)))
 
 pub loop-question-preserved : goal.loop-question-preserved
 loop-question-preserved g c =
-    let t = turn g (goal.at.loop-question-preserved g c).In-Some in
-    let before = c.loop-question.invariant in
-    let looks = c.loop-question.looks.items in
+    let t = zip_turn c.args.questions.now c.args.ways.now _ _ _ c.next.new.self _ (search rules) (search rules)
+    c.loop-question.yielded_by (c.in-Some.question, c.in-Some.way) refl c.in-Some.ensures.steps in
     let more = length-append c.loop-question.yielded ((c.in-Some.question, c.in-Some.way) ∷ []) in
+    let before = c.loop-question.invariant in
     let way = c.look_at.ensures.way in (
-      map-turn (λ (k : Look). k.way) looks _ c.args.ways.now _ _ c.look_at.result t.1 (rw way t.3) more c.push.ensures.items before.0,
-      AllZip-turn _ c.args.questions.now _ _ looks _ _ c.look_at.result t.0 t.2 more c.push.ensures.items before.1
-          (rw way c.look_at.ensures.looked),
+      map-turn (λ (k : Look). k.way) _ _ _ _ _ c.look_at.result t.1 (rw way (t.3 _)) more c.push.ensures.items before.0,
+      AllZip-turn _ _ _ _ _ _ _ _ t.0 (t.2 _) more c.push.ensures.items before.1 (rw way c.look_at.ensures.looked),
     )
 
 pub returns-clause-ways : goal.returns-clause-ways
@@ -53,5 +41,4 @@ returns-clause-ways g c =
 
 pub returns-clause-looked : goal.returns-clause-looked
 returns-clause-looked g c =
-    AllZip-whole _ c.args.questions.now _ c.loop-question.looks.items (whole g (goal.at.returns-clause-looked g c).In-None).0
-    c.loop-question.invariant.1
+    AllZip-whole _ _ _ _ (whole g (goal.at.returns-clause-looked g c).In-None).0 c.loop-question.invariant.1

@@ -50,28 +50,17 @@ descend_each-ways-requires g c =
 
 pub look_at_each-looks-requires : goal.look_at_each-looks-requires
 look_at_each-looks-requires g c =
-    let ways = c.descend_each-ways.ensures.ways in
-    let leading = AllZip-weaker _ _ (λ q way. leading_of _ _ _ _ _ _ _ _ _ way) c.args.questions.now _ ways in
-    (search rules, (c.requires.few, (rw c.as_slice.ensures.value leading, (inside g (goal.at.look_at_each-looks-requires g c).After-self).headed)))
+    let i = inside g (goal.at.look_at_each-looks-requires g c).After-self in
+    let leading = AllZip-weaker _ _ (λ q way. leading_of _ _ _ _ _ _ _ _ _ way) _ _ c.descend_each-ways.ensures.ways in
+    (search rules, (c.requires.few, (rw c.as_slice.ensures.value leading, i.headed)))
 
 pub answer_each-requires : goal.answer_each-requires
 answer_each-requires g c =
     let i = inside g (goal.at.answer_each-requires g c).After-self in
-    let qs = c.args.questions.now in
     let looks = c.look_at_each-looks.ensures in
-    let ways = rw (← c.as_slice.ensures.value, ← looks.ways) at c.descend_each-ways.ensures.ways in (
-      search rules,
-      (
-        c.requires.few,
-        (
-          i.asked,
-          (
-            i.items_below,
-            rw c.as_slice-2.ensures.value (AllZip-unmap _ (λ (l : Look). l.way) qs c.look_at_each-looks.result.items ways, looks.looked),
-          ),
-        ),
-      ),
-    )
+    let ways = rw (← c.as_slice.ensures.value, ← looks.ways) at c.descend_each-ways.ensures.ways in
+    let approach = AllZip-unmap _ (λ (l : Look). l.way) _ _ ways in
+    (search rules, (c.requires.few, (i.asked, (i.items_below, rw c.as_slice-2.ensures.value (approach, looks.looked)))))
 
 pub returns : goal.returns
 returns g c = record { told = rw (← c.self.view_is) c.answer_each.ensures.told }
