@@ -19,48 +19,40 @@ use Rattle.tree.proofs.tree.Tree.exceeds_each.Goals as goal
 use Rattle.tree.proofs.tree.Tree.exceeds_each.Goals.{After-self}
 
 -- what is required, of the nodes
-inside : (g : Over) (c : After-self g) → record {
-  asked : All (λ q. IsAsked c.self.inside.nodes (least_of g.row.N) c.self.inside.root.height c.self.inside.root.slot
-      (g.P.Bound.bytes q.from) (g.P.Bound.below q.from) (g.Q.Bound.below q.to)) c.args.questions.now;
-  items_below : All (λ q. filter (λ x. g.P.Bound.below q.from x.key)
-      (items_in c.self.inside.nodes c.self.inside.root.height c.self.inside.root.slot) ≢ []) c.args.questions.now;
-  headed : All (λ q. AllAreHeads (g.P.Bound.bytes q.from) (all_heads_of c.self.inside.nodes)) c.args.questions.now;
-}
-inside g c =
+asked : (g : Over) (c : After-self g)
+    → All (λ q. IsAsked c.self.inside.nodes (least_of g.row.N) c.self.inside.root.height c.self.inside.root.slot
+    (g.P.Bound.bytes q.from) (g.P.Bound.below q.from) (g.Q.Bound.below q.to)) c.args.questions.now
+asked g c i q within =
     let t = c.self.inside in
-    let headed = rw (← c.self.view_is) at c.requires.headed in
     record {
-      asked = λ i q within. record {
-        can_reach = record {
-          subtree = c.self.invariant.rooted.subtree;
-          some = root_some t.nodes t.root.slot t.root.height t.len t.room c.self.invariant;
-          partitioned = (rw (← c.self.view_is) at c.requires.from) i q within;
-          headed = headed_from_list _ t.nodes (headed i q within);
-        };
-        to = (rw (← c.self.view_is) at c.requires.to) i q within;
+      can_reach = record {
+        subtree = c.self.invariant.rooted.subtree;
+        some = root_some t.nodes t.root.slot t.root.height t.len t.room c.self.invariant;
+        partitioned = (rw (← c.self.view_is) at c.requires.from) i q within;
+        headed = headed_from_list _ t.nodes ((rw (← c.self.view_is) at c.requires.headed) i q within);
       };
-      items_below = rw (← c.self.view_is) at c.requires.some;
-      headed = λ i q within. headed_from_list _ t.nodes (headed i q within);
+      to = (rw (← c.self.view_is) at c.requires.to) i q within;
     }
 
 pub descend_each-ways-requires : goal.descend_each-ways-requires
 descend_each-ways-requires g c =
-    let i = inside g (goal.at.descend_each-ways-requires g c).After-self in
-    (search rules, (c.requires.few, (i.asked, i.items_below)))
+    let a = asked g (goal.at.descend_each-ways-requires g c).After-self in
+    (search rules, (c.requires.few, (a, rw (← c.self.view_is) at c.requires.some)))
 
 pub look_at_each-looks-requires : goal.look_at_each-looks-requires
 look_at_each-looks-requires g c =
-    let i = inside g (goal.at.look_at_each-looks-requires g c).After-self in
+    let a = asked g (goal.at.look_at_each-looks-requires g c).After-self in
     let leading = AllZip-weaker _ _ (λ q way. leading_of _ _ _ _ _ _ _ _ _ way) _ _ c.descend_each-ways.ensures.ways in
-    (search rules, (c.requires.few, (rw c.as_slice.ensures.value leading, i.headed)))
+    (search rules, (c.requires.few, (rw c.as_slice.ensures.value leading, (λ i q within. (a i q within).can_reach.headed))))
 
 pub answer_each-requires : goal.answer_each-requires
 answer_each-requires g c =
-    let i = inside g (goal.at.answer_each-requires g c).After-self in
+    let a = asked g (goal.at.answer_each-requires g c).After-self in
+    let some = rw (← c.self.view_is) at c.requires.some in
     let looks = c.look_at_each-looks.ensures in
     let ways = rw (← c.as_slice.ensures.value, ← looks.ways) at c.descend_each-ways.ensures.ways in
     let approach = AllZip-unmap _ (λ (l : Look). l.way) _ _ ways in
-    (search rules, (c.requires.few, (i.asked, (i.items_below, rw c.as_slice-2.ensures.value (approach, looks.looked)))))
+    (search rules, (c.requires.few, (a, (some, rw c.as_slice-2.ensures.value (approach, looks.looked)))))
 
 pub returns : goal.returns
 returns g c = record { told = rw (← c.self.view_is) c.answer_each.ensures.told }
