@@ -19,11 +19,11 @@ use Rattle.tree.proofs.approach.+descend.Given.{Over}
 use Rattle.tree.proofs.approach.+descend.Goals as goal
 use Rattle.tree.proofs.approach.+descend.Goals.{After-entries-entries, After-index-entries-step}
 
-module _ (g : Over) (t : ℕ) (c : After-entries-entries g t) where
-  -- what is asked of the search in a node
-  asked : CanStep (g.P.Bound.bytes c.args.question.now.from) (g.P.Bound.below c.args.question.now.from)
-      (g.P.Bound.target c.args.question.now.from) c.header_ref-node.result.now (Some c.args.common_prefix_len)
-  asked = can_step_at c.requires.asked.can_reach c.requires.known c.header_ref-node.ensures.header
+-- what is asked of the search in a node
+asked : (g : Over) (t : ℕ) (c : After-entries-entries g t)
+    → CanStep (g.P.Bound.bytes c.args.question.now.from) (g.P.Bound.below c.args.question.now.from)
+    (g.P.Bound.target c.args.question.now.from) c.header_ref-node.result.now (Some c.args.common_prefix_len)
+asked g t c = can_step_at c.requires.asked.can_reach c.requires.known c.header_ref-node.ensures.header
 
 pub head_for-own-requires : goal.head_for-own-requires
 head_for-own-requires g t c =
@@ -60,15 +60,9 @@ module _ (g : Over) (t : ℕ) (c : After-index-entries-step g t) where
   -- the two bounds of the node
   look : IsLook c.args.nodes.now (least_of g.row.N) c.args.height c.args.slot p q es (length (filter (λ x. p x.key) es))
       (length (filter (λ x. q x.key) es))
-  look = record {
-    subtree = c.requires.asked.can_reach.subtree;
-    from = c.requires.asked.can_reach.partitioned;
-    to = c.requires.asked.to;
-    nested = c.args.question.now.nested;
-    read = entries_from_header c.args.nodes.now c.args.slot c.header_ref-node.result.now c.header_ref-node.ensures.header;
-    begin_is = refl;
-    end_is = refl;
-  }
+  look =
+      let read = entries_from_header c.args.nodes.now c.args.slot c.header_ref-node.result.now c.header_ref-node.ensures.header in
+      search rules
 
   is : e ≡ get_or es c.step_by-step.result.index e
   is = rw (← c.entries-entries.ensures.entries) c.index-entries-step.is
@@ -109,16 +103,8 @@ descend-requires g t c κs within_lives =
 
 pub returns-then-height-eq0 : goal.returns-then-height-eq0
 returns-then-height-eq0 g t c =
-    let zero = c.if-height-eq0.true in
-    let asked = rw zero at c.requires.asked in
-    record {
-      approach = record {
-        near_is = record { live = asked.can_reach.subtree; some = asked.can_reach.some; known = c.requires.known };
-        from = asked.can_reach.partitioned;
-        to = asked.to;
-        tells = λ result told. rw zero told;
-      };
-    }
+    let asked = rw c.if-height-eq0.true at c.requires.asked in
+    rw c.if-height-eq0.true (search rules)
 
 pub returns : goal.returns
 returns g t c = record {

@@ -47,20 +47,13 @@ leaf : (g : Over) (c : After-end_in-end g)
     → IsLook c.args.nodes.now (least_of g.row.N) 0 c.args.near.leaf (g.P.Bound.below c.args.question.now.from)
     (g.Q.Bound.below c.args.question.now.to) (entries_of c.header_ref-node.result.now) c.lower_bound_by_head-begin.result
     c.end_in-end.result
-leaf g c = record {
-  subtree = c.requires.near.live;
-  from = c.requires.asked.can_reach.partitioned;
-  to = c.requires.asked.to;
-  nested = c.args.question.now.nested;
-  read = entries_from_header c.args.nodes.now c.args.near.leaf c.header_ref-node.result.now c.header_ref-node.ensures.header;
-  begin_is = c.lower_bound_by_head-begin.ensures.count.count_is;
-  end_is = c.end_in-end.ensures.count.count_is;
-}
+leaf g c =
+    let read = entries_from_header c.args.nodes.now c.args.near.leaf c.header_ref-node.result.now c.header_ref-node.ensures.header in
+    search rules
 
 pub slice_bounds-any_above-count : goal.slice_bounds-any_above-count
 slice_bounds-any_above-count g c =
-    let le = look_ordered _ _ _ _ _ _ _ _ _ (leaf g (goal.at.slice_bounds-any_above-count g c).After-end_in-end) in
-    omega (arith, le)
+    omega (arith, look_ordered _ _ _ _ _ _ _ _ _ (leaf g (goal.at.slice_bounds-any_above-count g c).After-end_in-end))
 
 pub slice_bounds-any_above-start : goal.slice_bounds-any_above-start
 slice_bounds-any_above-start g c =
