@@ -1,5 +1,5 @@
 -- A look at the items from one bound to another, below a node.
-use Rattle.std.proofs.Common.{◌≡◌, ℕ, zero, suc, ◌+◌, ◌-◌, ◌<◌, ◌≤◌, Bool, true, false, List, ◌++◌, Option, Some, None, option_map, length, get_or, take, drop, filter, flat_map, map, All, IfSome, sym, refl, not, ◌&&◌, ◌∙◌, ap, subst, arith}
+use Rattle.std.proofs.Common.{rules, ◌≡◌, ℕ, zero, suc, ◌+◌, ◌-◌, ◌<◌, ◌≤◌, Bool, true, false, List, ◌++◌, Option, Some, None, option_map, length, get_or, take, drop, filter, flat_map, map, All, IfSome, sym, refl, not, ◌&&◌, ◌∙◌, ap, subst, arith}
 use Rattle.std.specs.Prelude.{slice_range}
 use Rattle.std.proofs.lemmas.List.{get_or_read}
 use Rattle.std.proofs.lemmas.List.Elements.{All-weaker}
@@ -99,15 +99,12 @@ pub look_of : {N : ℕ} {A B : Type 0} (nodes : Arena (Node N)) (least height sl
     → begin ≡ length (filter (λ e. below_from (option_map f from) e.key) es)
     → end ≡ length (filter (λ e. below_to (option_map t to) e.key) es)
     → IsLook nodes least height slot (below_from (option_map f from)) (below_to (option_map t to)) es begin end
-look_of nodes least height slot f t from to header es begin end s c d n h e b l = record {
-  subtree = s;
-  from = from_asked f (items_in nodes height slot) from c;
-  to = to_asked t (items_in nodes height slot) to d;
-  nested = nested_asked f t from to n;
-  read = entries_read nodes slot header es h e;
-  begin_is = b;
-  end_is = l;
-}
+look_of nodes least height slot f t from to header es begin end s c d n h e b l =
+    let asked_from = from_asked f (items_in nodes height slot) from c in
+    let asked_to = to_asked t (items_in nodes height slot) to d in
+    let nested = nested_asked f t from to n in
+    let read = entries_read nodes slot header es h e in
+    search rules
 
 module _ {N : ℕ} (nodes : Arena (Node N)) (least height slot : ℕ) (f t : ℕ → Bool) (es : List Entry)
     (begin end : ℕ) (k : IsLook nodes least height slot f t es begin end) where

@@ -6,7 +6,7 @@ use Rattle.tree.specs.Finding.{CanStep}
 use Rattle.tree.specs.Question.{IsAsked, IsTold}
 use Rattle.tree.proofs.Approaches.{approach_wider}
 use Rattle.tree.specs.Node.{entries_of}
-use Rattle.tree.specs.Subtree.{items_in}
+use Rattle.tree.specs.Subtree.{entries_at, items_in}
 use Rattle.tree.specs.Tree.{least_of}
 use Rattle.tree.proofs.Above.{at_most_tested}
 use Rattle.tree.proofs.FirstKeys.{knows_child}
@@ -35,13 +35,12 @@ head_for-own-requires g t c =
 pub step_by-step-requires : goal.step_by-step-requires
 step_by-step-requires g t c =
     let a = asked g t (goal.at.step_by-step-requires g t c).After-entries-entries in
-    (search rules, record { can_step = a; head = c.head_for-own.ensures.head })
+    search rules
 
 pub is_clear-clear-requires : goal.is_clear-clear-requires
 is_clear-clear-requires g t c =
     let a = asked g t (goal.at.is_clear-clear-requires g t c).After-entries-entries in
-    let step = c.step_by-step.ensures.step in
-    (search rules, (record { can_step = a; own_head = c.head_for-own.ensures.head.head }, (step.within, step.index_is)))
+    search rules
 
 -- the child of the entry at which the search goes on
 module _ (g : Over) (t : ℕ) (c : After-index-entries-step g t) where
@@ -86,20 +85,13 @@ descend-requires g t c κs within_lives =
     let k = look g t at in
     let node = child g t at in
     let step = c.step_by-step.ensures.step in
-    let asked : IsAsked c.args.nodes.now (least_of g.row.N) (c.args.height - 1) (e g t at).child
-    (g.P.Bound.bytes c.args.question.now.from) (p g t at) (q g t at) = record {
-      can_reach = record {
-        subtree = node.subtree;
-        some = omega (arith, node.filled);
-        partitioned = child_from _ _ _ _ _ _ _ _ _ k c.if-height-eq0.false _ _ step.within (is g t at);
-        headed = c.requires.asked.can_reach.headed;
-      };
-      to = child_to _ _ _ _ _ _ _ _ _ k c.if-height-eq0.false _ _ step.within (is g t at);
-    } in
+    let some : 1 ≤ length (entries_at c.args.nodes.now c.index-entries-step.result.child) = omega (arith, node.filled) in
+    let from = child_from _ _ _ _ _ _ _ _ _ k c.if-height-eq0.false _ _ step.within (is g t at) in
+    let to = child_to _ _ _ _ _ _ _ _ _ k c.if-height-eq0.false _ _ step.within (is g t at) in
     let there = slice_get_read (es g t at) _ c.step_by-step.result.index (e g t at) refl step.within (is g t at) in
     let knows = knows_child _ _ _ _ _ (g.P.Bound.bytes c.args.question.now.from) (g.P.Bound.below c.args.question.now.from)
     (g.P.Bound.target c.args.question.now.from) c.step_by-step.result.common_prefix_len node refl (step.knows _ there) in
-    (search rules, (search rules, (search rules, (search rules, (search rules, (asked, rw c.in-Some.is at knows))))))
+    (search rules, (search rules, (search rules, (search rules, (search rules, (search rules, rw c.in-Some.is at knows))))))
 
 pub returns-then-height-eq0 : goal.returns-then-height-eq0
 returns-then-height-eq0 g t c =

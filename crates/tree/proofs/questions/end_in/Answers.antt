@@ -19,10 +19,5 @@ lower_bound_from-requires g c =
     let find = c.requires.searched.can_step.can_find in
     let headed = key_heads_kept (g.P.Bound.bytes question.from) (g.Q.Bound.bytes question.to)
     (λ key text is. sym (question.bytes key) ∙ is) (key_heads_of c.args.node.now) find.headed in
-    let more = no_more _ _ question.nested (entries_of c.args.node.now) in (
-      search rules,
-      (
-        record { headed = headed; partitioned = c.requires.to; some = find.some },
-        (c.end_head-head.ensures.head, omega (arith, c.requires.begin.count_is, more)),
-      ),
-    )
+    let more = no_more _ _ question.nested (entries_of c.args.node.now) in
+    (search rules, (search rules, (c.end_head-head.ensures.head, omega (arith, c.requires.begin.count_is, more))))

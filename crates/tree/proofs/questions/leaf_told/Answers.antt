@@ -40,7 +40,7 @@ end_in-end-requires g c =
     let own = rw c.header_ref-node.ensures.header at c.requires.own in
     let to = look_bound c.args.nodes.now (least_of g.row.N) 0 c.args.near.leaf (g.Q.Bound.below c.args.question.now.to)
     c.header_ref-node.result.now _ c.requires.near.live c.requires.asked.to c.header_ref-node.ensures.header refl in
-    (search rules, (record { can_step = a; own_head = own.head }, (to, c.lower_bound_by_head-begin.ensures.count)))
+    search rules
 
 -- the two bounds of a leaf
 leaf : (g : Over) (c : After-end_in-end g)

@@ -23,16 +23,11 @@ asked : (g : Over) (c : After-self g)
     → All (λ q. IsAsked c.self.inside.nodes (least_of g.row.N) c.self.inside.root.height c.self.inside.root.slot
     (g.P.Bound.bytes q.from) (g.P.Bound.below q.from) (g.Q.Bound.below q.to)) c.args.questions.now
 asked g c i q within =
-    let t = c.self.inside in
-    record {
-      can_reach = record {
-        subtree = c.self.invariant.rooted.subtree;
-        some = root_some t.nodes t.root.slot t.root.height t.len t.room c.self.invariant;
-        partitioned = (rw (← c.self.view_is) at c.requires.from) i q within;
-        headed = headed_from_list _ t.nodes ((rw (← c.self.view_is) at c.requires.headed) i q within);
-      };
-      to = (rw (← c.self.view_is) at c.requires.to) i q within;
-    }
+    let some = root_some _ _ _ _ _ c.self.invariant in
+    let from = (rw (← c.self.view_is) at c.requires.from) i q within in
+    let to = (rw (← c.self.view_is) at c.requires.to) i q within in
+    let heads = headed_from_list _ c.self.inside.nodes ((rw (← c.self.view_is) at c.requires.headed) i q within) in
+    search rules
 
 pub descend_each-ways-requires : goal.descend_each-ways-requires
 descend_each-ways-requires g c =
