@@ -80,14 +80,11 @@ pub can_step_at : {N : ℕ} {nodes : Arena (Node N)} {least height slot : ℕ} {
     → CanStep bytes is_below target node known
 can_step_at {N} {nodes} {least} {height} {slot} {bytes} {is_below} {target} {known} {node} can knows header =
     let read = entries_from_header nodes slot node header in
-    record {
-      can_find = record {
-        headed = headed_at bytes nodes slot node can.headed header;
-        partitioned = look_bound nodes least height slot is_below node (entries_of node) can.subtree can.partitioned header refl;
-        some = rw (← read) can.some;
-      };
-      known = rw (← read) knows;
-    }
+    let headed = headed_at bytes nodes slot node can.headed header in
+    let partitioned = look_bound nodes least height slot is_below node (entries_of node) can.subtree can.partitioned header refl in
+    let some = rw read at can.some in
+    let known = rw read at knows in
+    search rules
 
 pub look_of : {N : ℕ} {A B : Type 0} (nodes : Arena (Node N)) (least height slot : ℕ) (f : A → ℕ → Bool)
     (t : B → ℕ → Bool) (from : Option A) (to : Option B) (header : Node N) (es : List Entry) (begin end : ℕ)

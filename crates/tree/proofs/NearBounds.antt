@@ -1,5 +1,5 @@
 -- Two bounds in one leaf: the target begins alike, and the first one is no farther on.
-use Rattle.std.proofs.Common.{◌≡◌, ℕ, ◌≤◌, Bool, true, false, List, [], ◌∷◌, Option, Some, None, is_some, unwrap_or, length, slice_get, take, filter, refl, sym, ◌∙◌, ap, subst, inl, inr, arith}
+use Rattle.std.proofs.Common.{rules, ◌≡◌, ℕ, ◌≤◌, Bool, true, false, List, [], ◌∷◌, Option, Some, None, is_some, unwrap_or, length, slice_get, take, filter, refl, sym, ◌∙◌, ap, subst, inl, inr, arith}
 use Rattle.std.specs.Prelude.{IfSome}
 use Rattle.std.specs.List.{All, AllZip}
 use Rattle.std.proofs.lemmas.Bool.{cases_Bool}
@@ -33,14 +33,10 @@ pub agrees_too : (bytes near : KeyBytes) (key_heads : KeyHeads) (target other : 
     → ((key : ℕ) → near key ≡ bytes key) → IfSome head (IsTargetHead near key_heads other) → is_some head ≡ true
     → key_heads.prefix_len ≤ shared → take shared other ≡ take shared target → HasPrefix bytes key_heads target
 agrees_too bytes near key_heads target other shared None same for some short alike = absurd (cc)
-agrees_too bytes near key_heads target other shared (Some head) same for some short alike = record {
-  key = for.agrees.key;
-  text = for.agrees.text;
-  there = for.agrees.there;
-  known = sym (same for.agrees.key) ∙ for.agrees.known;
-  long = for.agrees.long;
-  same = for.agrees.same ∙ fewer_alike key_heads.prefix_len shared other target short alike;
-}
+agrees_too bytes near key_heads target other shared (Some head) same for some short alike =
+    let known = sym (same for.agrees.key) ∙ for.agrees.known in
+    let begins = for.agrees.same ∙ fewer_alike key_heads.prefix_len shared other target short alike in
+    search rules
 
 -- The head of what another bound looks for is that of the same bytes.
 pub same_head : (bytes near : KeyBytes) (key_heads : KeyHeads) (target other : List ℕ) → ((key : ℕ) → near key ≡ bytes key)

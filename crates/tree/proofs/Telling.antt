@@ -1,5 +1,5 @@
 -- What an entry tells of the items of its child.
-use Rattle.std.proofs.Common.{◌≡◌, ℕ, List, ◌∷◌, ◌++◌, Some, flat_map, ap, ◌∙◌, arith}
+use Rattle.std.proofs.Common.{rules, ◌≡◌, ℕ, List, ◌∷◌, ◌++◌, Some, flat_map, ap, ◌∙◌, arith}
 use Rattle.arena.specs.Arena.{Arena}
 use Rattle.tree.specs.declared.entry.Entry.{Entry}
 use Rattle.tree.specs.declared.node.Node.{Node}
@@ -15,10 +15,7 @@ pub tells_items : {N : ℕ} (a : Arena (Node N)) (least height slot : ℕ) (t e 
 tells_items a least height slot t e es here key greatest h =
     let tell = rw here at (node_tells a least height slot h) in
     let child = tell 0 e (omega arith) in
-    rw (node_items a least height slot, here) (record {
-      first = child.first;
-      others = child.others ++ flat_map (items_under a height) es;
-      items_are = ap (λ xs. xs ++ flat_map (items_under a height) es) child.items_are;
-      key = key ∙ child.key;
-      greatest = IsPeak-children (items_under a height) (Some t.version) (e ∷ es) tell greatest;
-    })
+    let items = ap (λ xs. xs ++ flat_map (items_under a height) es) child.items_are in
+    let same = key ∙ child.key in
+    let peak = IsPeak-children (items_under a height) (Some t.version) (e ∷ es) tell greatest in
+    rw (node_items a least height slot, here) (search rules)

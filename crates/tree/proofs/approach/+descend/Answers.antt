@@ -27,10 +27,8 @@ asked g t c = can_step_at c.requires.asked.can_reach c.requires.known c.header_r
 
 pub head_for-own-requires : goal.head_for-own-requires
 head_for-own-requires g t c =
-    let a = asked g t (goal.at.head_for-own-requires g t c).After-entries-entries in (
-      search rules,
-      (a.can_find.headed, (a.can_find.some, (λ e text at is count inside le. ((a.known e at).1 text is count inside).0 le))),
-    )
+    let a = asked g t (goal.at.head_for-own-requires g t c).After-entries-entries in
+    search rules
 
 pub step_by-step-requires : goal.step_by-step-requires
 step_by-step-requires g t c =
@@ -110,8 +108,7 @@ returns-then-clear g t c =
     let a = asked g t (goal.at.returns-then-clear g t c).After-entries-entries in
     let v = c.args.question.now.version in
     let entry = e g t at in
-    let fits : SFits w64 entry.version = search rules in
-    let le = at_most_tested entry.version v fits (search rules) c.if-entry-question.true in
+    let le = at_most_tested entry.version v (search rules) (search rules) c.if-entry-question.true in
     let some = some_pass (p g t at) (es g t at) a.can_find.some (λ e there. (a.known e there).0) in
     let index_is = c.step_by-step.ensures.step.index_is in
     let passed = last_passes (p g t at) _ _ entry a.can_find.partitioned some index_is (is g t at) in

@@ -8,19 +8,17 @@ use Rattle.tree.proofs.questions.exceeds.Goals as goal
 
 pub returns-then-unwrap-version : goal.returns-then-unwrap-version
 returns-then-unwrap-version g c =
-    let fits : SFits w64 c.unwrap.result.version = search rules in
-    let lt = (above_tested c.args.question.now.version c.unwrap.result.version (search rules) fits).0 c.if-unwrap-version.true in
+    let test = above_tested c.args.question.now.version c.unwrap.result.version (search rules) (search rules) in
     let above = above_by_last _ _ c.args.question.now.version c.args.question.now.nested _ c.requires.asked.can_reach.partitioned
-    (item_of c.unwrap.result) (rw c.unwrap.ensures at c.last.ensures.last) lt in
+    (item_of c.unwrap.result) (rw c.unwrap.ensures at c.last.ensures.last) (test.0 c.if-unwrap-version.true) in
     record { above = ((λ _. above), (λ _. refl)) }
 
 pub returns : goal.returns
 returns g c =
     let v = c.args.question.now.version in
     let e = c.unwrap.result in
-    let fits : SFits w64 e.version = search rules in
     let none : v <ℤ e.version → ⊥ =
-    λ lt. not_both _ ((above_tested v e.version (search rules) fits).1 lt) c.if-unwrap-version.false in
+    λ lt. not_both _ ((above_tested v e.version (search rules) (search rules)).1 lt) c.if-unwrap-version.false in
     let answer = above_by_most _ _ v c.args.question.now.nested _ c.requires.asked.can_reach.partitioned (item_of e)
     (rw c.unwrap.ensures at c.last.ensures.last) c.unwrap-2.result none
     (rw (to_z-of_z w64 v (search rules), c.unwrap-2.ensures) at c.greatest.ensures.greatest) in
