@@ -28,16 +28,10 @@ module _ {X Y : Type 0} (R : X → Y → Type 0) where
   pub AllZip-whole : (xs : List X) (n : ℕ) (ys : List Y) → length xs ≤ n → AllZip R (take n xs) ys → AllZip R xs ys
   AllZip-whole xs n ys most = rw (take_all n xs most) (λ all. all)
 
-  pub AllZip-weaker : (S : X → Y → Type 0) → ((x : X) (y : Y) → R x y → S x y) → (xs : List X) (ys : List Y)
-      → AllZip R xs ys → AllZip S xs ys
-  AllZip-weaker S f [] [] all = all
-  AllZip-weaker S f [] (y ∷ ys) all = absurd all
-  AllZip-weaker S f (x ∷ xs) [] all = absurd all
-  AllZip-weaker S f (x ∷ xs) (y ∷ ys) all = (f x y all.0, AllZip-weaker S f xs ys all.1)
-
-  pub AllZip-unmap : {Z : Type 0} (f : Z → Y) (xs : List X) (zs : List Z) → AllZip R xs (map f zs)
-      → AllZip (λ x z. R x (f z)) xs zs
-  AllZip-unmap f [] [] all = all
-  AllZip-unmap f [] (z ∷ zs) all = absurd all
-  AllZip-unmap f (x ∷ xs) [] all = absurd all
-  AllZip-unmap f (x ∷ xs) (z ∷ zs) all = (all.0, AllZip-unmap f xs zs all.1)
+  -- a weaker relation to what the second elements are made of
+  pub AllZip-through : {Z : Type 0} (S : X → Z → Type 0) (f : Z → Y) → ((x : X) (z : Z) → R x (f z) → S x z) → (xs : List X)
+      (zs : List Z) → AllZip R xs (map f zs) → AllZip S xs zs
+  AllZip-through S f so [] [] all = all
+  AllZip-through S f so [] (z ∷ zs) all = absurd all
+  AllZip-through S f so (x ∷ xs) [] all = absurd all
+  AllZip-through S f so (x ∷ xs) (z ∷ zs) all = (so x z all.0, AllZip-through S f so xs zs all.1)

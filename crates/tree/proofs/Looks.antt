@@ -81,7 +81,7 @@ pub can_step_at : {N : ℕ} {nodes : Arena (Node N)} {least height slot : ℕ} {
 can_step_at {N} {nodes} {least} {height} {slot} {bytes} {is_below} {target} {known} {node} can knows header =
     let read = entries_from_header nodes slot node header in
     let headed = headed_at bytes nodes slot node can.headed header in
-    let partitioned = look_bound nodes least height slot is_below node (entries_of node) can.subtree can.partitioned header refl in
+    let partitioned = look_bound nodes least height slot is_below node _ can.subtree can.partitioned header refl in
     let some = rw read at can.some in
     let known = rw read at knows in
     search rules
@@ -106,8 +106,7 @@ look_of nodes least height slot f t from to header es begin end s c d n h e b l 
 module _ {N : ℕ} (nodes : Arena (Node N)) (least height slot : ℕ) (f t : ℕ → Bool) (es : List Entry)
     (begin end : ℕ) (k : IsLook nodes least height slot f t es begin end) where
   pub look_ordered : begin ≤ end
-  look_ordered =
-      omega (arith, k.begin_is, k.end_is, fewer_before (λ (e : Entry). f e.key) (λ (e : Entry). t e.key) (λ e. k.nested e.key) es)
+  look_ordered = omega (arith, k.begin_is, k.end_is, fewer_before _ _ (λ (e : Entry). k.nested e.key) es)
 
   -- at a leaf
   pub leaf_look : height ≡ 0

@@ -41,11 +41,10 @@ agrees_too bytes near key_heads target other shared (Some head) same for some sh
 -- The head of what another bound looks for is that of the same bytes.
 pub same_head : (bytes near : KeyBytes) (key_heads : KeyHeads) (target other : List ℕ) → ((key : ℕ) → near key ≡ bytes key)
     → other ≡ target → (head : ℕ) → IsTargetHead near key_heads other head → IsTargetHead bytes key_heads target head
-same_head bytes near key_heads target other same is head for = record {
-  agrees = agrees_too bytes near key_heads target other key_heads.prefix_len (Some head) same for refl (omega arith) (rw is refl);
-  head_is = for.head_is ∙ ap (head_behind key_heads.prefix_len) is;
-  are_bytes = rw (← is) for.are_bytes;
-}
+same_head bytes near key_heads target other same is head for =
+    let found = rw is at for in
+    let agrees = agrees_too bytes near key_heads target target key_heads.prefix_len (Some head) same found refl (omega arith) refl in
+    search rules
 
 -- It is that of a key that has these bytes, where it is known.
 pub key_beside : (bytes near : KeyBytes) (key_heads : KeyHeads) (own : List ℕ) (head : Option ℕ)
@@ -72,4 +71,4 @@ both_zipped R false first second one other p q = (p, (q, tt))
 -- no more are below the first bound than the second
 pub no_more : (p q : ℕ → Bool) → ((key : ℕ) → p key ≡ true → q key ≡ true) → (es : List Entry)
     → length (filter (λ e. p e.key) es) ≤ length (filter (λ e. q e.key) es)
-no_more p q nested es = fewer_before (λ (e : Entry). p e.key) (λ (e : Entry). q e.key) (λ e. nested e.key) es
+no_more p q nested es = fewer_before _ _ (λ (e : Entry). nested e.key) es

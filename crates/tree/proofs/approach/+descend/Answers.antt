@@ -51,29 +51,26 @@ module _ (g : Over) (t : ℕ) (c : After-index-entries-step g t) where
   abbrev es : List Entry
   es = entries_of c.header_ref-node.result.now
 
-  abbrev e : Entry
-  e = c.index-entries-step.result
-
   -- the two bounds of the node
   look : IsLook c.args.nodes.now (least_of g.row.N) c.args.height c.args.slot p q es (length (filter (λ x. p x.key) es))
       (length (filter (λ x. q x.key) es))
   look =
-      let read = entries_from_header c.args.nodes.now c.args.slot c.header_ref-node.result.now c.header_ref-node.ensures.header in
+      let read = entries_from_header c.args.nodes.now _ _ c.header_ref-node.ensures.header in
       search rules
 
-  is : e ≡ get_or es c.step_by-step.result.index e
+  is : c.index-entries-step.result ≡ get_or es c.step_by-step.result.index c.index-entries-step.result
   is = rw (← c.entries-entries.ensures.entries) c.index-entries-step.is
 
-  child : IsRight c.args.nodes.now (least_of g.row.N) (c.args.height - 1) e
-  child = child_is _ _ _ _ _ _ _ _ _ look c.if-height-eq0.false _ e c.step_by-step.ensures.step.within is
+  child : IsRight c.args.nodes.now (least_of g.row.N) (c.args.height - 1) c.index-entries-step.result
+  child = child_is _ _ _ _ _ _ _ _ _ look c.if-height-eq0.false _ _ c.step_by-step.ensures.step.within is
 
   -- What is told of its items is told of those of the node.
   told : (result : Option Bool)
       → IsTold p q c.args.question.now.version c.is_clear-clear.result
-      (items_in c.args.nodes.now (c.args.height - 1) e.child) result
+      (items_in c.args.nodes.now (c.args.height - 1) c.index-entries-step.result.child) result
       → IsTold p q c.args.question.now.version c.args.clear (items_in c.args.nodes.now c.args.height c.args.slot) result
   told result =
-      told_by_child _ _ _ _ _ _ _ _ _ look _ c.args.clear c.if-height-eq0.false _ e c.step_by-step.ensures.step.within is _ result
+      told_by_child _ _ _ _ _ _ _ _ _ look _ c.args.clear c.if-height-eq0.false _ _ c.step_by-step.ensures.step.within is _ result
       (clears_behind q _ es (c.step_by-step.result.index + 1) c.args.clear c.is_clear-clear.result
       (look_tell _ _ _ _ _ _ _ _ _ look c.if-height-eq0.false) c.is_clear-clear.ensures.next c.is_clear-clear.ensures.last)
 
@@ -86,7 +83,7 @@ descend-requires g t c κs within_lives =
     let some : 1 ≤ length (entries_at c.args.nodes.now c.index-entries-step.result.child) = omega (arith, node.filled) in
     let from = child_from _ _ _ _ _ _ _ _ _ k c.if-height-eq0.false _ _ step.within (is g t at) in
     let to = child_to _ _ _ _ _ _ _ _ _ k c.if-height-eq0.false _ _ step.within (is g t at) in
-    let there = slice_get_read (es g t at) _ c.step_by-step.result.index (e g t at) refl step.within (is g t at) in
+    let there = slice_get_read (es g t at) _ _ c.index-entries-step.result refl step.within (is g t at) in
     let knows = knows_child _ _ _ _ _ (g.P.Bound.bytes c.args.question.now.from) (g.P.Bound.below c.args.question.now.from)
     (g.P.Bound.target c.args.question.now.from) c.step_by-step.result.common_prefix_len node refl (step.knows _ there) in
     (search rules, (search rules, (search rules, (search rules, (search rules, (search rules, rw c.in-Some.is at knows))))))
@@ -97,22 +94,17 @@ returns-then-height-eq0 g t c =
     rw c.if-height-eq0.true (search rules)
 
 pub returns : goal.returns
-returns g t c = record {
-  approach = approach_wider _ _ _ _ _ _ _ _ _ _ _ _ c.descend.result (told g t (goal.at.returns g t c).After-index-entries-step)
-      c.descend.ensures.approach;
-}
+returns g t c =
+    let wider = told g t (goal.at.returns g t c).After-index-entries-step in
+    record { approach = approach_wider _ _ _ _ _ _ _ _ _ _ _ _ c.descend.result wider c.descend.ensures.approach }
 
 pub returns-then-clear : goal.returns-then-clear
 returns-then-clear g t c =
     let at = (goal.at.returns-then-clear g t c).After-index-entries-step in
     let a = asked g t (goal.at.returns-then-clear g t c).After-entries-entries in
     let v = c.args.question.now.version in
-    let entry = e g t at in
-    let le = at_most_tested entry.version v (search rules) (search rules) c.if-entry-question.true in
+    let le = at_most_tested c.index-entries-step.result.version v (search rules) (search rules) c.if-entry-question.true in
     let some = some_pass (p g t at) (es g t at) a.can_find.some (λ e there. (a.known e there).0) in
-    let index_is = c.step_by-step.ensures.step.index_is in
-    let passed = last_passes (p g t at) _ _ entry a.can_find.partitioned some index_is (is g t at) in
-    record {
-      approach = told g t at (Some false)
-          (told_by_entry _ _ v c.args.question.now.nested entry _ _ (child g t at).tells passed c.if-clear.true le);
-    }
+    let passed = last_passes (p g t at) _ _ _ a.can_find.partitioned some c.step_by-step.ensures.step.index_is (is g t at) in
+    let part = told_by_entry _ _ v c.args.question.now.nested _ _ _ (child g t at).tells passed c.if-clear.true le in
+    record { approach = told g t at (Some false) part }

@@ -13,11 +13,7 @@ returns-then-question-clause-next g c = λ _ e there.
     let searched = c.requires.searched.can_step.can_find in
     let fails = next_fails (g.P.Bound.below question.from) _ _ e searched.partitioned c.requires.last_below there in
     elim c.then-question.branch [
-      | then-question-via-then-question w ↦
-          elim (cases_Bool (g.Q.Bound.below question.to e.key)) [
-            | inl t ↦ absurd (not_both _ (question.single w.if-question.true e.key t) fails)
-            | inr f ↦ f
-          ]
+      | then-question-via-then-question w ↦ let so = question.single w.if-question.true e.key in grind (arith, so, fails)
       | then-question-via-else-question+then-next-len w ↦
           let inside = slice_get_within (entries_of c.args.node.now) (c.args.index + 1) e there in
           absurd (omega (arith, inside, w.if-next-len.true, w.len.ensures.len))

@@ -48,7 +48,7 @@ leaf : (g : Over) (c : After-end_in-end g)
     (g.Q.Bound.below c.args.question.now.to) (entries_of c.header_ref-node.result.now) c.lower_bound_by_head-begin.result
     c.end_in-end.result
 leaf g c =
-    let read = entries_from_header c.args.nodes.now c.args.near.leaf c.header_ref-node.result.now c.header_ref-node.ensures.header in
+    let read = entries_from_header c.args.nodes.now _ _ c.header_ref-node.ensures.header in
     search rules
 
 pub slice_bounds-any_above-count : goal.slice_bounds-any_above-count
@@ -58,7 +58,6 @@ slice_bounds-any_above-count g c =
 pub slice_bounds-any_above-start : goal.slice_bounds-any_above-start
 slice_bounds-any_above-start g c =
     let le = look_ordered _ _ _ _ _ _ _ _ _ (leaf g (goal.at.slice_bounds-any_above-start g c).After-end_in-end) in
-    let less : c.lower_bound_by_head-begin.result - 1 ≤ c.end_in-end.result = omega (arith, le) in
     search rules
 
 pub returns : goal.returns

@@ -10,9 +10,10 @@ use Rattle.tree.specs.Path.{IsPartitioned, from_last}
 use Rattle.tree.specs.Question.{IsApproach, IsAsked, IsLeading, IsLooked}
 use Rattle.tree.specs.Subtree.{items_in}
 use Rattle.tree.specs.Tree.{Items, tree_heads, least_of}
+use Rattle.std.proofs.lemmas.List.{map-id}
 use Rattle.tree.proofs.Approaches.{leading_of}
 use Rattle.tree.proofs.HeadList.{headed_from_list}
-use Rattle.tree.proofs.InTurn.{AllZip-unmap, AllZip-weaker}
+use Rattle.tree.proofs.InTurn.{AllZip-through}
 use Rattle.tree.proofs.LeafChange.{root_some}
 use Rattle.tree.proofs.tree.Tree.exceeds_each.Given.{Over}
 use Rattle.tree.proofs.tree.Tree.exceeds_each.Goals as goal
@@ -37,7 +38,8 @@ descend_each-ways-requires g c =
 pub look_at_each-looks-requires : goal.look_at_each-looks-requires
 look_at_each-looks-requires g c =
     let a = asked g (goal.at.look_at_each-looks-requires g c).After-self in
-    let leading = AllZip-weaker _ _ (λ q way. leading_of _ _ _ _ _ _ _ _ _ way) _ _ c.descend_each-ways.ensures.ways in
+    let ways = rw (← map-id c.descend_each-ways.result.items) at c.descend_each-ways.ensures.ways in
+    let leading = AllZip-through _ _ (λ way. way) (λ q way. leading_of _ _ _ _ _ _ _ _ _ way) _ _ ways in
     (search rules, (c.requires.few, (rw c.as_slice.ensures.value leading, (λ i q within. (a i q within).can_reach.headed))))
 
 pub answer_each-requires : goal.answer_each-requires
@@ -46,7 +48,7 @@ answer_each-requires g c =
     let some = rw (← c.self.view_is) at c.requires.some in
     let looks = c.look_at_each-looks.ensures in
     let ways = rw (← c.as_slice.ensures.value, ← looks.ways) at c.descend_each-ways.ensures.ways in
-    let approach = AllZip-unmap _ (λ (l : Look). l.way) _ _ ways in
+    let approach = AllZip-through _ _ (λ (l : Look). l.way) (λ q l way. way) _ _ ways in
     (search rules, (c.requires.few, (a, (some, rw c.as_slice-2.ensures.value (approach, looks.looked)))))
 
 pub returns : goal.returns
