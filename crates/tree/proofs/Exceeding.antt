@@ -1,6 +1,6 @@
 -- Whether a version is above another one from the last item before a bound to another bound: of that item, or of those behind it.
-use Rattle.std.proofs.Common.{◌≡◌, ℕ, ◌+◌, ◌-◌, Bool, true, List, [], ◌∷◌, ◌++◌, Some, length, drop, IsTrue, ◌↔◌, int_lt, sym, ◌∙◌, ap, subst, inl, inr, arith, length-append}
-use Rattle.std.specs.Prelude.{ℤ, ◌<ℤ◌, ◌≤ℤ◌}
+use Rattle.std.proofs.Common.{◌≡◌, ℕ, ◌-◌, Bool, true, List, [], ◌∷◌, ◌++◌, Some, length, drop, IsTrue, ◌↔◌, int_lt, ◌∙◌, ap, inl, inr, arith, length-append}
+use Rattle.std.specs.Prelude.{ℤ, ◌<ℤ◌}
 use Rattle.std.proofs.Math.Seq.{drop-append_seam}
 use Rattle.std.proofs.lemmas.Int.{ints, to_z-of_z}
 use mir.Syntax.{w64}

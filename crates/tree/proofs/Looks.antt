@@ -2,7 +2,6 @@
 use Rattle.std.proofs.Common.{rules, ◌≡◌, ℕ, zero, suc, ◌+◌, ◌-◌, ◌<◌, ◌≤◌, Bool, true, false, List, ◌++◌, Option, Some, None, option_map, length, get_or, take, drop, filter, flat_map, map, All, IfSome, sym, refl, not, ◌&&◌, ◌∙◌, ap, subst, arith}
 use Rattle.std.specs.Prelude.{slice_range}
 use Rattle.std.proofs.lemmas.List.{get_or_read}
-use Rattle.std.proofs.lemmas.List.Elements.{All-weaker}
 use Rattle.arena.specs.Arena.{Arena, header_at}
 use Rattle.tree.specs.declared.entry.Entry.{Entry}
 use Rattle.tree.specs.declared.node.Node.{Node}
@@ -10,7 +9,7 @@ use Rattle.tree.specs.Item.{Item, Tells, item_of}
 use Rattle.tree.specs.Node.{entries_of}
 use Rattle.tree.specs.Path.{IsPartitioned, below_from, below_to}
 use Rattle.tree.specs.Subtree.{entries_at, items_in, IsChild, IsSubtree}
-use Rattle.tree.proofs.Ways.{entries_partitioned, children_partitioned, pass_before, fail_behind_index, index_inside}
+use Rattle.tree.proofs.Ways.{children_partitioned, pass_before, fail_behind_index, index_inside}
 use Rattle.tree.proofs.Found.{partitioned-entries, entries_read, leaf_partitioned, read_partitioned}
 use Rattle.tree.proofs.Headed.{headed_at}
 use Rattle.tree.proofs.Placing.{entries_from_header}

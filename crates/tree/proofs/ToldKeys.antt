@@ -1,12 +1,12 @@
 -- What is known of the first keys of nodes, where a search goes on with the last entry below the bound.
-use Rattle.std.proofs.Common.{◌≡◌, ℕ, ◌+◌, ◌-◌, ◌<◌, ◌≤◌, min, Bool, true, false, List, [], ◌∷◌, Some, None, length, get_or, slice_get, take, drop, filter, flat_map, All, refl, sym, ◌∙◌, ap, subst, arith}
+use Rattle.std.proofs.Common.{◌≡◌, ℕ, ◌+◌, ◌-◌, ◌<◌, ◌≤◌, Bool, true, false, List, [], ◌∷◌, Some, None, length, get_or, slice_get, filter, flat_map, All, refl, sym, arith}
 use Rattle.std.specs.Prelude.{◌≢◌, Option, unwrap_or}
-use Rattle.std.proofs.lemmas.List.{get_or-drop, get_or-take, length-drop, length-take-le, take-take}
+use Rattle.std.proofs.lemmas.List.{get_or-drop, get_or-take, length-drop, length-take-le}
 use Rattle.std.proofs.lemmas.Option.{get_or_from_slice_get, slice_get_within}
 use Rattle.arena.specs.Arena.{Arena}
 use Rattle.tree.specs.declared.entry.Entry.{Entry}
 use Rattle.tree.specs.declared.node.Node.{Node}
-use Rattle.tree.specs.Heads.{KeyBytes, HaveCommonPrefix, IsCommonPrefixLen, IsPrefixLenAt}
+use Rattle.tree.specs.Heads.{KeyBytes, IsPrefixLenAt}
 use Rattle.tree.specs.Item.{Item, Tells}
 use Rattle.tree.specs.Path.{IsPartitioned, index_in}
 use Rattle.tree.specs.Subtree.{entries_at, items_in, IsSubtree}

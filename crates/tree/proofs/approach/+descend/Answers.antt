@@ -1,9 +1,8 @@
-use Rattle.std.proofs.Common.{rules, ◌≡◌, ◌≤◌, ◌<◌, ℕ, ◌+◌, ◌-◌, Bool, false, List, length, filter, get_or, Option, Some, refl, w64, arith}
+use Rattle.std.proofs.Common.{rules, ◌≡◌, ◌≤◌, ℕ, ◌+◌, ◌-◌, Bool, false, List, length, filter, get_or, Option, Some, refl, arith}
 use Rattle.std.proofs.lemmas.Option.{slice_get_read}
-use mir.Val.{SFits}
 use Rattle.tree.specs.declared.entry.Entry.{Entry}
 use Rattle.tree.specs.Finding.{CanStep}
-use Rattle.tree.specs.Question.{IsAsked, IsTold}
+use Rattle.tree.specs.Question.{IsTold}
 use Rattle.tree.proofs.Approaches.{approach_wider}
 use Rattle.tree.specs.Node.{entries_of}
 use Rattle.tree.specs.Subtree.{entries_at, items_in}

@@ -1,8 +1,6 @@
-use Rattle.std.proofs.Common.{◌+◌, inl, inr, arith}
-use Rattle.std.proofs.lemmas.Bool.{cases_Bool}
+use Rattle.std.proofs.Common.{◌+◌, arith}
 use Rattle.std.proofs.lemmas.Option.{slice_get_within}
 use Rattle.tree.specs.Node.{entries_of}
-use Rattle.tree.proofs.callers.Partitions.{not_both}
 use Rattle.tree.proofs.ToldKeys.{next_fails}
 use Rattle.tree.proofs.approach.is_clear.Goals as goal
 use Rattle.tree.proofs.approach.is_clear.Goals.{then-question-via-then-question, then-question-via-else-question+then-next-len}

@@ -1,6 +1,4 @@
-use Rattle.std.proofs.Common.{true, Some, false, subst}
-use Rattle.tree.specs.Question.{IsApproach, IsFor}
-use Rattle.tree.specs.Subtree.{items_in}
+use Rattle.std.proofs.Common.{Some, false}
 use Rattle.tree.proofs.Told.{told_of_all}
 use Rattle.tree.proofs.questions.answer.Goals as goal
 

@@ -1,4 +1,4 @@
-use Rattle.std.proofs.Common.{rules, ◌<◌, length, take, refl, arith}
+use Rattle.std.proofs.Common.{rules, take, refl, arith}
 use Rattle.std.proofs.lemmas.List.{length-take}
 use Rattle.std.proofs.lemmas.Slice.Zip.{AllZip-long}
 use Rattle.tree.proofs.InTurn.{AllZip-turn}

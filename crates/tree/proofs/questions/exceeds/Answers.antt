@@ -1,6 +1,5 @@
-use Rattle.std.proofs.Common.{rules, ◌≡◌, ◌<ℤ◌, refl, w64}
+use Rattle.std.proofs.Common.{rules, ◌<ℤ◌, refl, w64}
 use Rattle.std.proofs.lemmas.Int.{to_z-of_z}
-use mir.Val.{SFits}
 use Rattle.tree.specs.Item.{item_of}
 use Rattle.tree.proofs.callers.Partitions.{not_both}
 use Rattle.tree.proofs.Exceeding.{above_by_last, above_by_most, above_tested}

@@ -1,7 +1,6 @@
-use Rattle.std.proofs.Common.{rules, ◌≤◌, ◌-◌, List, Some, refl, w64, arith}
+use Rattle.std.proofs.Common.{rules, Some, refl, w64, arith}
 use Rattle.std.proofs.lemmas.Bool.{not-false}
 use Rattle.std.proofs.lemmas.Int.{to_z-of_z}
-use Rattle.tree.specs.declared.entry.Entry.{Entry}
 use Rattle.tree.specs.Finding.{CanStep}
 use Rattle.tree.specs.Node.{entries_of}
 use Rattle.tree.specs.Tree.{least_of}

@@ -1,15 +1,7 @@
-use Rattle.std.proofs.Common.{rules, ◌≡◌, ◌≢◌, ◌∙◌, All, Some, [], true, map, filter, sym, subst}
-use Rattle.std.specs.Prelude.{◌↔◌, ◌<ℤ◌, IsTrue}
-use Rattle.std.specs.List.{AllZip, Any}
-use Rattle.std.proofs.lemmas.List.Elements.{All-weaker}
+use Rattle.std.proofs.Common.{rules, All}
 use Rattle.tree.specs.declared.questions.Look.{Look}
-use Rattle.tree.specs.Heads.{AllAreHeads}
-use Rattle.tree.specs.Item.{Item}
-use Rattle.tree.specs.Node.{all_heads_of}
-use Rattle.tree.specs.Path.{IsPartitioned, from_last}
-use Rattle.tree.specs.Question.{IsApproach, IsAsked, IsLeading, IsLooked}
-use Rattle.tree.specs.Subtree.{items_in}
-use Rattle.tree.specs.Tree.{Items, tree_heads, least_of}
+use Rattle.tree.specs.Question.{IsAsked}
+use Rattle.tree.specs.Tree.{least_of}
 use Rattle.std.proofs.lemmas.List.{map-id}
 use Rattle.tree.proofs.Approaches.{leading_of}
 use Rattle.tree.proofs.HeadList.{headed_from_list}
