@@ -104,15 +104,18 @@ look_of nodes least height slot f t from to header es begin end s c d n h e b l 
 
 module _ {N : ℕ} (nodes : Arena (Node N)) (least height slot : ℕ) (f t : ℕ → Bool) (es : List Entry)
     (begin end : ℕ) (k : IsLook nodes least height slot f t es begin end) where
+  abbrev p : Item → Bool
+  p x = f x.key
+
+  abbrev q : Item → Bool
+  q x = t x.key
+
   pub look_ordered : begin ≤ end
   look_ordered = omega (arith, k.begin_is, k.end_is, fewer_before _ _ (λ (e : Entry). k.nested e.key) es)
 
   -- at a leaf
-  pub leaf_look : height ≡ 0
-      → span (λ x. f x.key) (λ x. t x.key) (items_in nodes height slot) ≡ map item_of (slice_range es begin end)
+  pub leaf_look : height ≡ 0 → span p q (items_in nodes height slot) ≡ map item_of (slice_range es begin end)
   leaf_look z =
-      let p = λ (x : Item). f x.key in
-      let q = λ (x : Item). t x.key in
       let at : items_in nodes height slot ≡ map item_of es = rw (z, k.read) refl in
       let c = partitioned-entries p es (rw at at k.from) in
       let d = partitioned-entries q es (rw at at k.to) in
@@ -135,10 +138,10 @@ module _ {N : ℕ} (nodes : Arena (Node N)) (least height slot : ℕ) (f t : ℕ
     pub look_items : items_in nodes height slot ≡ flat_map below es
     look_items = ap (λ n. items_in nodes n slot) (sym lower) ∙ ap (flat_map below) k.read
 
-    pub from_items : IsPartitioned (λ x. f x.key) (flat_map below es)
+    pub from_items : IsPartitioned p (flat_map below es)
     from_items = rw (← look_items) k.from
 
-    to_items : IsPartitioned (λ x. t x.key) (flat_map below es)
+    to_items : IsPartitioned q (flat_map below es)
     to_items = rw (← look_items) k.to
 
     pub last_inside : end - 1 < length es
@@ -158,47 +161,38 @@ module _ {N : ℕ} (nodes : Arena (Node N)) (least height slot : ℕ) (f t : ℕ
       pub child_tells : Tells e (below e)
       child_tells = child_is.tells
 
-      pub child_from : IsPartitioned (λ x. f x.key) (below e)
+      pub child_from : IsPartitioned p (below e)
       child_from = rw is (children_partitioned f below es from_items i e inside)
 
-      pub child_to : IsPartitioned (λ x. t x.key) (below e)
+      pub child_to : IsPartitioned q (below e)
       child_to = rw is (children_partitioned t below es to_items i e inside)
 
     module _ (first last : ℕ) (fi : first ≡ begin - 1) (la : last ≡ end - 1) where
-      front : All (λ x. f x.key ≡ true) (flat_map below (take first es))
+      front : All (λ x. p x ≡ true) (flat_map below (take first es))
       front = rw (fi, k.begin_is) (pass_before f below es look_tell from_items)
 
-      later : All (λ x. f x.key ≡ false) (flat_map below (drop (first + 1) es))
+      later : All (λ x. p x ≡ false) (flat_map below (drop (first + 1) es))
       later = rw (fi, k.begin_is) (fail_behind_index f below es look_tell from_items)
 
-      sooner : All (λ x. t x.key ≡ true) (flat_map below (take last es))
+      sooner : All (λ x. q x ≡ true) (flat_map below (take last es))
       sooner = rw (la, k.end_is) (pass_before t below es look_tell to_items)
 
-      back : All (λ x. t x.key ≡ false) (flat_map below (drop (last + 1) es))
+      back : All (λ x. q x ≡ false) (flat_map below (drop (last + 1) es))
       back = rw (la, k.end_is) (fail_behind_index t below es look_tell to_items)
 
       pub look_apart : (first ≡ last → ⊥) → first + 1 ≤ last
       look_apart ne = omega (arith, look_ordered)
 
       pub look_one : (left : Entry) → left ≡ get_or es first left → first ≡ last
-          → span (λ x. f x.key) (λ x. t x.key) (items_in nodes height slot)
-          ≡ span (λ x. f x.key) (λ x. t x.key) (below left)
+          → span p q (items_in nodes height slot) ≡ span p q (below left)
       look_one left li same =
-          let p = λ (x : Item). f x.key in
-          let q = λ (x : Item). t x.key in
-          ap (span p q) look_items
-          ∙ span_of_child below p q es first last left front later sooner back same (omega (arith, first_inside))
-          ∙ ap (λ e. span p q (below e)) (sym li)
+          rw (look_items, li)
+          (span_of_child below p q es first last left front later sooner back same (omega (arith, first_inside)))
 
       pub look_two : (left right : Entry) → left ≡ get_or es first left → right ≡ get_or es last right
-          → (first ≡ last → ⊥)
-          → span (λ x. f x.key) (λ x. t x.key) (items_in nodes height slot)
-          ≡ span (λ x. f x.key) (λ x. true) (below left)
-          ++ (flat_map below (slice_range es (first + 1) last)
-          ++ span (λ x. false) (λ x. t x.key) (below right))
+          → (first ≡ last → ⊥) → span p q (items_in nodes height slot) ≡ span p (λ x. true) (below left)
+          ++ (flat_map below (slice_range es (first + 1) last) ++ span (λ x. false) q (below right))
       look_two left right li ri ne =
-          let p = λ (x : Item). f x.key in
-          let q = λ (x : Item). t x.key in
           let inside : last < length es = omega (arith, last_inside) in
           let same : right ≡ get_or es last left = get_or_read es last right inside ri left in
           let lt : first < last = omega (arith, look_apart ne) in

@@ -42,7 +42,7 @@ pub same_head : (bytes near : KeyBytes) (key_heads : KeyHeads) (target other : L
     → other ≡ target → (head : ℕ) → IsTargetHead near key_heads other head → IsTargetHead bytes key_heads target head
 same_head bytes near key_heads target other same is head for =
     let found = rw is at for in
-    let agrees = agrees_too bytes near key_heads target target key_heads.prefix_len (Some head) same found refl (omega arith) refl in
+    let agrees = agrees_too bytes near _ target target key_heads.prefix_len (Some head) same found refl (omega arith) refl in
     search rules
 
 -- It is that of a key that has these bytes, where it is known.
