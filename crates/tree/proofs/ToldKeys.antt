@@ -8,8 +8,9 @@ use Rattle.tree.specs.declared.entry.Entry.{Entry}
 use Rattle.tree.specs.declared.node.Node.{Node}
 use Rattle.tree.specs.Heads.{KeyBytes, IsPrefixLenAt}
 use Rattle.tree.specs.Item.{Item, Tells}
+use Rattle.tree.specs.Reached.{CanReach}
 use Rattle.tree.specs.Path.{IsPartitioned, index_in}
-use Rattle.tree.specs.Subtree.{entries_at, items_in, IsSubtree}
+use Rattle.tree.specs.Subtree.{entries_at, items_in}
 use Rattle.tree.proofs.callers.Partitions.{none_pass, rest_fails, length-items_below}
 use Rattle.tree.proofs.FirstKeys.{first_tells, items_under, node_items, node_tells}
 use Rattle.tree.proofs.Spans.{before_partitioned, behind_partitioned}
@@ -51,14 +52,13 @@ none_from_first is_below under es e there tell (x ∷ xs) same partitioned f =
     let p = λ (x : Item). is_below x.key in
     (none_pass p (x ∷ xs) (rest_fails p x xs partitioned (rw (← first_tells under es e there tell x xs (sym same)) f))).0
 
-module _ {N : ℕ} (nodes : Arena (Node N)) (least : ℕ) where
-  -- What is known of the first key is not that it doesn't pass, where some item does.
-  pub known_where_some : (height slot : ℕ) (bytes : KeyBytes) (is_below : ℕ → Bool) (target : List ℕ) (known : Option ℕ)
-      → IsSubtree nodes least height slot → IsPartitioned (λ x. is_below x.key) (items_in nodes height slot)
-      → filter (λ x. is_below x.key) (items_in nodes height slot) ≢ []
-      → IsPrefixLenAt bytes is_below target known (entries_at nodes slot) 0
-      → IsPrefixLenAt bytes is_below target (Some (unwrap_or known 0)) (entries_at nodes slot) 0
-  known_where_some height slot bytes is_below target None s partitioned some knows e there =
-      absurd (some (none_from_first is_below (items_under nodes height) (entries_at nodes slot) e there
-      (node_tells nodes least height slot s) _ (node_items nodes least height slot) partitioned (knows e there)))
-  known_where_some height slot bytes is_below target (Some k) s partitioned some knows e there = knows e there
+-- What is known of the first key is not that it doesn't pass, where some item does.
+pub known_where_some : {N : ℕ} {nodes : Arena (Node N)} {least height slot : ℕ} {bytes : KeyBytes} {is_below : ℕ → Bool}
+    (target : List ℕ) (known : Option ℕ) → CanReach bytes is_below nodes least height slot
+    → filter (λ x. is_below x.key) (items_in nodes height slot) ≢ []
+    → IsPrefixLenAt bytes is_below target known (entries_at nodes slot) 0
+    → IsPrefixLenAt bytes is_below target (Some (unwrap_or known 0)) (entries_at nodes slot) 0
+known_where_some {N} {nodes} {least} {height} {slot} {bytes} {is_below} target None can some knows e there =
+    absurd (some (none_from_first is_below (items_under nodes height) (entries_at nodes slot) e there
+    (node_tells nodes least height slot can.subtree) _ (node_items nodes least height slot) can.partitioned (knows e there)))
+known_where_some target (Some k) can some knows e there = knows e there

@@ -1,12 +1,9 @@
 use Rattle.std.proofs.Common.{rules}
-use Rattle.tree.specs.Tree.{least_of}
 use Rattle.tree.proofs.ToldKeys.{known_where_some}
 use Rattle.tree.proofs.approach.descend_from.Goals as goal
 
 pub descend-requires : goal.descend-requires
 descend-requires g c =
-    let reach = c.requires.asked.can_reach in
-    let known = known_where_some c.args.nodes.now (least_of g.row.N) _ _ (g.P.Bound.bytes c.args.question.now.from) _
-    (g.P.Bound.target c.args.question.now.from) c.common_prefix_len_at.result reach.subtree reach.partitioned
-    c.requires.some_below c.common_prefix_len_at.ensures.known in
+    let known = known_where_some (g.P.Bound.target c.args.question.now.from) c.common_prefix_len_at.result
+    c.requires.asked.can_reach c.requires.some_below c.common_prefix_len_at.ensures.known in
     (search rules, (c.requires.asked, rw c.unwrap_or-common_prefix_len.ensures known))
