@@ -12,12 +12,6 @@ use Rattle.tree.specs.Tree.{IsLast}
 use Rattle.tree.proofs.Above.{IsAbove}
 use Rattle.tree.proofs.FromLast.{last_and_between}
 
--- the last of a list, as it is dropped to
-drop_to_last : {X : Type 0} (x : X) (xs : List X) → IsLast x xs → drop (length xs - 1) xs ≡ x ∷ []
-drop_to_last x xs last =
-    let count : length (last.0 ++ x ∷ []) - 1 ≡ length last.0 = omega (arith, length-append last.0 (x ∷ [])) in
-    rw (last.1, count) (drop-append_seam last.0 (x ∷ []))
-
 -- the test as the code makes it
 pub above_tested : (a b : ℤ) → SFits w64 a → SFits w64 b
     → IsTrue (int_lt (to_z w64 (of_z w64 a)) (to_z w64 (of_z w64 b))) ↔ (a <ℤ b)
@@ -29,8 +23,9 @@ module _ (p q : ℕ → Bool) (v : ℤ) (n : (key : ℕ) → p key ≡ true → 
   -- that item, and then those between the two bounds
   last_then_between : from_last p (Some q) items ≡ x ∷ between (Some p) (Some q) items
   last_then_between =
-      last_and_between (λ (x : Item). p x.key) (λ (x : Item). q x.key) (λ x h. n x.key h) items partitioned
-      ∙ ap (λ xs. xs ++ between (Some p) (Some q) items) (drop_to_last x (items_below p items) last)
+      let count : length (last.0 ++ x ∷ []) - 1 ≡ length last.0 = omega (arith, length-append last.0 (x ∷ [])) in
+      let split = last_and_between (λ (x : Item). p x.key) (λ (x : Item). q x.key) (λ x. n x.key) items partitioned in
+      rw (split, last.1, count, drop-append_seam last.0 (x ∷ []))
 
   -- where that item's version is above it
   pub above_by_last : v <ℤ x.version → IsAbove v (from_last p (Some q) items)

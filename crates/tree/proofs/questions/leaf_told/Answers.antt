@@ -11,12 +11,7 @@ use Rattle.tree.proofs.Told.{told_by_leaf}
 use Rattle.tree.proofs.ToldKeys.{some_pass}
 use Rattle.tree.proofs.questions.leaf_told.Given.{Over}
 use Rattle.tree.proofs.questions.leaf_told.Goals as goal
-use Rattle.tree.proofs.questions.leaf_told.Goals.{
-  After-entries-entries,
-  After-end_in-end,
-  else-end-entries-via-then-end-entries+else-not-near,
-  else-end-entries-via-else-end-entries,
-}
+use Rattle.tree.proofs.questions.leaf_told.Goals.{After-entries-entries, After-end_in-end, else-end-entries-via-then-end-entries+else-not-near, else-end-entries-via-else-end-entries}
 
 -- what is asked of the search in a node
 asked : (g : Over) (c : After-entries-entries g)
