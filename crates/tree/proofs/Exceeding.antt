@@ -1,5 +1,5 @@
 -- Whether a version is above another one from the last item before a bound to another bound: of that item, or of those behind it.
-use Rattle.std.proofs.Common.{◌≡◌, ℕ, ◌-◌, Bool, true, List, [], ◌∷◌, ◌++◌, Some, length, drop, IsTrue, ◌↔◌, int_lt, ◌∙◌, ap, inl, inr, arith, length-append}
+use Rattle.std.proofs.Common.{◌≡◌, ℕ, ◌-◌, Bool, true, List, [], ◌∷◌, ◌++◌, Some, length, IsTrue, ◌↔◌, int_lt, inl, inr, arith, length-append}
 use Rattle.std.specs.Prelude.{ℤ, ◌<ℤ◌}
 use Rattle.std.proofs.Math.Seq.{drop-append_seam}
 use Rattle.std.proofs.lemmas.Int.{ints, to_z-of_z}
@@ -44,9 +44,6 @@ module _ (p q : ℕ → Bool) (v : ℤ) (n : (key : ℕ) → p key ≡ true → 
         ]),
         (λ above. elim (Any-cases P x inside above) [
           | inl h ↦ absurd (none h)
-          | inr b ↦
-              let le = rw b.3 at (most.bound b.0 b.1 b.2) in
-              let lt : v <ℤ b.1.version = b.4 in
-              omega (arith, ints, le, lt)
+          | inr b ↦ let le = rw b.3 at (most.bound b.0 b.1 b.2) in omega (arith, ints, le, b.4)
         ]),
       )
