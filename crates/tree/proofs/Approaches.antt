@@ -1,5 +1,5 @@
 -- Where the way of a question leads.
-use Rattle.std.proofs.Common.{ℕ, Bool, false, List, Option, Some}
+use Rattle.std.proofs.Common.{rules, ℕ, Bool, false, List, Option, Some}
 use Rattle.std.specs.Prelude.{ℤ}
 use Rattle.arena.specs.Arena.{Arena}
 use Rattle.tree.specs.declared.node.Node.{Node}
@@ -15,12 +15,7 @@ module _ {N : ℕ} (nodes : Arena (Node N)) (bytes : KeyBytes) (p q : ℕ → Bo
       → ((result : Option Bool) → IsTold p q v next (items_in nodes low child) result
       → IsTold p q v clear (items_in nodes height slot) result)
       → IsApproach nodes low child bytes p q target v next way → IsApproach nodes height slot bytes p q target v clear way
-  approach_wider height slot low child clear next (Leaf near) wider is = record {
-    near_is = is.near_is;
-    from = is.from;
-    to = is.to;
-    tells = λ result told. wider result (is.tells result told);
-  }
+  approach_wider height slot low child clear next (Leaf near) wider is = search rules
   approach_wider height slot low child clear next Clear wider is = wider (Some false) is
   approach_wider height slot low child clear next Open wider is = tt
 

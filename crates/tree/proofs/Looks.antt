@@ -1,8 +1,7 @@
 -- A look at the items from one bound to another, below a node.
-use Rattle.std.proofs.Common.{◌≡◌, ℕ, zero, suc, ◌+◌, ◌-◌, ◌<◌, ◌≤◌, Bool, true, false, List, ◌++◌, Option, Some, None, option_map, length, get_or, take, drop, filter, flat_map, map, All, IfSome, sym, refl, not, ◌&&◌, ◌∙◌, ap, subst, arith}
+use Rattle.std.proofs.Common.{rules, ◌≡◌, ℕ, zero, suc, ◌+◌, ◌-◌, ◌<◌, ◌≤◌, Bool, true, false, List, ◌++◌, Option, Some, None, option_map, length, get_or, take, drop, filter, flat_map, map, All, IfSome, sym, refl, not, ◌&&◌, ◌∙◌, ap, subst, arith}
 use Rattle.std.specs.Prelude.{slice_range}
 use Rattle.std.proofs.lemmas.List.{get_or_read}
-use Rattle.std.proofs.lemmas.List.Elements.{All-weaker}
 use Rattle.arena.specs.Arena.{Arena, header_at}
 use Rattle.tree.specs.declared.entry.Entry.{Entry}
 use Rattle.tree.specs.declared.node.Node.{Node}
@@ -10,8 +9,13 @@ use Rattle.tree.specs.Item.{Item, Tells, item_of}
 use Rattle.tree.specs.Node.{entries_of}
 use Rattle.tree.specs.Path.{IsPartitioned, below_from, below_to}
 use Rattle.tree.specs.Subtree.{entries_at, items_in, IsChild, IsSubtree}
-use Rattle.tree.proofs.Ways.{entries_partitioned, children_partitioned, pass_before, fail_behind_index, index_inside}
-use Rattle.tree.proofs.Found.{partitioned-entries, entries_read}
+use Rattle.tree.proofs.Ways.{children_partitioned, pass_before, fail_behind_index, index_inside}
+use Rattle.tree.proofs.Found.{partitioned-entries, entries_read, leaf_partitioned, read_partitioned}
+use Rattle.tree.proofs.Headed.{headed_at}
+use Rattle.tree.proofs.Placing.{entries_from_header}
+use Rattle.tree.specs.Finding.{CanStep}
+use Rattle.tree.specs.Heads.{KeyBytes, IsPrefixLenAt}
+use Rattle.tree.specs.Reached.{CanReach}
 use Rattle.tree.proofs.Keys.{filter-items}
 use Rattle.tree.proofs.Spans.{IsPartitioned-none, IsPartitioned-all, span, span_range, span_of_child, span_of_two, fewer_before}
 
@@ -64,14 +68,22 @@ pub look_bound : {N : ℕ} (nodes : Arena (Node N)) (least height slot : ℕ) (i
     (es : List Entry) → IsSubtree nodes least height slot
     → IsPartitioned (λ x. is_below x.key) (items_in nodes height slot) → header_at nodes slot ≡ Some header
     → es ≡ entries_of header → IsPartitioned (λ e. is_below e.key) es
-look_bound nodes least zero slot is_below header es s c h e =
-    partitioned-entries (λ (x : Item). is_below x.key) es
-    (subst (λ xs. IsPartitioned (λ (x : Item). is_below x.key) (map item_of xs)) (entries_read nodes slot header es h e) c)
+look_bound nodes least zero slot is_below header es s c h e = leaf_partitioned nodes 0 slot is_below header es refl c h e
 look_bound nodes least (suc height) slot is_below header es s c h e =
-    let tell = All-weaker (IsChild nodes least height (IsSubtree nodes least height))
-    (λ (e : Entry). Tells e (items_in nodes height e.child)) (λ e k. k.tells) (entries_at nodes slot) s.2 in
-    subst (IsPartitioned (λ (x : Entry). is_below x.key)) (entries_read nodes slot header es h e)
-    (entries_partitioned is_below (λ e. items_in nodes height e.child) (entries_at nodes slot) tell c)
+    read_partitioned nodes least (suc height) slot is_below header es (λ z. omega arith) s c h e
+
+-- A node that the code has read can be searched.
+pub can_step_at : {N : ℕ} {nodes : Arena (Node N)} {least height slot : ℕ} {bytes : KeyBytes} {is_below : ℕ → Bool}
+    {target : List ℕ} {known : Option ℕ} {node : Node N} → CanReach bytes is_below nodes least height slot
+    → IsPrefixLenAt bytes is_below target known (entries_at nodes slot) 0 → header_at nodes slot ≡ Some node
+    → CanStep bytes is_below target node known
+can_step_at {N} {nodes} {least} {height} {slot} {bytes} {is_below} {target} {known} {node} can knows header =
+    let read = entries_from_header nodes slot node header in
+    let headed = headed_at bytes nodes slot node can.headed header in
+    let partitioned = look_bound nodes least height slot is_below node _ can.subtree can.partitioned header refl in
+    let some = rw read at can.some in
+    let known = rw read at knows in
+    search rules
 
 pub look_of : {N : ℕ} {A B : Type 0} (nodes : Arena (Node N)) (least height slot : ℕ) (f : A → ℕ → Bool)
     (t : B → ℕ → Bool) (from : Option A) (to : Option B) (header : Node N) (es : List Entry) (begin end : ℕ)
@@ -83,36 +95,32 @@ pub look_of : {N : ℕ} {A B : Type 0} (nodes : Arena (Node N)) (least height sl
     → begin ≡ length (filter (λ e. below_from (option_map f from) e.key) es)
     → end ≡ length (filter (λ e. below_to (option_map t to) e.key) es)
     → IsLook nodes least height slot (below_from (option_map f from)) (below_to (option_map t to)) es begin end
-look_of nodes least height slot f t from to header es begin end s c d n h e b l = record {
-  subtree = s;
-  from = from_asked f (items_in nodes height slot) from c;
-  to = to_asked t (items_in nodes height slot) to d;
-  nested = nested_asked f t from to n;
-  read = entries_read nodes slot header es h e;
-  begin_is = b;
-  end_is = l;
-}
+look_of nodes least height slot f t from to header es begin end s c d n h e b l =
+    let asked_from = from_asked f (items_in nodes height slot) from c in
+    let asked_to = to_asked t (items_in nodes height slot) to d in
+    let nested = nested_asked f t from to n in
+    let read = entries_read nodes slot header es h e in
+    search rules
 
 module _ {N : ℕ} (nodes : Arena (Node N)) (least height slot : ℕ) (f t : ℕ → Bool) (es : List Entry)
     (begin end : ℕ) (k : IsLook nodes least height slot f t es begin end) where
+  abbrev p : Item → Bool
+  p x = f x.key
+
+  abbrev q : Item → Bool
+  q x = t x.key
+
   pub look_ordered : begin ≤ end
-  look_ordered =
-      let le = fewer_before (λ (e : Entry). f e.key) (λ (e : Entry). t e.key) (λ e h. k.nested e.key h) es in
-      let b = k.begin_is in let e = k.end_is in omega arith
+  look_ordered = omega (arith, k.begin_is, k.end_is, fewer_before _ _ (λ (e : Entry). k.nested e.key) es)
 
   -- at a leaf
-  pub leaf_look : height ≡ 0
-      → span (λ x. f x.key) (λ x. t x.key) (items_in nodes height slot) ≡ map item_of (slice_range es begin end)
+  pub leaf_look : height ≡ 0 → span p q (items_in nodes height slot) ≡ map item_of (slice_range es begin end)
   leaf_look z =
-      let p = λ (x : Item). f x.key in
-      let q = λ (x : Item). t x.key in
-      let at : items_in nodes height slot ≡ map item_of es =
-      ap (λ n. items_in nodes n slot) z ∙ ap (map item_of) k.read in
-      let c = partitioned-entries p es (subst (IsPartitioned p) at k.from) in
-      let d = partitioned-entries q es (subst (IsPartitioned q) at k.to) in
-      ap (span p q) at ∙ filter-items (λ (x : Item). not (p x) && q x) es
-      ∙ ap (map item_of)
-      (span_range (λ (e : Entry). f e.key) (λ (e : Entry). t e.key) es begin end c d look_ordered k.begin_is k.end_is)
+      let at : items_in nodes height slot ≡ map item_of es = rw (z, k.read) refl in
+      let c = partitioned-entries p es (rw at at k.from) in
+      let d = partitioned-entries q es (rw at at k.to) in
+      rw (at, filter-items (λ (x : Item). not (p x) && q x) es)
+      (ap (map item_of) (span_range _ _ es begin end c d look_ordered k.begin_is k.end_is))
 
   module _ (some : height ≡ 0 → ⊥) where
     abbrev pub below : Entry → List Item
@@ -122,105 +130,70 @@ module _ {N : ℕ} (nodes : Arena (Node N)) (least height slot : ℕ) (f t : ℕ
     lower = omega arith
 
     node : (1 ≤ length es) × All (IsChild nodes least (height - 1) (IsSubtree nodes least (height - 1))) es
-    node =
-        let s = subst (λ n. IsSubtree nodes least n slot) (sym lower) k.subtree in (
-          subst (λ xs. 1 ≤ length xs) k.read s.1,
-          subst (All (IsChild nodes least (height - 1) (IsSubtree nodes least (height - 1)))) k.read s.2,
-        )
+    node = let s = subst (λ n. IsSubtree nodes least n slot) (sym lower) k.subtree in rw (← k.read) (s.1, s.2)
 
     pub look_tell : All (λ e. Tells e (below e)) es
-    look_tell =
-        All-weaker (IsChild nodes least (height - 1) (IsSubtree nodes least (height - 1)))
-        (λ (e : Entry). Tells e (below e)) (λ e c. c.tells) es node.1
+    look_tell = λ i e inside. (node.1 i e inside).tells
 
     pub look_items : items_in nodes height slot ≡ flat_map below es
     look_items = ap (λ n. items_in nodes n slot) (sym lower) ∙ ap (flat_map below) k.read
 
-    pub from_items : IsPartitioned (λ x. f x.key) (flat_map below es)
-    from_items = subst (IsPartitioned (λ (x : Item). f x.key)) look_items k.from
+    pub from_items : IsPartitioned p (flat_map below es)
+    from_items = rw (← look_items) k.from
 
-    to_items : IsPartitioned (λ x. t x.key) (flat_map below es)
-    to_items = subst (IsPartitioned (λ (x : Item). t x.key)) look_items k.to
+    to_items : IsPartitioned q (flat_map below es)
+    to_items = rw (← look_items) k.to
 
     pub last_inside : end - 1 < length es
-    last_inside =
-        let i = index_inside t below es node.0 in
-        let e = k.end_is in omega arith
+    last_inside = omega (arith, index_inside t below es node.0, k.end_is)
 
     pub first_inside : begin - 1 < length es
-    first_inside = let l = last_inside in let o = look_ordered in omega arith
+    first_inside = omega (arith, last_inside, look_ordered)
 
     -- what is asked of the search in a child
     module _ (i : ℕ) (e : Entry) (inside : i < length es) (is : e ≡ get_or es i e) where
+      pub child_is : IsChild nodes least (height - 1) (IsSubtree nodes least (height - 1)) e
+      child_is = rw is (node.1 i e inside)
+
       pub child_subtree : IsSubtree nodes least (height - 1) e.child
-      child_subtree =
-          let c = subst (IsChild nodes least (height - 1) (IsSubtree nodes least (height - 1))) (sym is)
-          (node.1 i e inside) in c.subtree
+      child_subtree = child_is.subtree
 
       pub child_tells : Tells e (below e)
-      child_tells = subst (λ (e : Entry). Tells e (below e)) (sym is) (look_tell i e inside)
+      child_tells = child_is.tells
 
-      pub child_from : IsPartitioned (λ x. f x.key) (below e)
-      child_from =
-          subst (λ e. IsPartitioned (λ (x : Item). f x.key) (below e)) (sym is)
-          (children_partitioned f below es from_items i e inside)
+      pub child_from : IsPartitioned p (below e)
+      child_from = rw is (children_partitioned f below es from_items i e inside)
 
-      pub child_to : IsPartitioned (λ x. t x.key) (below e)
-      child_to =
-          subst (λ e. IsPartitioned (λ (x : Item). t x.key) (below e)) (sym is)
-          (children_partitioned t below es to_items i e inside)
+      pub child_to : IsPartitioned q (below e)
+      child_to = rw is (children_partitioned t below es to_items i e inside)
 
     module _ (first last : ℕ) (fi : first ≡ begin - 1) (la : last ≡ end - 1) where
-      front : All (λ x. f x.key ≡ true) (flat_map below (take first es))
-      front =
-          subst (λ n. All (λ (x : Item). f x.key ≡ true) (flat_map below (take n es)))
-          (ap (λ n. n - 1) (sym k.begin_is) ∙ sym fi) (pass_before f below es look_tell from_items)
+      front : All (λ x. p x ≡ true) (flat_map below (take first es))
+      front = rw (fi, k.begin_is) (pass_before f below es look_tell from_items)
 
-      later : All (λ x. f x.key ≡ false) (flat_map below (drop (first + 1) es))
-      later =
-          subst (λ n. All (λ (x : Item). f x.key ≡ false) (flat_map below (drop (n + 1) es)))
-          (ap (λ n. n - 1) (sym k.begin_is) ∙ sym fi) (fail_behind_index f below es look_tell from_items)
+      later : All (λ x. p x ≡ false) (flat_map below (drop (first + 1) es))
+      later = rw (fi, k.begin_is) (fail_behind_index f below es look_tell from_items)
 
-      sooner : All (λ x. t x.key ≡ true) (flat_map below (take last es))
-      sooner =
-          subst (λ n. All (λ (x : Item). t x.key ≡ true) (flat_map below (take n es)))
-          (ap (λ n. n - 1) (sym k.end_is) ∙ sym la) (pass_before t below es look_tell to_items)
+      sooner : All (λ x. q x ≡ true) (flat_map below (take last es))
+      sooner = rw (la, k.end_is) (pass_before t below es look_tell to_items)
 
-      back : All (λ x. t x.key ≡ false) (flat_map below (drop (last + 1) es))
-      back =
-          subst (λ n. All (λ (x : Item). t x.key ≡ false) (flat_map below (drop (n + 1) es)))
-          (ap (λ n. n - 1) (sym k.end_is) ∙ sym la) (fail_behind_index t below es look_tell to_items)
+      back : All (λ x. q x ≡ false) (flat_map below (drop (last + 1) es))
+      back = rw (la, k.end_is) (fail_behind_index t below es look_tell to_items)
 
       pub look_apart : (first ≡ last → ⊥) → first + 1 ≤ last
-      look_apart ne = let o = look_ordered in omega arith
+      look_apart ne = omega (arith, look_ordered)
 
       pub look_one : (left : Entry) → left ≡ get_or es first left → first ≡ last
-          → span (λ x. f x.key) (λ x. t x.key) (items_in nodes height slot)
-          ≡ span (λ x. f x.key) (λ x. t x.key) (below left)
+          → span p q (items_in nodes height slot) ≡ span p q (below left)
       look_one left li same =
-          let p = λ (x : Item). f x.key in
-          let q = λ (x : Item). t x.key in
-          let inside : first < length es = let i = first_inside in omega arith in
-          ap (span p q) look_items
-          ∙ span_of_child below p q es first last left front later sooner back same inside
-          ∙ ap (λ e. span p q (below e)) (sym li)
+          rw (look_items, li)
+          (span_of_child below p q es first last left front later sooner back same (omega (arith, first_inside)))
 
       pub look_two : (left right : Entry) → left ≡ get_or es first left → right ≡ get_or es last right
-          → (first ≡ last → ⊥)
-          → span (λ x. f x.key) (λ x. t x.key) (items_in nodes height slot)
-          ≡ span (λ x. f x.key) (λ x. true) (below left)
-          ++ (flat_map below (slice_range es (first + 1) last)
-          ++ span (λ x. false) (λ x. t x.key) (below right))
+          → (first ≡ last → ⊥) → span p q (items_in nodes height slot) ≡ span p (λ x. true) (below left)
+          ++ (flat_map below (slice_range es (first + 1) last) ++ span (λ x. false) q (below right))
       look_two left right li ri ne =
-          let p = λ (x : Item). f x.key in
-          let q = λ (x : Item). t x.key in
-          let inside : last < length es = let i = last_inside in omega arith in
-          let lt : first < last = let a = look_apart ne in omega arith in
-          let same : get_or es last left ≡ right = sym (get_or_read es last right inside ri left) in
-          ap (span p q) look_items
-          ∙ span_of_two below p q es first last left front later sooner back lt inside
-          ∙ ap (λ e. span p (λ x. true) (below e)
-          ++ (flat_map below (slice_range es (first + 1) last) ++ span (λ x. false) q (below (get_or es last left))))
-          (sym li)
-          ∙ ap (λ e. span p (λ x. true) (below left)
-          ++ (flat_map below (slice_range es (first + 1) last) ++ span (λ x. false) q (below e))) same
+          let inside : last < length es = omega (arith, last_inside) in
+          let same : right ≡ get_or es last left = get_or_read es last right inside ri left in
+          let lt : first < last = omega (arith, look_apart ne) in
+          rw (look_items, li, same) (span_of_two below p q es first last left front later sooner back lt inside)

@@ -1,16 +1,16 @@
 -- Two bounds in one leaf: the target begins alike, and the first one is no farther on.
-use Rattle.std.proofs.Common.{◌≡◌, ℕ, ◌≤◌, Bool, true, false, List, [], ◌∷◌, Option, Some, None, is_some, unwrap_or, length, slice_get, take, filter, sym, ◌∙◌, ap, subst, inl, inr, arith}
+use Rattle.std.proofs.Common.{rules, ◌≡◌, ℕ, ◌≤◌, Bool, true, false, List, [], ◌∷◌, Option, Some, None, is_some, unwrap_or, length, slice_get, take, filter, refl, sym, ◌∙◌, ap, arith}
 use Rattle.std.specs.Prelude.{IfSome}
 use Rattle.std.specs.List.{All, AllZip}
-use Rattle.std.proofs.lemmas.Bool.{cases_Bool}
 use Rattle.std.proofs.lemmas.List.{take-take}
 use Rattle.std.proofs.lemmas.List.Elements.{All-nil, All-cons}
 use Rattle.keys.specs.Key.{IsBytes}
 use Rattle.tree.specs.declared.entry.Entry.{Entry}
 use Rattle.tree.proofs.HeadChanges.{target_beside}
-use Rattle.tree.specs.Heads.{KeyBytes, HaveCommonPrefix, IsPrefixLenAt, KeyHeads, HasPrefix, IsHeadBeside, IsTargetHead, head_behind}
+use Rattle.tree.specs.Heads.{KeyBytes, HaveCommonPrefix, IsPrefixLenAt, KeyHeads, HasPrefix, IsHeadBeside, IsTargetHead}
 use Rattle.tree.specs.Node.{keys_of}
 use Rattle.tree.proofs.Overwriting.{entries_put}
+use Rattle.tree.proofs.Spans.{fewer_before}
 
 -- what begins alike does so as far as fewer bytes
 pub fewer_alike : (fewer n : ℕ) (a b : List ℕ) → fewer ≤ n → take n a ≡ take n b → take fewer a ≡ take fewer b
@@ -22,51 +22,37 @@ pub begin_alike : (bytes near : KeyBytes) (is_below : ℕ → Bool) (target othe
     → take n other ≡ take n target → ((key : ℕ) → near key ≡ bytes key)
     → (e : Entry) (text : List ℕ) → slice_get es 0 ≡ Some e → near e.key ≡ Some text → HaveCommonPrefix n text other
 begin_alike bytes near is_below target other es None n knows most alike same e text is there count within few =
-    let none : count ≡ 0 = omega arith in
-    ap (λ k. take k text) none ∙ sym (ap (λ k. take k other) none)
+    let none : count ≡ 0 = omega arith in rw none refl
 begin_alike bytes near is_below target other es (Some known) n knows most alike same e text is there count within few =
-    let tells = (knows e is).1 text (sym (same e.key) ∙ there) count within in
-    tells.0 (omega (arith, few, most)) ∙ sym (fewer_alike count n other target few alike)
-
--- What begins as far alike as what begins as all keys do does so too.
-prefix_too : (bytes near : KeyBytes) (key_heads : KeyHeads) (target other : List ℕ) → ((key : ℕ) → near key ≡ bytes key)
-    → HasPrefix near key_heads other → take key_heads.prefix_len other ≡ take key_heads.prefix_len target
-    → HasPrefix bytes key_heads target
-prefix_too bytes near key_heads target other same a alike = record {
-  key = a.key;
-  text = a.text;
-  there = a.there;
-  known = sym (same a.key) ∙ a.known;
-  long = a.long;
-  same = a.same ∙ alike;
-}
+    ((knows e is).1 text (sym (same e.key) ∙ there) count within).0 (omega (arith, few, most))
+    ∙ sym (fewer_alike count n other target few alike)
 
 -- What begins as far alike as what another bound looks for, which has a head, begins as all keys do.
 pub agrees_too : (bytes near : KeyBytes) (key_heads : KeyHeads) (target other : List ℕ) (shared : ℕ) (head : Option ℕ)
     → ((key : ℕ) → near key ≡ bytes key) → IfSome head (IsTargetHead near key_heads other) → is_some head ≡ true
     → key_heads.prefix_len ≤ shared → take shared other ≡ take shared target → HasPrefix bytes key_heads target
-agrees_too bytes near key_heads target other shared None same for some short alike = absurd (let t : false ≡ true = some in cc)
+agrees_too bytes near key_heads target other shared None same for some short alike = absurd (cc)
 agrees_too bytes near key_heads target other shared (Some head) same for some short alike =
-    prefix_too bytes near key_heads target other same for.agrees
-    (fewer_alike key_heads.prefix_len shared other target short alike)
+    let known = sym (same for.agrees.key) ∙ for.agrees.known in
+    let begins = for.agrees.same ∙ fewer_alike key_heads.prefix_len shared other target short alike in
+    search rules
 
 -- The head of what another bound looks for is that of the same bytes.
 pub same_head : (bytes near : KeyBytes) (key_heads : KeyHeads) (target other : List ℕ) → ((key : ℕ) → near key ≡ bytes key)
     → other ≡ target → (head : ℕ) → IsTargetHead near key_heads other head → IsTargetHead bytes key_heads target head
-same_head bytes near key_heads target other same is head for = record {
-  agrees = prefix_too bytes near key_heads target other same for.agrees (ap (take key_heads.prefix_len) is);
-  head_is = for.head_is ∙ ap (head_behind key_heads.prefix_len) is;
-  are_bytes = subst IsBytes is for.are_bytes;
-}
+same_head bytes near key_heads target other same is head for =
+    let found = rw is at for in
+    let agrees = agrees_too bytes near _ target target key_heads.prefix_len (Some head) same found refl (omega arith) refl in
+    search rules
 
 -- It is that of a key that has these bytes, where it is known.
-pub key_beside : (bytes near : KeyBytes) (key_heads : KeyHeads) (own : List ℕ) (head : Option ℕ) → ((key : ℕ) → near key ≡ bytes key)
-    → IfSome head (IsTargetHead near key_heads own) → is_some head ≡ true → (key : ℕ) → bytes key ≡ Some own → IsBytes own
-    → IsHeadBeside bytes key_heads key (unwrap_or head 0)
-key_beside bytes near key_heads own None same for some key is are_bytes = absurd (let t : false ≡ true = some in cc)
+pub key_beside : (bytes near : KeyBytes) (key_heads : KeyHeads) (own : List ℕ) (head : Option ℕ)
+    → ((key : ℕ) → near key ≡ bytes key) → IfSome head (IsTargetHead near key_heads own) → is_some head ≡ true
+    → (key : ℕ) → bytes key ≡ Some own → IsBytes own → IsHeadBeside bytes key_heads key (unwrap_or head 0)
+key_beside bytes near key_heads own None same for some key is are_bytes = absurd (cc)
 key_beside bytes near key_heads own (Some head) same for some key is are_bytes =
     target_beside bytes key_heads key head (record { text = own; known = is; are_bytes = are_bytes })
-    (λ text there. let s : Some own ≡ Some text = sym is ∙ there in same_head bytes near key_heads text own same (cc) head for)
+    (λ text there. same_head bytes near key_heads text own same (cc (is, there)) head for)
 
 -- what holds of both keys holds of those of the entries that are put in
 pub both_put : (P : ℕ → Type 0) (ended : Bool) (first second : Entry) → P first.key → P second.key
@@ -75,22 +61,13 @@ both_put P true first second p q = All-cons P first.key [] p (All-nil P)
 both_put P false first second p q = All-cons P first.key (second.key ∷ []) p (All-cons P second.key [] q (All-nil P))
 
 -- what holds of both keys and their heads holds of as many heads as entries are put in
-pub both_zipped : (R : ℕ → ℕ → Type 0) (ended : Bool) (first second : Entry) (one other : ℕ) → R first.key one → R second.key other
-    → AllZip R (keys_of (entries_put ended first second)) (take (length (entries_put ended first second)) (one ∷ other ∷ []))
+pub both_zipped : (R : ℕ → ℕ → Type 0) (ended : Bool) (first second : Entry) (one other : ℕ) → R first.key one
+    → R second.key other → AllZip R (keys_of (entries_put ended first second))
+    (take (length (entries_put ended first second)) (one ∷ other ∷ []))
 both_zipped R true first second one other p q = (p, tt)
 both_zipped R false first second one other p q = (p, (q, tt))
 
 -- no more are below the first bound than the second
 pub no_more : (p q : ℕ → Bool) → ((key : ℕ) → p key ≡ true → q key ≡ true) → (es : List Entry)
     → length (filter (λ e. p e.key) es) ≤ length (filter (λ e. q e.key) es)
-no_more p q nested [] = omega arith
-no_more p q nested (e ∷ es) =
-    let i = no_more p q nested es in
-    elim (cases_Bool (p e.key)) [
-      | inl t ↦ let u = nested e.key t in rw (t, u) (omega (arith, i))
-      | inr f ↦
-          elim (cases_Bool (q e.key)) [
-            | inl t ↦ rw (f, t) (omega (arith, i))
-            | inr n ↦ rw (f, n) (omega (arith, i))
-          ]
-    ]
+no_more p q nested es = fewer_before _ _ (λ (e : Entry). nested e.key) es

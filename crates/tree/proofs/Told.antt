@@ -1,11 +1,11 @@
 -- What a search by heads tells of the items before a bound, of those before another bound the last alone.
-use Rattle.std.proofs.Common.{◌≡◌, ℕ, zero, suc, ◌+◌, ◌-◌, ◌<◌, ◌≤◌, Bool, true, false, List, [], ◌∷◌, ◌++◌, Option, Some, IfSome, IsTrue, ◌↔◌, length, get_or, slice_get, take, drop, filter, flat_map, map, All, refl, sym, ◌∙◌, ap, subst, inl, inr, arith, append-nil, append_assoc, length-append}
+use Rattle.std.proofs.Common.{◌≡◌, ℕ, zero, suc, ◌+◌, ◌-◌, ◌<◌, ◌≤◌, Bool, true, false, List, [], ◌∷◌, ◌++◌, Option, Some, IsTrue, ◌↔◌, length, get_or, slice_get, take, drop, filter, flat_map, map, All, refl, ◌∙◌, ap, inl, inr, arith, append-nil, append_assoc, length-append}
 use Rattle.std.specs.Prelude.{ℤ, ◌<ℤ◌, ◌≤ℤ◌, slice_range, Any}
 use Rattle.std.proofs.Math.Seq.{drop-append-add}
 use Rattle.std.proofs.lemmas.Bool.{cases_Bool}
 use Rattle.std.proofs.lemmas.Grind.{flat_map-append}
 use Rattle.std.proofs.lemmas.List.{length-map}
-use Rattle.std.proofs.lemmas.List.Elements.{All-nil, All-head, All-tail, All-weaker, filter-append}
+use Rattle.std.proofs.lemmas.List.Elements.{All-nil, filter-append}
 use Rattle.arena.specs.Arena.{Arena}
 use Rattle.tree.specs.declared.entry.Entry.{Entry}
 use Rattle.tree.specs.declared.node.Node.{Node}
@@ -13,7 +13,7 @@ use Rattle.tree.specs.Item.{Item, Tells, item_of}
 use Rattle.tree.specs.Path.{IsPartitioned, from_last}
 use Rattle.tree.specs.Question.{IsTold}
 use Rattle.tree.specs.Subtree.{items_in}
-use Rattle.tree.proofs.Above.{IsAbove, none_above, part_above, leaf_above}
+use Rattle.tree.proofs.Above.{IsAbove, none_above, leaf_above}
 use Rattle.tree.proofs.callers.Partitions.{All-front, not_both, none_pass, none_fail, IsPartitioned-parts, rest_fails}
 use Rattle.tree.proofs.FromLast.{from_last_of, leaf_from_last, none_told}
 use Rattle.tree.proofs.Keys.{filter-items}
@@ -24,34 +24,24 @@ use Rattle.tree.proofs.Ways.{around_element}
 pub filter_around : {X : Type 0} (p : X → Bool) (a c b : List X) → All (λ x. p x ≡ true) a
     → All (λ x. p x ≡ false) b → filter p (a ++ (c ++ b)) ≡ a ++ filter p c
 filter_around p a c b t f =
-    filter-append p a (c ++ b)
-    ∙ ap (λ ys. ys ++ filter p (c ++ b)) (none_fail p a t).0
-    ∙ ap (λ ys. a ++ ys)
-    (filter-append p c b ∙ ap (λ ys. filter p c ++ ys) (none_pass p b f).0 ∙ append-nil (filter p c))
+    rw (filter-append p a (c ++ b), (none_fail p a t).0, filter-append p c b, (none_pass p b f).0, append-nil (filter p c)) refl
 
 module _ {X : Type 0} (p q : X → Bool) (n : (x : X) → p x ≡ true → q x ≡ true) where
   -- Where none is below the second bound, none passes the first.
   pub none_of_fewer : (xs : List X) → All (λ x. q x ≡ false) xs → All (λ x. p x ≡ false) xs
-  none_of_fewer xs a = All-weaker (λ x. q x ≡ false) (λ x. p x ≡ false) fewer xs a
-    where
-      fewer : (x : X) → q x ≡ false → p x ≡ false
-      fewer x f =
-          elim (cases_Bool (p x)) [ inl t ↦ absurd (not_both (q x) (n x t) f) | inr h ↦ h ]
+  none_of_fewer xs a i d inside =
+      elim (cases_Bool (p (get_or xs i d))) [ inl t ↦ absurd (not_both _ (n _ t) (a i d inside)) | inr h ↦ h ]
 
-  -- From the last one before the first bound to the second one, where one of a part is below the bound, all before it are, and none
-  -- behind it is before the second bound.
+  -- From the last one before the first bound to the second one, where one of a part is below the bound, all before it are, and
+  -- none behind it is before the second bound.
   from_last_part : (a c b : List X) → All (λ x. p x ≡ true) a → 1 ≤ length (filter p c)
       → All (λ x. q x ≡ false) b → from_last_of p q (a ++ (c ++ b)) ≡ from_last_of p q c
   from_last_part a c b before some behind =
-      let whole = a ++ (c ++ b) in
-      let ps = filter_around p a c b before (none_of_fewer b behind) in
-      let qs = filter_around q a c b (All-weaker (λ x. p x ≡ true) (λ x. q x ≡ true) n a before) behind in
       let count : length (a ++ filter p c) - 1 ≡ length a + (length (filter p c) - 1) =
       omega (arith, some, length-append a (filter p c)) in
-      ap (λ ys. drop (length ys - 1) (filter q whole)) ps
-      ∙ ap (drop (length (a ++ filter p c) - 1)) qs
-      ∙ ap (λ k. drop k (a ++ filter q c)) count
-      ∙ drop-append-add a (filter q c) (length (filter p c) - 1)
+      let ps = filter_around p a c b before (none_of_fewer b behind) in
+      let qs = filter_around q a c b (λ i d inside. n _ (before i d inside)) behind in
+      rw (ps, qs, count) (drop-append-add a (filter q c) (length (filter p c) - 1))
 
 -- None of these is below the bound.
 abbrev AllFail : (ℕ → Bool) → List Item → Type 0
@@ -60,46 +50,34 @@ AllFail is_below items = All (λ x. is_below x.key ≡ false) items
 -- that `next` tells of some items and those behind them that none passes, where `clear` tells it of those behind
 abbrev pub Clears : (ℕ → Bool) → Bool → Bool → List Item → Type 0
 Clears q clear next back =
-    (after : List Item) → (IsTrue clear → All (λ x. q x.key ≡ false) after) → IsPartitioned (λ x. q x.key) (back ++ after)
-    → IsTrue next → All (λ x. q x.key ≡ false) (back ++ after)
+    (after : List Item) → (IsTrue clear → AllFail q after) → IsPartitioned (λ x. q x.key) (back ++ after) → IsTrue next
+    → AllFail q (back ++ after)
 
 -- No item of these children passes if the first entry doesn't. Where there is none, it is told of the items behind them.
 pub clears_behind : (q : ℕ → Bool) (below : Entry → List Item) (es : List Entry) (i : ℕ) (clear next : Bool)
     → All (λ e. Tells e (below e)) es → (IsTrue next → (e : Entry) → slice_get es i ≡ Some e → q e.key ≡ false)
     → (IsTrue next → length es ≤ i → IsTrue clear) → Clears q clear next (flat_map below (drop i es))
-clears_behind q below [] zero clear next tell fails last = λ after k partitioned t. k (last t (omega arith))
-clears_behind q below [] (suc i) clear next tell fails last = λ after k partitioned t. k (last t (omega arith))
-clears_behind q below (e ∷ es) zero clear next tell fails last = λ after k partitioned t.
-    let h = All-head (λ e. Tells e (below e)) e es tell in
-    let rest = flat_map below es in
-    let same : (below e ++ rest) ++ after ≡ h.first ∷ (h.others ++ rest) ++ after =
-    ap (λ xs. (xs ++ rest) ++ after) h.items_are in
-    let first : q h.first.key ≡ false = subst (λ k. q k ≡ false) h.key (fails t e refl) in
-    subst (AllFail q) (sym same)
-    (rest_fails (λ (x : Item). q x.key) h.first ((h.others ++ rest) ++ after)
-    (subst (IsPartitioned (λ (x : Item). q x.key)) same partitioned) first)
-clears_behind q below (e ∷ es) (suc i) clear next tell fails last =
-    clears_behind q below es i clear next (All-tail (λ e. Tells e (below e)) e es tell) fails
-    (λ t le. last t (omega (arith, le)))
+clears_behind q below [] zero clear next tell fails last after k partitioned t = k (last t (omega arith))
+clears_behind q below [] (suc i) clear next tell fails last after k partitioned t = k (last t (omega arith))
+clears_behind q below (e ∷ es) zero clear next tell fails last after k partitioned t =
+    let h = tell 0 e (omega arith) in
+    rw h.items_are
+    (rest_fails (λ (x : Item). q x.key) h.first _ (rw h.items_are at partitioned) (rw (← h.key) (fails t e refl)))
+clears_behind q below (e ∷ es) (suc i) clear next tell fails last after k partitioned t =
+    clears_behind q below es i clear next (λ k d inside. tell (suc k) d (omega arith)) fails (λ t le. last t (omega (arith, le)))
+    after k partitioned t
 
 module _ (p q : ℕ → Bool) (v : ℤ) (n : (key : ℕ) → p key ≡ true → q key ≡ true) where
-  regroup : (before front part back after : List Item)
-      → before ++ ((front ++ (part ++ back)) ++ after) ≡ (before ++ front) ++ (part ++ (back ++ after))
-  regroup before front part back after = simp append_assoc
-
   -- What is told of a part is told of the whole.
   pub told_wider : (items front part back : List Item) (clear next : Bool) (result : Option Bool)
       → items ≡ front ++ (part ++ back) → Clears q clear next back → IsTold p q v next part result
       → IsTold p q v clear items result
   told_wider items front part back clear next result parts clears told before after k c d =
-      let same : before ++ (items ++ after) ≡ (before ++ front) ++ (part ++ (back ++ after)) =
-      ap (λ xs. before ++ (xs ++ after)) parts ∙ regroup before front part back after in
-      let cp = subst (IsPartitioned (λ (x : Item). p x.key)) same c in
-      let cq = subst (IsPartitioned (λ (x : Item). q x.key)) same d in
+      let same : before ++ (items ++ after) ≡ (before ++ front) ++ (part ++ (back ++ after)) = rw parts (simp append_assoc) in
+      let cq = rw same at d in
       let rest = (IsPartitioned-parts (λ (x : Item). q x.key) (before ++ front) (part ++ (back ++ after)) cq).1 in
       let last = (IsPartitioned-parts (λ (x : Item). q x.key) part (back ++ after) rest).1 in
-      subst (λ xs. IfSome result (λ told. IsTrue told ↔ IsAbove v (from_last p (Some q) xs))) (sym same)
-      (told (before ++ front) (back ++ after) (clears after k last) cp cq)
+      rw same (told (before ++ front) (back ++ after) (clears after k last) (rw same at c) cq)
 
   -- Where some items are below the first bound and none behind them is below the second one, the others don't count.
   told_part : (part : List Item) (clear b : Bool) → 1 ≤ length (filter (λ x. p x.key) part)
@@ -114,30 +92,20 @@ module _ (p q : ℕ → Bool) (v : ℤ) (n : (key : ℕ) → p key ≡ true → 
             absurd (omega (arith, some, ap length z.0))
       ] in
       let rest = (IsPartitioned-parts (λ (x : Item). q x.key) before (part ++ after) d).1 in
-      part_above v b (from_last p (Some q) (before ++ (part ++ after)))
-      (from_last_of (λ x. p x.key) (λ x. q x.key) part)
-      (from_last_part (λ (x : Item). p x.key) (λ (x : Item). q x.key) (λ x. n x.key) before part after front some
-      (behind after k rest)) answer
+      rw (from_last_part _ (λ (x : Item). q x.key) (λ x. n x.key) before part after front some (behind after k rest)) answer
 
   -- what is told of all items
   pub told_of_all : (items : List Item) (b : Bool) → IsTold p q v true items (Some b) → IsPartitioned (λ x. p x.key) items
       → IsPartitioned (λ x. q x.key) items → (IsTrue b ↔ IsAbove v (from_last p (Some q) items))
   told_of_all items b told c d =
-      let same : items ≡ items ++ [] = sym (append-nil items) in
-      part_above v b (from_last p (Some q) items) (from_last p (Some q) (items ++ [])) (ap (from_last p (Some q)) same)
-      (told [] [] (λ _. All-nil (λ (x : Item). q x.key ≡ false)) (subst (IsPartitioned (λ (x : Item). p x.key)) same c)
-      (subst (IsPartitioned (λ (x : Item). q x.key)) same d))
+      rw append-nil at (told [] [] (λ _. All-nil (λ (x : Item). q x.key ≡ false)) (rw append-nil c) (rw append-nil d))
 
   -- what an entry tells whose version isn't above it
-  pub told_by_entry : (e : Entry) (part : List Item) (clear b : Bool) → Tells e part → p e.key ≡ true → clear ≡ true
-      → b ≡ false → e.version ≤ℤ v → IsTold p q v clear part (Some b)
-  told_by_entry e part clear b t is_below c f le =
-      let first : p t.first.key ≡ true = subst (λ k. p k ≡ true) t.key is_below in
-      let one : filter (λ (x : Item). p x.key) part ≡ t.first ∷ filter (λ (x : Item). p x.key) t.others =
-      ap (filter (λ (x : Item). p x.key)) t.items_are ∙ rw first refl in
-      told_part part clear b (omega (arith, ap length one)) (λ after k d. k c)
-      (none_above v b (from_last_of (λ x. p x.key) (λ x. q x.key) part) f
-      (none_told v e part t le (λ x. p x.key) (λ x. q x.key)))
+  pub told_by_entry : (e : Entry) (part : List Item) (clear : Bool) → Tells e part → p e.key ≡ true → clear ≡ true
+      → e.version ≤ℤ v → IsTold p q v clear part (Some false)
+  told_by_entry e part clear t is_below c le =
+      told_part part clear false (rw (t.items_are, ← t.key, is_below) (omega arith)) (λ after k d. k c)
+      (none_above v false _ refl (none_told v e part t le (λ x. p x.key) (λ x. q x.key)))
 
 -- below a node
 module _ {N : ℕ} (nodes : Arena (Node N)) (least height slot : ℕ) (p q : ℕ → Bool) (es : List Entry)
@@ -147,38 +115,29 @@ module _ {N : ℕ} (nodes : Arena (Node N)) (least height slot : ℕ) (p q : ℕ
       → (IsTrue b ↔ Any (λ e. v <ℤ e.version) (slice_range es (begin - 1) end))
       → IsTold p q v clear (items_in nodes height slot) (Some b)
   told_by_leaf b z some all answer =
-      let at : items_in nodes height slot ≡ map item_of es =
-      ap (λ n. items_in nodes n slot) z ∙ ap (map item_of) k.read in
-      let counted = counts at in
-      told_part p q v k.nested (items_in nodes height slot) clear b (let c = counted p in let i = k.begin_is in omega arith)
-      (λ after clears partitioned. elim (IsPartitioned-parts (λ (x : Item). q x.key) (items_in nodes height slot) after partitioned).2 [
+      let at : items_in nodes height slot ≡ map item_of es = rw (z, k.read) refl in
+      rw at
+      (told_part p q v k.nested (map item_of es) clear b (omega (arith, counts p, k.begin_is))
+      (λ after clears partitioned. elim (IsPartitioned-parts (λ (x : Item). q x.key) (map item_of es) after partitioned).2 [
         | inl pass ↦
-            let whole = (none_fail (λ (x : Item). q x.key) (items_in nodes height slot) pass).0 in
-            let c = counted q in
-            let i = k.end_is in
-            clears (all (omega (arith, c, i, ap length whole, ap length at, length-map es item_of)))
+            let whole = (none_fail (λ (x : Item). q x.key) (map item_of es) pass).0 in
+            clears (all (omega (arith, counts q, k.end_is, ap length whole, length-map es item_of)))
         | inr fail ↦ fail
       ])
-      (leaf_above v b _ (slice_range es (begin - 1) end) (leaf_from_last nodes least height slot p q es begin end k z (begin - 1) refl)
-      answer)
+      (leaf_above v b _ (slice_range es (begin - 1) end)
+      (rw at at (leaf_from_last nodes least height slot p q es begin end k z (begin - 1) refl)) answer))
     where
-      counts : items_in nodes height slot ≡ map item_of es → (f : ℕ → Bool)
-          → length (filter (λ x. f x.key) (items_in nodes height slot)) ≡ length (filter (λ e. f e.key) es)
-      counts at f =
-          ap (λ xs. length (filter (λ (x : Item). f x.key) xs)) at ∙ ap length (filter-items (λ (x : Item). f x.key) es)
-          ∙ length-map (filter (λ (e : Entry). f e.key) es) item_of
+      counts : (f : ℕ → Bool) → length (filter (λ x. f x.key) (map item_of es)) ≡ length (filter (λ e. f e.key) es)
+      counts f = ap length (filter-items (λ (x : Item). f x.key) es) ∙ length-map (filter (λ (e : Entry). f e.key) es) item_of
 
   -- What is told of the items of a child is told of those of the node.
   pub told_by_child : (height ≡ 0 → ⊥) → (i : ℕ) (e : Entry) → i < length es → e ≡ get_or es i e → (next : Bool)
       (result : Option Bool) → Clears q clear next (flat_map (λ e. items_in nodes (height - 1) e.child) (drop (i + 1) es))
       → IsTold p q v next (items_in nodes (height - 1) e.child) result
       → IsTold p q v clear (items_in nodes height slot) result
-  told_by_child some i e inside is next result clears told =
+  told_by_child some i e inside is next result =
       let below = λ (e : Entry). items_in nodes (height - 1) e.child in
-      let parts : items_in nodes height slot ≡ flat_map below (take i es) ++ (below e ++ flat_map below (drop (i + 1) es)) =
-      look_items nodes least height slot p q es begin end k some
+      let parts = rw (← is) at (look_items nodes least height slot p q es begin end k some
       ∙ ap (flat_map below) (around_element es i e inside)
-      ∙ flat_map-append below (take i es) (get_or es i e ∷ drop (i + 1) es)
-      ∙ ap (λ x. flat_map below (take i es) ++ (below x ++ flat_map below (drop (i + 1) es))) (sym is) in
-      told_wider p q v k.nested (items_in nodes height slot) (flat_map below (take i es)) (below e)
-      (flat_map below (drop (i + 1) es)) clear next result parts clears told
+      ∙ flat_map-append below (take i es) (get_or es i e ∷ drop (i + 1) es)) in
+      told_wider p q v k.nested _ _ (below e) _ clear next result parts
