@@ -21,14 +21,11 @@ pub Any-filter : {X : Type 0} (P : X → Type 0) (p : X → Bool) (xs : List X) 
 Any-filter P p [] a = a
 Any-filter P p (x ∷ xs) a =
     elim (cases_Bool (p x)) [
-      | inl t ↦
-          elim (Any-cases P x (filter p xs) (subst (λ b. Any P (cond b (x ∷ filter p xs) (filter p xs))) t a)) [
-            | inl h ↦ Any-first P x xs h
-            | inr b ↦ Any-later P x xs (Any-filter P p xs b)
-          ]
-      | inr f ↦
-          Any-later P x xs
-          (Any-filter P p xs (subst (λ b. Any P (cond b (x ∷ filter p xs) (filter p xs))) f a))
+      | inl t ↦ elim (Any-cases P x (filter p xs) (rw t at a)) [
+          | inl h ↦ Any-first P x xs h
+          | inr b ↦ Any-later P x xs (Any-filter P p xs b)
+        ]
+      | inr f ↦ Any-later P x xs (Any-filter P p xs (rw f at a))
     ]
 
 module _ (v : ℤ) where
@@ -40,9 +37,8 @@ module _ (v : ℤ) where
       → IsAbove (filter p items) → v <ℤ e.version
   above_told e items t p a =
       let b = Any-filter (λ (x : Item). v <ℤ x.version) p items a in
-      let le = subst (λ (x : Item). x.version ≤ℤ e.version) b.3 (t.greatest.bound b.0 b.1 b.2) in
-      let lt : v <ℤ b.1.version = b.4 in
-      omega (arith, ints, le, lt)
+      let le = rw b.3 at (t.greatest.bound b.0 b.1 b.2) in
+      let lt : v <ℤ b.1.version = b.4 in omega (arith, ints, le, lt)
 
   pub not_above_told : (e : Entry) (items : List Item) → Tells e items → e.version ≤ℤ v → (p : Item → Bool)
       → IsAbove (filter p items) → ⊥
@@ -51,15 +47,13 @@ module _ (v : ℤ) where
   -- what the code answers, where that is the answer for a part
   pub part_above : (b : Bool) (whole part : List Item) → whole ≡ part → (IsTrue b ↔ IsAbove part)
       → (IsTrue b ↔ IsAbove whole)
-  part_above b whole part e h = subst (λ xs. IsTrue b ↔ IsAbove xs) (sym e) h
+  part_above b whole part e h = rw e h
 
   pub leaf_above : (b : Bool) (whole : List Item) (es : List Entry) → whole ≡ map item_of es
       → (IsTrue b ↔ Any (λ e. v <ℤ e.version) es) → (IsTrue b ↔ IsAbove whole)
   leaf_above b whole es e h =
-      part_above b whole (map item_of es) e (
-        (λ t. Any-map item_of (λ (x : Item). v <ℤ x.version) es (h.0 t)),
-        (λ a. h.1 (Any-unmap item_of (λ (x : Item). v <ℤ x.version) es a)),
-      )
+      let P = λ (x : Item). v <ℤ x.version in
+      rw e ((λ t. Any-map item_of P es (h.0 t)), (λ a. h.1 (Any-unmap item_of P es a)))
 
   pub none_above : (b : Bool) (whole : List Item) → b ≡ false → (IsAbove whole → ⊥) → (IsTrue b ↔ IsAbove whole)
   none_above b whole f n = ((λ t. absurd (not_both b t f)), (λ a. absurd (n a)))
