@@ -22,9 +22,9 @@ Any-filter P p [] a = a
 Any-filter P p (x ∷ xs) a =
     elim (cases_Bool (p x)) [
       | inl t ↦ elim (Any-cases P x (filter p xs) (rw t at a)) [
-          | inl h ↦ Any-first P x xs h
-          | inr b ↦ Any-later P x xs (Any-filter P p xs b)
-        ]
+        | inl h ↦ Any-first P x xs h
+        | inr b ↦ Any-later P x xs (Any-filter P p xs b)
+      ]
       | inr f ↦ Any-later P x xs (Any-filter P p xs (rw f at a))
     ]
 
