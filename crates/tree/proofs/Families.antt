@@ -51,7 +51,7 @@ module _ {N : ℕ} where
           let xs = slots_of a height before in
           let zs = slots_of a height behind in
           let count = λ (s : ℕ). times-slots_of a height s before (middle ++ behind)
-              ∙ ap (λ n. times s xs + n) (times-slots_of a height s middle behind) in
+          ∙ ap (λ n. times s xs + n) (times-slots_of a height s middle behind) in
           let live_before = live_children a least height before right_before in
           let live_behind = live_children a least height behind right_behind in
           let agree_before = moves_agree a b _ _ xs moves live_before (λ s. omega (arith, few s, count s)) in

@@ -13,9 +13,6 @@ use Rattle.tree.specs.Subtree.{entries_at, items_in, IsSubtree}
 use Rattle.tree.proofs.Ways.{way}
 
 module _ {N : ℕ} (nodes : Arena (Node N)) where
-  regroup : (a b m h r : List Item) → a ++ ((b ++ (m ++ h)) ++ r) ≡ (a ++ b) ++ (m ++ (h ++ r))
-  regroup a b m h r = simp append_assoc
-
   -- what the leaf that a bound finds says of the items of the subtree
   pub record IsFoundLeaf (height slot leaf : ℕ) (is_below : ℕ → Bool) : Type 0 where
     pub items : items_in nodes height slot ≡ before_leaf nodes height slot is_below
@@ -38,20 +35,14 @@ module _ {N : ℕ} (nodes : Arena (Node N)) where
       let a = flat_map below (take (index_in is_below es) es) in
       let r = flat_map below (drop (index_in is_below es + 1) es) in
       let child = child_in is_below es in
-      let here = map item_of (entries_at nodes (leaf_in nodes height child is_below)) in
-      let f = found_leaf_in least height child is_below (subst (IsSubtree nodes least height) w.child w.kept.subtree)
-      (subst (λ t. IsPartitioned (λ (x : Item). is_below x.key) (items_in nodes height t)) w.child w.partitioned) in
+      let f = found_leaf_in least height child is_below (rw (← w.child) w.kept.subtree) (rw (← w.child) w.partitioned) in
       record {
-        items = w.items ∙ ap (λ t. a ++ (items_in nodes height t ++ r)) w.child ∙ ap (λ xs. a ++ (xs ++ r)) f.items
-            ∙ regroup a (before_leaf nodes height child is_below) here (behind_leaf nodes height child is_below) r;
-        before = All-append (λ (x : Item). is_below x.key ≡ true) a (before_leaf nodes height child is_below) w.before
-            f.before;
-        behind = All-append (λ (x : Item). is_below x.key ≡ false) (behind_leaf nodes height child is_below) r f.behind
-            w.behind;
+        items = rw (w.items, w.child, f.items) (simp append_assoc);
+        before = All-append (λ (x : Item). is_below x.key ≡ true) a _ w.before f.before;
+        behind = All-append (λ (x : Item). is_below x.key ≡ false) _ r f.behind w.behind;
       }
 
   pub found_at_leaf : (least height slot leaf : ℕ) (is_below : ℕ → Bool) → IsSubtree nodes least height slot
       → IsPartitioned (λ x. is_below x.key) (items_in nodes height slot) → leaf ≡ leaf_in nodes height slot is_below
       → IsFoundLeaf height slot leaf is_below
-  found_at_leaf least height slot leaf is_below s c same =
-      subst (λ l. IsFoundLeaf height slot l is_below) (sym same) (found_leaf_in least height slot is_below s c)
+  found_at_leaf least height slot leaf is_below s c same = rw same (found_leaf_in least height slot is_below s c)

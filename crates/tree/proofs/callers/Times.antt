@@ -42,7 +42,7 @@ contains_later x s xs (k, within, is) = (suc k, omega arith, is)
 pub times_if_contains : (s : ℕ) (xs : List ℕ) → Contains xs s → 1 ≤ times s xs
 times_if_contains s [] h = absurd (omega (arith, h.1))
 times_if_contains s (x ∷ xs) h = elim (contains_cases x s xs h) [
-  | inl same ↦ (let e : once s x ≡ 1 = ap (once s) same ∙ once_same s in omega arith)
+  | inl same ↦ rw same (omega (arith, once_same s))
   | inr later ↦ omega (arith, times_if_contains s xs later)
 ]
 
@@ -62,21 +62,18 @@ times_unless_contains s xs without = elim (none_or_some (times s xs)) [
 -- an element that no other is equal to
 none_later : (x : ℕ) (xs : List ℕ) → AllByRecursion (λ y. nat_eq x y ≡ false) xs → times x xs ≡ 0
 none_later x [] h = refl
-none_later x (y ∷ ys) h =
-    let e : once x y ≡ 0 = once_other x y (λ same. eqb-false x y h.0 (sym same)) in omega (arith, none_later x ys h.1)
+none_later x (y ∷ ys) h = omega (arith, once_other x y (λ same. eqb-false x y h.0 (sym same)), none_later x ys h.1)
 
 differs_later : (x : ℕ) (xs : List ℕ) → times x xs ≡ 0 → AllByRecursion (λ y. nat_eq x y ≡ false) xs
 differs_later x [] h = tt
-differs_later x (y ∷ ys) h = (
-  ne_eqb x y (λ same. let e : once x y ≡ 1 = ap (once x) (sym same) ∙ once_same x in omega arith),
-  differs_later x ys (omega arith),
-)
+differs_later x (y ∷ ys) h =
+    (ne_eqb x y (λ same. omega (arith, ap (once x) same, once_same x)), differs_later x ys (omega arith))
 
 pub once_if_distinct : (xs : List ℕ) → IsDistinct nat_eq xs → (s : ℕ) → times s xs ≤ 1
 unfolding IsDistinct
 once_if_distinct [] h s = omega arith
 once_if_distinct (x ∷ xs) h s = elim (once_cases s x) [
-  | inl same ↦ (let e : times s xs ≡ 0 = ap (λ n. times n xs) (sym same.0) ∙ none_later x xs h.0 in omega (arith, same.1))
+  | inl same ↦ omega (arith, same.1, ap (λ n. times n xs) same.0, none_later x xs h.0)
   | inr other ↦ omega (arith, other.1, once_if_distinct xs h.1 s)
 ]
 

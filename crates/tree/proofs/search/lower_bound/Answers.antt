@@ -9,8 +9,7 @@ returns g c =
     let p = λ (e : Entry). g.P.Bound.below c.args.bound.now e.key in
     let es = c.args.entries.now in
     let point = IsPartitionPoint-from_clause p es _ c.partition_point.ensures.partitioned
-    (partitioned p es c.requires.partitioned)
-    (λ a r q k. search rules) in
+    (partitioned p es c.requires.partitioned) (λ a r q k. search rules) in
     let parts = parted_at p es _ c.partition_point.ensures.bound point in
     record {
       within = c.partition_point.ensures.bound;
