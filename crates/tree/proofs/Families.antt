@@ -58,18 +58,21 @@ module _ {N : ℕ} where
           let agree_behind = moves_agree a b _ _ zs moves live_behind (λ s. omega (arith, few s, count s)) in
           let same_before = slots_of_same a b height before agree_before in
           let same_behind = slots_of_same a b height behind agree_behind in
+          let items_before = items_of_same a b height before agree_before in
+          let items_behind = items_of_same a b height behind agree_behind in
+          let times_now = λ (s : ℕ). times-slots_of b height s before (new ++ behind) in
           record {
-            front = children_same a b least height before agree_before right_before;
-            back = children_same a b least height behind agree_behind right_behind;
-            items = simp (items_of-append, items_of_same a b height before agree_before, items_of_same a b height behind agree_behind);
+            front = children_same a b height before agree_before least right_before;
+            back = children_same a b height behind agree_behind least right_behind;
+            items = simp (items_of-append, items_before, items_behind);
             moves = moves_beside a b _ _ (xs ++ zs) _ _ moves
                 (λ s. omega (arith, count s, times-append s xs zs))
-                (λ s. rw (times-slots_of b height s before (new ++ behind), times-slots_of b height s new behind, same_before, same_behind)
+                (λ s. rw (times_now s, times-slots_of b height s new behind, same_before, same_behind)
                 (omega (arith, times-append s xs zs)))
                 (rw (length-slots_of a height before (middle ++ behind), length-slots_of a height middle behind)
                 (omega (arith, length-append xs zs)))
-                (rw (length-slots_of b height before (new ++ behind), length-slots_of b height new behind, same_before, same_behind)
-                (omega (arith, length-append xs zs)))
+                (rw (length-slots_of b height before (new ++ behind), length-slots_of b height new behind, same_before)
+                (omega (arith, length-append xs zs, ap length same_behind)))
                 few
                 (λ s some. elim (none_or_some (times s xs)) [
                   | inl none ↦ live_behind s (omega (arith, times-append s xs zs))
@@ -92,7 +95,7 @@ module _ {N : ℕ} where
       → entries_at b slot ≡ entries → 1 ≤ length entries → AreChildren a least height entries
       → Agree a b (slots_of a height entries) → Holds a b least height slot entries
   holds a b least height slot entries live here some right agree = record {
-    subtree = (live, rw here some, rw here (children_same a b least height entries agree right));
+    subtree = (live, rw here some, rw here (children_same a b height entries agree least right));
     items = ap (items_of b height) here ∙ items_of_same a b height entries agree;
     slots = ap (λ es. slot ∷ slots_of b height es) here ∙ ap (λ l. slot ∷ l) (slots_of_same a b height entries agree);
   }

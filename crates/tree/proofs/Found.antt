@@ -42,23 +42,16 @@ found nodes least height slot is_below header es index d some s c h e i =
     let at : slice_get es index ≡ Some w.entry = rw (i, ← entries_read nodes slot header es h e) w.is in
     record { lower = omega arith; way = w; is = ap (λ (x : Entry). x.child) (get_or_from_slice_get es index w.entry d at) }
 
-pub partitioned-entries : (p : Item → Bool) (es : List Entry) → IsPartitioned p (map item_of es) → IsPartitioned (λ e. p (item_of e)) es
+pub partitioned-entries : (p : Item → Bool) (es : List Entry) → IsPartitioned p (map item_of es)
+    → IsPartitioned (λ e. p (item_of e)) es
 partitioned-entries p es c =
     IsPartitioned-from_falls (λ (e : Entry). p (item_of e)) es (falls es (Falls-below_from p (map item_of es) c))
   where
     falls : (es : List Entry) → Falls p (map item_of es) → Falls (λ e. p (item_of e)) es
     falls [] f = tt
-    falls (e ∷ es) f = elim f [
-      | inl h ↦ inl (h.0, falls es h.1)
-      | inr h ↦ inr (h.0, λ k d w. rw (← get_or-map item_of es k d (item_of d) w) (h.1 k (item_of d) (omega (arith, length-map es item_of))))
-    ]
-
--- The entries of a leaf, as the code has read them, are partitioned.
-pub leaf_partitioned : {N : ℕ} (nodes : Arena (Node N)) (height slot : ℕ) (is_below : ℕ → Bool) (header : Node N)
-    (es : List Entry) → height ≡ 0 → IsPartitioned (λ x. is_below x.key) (items_in nodes height slot)
-    → header_at nodes slot ≡ Some header → es ≡ entries_of header → IsPartitioned (λ e. is_below e.key) es
-leaf_partitioned nodes height slot is_below header es z c h e =
-    partitioned-entries (λ (x : Item). is_below x.key) es (rw (z, entries_read nodes slot header es h e) at c)
+    falls (e ∷ es) (inl h) = inl (h.0, falls es h.1)
+    falls (e ∷ es) (inr h) =
+        inr (h.0, λ k d w. rw (← get_or-map item_of es k d (item_of d) w) (h.1 k (item_of d) (omega (arith, length-map es item_of))))
 
 -- The entries of a node above the leaves, as the code has read them, are partitioned.
 pub read_partitioned : {N : ℕ} (nodes : Arena (Node N)) (least height slot : ℕ) (is_below : ℕ → Bool) (header : Node N)

@@ -58,21 +58,13 @@ module _ {N : ℕ} where
     items_same zero slot agree = ap (map item_of) (agree_own zero slot agree)
     items_same (suc height) slot agree =
         ap (items_of b height) (agree_own (suc height) slot agree)
-        ∙ each_same height (items_in a height) (items_in b height) (items_same height) _ (agree_below height slot agree)
+        ∙ each_same height _ _ (items_same height) _ (agree_below height slot agree)
 
     pub slots_same : (height slot : ℕ) → Agree a b (slots_in a height slot) → slots_in b height slot ≡ slots_in a height slot
     slots_same zero slot agree = refl
     slots_same (suc height) slot agree =
         ap (λ xs. slot ∷ xs) (ap (slots_of b height) (agree_own (suc height) slot agree)
-        ∙ each_same height (slots_in a height) (slots_in b height) (slots_same height) _ (agree_below height slot agree))
-
-    pub items_of_same : (height : ℕ) (es : List Entry) → Agree a b (slots_of a height es) → items_of b height es ≡ items_of a height es
-    items_of_same height es agree =
-        each_same height (items_in a height) (items_in b height) (items_same height) es (agree_each height es agree)
-
-    pub slots_of_same : (height : ℕ) (es : List Entry) → Agree a b (slots_of a height es) → slots_of b height es ≡ slots_of a height es
-    slots_of_same height es agree =
-        each_same height (slots_in a height) (slots_in b height) (slots_same height) es (agree_each height es agree)
+        ∙ each_same height _ _ (slots_same height) _ (agree_below height slot agree))
 
     pub live_same : (slot : ℕ) → record_at b slot ≡ record_at a slot → IsLive a slot → IsLive b slot
     live_same slot e live = ap is_some e ∙ live
@@ -99,13 +91,21 @@ module _ {N : ℕ} where
           rw e (each_child least height (subtree_same least height) _ (agree_below height slot agree) h.2),
         )
 
-    pub children_same : (least height : ℕ) (es : List Entry) → Agree a b (slots_of a height es) → AreChildren a least height es
-        → AreChildren b least height es
-    children_same least height es agree = each_child least height (subtree_same least height) es (agree_each height es agree)
+    -- the children of entries
+    module _ (height : ℕ) (es : List Entry) (agree : Agree a b (slots_of a height es)) where
+      pub items_of_same : items_of b height es ≡ items_of a height es
+      items_of_same = each_same height _ _ (items_same height) es (agree_each height es agree)
+
+      pub slots_of_same : slots_of b height es ≡ slots_of a height es
+      slots_of_same = each_same height _ _ (slots_same height) es (agree_each height es agree)
+
+      pub children_same : (least : ℕ) → AreChildren a least height es → AreChildren b least height es
+      children_same least = each_child least height (subtree_same least height) es (agree_each height es agree)
 
   -- the nodes of subtrees are live
   module _ (a : Arena (Node N)) (least : ℕ) where
-    live_of : (height : ℕ) → ((slot : ℕ) → IsSubtree a least height slot → (s : ℕ) → 1 ≤ times s (slots_in a height slot) → IsLive a s)
+    live_of : (height : ℕ)
+        → ((slot : ℕ) → IsSubtree a least height slot → (s : ℕ) → 1 ≤ times s (slots_in a height slot) → IsLive a s)
         → (es : List Entry) → AreChildren a least height es → (s : ℕ) → 1 ≤ times s (slots_of a height es) → IsLive a s
     live_of height each [] all s some = absurd (omega arith)
     live_of height each (e ∷ es) all s some = elim (none_or_some (times s (slots_in a height e.child))) [

@@ -29,13 +29,10 @@ module _ {X : Type 0} (p q : X → Bool) where
   passing_falls : ((x : X) → p x ≡ true → q x ≡ true) → (xs : List X) → Falls p xs
       → filter q xs ≡ filter p xs ++ span p q xs
   passing_falls n [] f = refl
-  passing_falls n (x ∷ xs) f =
-      elim f [
-        | inl h ↦ rw (h.0, n x h.0) (ap (λ ys. x ∷ ys) (passing_falls n xs h.1))
-        | inr h ↦
-            let a = All-cons (λ y. p y ≡ false) x xs h.0 h.1 in
-            sym (ap (λ ys. ys ++ span p q (x ∷ xs)) (none_pass p (x ∷ xs) a).0 ∙ span_from_begin p q (x ∷ xs) a)
-      ]
+  passing_falls n (x ∷ xs) (inl h) = rw (h.0, n x h.0) (ap (λ ys. x ∷ ys) (passing_falls n xs h.1))
+  passing_falls n (x ∷ xs) (inr h) =
+      let a = All-cons (λ y. p y ≡ false) x xs h.0 h.1 in
+      sym (ap (λ ys. ys ++ span p q (x ∷ xs)) (none_pass p (x ∷ xs) a).0 ∙ span_from_begin p q (x ∷ xs) a)
 
   -- from the last that the first test accepts on, that one and then those between the two bounds
   pub last_and_between : ((x : X) → p x ≡ true → q x ≡ true) → (xs : List X) → IsPartitioned p xs

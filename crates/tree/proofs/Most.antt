@@ -1,5 +1,5 @@
 -- The greatest of a version, which may be missing, and those of items in parts.
-use Rattle.std.proofs.Common.{◌≡◌, ◌⊎◌, Bool, false, List, [], ◌∷◌, ◌++◌, Option, Some, None, IfSome, IsTrue, ◌↔◌, filter, All, Any, refl, sym, ap, subst, ◌∙◌, inl, inr, arith, append-nil, append_assoc}
+use Rattle.std.proofs.Common.{◌≡◌, ◌⊎◌, Bool, false, List, [], ◌∷◌, ◌++◌, Option, Some, None, IfSome, IsTrue, ◌↔◌, filter, flat_map, All, Any, refl, sym, ap, subst, ◌∙◌, inl, inr, arith, append-nil, append_assoc}
 use Rattle.std.specs.Prelude.{ℤ, ◌≤ℤ◌, ◌<ℤ◌}
 use Rattle.std.specs.Int.{int_max}
 use Rattle.std.proofs.lemmas.Int.{ints, clamps, to_z-of_z}
@@ -8,10 +8,10 @@ use mir.Val.{SFits, to_z, of_z}
 use Rattle.std.proofs.lemmas.List.Elements.{All-nil, All-append, All-weaker, All-filter}
 use Rattle.keys.proofs.callers.SomeElement.{Any-parts, Any-left, Any-right}
 use Rattle.tree.specs.declared.entry.Entry.{Entry}
-use Rattle.tree.specs.Item.{Item, Tells, IsGreatestWith, greater_of}
+use Rattle.tree.specs.Item.{Item, Tells, IsGreatestWith, greater_of, version_of}
 use Rattle.tree.proofs.callers.Partitions.{All-front, All-back}
 use Rattle.tree.proofs.Greatest.{one_of_both}
-use Rattle.tree.proofs.GreatestParts.{IsPeak, Bounds, Reaches, higher}
+use Rattle.tree.proofs.GreatestParts.{IsPeak, IsPeak-children, Bounds, Reaches, higher}
 
 -- beside the greatest version of the items alone
 pub most_with : (least peak : Option ℤ) (xs : List Item) → IsPeak (λ (x : Item). x.version) peak xs
@@ -24,6 +24,11 @@ most_with (Some l) (Some v) xs h = record {
   least_bound = omega (arith, ints, clamps);
   reached = elim (one_of_both l v) [ inl e ↦ inl (ap Some e) | inr e ↦ inr (rw (← e) h.reached) ];
 }
+
+-- beside that of whole children
+pub most_between : (least peak most : Option ℤ) (below : Entry → List Item) (es : List Entry) → All (λ e. Tells e (below e)) es
+    → IsPeak version_of peak es → most ≡ greater_of least peak → IsGreatestWith least (flat_map below es) most
+most_between least peak most below es tell told same = rw same (most_with least peak _ (IsPeak-children below peak es tell told))
 
 least_higher : (least : Option ℤ) (v w : ℤ) → v ≤ℤ w → IfSome least (λ l. l ≤ℤ v) → IfSome least (λ l. l ≤ℤ w)
 least_higher None v w le h = tt
@@ -67,8 +72,9 @@ most_of_parts a b c d whole l m r parts i j k =
     rw (parts, ← append_assoc l m r) (most_append a c d (l ++ m) r (most_swapped a c m l (most_append a b c m l i j)) k)
 
 -- a subtree that has none above the version is passed over
-pub most_passed : (least : Option ℤ) (e : Entry) (xs : List Item) (p : Item → Bool) (above : Bool) → SFits w64 e.version → Tells e xs
-    → above ≡ false → (IsTrue above ↔ IfSome least (λ l. l <ℤ to_z w64 (of_z w64 e.version))) → IsGreatestWith least (filter p xs) least
+pub most_passed : (least : Option ℤ) (e : Entry) (xs : List Item) (p : Item → Bool) (above : Bool) → SFits w64 e.version
+    → Tells e xs → above ≡ false → (IsTrue above ↔ IfSome least (λ l. l <ℤ to_z w64 (of_z w64 e.version)))
+    → IsGreatestWith least (filter p xs) least
 most_passed None e xs p above fits tells fails told = let yes = told.1 tt in absurd (cc)
 most_passed (Some l) e xs p above fits tells fails told =
     let same = to_z-of_z w64 e.version fits in

@@ -68,8 +68,7 @@ module _ {X : Type 0} (p : X → Bool) where
       → All (λ y. p y ≡ false) zs → x ∷ xs ≡ ys ++ x ∷ zs → All (λ y. p y ≡ false) xs
   all_behind x xs [] zs f a b e = let k : zs ≡ xs = cc in subst (All (λ y. p y ≡ false)) k b
   all_behind x xs (y ∷ ys) zs f a b e =
-      let k : y ≡ x = cc in
-      absurd (not_both (p x) (subst (λ z. p z ≡ true) k (All-head (λ z. p z ≡ true) y ys a)) f)
+      let k : y ≡ x = cc in absurd (not_both (p x) (rw (← k) (All-head (λ z. p z ≡ true) y ys a)) f)
 
   pub Falls-below_from : (xs : List X) → IsPartitioned p xs → Falls p xs
   Falls-below_from [] e = tt
@@ -85,11 +84,8 @@ module _ {X : Type 0} (p : X → Bool) where
 
   pub IsPartitioned-from_falls : (xs : List X) → Falls p xs → IsPartitioned p xs
   IsPartitioned-from_falls [] f = refl
-  IsPartitioned-from_falls (x ∷ xs) f =
-      elim f [
-        | inl h ↦ let t = h.0 in rw t (ap (λ ys. x ∷ ys) (IsPartitioned-from_falls xs h.1))
-        | inr h ↦ let f = h.0 in let n = none_pass xs h.1 in rw (f, n.0, n.1) refl
-      ]
+  IsPartitioned-from_falls (x ∷ xs) (inl h) = rw h.0 (ap (λ ys. x ∷ ys) (IsPartitioned-from_falls xs h.1))
+  IsPartitioned-from_falls (x ∷ xs) (inr h) = let n = none_pass xs h.1 in rw (h.0, n.0, n.1) refl
 
   Falls-parts : (xs ys : List X) → Falls p (xs ++ ys)
       → Falls p xs × Falls p ys × (All (λ x. p x ≡ true) xs ⊎ All (λ x. p x ≡ false) ys)
@@ -143,7 +139,8 @@ module _ {X : Type 0} (p : X → Bool) where
       let front = none_fail (take i xs) (λ k d within.
       let before : k < i = omega (arith, length-take i xs) in
       rw (get_or-take i xs k d before) (h.0 k d (omega arith) before)) in
-      let back = none_pass (drop i xs) (λ k d within. rw (get_or-drop i xs k d) (h.1 (i + k) d (omega arith) (omega (arith, length-drop i xs)))) in (
+      let back = none_pass (drop i xs) (λ k d within.
+      rw (get_or-drop i xs k d) (h.1 (i + k) d (omega arith) (omega (arith, length-drop i xs)))) in (
         cc (take-append-drop i xs, filter-append p (take i xs) (drop i xs), front.0, back.0, append-nil (take i xs)),
         cc (take-append-drop i xs, filter-append (λ x. not (p x)) (take i xs) (drop i xs), front.1, back.1),
       )

@@ -32,25 +32,16 @@ pub none_or_some : (n : ℕ) → (n ≡ 0) ⊎ (1 ≤ n)
 none_or_some zero = inl refl
 none_or_some (suc n) = inr (omega arith)
 
-contains_cases : (x s : ℕ) (xs : List ℕ) → Contains (x ∷ xs) s → (x ≡ s) ⊎ Contains xs s
-contains_cases x s xs (zero, within, is) = inl is
-contains_cases x s xs (suc k, within, is) = inr (k, omega arith, is)
-
-contains_later : (x s : ℕ) (xs : List ℕ) → Contains xs s → Contains (x ∷ xs) s
-contains_later x s xs (k, within, is) = (suc k, omega arith, is)
-
 pub times_if_contains : (s : ℕ) (xs : List ℕ) → Contains xs s → 1 ≤ times s xs
 times_if_contains s [] h = absurd (omega (arith, h.1))
-times_if_contains s (x ∷ xs) h = elim (contains_cases x s xs h) [
-  | inl same ↦ rw same (omega (arith, once_same s))
-  | inr later ↦ omega (arith, times_if_contains s xs later)
-]
+times_if_contains s (x ∷ xs) (zero, within, is) = rw is (omega (arith, once_same s))
+times_if_contains s (x ∷ xs) (suc k, within, is) = omega (arith, times_if_contains s xs (k, omega arith, is))
 
 pub contains_if_times : (s : ℕ) (xs : List ℕ) → 1 ≤ times s xs → Contains xs s
 contains_if_times s [] h = absurd (omega arith)
 contains_if_times s (x ∷ xs) h = elim (once_cases s x) [
   | inl same ↦ (zero, omega arith, same.0)
-  | inr other ↦ contains_later x s xs (contains_if_times s xs (omega (arith, other.1)))
+  | inr other ↦ let there = contains_if_times s xs (omega (arith, other.1)) in (suc there.0, omega (arith, there.1), there.2)
 ]
 
 pub times_unless_contains : (s : ℕ) (xs : List ℕ) → ¬ Contains xs s → times s xs ≡ 0

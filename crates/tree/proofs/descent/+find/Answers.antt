@@ -4,9 +4,10 @@ use Rattle.tree.specs.Heads.{IsPrefixLenAt}
 use Rattle.tree.specs.Node.{entries_of}
 use Rattle.tree.specs.Path.{index_in}
 use Rattle.tree.specs.Tree.{least_of}
-use Rattle.tree.proofs.Found.{IsFound, entries_read, read_partitioned, found, found_subtree, found_partitioned, found_leaf}
+use Rattle.tree.proofs.Found.{IsFound, entries_read, found, found_subtree, found_partitioned, found_leaf}
 use Rattle.tree.proofs.FirstKeys.{known_below, some_below}
 use Rattle.tree.proofs.Headed.{headed_at}
+use Rattle.tree.proofs.Looks.{look_bound}
 use Rattle.tree.proofs.Keys.{key_behind_child}
 use Rattle.tree.proofs.descent.+find.Given.{Over}
 use Rattle.tree.proofs.descent.+find.Goals as goal
@@ -23,7 +24,7 @@ step-step-requires g t c =
       record {
         can_find = record {
           headed = headed_at (g.P.Bound.bytes c.args.bound.now) c.args.nodes.now c.args.slot header can.headed h;
-          partitioned = read_partitioned _ _ c.args.height c.args.slot _ header _ c.if-height-eq0.false can.subtree can.partitioned h refl;
+          partitioned = look_bound _ _ c.args.height _ _ header _ can.subtree can.partitioned h refl;
           some = omega (arith, some);
         };
         known = rw read at c.requires.known;
@@ -46,14 +47,7 @@ find-requires g t c κs within =
     let known = known_below _ _ _ _ _ _ f (g.P.Bound.bytes c.args.bound.now) (g.P.Bound.target c.args.bound.now)
     c.step-step.result.common_prefix_len _ c.step-step.result.index c.header_ref-node.ensures.header
     c.step-step.ensures.step.index_is c.step-step.ensures.step.knows in
-    search (
-      rules,
-      found_subtree _ _ _ _ _ _ f,
-      some_below _ _ _ _ _ _ f some,
-      found_partitioned _ _ _ _ _ _ f,
-      c.requires.can_reach.headed,
-      known,
-    )
+    search (rules, known, found_subtree _ _ _ _ _ _ f, some_below _ _ _ _ _ _ f some, found_partitioned _ _ _ _ _ _ f)
 
 pub returns-clause-leaf : goal.returns-clause-leaf
 returns-clause-leaf g t c =

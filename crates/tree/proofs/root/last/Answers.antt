@@ -37,13 +37,8 @@ returns g c =
     let es = entries_at nodes c.reach-reached.result.leaf in
     let header = c.header_ref-leaf.result.now in
     let p = λ (e : Entry). is_below e.key in
-    let leaf : IsLeaf is_below (items_in nodes root.height root.slot) (before_leaf nodes root.height root.slot is_below)
-    (behind_leaf nodes root.height root.slot is_below) es = record {
-      items_are = found.items_are;
-      pass = found.before;
-      fail = found.after;
-      none = found.none;
-    } in
+    let leaf : IsLeaf is_below _ _ _ es =
+    record { items_are = found.items_are; pass = found.before; fail = found.after; none = found.none } in
     let read : es ≡ entries_of header = entries_read nodes _ header _ c.header_ref-leaf.ensures.header refl in
     let passed : take (length (filter p es)) es ≡ filter p es =
     ap (take (length (filter p es))) found.partitioned ∙ take-append_seam (filter p es) (filter (λ e. not (p e)) es) in

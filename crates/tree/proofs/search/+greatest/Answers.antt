@@ -11,7 +11,7 @@ use Rattle.tree.proofs.Spans.{span}
 use Rattle.tree.proofs.Looks.{IsLook, look_of, look_bound, from_asked, to_asked, ask_from, ask_to, ask_any, look_ordered, leaf_look}
 use Rattle.tree.proofs.Halves.{AreHalves, left_items, right_items, middle_items, left_span, right_span, left_tells, right_tells, middle_tells, left_subtree, left_from, left_to, right_subtree, right_to, apart, in_one, in_two}
 use Rattle.tree.proofs.GreatestParts.{IsPeak-leaf, IsPeak-children}
-use Rattle.tree.proofs.Most.{most_with, most_of_parts, most_passed}
+use Rattle.tree.proofs.Most.{most_with, most_between, most_of_parts, most_passed}
 use Rattle.tree.proofs.search.+greatest.Given.{Over}
 use Rattle.tree.proofs.search.+greatest.Goals as goal
 use Rattle.tree.proofs.search.+greatest.Goals.{After-end_of-end, After-index-entries-last, After-is_above-3, then-is_above, else-is_above}
@@ -119,16 +119,7 @@ returns-then-first-last g t c =
     let h = halves g t (goal.at.returns-then-first-last g t c).After-index-entries-last in
     record { greatest = rw (in_one h c.if-first-last.true) c.greatest.ensures.greatest }
 
--- the greatest version once the children between the two are looked at
-between_two : (g : Over) (t : ℕ) (c : After-is_above-3 g t) (below : Entry → List Item)
-    → All (λ e. Tells e (below e)) (slice_range c.entries-entries.result.now (c.saturating_sub-first.result + 1) c.saturating_sub-last.result)
-    → IsGreatestWith c.args.least (flat_map below
-    (slice_range c.entries-entries.result.now (c.saturating_sub-first.result + 1) c.saturating_sub-last.result)) c.greater-most.result
-between_two g t c below tell =
-    rw c.greater-most.ensures.greater
-    (most_with c.args.least _ _ (IsPeak-children below _ _ tell c.greatest_of-2.ensures.greatest))
-
--- then the left one
+-- the greatest version once the left child is looked at too
 sooner : (g : Over) (t : ℕ) (c : After-is_above-3 g t)
     → Tells c.index-entries-first.result (items_in c.args.nodes.now (c.args.height - 1) c.index-entries-first.result.child)
     → IsGreatestWith c.greater-most.result
@@ -149,8 +140,8 @@ returns-then-is_above-2 g t c =
     let h = halves g t at.After-index-entries-last in
     record {
       greatest = most_of_parts _ _ _ _ _ (left_span h) (middle_items h) (right_span h) (in_two h c.if-first-last.false)
-          (between_two g t at.After-is_above-3 _ (middle_tells h)) (sooner g t at.After-is_above-3 (left_tells h))
-          c.greatest-most-then-is_above-2.ensures.greatest;
+          (most_between _ _ _ _ _ (middle_tells h) c.greatest_of-2.ensures.greatest c.greater-most.ensures.greater)
+          (sooner g t at.After-is_above-3 (left_tells h)) c.greatest-most-then-is_above-2.ensures.greatest;
     }
 
 pub returns-else-is_above-2 : goal.returns-else-is_above-2
@@ -161,5 +152,6 @@ returns-else-is_above-2 g t c =
     (search rules) (right_tells h) c.if-is_above-2.false c.is_above-3.ensures.above in
     record {
       greatest = most_of_parts _ _ _ _ _ (left_span h) (middle_items h) (right_span h) (in_two h c.if-first-last.false)
-          (between_two g t at.After-is_above-3 _ (middle_tells h)) (sooner g t at.After-is_above-3 (left_tells h)) later;
+          (most_between _ _ _ _ _ (middle_tells h) c.greatest_of-2.ensures.greatest c.greater-most.ensures.greater)
+          (sooner g t at.After-is_above-3 (left_tells h)) later;
     }

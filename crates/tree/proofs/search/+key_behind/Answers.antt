@@ -1,12 +1,13 @@
 use Rattle.std.proofs.Common.{rules, ◌∙◌}
-use Rattle.tree.proofs.Found.{leaf_partitioned, read_partitioned, found, found_subtree, found_partitioned}
+use Rattle.tree.proofs.Found.{found, found_subtree, found_partitioned}
 use Rattle.tree.proofs.Keys.{key_of_leaf, key_of_child}
+use Rattle.tree.proofs.Looks.{look_bound}
 use Rattle.tree.proofs.search.+key_behind.Goals as goal
 
 pub lower_bound-requires : goal.lower_bound-requires
 lower_bound-requires g t c = record {
-  partitioned = leaf_partitioned c.args.nodes.now c.args.height c.args.slot (g.P.Bound.below c.args.bound.now) _ _ c.if-height-eq0.true
-      c.requires.partitioned c.header_ref.ensures.header c.entries-entries.ensures.entries;
+  partitioned = look_bound _ _ c.args.height _ _ _ _ c.requires.subtree c.requires.partitioned c.header_ref.ensures.header
+      c.entries-entries.ensures.entries;
 }
 
 pub returns-then-height-eq0 : goal.returns-then-height-eq0
@@ -18,8 +19,8 @@ returns-then-height-eq0 g t c = record {
 
 pub index_of-index-requires-clause-partitioned : goal.index_of-index-requires-clause-partitioned
 index_of-index-requires-clause-partitioned g t c =
-    read_partitioned _ _ c.args.height c.args.slot (g.P.Bound.below c.args.bound.now) _ _ c.if-height-eq0.false
-    c.requires.subtree c.requires.partitioned c.header_ref.ensures.header c.entries-entries.ensures.entries
+    look_bound _ _ c.args.height _ _ _ _ c.requires.subtree c.requires.partitioned c.header_ref.ensures.header
+    c.entries-entries.ensures.entries
 
 pub key_behind-requires : goal.key_behind-requires
 key_behind-requires g t c κs within =
