@@ -36,7 +36,7 @@ module _ {N : ℕ} (nodes : Arena (Node N)) (least : ℕ) where
       → k * length (slots_in nodes height slot) + length (entries_at nodes slot) ≤ length (items_in nodes height slot) + k
   few_nodes k one_less zero slot s = omega (arith, length-map (entries_at nodes slot) item_of)
   few_nodes k one_less (suc height) slot s =
-      let each = fill_each k 1 height (λ t h filled. omega (arith, few_nodes k one_less height t h)) (entries_at nodes slot) s.2 in
+      let each = fill_each k 1 height (λ t h filled. omega (arith, few_nodes k one_less height t h)) _ s.2 in
       omega (arith, each)
 
   -- Each level has twice as many items.
@@ -45,12 +45,13 @@ module _ {N : ℕ} (nodes : Arena (Node N)) (least : ℕ) where
   many_items two zero slot s several = omega (arith, length-map (entries_at nodes slot) item_of)
   many_items two (suc height) slot s several =
       let bound = 2 * 2 ^ height in
-      let each = fill_each 0 bound height (λ t h filled. omega (arith, many_items two height t h (omega arith))) (entries_at nodes slot) s.2 in
+      let each = fill_each 0 bound height (λ t h filled. omega (arith, many_items two height t h (omega arith))) _ s.2 in
       let power : 2 ^ suc height ≡ 2 ^ height + 2 ^ height = two-pow-succ height in
       omega (arith, each, power, mul-le-mul_left bound several)
 
 -- a tree that a machine can count is lower than 63
-pub low : {N : ℕ} (nodes : Arena (Node N)) (root height len room : ℕ) → IsTree nodes root height len room → len < 2 ^ 64 → height < 63
+pub low : {N : ℕ} (nodes : Arena (Node N)) (root height len room : ℕ) → IsTree nodes root height len room
+    → len < 2 ^ 64 → height < 63
 low {N} nodes root height len room t fits = elim (cases_lt height 63) [
   | inl less ↦ less
   | inr high ↦
@@ -60,7 +61,8 @@ low {N} nodes root height len room t fits = elim (cases_lt height 63) [
 ]
 
 -- enough nodes are spare for a change
-pub enough_spare : {N : ℕ} (nodes : Arena (Node N)) (root height len room : ℕ) → IsTree nodes root height len room → 66 ≤ spare_of nodes 0
+pub enough_spare : {N : ℕ} (nodes : Arena (Node N)) (root height len room : ℕ) → IsTree nodes root height len room
+    → 66 ≤ spare_of nodes 0
 enough_spare {N} nodes root height len room t = elim (cases_lt (spare_of nodes 0) 66) [
   | inl few ↦
       let k = least_of N - 1 in

@@ -15,9 +15,11 @@ module _ {X : Type 0} where
   take-removed xs ys len from to room ordered within after =
       let head = take from xs in
       let moved = take (len - to) (drop to xs) in
-      let size : length (head ++ moved) ≡ len - (to - from) =
-      omega (arith, length-append head moved, length-take-le from xs (omega arith), length-take-le (len - to) (drop to xs) (omega (arith, length-drop to xs))) in
-      cc (take_at (head ++ moved) (drop (from + (len - to)) xs) _ size, take-take from len xs (omega arith), drop-front xs len to within)
+      let head_len = length-take-le from xs (omega arith) in
+      let moved_len = length-take-le (len - to) (drop to xs) (omega (arith, length-drop to xs)) in
+      let size : length (head ++ moved) ≡ len - (to - from) = omega (arith, length-append head moved, head_len, moved_len) in
+      let front = take-take from len xs (omega arith) in
+      cc (take_at (head ++ moved) (drop (from + (len - to)) xs) _ size, front, drop-front xs len to within)
 
   -- entries of which those from an index on are cut off
   pub take-cut : (xs ys : List X) (len at : ℕ) → len ≤ length xs → at ≤ len → ys ≡ copy_within xs len len at

@@ -1,5 +1,5 @@
 -- The child at which a bound goes on, as the code finds it.
-use Rattle.std.proofs.Common.{◌≡◌, ℕ, zero, suc, ◌-◌, Bool, false, List, [], ◌∷◌, Some, option_map, unwrap_or, map, slice_get, slice_index_or, All, sym, ◌∙◌, ap, subst, refl, inl, inr, arith}
+use Rattle.std.proofs.Common.{◌≡◌, ℕ, zero, suc, ◌-◌, ◌<◌, Bool, false, List, [], ◌∷◌, length, Some, option_map, unwrap_or, map, slice_get, slice_index_or, All, sym, ◌∙◌, ap, subst, refl, inl, inr, arith}
 use Rattle.std.proofs.lemmas.Option.{get_or_from_slice_get}
 use Rattle.std.proofs.lemmas.List.{get_or-map, length-map}
 use Rattle.arena.specs.Arena.{Arena, header_at}
@@ -17,31 +17,6 @@ pub entries_read : {N : ℕ} (nodes : Arena (Node N)) (slot : ℕ) (header : Nod
     → header_at nodes slot ≡ Some header → es ≡ entries_of header → entries_at nodes slot ≡ es
 entries_read nodes slot header es h e = ap (λ o. unwrap_or (option_map entries_of o) []) h ∙ sym e
 
--- The child is that of the entry that the bound finds.
-pub record IsFound {N : ℕ} (nodes : Arena (Node N)) (least height slot : ℕ) (is_below : ℕ → Bool) (child : ℕ)
-    : Type 0 where
-  pub lower : suc (height - 1) ≡ height
-  pub way : IsWay nodes least (height - 1) slot is_below
-  pub is : child ≡ way.entry.child
-
--- what the bound says of the node, at any height above the leaves
-way_at : {N : ℕ} (nodes : Arena (Node N)) (least height slot : ℕ) (is_below : ℕ → Bool) → (height ≡ 0 → ⊥)
-    → IsSubtree nodes least height slot → IsPartitioned (λ x. is_below x.key) (items_in nodes height slot)
-    → IsWay nodes least (height - 1) slot is_below
-way_at nodes least zero slot is_below some s c = absurd (some refl)
-way_at nodes least (suc height) slot is_below some s c =
-    let e : suc height - 1 ≡ height = omega arith in rw e (way nodes least height slot is_below s c)
-
-pub found : {N : ℕ} (nodes : Arena (Node N)) (least height slot : ℕ) (is_below : ℕ → Bool) (header : Node N)
-    (es : List Entry) (index : ℕ) (d : Entry) → (height ≡ 0 → ⊥) → IsSubtree nodes least height slot
-    → IsPartitioned (λ x. is_below x.key) (items_in nodes height slot) → header_at nodes slot ≡ Some header
-    → es ≡ entries_of header → index ≡ index_in is_below es
-    → IsFound nodes least height slot is_below (slice_index_or es index d).child
-found nodes least height slot is_below header es index d some s c h e i =
-    let w = way_at nodes least height slot is_below some s c in
-    let at : slice_get es index ≡ Some w.entry = rw (i, ← entries_read nodes slot header es h e) w.is in
-    record { lower = omega arith; way = w; is = ap (λ (x : Entry). x.child) (get_or_from_slice_get es index w.entry d at) }
-
 pub partitioned-entries : (p : Item → Bool) (es : List Entry) → IsPartitioned p (map item_of es)
     → IsPartitioned (λ e. p (item_of e)) es
 partitioned-entries p es c =
@@ -51,26 +26,49 @@ partitioned-entries p es c =
     falls [] f = tt
     falls (e ∷ es) (inl h) = inl (h.0, falls es h.1)
     falls (e ∷ es) (inr h) =
-        inr (h.0, λ k d w. rw (← get_or-map item_of es k d (item_of d) w) (h.1 k (item_of d) (omega (arith, length-map es item_of))))
+        let fails = λ (k : ℕ) (d : Entry) (w : k < length es). rw (get_or-map item_of es k d (item_of d) w) at
+        (h.1 k (item_of d) (omega (arith, length-map es item_of))) in
+        inr (h.0, fails)
 
--- The entries of a node above the leaves, as the code has read them, are partitioned.
-pub read_partitioned : {N : ℕ} (nodes : Arena (Node N)) (least height slot : ℕ) (is_below : ℕ → Bool) (header : Node N)
-    (es : List Entry) → (height ≡ 0 → ⊥) → IsSubtree nodes least height slot
-    → IsPartitioned (λ x. is_below x.key) (items_in nodes height slot) → header_at nodes slot ≡ Some header
-    → es ≡ entries_of header → IsPartitioned (λ e. is_below e.key) es
-read_partitioned nodes least height slot is_below header es some s c h e =
-    rw (entries_read nodes slot header es h e) at (way_at nodes least height slot is_below some s c).entries
+module _ {N : ℕ} (nodes : Arena (Node N)) (least height slot : ℕ) (is_below : ℕ → Bool) where
+  -- The child is that of the entry that the bound finds.
+  pub record IsFound (child : ℕ) : Type 0 where
+    pub lower : suc (height - 1) ≡ height
+    pub way : IsWay nodes least (height - 1) slot is_below
+    pub is : child ≡ way.entry.child
 
-module _ {N : ℕ} (nodes : Arena (Node N)) (least height slot : ℕ) (is_below : ℕ → Bool) (child : ℕ)
-    (f : IsFound nodes least height slot is_below child) where
-  pub found_subtree : IsSubtree nodes least (height - 1) child
-  found_subtree = rw f.is f.way.kept.subtree
+  -- what the bound says of the node, at any height above the leaves
+  way_at : (height ≡ 0 → ⊥) → IsSubtree nodes least height slot → IsPartitioned (λ x. is_below x.key) (items_in nodes height slot)
+      → IsWay nodes least (height - 1) slot is_below
+  way_at some s c =
+      let lower : height ≡ suc (height - 1) = omega arith in
+      way nodes least (height - 1) slot is_below (subst (λ n. IsSubtree nodes least n slot) lower s)
+      (subst (λ n. IsPartitioned (λ (x : Item). is_below x.key) (items_in nodes n slot)) lower c)
 
-  pub found_partitioned : IsPartitioned (λ x. is_below x.key) (items_in nodes (height - 1) child)
-  found_partitioned = rw f.is f.way.partitioned
+  module _ (header : Node N) (es : List Entry) where
+    pub found : (index : ℕ) (d : Entry) → (height ≡ 0 → ⊥) → IsSubtree nodes least height slot
+        → IsPartitioned (λ x. is_below x.key) (items_in nodes height slot) → header_at nodes slot ≡ Some header
+        → es ≡ entries_of header → index ≡ index_in is_below es → IsFound (slice_index_or es index d).child
+    found index d some s c h e i =
+        let w = way_at some s c in
+        let at : slice_get es index ≡ Some w.entry = rw (i, ← entries_read nodes slot header es h e) w.is in
+        let child = ap (λ (x : Entry). x.child) (get_or_from_slice_get es index w.entry d at) in
+        record { lower = omega arith; way = w; is = child }
 
-  pub found_leaf : (leaf : ℕ) → leaf ≡ leaf_in nodes (height - 1) child is_below
-      → leaf ≡ leaf_in nodes height slot is_below
-  found_leaf leaf e =
-      subst (λ n. leaf ≡ leaf_in nodes n slot is_below) f.lower
-      (subst (λ s. leaf ≡ leaf_in nodes (height - 1) s is_below) (f.is ∙ f.way.child) e)
+    -- The entries of a node above the leaves, as the code has read them, are partitioned.
+    pub read_partitioned : (height ≡ 0 → ⊥) → IsSubtree nodes least height slot
+        → IsPartitioned (λ x. is_below x.key) (items_in nodes height slot) → header_at nodes slot ≡ Some header
+        → es ≡ entries_of header → IsPartitioned (λ e. is_below e.key) es
+    read_partitioned some s c h e = rw (entries_read nodes slot header es h e) at (way_at some s c).entries
+
+  module _ (child : ℕ) (f : IsFound child) where
+    pub found_subtree : IsSubtree nodes least (height - 1) child
+    found_subtree = rw f.is f.way.kept.subtree
+
+    pub found_partitioned : IsPartitioned (λ x. is_below x.key) (items_in nodes (height - 1) child)
+    found_partitioned = rw f.is f.way.partitioned
+
+    pub found_leaf : (leaf : ℕ) → leaf ≡ leaf_in nodes (height - 1) child is_below → leaf ≡ leaf_in nodes height slot is_below
+    found_leaf leaf e =
+        subst (λ n. leaf ≡ leaf_in nodes n slot is_below) f.lower
+        (subst (λ s. leaf ≡ leaf_in nodes (height - 1) s is_below) (f.is ∙ f.way.child) e)

@@ -2,18 +2,18 @@
 use Rattle.std.proofs.Common.{◌≡◌, ℕ, ◌+◌, ◌-◌, ◌≤◌, Bool, true, false, not, List, [], ◌∷◌, ◌++◌, length, take, drop, filter, map, refl, sym, ◌∙◌, ap, subst, inl, inr, arith, take-append-drop}
 use Rattle.std.specs.Prelude.{ℤ, ◌<ℤ◌, ◌≤ℤ◌, slice_range}
 use Rattle.std.proofs.lemmas.List.{drop-append-le, drop-take, drop-map, take-map, length-map, take_at}
-use Rattle.std.proofs.lemmas.List.Elements.{All-cons}
+use Rattle.std.proofs.lemmas.List.Elements.{All-cons, All-drop, All-filter}
 use Rattle.arena.specs.Arena.{Arena}
 use Rattle.tree.specs.declared.entry.Entry.{Entry}
 use Rattle.tree.specs.declared.node.Node.{Node}
 use Rattle.tree.specs.Item.{Item, Tells, item_of}
 use Rattle.tree.specs.Path.{IsPartitioned}
 use Rattle.tree.specs.Subtree.{items_in}
-use Rattle.tree.proofs.Above.{IsAbove, not_above_told}
+use Rattle.tree.proofs.Above.{IsAbove, not_above}
 use Rattle.tree.proofs.callers.Partitions.{Falls, Falls-below_from, none_pass}
+use Rattle.tree.proofs.GreatestParts.{Bounds}
 use Rattle.tree.proofs.Keys.{filter-items}
 use Rattle.tree.proofs.Looks.{IsLook, look_ordered}
-use Rattle.keys.proofs.callers.SomeElement.{Any-right}
 use Rattle.tree.proofs.Spans.{span, span_from_begin}
 
 -- the last of those that pass, alone
@@ -52,10 +52,8 @@ module _ {X : Type 0} (p q : X → Bool) where
 pub none_told : (v : ℤ) (e : Entry) (items : List Item) → Tells e items → e.version ≤ℤ v → (p q : Item → Bool)
     → IsAbove v (from_last_of p q items) → ⊥
 none_told v e items t le p q a =
-    let n = length (filter p items) - 1 in
-    let all = rw (take-append-drop n (filter q items)) at
-    (Any-right (λ (x : Item). v <ℤ x.version) (take n (filter q items)) (drop n (filter q items)) a) in
-    not_above_told v e items t le q all
+    let passed = All-filter q (Bounds e.version) items t.greatest.bound in
+    not_above v e.version _ (All-drop (Bounds e.version) (length (filter p items) - 1) (filter q items) passed) le a
 
 -- below a node
 module _ {N : ℕ} (nodes : Arena (Node N)) (least height slot : ℕ) (f t : ℕ → Bool) (es : List Entry)

@@ -19,8 +19,9 @@ module _ {X : Type 0} (version_at : X → ℤ) where
       → old ≤ℤ new → version_at x ≤ℤ new → IsGreatest version_at new (xs ++ x ∷ [])
   greatest-push xs x old new known value above_old above_new =
       let Below : X → Type 0 = λ y. version_at y ≤ℤ new in
+      let before = All-weaker (λ y. version_at y ≤ℤ old) Below (λ y h. omega (arith, ints)) xs known.bound in
       record {
-        bound = All-push Below xs x (All-weaker (λ y. version_at y ≤ℤ old) Below (λ y h. omega (arith, ints)) xs known.bound) above_new;
+        bound = All-push Below xs x before above_new;
         reached = elim (one_of_both old (version_at x)) [
           | inl e ↦ rw (value ∙ sym e) (Any-left (λ y. version_at y ≡ old) xs (x ∷ []) known.reached)
           | inr e ↦ rw (value ∙ sym e) (Any-push (λ y. version_at y ≡ version_at x) xs x refl)
@@ -29,8 +30,8 @@ module _ {X : Type 0} (version_at : X → ℤ) where
 
   -- the same where the next one is read of all but the first
   pub greatest-next : (all xs : List X) (i : ℕ) (x : X) (old new : ℤ) → xs ≡ all → i < length (take (length xs - 1) (drop 1 xs))
-      → x ≡ get_or (take (length xs - 1) (drop 1 xs)) i x → IsGreatest version_at old (take (i + 1) all) → new ≡ int_max old (version_at x)
-      → old ≤ℤ new → version_at x ≤ℤ new → IsGreatest version_at new (take (i + 1 + 1) all)
+      → x ≡ get_or (take (length xs - 1) (drop 1 xs)) i x → IsGreatest version_at old (take (i + 1) all)
+      → new ≡ int_max old (version_at x) → old ≤ℤ new → version_at x ≤ℤ new → IsGreatest version_at new (take (i + 1 + 1) all)
   greatest-next all xs i x old new same inside read known value above_old above_new =
       let count : i < length xs - 1 = omega (arith, length-between xs 1 (length xs) (omega arith)) in
       let order : 1 + i ≡ i + 1 = omega arith in

@@ -43,7 +43,8 @@ module _ (below : Entry → List Item) where
       (higher e.version v (below e) (All-head (Low v) e es a) (All-head Told e es t).greatest.bound)
       (children_bound v es (All-tail Told e es t) (All-tail (Low v) e es a))
 
-  children_reached : (v : ℤ) (es : List Entry) → All Told es → Any (λ e. version_of e ≡ v) es → Any (Reaches v) (flat_map below es)
+  children_reached : (v : ℤ) (es : List Entry) → All Told es → Any (λ e. version_of e ≡ v) es
+      → Any (Reaches v) (flat_map below es)
   children_reached v [] t a = absurd (Any-none (λ (e : Entry). version_of e ≡ v) a)
   children_reached v (e ∷ es) t a =
       elim (Any-cases (λ (e : Entry). version_of e ≡ v) e es a) [

@@ -56,8 +56,10 @@ module _ (es : List Entry) (begin end : ℕ) (some : begin < end) (most : end �
         first = item_of entry;
         looked = map item_of (run es begin end);
         rest = map item_of (drop end es);
-        front_is = parts.0 ∙ ap (map item_of) (take_more es begin default (omega arith)) ∙ map-append item_of (take begin es) (entry ∷ []);
-        looked_is = ap (λ xs. item_of entry ∷ xs) parts.1 ∙ ap (map item_of) (sym (drop_more es begin default (omega arith)) ∙ from_run)
+        front_is = parts.0 ∙ ap (map item_of) (take_more es begin default (omega arith))
+            ∙ map-append item_of (take begin es) (entry ∷ []);
+        looked_is = ap (λ xs. item_of entry ∷ xs) parts.1
+            ∙ ap (map item_of) (sym (drop_more es begin default (omega arith)) ∙ from_run)
             ∙ map-append item_of (run es begin end) (drop end es);
         looked_at = length-map (run es begin end) item_of ∙ size ∙ sym looked_at;
         some = omega (arith, looked_at);

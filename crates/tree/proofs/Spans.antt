@@ -110,18 +110,6 @@ module _ {X : Type 0} (below : Entry → List X) (p q : X → Bool) (es : List E
       ap (λ xs. span p q (flat_map below xs)) (around_element es i d inside)
       ∙ simp (flat_map-append, filter-append, span_before p q a front, span_behind p q b behind, append-nil)
 
-  two_elements : i < j → j < length es
-      → drop (i + 1) es ≡ slice_range es (i + 1) j ++ get_or es j d ∷ drop (j + 1) es
-  two_elements lt inside =
-      let at : i + 1 + (j - (i + 1)) ≡ j = omega arith in
-      cc (take-append-drop (j - (i + 1)) (drop (i + 1) es), drop-drop (j - (i + 1)) (i + 1) es, drop_more es j d inside)
-
-  up_to_second : i < j → j < length es → take j es ≡ take i es ++ get_or es i d ∷ slice_range es (i + 1) j
-  up_to_second lt inside =
-      let at : i + 1 + (j - (i + 1)) ≡ j = omega arith in
-      let here = append_assoc (take i es) (get_or es i d ∷ []) (slice_range es (i + 1) j) in
-      cc (take-add (i + 1) (j - (i + 1)) es, take_more es i d (omega arith), here)
-
   -- where they lie in two
   pub span_of_two : i < j → j < length es
       → span p q (flat_map below es)
@@ -133,10 +121,15 @@ module _ {X : Type 0} (below : Entry → List X) (p q : X → Bool) (es : List E
       let m = flat_map below (slice_range es (i + 1) j) in
       let r = below (get_or es j d) in
       let b = flat_map below (drop (j + 1) es) in
+      let k = j - (i + 1) in
+      let at : i + 1 + k ≡ j = omega arith in
+      let behind = flat_map-append below (slice_range es (i + 1) j) (get_or es j d ∷ drop (j + 1) es) in
       let rest : flat_map below (drop (i + 1) es) ≡ m ++ (r ++ b) =
-      cc (two_elements lt inside, flat_map-append below (slice_range es (i + 1) j) (get_or es j d ∷ drop (j + 1) es)) in
+      cc (behind, take-append-drop k (drop (i + 1) es), drop-drop k (i + 1) es, drop_more es j d inside) in
+      let here = append_assoc (take i es) (get_or es i d ∷ []) (slice_range es (i + 1) j) in
+      let before = flat_map-append below (take i es) (get_or es i d ∷ slice_range es (i + 1) j) in
       let begin : flat_map below (take j es) ≡ a ++ (l ++ m) =
-      cc (up_to_second lt inside, flat_map-append below (take i es) (get_or es i d ∷ slice_range es (i + 1) j)) in
+      cc (before, here, take-add (i + 1) k es, take_more es i d (omega arith)) in
       let within : i < length es = omega arith in
       let whole : flat_map below es ≡ a ++ (l ++ (m ++ (r ++ b))) =
       cc (around_element es i d within, flat_map-append below (take i es) (get_or es i d ∷ drop (i + 1) es), rest) in
@@ -147,6 +140,5 @@ module _ {X : Type 0} (below : Entry → List X) (p q : X → Bool) (es : List E
       let left_is = span_to_end p q l (All-front (λ x. q x ≡ true) l m before) in
       let middle_is = span_all p q m m_after (All-back (λ x. q x ≡ true) l m before) in
       let right_is = span_from_begin p q r r_after in
-      let none_first = span_before p q a front in
-      let none_last = span_behind p q b back in
-      ap (span p q) whole ∙ simp (filter-append, none_first, left_is, middle_is, none_last, append-nil, right_is)
+      ap (span p q) whole
+      ∙ simp (filter-append, span_before p q a front, left_is, middle_is, span_behind p q b back, append-nil, right_is)

@@ -22,9 +22,6 @@ pub enough_nodes : (k room total : ℕ) → 1 ≤ k → room / k + 67 ≤ total 
 enough_nodes k room total some many = omega (arith, mul-le-mul_left k many)
 
 module _ {N : ℕ} where
-  keyless_empty : (a : Arena (Node N)) → a.records ≡ finite.empty → IsKeyless a
-  keyless_empty a empty s = rw (empty, finite.get-empty nat_cmp s) tt
-
   -- a tree of a single node of one entry, placed in an arena without records
   pub tree_of_one : (a b : Arena (Node N)) (slot : ℕ) (node : Node N) (e : Entry) → 4 ≤ N → N ≤ 65536
       → a.records ≡ finite.empty → way + 1 ≤ spare_of a 0 → record_at a slot ≡ None
@@ -33,10 +30,9 @@ module _ {N : ℕ} where
       → ((s : ℕ) → s ≢ slot → record_at b s ≡ record_at a s)
       → spare_of b 0 + 1 ≡ spare_of a 0 → entries_of node ≡ e ∷ [] → IsTree b slot 0 1 1
   tree_of_one a b slot node e fan_out few empty enough free placed here others spare one =
-      let moves = moves_placed a b slot node (keyless_empty a empty) free placed here others spare in
+      let moves = moves_placed a b slot node (λ s. rw (empty, finite.get-empty nat_cmp s) tt) free placed here others spare in
       let none : finite.len a.records ≡ 0 = ap finite.len empty ∙ finite.len-empty nat_cmp (Record (Node N)) in
       let linked : finite.len b.records ≡ 1 = omega (arith, moves.live) in
-      let entries : entries_at b slot ≡ e ∷ [] = rw here one in
       let total : 67 ≤ finite.len b.records + spare_of b 0 = omega arith in
       record {
         fan_out = fan_out;
@@ -48,36 +44,31 @@ module _ {N : ℕ} where
           linked = linked;
           keyless = moves.keyless;
         };
-        counted = sym (ap (λ es. length (map item_of es)) entries);
+        counted = rw (here, one) refl;
         some = omega arith;
         within = omega arith;
         reserved = omega (arith, mul-le-mul_left (least_of N - 1) total);
       }
 
   -- the same nodes, with other spare ones
-  module _ (a b : Arena (Node N)) (root height : ℕ) where
-    agree : b.records ≡ a.records → Agree a b (slots_in a height root)
-    agree same s some = rw same refl
-
-    rooted_stays : b.records ≡ a.records → IsRooted a root height → IsRooted b root height
-    rooted_stays same r =
-        let slots = slots_same a b height root (agree same) in
-        record {
-          subtree = subtree_same a b (least_of N) height root (agree same) r.subtree;
-          branches = λ above. rw (agree_own a b height root (agree same)) (r.branches above);
-          distinct = rw slots r.distinct;
-          linked = rw (slots, same) r.linked;
-          keyless = λ s. rw same (r.keyless s);
-        }
-
-    pub tree_stays : (len room more : ℕ) → b.records ≡ a.records → IsTree a root height len room → room ≤ more
-        → more + (least_of N - 1) * way ≤ (least_of N - 1) * (finite.len a.records + spare_of b 0) → IsTree b root height len more
-    tree_stays len room more same t wider enough = record {
-      fan_out = t.fan_out;
-      few = t.few;
-      rooted = rooted_stays same t.rooted;
-      counted = rw (items_same a b height root (agree same)) t.counted;
-      some = t.some;
-      within = omega (arith, t.within);
-      reserved = rw same enough;
-    }
+  pub tree_stays : (a b : Arena (Node N)) (root height len room more : ℕ) → b.records ≡ a.records → IsTree a root height len room
+      → room ≤ more → more + (least_of N - 1) * way ≤ (least_of N - 1) * (finite.len a.records + spare_of b 0)
+      → IsTree b root height len more
+  tree_stays a b root height len room more same t wider enough =
+      let agree : Agree a b (slots_in a height root) = λ s some. rw same refl in
+      let slots = slots_same a b height root agree in
+      record {
+        fan_out = t.fan_out;
+        few = t.few;
+        rooted = record {
+          subtree = subtree_same a b (least_of N) height root agree t.rooted.subtree;
+          branches = λ above. rw (agree_own a b height root agree) (t.rooted.branches above);
+          distinct = rw slots t.rooted.distinct;
+          linked = rw (slots, same) t.rooted.linked;
+          keyless = λ s. rw same (t.rooted.keyless s);
+        };
+        counted = rw (items_same a b height root agree) t.counted;
+        some = t.some;
+        within = omega (arith, t.within);
+        reserved = rw same enough;
+      }

@@ -56,8 +56,7 @@ module _ {X : Type 0} (p : X → Bool) where
 
   pub failed : (xs : List X) → All (λ x. p x ≡ false) (filter (λ x. not (p x)) xs)
   failed xs =
-      All-weaker (λ x. not (p x) ≡ true) (λ x. p x ≡ false) (λ x. not_true (p x)) (filter (λ x. not (p x)) xs)
-      (filter_passes (λ x. not (p x)) xs)
+      All-weaker (λ x. not (p x) ≡ true) (λ x. p x ≡ false) (λ x. not_true (p x)) _ (filter_passes (λ x. not (p x)) xs)
 
   Falls-failing : (xs : List X) → All (λ x. p x ≡ false) xs → Falls p xs
   Falls-failing [] a = tt

@@ -10,9 +10,10 @@ pub returns : goal.returns
 returns g c =
     let is_below = g.P.Bound.below c.args.bound.now in
     let can = c.requires.can_reach in
-    let found = found_at_leaf _ _ c.args.root.height c.args.root.slot _ is_below can.subtree can.partitioned c.find.ensures.leaf in
-    let leaf = is_leaf _ _ c.args.root.height c.args.root.slot is_below _ _ can.subtree can.partitioned c.find.ensures.leaf
-    refl found.items found.before found.behind in
+    let at = c.find.ensures.leaf in
+    let found = found_at_leaf _ _ c.args.root.height c.args.root.slot _ is_below can.subtree can.partitioned at in
+    let leaf = is_leaf _ _ c.args.root.height c.args.root.slot is_below _ _ can.subtree can.partitioned at refl
+    found.items found.before found.behind in
     record {
       reached = record {
         live = search rules;

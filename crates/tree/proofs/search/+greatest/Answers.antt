@@ -18,8 +18,9 @@ use Rattle.tree.proofs.search.+greatest.Goals.{After-end_of-end, After-index-ent
 
 look : (g : Over) (t : ℕ) (c : After-end_of-end g t)
     → IsLook c.args.nodes.now (least_of g.row.N) c.args.height c.args.slot
-    (below_from (option_map (λ p. g.P.Bound.below p.now) c.args.from)) (below_to (option_map (λ q. g.Q.Bound.below q.now) c.args.to))
-    c.entries-entries.result.now c.begin_of-begin.result c.end_of-end.result
+    (below_from (option_map (λ p. g.P.Bound.below p.now) c.args.from))
+    (below_to (option_map (λ q. g.Q.Bound.below q.now) c.args.to)) c.entries-entries.result.now
+    c.begin_of-begin.result c.end_of-end.result
 look g t c =
     look_of _ _ _ _ (λ p. g.P.Bound.below p.now) (λ q. g.Q.Bound.below q.now) c.args.from c.args.to _ _ _ _
     c.requires.subtree c.requires.from c.requires.to c.requires.nested c.header_ref.ensures.header
@@ -58,7 +59,8 @@ returns-then-height-eq0 g t c =
 -- the two children that the search goes on in
 abbrev halves : (g : Over) (t : ℕ) (c : After-index-entries-last g t)
     → AreHalves c.args.nodes.now (least_of g.row.N) c.args.height c.args.slot
-    (below_from (option_map (λ p. g.P.Bound.below p.now) c.args.from)) (below_to (option_map (λ q. g.Q.Bound.below q.now) c.args.to))
+    (below_from (option_map (λ p. g.P.Bound.below p.now) c.args.from))
+    (below_to (option_map (λ q. g.Q.Bound.below q.now) c.args.to))
 halves g t c = record {
   es = c.entries-entries.result.now;
   begin = c.begin_of-begin.result;
@@ -79,13 +81,11 @@ halves g t c = record {
 
 pub slice_bounds-greatest_of-count-2 : goal.slice_bounds-greatest_of-count-2
 slice_bounds-greatest_of-count-2 g t c =
-    let at = (goal.at.slice_bounds-greatest_of-count-2 g t c).After-index-entries-last in
-    (apart (halves g t at) c.if-first-last.false).0
+    (apart (halves g t (goal.at.slice_bounds-greatest_of-count-2 g t c).After-index-entries-last) c.if-first-last.false).0
 
 pub slice_bounds-greatest_of-start-2 : goal.slice_bounds-greatest_of-start-2
 slice_bounds-greatest_of-start-2 g t c =
-    let at = (goal.at.slice_bounds-greatest_of-start-2 g t c).After-index-entries-last in
-    let le = apart (halves g t at) c.if-first-last.false in
+    let le = apart (halves g t (goal.at.slice_bounds-greatest_of-start-2 g t c).After-index-entries-last) c.if-first-last.false in
     search rules
 
 pub greatest-requires : goal.greatest-requires
