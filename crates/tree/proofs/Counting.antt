@@ -23,13 +23,10 @@ module _ {N : ℕ} (nodes : Arena (Node N)) (least : ℕ) where
   fill_each k j height each [] all = omega arith
   fill_each k j height each (e ∷ es) all =
       let own = All-head (IsRight nodes least height) e es all in
-      omega (
-        arith,
-        each e.child own.subtree own.filled,
-        fill_each k j height each es (All-tail (IsRight nodes least height) e es all),
-        length-append (items_in nodes height e.child) (items_of nodes height es),
-        ap (λ n. k * n) (length-append (slots_in nodes height e.child) (slots_of nodes height es)),
-      )
+      let later = fill_each k j height each es (All-tail (IsRight nodes least height) e es all) in
+      let items = length-append (items_in nodes height e.child) (items_of nodes height es) in
+      let slots = ap (λ n. k * n) (length-append (slots_in nodes height e.child) (slots_of nodes height es)) in
+      omega (arith, each e.child own.subtree own.filled)
 
   -- Each child takes the place of k items, and has one more.
   few_nodes : (k : ℕ) → k + 1 ≡ least → (height slot : ℕ) → IsSubtree nodes least height slot

@@ -27,13 +27,9 @@ module _ (es : List Entry) (begin end : ℕ) (some : begin < end) (most : end �
       → map item_of es ≡ map item_of (take begin es)
       ++ (unexpired edge before (map item_of (run es begin end)) ++ map item_of (drop end es))
   untouched edge before none =
-      cc (
-        all_stay edge before (map item_of (run es begin end)) none,
-        take-append-drop begin es,
-        from_run,
-        map-append item_of (take begin es) (drop begin es),
-        map-append item_of (run es begin end) (drop end es),
-      )
+      let items = map-append item_of (take begin es) (drop begin es) in
+      let behind = map-append item_of (run es begin end) (drop end es) in
+      cc (all_stay edge before (map item_of (run es begin end)) none, take-append-drop begin es, from_run, items, behind)
 
   -- the items of the leaf once it is swept of expired items
   pub leaf_unexpired : (p : ℕ → Bool) → IsPartitioned (λ e. p e.key) es → begin + 1 ≡ length (filter (λ e. p e.key) es)

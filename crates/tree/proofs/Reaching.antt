@@ -20,7 +20,7 @@ module _ {N : ℕ} (nodes : Arena (Node N)) where
     pub before : All (λ x. is_below x.key ≡ true) (before_leaf nodes height slot is_below)
     pub behind : All (λ x. is_below x.key ≡ false) (behind_leaf nodes height slot is_below)
 
-  found_leaf_in : (least height slot : ℕ) (is_below : ℕ → Bool) → IsSubtree nodes least height slot
+  pub found_leaf_in : (least height slot : ℕ) (is_below : ℕ → Bool) → IsSubtree nodes least height slot
       → IsPartitioned (λ x. is_below x.key) (items_in nodes height slot)
       → IsFoundLeaf height slot (leaf_in nodes height slot is_below) is_below
   found_leaf_in least zero slot is_below s c = record {
@@ -30,19 +30,10 @@ module _ {N : ℕ} (nodes : Arena (Node N)) where
   }
   found_leaf_in least (suc height) slot is_below s c =
       let w = way nodes least height slot is_below s c in
-      let below = λ (e : Entry). items_in nodes height e.child in
-      let es = entries_at nodes slot in
-      let a = flat_map below (take (index_in is_below es) es) in
-      let r = flat_map below (drop (index_in is_below es + 1) es) in
-      let child = child_in is_below es in
+      let child = child_in is_below (entries_at nodes slot) in
       let f = found_leaf_in least height child is_below (rw (← w.child) w.kept.subtree) (rw (← w.child) w.partitioned) in
       record {
         items = rw (w.items, w.child, f.items) (simp append_assoc);
-        before = All-append (λ (x : Item). is_below x.key ≡ true) a _ w.before f.before;
-        behind = All-append (λ (x : Item). is_below x.key ≡ false) _ r f.behind w.behind;
+        before = All-append (λ (x : Item). is_below x.key ≡ true) _ _ w.before f.before;
+        behind = All-append (λ (x : Item). is_below x.key ≡ false) _ _ f.behind w.behind;
       }
-
-  pub found_at_leaf : (least height slot leaf : ℕ) (is_below : ℕ → Bool) → IsSubtree nodes least height slot
-      → IsPartitioned (λ x. is_below x.key) (items_in nodes height slot) → leaf ≡ leaf_in nodes height slot is_below
-      → IsFoundLeaf height slot leaf is_below
-  found_at_leaf least height slot leaf is_below s c same = rw same (found_leaf_in least height slot is_below s c)

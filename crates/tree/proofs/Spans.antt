@@ -103,7 +103,6 @@ module _ {X : Type 0} (below : Entry → List X) (p q : X → Bool) (es : List E
   -- where both bounds lie in one child
   pub span_of_child : i ≡ j → i < length es → span p q (flat_map below es) ≡ span p q (below (get_or es i d))
   span_of_child same inside =
-      let c = below (get_or es i d) in
       let a = flat_map below (take i es) in
       let b = flat_map below (drop (i + 1) es) in
       let behind = rw (← same) at back in

@@ -45,10 +45,8 @@ contains_if_times s (x ∷ xs) h = elim (once_cases s x) [
 ]
 
 pub times_unless_contains : (s : ℕ) (xs : List ℕ) → ¬ Contains xs s → times s xs ≡ 0
-times_unless_contains s xs without = elim (none_or_some (times s xs)) [
-  | inl none ↦ none
-  | inr some ↦ absurd (without (contains_if_times s xs some))
-]
+times_unless_contains s xs without =
+    elim (none_or_some (times s xs)) [ inl none ↦ none | inr some ↦ absurd (without (contains_if_times s xs some)) ]
 
 -- an element that no other is equal to
 none_later : (x : ℕ) (xs : List ℕ) → AllByRecursion (λ y. nat_eq x y ≡ false) xs → times x xs ≡ 0

@@ -32,7 +32,6 @@ pub returns : goal.returns
 returns g c =
     let is_below = g.P.Bound.below c.args.bound.now in
     let nodes = c.args.nodes.now in
-    let root = c.args.root in
     let found = c.reach-reached.ensures.reached in
     let es = entries_at nodes c.reach-reached.result.leaf in
     let header = c.header_ref-leaf.result.now in

@@ -3,16 +3,16 @@ use Rattle.tree.specs.Path.{before_leaf, behind_leaf}
 use Rattle.tree.specs.Subtree.{entries_at, items_in}
 use Rattle.tree.specs.Tree.{least_of}
 use Rattle.tree.proofs.Leaves.{is_leaf, leaf_partitioned_by_keys}
-use Rattle.tree.proofs.Reaching.{found_at_leaf}
+use Rattle.tree.proofs.Reaching.{found_leaf_in}
 use Rattle.tree.proofs.root.reach.Goals as goal
 
 pub returns : goal.returns
 returns g c =
     let is_below = g.P.Bound.below c.args.bound.now in
     let can = c.requires.can_reach in
-    let at = c.find.ensures.leaf in
-    let found = found_at_leaf _ _ c.args.root.height c.args.root.slot _ is_below can.subtree can.partitioned at in
-    let leaf = is_leaf _ _ c.args.root.height c.args.root.slot is_below _ _ can.subtree can.partitioned at refl
+    let way = c.find.ensures.leaf in
+    let found = rw (← way) at (found_leaf_in _ _ c.args.root.height c.args.root.slot is_below can.subtree can.partitioned) in
+    let leaf = is_leaf _ _ c.args.root.height c.args.root.slot is_below _ _ can.subtree can.partitioned way refl
     found.items found.before found.behind in
     record {
       reached = record {
