@@ -49,30 +49,30 @@ module _ {N : ℕ} where
       pub loose : Loose
       loose =
           let xs = slots_of a height before in
+          let ys = slots_of a height middle in
           let zs = slots_of a height behind in
-          let count = λ (s : ℕ). times-slots_of a height s before (middle ++ behind)
-          ∙ ap (λ n. times s xs + n) (times-slots_of a height s middle behind) in
+          let ws = slots_of b height new in
+          let was : slots_of a height (before ++ (middle ++ behind)) ≡ xs ++ (ys ++ zs) = simp slots_of-append in
+          let apart = λ (s : ℕ). simp times-append at (rw was at (few s)) in
           let live_before = live_children a least height before right_before in
           let live_behind = live_children a least height behind right_behind in
-          let agree_before = moves_agree a b _ _ xs moves live_before (λ s. omega (arith, few s, count s)) in
-          let agree_behind = moves_agree a b _ _ zs moves live_behind (λ s. omega (arith, few s, count s)) in
+          let agree_before = moves_agree a b ys ws xs moves live_before (λ s. omega (arith, apart s)) in
+          let agree_behind = moves_agree a b ys ws zs moves live_behind (λ s. omega (arith, apart s)) in
           let same_before = slots_of_same a b height before agree_before in
           let same_behind = slots_of_same a b height behind agree_behind in
           let items_before = items_of_same a b height before agree_before in
           let items_behind = items_of_same a b height behind agree_behind in
-          let times_now = λ (s : ℕ). times-slots_of b height s before (new ++ behind) in
+          let now : slots_of b height (before ++ (new ++ behind)) ≡ xs ++ (ws ++ zs) =
+          simp (slots_of-append, same_before, same_behind) in
           record {
             front = children_same a b height before agree_before least right_before;
             back = children_same a b height behind agree_behind least right_behind;
             items = simp (items_of-append, items_before, items_behind);
-            moves = moves_beside a b _ _ (xs ++ zs) _ _ moves
-                (λ s. omega (arith, count s, times-append s xs zs))
-                (λ s. rw (times_now s, times-slots_of b height s new behind, same_before, same_behind)
-                (omega (arith, times-append s xs zs)))
-                (rw (length-slots_of a height before (middle ++ behind), length-slots_of a height middle behind)
-                (omega (arith, length-append xs zs)))
-                (rw (length-slots_of b height before (new ++ behind), length-slots_of b height new behind, same_before)
-                (omega (arith, length-append xs zs, ap length same_behind)))
+            moves = moves_beside a b ys ws (xs ++ zs) _ _ moves
+                (λ s. rw was (simp times-append (omega arith)))
+                (λ s. rw now (simp times-append (omega arith)))
+                (rw was (simp length-append (omega arith)))
+                (rw now (simp length-append (omega arith)))
                 few
                 (λ s some. elim (none_or_some (times s xs)) [
                   | inl none ↦ live_behind s (omega (arith, times-append s xs zs))

@@ -57,14 +57,13 @@ module _ {N : ℕ} where
     pub items_same : (height slot : ℕ) → Agree a b (slots_in a height slot) → items_in b height slot ≡ items_in a height slot
     items_same zero slot agree = ap (map item_of) (agree_own zero slot agree)
     items_same (suc height) slot agree =
-        ap (items_of b height) (agree_own (suc height) slot agree)
-        ∙ each_same height _ _ (items_same height) _ (agree_below height slot agree)
+        rw (agree_own (suc height) slot agree) (each_same height _ _ (items_same height) _ (agree_below height slot agree))
 
     pub slots_same : (height slot : ℕ) → Agree a b (slots_in a height slot) → slots_in b height slot ≡ slots_in a height slot
     slots_same zero slot agree = refl
     slots_same (suc height) slot agree =
-        ap (λ xs. slot ∷ xs) (ap (slots_of b height) (agree_own (suc height) slot agree)
-        ∙ each_same height _ _ (slots_same height) _ (agree_below height slot agree))
+        let below = each_same height _ _ (slots_same height) _ (agree_below height slot agree) in
+        rw (agree_own (suc height) slot agree) (ap (λ xs. slot ∷ xs) below)
 
     pub live_same : (slot : ℕ) → record_at b slot ≡ record_at a slot → IsLive a slot → IsLive b slot
     live_same slot e live = ap is_some e ∙ live

@@ -50,12 +50,9 @@ most_append a (Some w) (Some v) xs ys g h = record {
   ];
 }
 
-none_swapped : (xs ys : List Item) → xs ++ ys ≡ [] → ys ++ xs ≡ []
-none_swapped [] ys e = append-nil ys ∙ e
-none_swapped (x ∷ xs) ys e = absurd (cc)
-
 most_swapped : (a b : Option ℤ) (xs ys : List Item) → IsGreatestWith a (xs ++ ys) b → IsGreatestWith a (ys ++ xs) b
-most_swapped a None xs ys h = (h.0, none_swapped xs ys h.1)
+most_swapped a None [] ys h = rw (append-nil ys) h
+most_swapped a None (x ∷ xs) ys h = let e = h.1 in absurd (cc)
 most_swapped a (Some v) xs ys h = record {
   bound = All-append (Bounds v) ys xs (All-back (Bounds v) xs ys h.bound) (All-front (Bounds v) xs ys h.bound);
   least_bound = h.least_bound;

@@ -74,11 +74,6 @@ module _ {X : Type 0} where
   behind_partitioned p xs c =
       rw (ap (drop (length (filter p xs))) c ∙ drop_at (filter p xs) (filter (λ x. not (p x)) xs) _ refl) (failed p xs)
 
-  in_parts : (xs : List X) (i j : ℕ) → i ≤ j → xs ≡ take i xs ++ (slice_range xs i j ++ drop j xs)
-  in_parts xs i j le =
-      let up : i + (j - i) ≡ j = omega arith in
-      cc (take-append-drop i xs, take-append-drop (j - i) (drop i xs), drop-drop (j - i) i xs)
-
   -- the part of a list from one bound to another
   pub span_range : (p q : X → Bool) (xs : List X) (i j : ℕ) → IsPartitioned p xs → IsPartitioned q xs → i ≤ j
       → i ≡ length (filter p xs) → j ≡ length (filter q xs) → span p q xs ≡ slice_range xs i j
@@ -91,7 +86,9 @@ module _ {X : Type 0} where
       let is : drop i (take j xs) ≡ slice_range xs i j = cc (drop-take i (j - i) xs) in
       let inside = rw is at (All-drop (λ x. q x ≡ true) i (take j xs) sooner) in
       let whole = span_all p q (slice_range xs i j) (All-take (λ x. p x ≡ false) (j - i) (drop i xs) later) inside in
-      ap (span p q) (in_parts xs i j le)
+      let parts : xs ≡ take i xs ++ (slice_range xs i j ++ drop j xs) =
+      cc (take-append-drop i xs, take-append-drop (j - i) (drop i xs), drop-drop (j - i) i xs) in
+      ap (span p q) parts
       ∙ simp (filter-append, span_before p q (take i xs) front, whole, span_behind p q (drop j xs) back, append-nil)
 
 -- the items of children from one bound to another
