@@ -1,7 +1,6 @@
 -- Whether a version is above another, of items and of the entries for them.
-use Rattle.std.proofs.Common.{◌≡◌, Bool, true, false, List, [], ◌∷◌, filter, map, IsTrue, ◌↔◌, All, Any, int_le, cond, sym, subst, inl, inr, arith}
+use Rattle.std.proofs.Common.{◌≡◌, Bool, true, false, List, map, IsTrue, ◌↔◌, All, Any, int_le, arith}
 use Rattle.std.specs.Prelude.{ℤ, ◌<ℤ◌, ◌≤ℤ◌}
-use Rattle.std.proofs.lemmas.Bool.{cases_Bool}
 use Rattle.std.proofs.lemmas.Int.{ints, to_z-of_z}
 use mir.Syntax.{w64}
 use mir.Val.{SFits, to_z, of_z}
@@ -9,7 +8,7 @@ use Rattle.tree.specs.declared.entry.Entry.{Entry}
 use Rattle.tree.specs.Item.{Item, item_of}
 use Rattle.tree.proofs.GreatestParts.{Bounds}
 use Rattle.tree.proofs.callers.Partitions.{not_both}
-use Rattle.keys.proofs.callers.SomeElement.{Any-first, Any-later, Any-cases, Any-map, Any-unmap}
+use Rattle.keys.proofs.callers.SomeElement.{Any-map, Any-unmap}
 
 -- the other way about
 pub at_most_tested : (a b : ℤ) → SFits w64 a → SFits w64 b

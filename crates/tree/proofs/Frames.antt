@@ -1,12 +1,11 @@
 -- A subtree in two arenas that agree on its slots.
-use Rattle.std.proofs.Common.{◌≡◌, ℕ, zero, suc, inl, inr, ◌≤◌, List, [], ◌∷◌, ◌++◌, length, get_or, map, Option, is_some, option_map, unwrap_or, refl, sym, ap, ap₂, subst, ◌∙◌, arith}
+use Rattle.std.proofs.Common.{◌≡◌, ℕ, zero, suc, inl, inr, ◌≤◌, List, [], ◌∷◌, get_or, map, is_some, refl, ap, subst, ◌∙◌, arith}
 use Rattle.std.specs.List.{All, flat_map}
 use Rattle.std.proofs.lemmas.List.Elements.{All-nil, All-cons, All-head, All-tail}
-use Rattle.arena.specs.Arena.{Arena, Record, IsLive, record_at}
+use Rattle.arena.specs.Arena.{Arena, IsLive, record_at}
 use Rattle.tree.specs.declared.entry.Entry.{Entry}
 use Rattle.tree.specs.declared.node.Node.{Node}
-use Rattle.tree.specs.Item.{item_of, Tells}
-use Rattle.tree.specs.Node.{entries_of}
+use Rattle.tree.specs.Item.{item_of}
 use Rattle.tree.specs.Subtree.{entries_at, items_in, slots_in, IsChild, IsSubtree}
 use Rattle.tree.specs.Replace.{AreChildren, items_of, slots_of}
 use Rattle.tree.proofs.callers.Times.{none_or_some, once_cases, times, once_same, times-append}

@@ -1,14 +1,13 @@
 -- The leaf that a bound finds: the items before it and behind it.
-use Rattle.std.proofs.Common.{◌≡◌, ℕ, zero, suc, ◌+◌, Bool, true, false, List, ◌++◌}
-use Rattle.std.proofs.Common.{map, take}
-use Rattle.std.proofs.Common.{drop, flat_map, All, sym, ◌∙◌, ap, subst}
+use Rattle.std.proofs.Common.{◌≡◌, ℕ, zero, suc, Bool, true, false, ◌++◌}
+use Rattle.std.proofs.Common.{map}
+use Rattle.std.proofs.Common.{All, sym}
 use Rattle.std.proofs.lemmas.List.{append_assoc, append-nil}
 use Rattle.std.proofs.lemmas.List.Elements.{All-nil, All-append}
 use Rattle.arena.specs.Arena.{Arena}
-use Rattle.tree.specs.declared.entry.Entry.{Entry}
 use Rattle.tree.specs.declared.node.Node.{Node}
 use Rattle.tree.specs.Item.{Item, item_of}
-use Rattle.tree.specs.Path.{IsPartitioned, index_in, child_in, leaf_in, before_leaf, behind_leaf}
+use Rattle.tree.specs.Path.{IsPartitioned, child_in, leaf_in, before_leaf, behind_leaf}
 use Rattle.tree.specs.Subtree.{entries_at, items_in, IsSubtree}
 use Rattle.tree.proofs.Ways.{way}
 

@@ -1,5 +1,5 @@
 -- What lies from one bound to another, in parts.
-use Rattle.std.proofs.Common.{◌≡◌, ℕ, suc, ◌+◌, ◌-◌, ◌<◌, ◌≤◌, Bool, true, false, not, ◌&&◌, List, [], ◌∷◌, ◌++◌, length, get_or, take, drop, filter, flat_map, All, refl, sym, ◌∙◌, ap, subst, inl, inr, arith, drop-cons, take-add, take_at, drop_at, take-append-drop, append-nil, length-drop}
+use Rattle.std.proofs.Common.{◌≡◌, ℕ, ◌+◌, ◌-◌, ◌<◌, ◌≤◌, Bool, true, false, not, ◌&&◌, List, [], ◌∷◌, ◌++◌, length, get_or, take, drop, filter, flat_map, All, refl, sym, ◌∙◌, ap, inl, inr, arith, take-add, take_at, drop_at, take-append-drop, append-nil}
 use Rattle.std.specs.Prelude.{slice_range}
 use Rattle.std.proofs.lemmas.Bool.{and_right, cases_Bool}
 use Rattle.std.proofs.lemmas.Grind.{flat_map-append}
@@ -7,7 +7,7 @@ use Rattle.std.proofs.lemmas.List.{append_assoc, drop-drop, drop-take, drop_more
 use Rattle.std.proofs.lemmas.List.Elements.{All-head, All-tail, All-take, All-drop, filter-append}
 use Rattle.tree.specs.declared.entry.Entry.{Entry}
 use Rattle.tree.specs.Path.{IsPartitioned}
-use Rattle.tree.proofs.callers.Partitions.{none_pass, none_fail, passed, failed, All-front, All-back}
+use Rattle.tree.proofs.callers.Partitions.{passed, failed, All-front, All-back}
 use Rattle.tree.proofs.Ways.{around_element}
 
 module _ {X : Type 0} where

@@ -1,6 +1,4 @@
-use Rattle.std.proofs.Common.{rules, ℕ, get_or, ◌≤◌, ◌<◌, ◌∙◌, List, length, ap, sym, subst, refl, arith}
-use Rattle.tree.specs.declared.entry.Entry.{Entry}
-use Rattle.tree.specs.Heads.{IsPrefixLenAt}
+use Rattle.std.proofs.Common.{rules, ℕ, get_or, ◌≤◌, ◌∙◌, ap, sym, refl, arith}
 use Rattle.tree.specs.Node.{entries_of}
 use Rattle.tree.specs.Path.{index_in}
 use Rattle.tree.specs.Tree.{least_of}

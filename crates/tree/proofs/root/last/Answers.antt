@@ -1,10 +1,9 @@
-use Rattle.std.proofs.Common.{rules, ◌≡◌, ◌≤◌, ◌<◌, ◌∙◌, length, filter, take, ap, sym, subst, refl, arith}
+use Rattle.std.proofs.Common.{rules, ◌≡◌, ◌∙◌, length, filter, take, ap, refl, arith}
 use Rattle.std.specs.Prelude.{not}
 use Rattle.std.proofs.Math.Seq.{take-append_seam}
 use Rattle.tree.specs.declared.entry.Entry.{Entry}
 use Rattle.tree.specs.Node.{entries_of}
-use Rattle.tree.specs.Path.{before_leaf, behind_leaf}
-use Rattle.tree.specs.Subtree.{entries_at, items_in}
+use Rattle.tree.specs.Subtree.{entries_at}
 use Rattle.tree.proofs.Found.{entries_read}
 use Rattle.tree.proofs.Headed.{headed_at}
 use Rattle.tree.proofs.Leaves.{IsLeaf, last_passing}

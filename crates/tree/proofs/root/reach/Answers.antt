@@ -1,7 +1,4 @@
 use Rattle.std.proofs.Common.{refl, rules}
-use Rattle.tree.specs.Path.{before_leaf, behind_leaf}
-use Rattle.tree.specs.Subtree.{entries_at, items_in}
-use Rattle.tree.specs.Tree.{least_of}
 use Rattle.tree.proofs.Leaves.{is_leaf, leaf_partitioned_by_keys}
 use Rattle.tree.proofs.Reaching.{found_leaf_in}
 use Rattle.tree.proofs.root.reach.Goals as goal

@@ -1,8 +1,4 @@
-use Rattle.std.proofs.Common.{subst, ℕ, ◌+◌, ◌-◌, Bool, true, All, List, option_map, flat_map, sym, rules, w64}
-use Rattle.std.specs.Prelude.{slice_range}
-use Rattle.std.proofs.lemmas.Int.{to_z-of_z}
-use mir.Val.{SFits}
-use Rattle.tree.specs.declared.entry.Entry.{Entry}
+use Rattle.std.proofs.Common.{ℕ, ◌-◌, true, option_map, rules}
 use Rattle.tree.specs.Item.{Item, Tells, IsGreatestWith}
 use Rattle.tree.specs.Path.{below_from, below_to}
 use Rattle.tree.specs.Subtree.{items_in}
@@ -10,7 +6,7 @@ use Rattle.tree.specs.Tree.{least_of}
 use Rattle.tree.proofs.Spans.{span}
 use Rattle.tree.proofs.Looks.{IsLook, look_of, look_bound, from_asked, to_asked, ask_from, ask_to, ask_any, look_ordered, leaf_look}
 use Rattle.tree.proofs.Halves.{AreHalves, left_items, right_items, middle_items, left_span, right_span, left_tells, right_tells, middle_tells, left_subtree, left_from, left_to, right_subtree, right_to, apart, in_one, in_two}
-use Rattle.tree.proofs.GreatestParts.{IsPeak-leaf, IsPeak-children}
+use Rattle.tree.proofs.GreatestParts.{IsPeak-leaf}
 use Rattle.tree.proofs.Most.{most_with, most_between, most_of_parts, most_passed}
 use Rattle.tree.proofs.search.+greatest.Given.{Over}
 use Rattle.tree.proofs.search.+greatest.Goals as goal
