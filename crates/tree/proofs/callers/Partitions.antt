@@ -58,11 +58,6 @@ module _ {X : Type 0} (p : X → Bool) where
   failed xs =
       All-weaker (λ x. not (p x) ≡ true) (λ x. p x ≡ false) (λ x. not_true (p x)) _ (filter_passes (λ x. not (p x)) xs)
 
-  Falls-failing : (xs : List X) → All (λ x. p x ≡ false) xs → Falls p xs
-  Falls-failing [] a = tt
-  Falls-failing (x ∷ xs) a =
-      inr (All-head (λ y. p y ≡ false) x xs a, All-tail (λ y. p y ≡ false) x xs a)
-
   all_behind : (x : X) (xs ys zs : List X) → p x ≡ false → All (λ y. p y ≡ true) ys
       → All (λ y. p y ≡ false) zs → x ∷ xs ≡ ys ++ x ∷ zs → All (λ y. p y ≡ false) xs
   all_behind x xs [] zs f a b e = let k : zs ≡ xs = cc in subst (All (λ y. p y ≡ false)) k b
@@ -73,12 +68,8 @@ module _ {X : Type 0} (p : X → Bool) where
   Falls-below_from [] e = tt
   Falls-below_from (x ∷ xs) e =
       elim (cases_Bool (p x)) [
-        | inl t ↦
-            let k : x ∷ xs ≡ x ∷ filter p xs ++ filter (λ y. not (p y)) xs = rw t at e in
-            inl (t, Falls-below_from xs (cc))
-        | inr f ↦
-            let k : x ∷ xs ≡ filter p xs ++ x ∷ filter (λ y. not (p y)) xs = rw f at e in
-            inr (f, all_behind x xs (filter p xs) (filter (λ y. not (p y)) xs) f (passed xs) (failed xs) k)
+        | inl t ↦ let k = rw t at e in inl (t, Falls-below_from xs (cc))
+        | inr f ↦ inr (f, all_behind x xs (filter p xs) (filter (λ y. not (p y)) xs) f (passed xs) (failed xs) (rw f at e))
       ]
 
   pub IsPartitioned-from_falls : (xs : List X) → Falls p xs → IsPartitioned p xs
@@ -94,7 +85,8 @@ module _ {X : Type 0} (p : X → Bool) where
       (inl (h.0, i.0), i.1, elim i.2 [ inl a ↦ inl (All-cons (λ y. p y ≡ true) x xs h.0 a) | inr b ↦ inr b ])
   Falls-parts (x ∷ xs) ys (inr h) =
       let b = All-back (λ y. p y ≡ false) xs ys h.1 in
-      (inr (h.0, All-front (λ y. p y ≡ false) xs ys h.1), Falls-failing ys b, inr b)
+      let n = none_pass ys b in
+      (inr (h.0, All-front (λ y. p y ≡ false) xs ys h.1), Falls-below_from ys (rw (n.0, n.1) refl), inr b)
 
   -- both parts of a list that is partitioned are partitioned, and all of the first pass or none of the second
   pub IsPartitioned-parts : (xs ys : List X) → IsPartitioned p (xs ++ ys)

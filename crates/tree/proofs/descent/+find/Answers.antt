@@ -1,4 +1,4 @@
-use Rattle.std.proofs.Common.{rules, ℕ, get_or, ◌≤◌, ◌∙◌, ap, sym, refl, arith}
+use Rattle.std.proofs.Common.{length, ◌<◌, rules, ℕ, get_or, ◌≤◌, ◌∙◌, ap, sym, refl, arith}
 use Rattle.tree.specs.Node.{entries_of}
 use Rattle.tree.specs.Path.{index_in}
 use Rattle.tree.specs.Tree.{least_of}
@@ -17,17 +17,12 @@ step-step-requires g t c =
     let h = c.header_ref-node.ensures.header in
     let read = entries_read c.args.nodes.now c.args.slot header (entries_of header) h refl in
     let can = c.requires.can_reach in
-    let some = rw read at can.some in (
-      search rules,
-      record {
-        can_find = record {
-          headed = headed_at (g.P.Bound.bytes c.args.bound.now) c.args.nodes.now c.args.slot header can.headed h;
-          partitioned = look_bound _ _ c.args.height _ _ header _ can.subtree can.partitioned h refl;
-          some = omega (arith, some);
-        };
-        known = rw read at c.requires.known;
-      },
-    )
+    let some = rw read at can.some in
+    let positive : 0 < length (entries_of header) = omega (arith, some) in
+    let headed = headed_at (g.P.Bound.bytes c.args.bound.now) c.args.nodes.now c.args.slot header can.headed h in
+    let is_below = g.P.Bound.below c.args.bound.now in
+    let partitioned = look_bound _ _ c.args.height _ is_below header (entries_of header) can.subtree can.partitioned h refl in
+    search (rules, headed, partitioned, positive, rw read at c.requires.known)
 
 -- the child at which the search goes on
 child_found : (g : Over) (t : ℕ) (c : After-index-entries-step g t)

@@ -1,4 +1,4 @@
-use Rattle.std.proofs.Common.{rules, ◌≡◌, ◌∙◌, length, filter, take, ap, refl, arith}
+use Rattle.std.proofs.Common.{◌<◌, rules, ◌≡◌, ◌∙◌, length, filter, take, ap, refl, arith}
 use Rattle.std.specs.Prelude.{not}
 use Rattle.std.proofs.Math.Seq.{take-append_seam}
 use Rattle.tree.specs.declared.entry.Entry.{Entry}
@@ -15,17 +15,10 @@ lower_bound-count-requires g c =
     let header = c.header_ref-leaf.result.now in
     let h = c.header_ref-leaf.ensures.header in
     let read = entries_read c.args.nodes.now c.reach-reached.result.leaf header (entries_of header) h refl in
-    let some = rw read at found.some in (
-      search rules,
-      record {
-        can_find = record {
-          headed = headed_at (g.P.Bound.bytes c.args.bound.now) c.args.nodes.now _ header c.requires.can_reach.headed h;
-          partitioned = rw read at found.partitioned;
-          some = omega (arith, some);
-        };
-        known = rw read at found.knows;
-      },
-    )
+    let some = rw read at found.some in
+    let positive : 0 < length (entries_of header) = omega (arith, some) in
+    let headed = headed_at (g.P.Bound.bytes c.args.bound.now) c.args.nodes.now _ header c.requires.can_reach.headed h in
+    search (rules, headed, rw read at found.partitioned, positive, rw read at found.knows)
 
 pub returns : goal.returns
 returns g c =

@@ -11,16 +11,5 @@ returns g c =
     let found = rw (← way) at (found_leaf_in _ _ c.args.root.height c.args.root.slot is_below can.subtree can.partitioned) in
     let leaf = is_leaf _ _ c.args.root.height c.args.root.slot is_below _ _ can.subtree can.partitioned way refl
     found.items found.before found.behind in
-    record {
-      reached = record {
-        live = search rules;
-        items_are = found.items;
-        before = found.before;
-        after = found.behind;
-        none = leaf.none;
-        partitioned = leaf_partitioned_by_keys is_below _ _ _ _ leaf can.partitioned;
-        some = c.find.ensures.some;
-        knows = c.find.ensures.known;
-        next = c.find.ensures.behind;
-      };
-    }
+    let partitioned = leaf_partitioned_by_keys is_below _ _ _ _ leaf can.partitioned in
+    search (rules, found.items, found.before, found.behind, leaf.none, partitioned)
