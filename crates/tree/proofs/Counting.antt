@@ -62,12 +62,10 @@ pub enough_spare : {N : ℕ} (nodes : Arena (Node N)) (root height len room : �
     → 66 ≤ spare_of nodes 0
 enough_spare {N} nodes root height len room t = elim (cases_lt (spare_of nodes 0) 66) [
   | inl few ↦
-      let k = least_of N - 1 in
-      let one_less : k + 1 ≡ least_of N = omega arith in
-      let count = few_nodes nodes (least_of N) k one_less height root t.rooted.subtree in
+      let count = few_nodes nodes (least_of N) (least_of N - 1) (omega arith) height root t.rooted.subtree in
       let filled = root_some nodes root height len room t in
       let reserved = rw t.rooted.linked at t.reserved in
       let less : spare_of nodes 0 ≤ 65 = omega arith in
-      absurd (omega (arith, count, filled, reserved, t.counted, t.within, mul-le-mul_left k less))
+      absurd (omega (arith, count, filled, reserved, t.counted, t.within, mul-le-mul_left (least_of N - 1) less))
   | inr many ↦ many
 ]

@@ -4,11 +4,6 @@ use Rattle.std.specs.List.{copy_within}
 use Rattle.std.proofs.lemmas.List.{take-take, drop-take, take_at, length-take-le, length-drop, length-append}
 
 module _ {X : Type 0} where
-  -- a part of a part
-  drop-front : (xs : List X) (len i : ℕ) → i ≤ len → drop i (take len xs) ≡ take (len - i) (drop i xs)
-  drop-front xs len i within =
-      let sum : i + (len - i) ≡ len = omega arith in cc (drop-take i (len - i) xs)
-
   -- entries moved down over removed ones
   pub take-removed : (xs ys : List X) (len from to : ℕ) → len ≤ length xs → from ≤ to → to ≤ len → ys ≡ copy_within xs to len from
       → take (len - (to - from)) ys ≡ take from (take len xs) ++ drop to (take len xs)
@@ -19,7 +14,8 @@ module _ {X : Type 0} where
       let moved_len = length-take-le (len - to) (drop to xs) (omega (arith, length-drop to xs)) in
       let size : length (head ++ moved) ≡ len - (to - from) = omega (arith, length-append head moved, head_len, moved_len) in
       let front = take-take from len xs (omega arith) in
-      cc (take_at (head ++ moved) (drop (from + (len - to)) xs) _ size, front, drop-front xs len to within)
+      let sum : to + (len - to) ≡ len = omega arith in
+      cc (take_at (head ++ moved) (drop (from + (len - to)) xs) _ size, front, drop-take to (len - to) xs)
 
   -- entries of which those from an index on are cut off
   pub take-cut : (xs ys : List X) (len at : ℕ) → len ≤ length xs → at ≤ len → ys ≡ copy_within xs len len at

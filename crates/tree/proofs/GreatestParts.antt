@@ -1,5 +1,5 @@
 -- The greatest version of lists in parts.
-use Rattle.std.proofs.Common.{◌≡◌, List, [], ◌∷◌, Option, Some, None, MatchOption, map, flat_map, All, Any, ap, inl, inr, arith}
+use Rattle.std.proofs.Common.{rules, ◌≡◌, List, [], ◌∷◌, Option, Some, None, MatchOption, map, flat_map, All, Any, ap, inl, inr, arith}
 use Rattle.std.specs.Prelude.{ℤ, ◌≤ℤ◌}
 use Rattle.std.proofs.lemmas.Int.{ints}
 use Rattle.std.proofs.lemmas.List.Elements.{All-nil, All-head, All-tail, All-append, All-weaker, All-map}
@@ -23,10 +23,7 @@ higher v w xs le = All-weaker (Bounds v) (Bounds w) (λ x h. omega (arith, ints,
 -- at a leaf
 pub IsPeak-leaf : (a : Option ℤ) (es : List Entry) → IsPeak version_of a es → IsPeak (λ x. x.version) a (map item_of es)
 IsPeak-leaf None es h = ap (map item_of) h
-IsPeak-leaf (Some v) es h = record {
-  bound = All-map (Bounds v) item_of es h.bound;
-  reached = Any-map item_of (Reaches v) es h.reached;
-}
+IsPeak-leaf (Some v) es h = search (rules, All-map (Bounds v) item_of es h.bound, Any-map item_of (Reaches v) es h.reached)
 
 -- for whole children the entries tell it
 module _ (below : Entry → List Item) where
@@ -55,7 +52,4 @@ module _ (below : Entry → List Item) where
   pub IsPeak-children : (a : Option ℤ) (es : List Entry) → All Told es → IsPeak version_of a es
       → IsPeak (λ x. x.version) a (flat_map below es)
   IsPeak-children None es t h = ap (flat_map below) h
-  IsPeak-children (Some v) es t h = record {
-    bound = children_bound v es t h.bound;
-    reached = children_reached v es t h.reached;
-  }
+  IsPeak-children (Some v) es t h = search (rules, children_bound v es t h.bound, children_reached v es t h.reached)

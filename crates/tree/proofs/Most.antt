@@ -43,9 +43,7 @@ most_append a (Some w) (Some v) xs ys g h = record {
   bound = All-append (Bounds v) xs ys (higher w v xs h.least_bound g.bound) h.bound;
   least_bound = least_higher a w v h.least_bound g.least_bound;
   reached = elim h.reached [
-    | inl e ↦
-        let same : w ≡ v = cc in
-        elim (rw same at g.reached) [ inl i ↦ inl i | inr r ↦ inr (Any-left (Reaches v) xs ys r) ]
+    | inl e ↦ let same : w ≡ v = cc in elim (rw same at g.reached) [ inl i ↦ inl i | inr r ↦ inr (Any-left _ xs ys r) ]
     | inr r ↦ inr (Any-right (Reaches v) xs ys r)
   ];
 }
@@ -77,16 +75,10 @@ most_passed (Some l) e xs p above fits tells fails told =
     let same = to_z-of_z w64 e.version fits in
     let not_less : l <ℤ e.version → ⊥ = λ lt. (let yes = told.1 (rw same lt) in cc) in
     let le : e.version ≤ℤ l = grind (arith, ints) in
-    record {
-      bound = All-filter p (Bounds l) xs (higher e.version l xs le tells.greatest.bound);
-      least_bound = omega (arith, ints);
-      reached = inl refl;
-    }
+    let bound = All-filter p (Bounds l) xs (higher e.version l xs le tells.greatest.bound) in
+    record { bound = bound; least_bound = omega (arith, ints); reached = inl refl }
 
 -- with no version beside them it is the items' own
 pub most_alone : (a : Option ℤ) (xs : List Item) → IsGreatestWith None xs a → IsPeak (λ (x : Item). x.version) a xs
 most_alone None xs h = h.1
-most_alone (Some v) xs h = record {
-  bound = h.bound;
-  reached = elim h.reached [ inl e ↦ absurd (cc) | inr r ↦ r ];
-}
+most_alone (Some v) xs h = record { bound = h.bound; reached = elim h.reached [ inl e ↦ absurd (cc) | inr r ↦ r ] }

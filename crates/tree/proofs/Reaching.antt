@@ -1,5 +1,5 @@
 -- The leaf that a bound finds: the items before it and behind it.
-use Rattle.std.proofs.Common.{◌≡◌, ℕ, zero, suc, Bool, true, false, ◌++◌}
+use Rattle.std.proofs.Common.{rules, ◌≡◌, ℕ, zero, suc, Bool, true, false, ◌++◌}
 use Rattle.std.proofs.Common.{map}
 use Rattle.std.proofs.Common.{All, sym}
 use Rattle.std.proofs.lemmas.List.{append_assoc, append-nil}
@@ -22,11 +22,9 @@ module _ {N : ℕ} (nodes : Arena (Node N)) where
   pub found_leaf_in : (least height slot : ℕ) (is_below : ℕ → Bool) → IsSubtree nodes least height slot
       → IsPartitioned (λ x. is_below x.key) (items_in nodes height slot)
       → IsFoundLeaf height slot (leaf_in nodes height slot is_below) is_below
-  found_leaf_in least zero slot is_below s c = record {
-    items = sym (append-nil (map item_of (entries_at nodes slot)));
-    before = All-nil (λ (x : Item). is_below x.key ≡ true);
-    behind = All-nil (λ (x : Item). is_below x.key ≡ false);
-  }
+  found_leaf_in least zero slot is_below s c =
+      let items = sym (append-nil (map item_of (entries_at nodes slot))) in
+      search (rules, items, All-nil (λ (x : Item). is_below x.key ≡ true), All-nil (λ (x : Item). is_below x.key ≡ false))
   found_leaf_in least (suc height) slot is_below s c =
       let w = way nodes least height slot is_below s c in
       let child = child_in is_below (entries_at nodes slot) in
