@@ -1,14 +1,14 @@
 -- Whether a version is above another, of items and of the entries for them.
-use Rattle.std.proofs.Common.{◌≡◌, Bool, true, false, List, [], ◌∷◌, filter, map, IsTrue, ◌↔◌, Any, int_le, cond, sym, subst, inl, inr, arith}
+use Rattle.std.proofs.Common.{◌≡◌, Bool, true, false, List, map, IsTrue, ◌↔◌, All, Any, int_le, arith}
 use Rattle.std.specs.Prelude.{ℤ, ◌<ℤ◌, ◌≤ℤ◌}
-use Rattle.std.proofs.lemmas.Bool.{cases_Bool}
 use Rattle.std.proofs.lemmas.Int.{ints, to_z-of_z}
 use mir.Syntax.{w64}
 use mir.Val.{SFits, to_z, of_z}
 use Rattle.tree.specs.declared.entry.Entry.{Entry}
-use Rattle.tree.specs.Item.{Item, Tells, item_of}
+use Rattle.tree.specs.Item.{Item, item_of}
+use Rattle.tree.proofs.GreatestParts.{Bounds}
 use Rattle.tree.proofs.callers.Partitions.{not_both}
-use Rattle.keys.proofs.callers.SomeElement.{Any-first, Any-later, Any-cases, Any-map, Any-unmap}
+use Rattle.keys.proofs.callers.SomeElement.{Any-map, Any-unmap}
 
 -- the other way about
 pub at_most_tested : (a b : ℤ) → SFits w64 a → SFits w64 b
@@ -17,49 +17,26 @@ at_most_tested a b f g h =
     let t : int_le a b ≡ true = rw (to_z-of_z w64 a f, to_z-of_z w64 b g) at h in
     grind (arith, ints)
 
-pub Any-filter : {X : Type 0} (P : X → Type 0) (p : X → Bool) (xs : List X) → Any P (filter p xs) → Any P xs
-Any-filter P p [] a = a
-Any-filter P p (x ∷ xs) a =
-    elim (cases_Bool (p x)) [
-      | inl t ↦
-          elim (Any-cases P x (filter p xs) (subst (λ b. Any P (cond b (x ∷ filter p xs) (filter p xs))) t a)) [
-            | inl h ↦ Any-first P x xs h
-            | inr b ↦ Any-later P x xs (Any-filter P p xs b)
-          ]
-      | inr f ↦
-          Any-later P x xs
-          (Any-filter P p xs (subst (λ b. Any P (cond b (x ∷ filter p xs) (filter p xs))) f a))
-    ]
-
 module _ (v : ℤ) where
   abbrev pub IsAbove : List Item → Type 0
   IsAbove items = Any (λ x. v <ℤ x.version) items
 
-  -- only where the entry's version is above it, an item's is
-  pub above_told : (e : Entry) (items : List Item) → Tells e items → (p : Item → Bool)
-      → IsAbove (filter p items) → v <ℤ e.version
-  above_told e items t p a =
-      let b = Any-filter (λ (x : Item). v <ℤ x.version) p items a in
-      let le = subst (λ (x : Item). x.version ≤ℤ e.version) b.3 (t.greatest.bound b.0 b.1 b.2) in
-      let lt : v <ℤ b.1.version = b.4 in
-      omega (arith, ints, le, lt)
-
-  pub not_above_told : (e : Entry) (items : List Item) → Tells e items → e.version ≤ℤ v → (p : Item → Bool)
-      → IsAbove (filter p items) → ⊥
-  not_above_told e items t le p a = let lt = above_told e items t p a in omega (arith, ints, le, lt)
+  -- where none is greater than a version that isn't above it, none is above it
+  pub not_above : (w : ℤ) (items : List Item) → All (Bounds w) items → w ≤ℤ v → IsAbove items → ⊥
+  not_above w items bound le a =
+      let most = rw a.3 at (bound a.0 a.1 a.2) in
+      let lt : v <ℤ a.1.version = a.4 in omega (arith, ints, le, most, lt)
 
   -- what the code answers, where that is the answer for a part
   pub part_above : (b : Bool) (whole part : List Item) → whole ≡ part → (IsTrue b ↔ IsAbove part)
       → (IsTrue b ↔ IsAbove whole)
-  part_above b whole part e h = subst (λ xs. IsTrue b ↔ IsAbove xs) (sym e) h
+  part_above b whole part e h = rw e h
 
   pub leaf_above : (b : Bool) (whole : List Item) (es : List Entry) → whole ≡ map item_of es
       → (IsTrue b ↔ Any (λ e. v <ℤ e.version) es) → (IsTrue b ↔ IsAbove whole)
   leaf_above b whole es e h =
-      part_above b whole (map item_of es) e (
-        (λ t. Any-map item_of (λ (x : Item). v <ℤ x.version) es (h.0 t)),
-        (λ a. h.1 (Any-unmap item_of (λ (x : Item). v <ℤ x.version) es a)),
-      )
+      let P = λ (x : Item). v <ℤ x.version in
+      rw e ((λ t. Any-map item_of P es (h.0 t)), (λ a. h.1 (Any-unmap item_of P es a)))
 
   pub none_above : (b : Bool) (whole : List Item) → b ≡ false → (IsAbove whole → ⊥) → (IsTrue b ↔ IsAbove whole)
   none_above b whole f n = ((λ t. absurd (not_both b t f)), (λ a. absurd (n a)))

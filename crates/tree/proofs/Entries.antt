@@ -1,32 +1,26 @@
 -- What the moves of a node's entries leave, of lists alone.
-use Rattle.std.proofs.Common.{◌≡◌, ℕ, ◌+◌, ◌-◌, ◌≤◌, List, ◌++◌, length, take, drop, sym, ap, ◌∙◌, arith, append-nil, drop_of_length-le}
+use Rattle.std.proofs.Common.{◌≡◌, ℕ, ◌+◌, ◌-◌, ◌≤◌, List, [], ◌++◌, length, take, drop, arith, append-nil, drop_of_length-le}
 use Rattle.std.specs.List.{copy_within}
 use Rattle.std.proofs.lemmas.List.{take-take, drop-take, take_at, length-take-le, length-drop, length-append}
 
 module _ {X : Type 0} where
-  -- a part of a part
-  drop-front : (xs : List X) (len i : ℕ) → i ≤ len → drop i (take len xs) ≡ take (len - i) (drop i xs)
-  drop-front xs len i within =
-      let sum : i + (len - i) ≡ len = omega arith in
-      let e : drop i (take (i + (len - i)) xs) ≡ take (len - i) (drop i xs) = drop-take i (len - i) xs in
-      ap (λ n. drop i (take n xs)) (sym sum) ∙ e
-
   -- entries moved down over removed ones
   pub take-removed : (xs ys : List X) (len from to : ℕ) → len ≤ length xs → from ≤ to → to ≤ len → ys ≡ copy_within xs to len from
       → take (len - (to - from)) ys ≡ take from (take len xs) ++ drop to (take len xs)
   take-removed xs ys len from to room ordered within after =
       let head = take from xs in
       let moved = take (len - to) (drop to xs) in
-      let head_len : length head ≡ from = length-take-le from xs (omega arith) in
-      let moved_len : length moved ≡ len - to = length-take-le (len - to) (drop to xs) (omega (arith, length-drop to xs)) in
-      let new_len : length (head ++ moved) ≡ len - (to - from) = omega (arith, length-append head moved) in
-      ap (take (len - (to - from))) after ∙ take_at (head ++ moved) (drop (from + (len - to)) xs) (len - (to - from)) new_len
-      ∙ ap (λ p. p ++ moved) (sym (take-take from len xs (omega arith))) ∙ ap (λ q. take from (take len xs) ++ q) (sym (drop-front xs len to within))
+      let head_len = length-take-le from xs (omega arith) in
+      let moved_len = length-take-le (len - to) (drop to xs) (omega (arith, length-drop to xs)) in
+      let size : length (head ++ moved) ≡ len - (to - from) = omega (arith, length-append head moved, head_len, moved_len) in
+      let front = take-take from len xs (omega arith) in
+      let sum : to + (len - to) ≡ len = omega arith in
+      cc (take_at (head ++ moved) (drop (from + (len - to)) xs) _ size, front, drop-take to (len - to) xs)
 
   -- entries of which those from an index on are cut off
   pub take-cut : (xs ys : List X) (len at : ℕ) → len ≤ length xs → at ≤ len → ys ≡ copy_within xs len len at
       → take at ys ≡ take at (take len xs)
   take-cut xs ys len at room within after =
-      ap (λ n. take n ys) (omega (arith, within)) ∙ take-removed xs ys len at len room within (omega arith) after
-      ∙ ap (λ q. take at (take len xs) ++ q) (drop_of_length-le (take len xs) (omega (arith, length-take-le len xs room)))
-      ∙ append-nil (take at (take len xs))
+      let front : len - (len - at) ≡ at = omega arith in
+      let none : drop len (take len xs) ≡ [] = drop_of_length-le (take len xs) (omega (arith, length-take-le len xs room)) in
+      cc (take-removed xs ys len at len room within (omega arith) after, none, append-nil (take at (take len xs)))

@@ -1,13 +1,13 @@
 -- The child at which a bound goes on, as the code finds it.
-use Rattle.std.proofs.Common.{◌≡◌, ℕ, suc, ◌-◌, Bool, false, List, [], ◌∷◌, Some, option_map, unwrap_or, map, slice_get, slice_index_or, All, sym, ◌∙◌, ap, subst, refl, inl, inr, arith}
+use Rattle.std.proofs.Common.{◌≡◌, ℕ, suc, ◌-◌, ◌<◌, Bool, List, [], ◌∷◌, length, Some, option_map, unwrap_or, map, slice_get, slice_index_or, sym, ◌∙◌, ap, subst, inl, inr, arith}
 use Rattle.std.proofs.lemmas.Option.{get_or_from_slice_get}
-use Rattle.std.proofs.lemmas.List.Elements.{All-nil, All-cons, All-head, All-tail}
+use Rattle.std.proofs.lemmas.List.{get_or-map, length-map}
 use Rattle.arena.specs.Arena.{Arena, header_at}
 use Rattle.tree.specs.declared.entry.Entry.{Entry}
 use Rattle.tree.specs.declared.node.Node.{Node}
 use Rattle.tree.specs.Item.{Item, item_of}
 use Rattle.tree.specs.Node.{entries_of}
-use Rattle.tree.specs.Path.{IsPartitioned, index_in, child_in, leaf_in}
+use Rattle.tree.specs.Path.{IsPartitioned, index_in, leaf_in}
 use Rattle.tree.specs.Subtree.{entries_at, items_in, IsSubtree}
 use Rattle.tree.proofs.callers.Partitions.{Falls, Falls-below_from, IsPartitioned-from_falls}
 use Rattle.tree.proofs.Ways.{IsWay, way}
@@ -17,80 +17,58 @@ pub entries_read : {N : ℕ} (nodes : Arena (Node N)) (slot : ℕ) (header : Nod
     → header_at nodes slot ≡ Some header → es ≡ entries_of header → entries_at nodes slot ≡ es
 entries_read nodes slot header es h e = ap (λ o. unwrap_or (option_map entries_of o) []) h ∙ sym e
 
--- The child is that of the entry that the bound finds.
-pub record IsFound {N : ℕ} (nodes : Arena (Node N)) (least height slot : ℕ) (is_below : ℕ → Bool) (child : ℕ)
-    : Type 0 where
-  pub lower : suc (height - 1) ≡ height
-  pub way : IsWay nodes least (height - 1) slot is_below
-  pub is : child ≡ way.entry.child
-
-pub found : {N : ℕ} (nodes : Arena (Node N)) (least height slot : ℕ) (is_below : ℕ → Bool) (header : Node N)
-    (es : List Entry) (index : ℕ) (d : Entry) → (height ≡ 0 → ⊥) → IsSubtree nodes least height slot
-    → IsPartitioned (λ x. is_below x.key) (items_in nodes height slot) → header_at nodes slot ≡ Some header
-    → es ≡ entries_of header → index ≡ index_in is_below es
-    → IsFound nodes least height slot is_below (slice_index_or es index d).child
-found nodes least height slot is_below header es index d some s c h e i =
-    let lower : suc (height - 1) ≡ height = omega arith in
-    let w =
-    way nodes least (height - 1) slot is_below (subst (λ n. IsSubtree nodes least n slot) (sym lower) s)
-    (subst (λ n. IsPartitioned (λ (x : Item). is_below x.key) (items_in nodes n slot)) (sym lower) c) in
-    let read = entries_read nodes slot header es h e in
-    let at : slice_get es index ≡ Some w.entry =
-    rw i (subst (λ xs. slice_get xs (index_in is_below xs) ≡ Some w.entry) read w.is) in
-    record { lower = lower; way = w; is = ap (λ (x : Entry). x.child) (get_or_from_slice_get es index w.entry d at) }
-
-pub partitioned-entries : (p : Item → Bool) (es : List Entry) → IsPartitioned p (map item_of es) → IsPartitioned (λ e. p (item_of e)) es
-partitioned-entries p [] c = refl
-partitioned-entries p (e ∷ es) c =
-    IsPartitioned-from_falls (λ (e : Entry). p (item_of e)) (e ∷ es)
-    (falls (e ∷ es) (Falls-below_from p (map item_of (e ∷ es)) c))
+pub partitioned-entries : (p : Item → Bool) (es : List Entry) → IsPartitioned p (map item_of es)
+    → IsPartitioned (λ e. p (item_of e)) es
+partitioned-entries p es c =
+    IsPartitioned-from_falls (λ (e : Entry). p (item_of e)) es (falls es (Falls-below_from p (map item_of es) c))
   where
-    fails : (es : List Entry) → All (λ x. p x ≡ false) (map item_of es) → All (λ e. p (item_of e) ≡ false) es
-    fails [] a = All-nil (λ (e : Entry). p (item_of e) ≡ false)
-    fails (e ∷ es) a =
-        All-cons (λ (e : Entry). p (item_of e) ≡ false) e es
-        (All-head (λ x. p x ≡ false) (item_of e) (map item_of es) a)
-        (fails es (All-tail (λ x. p x ≡ false) (item_of e) (map item_of es) a))
-
     falls : (es : List Entry) → Falls p (map item_of es) → Falls (λ e. p (item_of e)) es
     falls [] f = tt
-    falls (e ∷ es) f = elim f [ inl h ↦ inl (h.0, falls es h.1) | inr h ↦ inr (h.0, fails es h.1) ]
+    falls (e ∷ es) (inl h) = inl (h.0, falls es h.1)
+    falls (e ∷ es) (inr h) =
+        let fails = λ (k : ℕ) (d : Entry) (w : k < length es). rw (get_or-map item_of es k d (item_of d) w) at
+        (h.1 k (item_of d) (omega (arith, length-map es item_of))) in
+        inr (h.0, fails)
 
--- The entries of a leaf, as the code has read them, are partitioned.
-pub leaf_partitioned : {N : ℕ} (nodes : Arena (Node N)) (height slot : ℕ) (is_below : ℕ → Bool) (header : Node N)
-    (es : List Entry) → height ≡ 0 → IsPartitioned (λ x. is_below x.key) (items_in nodes height slot)
-    → header_at nodes slot ≡ Some header → es ≡ entries_of header → IsPartitioned (λ e. is_below e.key) es
-leaf_partitioned nodes height slot is_below header es z c h e =
-    let at : IsPartitioned (λ (x : Item). is_below x.key) (map item_of (entries_at nodes slot)) =
-    subst (λ n. IsPartitioned (λ (x : Item). is_below x.key) (items_in nodes n slot)) z c in
-    partitioned-entries (λ (x : Item). is_below x.key) es
-    (subst (λ xs. IsPartitioned (λ (x : Item). is_below x.key) (map item_of xs)) (entries_read nodes slot header es h e) at)
+module _ {N : ℕ} (nodes : Arena (Node N)) (least height slot : ℕ) (is_below : ℕ → Bool) where
+  -- The child is that of the entry that the bound finds.
+  pub record IsFound (child : ℕ) : Type 0 where
+    pub lower : suc (height - 1) ≡ height
+    pub way : IsWay nodes least (height - 1) slot is_below
+    pub is : child ≡ way.entry.child
 
--- The entries of a node above the leaves, as the code has read them, are partitioned.
-pub read_partitioned : {N : ℕ} (nodes : Arena (Node N)) (least height slot : ℕ) (is_below : ℕ → Bool) (header : Node N)
-    (es : List Entry) → (height ≡ 0 → ⊥) → IsSubtree nodes least height slot
-    → IsPartitioned (λ x. is_below x.key) (items_in nodes height slot) → header_at nodes slot ≡ Some header
-    → es ≡ entries_of header → IsPartitioned (λ e. is_below e.key) es
-read_partitioned nodes least height slot is_below header es some s c h e =
-    let lower : suc (height - 1) ≡ height = omega arith in
-    let w =
-    way nodes least (height - 1) slot is_below (subst (λ n. IsSubtree nodes least n slot) (sym lower) s)
-    (subst (λ n. IsPartitioned (λ (x : Item). is_below x.key) (items_in nodes n slot)) (sym lower) c) in
-    subst (IsPartitioned (λ (x : Entry). is_below x.key)) (entries_read nodes slot header es h e) w.entries
+  -- what the bound says of the node, at any height above the leaves
+  way_at : (height ≡ 0 → ⊥) → IsSubtree nodes least height slot → IsPartitioned (λ x. is_below x.key) (items_in nodes height slot)
+      → IsWay nodes least (height - 1) slot is_below
+  way_at some s c =
+      let lower : height ≡ suc (height - 1) = omega arith in
+      way nodes least (height - 1) slot is_below (subst (λ n. IsSubtree nodes least n slot) lower s)
+      (subst (λ n. IsPartitioned (λ (x : Item). is_below x.key) (items_in nodes n slot)) lower c)
 
-module _ {N : ℕ} (nodes : Arena (Node N)) (least height slot : ℕ) (is_below : ℕ → Bool) (child : ℕ)
-    (f : IsFound nodes least height slot is_below child) where
-  pub found_subtree : IsSubtree nodes least (height - 1) child
-  found_subtree = subst (IsSubtree nodes least (height - 1)) (sym f.is) f.way.kept.subtree
+  module _ (header : Node N) (es : List Entry) where
+    pub found : (index : ℕ) (d : Entry) → (height ≡ 0 → ⊥) → IsSubtree nodes least height slot
+        → IsPartitioned (λ x. is_below x.key) (items_in nodes height slot) → header_at nodes slot ≡ Some header
+        → es ≡ entries_of header → index ≡ index_in is_below es → IsFound (slice_index_or es index d).child
+    found index d some s c h e i =
+        let w = way_at some s c in
+        let at : slice_get es index ≡ Some w.entry = rw (i, ← entries_read nodes slot header es h e) w.is in
+        let child = ap (λ (x : Entry). x.child) (get_or_from_slice_get es index w.entry d at) in
+        record { lower = omega arith; way = w; is = child }
 
-  pub found_partitioned : IsPartitioned (λ x. is_below x.key) (items_in nodes (height - 1) child)
-  found_partitioned = subst (λ s. IsPartitioned (λ (x : Item). is_below x.key) (items_in nodes (height - 1) s)) (sym f.is) f.way.partitioned
+    -- The entries of a node above the leaves, as the code has read them, are partitioned.
+    pub read_partitioned : (height ≡ 0 → ⊥) → IsSubtree nodes least height slot
+        → IsPartitioned (λ x. is_below x.key) (items_in nodes height slot) → header_at nodes slot ≡ Some header
+        → es ≡ entries_of header → IsPartitioned (λ e. is_below e.key) es
+    read_partitioned some s c h e = rw (entries_read nodes slot header es h e) at (way_at some s c).entries
 
-  is_child : child ≡ child_in is_below (entries_at nodes slot)
-  is_child = f.is ∙ f.way.child
+  module _ (child : ℕ) (f : IsFound child) where
+    pub found_subtree : IsSubtree nodes least (height - 1) child
+    found_subtree = rw f.is f.way.kept.subtree
 
-  pub found_leaf : (leaf : ℕ) → leaf ≡ leaf_in nodes (height - 1) child is_below
-      → leaf ≡ leaf_in nodes height slot is_below
-  found_leaf leaf e =
-      subst (λ n. leaf ≡ leaf_in nodes n slot is_below) f.lower
-      (subst (λ s. leaf ≡ leaf_in nodes (height - 1) s is_below) is_child e)
+    pub found_partitioned : IsPartitioned (λ x. is_below x.key) (items_in nodes (height - 1) child)
+    found_partitioned = rw f.is f.way.partitioned
+
+    pub found_leaf : (leaf : ℕ) → leaf ≡ leaf_in nodes (height - 1) child is_below → leaf ≡ leaf_in nodes height slot is_below
+    found_leaf leaf e =
+        subst (λ n. leaf ≡ leaf_in nodes n slot is_below) f.lower
+        (subst (λ s. leaf ≡ leaf_in nodes (height - 1) s is_below) (f.is ∙ f.way.child) e)

@@ -1,7 +1,7 @@
 -- A leaf of which a run is swept of expired items that begins with the last item below the bound.
-use Rattle.std.proofs.Common.{◌≡◌, ℕ, zero, suc, ℤ, ◌+◌, ◌-◌, ◌<◌, ◌≤◌, Bool, List, Option, [], ◌∷◌, ◌++◌, length, take, drop, filter, map}
-use Rattle.std.proofs.Common.{sym, ◌∙◌, ap, subst, arith, refl, length-drop}
-use Rattle.std.proofs.lemmas.List.{map-append, length-map, length-take-le, take-append-drop, drop-drop}
+use Rattle.std.proofs.Common.{◌≡◌, ℕ, ℤ, ◌+◌, ◌-◌, ◌<◌, ◌≤◌, Bool, List, Option, [], ◌∷◌, ◌++◌, pos, length, get_or, take, drop, filter, map}
+use Rattle.std.proofs.Common.{sym, ◌∙◌, ap, arith, refl, length-drop}
+use Rattle.std.proofs.lemmas.List.{take_more, drop_more, map-append, length-map, length-take-le, take-append-drop, drop-drop}
 use Rattle.tree.specs.declared.entry.Entry.{Entry}
 use Rattle.tree.specs.declared.expiring.Removal.{Removal}
 use Rattle.tree.specs.Item.{Item, item_of, version_of}
@@ -11,26 +11,6 @@ use Rattle.tree.specs.Tree.{IsLast, unexpired, expired}
 use Rattle.tree.proofs.Removing.{run, all_stay}
 use Rattle.tree.proofs.WrittenLeaf.{items_parted}
 
--- the entry at an index, and those around it
-record At (es : List Entry) (index : ℕ) : Type 0 where
-  entry : Entry
-  rest : drop index es ≡ entry ∷ drop (index + 1) es
-  front : take (index + 1) es ≡ take index es ++ entry ∷ []
-
-at_index : (es : List Entry) (index : ℕ) → index < length es → At es index
-at_index [] index lt = absurd (omega arith)
-at_index (e ∷ es) zero lt =
-    let one : 0 + 1 ≡ suc zero = omega arith in
-    record { entry = e; rest = ap (λ n. e ∷ drop n (e ∷ es)) (sym one); front = ap (λ n. take n (e ∷ es)) one }
-at_index (e ∷ es) (suc index) lt =
-    let i = at_index es index (omega arith) in
-    let one : suc index + 1 ≡ suc (index + 1) = omega arith in
-    record {
-      entry = i.entry;
-      rest = i.rest ∙ ap (λ n. i.entry ∷ drop n (e ∷ es)) (sym one);
-      front = ap (λ n. take n (e ∷ es)) one ∙ ap (λ xs. e ∷ xs) i.front;
-    }
-
 versions : (es : List Entry) → map (λ (x : Item). x.version) (map item_of es) ≡ map version_of es
 versions [] = refl
 versions (e ∷ es) = ap (λ l. e.version ∷ l) (versions es)
@@ -39,24 +19,17 @@ module _ (es : List Entry) (begin end : ℕ) (some : begin < end) (most : end �
   -- the entries from the first of the run on
   from_run : drop begin es ≡ run es begin end ++ drop end es
   from_run =
-      let rest = drop begin es in
-      let n = end - begin in
-      let add : begin + n ≡ end = omega arith in
-      let behind : drop n rest ≡ drop end es = drop-drop n begin es ∙ ap (λ k. drop k es) add in
-      sym (take-append-drop n rest) ∙ ap (λ xs. run es begin end ++ xs) behind
+      let add : begin + (end - begin) ≡ end = omega arith in
+      cc (take-append-drop (end - begin) (drop begin es), drop-drop (end - begin) begin es)
 
   -- Where no item goes, all stay.
   pub untouched : (edge before : ℤ) → expired edge before (map item_of (run es begin end)) ≡ []
       → map item_of es ≡ map item_of (take begin es)
       ++ (unexpired edge before (map item_of (run es begin end)) ++ map item_of (drop end es))
   untouched edge before none =
-      let front = map item_of (take begin es) in
-      let looked = map item_of (run es begin end) in
-      let rest = map item_of (drop end es) in
-      ap (map item_of) (sym (take-append-drop begin es) ∙ ap (λ xs. take begin es ++ xs) from_run)
-      ∙ map-append item_of (take begin es) (run es begin end ++ drop end es)
-      ∙ ap (λ xs. front ++ xs) (map-append item_of (run es begin end) (drop end es))
-      ∙ ap (λ xs. front ++ (xs ++ rest)) (sym (all_stay edge before looked none))
+      let items = map-append item_of (take begin es) (drop begin es) in
+      let behind = map-append item_of (run es begin end) (drop end es) in
+      cc (all_stay edge before (map item_of (run es begin end)) none, take-append-drop begin es, from_run, items, behind)
 
   -- the items of the leaf once it is swept of expired items
   pub leaf_unexpired : (p : ℕ → Bool) → IsPartitioned (λ e. p e.key) es → begin + 1 ≡ length (filter (λ e. p e.key) es)
@@ -69,23 +42,26 @@ module _ (es : List Entry) (begin end : ℕ) (some : begin < end) (most : end �
       → removal.next ≡ first_key next (map item_of (drop end es))
       → RemovesExpired p count edge before removal out next (map item_of es) now
   leaf_unexpired p partitioned is_below count edge before removal out next now few looked_at last now_is run_is next_is =
-      let at = at_index es begin (omega arith) in
+      let default : Entry = record { key = 0; child = 0; version = pos 0 } in
+      let entry = get_or es begin default in
       let parts = items_parted p es (begin + 1) partitioned is_below in
       let size : length (run es begin end) ≡ end - begin =
       length-take-le (end - begin) (drop begin es) (omega (arith, length-drop begin es)) in
       record {
         front = map item_of (take begin es);
-        first = item_of at.entry;
+        first = item_of entry;
         looked = map item_of (run es begin end);
         rest = map item_of (drop end es);
-        front_is = parts.0 ∙ ap (map item_of) at.front ∙ map-append item_of (take begin es) (at.entry ∷ []);
-        looked_is = ap (λ xs. item_of at.entry ∷ xs) parts.1 ∙ ap (map item_of) (sym at.rest ∙ from_run)
+        front_is = parts.0 ∙ ap (map item_of) (take_more es begin default (omega arith))
+            ∙ map-append item_of (take begin es) (entry ∷ []);
+        looked_is = ap (λ xs. item_of entry ∷ xs) parts.1
+            ∙ ap (map item_of) (sym (drop_more es begin default (omega arith)) ∙ from_run)
             ∙ map-append item_of (run es begin end) (drop end es);
         looked_at = length-map (run es begin end) item_of ∙ size ∙ sym looked_at;
         some = omega (arith, looked_at);
         few = omega (arith, looked_at, few);
         now_is = now_is;
         run_is = run_is;
-        last = subst (IsLast removal.last) (sym (versions (run es begin end))) last;
+        last = rw (versions (run es begin end)) last;
         next_is = next_is;
       }

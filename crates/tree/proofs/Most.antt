@@ -1,122 +1,84 @@
 -- The greatest of a version, which may be missing, and those of items in parts.
-use Rattle.std.proofs.Common.{◌≡◌, ◌⊎◌, Bool, false, List, [], ◌∷◌, ◌++◌, Option, Some, None, IfSome, IsTrue, ◌↔◌, filter, All, Any, refl, sym, ap, subst, ◌∙◌, inl, inr, arith, append-nil, append_assoc}
+use Rattle.std.proofs.Common.{◌≡◌, Bool, false, List, [], ◌∷◌, ◌++◌, Option, Some, None, IfSome, IsTrue, ◌↔◌, filter, flat_map, All, refl, ap, inl, inr, arith, append-nil, append_assoc}
 use Rattle.std.specs.Prelude.{ℤ, ◌≤ℤ◌, ◌<ℤ◌}
 use Rattle.std.specs.Int.{int_max}
-use Rattle.std.proofs.lemmas.Int.{ints, clamps}
-use Rattle.std.proofs.lemmas.List.Elements.{All-nil, All-append, All-weaker, All-filter}
+use Rattle.std.proofs.lemmas.Int.{ints, clamps, to_z-of_z}
+use mir.Syntax.{w64}
+use mir.Val.{SFits, to_z, of_z}
+use Rattle.std.proofs.lemmas.List.Elements.{All-nil, All-append, All-filter}
 use Rattle.keys.proofs.callers.SomeElement.{Any-parts, Any-left, Any-right}
 use Rattle.tree.specs.declared.entry.Entry.{Entry}
-use Rattle.tree.specs.Item.{Item, Tells, IsGreatestWith, greater_of}
+use Rattle.tree.specs.Item.{Item, Tells, IsGreatestWith, greater_of, version_of}
 use Rattle.tree.proofs.callers.Partitions.{All-front, All-back}
-use Rattle.tree.proofs.GreatestParts.{IsPeak}
-
-abbrev Bounds : ℤ → Item → Type 0
-Bounds v x = x.version ≤ℤ v
-
-abbrev Reaches : ℤ → Item → Type 0
-Reaches v x = x.version ≡ v
-
-higher : (v w : ℤ) (xs : List Item) → v ≤ℤ w → All (Bounds v) xs → All (Bounds w) xs
-higher v w xs le = All-weaker (Bounds v) (Bounds w) (λ x h. omega (arith, ints, h, le)) xs
-
-one_of_both : (a b : ℤ) → (a ≡ int_max a b) ⊎ (b ≡ int_max a b)
-one_of_both a b = grind (arith, ints, clamps)
+use Rattle.tree.proofs.Greatest.{one_of_both}
+use Rattle.tree.proofs.GreatestParts.{IsPeak, IsPeak-children, Bounds, Reaches, higher}
 
 -- beside the greatest version of the items alone
 pub most_with : (least peak : Option ℤ) (xs : List Item) → IsPeak (λ (x : Item). x.version) peak xs
     → IsGreatestWith least xs (greater_of least peak)
 most_with None None xs h = (refl, h)
 most_with None (Some v) xs h = record { bound = h.bound; least_bound = tt; reached = inr h.reached }
-most_with (Some l) None xs h = record {
-  bound = subst (All (Bounds l)) (sym h) (All-nil (Bounds l));
-  least_bound = omega (arith, ints);
-  reached = inl refl;
-}
+most_with (Some l) None xs h = record { bound = rw h (All-nil (Bounds l)); least_bound = omega (arith, ints); reached = inl refl }
 most_with (Some l) (Some v) xs h = record {
   bound = higher v (int_max l v) xs (omega (arith, ints, clamps)) h.bound;
   least_bound = omega (arith, ints, clamps);
-  reached = elim (one_of_both l v) [
-    | inl e ↦ inl (ap Some e)
-    | inr e ↦ inr (subst (λ w. Any (Reaches w) xs) e h.reached)
-  ];
+  reached = elim (one_of_both l v) [ inl e ↦ inl (ap Some e) | inr e ↦ inr (rw (← e) h.reached) ];
 }
+
+-- beside that of whole children
+pub most_between : (least peak most : Option ℤ) (below : Entry → List Item) (es : List Entry) → All (λ e. Tells e (below e)) es
+    → IsPeak version_of peak es → most ≡ greater_of least peak → IsGreatestWith least (flat_map below es) most
+most_between least peak most below es tell told same = rw same (most_with least peak _ (IsPeak-children below peak es tell told))
 
 least_higher : (least : Option ℤ) (v w : ℤ) → v ≤ℤ w → IfSome least (λ l. l ≤ℤ v) → IfSome least (λ l. l ≤ℤ w)
 least_higher None v w le h = tt
 least_higher (Some l) v w le h = omega (arith, ints, le, h)
 
 -- the items of one list, then those of another
-pub most_append : (a b c : Option ℤ) (xs ys : List Item) → IsGreatestWith a xs b → IsGreatestWith b ys c
+most_append : (a b c : Option ℤ) (xs ys : List Item) → IsGreatestWith a xs b → IsGreatestWith b ys c
     → IsGreatestWith a (xs ++ ys) c
-most_append a b None xs ys g h =
-    let k = subst (IsGreatestWith a xs) h.0 g in
-    (k.0, ap (λ zs. zs ++ ys) k.1 ∙ h.1)
-most_append a None (Some v) xs ys g h =
-    subst (λ zs. IsGreatestWith a (zs ++ ys) (Some v)) (sym g.1)
-    (subst (λ o. IsGreatestWith o ys (Some v)) (sym g.0) h)
+most_append a b None xs ys g h = let k = rw h.0 at g in (k.0, rw (k.1, h.1) refl)
+most_append a None (Some v) xs ys g h = rw (g.0, g.1) h
 most_append a (Some w) (Some v) xs ys g h = record {
   bound = All-append (Bounds v) xs ys (higher w v xs h.least_bound g.bound) h.bound;
   least_bound = least_higher a w v h.least_bound g.least_bound;
   reached = elim h.reached [
-    | inl e ↦
-        let same : w ≡ v = cc in
-        elim g.reached [
-          | inl i ↦ inl (i ∙ e)
-          | inr r ↦ inr (Any-left (Reaches v) xs ys (subst (λ u. Any (Reaches u) xs) same r))
-        ]
+    | inl e ↦ let same : w ≡ v = cc in elim (rw same at g.reached) [ inl i ↦ inl i | inr r ↦ inr (Any-left _ xs ys r) ]
     | inr r ↦ inr (Any-right (Reaches v) xs ys r)
   ];
 }
 
-none_swapped : (xs ys : List Item) → xs ++ ys ≡ [] → ys ++ xs ≡ []
-none_swapped [] ys e = append-nil ys ∙ e
-none_swapped (x ∷ xs) ys e = absurd (cc)
-
 most_swapped : (a b : Option ℤ) (xs ys : List Item) → IsGreatestWith a (xs ++ ys) b → IsGreatestWith a (ys ++ xs) b
-most_swapped a None xs ys h = (h.0, none_swapped xs ys h.1)
+most_swapped a None [] ys h = rw (append-nil ys) h
+most_swapped a None (x ∷ xs) ys h = let e = h.1 in absurd (cc)
 most_swapped a (Some v) xs ys h = record {
   bound = All-append (Bounds v) ys xs (All-back (Bounds v) xs ys h.bound) (All-front (Bounds v) xs ys h.bound);
   least_bound = h.least_bound;
   reached = elim h.reached [
     | inl e ↦ inl e
-    | inr r ↦
-        elim (Any-parts (Reaches v) xs ys r) [
-          | inl i ↦ inr (Any-right (Reaches v) ys xs i)
-          | inr i ↦ inr (Any-left (Reaches v) ys xs i)
-        ]
+    | inr r ↦ elim (Any-parts _ xs ys r) [ inl i ↦ inr (Any-right _ ys xs i) | inr i ↦ inr (Any-left _ ys xs i) ]
   ];
 }
-
-pub most_same : (a b : Option ℤ) (xs ys : List Item) → xs ≡ ys → IsGreatestWith a ys b → IsGreatestWith a xs b
-most_same a b xs ys e h = subst (λ zs. IsGreatestWith a zs b) (sym e) h
 
 -- those of three parts, the middle one first
 pub most_of_parts : (a b c d : Option ℤ) (whole l m r : List Item) → whole ≡ l ++ (m ++ r) → IsGreatestWith a m b
     → IsGreatestWith b l c → IsGreatestWith c r d → IsGreatestWith a whole d
 most_of_parts a b c d whole l m r parts i j k =
-    most_same a d whole ((l ++ m) ++ r) (parts ∙ sym (append_assoc l m r))
-    (most_append a c d (l ++ m) r (most_swapped a c m l (most_append a b c m l i j)) k)
+    rw (parts, ← append_assoc l m r) (most_append a c d (l ++ m) r (most_swapped a c m l (most_append a b c m l i j)) k)
 
 -- a subtree that has none above the version is passed over
-pub most_passed : (least : Option ℤ) (e : Entry) (xs : List Item) (p : Item → Bool) (above : Bool) → Tells e xs
-    → above ≡ false → (IsTrue above ↔ IfSome least (λ l. l <ℤ e.version)) → IsGreatestWith least (filter p xs) least
-most_passed None e xs p above tells fails told = let yes = told.1 tt in absurd (cc)
-most_passed (Some l) e xs p above tells fails told =
-    let not_less : l <ℤ e.version → ⊥ = λ lt. (let yes = told.1 lt in cc) in
+pub most_passed : (least : Option ℤ) (e : Entry) (xs : List Item) (p : Item → Bool) (above : Bool) → SFits w64 e.version
+    → Tells e xs → above ≡ false → (IsTrue above ↔ IfSome least (λ l. l <ℤ to_z w64 (of_z w64 e.version)))
+    → IsGreatestWith least (filter p xs) least
+most_passed None e xs p above fits tells fails told = let yes = told.1 tt in absurd (cc)
+most_passed (Some l) e xs p above fits tells fails told =
+    let same = to_z-of_z w64 e.version fits in
+    let not_less : l <ℤ e.version → ⊥ = λ lt. (let yes = told.1 (rw same lt) in cc) in
     let le : e.version ≤ℤ l = grind (arith, ints) in
-    record {
-      bound = All-filter p (Bounds l) xs (higher e.version l xs le tells.greatest.bound);
-      least_bound = omega (arith, ints);
-      reached = inl refl;
-    }
+    let bound = All-filter p (Bounds l) xs (higher e.version l xs le tells.greatest.bound) in
+    record { bound = bound; least_bound = omega (arith, ints); reached = inl refl }
 
 -- with no version beside them it is the items' own
 pub most_alone : (a : Option ℤ) (xs : List Item) → IsGreatestWith None xs a → IsPeak (λ (x : Item). x.version) a xs
 most_alone None xs h = h.1
-most_alone (Some v) xs h = record {
-  bound = h.bound;
-  reached = elim h.reached [
-    | inl e ↦ absurd (cc)
-    | inr r ↦ r
-  ];
-}
+most_alone (Some v) xs h = record { bound = h.bound; reached = elim h.reached [ inl e ↦ absurd (cc) | inr r ↦ r ] }

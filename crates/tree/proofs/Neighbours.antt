@@ -5,17 +5,14 @@ use Rattle.tree.specs.declared.node.Node.{Node}
 use Rattle.tree.specs.Node.{entries_of}
 use Rattle.tree.specs.Replace.{Changes, IsKeyless}
 use Rattle.tree.specs.Subtree.{entries_at}
-use Rattle.tree.proofs.Changing.{Moves, changes_if_moves, moves_beside, moves_if_changes, moves_trans}
+use Rattle.tree.proofs.Changing.{changes_if_moves, moves_beside, moves_if_changes, moves_trans}
 use Rattle.tree.proofs.Frames.{entries_same, live_same}
 use Rattle.tree.proofs.Placing.{live_one, put_entries, put_live, put_moves}
 
 module _ {N : ℕ} (a b z : Arena (Node N)) (x y : ℕ) (left : Node N) (put : b ≡ with_header a x left)
     (placed : Changes b z [] (y ∷ [])) where
-  moves : Moves b z [] (y ∷ [])
-  moves = moves_if_changes b z [] (y ∷ []) placed
-
   kept : record_at z x ≡ record_at b x
-  kept = moves.others x refl (put_live a b x left put)
+  kept = (moves_if_changes b z [] (y ∷ []) placed).others x refl (put_live a b x left put)
 
   pub left_entries : entries_at z x ≡ entries_of left
   left_entries = entries_same b z x kept ∙ put_entries a b x left put
@@ -28,5 +25,6 @@ module _ {N : ℕ} (a b z : Arena (Node N)) (x y : ℕ) (left : Node N) (put : b
       let first = put_moves a b x left put live keyless in
       changes_if_moves a z (x ∷ []) (x ∷ y ∷ [])
       (moves_trans a b z (x ∷ []) (x ∷ []) (x ∷ y ∷ []) first
-      (moves_beside b z [] (y ∷ []) (x ∷ []) (x ∷ []) (x ∷ y ∷ []) moves (λ s. omega arith) (λ s. omega arith)
+      (moves_beside b z [] (y ∷ []) (x ∷ []) (x ∷ []) (x ∷ y ∷ [])
+      (moves_if_changes b z [] (y ∷ []) placed) (λ s. omega arith) (λ s. omega arith)
       (omega arith) (omega arith) first.few (live_one b x (put_live a b x left put))))

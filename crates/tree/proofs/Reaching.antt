@@ -1,21 +1,17 @@
 -- The leaf that a bound finds: the items before it and behind it.
-use Rattle.std.proofs.Common.{◌≡◌, ℕ, zero, suc, ◌+◌, Bool, true, false, List, ◌++◌}
-use Rattle.std.proofs.Common.{map, take}
-use Rattle.std.proofs.Common.{drop, flat_map, All, sym, ◌∙◌, ap, subst}
+use Rattle.std.proofs.Common.{rules, ◌≡◌, ℕ, zero, suc, Bool, true, false, ◌++◌}
+use Rattle.std.proofs.Common.{map}
+use Rattle.std.proofs.Common.{All, sym}
 use Rattle.std.proofs.lemmas.List.{append_assoc, append-nil}
 use Rattle.std.proofs.lemmas.List.Elements.{All-nil, All-append}
 use Rattle.arena.specs.Arena.{Arena}
-use Rattle.tree.specs.declared.entry.Entry.{Entry}
 use Rattle.tree.specs.declared.node.Node.{Node}
 use Rattle.tree.specs.Item.{Item, item_of}
-use Rattle.tree.specs.Path.{IsPartitioned, index_in, child_in, leaf_in, before_leaf, behind_leaf}
+use Rattle.tree.specs.Path.{IsPartitioned, child_in, leaf_in, before_leaf, behind_leaf}
 use Rattle.tree.specs.Subtree.{entries_at, items_in, IsSubtree}
 use Rattle.tree.proofs.Ways.{way}
 
 module _ {N : ℕ} (nodes : Arena (Node N)) where
-  regroup : (a b m h r : List Item) → a ++ ((b ++ (m ++ h)) ++ r) ≡ (a ++ b) ++ (m ++ (h ++ r))
-  regroup a b m h r = simp append_assoc
-
   -- what the leaf that a bound finds says of the items of the subtree
   pub record IsFoundLeaf (height slot leaf : ℕ) (is_below : ℕ → Bool) : Type 0 where
     pub items : items_in nodes height slot ≡ before_leaf nodes height slot is_below
@@ -23,35 +19,18 @@ module _ {N : ℕ} (nodes : Arena (Node N)) where
     pub before : All (λ x. is_below x.key ≡ true) (before_leaf nodes height slot is_below)
     pub behind : All (λ x. is_below x.key ≡ false) (behind_leaf nodes height slot is_below)
 
-  found_leaf_in : (least height slot : ℕ) (is_below : ℕ → Bool) → IsSubtree nodes least height slot
+  pub found_leaf_in : (least height slot : ℕ) (is_below : ℕ → Bool) → IsSubtree nodes least height slot
       → IsPartitioned (λ x. is_below x.key) (items_in nodes height slot)
       → IsFoundLeaf height slot (leaf_in nodes height slot is_below) is_below
-  found_leaf_in least zero slot is_below s c = record {
-    items = sym (append-nil (map item_of (entries_at nodes slot)));
-    before = All-nil (λ (x : Item). is_below x.key ≡ true);
-    behind = All-nil (λ (x : Item). is_below x.key ≡ false);
-  }
+  found_leaf_in least zero slot is_below s c =
+      let items = sym (append-nil (map item_of (entries_at nodes slot))) in
+      search (rules, items, All-nil (λ (x : Item). is_below x.key ≡ true), All-nil (λ (x : Item). is_below x.key ≡ false))
   found_leaf_in least (suc height) slot is_below s c =
       let w = way nodes least height slot is_below s c in
-      let below = λ (e : Entry). items_in nodes height e.child in
-      let es = entries_at nodes slot in
-      let a = flat_map below (take (index_in is_below es) es) in
-      let r = flat_map below (drop (index_in is_below es + 1) es) in
-      let child = child_in is_below es in
-      let here = map item_of (entries_at nodes (leaf_in nodes height child is_below)) in
-      let f = found_leaf_in least height child is_below (subst (IsSubtree nodes least height) w.child w.kept.subtree)
-      (subst (λ t. IsPartitioned (λ (x : Item). is_below x.key) (items_in nodes height t)) w.child w.partitioned) in
+      let child = child_in is_below (entries_at nodes slot) in
+      let f = found_leaf_in least height child is_below (rw (← w.child) w.kept.subtree) (rw (← w.child) w.partitioned) in
       record {
-        items = w.items ∙ ap (λ t. a ++ (items_in nodes height t ++ r)) w.child ∙ ap (λ xs. a ++ (xs ++ r)) f.items
-            ∙ regroup a (before_leaf nodes height child is_below) here (behind_leaf nodes height child is_below) r;
-        before = All-append (λ (x : Item). is_below x.key ≡ true) a (before_leaf nodes height child is_below) w.before
-            f.before;
-        behind = All-append (λ (x : Item). is_below x.key ≡ false) (behind_leaf nodes height child is_below) r f.behind
-            w.behind;
+        items = rw (w.items, w.child, f.items) (simp append_assoc);
+        before = All-append (λ (x : Item). is_below x.key ≡ true) _ _ w.before f.before;
+        behind = All-append (λ (x : Item). is_below x.key ≡ false) _ _ f.behind w.behind;
       }
-
-  pub found_at_leaf : (least height slot leaf : ℕ) (is_below : ℕ → Bool) → IsSubtree nodes least height slot
-      → IsPartitioned (λ x. is_below x.key) (items_in nodes height slot) → leaf ≡ leaf_in nodes height slot is_below
-      → IsFoundLeaf height slot leaf is_below
-  found_at_leaf least height slot leaf is_below s c same =
-      subst (λ l. IsFoundLeaf height slot l is_below) (sym same) (found_leaf_in least height slot is_below s c)

@@ -1,13 +1,13 @@
 -- What lies from one bound to another, in parts.
-use Rattle.std.proofs.Common.{◌≡◌, ℕ, suc, ◌+◌, ◌-◌, ◌<◌, ◌≤◌, Bool, true, false, not, ◌&&◌, List, [], ◌∷◌, ◌++◌, length, get_or, take, drop, filter, flat_map, All, refl, sym, ◌∙◌, ap, subst, inl, inr, arith, drop-cons, take-add, take_at, drop_at, take-append-drop, append-nil, length-drop}
+use Rattle.std.proofs.Common.{◌≡◌, ℕ, ◌+◌, ◌-◌, ◌<◌, ◌≤◌, Bool, true, false, not, ◌&&◌, List, [], ◌∷◌, ◌++◌, length, get_or, take, drop, filter, flat_map, All, refl, sym, ◌∙◌, ap, inl, inr, arith, take-add, take_at, drop_at, take-append-drop, append-nil}
 use Rattle.std.specs.Prelude.{slice_range}
 use Rattle.std.proofs.lemmas.Bool.{and_right, cases_Bool}
 use Rattle.std.proofs.lemmas.Grind.{flat_map-append}
-use Rattle.std.proofs.lemmas.List.{drop-drop, drop-take, get_or-drop}
+use Rattle.std.proofs.lemmas.List.{append_assoc, drop-drop, drop-take, drop_more, take_more}
 use Rattle.std.proofs.lemmas.List.Elements.{All-head, All-tail, All-take, All-drop, filter-append}
 use Rattle.tree.specs.declared.entry.Entry.{Entry}
 use Rattle.tree.specs.Path.{IsPartitioned}
-use Rattle.tree.proofs.callers.Partitions.{none_pass, none_fail, passed, failed, All-front, All-back}
+use Rattle.tree.proofs.callers.Partitions.{passed, failed, All-front, All-back}
 use Rattle.tree.proofs.Ways.{around_element}
 
 module _ {X : Type 0} where
@@ -27,40 +27,31 @@ module _ {X : Type 0} where
   IsPartitioned-none xs = rw (none_before xs) (sym (all_before xs))
 
   pub IsPartitioned-all : (xs : List X) → IsPartitioned (λ x. true) xs
-  IsPartitioned-all [] = refl
-  IsPartitioned-all (x ∷ xs) = ap (λ ys. x ∷ ys) (IsPartitioned-all xs)
+  IsPartitioned-all xs = rw (all_before xs, none_before xs) (sym (append-nil xs))
+
+  -- tests that agree on each element
+  filter_same : (p q : X → Bool) (xs : List X) → All (λ x. p x ≡ q x) xs → filter p xs ≡ filter q xs
+  filter_same p q [] same = refl
+  filter_same p q (x ∷ xs) same =
+      rw (All-head (λ x. p x ≡ q x) x xs same, filter_same p q xs (All-tail (λ x. p x ≡ q x) x xs same)) refl
 
   module _ (p q : X → Bool) where
     pub span_before : (xs : List X) → All (λ x. p x ≡ true) xs → span p q xs ≡ []
-    span_before xs a = (none_pass (λ x. not (p x) && q x) xs (λ i d inside. rw (a i d inside) refl)).0
+    span_before xs a = filter_same _ (λ x. false) xs (λ i d inside. rw (a i d inside) refl) ∙ none_before xs
 
     pub span_behind : (xs : List X) → All (λ x. q x ≡ false) xs → span p q xs ≡ []
-    span_behind xs a =
-        (none_pass (λ x. not (p x) && q x) xs
-        (λ i d inside. and_right (not (p (get_or xs i d))) (q (get_or xs i d)) (a i d inside))).0
-
-    pub span_all : (xs : List X) → All (λ x. p x ≡ false) xs → All (λ x. q x ≡ true) xs → span p q xs ≡ xs
-    span_all xs a b = (none_fail (λ x. not (p x) && q x) xs (λ i d inside. rw (a i d inside, b i d inside) refl)).0
+    span_behind xs b =
+        filter_same _ (λ x. false) xs (λ i d inside. and_right (not (p (get_or xs i d))) (q (get_or xs i d)) (b i d inside))
+        ∙ none_before xs
 
     pub span_to_end : (xs : List X) → All (λ x. q x ≡ true) xs → span p q xs ≡ span p (λ x. true) xs
-    span_to_end [] b = refl
-    span_to_end (x ∷ xs) b =
-        let t = All-head (λ x. q x ≡ true) x xs b in
-        let i = span_to_end xs (All-tail (λ x. q x ≡ true) x xs b) in
-        elim (cases_Bool (p x)) [
-          | inl h ↦ rw (t, h) i
-          | inr h ↦ rw (t, h) (ap (λ ys. x ∷ ys) i)
-        ]
+    span_to_end xs b = filter_same _ _ xs (λ i d inside. rw (b i d inside) refl)
 
     pub span_from_begin : (xs : List X) → All (λ x. p x ≡ false) xs → span p q xs ≡ span (λ x. false) q xs
-    span_from_begin [] a = refl
-    span_from_begin (x ∷ xs) a =
-        let f = All-head (λ x. p x ≡ false) x xs a in
-        let i = span_from_begin xs (All-tail (λ x. p x ≡ false) x xs a) in
-        elim (cases_Bool (q x)) [
-          | inl h ↦ rw (f, h) (ap (λ ys. x ∷ ys) i)
-          | inr h ↦ rw (f, h) i
-        ]
+    span_from_begin xs a = filter_same _ _ xs (λ i d inside. rw (a i d inside) refl)
+
+    pub span_all : (xs : List X) → All (λ x. p x ≡ false) xs → All (λ x. q x ≡ true) xs → span p q xs ≡ xs
+    span_all xs a b = filter_same _ (λ x. true) xs (λ i d inside. rw (a i d inside, b i d inside) refl) ∙ all_before xs
 
     pub fewer_before : ((x : X) → p x ≡ true → q x ≡ true) → (xs : List X)
         → length (filter p xs) ≤ length (filter q xs)
@@ -68,50 +59,37 @@ module _ {X : Type 0} where
     fewer_before n (x ∷ xs) =
         let i = fewer_before n xs in
         elim (cases_Bool (p x)) [
-          | inl t ↦ let u = n x t in rw (t, u) (omega arith)
-          | inr f ↦
-              elim (cases_Bool (q x)) [
-                | inl u ↦ rw (f, u) (omega arith)
-                | inr u ↦ rw (f, u) (omega arith)
-              ]
+          | inl t ↦ rw (t, n x t) (omega arith)
+          | inr f ↦ elim (cases_Bool (q x)) [ inl u ↦ rw (f, u) (omega arith) | inr u ↦ rw (f, u) (omega arith) ]
         ]
 
   -- what stands before and behind a bound
   pub before_partitioned : (p : X → Bool) (xs : List X) → IsPartitioned p xs
       → All (λ x. p x ≡ true) (take (length (filter p xs)) xs)
   before_partitioned p xs c =
-      let e : take (length (filter p xs)) xs ≡ filter p xs =
-      cc (take_at (filter p xs) (filter (λ x. not (p x)) xs) (length (filter p xs)) refl) in
-      subst (All (λ x. p x ≡ true)) (sym e) (passed p xs)
+      rw (ap (take (length (filter p xs))) c ∙ take_at (filter p xs) (filter (λ x. not (p x)) xs) _ refl) (passed p xs)
 
   pub behind_partitioned : (p : X → Bool) (xs : List X) → IsPartitioned p xs
       → All (λ x. p x ≡ false) (drop (length (filter p xs)) xs)
   behind_partitioned p xs c =
-      let e : drop (length (filter p xs)) xs ≡ filter (λ x. not (p x)) xs =
-      cc (drop_at (filter p xs) (filter (λ x. not (p x)) xs) (length (filter p xs)) refl) in
-      subst (All (λ x. p x ≡ false)) (sym e) (failed p xs)
-
-  in_parts : (xs : List X) (i j : ℕ) → i ≤ j → xs ≡ take i xs ++ (slice_range xs i j ++ drop j xs)
-  in_parts xs i j le =
-      let up : i + (j - i) ≡ j = omega arith in
-      cc (take-append-drop i xs, take-append-drop (j - i) (drop i xs), drop-drop (j - i) i xs)
+      rw (ap (drop (length (filter p xs))) c ∙ drop_at (filter p xs) (filter (λ x. not (p x)) xs) _ refl) (failed p xs)
 
   -- the part of a list from one bound to another
   pub span_range : (p q : X → Bool) (xs : List X) (i j : ℕ) → IsPartitioned p xs → IsPartitioned q xs → i ≤ j
       → i ≡ length (filter p xs) → j ≡ length (filter q xs) → span p q xs ≡ slice_range xs i j
   span_range p q xs i j c d le m n =
-      let front = subst (λ k. All (λ x. p x ≡ true) (take k xs)) (sym m) (before_partitioned p xs c) in
-      let later = subst (λ k. All (λ x. p x ≡ false) (drop k xs)) (sym m) (behind_partitioned p xs c) in
-      let sooner = subst (λ k. All (λ x. q x ≡ true) (take k xs)) (sym n) (before_partitioned q xs d) in
-      let back = subst (λ k. All (λ x. q x ≡ false) (drop k xs)) (sym n) (behind_partitioned q xs d) in
+      let front = rw (← m) at (before_partitioned p xs c) in
+      let later = rw (← m) at (behind_partitioned p xs c) in
+      let sooner = rw (← n) at (before_partitioned q xs d) in
+      let back = rw (← n) at (behind_partitioned q xs d) in
       let up : i + (j - i) ≡ j = omega arith in
       let is : drop i (take j xs) ≡ slice_range xs i j = cc (drop-take i (j - i) xs) in
-      let inside = subst (All (λ x. q x ≡ true)) is (All-drop (λ x. q x ≡ true) i (take j xs) sooner) in
-      let outside = All-take (λ x. p x ≡ false) (j - i) (drop i xs) later in
-      let none_first = span_before p q (take i xs) front in
-      let none_last = span_behind p q (drop j xs) back in
-      let whole = span_all p q (slice_range xs i j) outside inside in
-      ap (span p q) (in_parts xs i j le) ∙ simp (filter-append, none_first, none_last, whole, append-nil)
+      let inside = rw is at (All-drop (λ x. q x ≡ true) i (take j xs) sooner) in
+      let whole = span_all p q (slice_range xs i j) (All-take (λ x. p x ≡ false) (j - i) (drop i xs) later) inside in
+      let parts : xs ≡ take i xs ++ (slice_range xs i j ++ drop j xs) =
+      cc (take-append-drop i xs, take-append-drop (j - i) (drop i xs), drop-drop (j - i) i xs) in
+      ap (span p q) parts
+      ∙ simp (filter-append, span_before p q (take i xs) front, whole, span_behind p q (drop j xs) back, append-nil)
 
 -- the items of children from one bound to another
 module _ {X : Type 0} (below : Entry → List X) (p q : X → Bool) (es : List Entry) (i j : ℕ) (d : Entry)
@@ -122,32 +100,11 @@ module _ {X : Type 0} (below : Entry → List X) (p q : X → Bool) (es : List E
   -- where both bounds lie in one child
   pub span_of_child : i ≡ j → i < length es → span p q (flat_map below es) ≡ span p q (below (get_or es i d))
   span_of_child same inside =
-      let c = below (get_or es i d) in
       let a = flat_map below (take i es) in
       let b = flat_map below (drop (i + 1) es) in
-      let behind = subst (λ k. All (λ x. q x ≡ false) (flat_map below (drop (k + 1) es))) (sym same) back in
+      let behind = rw (← same) at back in
       ap (λ xs. span p q (flat_map below xs)) (around_element es i d inside)
       ∙ simp (flat_map-append, filter-append, span_before p q a front, span_behind p q b behind, append-nil)
-
-  two_elements : i < j → j < length es
-      → drop (i + 1) es ≡ slice_range es (i + 1) j ++ get_or es j d ∷ drop (j + 1) es
-  two_elements lt inside =
-      let k = j - (i + 1) in
-      let rest = drop (i + 1) es in
-      let at : i + 1 + k ≡ j = omega arith in
-      let past : i + 1 + (k + 1) ≡ j + 1 = omega arith in
-      let some : k < length rest = rw (length-drop (i + 1) es) (omega arith) in
-      cc (around_element rest k d some, get_or-drop (i + 1) es k d, drop-drop (k + 1) (i + 1) es)
-
-  up_to_second : i < j → j < length es → take j es ≡ take i es ++ get_or es i d ∷ slice_range es (i + 1) j
-  up_to_second lt inside =
-      let k = j - (i + 1) in
-      let at : i + suc k ≡ j = omega arith in
-      let next : suc i ≡ i + 1 = omega arith in
-      let within : i < length es = omega arith in
-      ap (λ n. take n es) (sym at) ∙ take-add i (suc k) es
-      ∙ ap (λ ys. take i es ++ take (suc k) ys) (drop-cons es i d within)
-      ∙ ap (λ n. take i es ++ get_or es i d ∷ take k (drop n es)) next
 
   -- where they lie in two
   pub span_of_two : i < j → j < length es
@@ -160,22 +117,24 @@ module _ {X : Type 0} (below : Entry → List X) (p q : X → Bool) (es : List E
       let m = flat_map below (slice_range es (i + 1) j) in
       let r = below (get_or es j d) in
       let b = flat_map below (drop (j + 1) es) in
+      let k = j - (i + 1) in
+      let at : i + 1 + k ≡ j = omega arith in
+      let behind = flat_map-append below (slice_range es (i + 1) j) (get_or es j d ∷ drop (j + 1) es) in
       let rest : flat_map below (drop (i + 1) es) ≡ m ++ (r ++ b) =
-      cc (two_elements lt inside, flat_map-append below (slice_range es (i + 1) j) (get_or es j d ∷ drop (j + 1) es)) in
+      cc (behind, take-append-drop k (drop (i + 1) es), drop-drop k (i + 1) es, drop_more es j d inside) in
+      let here = append_assoc (take i es) (get_or es i d ∷ []) (slice_range es (i + 1) j) in
+      let before = flat_map-append below (take i es) (get_or es i d ∷ slice_range es (i + 1) j) in
       let begin : flat_map below (take j es) ≡ a ++ (l ++ m) =
-      cc (up_to_second lt inside, flat_map-append below (take i es) (get_or es i d ∷ slice_range es (i + 1) j)) in
+      cc (before, here, take-add (i + 1) k es, take_more es i d (omega arith)) in
       let within : i < length es = omega arith in
       let whole : flat_map below es ≡ a ++ (l ++ (m ++ (r ++ b))) =
       cc (around_element es i d within, flat_map-append below (take i es) (get_or es i d ∷ drop (i + 1) es), rest) in
-      let after = subst (All (λ x. p x ≡ false)) rest later in
-      let before = All-back (λ x. q x ≡ true) a (l ++ m) (subst (All (λ x. q x ≡ true)) begin sooner) in
+      let after = rw rest at later in
+      let before = All-back (λ x. q x ≡ true) a (l ++ m) (rw begin at sooner) in
       let m_after = All-front (λ x. p x ≡ false) m (r ++ b) after in
       let r_after = All-front (λ x. p x ≡ false) r b (All-back (λ x. p x ≡ false) m (r ++ b) after) in
-      let l_before = All-front (λ x. q x ≡ true) l m before in
-      let m_before = All-back (λ x. q x ≡ true) l m before in
-      let none_first = span_before p q a front in
-      let none_last = span_behind p q b back in
-      let left_is = span_to_end p q l l_before in
-      let middle_is = span_all p q m m_after m_before in
+      let left_is = span_to_end p q l (All-front (λ x. q x ≡ true) l m before) in
+      let middle_is = span_all p q m m_after (All-back (λ x. q x ≡ true) l m before) in
       let right_is = span_from_begin p q r r_after in
-      ap (span p q) whole ∙ simp (filter-append, none_first, left_is, middle_is, none_last, append-nil, right_is)
+      ap (span p q) whole
+      ∙ simp (filter-append, span_before p q a front, left_is, middle_is, span_behind p q b back, append-nil, right_is)

@@ -1,18 +1,14 @@
 -- A tree of one node, and more spare nodes.
-use Rattle.std.proofs.Common.{◌≡◌, ◌≢◌, ℕ, ◌+◌, ◌-◌, ◌*◌, ◌/◌, ◌≤◌, List, [], ◌∷◌, length, map, Option, Some, None, is_some, option_map, unwrap_or, sym, ap, subst, ◌∙◌, arith}
-use Rattle.std.specs.Prelude.{IfSome, nat_eq}
-use Rattle.std.specs.List.{IsDistinct}
+use Rattle.std.proofs.Common.{◌≡◌, ◌≢◌, ℕ, ◌+◌, ◌-◌, ◌*◌, ◌/◌, ◌≤◌, [], ◌∷◌, Some, None, is_some, refl, ap, ◌∙◌, arith}
 use Rattle.std.specs.FinMap as finite
 use Rattle.std.specs.Ordering.{nat_cmp}
 use Rattle.std.proofs.Math.Nat.{mul-le-mul_left}
 use Rattle.arena.specs.Arena.{Arena, Record, record_at, spare_of}
 use Rattle.tree.specs.declared.entry.Entry.{Entry}
 use Rattle.tree.specs.declared.node.Node.{Node}
-use Rattle.tree.specs.Item.{item_of}
 use Rattle.tree.specs.Node.{entries_of}
-use Rattle.tree.specs.Subtree.{entries_at, items_in, slots_in}
-use Rattle.tree.specs.Replace.{IsKeyless}
-use Rattle.tree.specs.Tree.{IsTree, IsRooted, least_of, way}
+use Rattle.tree.specs.Subtree.{slots_in}
+use Rattle.tree.specs.Tree.{IsTree, least_of, way}
 use Rattle.tree.proofs.callers.Times.{distinct_if_once}
 use Rattle.tree.proofs.Frames.{Agree, agree_own, items_same, slots_same, subtree_same}
 use Rattle.tree.proofs.Changing.{moves_placed}
@@ -22,15 +18,6 @@ pub enough_nodes : (k room total : ℕ) → 1 ≤ k → room / k + 67 ≤ total 
 enough_nodes k room total some many = omega (arith, mul-le-mul_left k many)
 
 module _ {N : ℕ} where
-  keyless_empty : (a : Arena (Node N)) → a.records ≡ finite.empty → IsKeyless a
-  keyless_empty a empty s =
-      let none : record_at a s ≡ None = ap (λ m. finite.get m s) empty ∙ finite.get-empty nat_cmp s in
-      let Keyless : Option (Record (Node N)) → Type 0 = λ o. IfSome (option_map (λ r. r.key) o) (λ key. key ≡ []) in
-      subst Keyless (sym none) tt
-
-  abbrev entries_in : Option (Record (Node N)) → List Entry
-  entries_in o = unwrap_or (option_map entries_of (option_map (λ r. r.header) o)) []
-
   -- a tree of a single node of one entry, placed in an arena without records
   pub tree_of_one : (a b : Arena (Node N)) (slot : ℕ) (node : Node N) (e : Entry) → 4 ≤ N → N ≤ 65536
       → a.records ≡ finite.empty → way + 1 ≤ spare_of a 0 → record_at a slot ≡ None
@@ -39,10 +26,9 @@ module _ {N : ℕ} where
       → ((s : ℕ) → s ≢ slot → record_at b s ≡ record_at a s)
       → spare_of b 0 + 1 ≡ spare_of a 0 → entries_of node ≡ e ∷ [] → IsTree b slot 0 1 1
   tree_of_one a b slot node e fan_out few empty enough free placed here others spare one =
-      let moves = moves_placed a b slot node (keyless_empty a empty) free placed here others spare in
+      let moves = moves_placed a b slot node (λ s. rw (empty, finite.get-empty nat_cmp s) tt) free placed here others spare in
       let none : finite.len a.records ≡ 0 = ap finite.len empty ∙ finite.len-empty nat_cmp (Record (Node N)) in
       let linked : finite.len b.records ≡ 1 = omega (arith, moves.live) in
-      let entries : entries_at b slot ≡ e ∷ [] = ap entries_in here ∙ one in
       let total : 67 ≤ finite.len b.records + spare_of b 0 = omega arith in
       record {
         fan_out = fan_out;
@@ -54,37 +40,31 @@ module _ {N : ℕ} where
           linked = linked;
           keyless = moves.keyless;
         };
-        counted = sym (ap (λ es. length (map item_of es)) entries);
+        counted = rw (here, one) refl;
         some = omega arith;
         within = omega arith;
         reserved = omega (arith, mul-le-mul_left (least_of N - 1) total);
       }
 
-  pub items_stay : (a b : Arena (Node N)) (height slot : ℕ) → b.records ≡ a.records → items_in b height slot ≡ items_in a height slot
-  items_stay a b height slot same = items_same a b height slot (λ s some. ap (λ m. finite.get m s) same)
-
   -- the same nodes, with other spare ones
-  pub rooted_stays : (a b : Arena (Node N)) (root height : ℕ) → b.records ≡ a.records → IsRooted a root height → IsRooted b root height
-  rooted_stays a b root height same r =
-      let agree : Agree a b (slots_in a height root) = λ s some. ap (λ m. finite.get m s) same in
-      let slots = slots_same a b height root agree in
-      record {
-        subtree = subtree_same a b (least_of N) height root agree r.subtree;
-        branches = λ above. subst (λ es. 2 ≤ length es) (sym (agree_own a b height root agree)) (r.branches above);
-        distinct = subst (IsDistinct nat_eq) (sym slots) r.distinct;
-        linked = ap finite.len same ∙ r.linked ∙ ap length (sym slots);
-        keyless = λ s. subst (λ m. IfSome (option_map (λ (r : Record (Node N)). r.key) (finite.get m s)) (λ key. key ≡ [])) (sym same) (r.keyless s);
-      }
-
   pub tree_stays : (a b : Arena (Node N)) (root height len room more : ℕ) → b.records ≡ a.records → IsTree a root height len room
       → room ≤ more → more + (least_of N - 1) * way ≤ (least_of N - 1) * (finite.len a.records + spare_of b 0)
       → IsTree b root height len more
-  tree_stays a b root height len room more same t wider enough = record {
-    fan_out = t.fan_out;
-    few = t.few;
-    rooted = rooted_stays a b root height same t.rooted;
-    counted = t.counted ∙ ap length (sym (items_stay a b height root same));
-    some = t.some;
-    within = omega (arith, t.within);
-    reserved = subst (λ m. more + (least_of N - 1) * way ≤ (least_of N - 1) * (finite.len m + spare_of b 0)) (sym same) enough;
-  }
+  tree_stays a b root height len room more same t wider enough =
+      let agree : Agree a b (slots_in a height root) = λ s some. rw same refl in
+      let slots = slots_same a b height root agree in
+      record {
+        fan_out = t.fan_out;
+        few = t.few;
+        rooted = record {
+          subtree = subtree_same a b (least_of N) height root agree t.rooted.subtree;
+          branches = λ above. rw (agree_own a b height root agree) (t.rooted.branches above);
+          distinct = rw slots t.rooted.distinct;
+          linked = rw (slots, same) t.rooted.linked;
+          keyless = λ s. rw same (t.rooted.keyless s);
+        };
+        counted = rw (items_same a b height root agree) t.counted;
+        some = t.some;
+        within = omega (arith, t.within);
+        reserved = rw same enough;
+      }

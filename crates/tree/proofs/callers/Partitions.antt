@@ -1,9 +1,10 @@
 -- Lemmas for callers: lists in which those below the bound come first.
-use Rattle.std.proofs.Common.{◌≡◌, ℕ, zero, suc, ◌≤◌, ◌⊎◌, Bool, true, false, not, List, [], ◌∷◌, ◌++◌, length, get_or, take, drop, filter, All, refl, sym, ap, subst, inl, inr, arith}
+use Rattle.std.proofs.Common.{◌≡◌, ℕ, zero, suc, ◌+◌, ◌<◌, ◌≤◌, ◌⊎◌, Bool, true, false, not, List, [], ◌∷◌, ◌++◌, length, get_or, take, drop, filter, All, refl, ap, subst, inl, inr, arith}
 use Rattle.std.specs.List.Sorted.{IsPartitionedBy, IsPartitionPoint}
 use Rattle.std.proofs.lemmas.Bool.{cases_Bool}
-use Rattle.std.proofs.lemmas.List.{take-append-drop}
-use Rattle.std.proofs.lemmas.List.Elements.{All-nil, All-cons, All-head, All-tail, All-weaker, filter_passes}
+use Rattle.std.proofs.lemmas.List.{append-nil, get_or-drop, get_or-take, get_or_append_left, length-append, length-drop, length-take, take-append-drop}
+use Rattle.std.proofs.lemmas.List.Filters.{length-filter_both}
+use Rattle.std.proofs.lemmas.List.Elements.{All-nil, All-cons, All-head, All-tail, All-weaker, filter-append, filter_passes}
 use Rattle.tree.specs.Path.{IsPartitioned}
 
 pub not_both : (a : Bool) → a ≡ true → a ≡ false → ⊥
@@ -14,9 +15,7 @@ not_true true h = cc
 not_true false h = refl
 
 pub All-front : {X : Type 0} (P : X → Type 0) (xs ys : List X) → All P (xs ++ ys) → All P xs
-All-front P [] ys a = All-nil P
-All-front P (x ∷ xs) ys a =
-    All-cons P x xs (All-head P x (xs ++ ys) a) (All-front P xs ys (All-tail P x (xs ++ ys) a))
+All-front P xs ys a = λ k d within. subst P (get_or_append_left xs ys d k within) (a k d (omega (arith, length-append xs ys)))
 
 pub All-back : {X : Type 0} (P : X → Type 0) (xs ys : List X) → All P (xs ++ ys) → All P ys
 All-back P [] ys a = a
@@ -57,56 +56,37 @@ module _ {X : Type 0} (p : X → Bool) where
 
   pub failed : (xs : List X) → All (λ x. p x ≡ false) (filter (λ x. not (p x)) xs)
   failed xs =
-      All-weaker (λ x. not (p x) ≡ true) (λ x. p x ≡ false) (λ x. not_true (p x)) (filter (λ x. not (p x)) xs)
-      (filter_passes (λ x. not (p x)) xs)
-
-  Falls-failing : (xs : List X) → All (λ x. p x ≡ false) xs → Falls p xs
-  Falls-failing [] a = tt
-  Falls-failing (x ∷ xs) a =
-      inr (All-head (λ y. p y ≡ false) x xs a, All-tail (λ y. p y ≡ false) x xs a)
+      All-weaker (λ x. not (p x) ≡ true) (λ x. p x ≡ false) (λ x. not_true (p x)) _ (filter_passes (λ x. not (p x)) xs)
 
   all_behind : (x : X) (xs ys zs : List X) → p x ≡ false → All (λ y. p y ≡ true) ys
       → All (λ y. p y ≡ false) zs → x ∷ xs ≡ ys ++ x ∷ zs → All (λ y. p y ≡ false) xs
   all_behind x xs [] zs f a b e = let k : zs ≡ xs = cc in subst (All (λ y. p y ≡ false)) k b
   all_behind x xs (y ∷ ys) zs f a b e =
-      let k : y ≡ x = cc in
-      absurd (not_both (p x) (subst (λ z. p z ≡ true) k (All-head (λ z. p z ≡ true) y ys a)) f)
+      let k : y ≡ x = cc in absurd (not_both (p x) (rw (← k) (All-head (λ z. p z ≡ true) y ys a)) f)
 
   pub Falls-below_from : (xs : List X) → IsPartitioned p xs → Falls p xs
   Falls-below_from [] e = tt
   Falls-below_from (x ∷ xs) e =
       elim (cases_Bool (p x)) [
-        | inl t ↦
-            let k : x ∷ xs ≡ x ∷ filter p xs ++ filter (λ y. not (p y)) xs = rw t at e in
-            inl (t, Falls-below_from xs (cc))
-        | inr f ↦
-            let k : x ∷ xs ≡ filter p xs ++ x ∷ filter (λ y. not (p y)) xs = rw f at e in
-            inr (f, all_behind x xs (filter p xs) (filter (λ y. not (p y)) xs) f (passed xs) (failed xs) k)
+        | inl t ↦ let k = rw t at e in inl (t, Falls-below_from xs (cc))
+        | inr f ↦ inr (f, all_behind x xs (filter p xs) (filter (λ y. not (p y)) xs) f (passed xs) (failed xs) (rw f at e))
       ]
 
   pub IsPartitioned-from_falls : (xs : List X) → Falls p xs → IsPartitioned p xs
   IsPartitioned-from_falls [] f = refl
-  IsPartitioned-from_falls (x ∷ xs) f =
-      elim f [
-        | inl h ↦ let t = h.0 in rw t (ap (λ ys. x ∷ ys) (IsPartitioned-from_falls xs h.1))
-        | inr h ↦ let f = h.0 in let n = none_pass xs h.1 in rw (f, n.0, n.1) refl
-      ]
+  IsPartitioned-from_falls (x ∷ xs) (inl h) = rw h.0 (ap (λ ys. x ∷ ys) (IsPartitioned-from_falls xs h.1))
+  IsPartitioned-from_falls (x ∷ xs) (inr h) = let n = none_pass xs h.1 in rw (h.0, n.0, n.1) refl
 
   Falls-parts : (xs ys : List X) → Falls p (xs ++ ys)
       → Falls p xs × Falls p ys × (All (λ x. p x ≡ true) xs ⊎ All (λ x. p x ≡ false) ys)
   Falls-parts [] ys f = (tt, f, inl (All-nil (λ x. p x ≡ true)))
-  Falls-parts (x ∷ xs) ys f =
-      elim f [
-        | inl h ↦
-            let i = Falls-parts xs ys h.1 in (
-              inl (h.0, i.0),
-              i.1,
-              elim i.2 [ inl a ↦ inl (All-cons (λ y. p y ≡ true) x xs h.0 a) | inr b ↦ inr b ],
-            )
-        | inr h ↦
-            let b = All-back (λ y. p y ≡ false) xs ys h.1 in
-            (inr (h.0, All-front (λ y. p y ≡ false) xs ys h.1), Falls-failing ys b, inr b)
-      ]
+  Falls-parts (x ∷ xs) ys (inl h) =
+      let i = Falls-parts xs ys h.1 in
+      (inl (h.0, i.0), i.1, elim i.2 [ inl a ↦ inl (All-cons (λ y. p y ≡ true) x xs h.0 a) | inr b ↦ inr b ])
+  Falls-parts (x ∷ xs) ys (inr h) =
+      let b = All-back (λ y. p y ≡ false) xs ys h.1 in
+      let n = none_pass ys b in
+      (inr (h.0, All-front (λ y. p y ≡ false) xs ys h.1), Falls-below_from ys (rw (n.0, n.1) refl), inr b)
 
   -- both parts of a list that is partitioned are partitioned, and all of the first pass or none of the second
   pub IsPartitioned-parts : (xs ys : List X) → IsPartitioned p (xs ++ ys)
@@ -118,9 +98,9 @@ module _ {X : Type 0} (p : X → Bool) where
   -- so many elements from an index on of a list that is partitioned are partitioned
   pub IsPartitioned-range : (xs : List X) (from n : ℕ) → IsPartitioned p xs → IsPartitioned p (take n (drop from xs))
   IsPartitioned-range xs from n c =
-      let rest = (IsPartitioned-parts (take from xs) (drop from xs) (subst (IsPartitioned p) (sym (take-append-drop from xs)) c)).1 in
       let ys = drop from xs in
-      (IsPartitioned-parts (take n ys) (drop n ys) (subst (IsPartitioned p) (sym (take-append-drop n ys)) rest)).0
+      let rest = (IsPartitioned-parts (take from xs) ys (rw (take-append-drop from xs) c)).1 in
+      (IsPartitioned-parts (take n ys) (drop n ys) (rw (take-append-drop n ys) rest)).0
 
   -- behind one that fails all fail
   pub rest_fails : (x : X) (xs : List X) → IsPartitioned p (x ∷ xs) → p x ≡ false → All (λ y. p y ≡ false) (x ∷ xs)
@@ -136,44 +116,25 @@ module _ {X : Type 0} (p : X → Bool) where
     where
       by_falls : (xs : List X) → Falls p xs → IsPartitionedBy p xs
       by_falls [] f i j d le lt h = absurd (omega arith)
-      by_falls (x ∷ xs) f zero zero d le lt h = h
-      by_falls (x ∷ xs) f zero (suc j) d le lt h =
-          elim f [
-            | inl a ↦ a.0
-            | inr b ↦ absurd (not_both (p (get_or xs j d)) h (b.1 j d (omega arith)))
-          ]
-      by_falls (x ∷ xs) f (suc i) zero d le lt h = absurd (omega arith)
-      by_falls (x ∷ xs) f (suc i) (suc j) d le lt h =
-          elim f [
-            | inl a ↦ by_falls xs a.1 i j d (omega arith) (omega arith) h
-            | inr b ↦ absurd (not_both (p (get_or xs j d)) h (b.1 j d (omega arith)))
-          ]
+      by_falls (x ∷ xs) (inl a) zero j d le lt h = a.0
+      by_falls (x ∷ xs) (inl a) (suc i) zero d le lt h = absurd (omega arith)
+      by_falls (x ∷ xs) (inl a) (suc i) (suc j) d le lt h = by_falls xs a.1 i j d (omega arith) (omega arith) h
+      by_falls (x ∷ xs) (inr b) i j d le lt h =
+          absurd (not_both (p (get_or (x ∷ xs) j d)) h (All-cons (λ y. p y ≡ false) x xs b.0 b.1 j d lt))
 
   -- and what it finds
   pub parted_at : (xs : List X) (i : ℕ) → i ≤ length xs
       → IsPartitionPoint (λ x. p x ≡ true) (λ x. p x ≡ false) xs i
       → (take i xs ≡ filter p xs) × (drop i xs ≡ filter (λ x. not (p x)) xs)
-  parted_at [] zero le h = (refl, refl)
-  parted_at [] (suc i) le h = (refl, refl)
-  parted_at (x ∷ xs) zero le h =
-      let e : p x ≡ false = h.1 0 x (omega arith) (omega arith) in
-      let i = parted_at xs zero (omega arith) (
-        (λ k d a c. absurd (omega arith)),
-        (λ k d a c. h.1 (suc k) d (omega arith) (omega arith)),
-      ) in
-      (rw e i.0, rw e (ap (λ ys. x ∷ ys) i.1))
-  parted_at (x ∷ xs) (suc i) le h =
-      let e : p x ≡ true = h.0 0 x (omega arith) (omega arith) in
-      let r = parted_at xs i (omega arith) (
-        (λ k d a c. h.0 (suc k) d (omega arith) (omega arith)),
-        (λ k d a c. h.1 (suc k) d (omega arith) (omega arith)),
-      ) in
-      (rw e (ap (λ ys. x ∷ ys) r.0), rw e r.1)
+  parted_at xs i le h =
+      let front = none_fail (take i xs) (λ k d within.
+      let before : k < i = omega (arith, length-take i xs) in
+      rw (get_or-take i xs k d before) (h.0 k d (omega arith) before)) in
+      let back = none_pass (drop i xs) (λ k d within.
+      rw (get_or-drop i xs k d) (h.1 (i + k) d (omega arith) (omega (arith, length-drop i xs)))) in (
+        cc (take-append-drop i xs, filter-append p (take i xs) (drop i xs), front.0, back.0, append-nil (take i xs)),
+        cc (take-append-drop i xs, filter-append (λ x. not (p x)) (take i xs) (drop i xs), front.1, back.1),
+      )
 
   pub length-items_below : (xs : List X) → length (filter p xs) ≤ length xs
-  length-items_below [] = omega arith
-  length-items_below (x ∷ xs) =
-      elim (cases_Bool (p x)) [
-        | inl t ↦ let i = length-items_below xs in rw t (omega arith)
-        | inr f ↦ let i = length-items_below xs in rw f (omega arith)
-      ]
+  length-items_below xs = omega (arith, length-filter_both p (λ x. not (p x)) (λ x. refl) xs)

@@ -1,5 +1,5 @@
 -- Lemmas for callers: how often a slot stands in a list. Distinct slots are those that stand there once at most.
-use Rattle.std.proofs.Common.{◌≡◌, ◌≢◌, ◌⊎◌, inl, inr, ℕ, zero, suc, ◌+◌, ◌≤◌, false, cond, List, [], ◌∷◌, ◌++◌, refl, sym, ap, ◌∙◌, arith}
+use Rattle.std.proofs.Common.{◌≡◌, ◌≢◌, ◌⊎◌, inl, inr, ℕ, zero, suc, ◌+◌, ◌≤◌, false, cond, List, [], ◌∷◌, ◌++◌, refl, sym, ap, arith}
 use Rattle.std.specs.Prelude.{nat_eq}
 use Rattle.std.specs.List.{Contains, IsDistinct, AllByRecursion}
 use Rattle.std.proofs.lemmas.Bool.{eq-eqb, ne_eqb, eqb-false}
@@ -32,51 +32,37 @@ pub none_or_some : (n : ℕ) → (n ≡ 0) ⊎ (1 ≤ n)
 none_or_some zero = inl refl
 none_or_some (suc n) = inr (omega arith)
 
-contains_cases : (x s : ℕ) (xs : List ℕ) → Contains (x ∷ xs) s → (x ≡ s) ⊎ Contains xs s
-contains_cases x s xs (zero, within, is) = inl is
-contains_cases x s xs (suc k, within, is) = inr (k, omega arith, is)
-
-contains_later : (x s : ℕ) (xs : List ℕ) → Contains xs s → Contains (x ∷ xs) s
-contains_later x s xs (k, within, is) = (suc k, omega arith, is)
-
 pub times_if_contains : (s : ℕ) (xs : List ℕ) → Contains xs s → 1 ≤ times s xs
 times_if_contains s [] h = absurd (omega (arith, h.1))
-times_if_contains s (x ∷ xs) h = elim (contains_cases x s xs h) [
-  | inl same ↦ (let e : once s x ≡ 1 = ap (once s) same ∙ once_same s in omega arith)
-  | inr later ↦ omega (arith, times_if_contains s xs later)
-]
+times_if_contains s (x ∷ xs) (zero, within, is) = rw is (omega (arith, once_same s))
+times_if_contains s (x ∷ xs) (suc k, within, is) = omega (arith, times_if_contains s xs (k, omega arith, is))
 
 pub contains_if_times : (s : ℕ) (xs : List ℕ) → 1 ≤ times s xs → Contains xs s
 contains_if_times s [] h = absurd (omega arith)
 contains_if_times s (x ∷ xs) h = elim (once_cases s x) [
   | inl same ↦ (zero, omega arith, same.0)
-  | inr other ↦ contains_later x s xs (contains_if_times s xs (omega (arith, other.1)))
+  | inr other ↦ let there = contains_if_times s xs (omega (arith, other.1)) in (suc there.0, omega (arith, there.1), there.2)
 ]
 
 pub times_unless_contains : (s : ℕ) (xs : List ℕ) → ¬ Contains xs s → times s xs ≡ 0
-times_unless_contains s xs without = elim (none_or_some (times s xs)) [
-  | inl none ↦ none
-  | inr some ↦ absurd (without (contains_if_times s xs some))
-]
+times_unless_contains s xs without =
+    elim (none_or_some (times s xs)) [ inl none ↦ none | inr some ↦ absurd (without (contains_if_times s xs some)) ]
 
 -- an element that no other is equal to
 none_later : (x : ℕ) (xs : List ℕ) → AllByRecursion (λ y. nat_eq x y ≡ false) xs → times x xs ≡ 0
 none_later x [] h = refl
-none_later x (y ∷ ys) h =
-    let e : once x y ≡ 0 = once_other x y (λ same. eqb-false x y h.0 (sym same)) in omega (arith, none_later x ys h.1)
+none_later x (y ∷ ys) h = omega (arith, once_other x y (λ same. eqb-false x y h.0 (sym same)), none_later x ys h.1)
 
 differs_later : (x : ℕ) (xs : List ℕ) → times x xs ≡ 0 → AllByRecursion (λ y. nat_eq x y ≡ false) xs
 differs_later x [] h = tt
-differs_later x (y ∷ ys) h = (
-  ne_eqb x y (λ same. let e : once x y ≡ 1 = ap (once x) (sym same) ∙ once_same x in omega arith),
-  differs_later x ys (omega arith),
-)
+differs_later x (y ∷ ys) h =
+    (ne_eqb x y (λ same. omega (arith, ap (once x) same, once_same x)), differs_later x ys (omega arith))
 
 pub once_if_distinct : (xs : List ℕ) → IsDistinct nat_eq xs → (s : ℕ) → times s xs ≤ 1
 unfolding IsDistinct
 once_if_distinct [] h s = omega arith
 once_if_distinct (x ∷ xs) h s = elim (once_cases s x) [
-  | inl same ↦ (let e : times s xs ≡ 0 = ap (λ n. times n xs) (sym same.0) ∙ none_later x xs h.0 in omega (arith, same.1))
+  | inl same ↦ omega (arith, same.1, ap (λ n. times n xs) same.0, none_later x xs h.0)
   | inr other ↦ omega (arith, other.1, once_if_distinct xs h.1 s)
 ]
 

@@ -1,32 +1,15 @@
 use Rattle.std.proofs.Common.{refl, rules}
-use Rattle.tree.specs.Path.{before_leaf, behind_leaf}
-use Rattle.tree.specs.Subtree.{entries_at, items_in}
-use Rattle.tree.specs.Tree.{least_of}
 use Rattle.tree.proofs.Leaves.{is_leaf, leaf_partitioned_by_keys}
-use Rattle.tree.proofs.Reaching.{found_at_leaf}
+use Rattle.tree.proofs.Reaching.{found_leaf_in}
 use Rattle.tree.proofs.root.reach.Goals as goal
 
 pub returns : goal.returns
 returns g c =
     let is_below = g.P.Bound.below c.args.bound.now in
-    let nodes = c.args.nodes.now in
-    let root = c.args.root in
-    let slot = c.find.result.leaf in
     let can = c.requires.can_reach in
-    let found = found_at_leaf nodes (least_of g.row.N) root.height root.slot slot is_below can.subtree can.partitioned c.find.ensures.leaf in
-    let leaf = is_leaf nodes (least_of g.row.N) root.height root.slot is_below slot (entries_at nodes slot) can.subtree
-    can.partitioned c.find.ensures.leaf refl found.items found.before found.behind in
-    record {
-      reached = record {
-        live = search rules;
-        items_are = found.items;
-        before = found.before;
-        after = found.behind;
-        none = leaf.none;
-        partitioned = leaf_partitioned_by_keys is_below (items_in nodes root.height root.slot) (before_leaf nodes root.height root.slot is_below)
-            (behind_leaf nodes root.height root.slot is_below) (entries_at nodes slot) leaf can.partitioned;
-        some = c.find.ensures.some;
-        knows = c.find.ensures.known;
-        next = c.find.ensures.behind;
-      };
-    }
+    let way = c.find.ensures.leaf in
+    let found = rw (← way) at (found_leaf_in _ _ c.args.root.height c.args.root.slot is_below can.subtree can.partitioned) in
+    let leaf = is_leaf _ _ c.args.root.height c.args.root.slot is_below _ _ can.subtree can.partitioned way refl
+    found.items found.before found.behind in
+    let partitioned = leaf_partitioned_by_keys is_below _ _ _ _ leaf can.partitioned in
+    search (rules, found.items, found.before, found.behind, leaf.none, partitioned)

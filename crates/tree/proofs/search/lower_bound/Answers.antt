@@ -9,12 +9,7 @@ returns g c =
     let p = λ (e : Entry). g.P.Bound.below c.args.bound.now e.key in
     let es = c.args.entries.now in
     let point = IsPartitionPoint-from_clause p es _ c.partition_point.ensures.partitioned
-    (partitioned p es c.requires.partitioned)
-    (λ a r q k. search rules) in
+    (partitioned p es c.requires.partitioned) (λ a r q k. search rules) in
     let parts = parted_at p es _ c.partition_point.ensures.bound point in
-    record {
-      within = c.partition_point.ensures.bound;
-      first = parts.0;
-      rest = parts.1;
-      count = sym (length-take-le _ es c.partition_point.ensures.bound) ∙ ap length parts.0;
-    }
+    let count = sym (length-take-le _ es c.partition_point.ensures.bound) ∙ ap length parts.0 in
+    search (rules, c.partition_point.ensures.bound, parts.0, parts.1, count)
