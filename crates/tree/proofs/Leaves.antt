@@ -15,6 +15,7 @@ use Rattle.tree.specs.Tree.{IsLast}
 use Rattle.tree.proofs.callers.Times.{none_or_some}
 use Rattle.tree.proofs.callers.Partitions.{not_both, none_pass, none_passed, none_fail, IsPartitioned-parts, IsPartitioned-from_falls, Falls, Falls-below_from}
 use Rattle.tree.proofs.HeadCounts.{passing_at}
+use Rattle.tree.proofs.Found.{partitioned-entries}
 use Rattle.tree.proofs.Ways.{way}
 
 -- the last of those that pass does
@@ -23,7 +24,7 @@ pub index_passes : {X : Type 0} (p : X → Bool) (xs : List X) (x : X) → IsPar
 index_passes p xs x partitioned some is = passing_at p xs (length (filter p xs) - 1) x partitioned is (omega arith)
 
 -- Where no entry of the leaf passes, no item of the subtree does, and none stands before the leaf.
-pub none_before : {N : ℕ} (nodes : Arena (Node N)) (least height slot : ℕ) (is_below : ℕ → Bool) → IsSubtree nodes least height slot
+none_before : {N : ℕ} (nodes : Arena (Node N)) (least height slot : ℕ) (is_below : ℕ → Bool) → IsSubtree nodes least height slot
     → IsPartitioned (λ x. is_below x.key) (items_in nodes height slot)
     → filter (λ e. is_below e.key) (entries_at nodes (leaf_in nodes height slot is_below)) ≡ []
     → (before_leaf nodes height slot is_below ≡ []) × All (λ x. is_below x.key ≡ false) (items_in nodes height slot)
@@ -35,23 +36,20 @@ none_before nodes least (suc height) slot is_below s c none =
     let w = way nodes least height slot is_below s c in
     let es = entries_at nodes slot in
     let p = λ (e : Entry). is_below e.key in
+    let Fails = λ (x : Item). is_below x.key ≡ false in
     let below = λ (e : Entry). items_in nodes height e.child in
-    let child = child_in is_below es in
-    let i = none_before nodes least height child is_below (subst (IsSubtree nodes least height) w.child w.kept.subtree)
-    (subst (λ t. IsPartitioned (λ (x : Item). is_below x.key) (items_in nodes height t)) w.child w.partitioned) none in
-    let Fail : List Item → Type 0 = All (λ x. is_below x.key ≡ false) in
-    let all : Fail (items_in nodes height w.entry.child) = subst (λ t. Fail (items_in nodes height t)) (sym w.child) i.1 in
+    let i = none_before nodes least height (child_in is_below es) is_below (rw w.child at w.kept.subtree)
+    (rw w.child at w.partitioned) none in
+    let all : All Fails (below w.entry) = rw w.child i.1 in
     let t = w.kept.tells in
-    let first : is_below t.first.key ≡ false = All-head (λ (x : Item). is_below x.key ≡ false) t.first t.others (subst Fail t.items_are all) in
-    let fails : is_below w.entry.key ≡ false = ap is_below t.key ∙ first in
+    let fails = rw (← t.key) at (All-head Fails t.first t.others (rw t.items_are at all)) in
     elim (none_or_some (length (filter p es))) [
       | inl zero_pass ↦
           let at : index_in is_below es ≡ 0 = omega arith in
-          let front : flat_map below (take (index_in is_below es) es) ≡ [] = ap (λ n. flat_map below (take n es)) at in
-          let items = w.items ∙ ap (λ xs. xs ++ (items_in nodes height w.entry.child ++ flat_map below (drop (index_in is_below es + 1) es))) front in (
-            ap (λ xs. xs ++ before_leaf nodes height child is_below) front ∙ i.0,
-            subst Fail (sym items)
-                (All-append (λ (x : Item). is_below x.key ≡ false) (items_in nodes height w.entry.child) (flat_map below (drop (index_in is_below es + 1) es)) all w.behind),
+          let front : flat_map below (take (index_in is_below es) es) ≡ [] = rw at refl in
+          let items = rw front at w.items in (
+            rw front i.0,
+            rw items (All-append Fails (below w.entry) (flat_map below (drop (index_in is_below es + 1) es)) all w.behind),
           )
       | inr some ↦ absurd (not_both (is_below w.entry.key) (index_passes p es w.entry w.entries some w.is) fails)
     ]
@@ -60,27 +58,13 @@ pub filter-items : (q : ℕ → Bool) (es : List Entry) → filter (λ (x : Item
 filter-items q [] = refl
 filter-items q (e ∷ es) =
     elim (cases_Bool (q e.key)) [
-      | inl t ↦ rw t (ap (λ xs. item_of e ∷ xs) (filter-items q es))
-      | inr f ↦ rw f (filter-items q es)
+      | inl t ↦ rw (t, filter-items q es) refl
+      | inr f ↦ rw (f, filter-items q es) refl
     ]
 
 -- entries whose items are partitioned are partitioned
-pub All-from_map : (is_below : ℕ → Bool) (es : List Entry) → All (λ x. is_below x.key ≡ false) (map item_of es) → All (λ e. is_below e.key ≡ false) es
-All-from_map is_below [] a = All-nil (λ (e : Entry). is_below e.key ≡ false)
-All-from_map is_below (e ∷ es) a = All-cons (λ (e : Entry). is_below e.key ≡ false) e es
-    (All-head (λ (x : Item). is_below x.key ≡ false) (item_of e) (map item_of es) a)
-    (All-from_map is_below es (All-tail (λ (x : Item). is_below x.key ≡ false) (item_of e) (map item_of es) a))
-
-falls : (is_below : ℕ → Bool) (es : List Entry) → Falls (λ x. is_below x.key) (map item_of es) → Falls (λ e. is_below e.key) es
-falls is_below [] f = tt
-falls is_below (e ∷ es) f =
-    elim f [
-      | inl h ↦ inl (h.0, falls is_below es h.1)
-      | inr h ↦ inr (h.0, All-from_map is_below es h.1)
-    ]
-
 pub entries_of_partitioned : (is_below : ℕ → Bool) (es : List Entry) → IsPartitioned (λ x. is_below x.key) (map item_of es) → IsPartitioned (λ e. is_below e.key) es
-entries_of_partitioned is_below es c = IsPartitioned-from_falls (λ (e : Entry). is_below e.key) es (falls is_below es (Falls-below_from (λ (x : Item). is_below x.key) (map item_of es) c))
+entries_of_partitioned is_below es c = partitioned-entries (λ (x : Item). is_below x.key) es c
 
 -- the entries of a leaf, between the items before it, which pass, and those behind it, which fail
 pub record IsLeaf (is_below : ℕ → Bool) (items before after : List Item) (es : List Entry) : Type 0 where

@@ -12,15 +12,16 @@ use Rattle.tree.specs.declared.entry.Entry.{Entry}
 use Rattle.tree.specs.declared.node.Node.{Node}
 use Rattle.tree.specs.Item.{Item, Tells, item_of}
 use Rattle.tree.specs.Path.{IsPartitioned, index_in, first_key}
-use Rattle.tree.specs.Replace.{items_of, AreChildren, TellsWritten}
+use Rattle.tree.specs.Replace.{child_at, items_of, AreChildren, TellsWritten}
 use Rattle.tree.specs.Subtree.{entries_at, items_in}
+use Rattle.tree.specs.Tree.{least_of}
 use Rattle.tree.specs.Walk.{IsChangedWithin, IsFoundAmong, IsRaised}
 use Rattle.tree.proofs.callers.Partitions.{not_both}
 use Rattle.tree.proofs.callers.Times.{none_or_some}
 use Rattle.tree.proofs.Frames.{IsRight}
 use Rattle.tree.proofs.Keys.{first_key-append, first_key-children}
 use Rattle.tree.proofs.Leaves.{index_passes}
-use Rattle.tree.proofs.Stepping.{IsAt, items_split}
+use Rattle.tree.proofs.Stepping.{IsAt, items_split, x_at}
 use Rattle.tree.proofs.Ways.{way}
 
 no_front : {X : Type 0} (xs ys : List X) → xs ++ ys ≡ [] → xs ≡ []
@@ -181,26 +182,29 @@ none_at a least lower (e ∷ es) (suc i) right within none =
     sym (ap (λ xs. xs ++ items_of a lower (take i es)) t.items_are) ∙ none in
     absurd (cc)
 
-module _ {N : ℕ} {a : Arena (Node N)} {least height lower slot : ℕ} {is_below : ℕ → Bool} {es : List Entry} {i x : ℕ}
-    (at : IsAt a least height lower slot is_below es i x) where
+module _ {N : ℕ} {a : Arena (Node N)} {height lower slot : ℕ} {is_below : ℕ → Bool} {i x : ℕ}
+    (at : IsAt a height lower slot is_below i x) where
+  abbrev es : List Entry
+  es = entries_at a slot
+
   -- The child is the part of the items of the node in which the search goes on.
   around_at : IsPartitioned (λ x. is_below x.key) (items_in a height slot)
       → IsAround is_below (items_of a lower (take i es)) (items_in a lower x) (items_of a lower (drop (i + 1) es))
   around_at partitioned =
-      let all = entries_at a slot in
-      let w = way a least lower slot is_below (rw (← at.next) at at.subtree) (rw (← at.next) at partitioned) in
+      let w = way a (least_of N) lower slot is_below at.subtree (rw (← at.next) at partitioned) in
+      let child : x ≡ w.entry.child = x_at at ∙ ap (child_at es) at.index ∙ sym w.child in
       record {
-        pass = rw (← at.index, at.read) at w.before;
-        fail = rw (← at.index, at.read) at w.behind;
-        found = elim (none_or_some (length (filter (λ (e : Entry). is_below e.key) all))) [
+        pass = rw (← at.index) at w.before;
+        fail = rw (← at.index) at w.behind;
+        found = elim (none_or_some (length (filter (λ (e : Entry). is_below e.key) es))) [
           | inl none ↦
-              let zero_is : index_in is_below all ≡ 0 = omega arith in
-              inl (ap (λ n. items_of a lower (take n es)) (at.index ∙ zero_is))
+              let zero_is : i ≡ 0 = omega (arith, at.index) in
+              inl (ap (λ n. items_of a lower (take n es)) zero_is)
           | inr some ↦
-              let passed = index_passes (λ (e : Entry). is_below e.key) all w.entry w.entries some w.is in
+              let passed = index_passes (λ (e : Entry). is_below e.key) es w.entry w.entries some w.is in
               let t = w.kept.tells in
               let first = Any-first (λ (x : Item). is_below x.key ≡ true) t.first t.others (rw t.key at passed) in
-              inr (rw (at.child ∙ sym w.child, t.items_are) first)
+              inr (rw (child, t.items_are) first)
         ];
       }
 
@@ -215,12 +219,12 @@ module _ {N : ℕ} {a : Arena (Node N)} {least height lower slot : ℕ} {is_belo
   within_at Gives is_first below_first key below_key now all partitioned first_is key_is all_is c =
       let tell : All (λ e. Tells e (items_in a lower e.child)) (drop (i + 1) es) =
       All-drop (λ (e : Entry). Tells e (items_in a lower e.child)) (i + 1) es
-      (All-weaker (IsRight a least lower) (λ (e : Entry). Tells e (items_in a lower e.child)) (λ e k. k.tells) es at.right) in
+      (All-weaker (IsRight a (least_of N) lower) (λ (e : Entry). Tells e (items_in a lower e.child)) (λ e k. k.tells) es at.subtree.2) in
       let below_is : below_key ≡ first_key key (items_of a lower (drop (i + 1) es)) =
       key_is ∙ first_key-children (λ (e : Entry). items_in a lower e.child) key (drop (i + 1) es) tell in
       let first : IsTrue below_first ↔ (IsTrue is_first × (items_of a lower (take i es) ≡ [])) = (
         λ h. (let b = first_is.0 h in (b.0, ap (λ n. items_of a lower (take n es)) b.1)),
-        λ h. first_is.1 (h.0, none_at a least lower es i at.right at.within h.1),
+        λ h. first_is.1 (h.0, none_at a (least_of N) lower es i at.subtree.2 at.within h.1),
       ) in
       rw (items_split at, all_is) (within_around (items_of a lower (take i es)) (items_in a lower x)
       (items_of a lower (drop (i + 1) es)) now is_below Gives is_first below_first key below_key (around_at partitioned)
@@ -235,14 +239,14 @@ module _ {N : ℕ} {a : Arena (Node N)} {least height lower slot : ℕ} {is_belo
       (items_of a lower (drop (i + 1) es)) now version raised)
 
   -- The child's entry would be right with that version, unless it has a greater one.
-  pub raised_at : (b : Arena (Node N)) (version : ℤ) → entries_at b slot ≡ es
+  pub raised_at : (b : Arena (Node N)) (version : ℤ) → entries_at b slot ≡ entries_at a slot
       → IsRaised version (items_in a lower x) (items_in b lower x) → TellsWritten b lower slot i version
   raised_at b version read raised e here le =
       let there : slice_get es i ≡ Some e = subst (λ l. slice_get l i ≡ Some e) read here in
       let same : get_or es i at.d ≡ e = get_or_from_slice_get es i e at.d there in
       let child : x ≡ e.child = at.x_is ∙ ap (λ (e : Entry). e.child) same in
       let right : Tells e (items_in a lower e.child) =
-      subst (λ e. Tells e (items_in a lower e.child)) same (at.right i at.d at.within).tells in
+      subst (λ e. Tells e (items_in a lower e.child)) same (at.subtree.2 i at.d at.within).tells in
       let tells : Tells e (items_in a lower x) = rw child right in
       subst (λ s. Tells (record e { version = version }) (items_in b lower s)) child
       (tells_raised e version (items_in a lower x) (items_in b lower x) tells raised le)

@@ -69,8 +69,7 @@ returns-clause-rebalanced g c height family tells =
     family.family c.requires.can_rebalance.keyless refl (λ subtree. told) filled parts in
     let some : 1 ≤ length (entries_of node) =
     omega (arith, ap length now_is, length-set es i t, c.requires.can_rebalance.within) in
-    rebalanced_at a a (with_header a slot node) L height slot i node (entries_of node) c.requires.can_rebalance.live family rebalanced some
-    refl refl
+    rebalanced_at node c.requires.can_rebalance.live family rebalanced some refl
 
 pub returns-clause-rest : goal.returns-clause-rest
 returns-clause-rest g c =

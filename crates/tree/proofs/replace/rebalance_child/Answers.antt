@@ -58,8 +58,7 @@ returns-then-len-least-clause-rebalanced g c height family =
     c.entry_for-entry.ensures.child (c.entry_for-entry.ensures.tells height L) filled parts in
     let some : 1 ≤ length (entries_of node) =
     omega (arith, ap length now_is, length-set es i t, c.requires.can_rebalance.within) in
-    rebalanced_at a a (with_header a slot node) L height slot i node (entries_of node) c.requires.can_rebalance.live family rebalanced some
-    refl refl
+    rebalanced_at node c.requires.can_rebalance.live family rebalanced some refl
 
 pub returns-then-len-least-clause-rest : goal.returns-then-len-least-clause-rest
 returns-then-len-least-clause-rest g c =
@@ -83,15 +82,11 @@ returns-clause-rebalanced g c height family =
     let es = entries_at a slot in
     let L = least_of g.row.N in
     let read = entries_from_header a slot c.header-node.result c.header-node.ensures.header in
-    let same = ap length read in
+    let node = c.lengthen_prefix.new.self in
     let loose = subst (λ l. IsFamily a L height l c.args.index (c.args.index + 1)) read family.family in
-    let rebalanced =
-    subst (λ l. IsRebalanced a c.rebalance.new.nodes L height l (entries_of c.rebalance.new.node)) (sym read)
-    (c.rebalance.ensures.rebalanced height loose) in
-    rebalanced_at a c.rebalance.new.nodes c.set_header.new.self L height slot c.args.index c.lengthen_prefix.new.self
-    (entries_of c.rebalance.new.node) c.requires.can_rebalance.live family rebalanced
-    (omega (arith, c.rebalance.ensures.rest.few_less, c.requires.can_rebalance.several, same)) c.lengthen_prefix.ensures.entries
-    c.set_header.ensures.replaced
+    let made = rw (← read, ← c.lengthen_prefix.ensures.entries) at (c.rebalance.ensures.rebalanced height loose) in
+    rebalanced_at node c.requires.can_rebalance.live family made (omega (arith, c.rebalance.ensures.rest.few_less,
+    c.requires.can_rebalance.several, ap length read, ap length c.lengthen_prefix.ensures.entries)) c.set_header.ensures.replaced
 
 pub returns-clause-rest : goal.returns-clause-rest
 returns-clause-rest g c =
