@@ -23,15 +23,6 @@ only_one (x ∷ []) d one = refl
 only_one (x ∷ y ∷ xs) d one = absurd (omega arith)
 
 module _ {N : ℕ} where
-  -- an entry for a subtree whose node is filled
-  pub right_entry : (a : Arena (Node N)) (least height slot : ℕ) (e : Entry) → e.child ≡ slot → IsSubtree a least height slot
-      → least ≤ length (entries_at a slot) → Tells e (items_in a height slot) → IsRight a least height e
-  right_entry a least height slot e child subtree filled tells = record {
-    filled = subst (λ s. least ≤ length (entries_at a s)) (sym child) filled;
-    subtree = subst (IsSubtree a least height) (sym child) subtree;
-    tells = subst (λ s. Tells e (items_in a height s)) (sym child) tells;
-  }
-
   -- what becomes of the items, and the root
   pub record Rooted (b : Arena (Node N)) (height slot : ℕ) (items : List Item) : Type 0 where
     pub items_are : items_in b height slot ≡ items

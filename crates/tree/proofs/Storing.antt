@@ -1,19 +1,25 @@
 -- A node above a changed leaf, once it is stored.
-use Rattle.std.proofs.Common.{◌≡◌, inl, inr, ℕ, suc, ◌+◌, ◌≤◌, List, [], ◌∷◌, ◌++◌, length, length-append, Option, Some, None, refl, sym, ap, ap₂, subst, ◌∙◌, arith}
-use Rattle.std.specs.Prelude.{IfSome}
+use Rattle.std.proofs.Common.{◌≡◌, inl, inr, ℕ, suc, ◌+◌, ◌≤◌, List, [], ◌∷◌, ◌++◌, length, length-append, get_or, Option, Some, None, refl, sym, ap, ap₂, subst, ◌∙◌, arith}
+use Rattle.std.specs.Prelude.{IfSome, slice_set}
+use Rattle.std.proofs.lemmas.List.{length-set}
 use Rattle.std.specs.List.{Contains}
 use Rattle.arena.specs.Arena.{Arena, IsLive, with_header}
 use Rattle.tree.specs.declared.entry.Entry.{Entry}
 use Rattle.tree.specs.declared.node.Node.{Node}
-use Rattle.tree.specs.Item.{Item}
+use Rattle.tree.specs.Heads.{KeyBytes}
+use Rattle.tree.specs.Item.{Item, Tells}
 use Rattle.tree.specs.Node.{entries_of}
-use Rattle.tree.specs.Subtree.{entries_at, slots_in, IsSubtree}
+use Rattle.tree.specs.Rebalancing.{CanRebalance}
+use Rattle.tree.specs.Tree.{least_of}
+use Rattle.tree.specs.Subtree.{entries_at, items_in, slots_in, IsSubtree}
 use Rattle.tree.specs.Replace.{entries_at_both, items_with, slots_with, slot_taken, items_of, slots_of, AreChildren, IsFamilyAt, IsRebalanced, IsRebalancedAt}
 use Rattle.tree.proofs.callers.Times.{times, once_same, once_cases, once_if_distinct, times-append, times_unless_contains}
 use Rattle.tree.proofs.Frames.{Agree, IsRight, live_same}
 use Rattle.tree.proofs.Changing.{Moves, moves_beside, moves_agree, moves_trans, moves_if_changes, changes_if_moves}
 use Rattle.tree.proofs.Families.{items_of-append, times-slots_of, length-slots_of, live_children, holds}
 use Rattle.tree.proofs.Placing.{live_one, put_entries, put_live, put_moves}
+use Rattle.tree.proofs.Sharing.{set_one}
+use Rattle.tree.proofs.Rebalancing.{live_subtree, rebalanced_by_entry}
 use Rattle.tree.proofs.callers.Partitions.{All-front, All-back}
 
 module _ {N : ℕ} where
@@ -109,3 +115,21 @@ module _ {N : ℕ} where
         items = s.items_are ∙ then.items;
         changes = changes_if_moves a w _ _ s.moves;
       }
+
+  -- The child at the index of a node that can be rebalanced is live.
+  pub child_live : {bytes : KeyBytes} {a : Arena (Node N)} {slot i x : ℕ} (d : Entry) → CanRebalance bytes a slot i
+      → x ≡ (get_or (entries_at a slot) i d).child → IsLive a x
+  child_live {bytes} {a} {slot} {i} {x} d can x_is =
+      live_subtree a (least_of N) can.family.0 x (rw x_is (can.family.1.family.below i d can.within))
+
+  -- The entry at the index is made right where it lies.
+  pub entry_put : {bytes : KeyBytes} {a : Arena (Node N)} {height slot i x : ℕ} (d t : Entry) (node : Node N)
+      → CanRebalance bytes a slot i → IsFamilyAt a (least_of N) height slot i → x ≡ (get_or (entries_at a slot) i d).child
+      → t.child ≡ x → (IsSubtree a (least_of N) height x → Tells t (items_in a height x))
+      → least_of N ≤ length (entries_at a x) → entries_of node ≡ slice_set (entries_at a slot) i t
+      → IsRebalancedAt a (with_header a slot node) (least_of N) height slot
+  entry_put {bytes} {a} {height} {slot} {i} {x} d t node can family x_is child tells filled now_is =
+      let es = entries_at a slot in
+      rebalanced_at node can.live family (rebalanced_by_entry a (least_of N) height es (entries_of node) i x d t can.within x_is
+      family.family can.keyless child tells filled (now_is ∙ set_one es i t can.within))
+      (omega (arith, ap length now_is, length-set es i t, can.within)) refl

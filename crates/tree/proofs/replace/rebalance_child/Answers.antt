@@ -1,5 +1,4 @@
 use Rattle.std.proofs.Common.{◌≡◌, ◌≤◌, ◌+◌, List, length, get_or, refl, sym, ap, subst, ◌∙◌, arith, rules}
-use Rattle.std.specs.Prelude.{slice_set}
 use Rattle.std.proofs.lemmas.List.{length-set}
 use Rattle.arena.specs.Arena.{with_header}
 use Rattle.tree.specs.declared.entry.Entry.{Entry}
@@ -9,56 +8,37 @@ use Rattle.tree.specs.Tree.{least_of}
 use Rattle.tree.specs.Replace.{IsFamily, IsRebalanced}
 use Rattle.tree.proofs.KnownKeys.{headed_header}
 use Rattle.tree.proofs.Placing.{entries_from_header, put_entries}
-use Rattle.tree.proofs.Sharing.{set_one}
-use Rattle.tree.proofs.Rebalancing.{live_subtree, rebalanced_by_entry}
-use Rattle.tree.proofs.Storing.{rebalanced_at}
+use Rattle.tree.proofs.Storing.{child_live, entry_put, rebalanced_at}
+use Rattle.tree.proofs.replace.rebalance_child.Given.{Over}
 use Rattle.tree.proofs.replace.rebalance_child.Goals as goal
+use Rattle.tree.proofs.replace.rebalance_child.Goals.{After-index-entries-index}
+
+-- the child at the index
+child_is : (g : Over) (c : After-index-entries-index g)
+    → (get_or c.entries.result.now c.args.index c.index-entries-index.result).child
+    ≡ (get_or (entries_at c.args.nodes.now c.args.slot) c.args.index c.index-entries-index.result).child
+child_is g c =
+    ap (λ (l : List Entry). (get_or l c.args.index c.index-entries-index.result).child)
+    (c.entries.ensures.entries ∙ sym (entries_from_header c.args.nodes.now c.args.slot c.header_ref.result.now c.header_ref.ensures.header))
 
 pub header_ref-requires-2 : goal.header_ref-requires-2
-header_ref-requires-2 g c =
-    let a = c.args.nodes.now in
-    let es = entries_at a c.args.slot in
-    let i = c.args.index in
-    let d = c.index-entries-index.result in
-    let x = (get_or c.entries.result.now i d).child in
-    let read = entries_from_header a c.args.slot c.header_ref.result.now c.header_ref.ensures.header in
-    let x_is : x ≡ (get_or es i d).child =
-    ap (λ (l : List Entry). (get_or l i d).child) (c.entries.ensures.entries ∙ sym read) in
-    let f = c.requires.can_rebalance.family in
-    record {
-      live = live_subtree a (least_of g.row.N) f.0 x
-          (subst (IsSubtree a (least_of g.row.N) f.0) (sym x_is) (f.1.family.below i d c.requires.can_rebalance.within));
-    }
+header_ref-requires-2 g c = record {
+  live = child_live c.index-entries-index.result c.requires.can_rebalance
+      (child_is g (goal.at.header_ref-requires-2 g c).After-index-entries-index);
+}
 
 pub returns-then-len-least-clause-rebalanced : goal.returns-then-len-least-clause-rebalanced
 returns-then-len-least-clause-rebalanced g c height family =
     let a = c.args.nodes.now in
-    let slot = c.args.slot in
-    let es = entries_at a slot in
-    let i = c.args.index in
-    let d = c.index-entries-index.result in
     let L = least_of g.row.N in
-    let x = (get_or c.entries.result.now i d).child in
-    let read = entries_from_header a slot c.header_ref.result.now c.header_ref.ensures.header in
-    let x_is : x ≡ (get_or es i d).child =
-    ap (λ (l : List Entry). (get_or l i d).child) (c.entries.ensures.entries ∙ sym read) in
-    let t = c.entry_for-entry.result in
-    let len : length (entries_at a x) ≡ c.len.result =
-    ap length (entries_from_header a x c.header_ref-2.result.now c.header_ref-2.ensures.header)
-    ∙ sym c.len.ensures.len in
-    let filled : L ≤ length (entries_at a x) =
-    subst (λ n. n ≤ length (entries_at a x)) c.least.ensures.least (omega (arith, len, c.if-len-least.true)) in
-    let node = c.set_with_head.new.self in
-    let here = entries_from_header a slot c.header_mut.result.now c.header_mut.ensures.header in
-    let now_is : entries_of node ≡ slice_set es i t =
-    c.set_with_head.ensures.entries ∙ ap (λ (l : List Entry). slice_set l i t) (sym here) in
-    let parts = now_is ∙ set_one es i t c.requires.can_rebalance.within in
-    let rebalanced =
-    rebalanced_by_entry a L height es (entries_of node) i x d t c.requires.can_rebalance.within x_is family.family c.requires.can_rebalance.keyless
-    c.entry_for-entry.ensures.child (c.entry_for-entry.ensures.tells height L) filled parts in
-    let some : 1 ≤ length (entries_of node) =
-    omega (arith, ap length now_is, length-set es i t, c.requires.can_rebalance.within) in
-    rebalanced_at node c.requires.can_rebalance.live family rebalanced some refl
+    let x = (get_or c.entries.result.now c.args.index c.index-entries-index.result).child in
+    let x_is = child_is g (goal.at.returns-then-len-least-clause-rebalanced g c).After-index-entries-index in
+    let len = ap length (entries_from_header a x c.header_ref-2.result.now c.header_ref-2.ensures.header) ∙ sym c.len.ensures.len in
+    let filled : L ≤ length (entries_at a x) = omega (arith, len, c.if-len-least.true) in
+    let here = entries_from_header a c.args.slot c.header_mut.result.now c.header_mut.ensures.header in
+    let entry = c.entry_for-entry in
+    entry_put c.index-entries-index.result entry.result c.set_with_head.new.self c.requires.can_rebalance family x_is
+    entry.ensures.child (entry.ensures.tells height L) filled (rw (← here) at c.set_with_head.ensures.entries)
 
 pub returns-then-len-least-clause-rest : goal.returns-then-len-least-clause-rest
 returns-then-len-least-clause-rest g c =
@@ -79,7 +59,6 @@ pub returns-clause-rebalanced : goal.returns-clause-rebalanced
 returns-clause-rebalanced g c height family =
     let a = c.args.nodes.now in
     let slot = c.args.slot in
-    let es = entries_at a slot in
     let L = least_of g.row.N in
     let read = entries_from_header a slot c.header-node.result c.header-node.ensures.header in
     let node = c.lengthen_prefix.new.self in
