@@ -1,6 +1,5 @@
 -- How many entries of a leaf pass, and the keys that it has once it is changed.
 use Rattle.std.proofs.Common.{rules, option_map, unwrap_or, ◌≢◌, ◌≡◌, inl, ℕ, zero, suc, ◌≤◌, Bool, not, List, [], ◌∷◌, Some, length, get_or, set, take, drop, filter, refl, sym, ◌∙◌, ap, subst, arith}
-use Rattle.std.specs.Prelude.{IfSome}
 use Rattle.std.proofs.lemmas.List.{take_at, drop_at, length-map}
 use Rattle.std.proofs.lemmas.List.Elements.{All-nil, All-cons}
 use Rattle.std.specs.FinMap as finite
@@ -9,7 +8,7 @@ use Rattle.arena.specs.Arena.{Arena, Record, record_at}
 use Rattle.keys.specs.Key.{IsBytes}
 use Rattle.tree.specs.declared.entry.Entry.{Entry}
 use Rattle.tree.specs.declared.node.Node.{Node}
-use Rattle.tree.specs.Heads.{KeyBytes, Begins, KeyHeads, AreHeads, AllAreHeads, head_behind}
+use Rattle.tree.specs.Heads.{KeyBytes, Begins, AreHeads, AllAreHeads, head_behind}
 use Rattle.tree.specs.Item.{item_of}
 use Rattle.tree.specs.Node.{entries_of, key_heads_of, all_heads_of, keys_of}
 use Rattle.tree.specs.Path.{IsPartitioned}
@@ -45,8 +44,7 @@ module _ {N : ℕ} where
       → e.key ≡ (get_or (entries_of old) i d).key → AreHeads bytes (key_heads_of old) → AreHeads bytes (key_heads_of new)
   key_heads_stays bytes old new i d e key_heads entries key headed =
       let keys : keys_of (entries_of new) ≡ keys_of (entries_of old) = ap keys_of entries ∙ keys_set (entries_of old) i d e key in
-      let with_keys : List ℕ → KeyHeads = λ keys. record (key_heads_of old) { keys = keys } in
-      subst (AreHeads bytes) (sym (key_heads ∙ ap with_keys keys)) headed
+      rw (key_heads, keys) headed
     where
       keys_set : (es : List Entry) (i : ℕ) (d e : Entry) → e.key ≡ (get_or es i d).key → keys_of (set es i e) ≡ keys_of es
       keys_set [] i d e same = refl
@@ -74,8 +72,6 @@ pub headed_alone : {N : ℕ} (bytes : KeyBytes) (a b : Arena (Node N)) (slot : �
     → key_heads_of node ≡ record { keys = key ∷ []; prefix_len = 0; heads = 0 ∷ [] } → bytes key ≡ Some []
     → AllAreHeads bytes (all_heads_of b)
 headed_alone {N} bytes a b slot node key none is others key_heads empty =
-    let nothing : AllAreHeads bytes (all_heads_of a) = λ s.
-    subst (λ o. IfSome (option_map key_heads_of (option_map (λ (r : Record (Node N)). r.header) o)) (AreHeads bytes))
-    (sym (ap (λ m. finite.get m s) none ∙ finite.get-empty nat_cmp s)) tt in
+    let nothing : AllAreHeads bytes (all_heads_of a) = λ s. (rw (none, finite.get-empty nat_cmp s) tt) in
     headed_put bytes a b slot node nothing (ap (option_map (λ (r : Record (Node N)). r.header)) is)
     (subst (AreHeads bytes) (sym key_heads) (headed_empty bytes key empty)) others

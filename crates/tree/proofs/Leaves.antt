@@ -4,7 +4,7 @@ use Rattle.std.specs.Prelude.{MatchOption}
 use Rattle.std.proofs.lemmas.Bool.{cases_Bool}
 use Rattle.std.proofs.lemmas.Option.{slice_get-get_or}
 use Rattle.std.proofs.lemmas.List.{drop_all, drop_more, take-append-drop, append-nil, append_assoc, map-append}
-use Rattle.std.proofs.lemmas.List.Elements.{All-nil, All-cons, All-head, All-tail, All-append, All-map, filter-append}
+use Rattle.std.proofs.lemmas.List.Elements.{All-head, All-append, All-map, filter-append}
 use Rattle.arena.specs.Arena.{Arena}
 use Rattle.tree.specs.declared.entry.Entry.{Entry}
 use Rattle.tree.specs.declared.node.Node.{Node}
@@ -13,7 +13,7 @@ use Rattle.tree.specs.Path.{IsPartitioned, index_in, child_in, leaf_in, before_l
 use Rattle.tree.specs.Subtree.{entries_at, items_in, IsSubtree}
 use Rattle.tree.specs.Tree.{IsLast}
 use Rattle.tree.proofs.callers.Times.{none_or_some}
-use Rattle.tree.proofs.callers.Partitions.{not_both, none_pass, none_passed, none_fail, IsPartitioned-parts, IsPartitioned-from_falls, Falls, Falls-below_from}
+use Rattle.tree.proofs.callers.Partitions.{not_both, none_pass, none_passed, none_fail, IsPartitioned-parts}
 use Rattle.tree.proofs.HeadCounts.{passing_at}
 use Rattle.tree.proofs.Found.{partitioned-entries}
 use Rattle.tree.proofs.Ways.{way}
@@ -91,26 +91,24 @@ module _ (is_below : ℕ → Bool) (items before after : List Item) (es : List E
 -- the last of a list, if there is one
 match_last : {X : Type 0} (P : Type 0) (Q : X → Type 0) (xs : List X) (result : Option X) → result ≡ slice_get xs (length xs - 1)
     → (xs ≡ [] → P) → ((x : X) → IsLast x xs → Q x) → MatchOption result P Q
-match_last P Q [] result is none some = subst (λ o. MatchOption o P Q) (sym is) (none refl)
+match_last P Q [] result is none some = rw is (none refl)
 match_last P Q (x ∷ xs) result is none some =
     let all = x ∷ xs in
     let i = length xs in
     let last = get_or all i x in
     let less : suc i - 1 ≡ i = omega arith in
-    let e : result ≡ Some last = is ∙ ap (slice_get all) less ∙ slice_get-get_or all i x (omega arith) in
+    let e : result ≡ Some last = is ∙ rw less (slice_get-get_or all i x (omega arith)) in
     let parts : all ≡ take i all ++ last ∷ [] =
     cc (take-append-drop i all, drop_more all i x (omega arith), drop_all (i + 1) all (omega arith)) in
-    subst (λ o. MatchOption o P Q) (sym e) (some last (take i all, parts))
+    rw e (some last (take i all, parts))
 
 -- The last entry below the bound is the last such item.
 pub last_passing : (is_below : ℕ → Bool) (items before after : List Item) (es passed : List Entry) (result : Option Entry)
     → IsLeaf is_below items before after es → passed ≡ filter (λ e. is_below e.key) es → result ≡ slice_get passed (length passed - 1)
     → MatchOption result (items_below is_below items ≡ []) (λ e. IsLast (item_of e) (items_below is_below items))
 last_passing is_below items before after es passed result leaf same is =
-    let front = passing_is is_below items before after es leaf ∙ ap (λ xs. before ++ map item_of xs) (sym same) in
-    match_last (items_below is_below items ≡ []) (λ e. IsLast (item_of e) (items_below is_below items)) passed result is
-    (λ none. front ∙ ap (λ xs. before ++ map item_of xs) none ∙ ap (λ xs. xs ++ []) (leaf.none (sym same ∙ none)))
-    (λ e last. (
+    let front : items_below is_below items ≡ before ++ map item_of passed = rw same (passing_is is_below items before after es leaf) in
+    match_last _ _ passed result is (λ none. (rw (front, none, leaf.none (sym same ∙ none)) refl)) (λ e last. (
       before ++ map item_of last.0,
       cc (front, last.1, map-append item_of last.0 (e ∷ []), append_assoc before (map item_of last.0) (item_of e ∷ [])),
     ))
@@ -124,11 +122,9 @@ pub is_leaf : {N : ℕ} (nodes : Arena (Node N)) (least height slot : ℕ) (is_b
     → All (λ x. is_below x.key ≡ false) (behind_leaf nodes height slot is_below)
     → IsLeaf is_below (items_in nodes height slot) (before_leaf nodes height slot is_below) (behind_leaf nodes height slot is_below) es
 is_leaf nodes least height slot is_below leaf es s c way same items pass fail =
-    let before = before_leaf nodes height slot is_below in
-    let after = behind_leaf nodes height slot is_below in
     let there : entries_at nodes (leaf_in nodes height slot is_below) ≡ es = ap (entries_at nodes) (sym way) ∙ same in
     record {
-      items_are = items ∙ ap (λ xs. before ++ (map item_of xs ++ after)) same;
+      items_are = rw same at items;
       pass = pass;
       fail = fail;
       none = λ none. (none_before nodes least height slot is_below s c (ap (filter (λ e. is_below e.key)) there ∙ none)).0;

@@ -8,7 +8,7 @@ use Rattle.std.proofs.lemmas.List.Elements.{All-head}
 use Rattle.arena.specs.Arena.{Arena, IsLive}
 use Rattle.tree.specs.declared.entry.Entry.{Entry}
 use Rattle.tree.specs.declared.node.Node.{Node}
-use Rattle.tree.specs.Item.{Item, Tells}
+use Rattle.tree.specs.Item.{Item}
 use Rattle.tree.specs.Subtree.{entries_at, items_in, slots_in, IsSubtree}
 use Rattle.tree.specs.Replace.{AreChildren, items_of, slots_of}
 use Rattle.tree.specs.Tree.{IsRooted, least_of}
@@ -44,7 +44,7 @@ module _ {N : ℕ} where
         items_are = h.items;
         rooted = record {
           subtree = h.subtree;
-          branches = λ above. subst (λ l. 2 ≤ length l) (sym here) two;
+          branches = λ above. omega (arith, two, ap length here);
           distinct = subst (IsDistinct nat_eq) (sym h.slots) (distinct_if_once (slot ∷ zs) beside.few);
           linked = omega (arith, beside.live, ap length h.slots);
           keyless = beside.keyless;
@@ -59,9 +59,9 @@ module _ {N : ℕ} where
   shrunk a b height slot e subtree here distinct linked moves =
       let least = least_of N in
       let zs = slots_in a height e.child in
-      let slots : slots_in a (suc height) slot ≡ slot ∷ zs = ap (λ es. slot ∷ slots_of a height es) here ∙ ap (λ l. slot ∷ l) (append-nil zs) in
-      let items : items_in a (suc height) slot ≡ items_in a height e.child = ap (items_of a height) here ∙ append-nil (items_in a height e.child) in
-      let own : IsRight a least height e = All-head (IsRight a least height) e [] (subst (AreChildren a least height) here subtree.2) in
+      let slots : slots_in a (suc height) slot ≡ slot ∷ zs = simp (here, append-nil) in
+      let items : items_in a (suc height) slot ≡ items_in a height e.child = simp (here, append-nil) in
+      let own : IsRight a least height e = All-head (IsRight a least height) e [] (rw here at subtree.2) in
       let once = once_if_distinct (slot ∷ zs) (subst (IsDistinct nat_eq) slots distinct) in
       let alive = live_in a least height e.child own.subtree in
       let agree = moves_agree a b (slot ∷ []) [] zs moves alive (λ s. omega (arith, once s)) in

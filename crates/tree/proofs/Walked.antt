@@ -2,24 +2,26 @@
 use Rattle.std.proofs.Common.{◌≡◌, inl, ℕ, suc, ◌+◌, ◌*◌, ◌≤◌, Bool, true, false, List, [], ◌∷◌, ◌++◌, Option, Some, None, length, length-append, take, drop, refl, sym, ap, subst, ◌∙◌, arith, append-nil}
 use Rattle.std.specs.Prelude.{ℤ, IfSome}
 use Rattle.std.proofs.lemmas.List.{length-take-le, length-drop}
-use Rattle.std.proofs.lemmas.List.Elements.{All-nil}
-use Rattle.arena.specs.Arena.{Arena, spare_of}
+use Rattle.std.proofs.lemmas.List.Elements.{All-append, All-cons, All-nil}
+use Rattle.arena.specs.Arena.{Arena}
 use Rattle.tree.specs.declared.entry.Entry.{Entry}
 use Rattle.tree.specs.declared.node.Node.{Node}
 use Rattle.tree.specs.declared.walk.Outcome.{Outcome}
 use Rattle.tree.specs.declared.walk.Outcome.TheVariants.{Same, Raised, Split}
 use Rattle.tree.specs.Heads.{KeyBytes}
 use Rattle.tree.specs.Item.{Item}
-use Rattle.tree.specs.Replace.{child_at, entries_at_both, items_of, slots_of, slots_with, Changes, IsFamilyAt, IsLinked, IsRebalancedAt, TellsWritten}
+use Rattle.tree.specs.Replace.{child_at, entries_at_both, items_of, slots_of, slots_with, Changes, IsFamily, IsFamilyAt, IsLinked, IsRebalancedAt, TellsWritten}
 use Rattle.tree.specs.Splice.{AreHalfFull}
-use Rattle.tree.specs.Subtree.{entries_at, items_in, slots_in}
+use Rattle.tree.specs.Subtree.{entries_at, items_in, slots_in, IsSubtree}
 use Rattle.tree.specs.Tree.{least_of}
 use Rattle.tree.specs.Walk.{added_by, IsChanged, IsChangedWithin}
 use Rattle.tree.specs.Rebalancing.{CanInsertChild, CanRebalance, IsStored, LosesOneAtMost}
-use Rattle.tree.proofs.callers.Times.{once_same, times_if_contains}
+use Rattle.tree.proofs.callers.Times.{distinct_if_once, once_same, times_if_contains}
 use Rattle.tree.proofs.Changing.{Moves, changes_if_moves, moves_if_changes, moves_trans}
-use Rattle.tree.proofs.Replacing.{IsLoose, entries_linked, family_loose}
-use Rattle.tree.proofs.Stepping.{IsAt, IsStepped, live_beside, read_beside, x_at}
+use Rattle.tree.proofs.Families.{Loose}
+use Rattle.tree.proofs.Frames.{IsRight, below_of}
+use Rattle.tree.proofs.Replacing.{both_right, loose_at}
+use Rattle.tree.proofs.Stepping.{IsAt, IsStepped, here, live_beside, one_slots, read_beside, split, x_at}
 use Rattle.tree.proofs.Storing.{moves_own, stored}
 use Rattle.tree.proofs.Walking.{raised_above, raised_at}
 
@@ -60,18 +62,28 @@ module _ {N : ℕ} {a : Arena (Node N)} {height lower slot : ℕ} {is_below : �
     moves : Moves a b (slots_in a lower x) (slots_in b lower x)
     moves = moves_if_changes a b _ _ (subst (λ o. Changes a b (slots_in a lower x) (slots_with b lower x o)) whole put.changes)
 
-    changed : IsLoose a b (least_of N) lower es i x
-    changed = family_loose at b put.subtree moves
+    loosened : Loose a b (least_of N) lower (take i es) (here at ∷ []) (drop (i + 1) es) (here at ∷ [])
+    loosened = loose_at at (here at ∷ []) (rw (one_slots at b) at moves)
 
     own : Moves a b (slots_in a (suc lower) slot) (slot ∷ slots_of b lower es)
-    own = moves_own lower slot es at.few at.subtree.0 changed.moves
+    own = moves_own lower slot es at.few at.subtree.0 (rw (split at) loosened.moves)
 
     pub family : IsFamilyAt b (least_of N) lower slot i
-    family = record {
-      family = rw (read_beside at moves) changed.family;
-      apart = rw (read_beside at moves) (λ has. let below = times_if_contains slot (slots_of b lower es) has in
-          absurd (omega (arith, own.few slot, once_same slot)));
-    }
+    family =
+        let Below = λ (e : Entry). IsSubtree b (least_of N) lower e.child in
+        let all = All-append Below (take i es) (here at ∷ [] ++ drop (i + 1) es) (below_of b _ lower (take i es) loosened.front)
+        (All-cons Below (here at) (drop (i + 1) es) (rw at.x_is at put.subtree) (below_of b _ lower (drop (i + 1) es) loosened.back)) in
+        let loose : IsFamily b (least_of N) lower es i (i + 1) = record {
+          distinct = distinct_if_once (slots_of b lower es) (λ s. omega (arith, own.few s));
+          below = rw (split at) all;
+          before = loosened.front;
+          behind = loosened.back;
+        } in
+        record {
+          family = rw (read_beside at moves) loose;
+          apart = rw (read_beside at moves) (λ has. let below = times_if_contains slot (slots_of b lower es) has in
+              absurd (omega (arith, own.few slot, once_same slot)));
+        }
 
     -- The node can be rebalanced.
     pub can_rebalance : CanRebalance bytes b slot i
@@ -93,7 +105,8 @@ module _ {N : ℕ} {a : Arena (Node N)} {height lower slot : ℕ} {is_below : �
     module _ {w : Arena (Node N)} (rebalanced : IsRebalancedAt b w (least_of N) lower slot) where
       pub step_rebalanced : IsStepped a w height lower slot i (items_in b lower x) None
       step_rebalanced = rw (← at.next) record {
-        items = rebalanced.items ∙ ap (items_of b lower) (read_beside at moves) ∙ changed.items;
+        items = rebalanced.items ∙ ap (items_of b lower) (read_beside at moves ∙ split at)
+            ∙ (simp (sym at.x_is, append-nil) at loosened.items);
         subtree = rebalanced.subtree;
         neighbour = tt;
         changes = changes_if_moves a w _ _ (moves_trans a b w _ (slots_in b (suc lower) slot) _ (rw (read_beside at moves) own)
@@ -149,14 +162,23 @@ module _ {N : ℕ} {a : Arena (Node N)} {height lower slot : ℕ} {is_below : �
       step_linked =
           let t = linked_here.first in
           let u = linked_here.second in
-          let step = entries_linked at b put.subtree linked_here put.neighbour put.filled both_moves in
+          let first = linked_here.first_child in
+          let second = linked_here.second_child in
+          let slots : slots_in b lower x ++ slots_in b lower s ≡ slots_of b lower (t ∷ u ∷ []) = simp (first, second, append-nil) in
+          let l = loose_at at (t ∷ u ∷ []) (rw slots at both_moves) in
+          let right = both_right b (least_of N) lower x s t u first second put.subtree put.neighbour put.filled
+          linked_here.first_tells linked_here.second_tells in
+          let Right = IsRight b (least_of N) lower in
+          let all = All-append Right (take i es) (t ∷ u ∷ drop (i + 1) es) l.front
+          (All-append Right (t ∷ u ∷ []) (drop (i + 1) es) right l.back) in
           let some : 1 ≤ length (entries_at_both w slot (added_by outcome)) =
           omega (arith, ap length linked_here.entries, length-append (take i es) (t ∷ u ∷ drop (i + 1) es)) in
-          let k = stored (least_of N) lower slot at.few at.subtree.0 (added_by outcome) step.moves step.children some
+          let k = stored (least_of N) lower slot at.few at.subtree.0 (added_by outcome)
+          (rw (split at, linked_here.entries) l.moves) (rw linked_here.entries all) some
           (both_filled 1 w slot (added_by outcome) (omega (arith, at.can.fan_out)) stored_at.filled) stored_at.live stored_at.live_added
           (moves_if_changes b w _ _ stored_at.changes) in
           rw (← at.next) record {
-            items = k.items_are ∙ step.items;
+            items = k.items_are ∙ ap (items_of b lower) linked_here.entries ∙ (simp (first, second, append-nil) at l.items);
             subtree = k.subtree;
             neighbour = k.neighbour;
             changes = changes_if_moves a w _ _ k.moves;
@@ -173,8 +195,13 @@ module _ {N : ℕ} {a : Arena (Node N)} {height lower slot : ℕ} {is_below : �
         few_less = λ above none. (
             let is : entries_at w slot ≡ take i es ++ (linked_here.first ∷ linked_here.second ∷ drop (i + 1) es) =
             ap (entries_at_both w slot) (sym none) ∙ linked_here.entries in
-            omega (arith, ap length is, length-append (take i es) (linked_here.first ∷ linked_here.second ∷ drop (i + 1) es),
-            length-take-le i es (omega (arith, at.within)), length-drop (i + 1) es)
+            omega (
+              arith,
+              ap length is,
+              length-append (take i es) (linked_here.first ∷ linked_here.second ∷ drop (i + 1) es),
+              length-take-le i es (omega (arith, at.within)),
+              length-drop (i + 1) es,
+            )
             );
         changes = step_linked.changes;
         taken = omega (arith, put.taken, stored_at.taken, at.next);

@@ -1,8 +1,7 @@
-use Rattle.std.proofs.Common.{◌≡◌, ◌+◌, ℕ, [], ◌∷◌, ◌++◌, List, take, drop, refl, sym, ap, get_or, subst, ◌∙◌, arith}
+use Rattle.std.proofs.Common.{◌≡◌, ◌+◌, [], ◌∷◌, ◌++◌, List, take, drop, refl, sym, ap, get_or, ◌∙◌, arith}
 use Rattle.arena.specs.Arena.{with_header}
 use Rattle.tree.specs.declared.entry.Entry.{Entry}
-use Rattle.tree.specs.Item.{Tells}
-use Rattle.tree.specs.Subtree.{entries_at, items_in, IsSubtree}
+use Rattle.tree.specs.Subtree.{entries_at}
 use Rattle.tree.specs.Replace.{child_at}
 use Rattle.tree.proofs.Changing.{changes_if_moves}
 use Rattle.tree.proofs.KnownKeys.{headed_header}

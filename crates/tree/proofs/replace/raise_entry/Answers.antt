@@ -28,38 +28,33 @@ header_ref-requires-else-entry-version g c =
     let d_is = read_is g (goal.at.header_ref-requires-else-entry-version g c).After-index-entries-index in
     record { live = child_live c.index-entries-index.result c.requires.can_rebalance (ap (λ e. e.child) d_is) }
 
-pub returns-clause-rebalanced : goal.returns-clause-rebalanced
-returns-clause-rebalanced g c height family tells =
+pub returns : goal.returns
+returns g c =
     let a = c.args.nodes.now in
-    let es = entries_at a c.args.slot in
+    let slot = c.args.slot in
+    let es = entries_at a slot in
+    let can = c.requires.can_rebalance in
     let d = c.index-entries-index.result in
-    let d_is = read_is g (goal.at.returns-clause-rebalanced g c).After-index-entries-index in
+    let d_is = read_is g (goal.at.returns g c).After-index-entries-index in
     let child = c.header_ref-else-entry-version in
     let len = ap length (entries_from_header a d.child child.result.now child.ensures.header) ∙ sym c.len.ensures.len in
     let filled : least_of g.row.N ≤ length (entries_at a d.child) = omega (arith, len, c.if-len-least.false) in
     let below : d.version ≤ℤ c.args.version = grind (arith, ints, c.if-entry-version.false) in
-    let there : slice_get es c.args.index ≡ Some d =
-    slice_get-get_or es c.args.index d c.requires.can_rebalance.within ∙ ap Some (sym d_is) in
-    let here = entries_from_header a c.args.slot c.header_mut.result.now c.header_mut.ensures.header in
-    entry_put d (record d { version = c.args.version }) c.set.new.self c.requires.can_rebalance family (ap (λ e. e.child) d_is) refl
-    (λ subtree. tells d there below) filled
-    (rw (to_z-of_z w64 c.args.version c.ranges.version, ← here) at c.set.ensures.entries)
-
-pub returns-clause-rest : goal.returns-clause-rest
-returns-clause-rest g c =
-    let a = c.args.nodes.now in
-    let slot = c.args.slot in
-    let t : Entry = record c.index-entries-index.result { version = to_z w64 (of_z w64 c.args.version) } in
-    let bytes = g.P.Bound.bytes c.args.bound.now in
+    let there : slice_get es c.args.index ≡ Some d = slice_get-get_or es c.args.index d can.within ∙ ap Some (sym d_is) in
     let old = c.header_mut.result.now in
-    let node = c.set.new.self in
     let here = entries_from_header a slot old c.header_mut.ensures.header in
-    let d_is = rw here at (read_is g (goal.at.returns-clause-rest g c).After-index-entries-index) in
+    let node = c.set.new.self in
     let now_is = put_entries a (with_header a slot node) slot node refl ∙ c.set.ensures.entries in
-    let headed = key_heads_stays bytes old node c.args.index c.index-entries-index.result t c.set.ensures.key_heads
-    c.set.ensures.entries (ap (λ e. e.key) d_is) (headed_at bytes a slot old c.requires.can_rebalance.headed c.header_mut.ensures.header) in
+    let headed = key_heads_stays _ old node c.args.index d (record d { version = to_z w64 (of_z w64 c.args.version) })
+    c.set.ensures.key_heads c.set.ensures.entries (ap (λ e. e.key) (rw here at d_is))
+    (headed_at _ a slot old can.headed c.header_mut.ensures.header) in
     record {
-      few_less = omega (arith, ap length now_is, ap length here, length-set {A = Entry});
-      spare = search rules;
-      headed = headed_header bytes a (with_header a slot node) slot node refl c.requires.can_rebalance.headed headed;
+      rebalanced = λ height family tells. entry_put d (record d { version = c.args.version }) node can family
+          (ap (λ e. e.child) d_is) refl (λ subtree. tells d there below) filled
+          (rw (to_z-of_z w64 c.args.version c.ranges.version, ← here) at c.set.ensures.entries);
+      rest = record {
+        few_less = omega (arith, ap length now_is, ap length here, length-set {A = Entry});
+        spare = search rules;
+        headed = headed_header _ a (with_header a slot node) slot node refl can.headed headed;
+      };
     }

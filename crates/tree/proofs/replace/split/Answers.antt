@@ -1,9 +1,4 @@
-use Rattle.std.proofs.Common.{rules, ◌≡◌, ◌++◌, List, option_map, length, take, drop, ap, ap₂, sym, subst, ◌∙◌, arith}
-use Rattle.std.specs.Prelude.{IfSome}
-use Rattle.tree.specs.declared.entry.Entry.{Entry}
-use Rattle.tree.specs.Heads.{AreHeadsBeside}
-use Rattle.tree.specs.Node.{entries_of, key_heads_of, keys_of}
-use Rattle.tree.specs.Subtree.{entries_at}
+use Rattle.std.proofs.Common.{rules, length, ap, arith}
 use Rattle.tree.proofs.Headed.{headed_at}
 use Rattle.tree.proofs.KnownKeys.{headed_header}
 use Rattle.tree.proofs.Neighbours.{left_entries, left_live, both_changes}

@@ -1,4 +1,4 @@
-use Rattle.std.proofs.Common.{arith, add-one, rules, ◌≡◌, suc, List, [], ◌∷◌, ◌++◌, ◌∙◌, ap, sym, subst, length, take, drop}
+use Rattle.std.proofs.Common.{arith, add-one, rules, ◌≡◌, List, [], ◌∷◌, ◌++◌, ◌∙◌, ap, sym, subst, length, take, drop}
 use Rattle.std.specs.List.{All}
 use Rattle.std.proofs.lemmas.List.{append-nil}
 use Rattle.std.proofs.lemmas.List.Elements.{All-nil, All-cons}

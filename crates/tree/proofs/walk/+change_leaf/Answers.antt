@@ -1,13 +1,13 @@
-use Rattle.std.proofs.Common.{◌≡◌, ◌≤◌, ◌+◌, ◌-◌, ◌⊎◌, ℕ, suc, Bool, true, false, List, ◌++◌, Option, None, Some, SFits, ℤ, w64, length, get_or, map, take, drop, refl, sym, ap, subst, ◌∙◌, arith, rules}
+use Rattle.std.proofs.Common.{◌≡◌, ◌≤◌, ◌+◌, ◌-◌, ℕ, suc, Bool, List, ◌++◌, Option, SFits, ℤ, w64, length, get_or, take, drop, refl, sym, ap, ◌∙◌, arith, rules}
 use Rattle.std.proofs.lemmas.Int.{to_z-of_z}
 use Rattle.tree.specs.declared.entry.Entry.{Entry}
-use Rattle.tree.specs.Item.{Item, item_of}
+use Rattle.tree.specs.Item.{Item}
 use Rattle.tree.specs.Node.{entries_of}
-use Rattle.tree.specs.Path.{index_in, first_key}
+use Rattle.tree.specs.Path.{index_in}
 use Rattle.tree.specs.Subtree.{entries_at, items_in, slots_in}
 use Rattle.tree.specs.declared.walk.Outcome.TheVariants.{Same, Raised, Changed, Split}
 use Rattle.tree.specs.Tree.{least_of}
-use Rattle.tree.specs.Replace.{items_of, IsRebalancedAt}
+use Rattle.tree.specs.Replace.{items_of}
 use Rattle.tree.specs.Walk.{CanChangeLeaf, IsChangedWithin}
 use Rattle.tree.proofs.callers.Times.{once_if_distinct, distinct_if_once}
 use Rattle.tree.proofs.ChangedLeaf.{unchanged}
@@ -35,23 +35,21 @@ returns-then-height-eq0 g t c = rw c.if-height-eq0.true record {
 pub step-step-requires : goal.step-step-requires
 step-step-requires g t c =
     let a = c.args.nodes.now in
-    let slot = c.args.slot in
-    let leaf_bound = g.C.LeafChange.bound_of c.args.change.now in
-    let bytes = g.C.LeafBound.Bound.bytes leaf_bound in
-    let is_below = g.C.LeafBound.Bound.below leaf_bound in
+    let can = c.requires.can_change in
     let node = c.header_ref-node.result.now in
     let header = c.header_ref-node.ensures.header in
-    let read = entries_from_header a slot node header in
+    let read = entries_from_header a c.args.slot node header in
+    let partitioned = read_partitioned a (least_of g.row.N) c.args.height c.args.slot _ node _ c.if-height-eq0.false
+    can.changeable.subtree can.searched.partitioned header refl in
     rw c.leaf_bound.ensures.leaf_bound (
       search rules,
       record {
         can_find = record {
-          headed = headed_at bytes a slot node c.requires.can_change.searched.headed header;
-          partitioned = read_partitioned a (least_of g.row.N) c.args.height slot is_below node (entries_of node) c.if-height-eq0.false
-              c.requires.can_change.changeable.subtree c.requires.can_change.searched.partitioned header refl;
-          some = omega (arith, ap length read, c.requires.can_change.changeable.some);
+          headed = headed_at _ a c.args.slot node can.searched.headed header;
+          partitioned = partitioned;
+          some = omega (arith, ap length read, can.changeable.some);
         };
-        known = rw read at c.requires.can_change.searched.known;
+        known = rw read at can.searched.known;
       },
     )
 
@@ -126,7 +124,7 @@ module _ (g : Over) (t : ℕ) (c : After-index-entries-step g t) where
               (rw c.leaf_bound.ensures.leaf_bound at c.step-step.ensures.step.knows);
         };
         wanted = g.met.C.LeafChange.part c.args.change.now (items_of a h (take i es)) (items_in a h x)
-            (items_of a h (drop (i + 1) es)) (subst (g.C.LeafChange.wants c.args.change.now) (items_split at) can.wanted);
+            (items_of a h (drop (i + 1) es)) (rw (items_split at) at can.wanted);
         none_taken = can.none_taken;
       }
 
