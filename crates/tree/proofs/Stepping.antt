@@ -1,6 +1,5 @@
--- A node above the leaves, and the child at which a bound goes on: what is known of both, and what holds after a change.
-use Rattle.std.proofs.Common.{◌≡◌, ℕ, suc, ◌+◌, ◌<◌, ◌≤◌, Bool, List, [], ◌∷◌, ◌++◌, length, append-nil, get_or, take, drop, Option, sym, ap, ◌∙◌, arith}
-use Rattle.std.specs.Prelude.{IfSome}
+-- A node above the leaves, and the child at which a bound goes on.
+use Rattle.std.proofs.Common.{◌≡◌, ℕ, suc, ◌+◌, ◌<◌, ◌≤◌, Bool, List, [], ◌∷◌, ◌++◌, length, append-nil, get_or, take, drop, sym, ap, ◌∙◌, arith}
 use Rattle.arena.specs.Arena.{Arena, IsLive, record_at}
 use Rattle.tree.specs.declared.entry.Entry.{Entry}
 use Rattle.tree.specs.declared.node.Node.{Node}
@@ -9,7 +8,7 @@ use Rattle.tree.specs.Path.{index_in}
 use Rattle.tree.specs.Subtree.{entries_at, items_in, slots_in, IsSubtree}
 use Rattle.tree.specs.Tree.{least_of}
 use Rattle.tree.specs.Walk.{CanChange}
-use Rattle.tree.specs.Replace.{child_at, items_with, slots_with, items_of, slots_of, Changes}
+use Rattle.tree.specs.Replace.{child_at, items_of, slots_of}
 use Rattle.tree.proofs.callers.Times.{times, once, once_same}
 use Rattle.tree.proofs.Frames.{IsRight, entries_same, live_same}
 use Rattle.tree.proofs.Changing.{Moves}
@@ -27,14 +26,6 @@ module _ {N : ℕ} where
     pub d : Entry
     pub x_is : x ≡ (get_or (entries_at a slot) i d).child
     pub index : i ≡ index_in is_below (entries_at a slot)
-
-  -- What holds afterwards. The items of the child are others, and stand among those of its neighbours.
-  pub record IsStepped (a w : Arena (Node N)) (height lower slot i : ℕ) (middle : List Item) (added : Option ℕ) : Type 0 where
-    pub items : items_with w height slot added
-        ≡ items_of a lower (take i (entries_at a slot)) ++ (middle ++ items_of a lower (drop (i + 1) (entries_at a slot)))
-    pub subtree : IsSubtree w (least_of N) height slot
-    pub neighbour : IfSome added (λ s. IsSubtree w (least_of N) height s)
-    pub changes : Changes a w (slots_in a height slot) (slots_with w height slot added)
 
   module _ {a : Arena (Node N)} {height lower slot : ℕ} {is_below : ℕ → Bool} {i x : ℕ}
       (at : IsAt a height lower slot is_below i x) where
@@ -63,9 +54,11 @@ module _ {N : ℕ} where
         let more = times-slots_of a lower s (here ∷ []) (drop (i + 1) es) in
         omega (arith, at.few s, ap (times s) (one_slots a))
 
-    -- the items of the node: those of the children before the child, its own, and those of the children behind it
-    pub items_split : items_in a height slot
-        ≡ items_of a lower (take i es) ++ (items_in a lower x ++ items_of a lower (drop (i + 1) es))
+    -- the items of the node, with these in place of the child's
+    abbrev pub around : List Item → List Item
+    around middle = items_of a lower (take i es) ++ (middle ++ items_of a lower (drop (i + 1) es))
+
+    pub items_split : items_in a height slot ≡ around (items_in a lower x)
     items_split =
         rw (← at.next, at.x_is) (ap (items_of a lower) split ∙ items_of-append a lower (take i es) (here ∷ [] ++ drop (i + 1) es))
 

@@ -12,7 +12,7 @@ use Rattle.tree.specs.Node.{entries_of}
 use Rattle.tree.specs.Rebalancing.{CanRebalance}
 use Rattle.tree.specs.Tree.{least_of}
 use Rattle.tree.specs.Subtree.{entries_at, items_in, slots_in, IsSubtree}
-use Rattle.tree.specs.Replace.{entries_at_both, items_with, slots_with, slot_taken, items_of, slots_of, AreChildren, IsFamilyAt, IsRebalanced, IsRebalancedAt}
+use Rattle.tree.specs.Replace.{entries_at_both, items_with, slots_with, slot_taken, Changes, items_of, slots_of, AreChildren, IsFamilyAt, IsRebalanced, IsRebalancedAt}
 use Rattle.tree.proofs.callers.Times.{times, once_same, once_cases, once_if_distinct, times-append, times_unless_contains}
 use Rattle.tree.proofs.Frames.{Agree, IsRight, live_same}
 use Rattle.tree.proofs.Changing.{Moves, moves_beside, moves_agree, moves_trans, moves_if_changes, changes_if_moves}
@@ -23,14 +23,16 @@ use Rattle.tree.proofs.Rebalancing.{live_subtree, rebalanced_by_entry}
 use Rattle.tree.proofs.callers.Partitions.{All-front, All-back}
 
 module _ {N : ℕ} where
-  pub record IsStored (a w : Arena (Node N)) (least height slot : ℕ) (added : Option ℕ) (items : List Item) : Type 0 where
-    pub items_are : items_with w (suc height) slot added ≡ items
-    pub subtree : IsSubtree w least (suc height) slot
-    pub neighbour : IfSome added (λ s. IsSubtree w least (suc height) s)
-    pub moves : Moves a w (slots_in a (suc height) slot) (slots_with w (suc height) slot added)
+  -- what a node and its right neighbour, if any, are seen as afterwards
+  pub record Stored (a w : Arena (Node N)) (least height slot : ℕ) (added : Option ℕ) (items : List Item) : Type 0 where
+    pub items_are : items_with w height slot added ≡ items
+    pub subtree : IsSubtree w least height slot
+    pub neighbour : IfSome added (λ s. IsSubtree w least height s)
+    pub changes : Changes a w (slots_in a height slot) (slots_with w height slot added)
 
-  module _ {a b : Arena (Node N)} (height slot : ℕ) (now : List Entry) (few : (s : ℕ) → times s (slots_in a (suc height) slot) ≤ 1)
-      (live : IsLive a slot) (moves : Moves a b (slots_of a height (entries_at a slot)) (slots_of b height now)) where
+  module _ {a b : Arena (Node N)} (height slot : ℕ) (now : List Entry)
+      (few : (s : ℕ) → times s (slots_in a (suc height) slot) ≤ 1) (live : IsLive a slot)
+      (moves : Moves a b (slots_of a height (entries_at a slot)) (slots_of b height now)) where
     -- the node's own slot isn't touched below
     live_own : IsLive b slot
     live_own = live_same a b slot (moves.others slot (omega (arith, few slot, once_same slot)) live) live
@@ -58,14 +60,15 @@ module _ {N : ℕ} where
       → AreChildren b least height (entries_at_both w slot added) → 1 ≤ length (entries_at_both w slot added)
       → IfSome added (λ s. (1 ≤ length (entries_at w slot)) × (1 ≤ length (entries_at w s)))
       → IsLive w slot → IfSome added (λ s. IsLive w s) → Moves b w (slot ∷ []) (slot ∷ slot_taken added)
-      → IsStored a w least height slot added (items_of b height (entries_at_both w slot added))
+      → Stored a w least (suc height) slot added (items_of b height (entries_at_both w slot added))
   stored {a} {b} {w} least height slot few live None moves right some both live_here live_added changes =
       let h = holds b w least height slot _ live_here refl some right (below_kept height slot _ few live moves right changes) in
       record {
         items_are = h.items;
         subtree = h.subtree;
         neighbour = tt;
-        moves = subst (Moves a w _) (sym h.slots) (moves_all height slot _ few live moves right changes _ (λ s. omega arith) (omega arith));
+        changes = changes_if_moves a w _ _ (subst (Moves a w _) (sym h.slots)
+            (moves_all height slot _ few live moves right changes _ (λ s. omega arith) (omega arith)));
       }
   stored {a} {b} {w} least height slot few live (Some s) moves right some both live_here live_added changes =
       let us = entries_at w slot in
@@ -82,9 +85,9 @@ module _ {N : ℕ} where
         items_are = cc (h.items, k.items, items_of-append b height us vs);
         subtree = h.subtree;
         neighbour = k.subtree;
-        moves = subst (Moves a w _) (sym (ap₂ (λ l m. l ++ m) h.slots k.slots)) (moves_all height slot _ few live moves right changes _
-            (λ q. omega (arith, count q, times-append q xs (s ∷ ys)))
-            (omega (arith, length-slots_of b height us vs, length-append xs (s ∷ ys))));
+        changes = changes_if_moves a w _ _ (subst (Moves a w _) (sym (ap₂ (λ l m. l ++ m) h.slots k.slots))
+            (moves_all height slot _ few live moves right changes _ (λ q. omega (arith, count q, times-append q xs (s ∷ ys)))
+            (omega (arith, length-slots_of b height us vs, length-append xs (s ∷ ys)))));
       }
 
   -- the slots below a node and its own stand there once
@@ -113,7 +116,7 @@ module _ {N : ℕ} where
       record {
         subtree = s.subtree;
         items = s.items_are ∙ then.items;
-        changes = changes_if_moves a w _ _ s.moves;
+        changes = s.changes;
       }
 
   -- The child at the index of a node that can be rebalanced is live.

@@ -21,8 +21,8 @@ use Rattle.tree.proofs.Changing.{Moves, changes_if_moves, moves_if_changes, move
 use Rattle.tree.proofs.Families.{Loose}
 use Rattle.tree.proofs.Frames.{IsRight, below_of}
 use Rattle.tree.proofs.Replacing.{both_right, loose_at}
-use Rattle.tree.proofs.Stepping.{IsAt, IsStepped, here, live_beside, one_slots, read_beside, split, x_at}
-use Rattle.tree.proofs.Storing.{moves_own, stored}
+use Rattle.tree.proofs.Stepping.{IsAt, around, here, live_beside, one_slots, read_beside, split, x_at}
+use Rattle.tree.proofs.Storing.{Stored, moves_own, stored}
 use Rattle.tree.proofs.Walking.{raised_above, raised_at}
 
 -- The items of a leaf that was changed.
@@ -71,8 +71,8 @@ module _ {N : ℕ} {a : Arena (Node N)} {height lower slot : ℕ} {is_below : �
     pub family : IsFamilyAt b (least_of N) lower slot i
     family =
         let Below = λ (e : Entry). IsSubtree b (least_of N) lower e.child in
-        let all = All-append Below (take i es) (here at ∷ [] ++ drop (i + 1) es) (below_of b _ lower (take i es) loosened.front)
-        (All-cons Below (here at) (drop (i + 1) es) (rw at.x_is at put.subtree) (below_of b _ lower (drop (i + 1) es) loosened.back)) in
+        let all = All-append Below (take i es) (here at ∷ [] ++ drop (i + 1) es) (below_of b _ lower _ loosened.front)
+        (All-cons Below (here at) (drop (i + 1) es) (rw at.x_is at put.subtree) (below_of b _ lower _ loosened.back)) in
         let loose : IsFamily b (least_of N) lower es i (i + 1) = record {
           distinct = distinct_if_once (slots_of b lower es) (λ s. omega (arith, own.few s));
           below = rw (split at) all;
@@ -103,9 +103,9 @@ module _ {N : ℕ} {a : Arena (Node N)} {height lower slot : ℕ} {is_below : �
 
     -- The node was rebalanced.
     module _ {w : Arena (Node N)} (rebalanced : IsRebalancedAt b w (least_of N) lower slot) where
-      pub step_rebalanced : IsStepped a w height lower slot i (items_in b lower x) None
+      pub step_rebalanced : Stored a w (least_of N) height slot None (around at (items_in b lower x))
       step_rebalanced = rw (← at.next) record {
-        items = rebalanced.items ∙ ap (items_of b lower) (read_beside at moves ∙ split at)
+        items_are = rebalanced.items ∙ ap (items_of b lower) (read_beside at moves ∙ split at)
             ∙ (simp (sym at.x_is, append-nil) at loosened.items);
         subtree = rebalanced.subtree;
         neighbour = tt;
@@ -117,7 +117,7 @@ module _ {N : ℕ} {a : Arena (Node N)} {height lower slot : ℕ} {is_below : �
           → IsChanged bytes a w height slot outcome
       changed_above other rest = record {
         same = λ is. absurd (other is);
-        raised = λ version is. raised_above at version _ _ step_rebalanced.items (put.raised version is);
+        raised = λ version is. raised_above at version _ _ step_rebalanced.items_are (put.raised version is);
         subtree = step_rebalanced.subtree;
         neighbour = rw whole tt;
         filled = rw whole tt;
@@ -158,13 +158,15 @@ module _ {N : ℕ} {a : Arena (Node N)} {height lower slot : ℕ} {is_below : �
       linked_here : IsLinked b x s (take i es) (drop (i + 1) es) (entries_at_both w slot (added_by outcome))
       linked_here = rw (x_at at) (rw (read_beside at both_moves) at linked)
 
-      pub step_linked : IsStepped a w height lower slot i (items_in b lower x ++ items_in b lower s) (added_by outcome)
+      pub step_linked : Stored a w (least_of N) height slot (added_by outcome)
+          (around at (items_in b lower x ++ items_in b lower s))
       step_linked =
           let t = linked_here.first in
           let u = linked_here.second in
           let first = linked_here.first_child in
           let second = linked_here.second_child in
-          let slots : slots_in b lower x ++ slots_in b lower s ≡ slots_of b lower (t ∷ u ∷ []) = simp (first, second, append-nil) in
+          let slots : slots_in b lower x ++ slots_in b lower s ≡ slots_of b lower (t ∷ u ∷ []) =
+          simp (first, second, append-nil) in
           let l = loose_at at (t ∷ u ∷ []) (rw slots at both_moves) in
           let right = both_right b (least_of N) lower x s t u first second put.subtree put.neighbour put.filled
           linked_here.first_tells linked_here.second_tells in
@@ -175,14 +177,10 @@ module _ {N : ℕ} {a : Arena (Node N)} {height lower slot : ℕ} {is_below : �
           omega (arith, ap length linked_here.entries, length-append (take i es) (t ∷ u ∷ drop (i + 1) es)) in
           let k = stored (least_of N) lower slot at.few at.subtree.0 (added_by outcome)
           (rw (split at, linked_here.entries) l.moves) (rw linked_here.entries all) some
-          (both_filled 1 w slot (added_by outcome) (omega (arith, at.can.fan_out)) stored_at.filled) stored_at.live stored_at.live_added
-          (moves_if_changes b w _ _ stored_at.changes) in
-          rw (← at.next) record {
-            items = k.items_are ∙ ap (items_of b lower) linked_here.entries ∙ (simp (first, second, append-nil) at l.items);
-            subtree = k.subtree;
-            neighbour = k.neighbour;
-            changes = changes_if_moves a w _ _ k.moves;
-          }
+          (both_filled 1 w slot _ (omega (arith, at.can.fan_out)) stored_at.filled) stored_at.live stored_at.live_added (moves_if_changes b w _ _ stored_at.changes) in
+          let items : items_of b lower (entries_at_both w slot (added_by outcome)) ≡ around at _ =
+          ap (items_of b lower) linked_here.entries ∙ (simp (first, second, append-nil) at l.items) in
+          rw (← at.next, ← items) k
 
       pub linked_above : (outcome ≡ Same → ⊥) → ((version : ℤ) → outcome ≡ Raised version → ⊥)
           → IsChanged bytes a w height slot outcome
@@ -191,7 +189,7 @@ module _ {N : ℕ} {a : Arena (Node N)} {height lower slot : ℕ} {is_below : �
         raised = λ version is. absurd (kept version is);
         subtree = step_linked.subtree;
         neighbour = step_linked.neighbour;
-        filled = both_filled (least_of N) w slot (added_by outcome) (omega (arith, at.can.fan_out)) stored_at.filled;
+        filled = both_filled (least_of N) w slot _ (omega (arith, at.can.fan_out)) stored_at.filled;
         few_less = λ above none. (
             let is : entries_at w slot ≡ take i es ++ (linked_here.first ∷ linked_here.second ∷ drop (i + 1) es) =
             ap (entries_at_both w slot) (sym none) ∙ linked_here.entries in

@@ -53,40 +53,32 @@ first_if below is_first i both one = (
   both,
   λ h. elim (cases_Bool below) [
     | inl t ↦ t
-    | inr f ↦ elim (one f) [
-      | inl some ↦ absurd (some.1 h.1)
-      | inr behind ↦ absurd (not_both is_first h.0 behind)
-    ]
+    | inr f ↦ absurd (elim (one f) [ inl some ↦ some.1 h.1 | inr behind ↦ not_both is_first h.0 behind ])
   ],
 )
 
 -- The entry that told the items tells what they are now, once it has the version of what came in, unless it has a greater one.
 tells_raised : (e : Entry) (version : ℤ) (was now : List Item) → Tells e was → IsRaised version was now
     → e.version ≤ℤ version → Tells (record e { version = version }) now
-tells_raised e version was now tells raised le = by_items now refl
-  where
-    bound : All (λ x. x.version ≤ℤ version) now
-    bound k d within = elim (raised.others k d within) [
-      | inl same ↦ omega (arith, ints, same)
-      | inr there ↦
-          let least = rw there.3 at (tells.greatest.bound there.0 there.1 there.2) in
-          omega (arith, ints, there.4, least, le)
-    ]
-
-    by_items : (xs : List Item) → now ≡ xs → Tells (record e { version = version }) now
-    by_items [] none =
-        absurd (Any-none (λ (x : Item). x.version ≡ version) (rw none at raised.there))
-    by_items (x ∷ xs) is =
-        let same : Some x.key ≡ Some tells.first.key =
-        ap (first_key None) (sym is) ∙ raised.first ∙ ap (first_key None) tells.items_are in
-        let key : tells.first.key ≡ x.key = cc in
-        record {
-          first = x;
-          others = xs;
-          items_are = is;
-          key = tells.key ∙ key;
-          greatest = record { bound = bound; reached = raised.there };
-        }
+tells_raised e version was [] tells raised le = absurd (Any-none (λ (x : Item). x.version ≡ version) raised.there)
+tells_raised e version was (x ∷ xs) tells raised le =
+    let same : Some x.key ≡ Some tells.first.key = raised.first ∙ ap (first_key None) tells.items_are in
+    let key : tells.first.key ≡ x.key = cc in
+    record {
+      first = x;
+      others = xs;
+      items_are = refl;
+      key = tells.key ∙ key;
+      greatest = record {
+        bound = λ k d within. elim (raised.others k d within) [
+          | inl same ↦ omega (arith, ints, same)
+          | inr there ↦
+              let least = rw there.3 at (tells.greatest.bound there.0 there.1 there.2) in
+              omega (arith, ints, there.4, least, le)
+        ];
+        reached = raised.there;
+      };
+    }
 
 -- No item stands before those of a child if it is the first one.
 none_at : {N : ℕ} (a : Arena (Node N)) (least lower : ℕ) (es : List Entry) (i : ℕ) → AreChildren a least lower es
@@ -95,9 +87,8 @@ none_at a least lower [] i right within none = absurd (omega (arith, within))
 none_at a least lower (e ∷ es) zero right within none = refl
 none_at a least lower (e ∷ es) (suc i) right within none =
     let t = (All-head (IsRight a least lower) e es right).tells in
-    let both : t.first ∷ t.others ++ items_of a lower (take i es) ≡ [] =
-    sym (ap (λ xs. xs ++ items_of a lower (take i es)) t.items_are) ∙ none in
-    absurd (cc)
+    let empty = both_empty (items_in a lower e.child) (items_of a lower (take i es)) none in
+    absurd (cc (t.items_are, empty.0))
 
 module _ {N : ℕ} {a : Arena (Node N)} {height lower slot : ℕ} {is_below : ℕ → Bool} {i x : ℕ}
     (at : IsAt a height lower slot is_below i x) where

@@ -19,11 +19,12 @@ compute_heads-requires g c =
     let first = c.entry_for.result in
     let second = c.entry_for-2.result in
     let es : List Entry = first ∷ second ∷ [] in
-    let node : entries_of c.splice.new.self ≡ es =
-    c.splice.ensures.entries ∙ ap (λ l. take 1 l ++ (second ∷ [] ++ drop 1 l)) c.of-node.ensures.entries in
-    let known : All (IsKnown bytes) (keys_of es) =
-    All-cons (IsKnown bytes) first.key (second.key ∷ []) (c.entry_for.ensures.known bytes c.requires.can_grow.headed)
-    (All-cons (IsKnown bytes) second.key [] (c.entry_for-2.ensures.known bytes c.requires.can_grow.headed) (All-nil (IsKnown bytes))) in (search rules, subst (λ l. All (IsKnown bytes) (keys_of l)) (sym node) known)
+    let node : entries_of c.splice.new.self ≡ es = rw c.of-node.ensures.entries at c.splice.ensures.entries in
+    let headed = c.requires.can_grow.headed in
+    let Known = IsKnown bytes in
+    let known : All Known (keys_of es) = All-cons Known first.key (second.key ∷ []) (c.entry_for.ensures.known bytes headed)
+    (All-cons Known second.key [] (c.entry_for-2.ensures.known bytes headed) (All-nil Known)) in
+    (search rules, rw node known)
 
 pub returns : goal.returns
 returns g c =
@@ -33,14 +34,15 @@ returns g c =
     let second = c.entry_for-2 in
     let can = c.requires.can_grow in
     let es : List Entry = first.result ∷ second.result ∷ [] in
-    let node : entries_of c.compute_heads.new.self ≡ es = c.compute_heads.ensures.entries ∙ c.splice.ensures.entries
-    ∙ ap (λ l. take 1 l ++ (second.result ∷ [] ++ drop 1 l)) c.of-node.ensures.entries in
+    let node : entries_of c.compute_heads.new.self ≡ es =
+    c.compute_heads.ensures.entries ∙ (rw c.of-node.ensures.entries at c.splice.ensures.entries) in
     let right = both_right a (least_of g.row.N) h c.args.root.slot c.args.added first.result second.result first.ensures.child
     second.ensures.child can.first can.second can.filled first.ensures.tells second.ensures.tells in
     let slots : slots_of a h es ≡ slots_in a h c.args.root.slot ++ slots_in a h c.args.added =
     simp (first.ensures.child, second.ensures.child, append-nil) in
-    let root = grown a c.place.new.nodes h c.place.result es (moves_if_changes _ _ [] (c.place.result ∷ []) c.place.ensures.changes)
-    c.place.ensures.live (c.place.ensures.entries ∙ node) (omega arith) right (rw slots can.distinct) (can.linked ∙ ap length (sym slots)) in
+    let moves = moves_if_changes _ _ [] (c.place.result ∷ []) c.place.ensures.changes in
+    let root = grown a c.place.new.nodes h c.place.result es moves c.place.ensures.live (c.place.ensures.entries ∙ node)
+    (omega arith) right (rw slots can.distinct) (can.linked ∙ ap length (sym slots)) in
     record {
       items = rw add-one (simp (first.ensures.child, second.ensures.child, append-nil) at root.items_are);
       rooted = rw add-one root.rooted;

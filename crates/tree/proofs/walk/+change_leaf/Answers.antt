@@ -15,7 +15,7 @@ use Rattle.tree.proofs.FirstKeys.{known_below}
 use Rattle.tree.proofs.Headed.{headed_at}
 use Rattle.tree.proofs.Placing.{entries_from_header}
 use Rattle.tree.proofs.Found.{read_partitioned, found, found_subtree, found_partitioned}
-use Rattle.tree.proofs.Stepping.{IsAt, child_right, child_once, items_split}
+use Rattle.tree.proofs.Stepping.{IsAt, around, child_right, child_once, items_split}
 use Rattle.tree.proofs.Walking.{first_if, within_at}
 use Rattle.tree.proofs.Walked.{within_leaf, can_rebalance, can_insert, family, tells_written, step_rebalanced, changed_above, step_linked, linked_above}
 use Rattle.tree.proofs.walk.+change_leaf.Given.{Over}
@@ -131,10 +131,10 @@ module _ (g : Over) (t : ℕ) (c : After-index-entries-step g t) where
 -- A leaf of the child is changed.
 within : (g : Over) (t : ℕ) (c : After-change_leaf g t) (Gives : Bool → Option ℕ → List Item → List Item → Type 0)
     (now all : List Item) → (let k = (goal.at.After-change_leaf g t c).After-index-entries-step in
+    let below = IsChangedWithin (is_below g t k) Gives c.if-place.below c.key_at.result in
+    let here = IsChangedWithin (is_below g t k) Gives c.args.place.is_first c.args.place.behind in
     let a = c.args.nodes.now in
-    let now_is = all ≡ items_of a (h g t k) (take (i g t k) (es g t k)) ++ (now ++ items_of a (h g t k) (drop (i g t k + 1) (es g t k))) in
-    now_is → IsChangedWithin (is_below g t k) Gives c.if-place.below c.key_at.result (items_in a (h g t k) (x g t k)) now
-    → IsChangedWithin (is_below g t k) Gives c.args.place.is_first c.args.place.behind (items_in a c.args.height c.args.slot) all)
+    all ≡ around (at_child g t k) now → below (items_in a (h g t k) (x g t k)) now → here (items_in a c.args.height c.args.slot) all)
 within g t c Gives now all all_is changed =
     let k = (goal.at.After-change_leaf g t c).After-index-entries-step in
     within_at (at_child g t k) Gives _ _ _ _ now all c.requires.can_change.searched.partitioned
@@ -190,7 +190,7 @@ returns-in-Raised g t c =
     let rest = rw (c.leaf_bound-in-Raised.ensures.leaf_bound ∙ c.in-Raised.ensures.leaf_bound) at c.raise_entry.ensures.rest in
     rw same record {
       changed = changed_above at put refl made (raised_not_same c.in-Raised.version) rest;
-      items = within g t here.After-change_leaf _ _ _ (step_rebalanced at put refl made).items c.in-Raised.ensures.items;
+      items = within g t here.After-change_leaf _ _ _ (step_rebalanced at put refl made).items_are c.in-Raised.ensures.items;
       leaf_bound = search rules;
     }
 
@@ -200,10 +200,11 @@ returns-in-Changed g t c =
     let at = at_child g t here.After-index-entries-step in
     let put = c.in-Changed.ensures.changed in
     let made = c.rebalance_child.ensures.rebalanced (c.args.height - 1) (family at put refl) in
-    let rest = rw (c.leaf_bound-in-Changed.ensures.leaf_bound ∙ c.in-Changed.ensures.leaf_bound) at c.rebalance_child.ensures.rest in
+    let same = c.leaf_bound-in-Changed.ensures.leaf_bound ∙ c.in-Changed.ensures.leaf_bound in
+    let rest = rw same at c.rebalance_child.ensures.rest in
     record {
       changed = changed_above at put refl made (λ is. absurd (cc)) rest;
-      items = within g t here.After-change_leaf _ _ _ (step_rebalanced at put refl made).items c.in-Changed.ensures.items;
+      items = within g t here.After-change_leaf _ _ _ (step_rebalanced at put refl made).items_are c.in-Changed.ensures.items;
       leaf_bound = search rules;
     }
 
@@ -214,9 +215,9 @@ returns-in-Some g t c =
     let put = rw (c.leaf_bound-in-Split.ensures.leaf_bound ∙ c.in-Split.ensures.leaf_bound) at c.in-Some.ensures.stored in
     let step = step_linked at c.in-Split.ensures.changed (Split c.in-Some.added) c.in-Some.ensures.linked put in
     record {
-      changed = linked_above at c.in-Split.ensures.changed (Split c.in-Some.added) c.in-Some.ensures.linked put (λ is. absurd (cc))
-          (λ version is. absurd (cc));
-      items = within g t here.After-change_leaf _ _ _ step.items c.in-Split.ensures.items;
+      changed = linked_above at c.in-Split.ensures.changed (Split c.in-Some.added) c.in-Some.ensures.linked put
+          (λ is. absurd (cc)) (λ version is. absurd (cc));
+      items = within g t here.After-change_leaf _ _ _ step.items_are c.in-Split.ensures.items;
       leaf_bound = search rules;
     }
 
@@ -229,6 +230,6 @@ returns-in-None g t c =
     record {
       changed = linked_above at c.in-Split.ensures.changed Changed c.in-None.ensures.linked put (λ is. absurd (cc))
           (λ version is. absurd (cc));
-      items = within g t here.After-change_leaf _ _ _ step.items c.in-Split.ensures.items;
+      items = within g t here.After-change_leaf _ _ _ step.items_are c.in-Split.ensures.items;
       leaf_bound = search rules;
     }
