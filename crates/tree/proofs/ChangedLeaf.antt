@@ -64,7 +64,8 @@ pub leaf_changed : {N : ℕ} {bytes : KeyBytes} {is_below : ℕ → Bool} {targe
     → CanChangeLeaf bytes is_below target Wants nodes 0 slot shared taken → AreHeads bytes (key_heads_of node)
     → IsChanged bytes nodes (with_header nodes slot node) 0 slot Changed
 leaf_changed node can headed =
-    leaf_put _ _ _ _ node Changed refl can.changeable can.searched.headed headed refl (λ e. absurd (cc)) (λ version e. absurd (cc))
+    leaf_put _ _ _ _ node Changed refl can.changeable can.searched.headed headed refl (λ e. absurd (cc))
+    (λ version e. absurd (cc))
 
 -- In a leaf that may be changed, and that was read, the bound can be sought.
 pub leaf_can_step : {N : ℕ} {bytes : KeyBytes} {is_below : ℕ → Bool} {target : List ℕ} {Wants : List Item → Type 0}

@@ -11,9 +11,6 @@ use Rattle.tree.specs.Replace.{Changes, IsKeyless}
 use Rattle.tree.proofs.callers.Times.{times, once, once_same, once_cases, none_or_some, times_if_contains, contains_if_times, times_unless_contains, once_if_distinct, distinct_if_once}
 use Rattle.tree.proofs.Frames.{Agree}
 
-same_or_other : (a b : ℕ) → (a ≡ b) ⊎ (a ≢ b)
-same_or_other a b = elim (eqb_tells a b) [ inl same ↦ inl same.1 | inr other ↦ inr other.1 ]
-
 pub same_number : (a b : ℕ) → a ≡ b → eq_by_cmp nat_cmp a b ≡ true
 same_number a b e = ap (eq_by_cmp nat_cmp a) (sym e) ∙ (eq_by_cmp_equiv nat_cmp_total).refl a
 
@@ -29,6 +26,9 @@ not_both o none live = let e : is_some o ≡ false = ap is_some none in cc
 
 once_few : (s x : ℕ) → once s x ≤ 1
 once_few s x = elim (once_cases s x) [ inl same ↦ omega (arith, same.1) | inr other ↦ omega (arith, other.1) ]
+
+apart : (s x : ℕ) → times s (x ∷ []) ≡ 0 → s ≢ x
+apart s x none same = let e : once s x ≡ 1 = rw (← same) (once_same s) in omega arith
 
 no_key : (o : Option (List ℕ)) → IfSome o (λ key. key ≡ []) → unwrap_or o [] ≡ []
 no_key None h = refl
@@ -124,6 +124,14 @@ module _ {N : ℕ} where
       → ((s : ℕ) → 1 ≤ times s zs → IsLive a s) → ((s : ℕ) → times s xs + times s zs ≤ 1) → Agree a b zs
   moves_agree a b xs ys zs h live few s some = h.others s (omega (arith, few s)) (live s some)
 
+  -- Where only this slot is touched, no other gets key bytes.
+  keyless_but : (a b : Arena (Node N)) (slot : ℕ) → IsKeyless a → ((s : ℕ) → s ≢ slot → record_at b s ≡ record_at a s)
+      → IfSome (key_at b slot) (λ key. key ≡ []) → IsKeyless b
+  keyless_but a b slot keyless others here s = elim (eqb_tells s slot) [
+    | inl same ↦ rw same.1 here
+    | inr other ↦ rw (others s other.1) (keyless s)
+  ]
+
   module _ (a : Arena (Node N)) (slot : ℕ) (node : Node N) where
     abbrev put_record : Record (Node N)
     put_record = record { header = node; key = unwrap_or (key_at a slot) [] }
@@ -141,13 +149,11 @@ module _ {N : ℕ} where
         record {
           few = λ s. omega (arith, once_few s slot);
           from = λ s some none. absurd (omega arith);
-          others = λ s none alive. record_kept s (λ same. let e : once s slot ≡ 1 = ap (once s) (sym same) ∙ once_same s in omega arith);
+          others = λ s none alive. record_kept s (apart s slot none);
           live = omega arith;
           spare = omega arith;
-          keyless = λ s. elim (same_or_other s slot) [
-            | inl same ↦ rw (same, record_put) (no_key (key_at a slot) (keyless slot))
-            | inr other ↦ rw (record_kept s other) (keyless s)
-          ];
+          keyless = keyless_but a (with_header a slot node) slot keyless record_kept
+              (rw record_put (no_key (key_at a slot) (keyless slot)));
         }
 
   -- a record is placed
@@ -169,10 +175,7 @@ module _ {N : ℕ} where
         others = λ s none alive. others s (λ same. not_both (record_at a s) (rw same free) alive);
         live = omega arith;
         spare = omega arith;
-        keyless = λ s. elim (same_or_other s slot) [
-          | inl same ↦ rw (same, here) refl
-          | inr other ↦ rw (others s other) (keyless s)
-        ];
+        keyless = keyless_but a b slot keyless others (rw here refl);
       }
 
   -- a record is released
@@ -193,11 +196,8 @@ module _ {N : ℕ} where
       record {
         few = λ s. omega arith;
         from = λ s some none. absurd (omega arith);
-        others = λ s none alive. others s (λ same. let e : once s slot ≡ 1 = ap (once s) (sym same) ∙ once_same s in omega arith);
+        others = λ s none alive. others s (apart s slot none);
         live = omega arith;
         spare = omega arith;
-        keyless = λ s. elim (same_or_other s slot) [
-          | inl same ↦ rw (same, here) tt
-          | inr other ↦ rw (others s other) (keyless s)
-        ];
+        keyless = keyless_but a b slot keyless others (rw here tt);
       }

@@ -1,5 +1,5 @@
 -- What the leaf that a bound finds says of the items below the bound.
-use Rattle.std.proofs.Common.{◌≡◌, ℕ, zero, suc, ◌+◌, ◌-◌, ◌≤◌, inl, inr, Bool, true, false, List, [], ◌∷◌, ◌++◌, Option, Some, length, get_or, slice_get, take, drop, filter, flat_map, map, All, refl, sym, ◌∙◌, ap, subst, arith}
+use Rattle.std.proofs.Common.{◌≡◌, ℕ, zero, suc, ◌+◌, ◌-◌, ◌≤◌, inl, inr, Bool, true, false, List, [], ◌∷◌, ◌++◌, Option, Some, length, get_or, slice_get, take, drop, filter, flat_map, map, All, refl, sym, ◌∙◌, ap, arith}
 use Rattle.std.specs.Prelude.{MatchOption}
 use Rattle.std.proofs.lemmas.Bool.{cases_Bool}
 use Rattle.std.proofs.lemmas.Option.{slice_get-get_or}
@@ -54,7 +54,8 @@ none_before nodes least (suc height) slot is_below s c none =
       | inr some ↦ absurd (not_both (is_below w.entry.key) (index_passes p es w.entry w.entries some w.is) fails)
     ]
 
-pub filter-items : (q : ℕ → Bool) (es : List Entry) → filter (λ (x : Item). q x.key) (map item_of es) ≡ map item_of (filter (λ (e : Entry). q e.key) es)
+pub filter-items : (q : ℕ → Bool) (es : List Entry)
+    → filter (λ (x : Item). q x.key) (map item_of es) ≡ map item_of (filter (λ (e : Entry). q e.key) es)
 filter-items q [] = refl
 filter-items q (e ∷ es) =
     elim (cases_Bool (q e.key)) [
@@ -63,7 +64,8 @@ filter-items q (e ∷ es) =
     ]
 
 -- entries whose items are partitioned are partitioned
-pub entries_of_partitioned : (is_below : ℕ → Bool) (es : List Entry) → IsPartitioned (λ x. is_below x.key) (map item_of es) → IsPartitioned (λ e. is_below e.key) es
+pub entries_of_partitioned : (is_below : ℕ → Bool) (es : List Entry)
+    → IsPartitioned (λ x. is_below x.key) (map item_of es) → IsPartitioned (λ e. is_below e.key) es
 entries_of_partitioned is_below es c = partitioned-entries (λ (x : Item). is_below x.key) es c
 
 -- the entries of a leaf, between the items before it, which pass, and those behind it, which fail
@@ -73,7 +75,8 @@ pub record IsLeaf (is_below : ℕ → Bool) (items before after : List Item) (es
   pub fail : All (λ x. is_below x.key ≡ false) after
   pub none : filter (λ e. is_below e.key) es ≡ [] → before ≡ []
 
-module _ (is_below : ℕ → Bool) (items before after : List Item) (es : List Entry) (leaf : IsLeaf is_below items before after es) where
+module _ (is_below : ℕ → Bool) (items before after : List Item) (es : List Entry)
+    (leaf : IsLeaf is_below items before after es) where
   -- the items below the bound, and the others
   pub passing_is : items_below is_below items ≡ before ++ map item_of (filter (λ e. is_below e.key) es)
   passing_is =
@@ -85,7 +88,7 @@ module _ (is_below : ℕ → Bool) (items before after : List Item) (es : List E
   pub leaf_partitioned_by_keys : IsPartitioned (λ x. is_below x.key) items → IsPartitioned (λ e. is_below e.key) es
   leaf_partitioned_by_keys partitioned =
       let p = λ (x : Item). is_below x.key in
-      let rest = (IsPartitioned-parts p before (map item_of es ++ after) (subst (IsPartitioned p) leaf.items_are partitioned)).1 in
+      let rest = (IsPartitioned-parts p before (map item_of es ++ after) (rw leaf.items_are at partitioned)).1 in
       entries_of_partitioned is_below es (IsPartitioned-parts p (map item_of es) after rest).0
 
 -- the last of a list, if there is one
@@ -104,10 +107,12 @@ match_last P Q (x ∷ xs) result is none some =
 
 -- The last entry below the bound is the last such item.
 pub last_passing : (is_below : ℕ → Bool) (items before after : List Item) (es passed : List Entry) (result : Option Entry)
-    → IsLeaf is_below items before after es → passed ≡ filter (λ e. is_below e.key) es → result ≡ slice_get passed (length passed - 1)
+    → IsLeaf is_below items before after es → passed ≡ filter (λ e. is_below e.key) es
+    → result ≡ slice_get passed (length passed - 1)
     → MatchOption result (items_below is_below items ≡ []) (λ e. IsLast (item_of e) (items_below is_below items))
 last_passing is_below items before after es passed result leaf same is =
-    let front : items_below is_below items ≡ before ++ map item_of passed = rw same (passing_is is_below items before after es leaf) in
+    let front : items_below is_below items ≡ before ++ map item_of passed =
+    rw same (passing_is is_below items before after es leaf) in
     match_last _ _ passed result is (λ none. (rw (front, none, leaf.none (sym same ∙ none)) refl)) (λ e last. (
       before ++ map item_of last.0,
       cc (front, last.1, map-append item_of last.0 (e ∷ []), append_assoc before (map item_of last.0) (item_of e ∷ [])),
@@ -117,10 +122,12 @@ last_passing is_below items before after es passed result leaf same is =
 pub is_leaf : {N : ℕ} (nodes : Arena (Node N)) (least height slot : ℕ) (is_below : ℕ → Bool) (leaf : ℕ) (es : List Entry)
     → IsSubtree nodes least height slot → IsPartitioned (λ x. is_below x.key) (items_in nodes height slot)
     → leaf ≡ leaf_in nodes height slot is_below → entries_at nodes leaf ≡ es
-    → items_in nodes height slot ≡ before_leaf nodes height slot is_below ++ (map item_of (entries_at nodes leaf) ++ behind_leaf nodes height slot is_below)
+    → items_in nodes height slot
+    ≡ before_leaf nodes height slot is_below ++ (map item_of (entries_at nodes leaf) ++ behind_leaf nodes height slot is_below)
     → All (λ x. is_below x.key ≡ true) (before_leaf nodes height slot is_below)
     → All (λ x. is_below x.key ≡ false) (behind_leaf nodes height slot is_below)
-    → IsLeaf is_below (items_in nodes height slot) (before_leaf nodes height slot is_below) (behind_leaf nodes height slot is_below) es
+    → IsLeaf is_below (items_in nodes height slot) (before_leaf nodes height slot is_below)
+    (behind_leaf nodes height slot is_below) es
 is_leaf nodes least height slot is_below leaf es s c way same items pass fail =
     let there : entries_at nodes (leaf_in nodes height slot is_below) ≡ es = ap (entries_at nodes) (sym way) ∙ same in
     record {

@@ -24,8 +24,9 @@ module _ {N : ℕ} where
       → AreChildren b least height (t ∷ u ∷ [])
   both_right b least height x y t u child_t child_u below_x below_y filled tells_t tells_u =
       let Right = IsRight b least height in
-      All-cons Right t (u ∷ []) (right_child b least height x t child_t filled.0 below_x (tells_t height least below_x))
-      (All-cons Right u [] (right_child b least height y u child_u filled.1 below_y (tells_u height least below_y)) (All-nil Right))
+      let first = right_child b least height x t child_t filled.0 below_x (tells_t height least below_x) in
+      let second = right_child b least height y u child_u filled.1 below_y (tells_u height least below_y) in
+      All-cons Right t (u ∷ []) first (All-cons Right u [] second (All-nil Right))
 
   -- Others stand in place of the child's entry.
   pub loose_at : {a b : Arena (Node N)} {height lower slot : ℕ} {is_below : ℕ → Bool} {i x : ℕ}
@@ -35,5 +36,5 @@ module _ {N : ℕ} where
       let Right = IsRight a (least_of N) lower in
       let es = entries_at a slot in
       loose a b (least_of N) lower (take i es) (here at ∷ []) (drop (i + 1) es) new
-      (λ s. (rw (← split at) (omega (arith, at.few s)))) (All-take Right i es at.subtree.2) (All-drop Right (i + 1) es at.subtree.2)
-      (rw (one_slots at a) at moves)
+      (λ s. (rw (← split at) (omega (arith, at.few s)))) (All-take Right i es at.subtree.2)
+      (All-drop Right (i + 1) es at.subtree.2) (rw (one_slots at a) at moves)

@@ -177,7 +177,8 @@ module _ {N : ℕ} {a : Arena (Node N)} {height lower slot : ℕ} {is_below : �
           omega (arith, ap length linked_here.entries, length-append (take i es) (t ∷ u ∷ drop (i + 1) es)) in
           let k = stored (least_of N) lower slot at.few at.subtree.0 (added_by outcome)
           (rw (split at, linked_here.entries) l.moves) (rw linked_here.entries all) some
-          (both_filled 1 w slot _ (omega (arith, at.can.fan_out)) stored_at.filled) stored_at.live stored_at.live_added (moves_if_changes b w _ _ stored_at.changes) in
+          (both_filled 1 w slot _ (omega (arith, at.can.fan_out)) stored_at.filled) stored_at.live stored_at.live_added
+          (moves_if_changes b w _ _ stored_at.changes) in
           let items : items_of b lower (entries_at_both w slot (added_by outcome)) ≡ around at _ =
           ap (items_of b lower) linked_here.entries ∙ (simp (first, second, append-nil) at l.items) in
           rw (← at.next, ← items) k

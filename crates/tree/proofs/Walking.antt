@@ -28,12 +28,6 @@ both_empty : {X : Type 0} (xs ys : List X) → xs ++ ys ≡ [] → (xs ≡ []) �
 both_empty [] ys e = (refl, e)
 both_empty (x ∷ xs) ys e = absurd (cc)
 
--- None that passes stands among those that fail.
-none_among : (is_below : ℕ → Bool) (xs : List Item) → All (λ x. is_below x.key ≡ false) xs
-    → Any (λ x. is_below x.key ≡ true) xs → ⊥
-none_among is_below xs fail any =
-    not_both (is_below any.1.key) any.4 (rw any.3 at (fail any.0 any.1 any.2))
-
 -- Each version of items is that of one of them.
 each_there : (xs : List Item) → All (λ x. Any (λ w. x.version ≡ w.version) xs) xs
 each_there xs k d within = (k, get_or xs k d, within, get_or_default xs k (get_or xs k d) d within, refl)
@@ -144,7 +138,7 @@ module _ {N : ℕ} {a : Arena (Node N)} {height lower slot : ℕ} {is_below : �
             | inl first ↦ inl (ap₂ (λ xs ys. xs ++ ys) first none)
             | inr there ↦ elim (Any-parts Passes c.leaf c.behind (rw (c.was_is, none) at there)) [
               | inl here ↦ inr here
-              | inr later ↦ absurd (none_among is_below c.behind c.failing later)
+              | inr later ↦ absurd (not_both _ later.4 (rw later.3 at (c.failing later.0 later.1 later.2)))
             ]
           ]
           | inr there ↦ inr there

@@ -1,7 +1,8 @@
 -- What a bound through the items of a subtree says of its entries and of the children's subtrees.
-use Rattle.std.proofs.Common.{◌≡◌, ℕ, zero, suc, ◌+◌, ◌-◌, ◌<◌, ◌≤◌, ◌⊎◌, Bool, not, true, false, List, [], ◌∷◌, ◌++◌, Some, length, get_or, slice_get, pos, take, drop, filter, flat_map, All, refl, ◌∙◌, ap, inl, inr, arith}
+use Rattle.std.proofs.Common.{◌≡◌, ℕ, zero, suc, ◌+◌, ◌-◌, ◌<◌, ◌≤◌, ◌⊎◌, Bool, not, true, false, List, [], ◌∷◌, ◌++◌, Some, length, get_or, slice_get, pos, take, drop, filter, flat_map, All, refl, sym, ◌∙◌, ap, inl, inr, arith}
 use Rattle.std.proofs.lemmas.Bool.{cases_Bool}
 use Rattle.std.proofs.lemmas.Option.{slice_get-get_or}
+use Rattle.std.proofs.lemmas.List.{take-append-drop, drop_more}
 use Rattle.std.proofs.lemmas.Grind.{flat_map-append}
 use Rattle.std.proofs.lemmas.List.Elements.{All-nil, All-cons, All-head, All-tail, All-append}
 use Rattle.arena.specs.Arena.{Arena}
@@ -16,11 +17,7 @@ use Rattle.tree.proofs.callers.Partitions.{none_pass, IsPartitioned-parts, rest_
 -- an element of a list, between those before it and those behind it
 pub around_element : {X : Type 0} (xs : List X) (i : ℕ) (d : X) → i < length xs
     → xs ≡ take i xs ++ get_or xs i d ∷ drop (i + 1) xs
-around_element [] i d lt = absurd (omega arith)
-around_element (x ∷ xs) zero d lt = refl
-around_element (x ∷ xs) (suc i) d lt =
-    let e : suc i + 1 ≡ suc (i + 1) = omega arith in
-    rw e (ap (λ ys. x ∷ ys) (around_element xs i d (omega arith)))
+around_element xs i d lt = sym (take-append-drop i xs) ∙ ap (λ l. take i xs ++ l) (drop_more xs i d lt)
 
 -- for entries of which each tells the first key of its child's items
 module _ (is_below : ℕ → Bool) (below : Entry → List Item) where
@@ -128,7 +125,6 @@ module _ (is_below : ℕ → Bool) (below : Entry → List Item) where
 pub record IsWay {N : ℕ} (nodes : Arena (Node N)) (least height slot : ℕ) (is_below : ℕ → Bool) : Type 0 where
   -- the entries are partitioned by their keys
   pub entries : IsPartitioned (λ e. is_below e.key) (entries_at nodes slot)
-  pub inside : index_in is_below (entries_at nodes slot) < length (entries_at nodes slot)
   -- the entry that the bound finds
   pub entry : Entry
   pub is : slice_get (entries_at nodes slot) (index_in is_below (entries_at nodes slot)) ≡ Some entry
@@ -159,7 +155,6 @@ way nodes least height slot is_below s c =
     let tell : All (λ e. Tells e (below e)) es = λ k d within. (s.2 k d within).tells in
     record {
       entries = entries_partitioned is_below below es tell c;
-      inside = inside;
       entry = entry;
       is = is;
       child = rw is refl;

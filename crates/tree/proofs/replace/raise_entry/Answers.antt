@@ -1,4 +1,4 @@
-use Rattle.std.proofs.Common.{◌≡◌, ◌≤◌, ◌≤ℤ◌, w64, to_z, of_z, List, Some, length, get_or, refl, sym, ap, ◌∙◌, arith, rules}
+use Rattle.std.proofs.Common.{◌≡◌, ◌≤◌, ◌≤ℤ◌, w64, to_z, of_z, Some, length, get_or, refl, sym, ap, ◌∙◌, arith, rules}
 use Rattle.std.specs.Prelude.{slice_get}
 use Rattle.std.proofs.lemmas.List.{length-set}
 use Rattle.std.proofs.lemmas.Int.{ints, to_z-of_z}
@@ -20,8 +20,8 @@ use Rattle.tree.proofs.replace.raise_entry.Goals.{After-index-entries-index}
 read_is : (g : Over) (c : After-index-entries-index g) → c.index-entries-index.result
     ≡ get_or (entries_at c.args.nodes.now c.args.slot) c.args.index c.index-entries-index.result
 read_is g c =
-    c.index-entries-index.is ∙ ap (λ (l : List Entry). get_or l c.args.index c.index-entries-index.result)
-    (c.entries.ensures.entries ∙ sym (entries_from_header c.args.nodes.now c.args.slot c.header_ref.result.now c.header_ref.ensures.header))
+    let read = entries_from_header c.args.nodes.now c.args.slot c.header_ref.result.now c.header_ref.ensures.header in
+    rw (read, ← c.entries.ensures.entries) c.index-entries-index.is
 
 pub header_ref-requires-else-entry-version : goal.header_ref-requires-else-entry-version
 header_ref-requires-else-entry-version g c =

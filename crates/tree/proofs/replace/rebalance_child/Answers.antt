@@ -1,4 +1,4 @@
-use Rattle.std.proofs.Common.{◌≡◌, ◌≤◌, ◌+◌, List, length, get_or, refl, sym, ap, subst, ◌∙◌, arith, rules}
+use Rattle.std.proofs.Common.{◌≡◌, ◌≤◌, ◌+◌, length, get_or, refl, sym, ap, subst, ◌∙◌, arith, rules}
 use Rattle.std.proofs.lemmas.List.{length-set}
 use Rattle.arena.specs.Arena.{with_header}
 use Rattle.tree.specs.declared.entry.Entry.{Entry}
@@ -17,8 +17,8 @@ child_is : (g : Over) (c : After-index-entries-index g)
     → (get_or c.entries.result.now c.args.index c.index-entries-index.result).child
     ≡ (get_or (entries_at c.args.nodes.now c.args.slot) c.args.index c.index-entries-index.result).child
 child_is g c =
-    ap (λ (l : List Entry). (get_or l c.args.index c.index-entries-index.result).child)
-    (c.entries.ensures.entries ∙ sym (entries_from_header c.args.nodes.now c.args.slot c.header_ref.result.now c.header_ref.ensures.header))
+    let read = entries_from_header c.args.nodes.now c.args.slot c.header_ref.result.now c.header_ref.ensures.header in
+    rw (c.entries.ensures.entries, read) refl
 
 pub header_ref-requires-2 : goal.header_ref-requires-2
 header_ref-requires-2 g c = record {
@@ -36,7 +36,8 @@ returns-then-len-least g c =
     let can = c.requires.can_rebalance in
     let x = (get_or c.entries.result.now c.args.index c.index-entries-index.result).child in
     let x_is = child_is g (goal.at.returns-then-len-least g c).After-index-entries-index in
-    let len = ap length (entries_from_header a x c.header_ref-2.result.now c.header_ref-2.ensures.header) ∙ sym c.len.ensures.len in
+    let child = c.header_ref-2 in
+    let len = ap length (entries_from_header a x child.result.now child.ensures.header) ∙ sym c.len.ensures.len in
     let filled : L ≤ length (entries_at a x) = omega (arith, len, c.if-len-least.true) in
     let here = entries_from_header a slot c.header_mut.result.now c.header_mut.ensures.header in
     let now_is = put_entries a (with_header a slot node) slot node refl ∙ set.entries in
@@ -61,6 +62,7 @@ returns g c =
     let node = c.lengthen_prefix.new.self in
     let same = c.lengthen_prefix.ensures.entries in
     let few_less = c.rebalance.ensures.rest.few_less in
+    let w = c.set_header.new.self in
     let put = c.set_header.ensures.replaced in
     record {
       rebalanced = λ height family. (
@@ -69,8 +71,8 @@ returns g c =
           rebalanced_at node can.live family made (omega (arith, few_less, can.several, ap length read, ap length same)) put
           );
       rest = record {
-        few_less = omega (arith, few_less, ap length read, ap length (put_entries b c.set_header.new.self slot node put), ap length same);
+        few_less = omega (arith, few_less, ap length read, ap length (put_entries b w slot node put), ap length same);
         spare = search rules;
-        headed = headed_header _ b c.set_header.new.self slot node put c.rebalance.ensures.rest.headed c.lengthen_prefix.ensures.headed;
+        headed = headed_header _ b w slot node put c.rebalance.ensures.rest.headed c.lengthen_prefix.ensures.headed;
       };
     }

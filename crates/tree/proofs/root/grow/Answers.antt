@@ -1,4 +1,4 @@
-use Rattle.std.proofs.Common.{arith, add-one, rules, ◌≡◌, List, [], ◌∷◌, ◌++◌, ◌∙◌, ap, sym, subst, length, take, drop}
+use Rattle.std.proofs.Common.{arith, add-one, rules, ◌≡◌, List, [], ◌∷◌, ◌++◌, ◌∙◌, ap, sym, length}
 use Rattle.std.specs.List.{All}
 use Rattle.std.proofs.lemmas.List.{append-nil}
 use Rattle.std.proofs.lemmas.List.Elements.{All-nil, All-cons}
@@ -44,8 +44,8 @@ returns g c =
     let root = grown a c.place.new.nodes h c.place.result es moves c.place.ensures.live (c.place.ensures.entries ∙ node)
     (omega arith) right (rw slots can.distinct) (can.linked ∙ ap length (sym slots)) in
     record {
-      items = rw add-one (simp (first.ensures.child, second.ensures.child, append-nil) at root.items_are);
-      rooted = rw add-one root.rooted;
+      items = rw add-one (simp (first.ensures.child, second.ensures.child, append-nil) at root.0);
+      rooted = rw add-one root.1;
       spare = c.place.ensures.changes.spare;
       headed = c.place.ensures.headed (g.P.Bound.bytes c.args.bound.now) c.compute_heads.ensures.headed can.headed;
     }

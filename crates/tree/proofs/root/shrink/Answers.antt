@@ -27,8 +27,8 @@ returns g c =
     let root = shrunk a b h slot e subtree (read ∙ only_one es default count) (rw (← one) at can.distinct)
     (rw (← one) at can.linked) moves in
     record {
-      items = root.items_are ∙ ap (λ n. items_in a n slot) one;
-      rooted = root.rooted;
+      items = root.0 ∙ ap (λ n. items_in a n slot) one;
+      rooted = root.1;
       spare = omega (arith, moves.live, moves.spare);
       headed = λ bytes all. headed_released bytes a b slot all free.released free.others;
     }

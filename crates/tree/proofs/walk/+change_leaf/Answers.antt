@@ -1,4 +1,4 @@
-use Rattle.std.proofs.Common.{◌≡◌, ◌≤◌, ◌+◌, ◌-◌, ℕ, suc, Bool, List, ◌++◌, Option, SFits, ℤ, w64, length, get_or, take, drop, refl, sym, ap, ◌∙◌, arith, rules}
+use Rattle.std.proofs.Common.{◌≡◌, ◌≤◌, ◌+◌, ◌-◌, ℕ, suc, Bool, List, Option, SFits, ℤ, w64, length, get_or, take, drop, refl, sym, ap, ◌∙◌, arith, rules}
 use Rattle.std.proofs.lemmas.Int.{to_z-of_z}
 use Rattle.tree.specs.declared.entry.Entry.{Entry}
 use Rattle.tree.specs.Item.{Item}
@@ -134,7 +134,8 @@ within : (g : Over) (t : ℕ) (c : After-change_leaf g t) (Gives : Bool → Opti
     let below = IsChangedWithin (is_below g t k) Gives c.if-place.below c.key_at.result in
     let here = IsChangedWithin (is_below g t k) Gives c.args.place.is_first c.args.place.behind in
     let a = c.args.nodes.now in
-    all ≡ around (at_child g t k) now → below (items_in a (h g t k) (x g t k)) now → here (items_in a c.args.height c.args.slot) all)
+    all ≡ around (at_child g t k) now → below (items_in a (h g t k) (x g t k)) now
+    → here (items_in a c.args.height c.args.slot) all)
 within g t c Gives now all all_is changed =
     let k = (goal.at.After-change_leaf g t c).After-index-entries-step in
     within_at (at_child g t k) Gives _ _ _ _ now all c.requires.can_change.searched.partitioned
