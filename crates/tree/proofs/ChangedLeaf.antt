@@ -74,11 +74,10 @@ pub leaf_can_step : {N : ℕ} {bytes : KeyBytes} {is_below : ℕ → Bool} {targ
     → CanStep bytes is_below target leaf shared
 leaf_can_step {N} {bytes} {is_below} {target} {Wants} {nodes} {slot} {shared} {taken} {leaf} can header =
     let read = entries_from_header nodes slot leaf header in
-    let partitioned = entries_of_partitioned is_below (entries_at nodes slot) can.searched.partitioned in
     record {
       can_find = record {
         headed = headed_at bytes nodes slot leaf can.searched.headed header;
-        partitioned = rw read at partitioned;
+        partitioned = rw read at (entries_of_partitioned is_below (entries_at nodes slot) can.searched.partitioned);
         some = rw read at can.changeable.some;
       };
       known = rw read at can.searched.known;
@@ -89,8 +88,7 @@ pub leaf_can_find : {N : ℕ} {bytes : KeyBytes} {is_below : ℕ → Bool} {leaf
     → CanFind bytes is_below leaf → (near : KeyBytes) (other : ℕ → Bool) → ((key : ℕ) → near key ≡ bytes key)
     → header_at nodes slot ≡ Some leaf → IsPartOfPartitioned other (items_in nodes 0 slot) → CanFind near other leaf
 leaf_can_find {N} {bytes} {is_below} {leaf} nodes slot can near other same header part =
-    let partitioned = entries_of_partitioned other (entries_at nodes slot)
-    (part_partitioned other (items_in nodes 0 slot) part) in
+    let partitioned = entries_of_partitioned other _ (part_partitioned other (items_in nodes 0 slot) part) in
     record {
       headed = key_heads_kept bytes near (λ key text is. same key ∙ is) (key_heads_of leaf) can.headed;
       partitioned = rw (entries_from_header nodes slot leaf header) at partitioned;

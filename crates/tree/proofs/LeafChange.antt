@@ -1,5 +1,5 @@
 -- How many entries of a leaf pass, and the keys that it has once it is changed.
-use Rattle.std.proofs.Common.{rules, option_map, unwrap_or, ◌≢◌, ◌≡◌, inl, ℕ, zero, suc, ◌≤◌, Bool, not, List, [], ◌∷◌, Some, length, get_or, set, take, drop, filter, refl, sym, ◌∙◌, ap, arith}
+use Rattle.std.proofs.Common.{rules, option_map, ◌≢◌, ◌≡◌, inl, ℕ, zero, suc, ◌≤◌, Bool, not, List, [], ◌∷◌, Some, length, get_or, set, take, drop, filter, refl, sym, ◌∙◌, ap, arith}
 use Rattle.std.proofs.lemmas.List.{take_at, drop_at, length-map}
 use Rattle.std.proofs.lemmas.List.Elements.{All-nil, All-cons}
 use Rattle.std.proofs.Math.Seq.{map-set_same}
@@ -8,7 +8,7 @@ use Rattle.std.specs.Ordering.{nat_cmp}
 use Rattle.arena.specs.Arena.{Arena, Record, record_at}
 use Rattle.tree.specs.declared.entry.Entry.{Entry}
 use Rattle.tree.specs.declared.node.Node.{Node}
-use Rattle.tree.specs.Heads.{KeyBytes, Begins, AreHeads, AllAreHeads, head_behind}
+use Rattle.tree.specs.Heads.{KeyBytes, Begins, AreHeads, AllAreHeads}
 use Rattle.tree.specs.Item.{item_of}
 use Rattle.tree.specs.Node.{entries_of, key_heads_of, all_heads_of, keys_of}
 use Rattle.tree.specs.Path.{IsPartitioned}
@@ -46,13 +46,12 @@ module _ {N : ℕ} where
 headed_empty : (bytes : KeyBytes) (key : ℕ) → bytes key ≡ Some []
     → AreHeads bytes (record { keys = key ∷ []; prefix_len = 0; heads = 0 ∷ [] })
 headed_empty bytes key empty =
-    let text : unwrap_or (bytes key) [] ≡ [] = ap (λ o. unwrap_or o []) empty in
     let begins : Begins bytes [] key = record { text = []; known = empty; are_bytes = search rules; begins = inl refl } in
     record {
       beginning = [];
       prefix_len = refl;
       begins = All-cons (Begins bytes []) key [] begins (All-nil (Begins bytes []));
-      heads = ap (λ d. d ∷ []) (sym (ap (head_behind 0) text ∙ empty_head 0));
+      heads = rw empty (ap (λ d. d ∷ []) (sym (empty_head 0)));
     }
 
 -- an arena whose only node has the empty key alone

@@ -138,12 +138,11 @@ module _ {N : ℕ} {a : Arena (Node N)} {height lower slot : ℕ} {is_below : �
     can_insert =
         let read = read_beside at both_moves in
         let child : x ≡ child_at (entries_at b slot) i = rw read (x_at at) in
-        let some = rw child at put.filled.0 in
         record {
           fan_out = at.can.fan_out;
           live = live_beside at both_moves;
           within = rw read at.within;
-          some = omega (arith, some, at.can.fan_out);
+          some = omega (arith, rw child at put.filled.0, at.can.fan_out);
           some_added = omega (arith, put.filled.1, at.can.fan_out);
           keyless = put.changes.keyless;
           room = omega (arith, put.taken, at.can.room, at.next);

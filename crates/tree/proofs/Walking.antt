@@ -22,7 +22,7 @@ use Rattle.tree.proofs.Frames.{IsRight}
 use Rattle.tree.proofs.Keys.{first_key-append, first_key-children}
 use Rattle.tree.proofs.Leaves.{index_passes}
 use Rattle.tree.proofs.Stepping.{IsAt, child_right, items_split, x_at}
-use Rattle.tree.proofs.Ways.{IsWay, way}
+use Rattle.tree.proofs.Ways.{way}
 
 both_empty : {X : Type 0} (xs ys : List X) → xs ++ ys ≡ [] → (xs ≡ []) × (ys ≡ [])
 both_empty [] ys e = (refl, e)
@@ -98,18 +98,6 @@ module _ {N : ℕ} {a : Arena (Node N)} {height lower slot : ℕ} {is_below : �
   abbrev back : List Item
   back = items_of a lower (drop (i + 1) es)
 
-  -- Unless no item stands before the child's, one of these is below the bound.
-  found_at : IsWay a (least_of N) lower slot is_below → IsFoundAmong is_below front part
-  found_at w =
-      let child : x ≡ w.entry.child = x_at at ∙ ap (child_at es) at.index ∙ sym w.child in
-      elim (none_or_some (length (filter (λ (e : Entry). is_below e.key) es))) [
-        | inl none ↦ (let zero_is : i ≡ 0 = omega (arith, at.index) in inl (ap (λ n. items_of a lower (take n es)) zero_is))
-        | inr some ↦
-            let passed = index_passes (λ (e : Entry). is_below e.key) es w.entry w.entries some w.is in
-            let t = w.kept.tells in
-            inr (rw (child, t.items_are) (Any-first (λ (x : Item). is_below x.key ≡ true) t.first t.others (rw t.key at passed)))
-      ]
-
   -- A leaf of the child is changed.
   pub within_at : (Gives : Bool → Option ℕ → List Item → List Item → Type 0) (is_first below_first : Bool)
       (key below_key : Option ℕ) (now all : List Item) → IsPartitioned (λ x. is_below x.key) (items_in a height slot)
@@ -122,6 +110,14 @@ module _ {N : ℕ} {a : Arena (Node N)} {height lower slot : ℕ} {is_below : �
       let Fails = λ (x : Item). is_below x.key ≡ false in
       let Told = λ (e : Entry). Tells e (items_in a lower e.child) in
       let w = way a (least_of N) lower slot is_below at.subtree (rw (← at.next) at partitioned) in
+      let child : x ≡ w.entry.child = x_at at ∙ ap (child_at es) at.index ∙ sym w.child in
+      let found : IsFoundAmong is_below front part = elim (none_or_some (length (filter (λ (e : Entry). is_below e.key) es))) [
+        | inl none ↦ (let zero_is : i ≡ 0 = omega (arith, at.index) in inl (ap (λ n. items_of a lower (take n es)) zero_is))
+        | inr some ↦
+            let passed = index_passes (λ (e : Entry). is_below e.key) es w.entry w.entries some w.is in
+            let t = w.kept.tells in
+            inr (rw (child, t.items_are) (Any-first Passes t.first t.others (rw t.key at passed)))
+      ] in
       let below_is : below_key ≡ first_key key back = key_is ∙ first_key-children (λ (e : Entry). items_in a lower e.child) key
       (drop (i + 1) es) (All-drop Told (i + 1) es (λ k d within. (at.subtree.2 k d within).tells)) in
       rw (items_split at, all_is) record {
@@ -134,7 +130,7 @@ module _ {N : ℕ} {a : Arena (Node N)} {height lower slot : ℕ} {is_below : �
         items_below = All-append Passes front c.before (rw (← at.index) at w.before) c.items_below;
         failing = All-append Fails c.behind back c.failing (rw (← at.index) at w.behind);
         found = elim c.found [
-          | inl none ↦ elim (found_at w) [
+          | inl none ↦ elim found [
             | inl first ↦ inl (ap₂ (λ xs ys. xs ++ ys) first none)
             | inr there ↦ elim (Any-parts Passes c.leaf c.behind (rw (c.was_is, none) at there)) [
               | inl here ↦ inr here

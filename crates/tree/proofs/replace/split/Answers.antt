@@ -7,7 +7,6 @@ use Rattle.tree.proofs.replace.split.Goals as goal
 
 pub splice_apart-right-requires : goal.splice_apart-right-requires
 splice_apart-right-requires g c =
-    let bytes = g.P.Bound.bytes c.args.bound.now in
     let can = c.requires.can_split in
     let node = c.header-left.result in
     let header = c.header-left.ensures.header in
@@ -18,7 +17,7 @@ splice_apart-right-requires g c =
           ordered = can.ordered;
           within = omega (arith, can.within, len);
           same_len = can.same_len;
-          headed = headed_at bytes c.args.nodes.now c.args.slot node can.headed header;
+          headed = headed_at _ c.args.nodes.now c.args.slot node can.headed header;
           known = can.known;
           beside = λ alike. (rw header at (can.beside alike));
         },
