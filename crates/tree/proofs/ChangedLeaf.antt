@@ -1,6 +1,5 @@
 -- A subtree that stays as it is, and a leaf that is changed where it lies.
-use Rattle.std.proofs.Common.{◌≡◌, ℕ, ℤ, ◌≤◌, ◌∙◌, Bool, List, [], ◌∷◌, Option, None, Some, length, refl, sym, subst, arith, inl}
-use Rattle.std.specs.Prelude.{IfSome}
+use Rattle.std.proofs.Common.{◌≡◌, ℕ, ℤ, ◌∙◌, Bool, List, [], ◌∷◌, Option, None, Some, refl, sym, subst, arith}
 use Rattle.arena.specs.Arena.{Arena, header_at, with_header}
 use Rattle.tree.specs.declared.entry.Entry.{Entry}
 use Rattle.tree.specs.declared.node.Node.{Node}
@@ -12,10 +11,10 @@ use Rattle.tree.specs.Node.{key_heads_of, all_heads_of}
 use Rattle.tree.specs.Item.{Item}
 use Rattle.tree.specs.Overwrite.{IsPartOfPartitioned}
 use Rattle.tree.specs.Replace.{slots_with, Changes}
-use Rattle.tree.specs.Subtree.{entries_at, items_in, IsSubtree}
-use Rattle.tree.specs.Tree.{least_of}
+use Rattle.tree.specs.Subtree.{entries_at, items_in, slots_in}
 use Rattle.tree.specs.Walk.{CanChange, CanChangeLeaf, IsChanged, IsRaised, added_by}
-use Rattle.tree.proofs.Changing.{changes_if_moves}
+use Rattle.tree.proofs.callers.Times.{once_if_distinct}
+use Rattle.tree.proofs.Changing.{changes_if_moves, moves_same}
 use Rattle.tree.proofs.Headed.{headed_at, key_heads_kept}
 use Rattle.tree.proofs.KnownKeys.{headed_header}
 use Rattle.tree.proofs.Leaves.{entries_of_partitioned}
@@ -32,14 +31,8 @@ unchanged bytes nodes height slot can headed = record {
   neighbour = tt;
   filled = tt;
   few_less = λ _ _. omega arith;
-  changes = record {
-    distinct = can.distinct;
-    slots = λ s used. inl used;
-    others = λ s _ _. refl;
-    live = refl;
-    spare = refl;
-    keyless = can.keyless;
-  };
+  changes = changes_if_moves nodes nodes _ _ (moves_same nodes (slots_in nodes height slot) _ can.keyless
+      (once_if_distinct _ can.distinct) (λ s. refl) refl);
   taken = omega arith;
   headed = headed;
 }
@@ -57,9 +50,8 @@ leaf_put {N} bytes old new slot node outcome put can all headed none same raised
       same = same;
       raised = raised;
       subtree = put_live old new slot node put;
-      neighbour = subst (λ o. IfSome o (λ added. IsSubtree new (least_of N) 0 added)) (sym none) tt;
-      filled = subst (λ o. IfSome o (λ added. (least_of N ≤ length (entries_at new slot))
-          × (least_of N ≤ length (entries_at new added)))) (sym none) tt;
+      neighbour = rw none tt;
+      filled = rw none tt;
       few_less = λ high. absurd (omega (arith, high));
       changes = subst (λ o. Changes old new (slot ∷ []) (slots_with new 0 slot o)) (sym none) changes;
       taken = omega (arith, changes.live, changes.spare);
@@ -71,9 +63,9 @@ pub leaf_changed : {N : ℕ} {bytes : KeyBytes} {is_below : ℕ → Bool} {targe
     {nodes : Arena (Node N)} {slot : ℕ} {shared : Option ℕ} {taken : List Entry} (node : Node N)
     → CanChangeLeaf bytes is_below target Wants nodes 0 slot shared taken → AreHeads bytes (key_heads_of node)
     → IsChanged bytes nodes (with_header nodes slot node) 0 slot Changed
-leaf_changed {N} {bytes} {is_below} {target} {Wants} {nodes} {slot} {shared} {taken} node can headed =
-    leaf_put bytes nodes (with_header nodes slot node) slot node Changed refl can.changeable can.searched.headed headed refl
-    (λ e. absurd (cc)) (λ version e. absurd (cc))
+leaf_changed node can headed =
+    leaf_put _ _ _ _ node Changed refl can.changeable can.searched.headed headed refl (λ e. absurd (cc))
+    (λ version e. absurd (cc))
 
 -- In a leaf that may be changed, and that was read, the bound can be sought.
 pub leaf_can_step : {N : ℕ} {bytes : KeyBytes} {is_below : ℕ → Bool} {target : List ℕ} {Wants : List Item → Type 0}
@@ -82,11 +74,10 @@ pub leaf_can_step : {N : ℕ} {bytes : KeyBytes} {is_below : ℕ → Bool} {targ
     → CanStep bytes is_below target leaf shared
 leaf_can_step {N} {bytes} {is_below} {target} {Wants} {nodes} {slot} {shared} {taken} {leaf} can header =
     let read = entries_from_header nodes slot leaf header in
-    let partitioned = entries_of_partitioned is_below (entries_at nodes slot) can.searched.partitioned in
     record {
       can_find = record {
         headed = headed_at bytes nodes slot leaf can.searched.headed header;
-        partitioned = rw read at partitioned;
+        partitioned = rw read at (entries_of_partitioned is_below (entries_at nodes slot) can.searched.partitioned);
         some = rw read at can.changeable.some;
       };
       known = rw read at can.searched.known;
@@ -97,8 +88,7 @@ pub leaf_can_find : {N : ℕ} {bytes : KeyBytes} {is_below : ℕ → Bool} {leaf
     → CanFind bytes is_below leaf → (near : KeyBytes) (other : ℕ → Bool) → ((key : ℕ) → near key ≡ bytes key)
     → header_at nodes slot ≡ Some leaf → IsPartOfPartitioned other (items_in nodes 0 slot) → CanFind near other leaf
 leaf_can_find {N} {bytes} {is_below} {leaf} nodes slot can near other same header part =
-    let partitioned = entries_of_partitioned other (entries_at nodes slot)
-    (part_partitioned other (items_in nodes 0 slot) part) in
+    let partitioned = entries_of_partitioned other _ (part_partitioned other (items_in nodes 0 slot) part) in
     record {
       headed = key_heads_kept bytes near (λ key text is. same key ∙ is) (key_heads_of leaf) can.headed;
       partitioned = rw (entries_from_header nodes slot leaf header) at partitioned;

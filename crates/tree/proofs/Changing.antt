@@ -1,5 +1,5 @@
 -- Changes of the slots that are used, by how often each stands in the lists.
-use Rattle.std.proofs.Common.{◌≡◌, ◌≢◌, ◌⊎◌, inl, inr, ℕ, zero, suc, ◌+◌, ◌-◌, ◌≤◌, true, false, cond, List, [], ◌∷◌, length, Option, Some, None, IsSome, is_some, unwrap_or, refl, sym, ap, ◌∙◌, arith}
+use Rattle.std.proofs.Common.{◌≡◌, ◌≢◌, ◌⊎◌, inl, inr, ℕ, ◌+◌, ◌-◌, ◌≤◌, true, false, List, [], ◌∷◌, length, Option, Some, None, IsSome, is_some, unwrap_or, refl, sym, ap, ◌∙◌, arith}
 use Rattle.std.specs.Prelude.{IfSome}
 use Rattle.std.specs.FinMap as map
 use Rattle.std.specs.Ordering.{nat_cmp, eq_by_cmp}
@@ -10,9 +10,6 @@ use Rattle.tree.specs.declared.node.Node.{Node}
 use Rattle.tree.specs.Replace.{Changes, IsKeyless}
 use Rattle.tree.proofs.callers.Times.{times, once, once_same, once_cases, none_or_some, times_if_contains, contains_if_times, times_unless_contains, once_if_distinct, distinct_if_once}
 use Rattle.tree.proofs.Frames.{Agree}
-
-same_or_other : (a b : ℕ) → (a ≡ b) ⊎ (a ≢ b)
-same_or_other a b = elim (eqb_tells a b) [ inl same ↦ inl same.1 | inr other ↦ inr other.1 ]
 
 pub same_number : (a b : ℕ) → a ≡ b → eq_by_cmp nat_cmp a b ≡ true
 same_number a b e = ap (eq_by_cmp nat_cmp a) (sym e) ∙ (eq_by_cmp_equiv nat_cmp_total).refl a
@@ -30,6 +27,9 @@ not_both o none live = let e : is_some o ≡ false = ap is_some none in cc
 once_few : (s x : ℕ) → once s x ≤ 1
 once_few s x = elim (once_cases s x) [ inl same ↦ omega (arith, same.1) | inr other ↦ omega (arith, other.1) ]
 
+apart : (s x : ℕ) → times s (x ∷ []) ≡ 0 → s ≢ x
+apart s x none same = let e : once s x ≡ 1 = rw (← same) (once_same s) in omega arith
+
 no_key : (o : Option (List ℕ)) → IfSome o (λ key. key ≡ []) → unwrap_or o [] ≡ []
 no_key None h = refl
 no_key (Some key) h = h
@@ -37,7 +37,7 @@ no_key (Some key) h = h
 module _ {N : ℕ} where
   pub record Moves (old new : Arena (Node N)) (was now : List ℕ) : Type 0 where
     pub few : (s : ℕ) → times s now ≤ 1
-    pub from : (s : ℕ) → 1 ≤ times s now → (1 ≤ times s was) ⊎ (record_at old s ≡ None)
+    pub from : (s : ℕ) → 1 ≤ times s now → times s was ≡ 0 → record_at old s ≡ None
     pub others : (s : ℕ) → times s was ≡ 0 → IsLive old s → record_at new s ≡ record_at old s
     pub live : map.len new.records + length was ≡ map.len old.records + length now
     pub spare : spare_of new 0 + map.len new.records ≡ spare_of old 0 + map.len old.records
@@ -46,9 +46,9 @@ module _ {N : ℕ} where
   pub moves_if_changes : (a b : Arena (Node N)) (was now : List ℕ) → Changes a b was now → Moves a b was now
   moves_if_changes a b was now h = record {
     few = once_if_distinct now h.distinct;
-    from = λ s some. elim (h.slots s (contains_if_times s now some)) [
-      | inl used ↦ inl (times_if_contains s was used)
-      | inr free ↦ inr free
+    from = λ s some none. elim (h.slots s (contains_if_times s now some)) [
+      | inl used ↦ absurd (omega (arith, times_if_contains s was used))
+      | inr free ↦ free
     ];
     others = λ s none. h.others s (λ has. absurd (omega (arith, times_if_contains s was has)));
     live = h.live;
@@ -59,9 +59,9 @@ module _ {N : ℕ} where
   pub changes_if_moves : (a b : Arena (Node N)) (was now : List ℕ) → Moves a b was now → Changes a b was now
   changes_if_moves a b was now h = record {
     distinct = distinct_if_once now h.few;
-    slots = λ s has. elim (h.from s (times_if_contains s now has)) [
-      | inl used ↦ inl (contains_if_times s was used)
-      | inr free ↦ inr free
+    slots = λ s has. elim (none_or_some (times s was)) [
+      | inl none ↦ inr (h.from s (times_if_contains s now has) none)
+      | inr used ↦ inl (contains_if_times s was used)
     ];
     others = λ s without. h.others s (times_unless_contains s was without);
     live = h.live;
@@ -73,22 +73,16 @@ module _ {N : ℕ} where
       → Moves a c xs zs
   moves_trans a b c xs ys zs h k = record {
     few = k.few;
-    from = λ s some. elim (k.from s some) [
-      | inl used ↦ h.from s used
-      | inr free ↦ elim (none_or_some (times s xs)) [
-        | inl none ↦ elim (none_or_live (record_at a s)) [
-          | inl dead ↦ inr dead
-          | inr live ↦ inr (sym (h.others s none live) ∙ free)
-        ]
-        | inr used ↦ inl used
+    from = λ s some none. elim (none_or_some (times s ys)) [
+      | inl apart ↦ elim (none_or_live (record_at a s)) [
+        | inl dead ↦ dead
+        | inr live ↦ sym (h.others s none live) ∙ k.from s some apart
       ]
+      | inr used ↦ h.from s used none
     ];
     others = λ s none live. elim (none_or_some (times s ys)) [
       | inl apart ↦ k.others s apart (ap is_some (h.others s none live) ∙ live) ∙ h.others s none live
-      | inr used ↦ elim (h.from s used) [
-        | inl was ↦ absurd (omega arith)
-        | inr dead ↦ absurd (not_both (record_at a s) dead live)
-      ]
+      | inr used ↦ absurd (not_both (record_at a s) (h.from s used none) live)
     ];
     live = omega (arith, h.live, k.live);
     spare = omega (arith, h.spare, k.spare);
@@ -99,7 +93,7 @@ module _ {N : ℕ} where
       → ((s : ℕ) → times s ys ≡ times s xs) → length ys ≡ length xs → Moves a a xs ys
   moves_same a xs ys keyless few same len = record {
     few = λ s. omega (arith, few s, same s);
-    from = λ s some. inl (omega (arith, same s));
+    from = λ s some none. absurd (omega (arith, same s));
     others = λ s none live. refl;
     live = omega arith;
     spare = refl;
@@ -116,19 +110,10 @@ module _ {N : ℕ} where
       | inl none ↦ omega (arith, h.few s, after s)
       | inr some ↦ elim (none_or_some (times s ys)) [
         | inl apart ↦ omega (arith, few s, before s, after s)
-        | inr used ↦ elim (h.from s used) [
-          | inl both ↦ absurd (omega (arith, few s, before s))
-          | inr dead ↦ absurd (not_both (record_at a s) dead (live s some))
-        ]
+        | inr used ↦ absurd (not_both (record_at a s) (h.from s used (omega (arith, few s, before s))) (live s some))
       ]
     ];
-    from = λ s some. elim (none_or_some (times s zs)) [
-      | inl none ↦ elim (h.from s (omega (arith, after s))) [
-        | inl used ↦ inl (omega (arith, before s))
-        | inr dead ↦ inr dead
-      ]
-      | inr other ↦ inl (omega (arith, before s))
-    ];
+    from = λ s some none. h.from s (omega (arith, before s, after s)) (omega (arith, before s));
     others = λ s none. h.others s (omega (arith, before s));
     live = omega (arith, h.live);
     spare = h.spare;
@@ -139,33 +124,36 @@ module _ {N : ℕ} where
       → ((s : ℕ) → 1 ≤ times s zs → IsLive a s) → ((s : ℕ) → times s xs + times s zs ≤ 1) → Agree a b zs
   moves_agree a b xs ys zs h live few s some = h.others s (omega (arith, few s)) (live s some)
 
+  -- Where only this slot is touched, no other gets key bytes.
+  keyless_but : (a b : Arena (Node N)) (slot : ℕ) → IsKeyless a → ((s : ℕ) → s ≢ slot → record_at b s ≡ record_at a s)
+      → IfSome (key_at b slot) (λ key. key ≡ []) → IsKeyless b
+  keyless_but a b slot keyless others here s = elim (eqb_tells s slot) [
+    | inl same ↦ rw same.1 here
+    | inr other ↦ rw (others s other.1) (keyless s)
+  ]
+
   module _ (a : Arena (Node N)) (slot : ℕ) (node : Node N) where
     abbrev put_record : Record (Node N)
     put_record = record { header = node; key = unwrap_or (key_at a slot) [] }
 
     pub record_put : record_at (with_header a slot node) slot ≡ Some put_record
-    record_put = map.get-insert nat_cmp_total a.records slot put_record slot
-        ∙ ap (λ b. cond b (Some put_record) (record_at a slot)) (same_number slot slot refl)
+    record_put = rw (map.get-insert nat_cmp_total a.records slot put_record slot, same_number slot slot refl) refl
 
     pub record_kept : (s : ℕ) → s ≢ slot → record_at (with_header a slot node) s ≡ record_at a s
-    record_kept s other = map.get-insert nat_cmp_total a.records slot put_record s
-        ∙ ap (λ b. cond b (Some put_record) (record_at a s)) (other_number s slot other)
+    record_kept s other = rw (map.get-insert nat_cmp_total a.records slot put_record s, other_number s slot other) refl
 
     pub moves_header : IsLive a slot → IsKeyless a → Moves a (with_header a slot node) (slot ∷ []) (slot ∷ [])
     moves_header live keyless =
         let count : map.len (with_header a slot node).records ≡ map.len a.records =
-        map.len-insert nat_cmp_total a.records slot put_record
-        ∙ ap (λ b. cond b (map.len a.records) (map.len a.records + 1)) live in
+        rw (map.len-insert nat_cmp_total a.records slot put_record, live) refl in
         record {
           few = λ s. omega (arith, once_few s slot);
-          from = λ s some. inl some;
-          others = λ s none alive. record_kept s (λ same. let e : once s slot ≡ 1 = ap (once s) (sym same) ∙ once_same s in omega arith);
+          from = λ s some none. absurd (omega arith);
+          others = λ s none alive. record_kept s (apart s slot none);
           live = omega arith;
           spare = omega arith;
-          keyless = λ s. elim (same_or_other s slot) [
-            | inl same ↦ rw (same, record_put) (no_key (key_at a slot) (keyless slot))
-            | inr other ↦ rw (record_kept s other) (keyless s)
-          ];
+          keyless = keyless_but a (with_header a slot node) slot keyless record_kept
+              (rw record_put (no_key (key_at a slot) (keyless slot)));
         }
 
   -- a record is placed
@@ -177,21 +165,17 @@ module _ {N : ℕ} where
   moves_placed a b slot node keyless free placed here others spare =
       let r : Record (Node N) = record { header = node; key = [] } in
       let count : map.len b.records ≡ map.len a.records + 1 =
-      ap map.len placed ∙ map.len-insert nat_cmp_total a.records slot r
-      ∙ ap (λ o. cond (is_some o) (map.len a.records) (map.len a.records + 1)) free in
+      rw (placed, map.len-insert nat_cmp_total a.records slot r, free) refl in
       record {
         few = λ s. omega (arith, once_few s slot);
-        from = λ s some. elim (once_cases s slot) [
-          | inl same ↦ inr (ap (record_at a) (sym same.0) ∙ free)
+        from = λ s some none. elim (once_cases s slot) [
+          | inl same ↦ rw (← same.0) free
           | inr other ↦ absurd (omega (arith, other.1))
         ];
-        others = λ s none alive. others s (λ same. not_both (record_at a s) (ap (record_at a) same ∙ free) alive);
+        others = λ s none alive. others s (λ same. not_both (record_at a s) (rw same free) alive);
         live = omega arith;
         spare = omega arith;
-        keyless = λ s. elim (same_or_other s slot) [
-          | inl same ↦ rw (same, here) refl
-          | inr other ↦ rw (others s other) (keyless s)
-        ];
+        keyless = keyless_but a b slot keyless others (rw here refl);
       }
 
   -- a record is released
@@ -200,30 +184,20 @@ module _ {N : ℕ} where
       → spare_of b 0 ≡ spare_of a 0 + 1 → Moves a b (slot ∷ []) []
   moves_released a b slot keyless live released others spare =
       let here : record_at b slot ≡ None =
-      ap (λ m. map.get m slot) released ∙ map.get-remove nat_cmp_total a.records slot slot
-      ∙ ap (λ t. cond t None (record_at a slot)) (same_number slot slot refl) in
+      rw (released, map.get-remove nat_cmp_total a.records slot slot, same_number slot slot refl) refl in
       let count : map.len b.records ≡ map.len a.records - 1 =
-      ap map.len released ∙ map.len-remove nat_cmp_total a.records slot
-      ∙ ap (λ t. cond t (map.len a.records - 1) (map.len a.records)) live in
-      let some : 1 ≤ map.len a.records = some_record a.records slot live in
+      rw (released, map.len-remove nat_cmp_total a.records slot, live) refl in
+      let some : 1 ≤ map.len a.records = elim (none_or_some (map.len a.records)) [
+        | inl none ↦
+            let empty : record_at a slot ≡ None = rw (map.empty_of_len a.records none) (map.get-empty nat_cmp slot) in
+            absurd (not_both (record_at a slot) empty live)
+        | inr some ↦ some
+      ] in
       record {
         few = λ s. omega arith;
-        from = λ s h. absurd (omega arith);
-        others = λ s none alive. others s (λ same. let e : once s slot ≡ 1 = ap (once s) (sym same) ∙ once_same s in omega arith);
+        from = λ s some none. absurd (omega arith);
+        others = λ s none alive. others s (apart s slot none);
         live = omega arith;
         spare = omega arith;
-        keyless = λ s. elim (same_or_other s slot) [
-          | inl same ↦ rw (same, here) tt
-          | inr other ↦ rw (others s other) (keyless s)
-        ];
+        keyless = keyless_but a b slot keyless others (rw here tt);
       }
-    where
-      some_record : (m : map.FinMap nat_cmp (Record (Node N))) (slot : ℕ) → IsSome (map.get m slot) → 1 ≤ map.len m
-      some_record m slot live = by_len (map.len m) refl
-        where
-          by_len : (n : ℕ) → map.len m ≡ n → 1 ≤ map.len m
-          by_len zero none =
-              let empty : map.get m slot ≡ None =
-              ap (λ n. map.get n slot) (map.empty_of_len m none) ∙ map.get-empty nat_cmp slot in
-              absurd (not_both (map.get m slot) empty live)
-          by_len (suc n) some = omega arith

@@ -1,19 +1,18 @@
 -- How many entries of a leaf pass, and the keys that it has once it is changed.
-use Rattle.std.proofs.Common.{rules, option_map, unwrap_or, ◌≢◌, ◌≡◌, inl, ℕ, zero, suc, ◌≤◌, Bool, not, List, [], ◌∷◌, Some, length, get_or, set, take, drop, filter, refl, sym, ◌∙◌, ap, subst, arith}
-use Rattle.std.specs.Prelude.{IfSome}
+use Rattle.std.proofs.Common.{rules, option_map, ◌≢◌, ◌≡◌, inl, ℕ, zero, suc, ◌≤◌, Bool, not, List, [], ◌∷◌, Some, length, get_or, set, take, drop, filter, refl, sym, ◌∙◌, ap, arith}
 use Rattle.std.proofs.lemmas.List.{take_at, drop_at, length-map}
 use Rattle.std.proofs.lemmas.List.Elements.{All-nil, All-cons}
+use Rattle.std.proofs.Math.Seq.{map-set_same}
 use Rattle.std.specs.FinMap as finite
 use Rattle.std.specs.Ordering.{nat_cmp}
 use Rattle.arena.specs.Arena.{Arena, Record, record_at}
-use Rattle.keys.specs.Key.{IsBytes}
 use Rattle.tree.specs.declared.entry.Entry.{Entry}
 use Rattle.tree.specs.declared.node.Node.{Node}
-use Rattle.tree.specs.Heads.{KeyBytes, Begins, KeyHeads, AreHeads, AllAreHeads, head_behind}
+use Rattle.tree.specs.Heads.{KeyBytes, Begins, AreHeads, AllAreHeads}
 use Rattle.tree.specs.Item.{item_of}
 use Rattle.tree.specs.Node.{entries_of, key_heads_of, all_heads_of, keys_of}
 use Rattle.tree.specs.Path.{IsPartitioned}
-use Rattle.tree.specs.Subtree.{entries_at, items_in, IsSubtree}
+use Rattle.tree.specs.Subtree.{entries_at}
 use Rattle.tree.specs.Tree.{IsTree}
 use Rattle.tree.proofs.HeadOrder.{empty_head}
 use Rattle.tree.proofs.Headed.{headed_put}
@@ -27,55 +26,41 @@ parted p es n partitioned count =
     (ap (take n) partitioned ∙ take_at front rest n (sym count), ap (drop n) partitioned ∙ drop_at front rest n (sym count))
 
 module _ {N : ℕ} where
-  -- a root of items has an entry
-  some_at_root : (nodes : Arena (Node N)) (least height slot : ℕ) → IsSubtree nodes least height slot
-      → 1 ≤ length (items_in nodes height slot) → 1 ≤ length (entries_at nodes slot)
-  some_at_root nodes least zero slot h some = omega (arith, some, length-map (entries_at nodes slot) item_of)
-  some_at_root nodes least (suc height) slot h some = h.1
-
   -- the root of a tree has an entry
   pub root_some : (nodes : Arena (Node N)) (slot height len room : ℕ) → IsTree nodes slot height len room
       → 1 ≤ length (entries_at nodes slot)
-  root_some nodes slot height len room t =
-      some_at_root nodes _ height slot t.rooted.subtree (omega (arith, t.some, t.counted))
+  root_some nodes slot zero len room t = omega (arith, t.some, t.counted, length-map (entries_at nodes slot) item_of)
+  root_some nodes slot (suc height) len room t = t.rooted.subtree.1
 
   -- A node whose keys stay knows as much as before.
   pub key_heads_stays : (bytes : KeyBytes) (old new : Node N) (i : ℕ) (d e : Entry)
-      → key_heads_of new ≡ record (key_heads_of old) { keys = keys_of (entries_of new) } → entries_of new ≡ set (entries_of old) i e
-      → e.key ≡ (get_or (entries_of old) i d).key → AreHeads bytes (key_heads_of old) → AreHeads bytes (key_heads_of new)
+      → key_heads_of new ≡ record (key_heads_of old) { keys = keys_of (entries_of new) }
+      → entries_of new ≡ set (entries_of old) i e → e.key ≡ (get_or (entries_of old) i d).key → AreHeads bytes (key_heads_of old)
+      → AreHeads bytes (key_heads_of new)
   key_heads_stays bytes old new i d e key_heads entries key headed =
-      let keys : keys_of (entries_of new) ≡ keys_of (entries_of old) = ap keys_of entries ∙ keys_set (entries_of old) i d e key in
-      let with_keys : List ℕ → KeyHeads = λ keys. record (key_heads_of old) { keys = keys } in
-      subst (AreHeads bytes) (sym (key_heads ∙ ap with_keys keys)) headed
-    where
-      keys_set : (es : List Entry) (i : ℕ) (d e : Entry) → e.key ≡ (get_or es i d).key → keys_of (set es i e) ≡ keys_of es
-      keys_set [] i d e same = refl
-      keys_set (x ∷ es) zero d e same = ap (λ k. k ∷ keys_of es) same
-      keys_set (x ∷ es) (suc i) d e same = ap (λ ks. x.key ∷ ks) (keys_set es i d e same)
-
-no_bytes : IsBytes []
-no_bytes = search rules
+      let kept = map-set_same (λ (e : Entry). e.key) (entries_of old) i e d key in
+      let keys : keys_of (entries_of new) ≡ keys_of (entries_of old) = ap keys_of entries ∙ kept in
+      rw (key_heads, keys) headed
 
 -- The empty key is known, and its head is zero: a node that has no other knows it.
 headed_empty : (bytes : KeyBytes) (key : ℕ) → bytes key ≡ Some []
     → AreHeads bytes (record { keys = key ∷ []; prefix_len = 0; heads = 0 ∷ [] })
 headed_empty bytes key empty =
-    let text : unwrap_or (bytes key) [] ≡ [] = ap (λ o. unwrap_or o []) empty in
+    let begins : Begins bytes [] key = record { text = []; known = empty; are_bytes = search rules; begins = inl refl } in
     record {
       beginning = [];
       prefix_len = refl;
-      begins = All-cons (Begins bytes []) key [] (record { text = []; known = empty; are_bytes = no_bytes; begins = inl refl }) (All-nil (Begins bytes []));
-      heads = ap (λ d. d ∷ []) (sym (ap (head_behind 0) text ∙ empty_head 0));
+      begins = All-cons (Begins bytes []) key [] begins (All-nil (Begins bytes []));
+      heads = rw empty (ap (λ d. d ∷ []) (sym (empty_head 0)));
     }
 
 -- an arena whose only node has the empty key alone
-pub headed_alone : {N : ℕ} (bytes : KeyBytes) (a b : Arena (Node N)) (slot : ℕ) (node : Node N) (key : ℕ) → a.records ≡ finite.empty
-    → record_at b slot ≡ Some (record { header = node; key = [] }) → ((s : ℕ) → s ≢ slot → record_at b s ≡ record_at a s)
+pub headed_alone : {N : ℕ} (bytes : KeyBytes) (a b : Arena (Node N)) (slot : ℕ) (node : Node N) (key : ℕ)
+    → a.records ≡ finite.empty → record_at b slot ≡ Some (record { header = node; key = [] })
+    → ((s : ℕ) → s ≢ slot → record_at b s ≡ record_at a s)
     → key_heads_of node ≡ record { keys = key ∷ []; prefix_len = 0; heads = 0 ∷ [] } → bytes key ≡ Some []
     → AllAreHeads bytes (all_heads_of b)
 headed_alone {N} bytes a b slot node key none is others key_heads empty =
-    let nothing : AllAreHeads bytes (all_heads_of a) = λ s.
-    subst (λ o. IfSome (option_map key_heads_of (option_map (λ (r : Record (Node N)). r.header) o)) (AreHeads bytes))
-    (sym (ap (λ m. finite.get m s) none ∙ finite.get-empty nat_cmp s)) tt in
+    let nothing : AllAreHeads bytes (all_heads_of a) = λ s. (rw (none, finite.get-empty nat_cmp s) tt) in
     headed_put bytes a b slot node nothing (ap (option_map (λ (r : Record (Node N)). r.header)) is)
-    (subst (AreHeads bytes) (sym key_heads) (headed_empty bytes key empty)) others
+    (rw key_heads (headed_empty bytes key empty)) others

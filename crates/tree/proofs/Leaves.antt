@@ -1,10 +1,10 @@
 -- What the leaf that a bound finds says of the items below the bound.
-use Rattle.std.proofs.Common.{◌≡◌, ℕ, zero, suc, ◌+◌, ◌-◌, ◌≤◌, inl, inr, Bool, true, false, List, [], ◌∷◌, ◌++◌, Option, Some, length, get_or, slice_get, take, drop, filter, flat_map, map, All, refl, sym, ◌∙◌, ap, subst, arith}
+use Rattle.std.proofs.Common.{◌≡◌, ℕ, zero, suc, ◌+◌, ◌-◌, ◌≤◌, inl, inr, Bool, true, false, List, [], ◌∷◌, ◌++◌, Option, Some, length, get_or, slice_get, take, drop, filter, flat_map, map, All, refl, sym, ◌∙◌, ap, arith}
 use Rattle.std.specs.Prelude.{MatchOption}
 use Rattle.std.proofs.lemmas.Bool.{cases_Bool}
 use Rattle.std.proofs.lemmas.Option.{slice_get-get_or}
 use Rattle.std.proofs.lemmas.List.{drop_all, drop_more, take-append-drop, append-nil, append_assoc, map-append}
-use Rattle.std.proofs.lemmas.List.Elements.{All-nil, All-cons, All-head, All-tail, All-append, All-map, filter-append}
+use Rattle.std.proofs.lemmas.List.Elements.{All-head, All-append, All-map, filter-append}
 use Rattle.arena.specs.Arena.{Arena}
 use Rattle.tree.specs.declared.entry.Entry.{Entry}
 use Rattle.tree.specs.declared.node.Node.{Node}
@@ -13,8 +13,9 @@ use Rattle.tree.specs.Path.{IsPartitioned, index_in, child_in, leaf_in, before_l
 use Rattle.tree.specs.Subtree.{entries_at, items_in, IsSubtree}
 use Rattle.tree.specs.Tree.{IsLast}
 use Rattle.tree.proofs.callers.Times.{none_or_some}
-use Rattle.tree.proofs.callers.Partitions.{not_both, none_pass, none_passed, none_fail, IsPartitioned-parts, IsPartitioned-from_falls, Falls, Falls-below_from}
+use Rattle.tree.proofs.callers.Partitions.{not_both, none_pass, none_passed, none_fail, IsPartitioned-parts}
 use Rattle.tree.proofs.HeadCounts.{passing_at}
+use Rattle.tree.proofs.Found.{partitioned-entries}
 use Rattle.tree.proofs.Ways.{way}
 
 -- the last of those that pass does
@@ -23,7 +24,7 @@ pub index_passes : {X : Type 0} (p : X → Bool) (xs : List X) (x : X) → IsPar
 index_passes p xs x partitioned some is = passing_at p xs (length (filter p xs) - 1) x partitioned is (omega arith)
 
 -- Where no entry of the leaf passes, no item of the subtree does, and none stands before the leaf.
-pub none_before : {N : ℕ} (nodes : Arena (Node N)) (least height slot : ℕ) (is_below : ℕ → Bool) → IsSubtree nodes least height slot
+none_before : {N : ℕ} (nodes : Arena (Node N)) (least height slot : ℕ) (is_below : ℕ → Bool) → IsSubtree nodes least height slot
     → IsPartitioned (λ x. is_below x.key) (items_in nodes height slot)
     → filter (λ e. is_below e.key) (entries_at nodes (leaf_in nodes height slot is_below)) ≡ []
     → (before_leaf nodes height slot is_below ≡ []) × All (λ x. is_below x.key ≡ false) (items_in nodes height slot)
@@ -35,52 +36,37 @@ none_before nodes least (suc height) slot is_below s c none =
     let w = way nodes least height slot is_below s c in
     let es = entries_at nodes slot in
     let p = λ (e : Entry). is_below e.key in
+    let Fails = λ (x : Item). is_below x.key ≡ false in
     let below = λ (e : Entry). items_in nodes height e.child in
-    let child = child_in is_below es in
-    let i = none_before nodes least height child is_below (subst (IsSubtree nodes least height) w.child w.kept.subtree)
-    (subst (λ t. IsPartitioned (λ (x : Item). is_below x.key) (items_in nodes height t)) w.child w.partitioned) none in
-    let Fail : List Item → Type 0 = All (λ x. is_below x.key ≡ false) in
-    let all : Fail (items_in nodes height w.entry.child) = subst (λ t. Fail (items_in nodes height t)) (sym w.child) i.1 in
+    let i = none_before nodes least height (child_in is_below es) is_below (rw w.child at w.kept.subtree)
+    (rw w.child at w.partitioned) none in
+    let all : All Fails (below w.entry) = rw w.child i.1 in
     let t = w.kept.tells in
-    let first : is_below t.first.key ≡ false = All-head (λ (x : Item). is_below x.key ≡ false) t.first t.others (subst Fail t.items_are all) in
-    let fails : is_below w.entry.key ≡ false = ap is_below t.key ∙ first in
+    let fails = rw (← t.key) at (All-head Fails t.first t.others (rw t.items_are at all)) in
     elim (none_or_some (length (filter p es))) [
       | inl zero_pass ↦
           let at : index_in is_below es ≡ 0 = omega arith in
-          let front : flat_map below (take (index_in is_below es) es) ≡ [] = ap (λ n. flat_map below (take n es)) at in
-          let items = w.items ∙ ap (λ xs. xs ++ (items_in nodes height w.entry.child ++ flat_map below (drop (index_in is_below es + 1) es))) front in (
-            ap (λ xs. xs ++ before_leaf nodes height child is_below) front ∙ i.0,
-            subst Fail (sym items)
-                (All-append (λ (x : Item). is_below x.key ≡ false) (items_in nodes height w.entry.child) (flat_map below (drop (index_in is_below es + 1) es)) all w.behind),
+          let front : flat_map below (take (index_in is_below es) es) ≡ [] = rw at refl in
+          let items = rw front at w.items in (
+            rw front i.0,
+            rw items (All-append Fails (below w.entry) (flat_map below (drop (index_in is_below es + 1) es)) all w.behind),
           )
       | inr some ↦ absurd (not_both (is_below w.entry.key) (index_passes p es w.entry w.entries some w.is) fails)
     ]
 
-pub filter-items : (q : ℕ → Bool) (es : List Entry) → filter (λ (x : Item). q x.key) (map item_of es) ≡ map item_of (filter (λ (e : Entry). q e.key) es)
+pub filter-items : (q : ℕ → Bool) (es : List Entry)
+    → filter (λ (x : Item). q x.key) (map item_of es) ≡ map item_of (filter (λ (e : Entry). q e.key) es)
 filter-items q [] = refl
 filter-items q (e ∷ es) =
     elim (cases_Bool (q e.key)) [
-      | inl t ↦ rw t (ap (λ xs. item_of e ∷ xs) (filter-items q es))
-      | inr f ↦ rw f (filter-items q es)
+      | inl t ↦ rw (t, filter-items q es) refl
+      | inr f ↦ rw (f, filter-items q es) refl
     ]
 
 -- entries whose items are partitioned are partitioned
-pub All-from_map : (is_below : ℕ → Bool) (es : List Entry) → All (λ x. is_below x.key ≡ false) (map item_of es) → All (λ e. is_below e.key ≡ false) es
-All-from_map is_below [] a = All-nil (λ (e : Entry). is_below e.key ≡ false)
-All-from_map is_below (e ∷ es) a = All-cons (λ (e : Entry). is_below e.key ≡ false) e es
-    (All-head (λ (x : Item). is_below x.key ≡ false) (item_of e) (map item_of es) a)
-    (All-from_map is_below es (All-tail (λ (x : Item). is_below x.key ≡ false) (item_of e) (map item_of es) a))
-
-falls : (is_below : ℕ → Bool) (es : List Entry) → Falls (λ x. is_below x.key) (map item_of es) → Falls (λ e. is_below e.key) es
-falls is_below [] f = tt
-falls is_below (e ∷ es) f =
-    elim f [
-      | inl h ↦ inl (h.0, falls is_below es h.1)
-      | inr h ↦ inr (h.0, All-from_map is_below es h.1)
-    ]
-
-pub entries_of_partitioned : (is_below : ℕ → Bool) (es : List Entry) → IsPartitioned (λ x. is_below x.key) (map item_of es) → IsPartitioned (λ e. is_below e.key) es
-entries_of_partitioned is_below es c = IsPartitioned-from_falls (λ (e : Entry). is_below e.key) es (falls is_below es (Falls-below_from (λ (x : Item). is_below x.key) (map item_of es) c))
+pub entries_of_partitioned : (is_below : ℕ → Bool) (es : List Entry)
+    → IsPartitioned (λ x. is_below x.key) (map item_of es) → IsPartitioned (λ e. is_below e.key) es
+entries_of_partitioned is_below es c = partitioned-entries (λ (x : Item). is_below x.key) es c
 
 -- the entries of a leaf, between the items before it, which pass, and those behind it, which fail
 pub record IsLeaf (is_below : ℕ → Bool) (items before after : List Item) (es : List Entry) : Type 0 where
@@ -89,7 +75,8 @@ pub record IsLeaf (is_below : ℕ → Bool) (items before after : List Item) (es
   pub fail : All (λ x. is_below x.key ≡ false) after
   pub none : filter (λ e. is_below e.key) es ≡ [] → before ≡ []
 
-module _ (is_below : ℕ → Bool) (items before after : List Item) (es : List Entry) (leaf : IsLeaf is_below items before after es) where
+module _ (is_below : ℕ → Bool) (items before after : List Item) (es : List Entry)
+    (leaf : IsLeaf is_below items before after es) where
   -- the items below the bound, and the others
   pub passing_is : items_below is_below items ≡ before ++ map item_of (filter (λ e. is_below e.key) es)
   passing_is =
@@ -101,32 +88,32 @@ module _ (is_below : ℕ → Bool) (items before after : List Item) (es : List E
   pub leaf_partitioned_by_keys : IsPartitioned (λ x. is_below x.key) items → IsPartitioned (λ e. is_below e.key) es
   leaf_partitioned_by_keys partitioned =
       let p = λ (x : Item). is_below x.key in
-      let rest = (IsPartitioned-parts p before (map item_of es ++ after) (subst (IsPartitioned p) leaf.items_are partitioned)).1 in
+      let rest = (IsPartitioned-parts p before (map item_of es ++ after) (rw leaf.items_are at partitioned)).1 in
       entries_of_partitioned is_below es (IsPartitioned-parts p (map item_of es) after rest).0
 
 -- the last of a list, if there is one
 match_last : {X : Type 0} (P : Type 0) (Q : X → Type 0) (xs : List X) (result : Option X) → result ≡ slice_get xs (length xs - 1)
     → (xs ≡ [] → P) → ((x : X) → IsLast x xs → Q x) → MatchOption result P Q
-match_last P Q [] result is none some = subst (λ o. MatchOption o P Q) (sym is) (none refl)
+match_last P Q [] result is none some = rw is (none refl)
 match_last P Q (x ∷ xs) result is none some =
     let all = x ∷ xs in
     let i = length xs in
     let last = get_or all i x in
     let less : suc i - 1 ≡ i = omega arith in
-    let e : result ≡ Some last = is ∙ ap (slice_get all) less ∙ slice_get-get_or all i x (omega arith) in
+    let e : result ≡ Some last = is ∙ rw less (slice_get-get_or all i x (omega arith)) in
     let parts : all ≡ take i all ++ last ∷ [] =
     cc (take-append-drop i all, drop_more all i x (omega arith), drop_all (i + 1) all (omega arith)) in
-    subst (λ o. MatchOption o P Q) (sym e) (some last (take i all, parts))
+    rw e (some last (take i all, parts))
 
 -- The last entry below the bound is the last such item.
 pub last_passing : (is_below : ℕ → Bool) (items before after : List Item) (es passed : List Entry) (result : Option Entry)
-    → IsLeaf is_below items before after es → passed ≡ filter (λ e. is_below e.key) es → result ≡ slice_get passed (length passed - 1)
+    → IsLeaf is_below items before after es → passed ≡ filter (λ e. is_below e.key) es
+    → result ≡ slice_get passed (length passed - 1)
     → MatchOption result (items_below is_below items ≡ []) (λ e. IsLast (item_of e) (items_below is_below items))
 last_passing is_below items before after es passed result leaf same is =
-    let front = passing_is is_below items before after es leaf ∙ ap (λ xs. before ++ map item_of xs) (sym same) in
-    match_last (items_below is_below items ≡ []) (λ e. IsLast (item_of e) (items_below is_below items)) passed result is
-    (λ none. front ∙ ap (λ xs. before ++ map item_of xs) none ∙ ap (λ xs. xs ++ []) (leaf.none (sym same ∙ none)))
-    (λ e last. (
+    let front : items_below is_below items ≡ before ++ map item_of passed =
+    rw same (passing_is is_below items before after es leaf) in
+    match_last _ _ passed result is (λ none. (rw (front, none, leaf.none (sym same ∙ none)) refl)) (λ e last. (
       before ++ map item_of last.0,
       cc (front, last.1, map-append item_of last.0 (e ∷ []), append_assoc before (map item_of last.0) (item_of e ∷ [])),
     ))
@@ -135,16 +122,16 @@ last_passing is_below items before after es passed result leaf same is =
 pub is_leaf : {N : ℕ} (nodes : Arena (Node N)) (least height slot : ℕ) (is_below : ℕ → Bool) (leaf : ℕ) (es : List Entry)
     → IsSubtree nodes least height slot → IsPartitioned (λ x. is_below x.key) (items_in nodes height slot)
     → leaf ≡ leaf_in nodes height slot is_below → entries_at nodes leaf ≡ es
-    → items_in nodes height slot ≡ before_leaf nodes height slot is_below ++ (map item_of (entries_at nodes leaf) ++ behind_leaf nodes height slot is_below)
+    → items_in nodes height slot
+    ≡ before_leaf nodes height slot is_below ++ (map item_of (entries_at nodes leaf) ++ behind_leaf nodes height slot is_below)
     → All (λ x. is_below x.key ≡ true) (before_leaf nodes height slot is_below)
     → All (λ x. is_below x.key ≡ false) (behind_leaf nodes height slot is_below)
-    → IsLeaf is_below (items_in nodes height slot) (before_leaf nodes height slot is_below) (behind_leaf nodes height slot is_below) es
+    → IsLeaf is_below (items_in nodes height slot) (before_leaf nodes height slot is_below)
+    (behind_leaf nodes height slot is_below) es
 is_leaf nodes least height slot is_below leaf es s c way same items pass fail =
-    let before = before_leaf nodes height slot is_below in
-    let after = behind_leaf nodes height slot is_below in
     let there : entries_at nodes (leaf_in nodes height slot is_below) ≡ es = ap (entries_at nodes) (sym way) ∙ same in
     record {
-      items_are = items ∙ ap (λ xs. before ++ (map item_of xs ++ after)) same;
+      items_are = rw same at items;
       pass = pass;
       fail = fail;
       none = λ none. (none_before nodes least height slot is_below s c (ap (filter (λ e. is_below e.key)) there ∙ none)).0;

@@ -8,7 +8,6 @@ use Rattle.std.proofs.lemmas.List.Elements.{All-head}
 use Rattle.arena.specs.Arena.{Arena, IsLive}
 use Rattle.tree.specs.declared.entry.Entry.{Entry}
 use Rattle.tree.specs.declared.node.Node.{Node}
-use Rattle.tree.specs.Item.{Item, Tells}
 use Rattle.tree.specs.Subtree.{entries_at, items_in, slots_in, IsSubtree}
 use Rattle.tree.specs.Replace.{AreChildren, items_of, slots_of}
 use Rattle.tree.specs.Tree.{IsRooted, least_of}
@@ -23,66 +22,50 @@ only_one (x ∷ []) d one = refl
 only_one (x ∷ y ∷ xs) d one = absurd (omega arith)
 
 module _ {N : ℕ} where
-  -- an entry for a subtree whose node is filled
-  pub right_entry : (a : Arena (Node N)) (least height slot : ℕ) (e : Entry) → e.child ≡ slot → IsSubtree a least height slot
-      → least ≤ length (entries_at a slot) → Tells e (items_in a height slot) → IsRight a least height e
-  right_entry a least height slot e child subtree filled tells = record {
-    filled = subst (λ s. least ≤ length (entries_at a s)) (sym child) filled;
-    subtree = subst (IsSubtree a least height) (sym child) subtree;
-    tells = subst (λ s. Tells e (items_in a height s)) (sym child) tells;
-  }
-
-  -- what becomes of the items, and the root
-  pub record Rooted (b : Arena (Node N)) (height slot : ℕ) (items : List Item) : Type 0 where
-    pub items_are : items_in b height slot ≡ items
-    pub rooted : IsRooted b slot height
-
   -- a placed node leads to all that there is
   pub grown : (a b : Arena (Node N)) (height slot : ℕ) (es : List Entry) → Moves a b [] (slot ∷ []) → IsLive b slot
       → entries_at b slot ≡ es → 2 ≤ length es → AreChildren a (least_of N) height es
       → IsDistinct nat_eq (slots_of a height es) → map.len a.records ≡ length (slots_of a height es)
-      → Rooted b (suc height) slot (items_of a height es)
+      → (items_in b (suc height) slot ≡ items_of a height es) × IsRooted b slot (suc height)
   grown a b height slot es moves live here two right distinct linked =
       let zs = slots_of a height es in
       let once = once_if_distinct zs distinct in
       let alive = live_children a (least_of N) height es right in
       let agree = moves_agree a b [] (slot ∷ []) zs moves alive (λ s. omega (arith, once s)) in
       let h = holds a b (least_of N) height slot es live here (omega arith) right agree in
-      let beside = moves_beside a b [] (slot ∷ []) zs zs (slot ∷ zs) moves (λ s. omega arith) (λ s. omega arith) (omega arith) (omega arith) once alive in
-      record {
-        items_are = h.items;
-        rooted = record {
-          subtree = h.subtree;
-          branches = λ above. subst (λ l. 2 ≤ length l) (sym here) two;
-          distinct = subst (IsDistinct nat_eq) (sym h.slots) (distinct_if_once (slot ∷ zs) beside.few);
-          linked = omega (arith, beside.live, ap length h.slots);
-          keyless = beside.keyless;
-        };
-      }
+      let beside = moves_beside a b [] (slot ∷ []) zs zs (slot ∷ zs) moves (λ s. omega arith) (λ s. omega arith) (omega arith)
+      (omega arith) once alive in
+      let rooted : IsRooted b slot (suc height) = record {
+        subtree = h.subtree;
+        branches = λ above. omega (arith, two, ap length here);
+        distinct = subst (IsDistinct nat_eq) (sym h.slots) (distinct_if_once (slot ∷ zs) beside.few);
+        linked = omega (arith, beside.live, ap length h.slots);
+        keyless = beside.keyless;
+      } in
+      (h.items, rooted)
 
   -- the only child of a released root
   pub shrunk : (a b : Arena (Node N)) (height slot : ℕ) (e : Entry) → IsSubtree a (least_of N) (suc height) slot
       → entries_at a slot ≡ e ∷ [] → IsDistinct nat_eq (slots_in a (suc height) slot)
       → map.len a.records ≡ length (slots_in a (suc height) slot) → Moves a b (slot ∷ []) []
-      → Rooted b height e.child (items_in a (suc height) slot)
+      → (items_in b height e.child ≡ items_in a (suc height) slot) × IsRooted b e.child height
   shrunk a b height slot e subtree here distinct linked moves =
       let least = least_of N in
       let zs = slots_in a height e.child in
-      let slots : slots_in a (suc height) slot ≡ slot ∷ zs = ap (λ es. slot ∷ slots_of a height es) here ∙ ap (λ l. slot ∷ l) (append-nil zs) in
-      let items : items_in a (suc height) slot ≡ items_in a height e.child = ap (items_of a height) here ∙ append-nil (items_in a height e.child) in
-      let own : IsRight a least height e = All-head (IsRight a least height) e [] (subst (AreChildren a least height) here subtree.2) in
+      let slots : slots_in a (suc height) slot ≡ slot ∷ zs = simp (here, append-nil) in
+      let items : items_in a (suc height) slot ≡ items_in a height e.child = simp (here, append-nil) in
+      let own : IsRight a least height e = All-head (IsRight a least height) e [] (rw here at subtree.2) in
       let once = once_if_distinct (slot ∷ zs) (subst (IsDistinct nat_eq) slots distinct) in
       let alive = live_in a least height e.child own.subtree in
       let agree = moves_agree a b (slot ∷ []) [] zs moves alive (λ s. omega (arith, once s)) in
-      let beside = moves_beside a b (slot ∷ []) [] zs (slot ∷ zs) zs moves (λ s. omega arith) (λ s. omega arith) (omega arith) (omega arith) once alive in
+      let beside = moves_beside a b (slot ∷ []) [] zs (slot ∷ zs) zs moves (λ s. omega arith) (λ s. omega arith) (omega arith)
+      (omega arith) once alive in
       let same = slots_same a b height e.child agree in
-      record {
-        items_are = items_same a b height e.child agree ∙ sym items;
-        rooted = record {
-          subtree = subtree_same a b least height e.child agree own.subtree;
-          branches = λ above. omega (arith, own.filled, ap length (agree_own a b height e.child agree));
-          distinct = subst (IsDistinct nat_eq) (sym same) (distinct_if_once zs beside.few);
-          linked = omega (arith, beside.live, ap length same, ap length slots);
-          keyless = beside.keyless;
-        };
-      }
+      let rooted : IsRooted b e.child height = record {
+        subtree = subtree_same a b least height e.child agree own.subtree;
+        branches = λ above. omega (arith, own.filled, ap length (agree_own a b height e.child agree));
+        distinct = subst (IsDistinct nat_eq) (sym same) (distinct_if_once zs beside.few);
+        linked = omega (arith, beside.live, ap length same, ap length slots);
+        keyless = beside.keyless;
+      } in
+      (items_same a b height e.child agree ∙ sym items, rooted)

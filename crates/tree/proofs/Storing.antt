@@ -1,92 +1,97 @@
 -- A node above a changed leaf, once it is stored.
-use Rattle.std.proofs.Common.{◌≡◌, inl, inr, ℕ, suc, ◌+◌, ◌≤◌, List, [], ◌∷◌, ◌++◌, length, length-append, Option, Some, None, refl, sym, ap, ap₂, subst, ◌∙◌, arith}
-use Rattle.std.specs.Prelude.{IfSome}
+use Rattle.std.proofs.Common.{◌≡◌, inl, inr, ℕ, suc, ◌+◌, ◌≤◌, List, [], ◌∷◌, ◌++◌, length, length-append, get_or, Option, Some, None, refl, sym, ap, ap₂, subst, ◌∙◌, arith}
+use Rattle.std.specs.Prelude.{IfSome, slice_set}
+use Rattle.std.proofs.lemmas.List.{length-set}
 use Rattle.std.specs.List.{Contains}
 use Rattle.arena.specs.Arena.{Arena, IsLive, with_header}
 use Rattle.tree.specs.declared.entry.Entry.{Entry}
 use Rattle.tree.specs.declared.node.Node.{Node}
-use Rattle.tree.specs.Item.{Item}
+use Rattle.tree.specs.Heads.{KeyBytes}
+use Rattle.tree.specs.Item.{Item, Tells}
 use Rattle.tree.specs.Node.{entries_of}
-use Rattle.tree.specs.Subtree.{entries_at, slots_in, IsSubtree}
-use Rattle.tree.specs.Replace.{entries_at_both, items_with, slots_with, slot_taken, items_of, slots_of, AreChildren, IsFamilyAt, IsRebalanced, IsRebalancedAt}
+use Rattle.tree.specs.Rebalancing.{CanRebalance}
+use Rattle.tree.specs.Tree.{least_of}
+use Rattle.tree.specs.Subtree.{entries_at, items_in, slots_in, IsSubtree}
+use Rattle.tree.specs.Replace.{entries_at_both, items_with, slots_with, slot_taken, Changes, items_of, slots_of, AreChildren, IsFamilyAt, IsRebalanced, IsRebalancedAt}
 use Rattle.tree.proofs.callers.Times.{times, once_same, once_cases, once_if_distinct, times-append, times_unless_contains}
 use Rattle.tree.proofs.Frames.{Agree, IsRight, live_same}
 use Rattle.tree.proofs.Changing.{Moves, moves_beside, moves_agree, moves_trans, moves_if_changes, changes_if_moves}
 use Rattle.tree.proofs.Families.{items_of-append, times-slots_of, length-slots_of, live_children, holds}
 use Rattle.tree.proofs.Placing.{live_one, put_entries, put_live, put_moves}
+use Rattle.tree.proofs.Sharing.{set_one}
+use Rattle.tree.proofs.Rebalancing.{live_subtree, rebalanced_by_entry}
 use Rattle.tree.proofs.callers.Partitions.{All-front, All-back}
 
 module _ {N : ℕ} where
-  pub record IsStored (a w : Arena (Node N)) (least height slot : ℕ) (added : Option ℕ) (items : List Item) : Type 0 where
-    pub items_are : items_with w (suc height) slot added ≡ items
-    pub subtree : IsSubtree w least (suc height) slot
-    pub neighbour : IfSome added (λ s. IsSubtree w least (suc height) s)
-    pub moves : Moves a w (slots_in a (suc height) slot) (slots_with w (suc height) slot added)
+  -- what a node and its right neighbour, if any, are seen as afterwards
+  pub record Stored (a w : Arena (Node N)) (least height slot : ℕ) (added : Option ℕ) (items : List Item) : Type 0 where
+    pub items_are : items_with w height slot added ≡ items
+    pub subtree : IsSubtree w least height slot
+    pub neighbour : IfSome added (λ s. IsSubtree w least height s)
+    pub changes : Changes a w (slots_in a height slot) (slots_with w height slot added)
 
-  module _ (a b w : Arena (Node N)) (least height slot : ℕ) (es : List Entry) (slots_are : slots_in a (suc height) slot ≡ slot ∷ slots_of a height es)
-      (few : (s : ℕ) → times s (slots_in a (suc height) slot) ≤ 1) (live : IsLive a slot) where
-    few_of : (s : ℕ) → times s (slot ∷ slots_of a height es) ≤ 1
-    few_of s = subst (λ l. times s l ≤ 1) slots_are (few s)
-
+  module _ {a b : Arena (Node N)} (height slot : ℕ) (now : List Entry)
+      (few : (s : ℕ) → times s (slots_in a (suc height) slot) ≤ 1) (live : IsLive a slot)
+      (moves : Moves a b (slots_of a height (entries_at a slot)) (slots_of b height now)) where
     -- the node's own slot isn't touched below
-    module _ (now : List Entry) (moves : Moves a b (slots_of a height es) (slots_of b height now)) where
-      pub live_own : IsLive b slot
-      live_own = live_same a b slot (moves.others slot (omega (arith, few_of slot, once_same slot)) live) live
+    live_own : IsLive b slot
+    live_own = live_same a b slot (moves.others slot (omega (arith, few slot, once_same slot)) live) live
 
-      pub moves_own : Moves a b (slot ∷ slots_of a height es) (slot ∷ slots_of b height now)
-      moves_own = moves_beside a b (slots_of a height es) (slots_of b height now) (slot ∷ []) (slot ∷ slots_of a height es)
-          (slot ∷ slots_of b height now) moves (λ s. omega arith) (λ s. omega arith) (omega arith) (omega arith) few_of
-          (live_one a slot live)
+    pub moves_own : Moves a b (slots_in a (suc height) slot) (slot ∷ slots_of b height now)
+    moves_own = moves_beside a b _ _ (slot ∷ []) _ _ moves (λ s. omega arith) (λ s. omega arith) (omega arith) (omega arith) few
+        (live_one a slot live)
 
-      pub stored : (right : AreChildren b least height now) (added : Option ℕ) → now ≡ entries_at_both w slot added
-          → 1 ≤ length (entries_at w slot) → IfSome added (λ s. 1 ≤ length (entries_at w s)) → IsLive w slot
-          → IfSome added (λ s. IsLive w s) → Moves b w (slot ∷ []) (slot ∷ slot_taken added)
-          → IsStored a w least height slot added (items_of b height now)
-      stored right None now_is some some_other live_here live_added changes =
-          let agree : Agree b w (slots_of b height now) = moves_agree b w (slot ∷ []) (slot ∷ []) (slots_of b height now) changes
-          (live_children b least height now right) (λ s. omega (arith, moves_own.few s)) in
-          let h = holds b w least height slot now live_here (sym now_is) (subst (λ l. 1 ≤ length l) (sym now_is) some)
-          right agree in
-          record {
-            items_are = h.items;
-            subtree = h.subtree;
-            neighbour = tt;
-            moves = rw slots_are (subst (Moves a w (slot ∷ slots_of a height es)) (sym h.slots)
-                (moves_trans a b w (slot ∷ slots_of a height es) (slot ∷ slots_of b height now) (slot ∷ slots_of b height now) moves_own
-                (moves_beside b w (slot ∷ []) (slot ∷ []) (slots_of b height now) (slot ∷ slots_of b height now) (slot ∷ slots_of b height now)
-                changes (λ s. omega arith) (λ s. omega arith) (omega arith) (omega arith) moves_own.few
-                (live_children b least height now right))));
-          }
-      stored right (Some s) now_is some some_other live_here live_added changes =
-          let us = entries_at w slot in
-          let vs = entries_at w s in
-          let xs = slots_of b height us in
-          let ys = slots_of b height vs in
-          let both : AreChildren b least height (us ++ vs) = subst (AreChildren b least height) now_is right in
-          let agree : Agree b w (slots_of b height now) = moves_agree b w (slot ∷ []) (slot ∷ s ∷ []) (slots_of b height now) changes
-          (live_children b least height now right) (λ q. omega (arith, moves_own.few q)) in
-          let count : (q : ℕ) → times q (slots_of b height now) ≡ times q xs + times q ys =
-          λ (q : ℕ). ap (λ l. times q (slots_of b height l)) now_is ∙ times-slots_of b height q us vs in
-          let len : length (slots_of b height now) ≡ length xs + length ys =
-          ap (λ l. length (slots_of b height l)) now_is ∙ length-slots_of b height us vs in
-          let h = holds b w least height slot us live_here refl some (All-front (IsRight b least height) us vs both)
-          (λ q some. agree q (omega (arith, count q))) in
-          let k = holds b w least height s vs live_added refl some_other (All-back (IsRight b least height) us vs both)
-          (λ q some. agree q (omega (arith, count q))) in
-          record {
-            items_are = ap₂ (λ l m. l ++ m) h.items k.items ∙ sym (items_of-append b height us vs) ∙ ap (items_of b height) (sym now_is);
-            subtree = h.subtree;
-            neighbour = k.subtree;
-            moves = rw slots_are (subst (Moves a w (slot ∷ slots_of a height es)) (sym (ap₂ (λ l m. l ++ m) h.slots k.slots))
-                (moves_trans a b w (slot ∷ slots_of a height es) (slot ∷ slots_of b height now) (slot ∷ xs ++ (s ∷ ys)) moves_own
-                (moves_beside b w (slot ∷ []) (slot ∷ s ∷ []) (slots_of b height now) (slot ∷ slots_of b height now) (slot ∷ xs ++ (s ∷ ys))
-                changes (λ q. omega arith) (λ q. omega (arith, count q, times-append q xs (s ∷ ys))) (omega arith)
-                (omega (arith, len, length-append xs (s ∷ ys))) moves_own.few
-                (live_children b least height now right))));
-          }
+    -- the node is stored, and so is its right neighbour, if any
+    module _ {w : Arena (Node N)} {least : ℕ} (right : AreChildren b least height now) {taken : List ℕ}
+        (changes : Moves b w (slot ∷ []) (slot ∷ taken)) where
+      below_kept : Agree b w (slots_of b height now)
+      below_kept =
+          moves_agree b w _ _ _ changes (live_children b least height now right) (λ s. omega (arith, moves_own.few s))
+
+      moves_all : (all : List ℕ) → ((s : ℕ) → times s all ≡ times s (slot ∷ taken) + times s (slots_of b height now))
+          → length all ≡ length (slot ∷ taken) + length (slots_of b height now) → Moves a w (slots_in a (suc height) slot) all
+      moves_all all count len =
+          moves_trans a b w _ _ _ moves_own (moves_beside b w _ _ (slots_of b height now) _ _ changes (λ s. omega arith) count
+          (omega arith) len moves_own.few (live_children b least height now right))
+
+  pub stored : {a b w : Arena (Node N)} (least height slot : ℕ) → ((s : ℕ) → times s (slots_in a (suc height) slot) ≤ 1)
+      → IsLive a slot → (added : Option ℕ)
+      → Moves a b (slots_of a height (entries_at a slot)) (slots_of b height (entries_at_both w slot added))
+      → AreChildren b least height (entries_at_both w slot added) → 1 ≤ length (entries_at_both w slot added)
+      → IfSome added (λ s. (1 ≤ length (entries_at w slot)) × (1 ≤ length (entries_at w s)))
+      → IsLive w slot → IfSome added (λ s. IsLive w s) → Moves b w (slot ∷ []) (slot ∷ slot_taken added)
+      → Stored a w least (suc height) slot added (items_of b height (entries_at_both w slot added))
+  stored {a} {b} {w} least height slot few live None moves right some both live_here live_added changes =
+      let h = holds b w least height slot _ live_here refl some right (below_kept height slot _ few live moves right changes) in
+      record {
+        items_are = h.items;
+        subtree = h.subtree;
+        neighbour = tt;
+        changes = changes_if_moves a w _ _ (subst (Moves a w _) (sym h.slots)
+            (moves_all height slot _ few live moves right changes _ (λ s. omega arith) (omega arith)));
+      }
+  stored {a} {b} {w} least height slot few live (Some s) moves right some both live_here live_added changes =
+      let us = entries_at w slot in
+      let vs = entries_at w s in
+      let xs = slots_of b height us in
+      let ys = slots_of b height vs in
+      let agree = below_kept height slot _ few live moves right changes in
+      let count = λ (q : ℕ). times-slots_of b height q us vs in
+      let h = holds b w least height slot us live_here refl both.0 (All-front (IsRight b least height) us vs right)
+      (λ q some. agree q (omega (arith, count q))) in
+      let k = holds b w least height s vs live_added refl both.1 (All-back (IsRight b least height) us vs right)
+      (λ q some. agree q (omega (arith, count q))) in
+      record {
+        items_are = cc (h.items, k.items, items_of-append b height us vs);
+        subtree = h.subtree;
+        neighbour = k.subtree;
+        changes = changes_if_moves a w _ _ (subst (Moves a w _) (sym (ap₂ (λ l m. l ++ m) h.slots k.slots))
+            (moves_all height slot _ few live moves right changes _ (λ q. omega (arith, count q, times-append q xs (s ∷ ys)))
+            (omega (arith, length-slots_of b height us vs, length-append xs (s ∷ ys)))));
+      }
 
   -- the slots below a node and its own stand there once
-  pub family_apart : (a : Arena (Node N)) (least height slot index : ℕ) → IsFamilyAt a least height slot index
+  family_apart : (a : Arena (Node N)) (least height slot index : ℕ) → IsFamilyAt a least height slot index
       → (s : ℕ) → times s (slots_in a (suc height) slot) ≤ 1
   family_apart a least height slot index at s =
       let zs = slots_of a height (entries_at a slot) in
@@ -97,21 +102,37 @@ module _ {N : ℕ} where
       ]
 
   -- a family's entries are made right, and the node with them put in its place
-  pub rebalanced_at : (a b w : Arena (Node N)) (least height slot index : ℕ) (node : Node N) (now : List Entry)
-      → IsLive a slot → IsFamilyAt a least height slot index → IsRebalanced a b least height (entries_at a slot) now
-      → 1 ≤ length now → entries_of node ≡ now → w ≡ with_header b slot node → IsRebalancedAt a w least height slot
-  rebalanced_at a b w least height slot index node now live at rebalanced some same put =
-      let es = entries_at a slot in
+  pub rebalanced_at : {a b w : Arena (Node N)} {least height slot index : ℕ} (node : Node N) → IsLive a slot
+      → IsFamilyAt a least height slot index → IsRebalanced a b least height (entries_at a slot) (entries_of node)
+      → 1 ≤ length (entries_of node) → w ≡ with_header b slot node → IsRebalancedAt a w least height slot
+  rebalanced_at {a} {b} {w} {least} {height} {slot} {index} node live at rebalanced some put =
       let few = family_apart a least height slot index at in
-      let moves = moves_if_changes a b (slots_of a height es) (slots_of b height now) rebalanced.changes in
-      let alive : IsLive b slot = live_own a b w least height slot es refl few live now moves in
-      let here : entries_at w slot ≡ now = put_entries b w slot node put ∙ same in
+      let here : entries_at w slot ≡ entries_of node = put_entries b w slot node put in
+      let then = rw (← here) at rebalanced in
+      let moves = moves_if_changes a b _ _ then.changes in
       let s =
-      stored a b w least height slot es refl few live now moves rebalanced.children None (sym here)
-      (subst (λ l. 1 ≤ length l) (sym here) some) tt (put_live b w slot node put) tt
-      (put_moves b w slot node put alive moves.keyless) in
+      stored least height slot few live None moves then.children (rw here some) tt (put_live b w slot node put) tt
+      (put_moves b w slot node put (live_own height slot _ few live moves) moves.keyless) in
       record {
         subtree = s.subtree;
-        items = s.items_are ∙ rebalanced.items;
-        changes = changes_if_moves a w (slots_in a (suc height) slot) (slots_in w (suc height) slot) s.moves;
+        items = s.items_are ∙ then.items;
+        changes = s.changes;
       }
+
+  -- The child at the index of a node that can be rebalanced is live.
+  pub child_live : {bytes : KeyBytes} {a : Arena (Node N)} {slot i x : ℕ} (d : Entry) → CanRebalance bytes a slot i
+      → x ≡ (get_or (entries_at a slot) i d).child → IsLive a x
+  child_live {bytes} {a} {slot} {i} {x} d can x_is =
+      live_subtree a (least_of N) can.family.0 x (rw x_is (can.family.1.family.below i d can.within))
+
+  -- The entry at the index is made right where it lies.
+  pub entry_put : {bytes : KeyBytes} {a : Arena (Node N)} {height slot i x : ℕ} (d t : Entry) (node : Node N)
+      → CanRebalance bytes a slot i → IsFamilyAt a (least_of N) height slot i → x ≡ (get_or (entries_at a slot) i d).child
+      → t.child ≡ x → (IsSubtree a (least_of N) height x → Tells t (items_in a height x))
+      → least_of N ≤ length (entries_at a x) → entries_of node ≡ slice_set (entries_at a slot) i t
+      → IsRebalancedAt a (with_header a slot node) (least_of N) height slot
+  entry_put {bytes} {a} {height} {slot} {i} {x} d t node can family x_is child tells filled now_is =
+      let es = entries_at a slot in
+      rebalanced_at node can.live family (rebalanced_by_entry a (least_of N) height es (entries_of node) i x d t can.within x_is
+      family.family can.keyless child tells filled (now_is ∙ set_one es i t can.within))
+      (omega (arith, ap length now_is, length-set es i t, can.within)) refl

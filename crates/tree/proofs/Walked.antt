@@ -1,24 +1,29 @@
 -- A subtree once a leaf of one of its children was changed, and its node was rebalanced.
-use Rattle.std.proofs.Common.{◌≡◌, inl, ℕ, ◌+◌, ◌≤◌, Bool, true, false, List, [], ◌∷◌, ◌++◌, Option, Some, None, IfSome, length, take, drop, refl, sym, ap, subst, ◌∙◌, arith, append-nil}
-use Rattle.std.specs.Prelude.{ℤ}
-use Rattle.std.proofs.lemmas.List.Elements.{All-nil}
-use Rattle.arena.specs.Arena.{Arena, IsLive, spare_of}
+use Rattle.std.proofs.Common.{◌≡◌, inl, ℕ, suc, ◌+◌, ◌*◌, ◌≤◌, Bool, true, false, List, [], ◌∷◌, ◌++◌, Option, Some, None, length, length-append, take, drop, refl, sym, ap, subst, ◌∙◌, arith, append-nil}
+use Rattle.std.specs.Prelude.{ℤ, IfSome}
+use Rattle.std.proofs.lemmas.List.{length-take-le, length-drop}
+use Rattle.std.proofs.lemmas.List.Elements.{All-append, All-cons, All-nil}
+use Rattle.arena.specs.Arena.{Arena}
 use Rattle.tree.specs.declared.entry.Entry.{Entry}
 use Rattle.tree.specs.declared.node.Node.{Node}
 use Rattle.tree.specs.declared.walk.Outcome.{Outcome}
-use Rattle.tree.specs.declared.walk.Outcome.TheVariants.{Raised, Changed, Split}
-use Rattle.tree.specs.Heads.{KeyBytes, AllAreHeads}
+use Rattle.tree.specs.declared.walk.Outcome.TheVariants.{Same, Raised, Split}
+use Rattle.tree.specs.Heads.{KeyBytes}
 use Rattle.tree.specs.Item.{Item}
-use Rattle.tree.specs.Node.{all_heads_of}
-use Rattle.tree.specs.Replace.{child_at, entries_at_both, slot_taken, Changes, IsFamilyAt, IsLinked, IsRebalancedAt}
+use Rattle.tree.specs.Replace.{child_at, entries_at_both, items_of, slots_of, slots_with, Changes, IsFamily, IsFamilyAt, IsLinked, IsRebalancedAt, TellsWritten}
 use Rattle.tree.specs.Splice.{AreHalfFull}
 use Rattle.tree.specs.Subtree.{entries_at, items_in, slots_in, IsSubtree}
 use Rattle.tree.specs.Tree.{least_of}
-use Rattle.tree.specs.Walk.{CanChange, IsChanged, IsChangedWithin, IsRaised}
-use Rattle.tree.proofs.Changing.{Moves, moves_if_changes}
-use Rattle.tree.specs.Rebalancing.{CanInsertChild, CanRebalance}
-use Rattle.tree.proofs.Stepping.{IsAt, IsStepped, live_beside, read_beside, family_at, stepped_linked, stepped_rebalanced, one_less}
-use Rattle.tree.proofs.Walking.{raised_above}
+use Rattle.tree.specs.Walk.{added_by, IsChanged, IsChangedWithin}
+use Rattle.tree.specs.Rebalancing.{CanInsertChild, CanRebalance, IsStored, LosesOneAtMost}
+use Rattle.tree.proofs.callers.Times.{distinct_if_once, once_same, times_if_contains}
+use Rattle.tree.proofs.Changing.{Moves, changes_if_moves, moves_if_changes, moves_trans}
+use Rattle.tree.proofs.Families.{Loose}
+use Rattle.tree.proofs.Frames.{IsRight, below_of}
+use Rattle.tree.proofs.Replacing.{both_right, loose_at}
+use Rattle.tree.proofs.Stepping.{IsAt, around, here, live_beside, one_slots, read_beside, split, x_at}
+use Rattle.tree.proofs.Storing.{Stored, moves_own, stored}
+use Rattle.tree.proofs.Walking.{raised_above, raised_at}
 
 -- The items of a leaf that was changed.
 pub within_leaf : (is_below : ℕ → Bool) (Gives : Bool → Option ℕ → List Item → List Item → Type 0) (is_first : Bool)
@@ -39,136 +44,164 @@ within_leaf is_below Gives is_first key was now gives = record {
   gives = gives;
 }
 
--- what a node gives of the outcome where its child was split: the slot of its own right neighbour, if it has one
-abbrev pub outcome_of : Option ℕ → Outcome
-outcome_of None = Changed
-outcome_of (Some slot) = Split slot
+-- Both parts of a node that was split have this many entries.
+both_filled : {N : ℕ} (n : ℕ) (w : Arena (Node N)) (slot : ℕ) (added : Option ℕ) → 2 * n ≤ N
+    → IfSome added (λ s. AreHalfFull N (entries_at w slot) (entries_at w s))
+    → IfSome added (λ s. (n ≤ length (entries_at w slot)) × (n ≤ length (entries_at w s)))
+both_filled n w slot None few half = tt
+both_filled n w slot (Some s) few half = (omega (arith, half.left), omega (arith, half.right))
 
-module _ {N : ℕ} {a : Arena (Node N)} {height lower slot : ℕ} {is_below : ℕ → Bool} {es : List Entry}
-    {i x : ℕ} (at : IsAt a (least_of N) height lower slot is_below es i x) (can : CanChange a height slot) where
-  -- The child was changed.
-  module _ {b : Arena (Node N)} (below : IsSubtree b (least_of N) lower x)
-      (changes : Changes a b (slots_in a lower x) (slots_in b lower x)) where
+module _ {N : ℕ} {a : Arena (Node N)} {height lower slot : ℕ} {is_below : ℕ → Bool} {i x : ℕ}
+    (at : IsAt a height lower slot is_below i x) where
+  abbrev es : List Entry
+  es = entries_at a slot
+
+  -- The child was changed, and wasn't split.
+  module _ {bytes : KeyBytes} {b : Arena (Node N)} {outcome : Outcome} (put : IsChanged bytes a b lower x outcome)
+      (whole : added_by outcome ≡ None) where
     moves : Moves a b (slots_in a lower x) (slots_in b lower x)
-    moves = moves_if_changes a b (slots_in a lower x) (slots_in b lower x) changes
+    moves = moves_if_changes a b _ _ (subst (λ o. Changes a b (slots_in a lower x) (slots_with b lower x o)) whole put.changes)
 
-    -- The node can be rebalanced.
-    pub can_rebalance : {bytes : KeyBytes} → AllAreHeads bytes (all_heads_of b) → CanRebalance bytes b slot i
-    can_rebalance headed = record {
-      fan_out = can.fan_out;
-      live = live_beside at moves;
-      within = rw (read_beside at moves) at.within;
-      several = omega (arith, can.branches (omega (arith, at.next)), ap length (read_beside at moves), ap length at.read);
-      keyless = changes.keyless;
-      family = (lower, family_at at b b below moves);
-      headed = headed;
-    }
+    loosened : Loose a b (least_of N) lower (take i es) (here at ∷ []) (drop (i + 1) es) (here at ∷ [])
+    loosened = loose_at at (here at ∷ []) (rw (one_slots at b) at moves)
+
+    own : Moves a b (slots_in a (suc lower) slot) (slot ∷ slots_of b lower es)
+    own = moves_own lower slot es at.few at.subtree.0 (rw (split at) loosened.moves)
 
     pub family : IsFamilyAt b (least_of N) lower slot i
-    family = family_at at b b below moves
+    family =
+        let Below = λ (e : Entry). IsSubtree b (least_of N) lower e.child in
+        let all = All-append Below (take i es) (here at ∷ [] ++ drop (i + 1) es) (below_of b _ lower _ loosened.front)
+        (All-cons Below (here at) (drop (i + 1) es) (rw at.x_is at put.subtree) (below_of b _ lower _ loosened.back)) in
+        let loose : IsFamily b (least_of N) lower es i (i + 1) = record {
+          distinct = distinct_if_once (slots_of b lower es) (λ s. omega (arith, own.few s));
+          below = rw (split at) all;
+          before = loosened.front;
+          behind = loosened.back;
+        } in
+        record {
+          family = rw (read_beside at moves) loose;
+          apart = rw (read_beside at moves) (λ has. let below = times_if_contains slot (slots_of b lower es) has in
+              absurd (omega (arith, own.few slot, once_same slot)));
+        }
+
+    -- The node can be rebalanced.
+    pub can_rebalance : CanRebalance bytes b slot i
+    can_rebalance = record {
+      fan_out = at.can.fan_out;
+      live = live_beside at moves;
+      within = rw (read_beside at moves) at.within;
+      several = omega (arith, at.can.branches (omega (arith, at.next)), ap length (read_beside at moves));
+      keyless = put.changes.keyless;
+      family = (lower, family);
+      headed = put.headed;
+    }
+
+    -- The child's entry would be right with the version of what came in.
+    pub tells_written : (version : ℤ) → outcome ≡ Raised version → TellsWritten b lower slot i version
+    tells_written version is = raised_at at b version (read_beside at moves) (put.raised version is)
 
     -- The node was rebalanced.
     module _ {w : Arena (Node N)} (rebalanced : IsRebalancedAt b w (least_of N) lower slot) where
-      pub step_rebalanced : IsStepped a w (least_of N) height lower slot es i (items_in b lower x) None
-      step_rebalanced = stepped_rebalanced at b w below moves rebalanced
+      pub step_rebalanced : Stored a w (least_of N) height slot None (around at (items_in b lower x))
+      step_rebalanced = rw (← at.next) record {
+        items_are = rebalanced.items ∙ ap (items_of b lower) (read_beside at moves ∙ split at)
+            ∙ (simp (sym at.x_is, append-nil) at loosened.items);
+        subtree = rebalanced.subtree;
+        neighbour = tt;
+        changes = changes_if_moves a w _ _ (moves_trans a b w _ (slots_in b (suc lower) slot) _ (rw (read_beside at moves) own)
+            (moves_if_changes b w _ _ rebalanced.changes));
+      }
 
-      module _ {bytes : KeyBytes} (headed : AllAreHeads bytes (all_heads_of w))
-          (taken : spare_of a 0 ≤ spare_of b 0 + (lower + 1))
-          (less : length (entries_at b slot) ≤ length (entries_at w slot) + 1) (spare : spare_of b 0 ≤ spare_of w 0) where
-        pub changed_above : IsChanged bytes a w height slot Changed
-        changed_above = record {
-          same = λ is. absurd (cc);
-          raised = λ version is. absurd (cc);
-          subtree = step_rebalanced.subtree;
-          neighbour = tt;
-          filled = tt;
-          few_less = λ above none. omega (arith, less, ap length (read_beside at moves), ap length at.read);
-          changes = step_rebalanced.changes;
-          taken = omega (arith, taken, spare, at.next);
-          headed = headed;
-        }
-
-        pub raised_too : (version : ℤ) → IsChanged bytes a b lower x (Raised version)
-            → IsChanged bytes a w height slot (Raised version)
-        raised_too version was = record {
-          same = λ is. absurd (cc);
-          raised = λ other is. (
-              let same : version ≡ other = cc in
-              subst (λ v. IsRaised v (items_in a height slot) (items_in w height slot)) same
-              (raised_above at version (items_in b lower x) (items_in w height slot) step_rebalanced.items
-              (was.raised version refl))
-              );
-          subtree = step_rebalanced.subtree;
-          neighbour = tt;
-          filled = tt;
-          few_less = changed_above.few_less;
-          changes = step_rebalanced.changes;
-          taken = changed_above.taken;
-          headed = headed;
-        }
+      pub changed_above : (outcome ≡ Same → ⊥) → LosesOneAtMost bytes b w (entries_at b slot) (entries_at w slot)
+          → IsChanged bytes a w height slot outcome
+      changed_above other rest = record {
+        same = λ is. absurd (other is);
+        raised = λ version is. raised_above at version _ _ step_rebalanced.items_are (put.raised version is);
+        subtree = step_rebalanced.subtree;
+        neighbour = rw whole tt;
+        filled = rw whole tt;
+        few_less = λ above none. omega (arith, rest.few_less, ap length (read_beside at moves));
+        changes = subst (λ o. Changes a w (slots_in a height slot) (slots_with w height slot o)) (sym whole)
+            step_rebalanced.changes;
+        taken = omega (arith, put.taken, rest.spare, at.next);
+        headed = rest.headed;
+      }
 
   -- The child was split.
-  module _ {bytes : KeyBytes} {b : Arena (Node N)} {s : ℕ} (below : IsChanged bytes a b lower x (Split s)) where
+  module _ {bytes : KeyBytes} {b : Arena (Node N)} {s : ℕ} (put : IsChanged bytes a b lower x (Split s)) where
     both_moves : Moves a b (slots_in a lower x) (slots_in b lower x ++ slots_in b lower s)
-    both_moves = moves_if_changes a b (slots_in a lower x) (slots_in b lower x ++ slots_in b lower s) below.changes
+    both_moves = moves_if_changes a b _ _ put.changes
 
     -- The node can have one child more.
     pub can_insert : CanInsertChild bytes b slot i s
     can_insert =
         let read = read_beside at both_moves in
-        let child : x ≡ child_at (entries_at b slot) i = at.x_at ∙ ap (λ l. child_at l i) (sym read) in
-        let some = subst (λ z. least_of N ≤ length (entries_at b z)) child below.filled.0 in
+        let child : x ≡ child_at (entries_at b slot) i = rw read (x_at at) in
         record {
-          fan_out = can.fan_out;
+          fan_out = at.can.fan_out;
           live = live_beside at both_moves;
           within = rw read at.within;
-          some = omega (arith, some, can.fan_out);
-          some_added = omega (arith, below.filled.1, can.fan_out);
-          keyless = below.changes.keyless;
-          room = omega (arith, below.taken, can.room, at.next);
-          headed = below.headed;
+          some = omega (arith, rw child at put.filled.0, at.can.fan_out);
+          some_added = omega (arith, put.filled.1, at.can.fan_out);
+          keyless = put.changes.keyless;
+          room = omega (arith, put.taken, at.can.room, at.next);
+          headed = put.headed;
         }
 
     -- The node was linked to both parts.
-    module _ {w : Arena (Node N)} (added : Option ℕ)
+    module _ {w : Arena (Node N)} (outcome : Outcome)
         (linked : IsLinked b (child_at (entries_at b slot) i) s (take i (entries_at b slot))
-        (drop (i + 1) (entries_at b slot)) (entries_at_both w slot added))
-        (half : IfSome added (λ s. AreHalfFull N (entries_at w slot) (entries_at w s))) (live : IsLive w slot)
-        (live_added : IfSome added (λ s. IsLive w s)) (changes : Changes b w (slot ∷ []) (slot ∷ slot_taken added)) where
-      pub step_linked : IsStepped a w (least_of N) height lower slot es i (items_in b lower x ++ items_in b lower s) added
-      step_linked =
-          stepped_linked at b w below.subtree s added both_moves can.fan_out linked below.neighbour below.filled.0
-          below.filled.1 half live live_added changes
+        (drop (i + 1) (entries_at b slot)) (entries_at_both w slot (added_by outcome)))
+        (stored_at : IsStored bytes b w slot (added_by outcome)) where
+      linked_here : IsLinked b x s (take i es) (drop (i + 1) es) (entries_at_both w slot (added_by outcome))
+      linked_here = rw (x_at at) (rw (read_beside at both_moves) at linked)
 
-      pub linked_above : AllAreHeads bytes (all_heads_of w) → spare_of b 0 ≤ spare_of w 0 + 1
-          → IsChanged bytes a w height slot (outcome_of added)
-      linked_above headed spare = by_added added refl
-        where
-          by_added : (o : Option ℕ) → added ≡ o → IsChanged bytes a w height slot (outcome_of o)
-          by_added None none =
-              let step = rw none at step_linked in
-              record {
-                same = λ is. absurd (cc);
-                raised = λ version is. absurd (cc);
-                subtree = step.subtree;
-                neighbour = tt;
-                filled = tt;
-                few_less = λ above _. one_less at b w below.subtree s added both_moves can.fan_out linked none;
-                changes = step.changes;
-                taken = omega (arith, below.taken, spare, at.next);
-                headed = headed;
-              }
-          by_added (Some t) some =
-              let step = rw some at step_linked in
-              let both = subst (λ o. IfSome o (λ s. AreHalfFull N (entries_at w slot) (entries_at w s))) some half in
-              record {
-                same = λ is. absurd (cc);
-                raised = λ version is. absurd (cc);
-                subtree = step.subtree;
-                neighbour = step.neighbour;
-                filled = (omega (arith, both.left, can.fan_out), omega (arith, both.right, can.fan_out));
-                few_less = λ above none. absurd (cc);
-                changes = step.changes;
-                taken = omega (arith, below.taken, spare, at.next);
-                headed = headed;
-              }
+      pub step_linked : Stored a w (least_of N) height slot (added_by outcome)
+          (around at (items_in b lower x ++ items_in b lower s))
+      step_linked =
+          let t = linked_here.first in
+          let u = linked_here.second in
+          let first = linked_here.first_child in
+          let second = linked_here.second_child in
+          let slots : slots_in b lower x ++ slots_in b lower s ≡ slots_of b lower (t ∷ u ∷ []) =
+          simp (first, second, append-nil) in
+          let l = loose_at at (t ∷ u ∷ []) (rw slots at both_moves) in
+          let right = both_right b (least_of N) lower x s t u first second put.subtree put.neighbour put.filled
+          linked_here.first_tells linked_here.second_tells in
+          let Right = IsRight b (least_of N) lower in
+          let all = All-append Right (take i es) (t ∷ u ∷ drop (i + 1) es) l.front
+          (All-append Right (t ∷ u ∷ []) (drop (i + 1) es) right l.back) in
+          let some : 1 ≤ length (entries_at_both w slot (added_by outcome)) =
+          omega (arith, ap length linked_here.entries, length-append (take i es) (t ∷ u ∷ drop (i + 1) es)) in
+          let k = stored (least_of N) lower slot at.few at.subtree.0 (added_by outcome)
+          (rw (split at, linked_here.entries) l.moves) (rw linked_here.entries all) some
+          (both_filled 1 w slot _ (omega (arith, at.can.fan_out)) stored_at.filled) stored_at.live stored_at.live_added
+          (moves_if_changes b w _ _ stored_at.changes) in
+          let items : items_of b lower (entries_at_both w slot (added_by outcome)) ≡ around at _ =
+          ap (items_of b lower) linked_here.entries ∙ (simp (first, second, append-nil) at l.items) in
+          rw (← at.next, ← items) k
+
+      pub linked_above : (outcome ≡ Same → ⊥) → ((version : ℤ) → outcome ≡ Raised version → ⊥)
+          → IsChanged bytes a w height slot outcome
+      linked_above other kept = record {
+        same = λ is. absurd (other is);
+        raised = λ version is. absurd (kept version is);
+        subtree = step_linked.subtree;
+        neighbour = step_linked.neighbour;
+        filled = both_filled (least_of N) w slot _ (omega (arith, at.can.fan_out)) stored_at.filled;
+        few_less = λ above none. (
+            let is : entries_at w slot ≡ take i es ++ (linked_here.first ∷ linked_here.second ∷ drop (i + 1) es) =
+            ap (entries_at_both w slot) (sym none) ∙ linked_here.entries in
+            omega (
+              arith,
+              ap length is,
+              length-append (take i es) (linked_here.first ∷ linked_here.second ∷ drop (i + 1) es),
+              length-take-le i es (omega (arith, at.within)),
+              length-drop (i + 1) es,
+            )
+            );
+        changes = step_linked.changes;
+        taken = omega (arith, put.taken, stored_at.taken, at.next);
+        headed = stored_at.headed;
+      }

@@ -1,9 +1,9 @@
 -- A change of one leaf, as the subtree above the leaf sees it.
-use Rattle.std.proofs.Common.{◌≡◌, ◌⊎◌, ◌↔◌, inl, inr, ℕ, zero, suc, ◌+◌, ◌<◌, Bool, true, false, List, [], ◌∷◌, ◌++◌, Option, Some, None, IsTrue, length, get_or, slice_get, map, take, drop, filter, All, Any, refl, sym, ◌∙◌, ap, ap₂, subst, arith, append_assoc}
+use Rattle.std.proofs.Common.{◌≡◌, ◌⊎◌, ◌↔◌, inl, inr, ℕ, zero, suc, ◌+◌, ◌<◌, Bool, true, false, List, [], ◌∷◌, ◌++◌, Option, Some, None, IsTrue, length, get_or, map, take, drop, filter, All, Any, refl, sym, ◌∙◌, ap, ap₂, subst, arith, append_assoc}
 use Rattle.std.specs.Prelude.{ℤ, ◌≤ℤ◌}
 use Rattle.std.proofs.lemmas.Bool.{cases_Bool}
 use Rattle.std.proofs.lemmas.Int.{ints}
-use Rattle.std.proofs.lemmas.List.Elements.{All-head, All-append, All-drop, All-weaker}
+use Rattle.std.proofs.lemmas.List.Elements.{All-head, All-append, All-drop}
 use Rattle.std.proofs.lemmas.List.{get_or_default}
 use Rattle.std.proofs.lemmas.Option.{get_or_from_slice_get}
 use Rattle.arena.specs.Arena.{Arena}
@@ -11,31 +11,22 @@ use Rattle.keys.proofs.callers.SomeElement.{Any-first, Any-left, Any-none, Any-p
 use Rattle.tree.specs.declared.entry.Entry.{Entry}
 use Rattle.tree.specs.declared.node.Node.{Node}
 use Rattle.tree.specs.Item.{Item, Tells, item_of}
-use Rattle.tree.specs.Path.{IsPartitioned, index_in, first_key}
-use Rattle.tree.specs.Replace.{items_of, AreChildren, TellsWritten}
+use Rattle.tree.specs.Path.{IsPartitioned, first_key}
+use Rattle.tree.specs.Replace.{child_at, items_of, AreChildren, TellsWritten}
 use Rattle.tree.specs.Subtree.{entries_at, items_in}
+use Rattle.tree.specs.Tree.{least_of}
 use Rattle.tree.specs.Walk.{IsChangedWithin, IsFoundAmong, IsRaised}
 use Rattle.tree.proofs.callers.Partitions.{not_both}
 use Rattle.tree.proofs.callers.Times.{none_or_some}
 use Rattle.tree.proofs.Frames.{IsRight}
 use Rattle.tree.proofs.Keys.{first_key-append, first_key-children}
 use Rattle.tree.proofs.Leaves.{index_passes}
-use Rattle.tree.proofs.Stepping.{IsAt, items_split}
+use Rattle.tree.proofs.Stepping.{IsAt, child_right, items_split, x_at}
 use Rattle.tree.proofs.Ways.{way}
 
-no_front : {X : Type 0} (xs ys : List X) → xs ++ ys ≡ [] → xs ≡ []
-no_front [] ys e = refl
-no_front (x ∷ xs) ys e = absurd (cc)
-
-no_back : {X : Type 0} (xs ys : List X) → xs ++ ys ≡ [] → ys ≡ []
-no_back [] ys e = e
-no_back (x ∷ xs) ys e = absurd (cc)
-
--- None that passes stands among those that fail.
-none_among : (is_below : ℕ → Bool) (xs : List Item) → All (λ x. is_below x.key ≡ false) xs
-    → Any (λ x. is_below x.key ≡ true) xs → ⊥
-none_among is_below xs fail any =
-    not_both (is_below any.1.key) any.4 (subst (λ (x : Item). is_below x.key ≡ false) any.3 (fail any.0 any.1 any.2))
+both_empty : {X : Type 0} (xs ys : List X) → xs ++ ys ≡ [] → (xs ≡ []) × (ys ≡ [])
+both_empty [] ys e = (refl, e)
+both_empty (x ∷ xs) ys e = absurd (cc)
 
 -- Each version of items is that of one of them.
 each_there : (xs : List Item) → All (λ x. Any (λ w. x.version ≡ w.version) xs) xs
@@ -56,70 +47,113 @@ first_if below is_first i both one = (
   both,
   λ h. elim (cases_Bool below) [
     | inl t ↦ t
-    | inr f ↦ elim (one f) [
-      | inl some ↦ absurd (some.1 h.1)
-      | inr behind ↦ absurd (not_both is_first h.0 behind)
-    ]
+    | inr f ↦ absurd (elim (one f) [ inl some ↦ some.1 h.1 | inr behind ↦ not_both is_first h.0 behind ])
   ],
 )
 
--- A part of items in which a search goes on: those before it pass, and those behind it don't.
-pub record IsAround (is_below : ℕ → Bool) (front part back : List Item) : Type 0 where
-  pub pass : All (λ x. is_below x.key ≡ true) front
-  pub fail : All (λ x. is_below x.key ≡ false) back
-  pub found : IsFoundAmong is_below front part
+-- The entry that told the items tells what they are now, once it has the version of what came in, unless it has a greater one.
+tells_raised : (e : Entry) (version : ℤ) (was now : List Item) → Tells e was → IsRaised version was now
+    → e.version ≤ℤ version → Tells (record e { version = version }) now
+tells_raised e version was [] tells raised le = absurd (Any-none (λ (x : Item). x.version ≡ version) raised.there)
+tells_raised e version was (x ∷ xs) tells raised le =
+    let same : Some x.key ≡ Some tells.first.key = raised.first ∙ ap (first_key None) tells.items_are in
+    let key : tells.first.key ≡ x.key = cc in
+    record {
+      first = x;
+      others = xs;
+      items_are = refl;
+      key = tells.key ∙ key;
+      greatest = record {
+        bound = λ k d within. elim (raised.others k d within) [
+          | inl same ↦ omega (arith, ints, same)
+          | inr there ↦
+              let least = rw there.3 at (tells.greatest.bound there.0 there.1 there.2) in
+              omega (arith, ints, there.4, least, le)
+        ];
+        reached = raised.there;
+      };
+    }
 
-module _ (front part back now : List Item) where
-  -- A leaf of the part is changed.
-  pub within_around : (is_below : ℕ → Bool) (Gives : Bool → Option ℕ → List Item → List Item → Type 0)
-      (is_first below_first : Bool) (next below_next : Option ℕ) → IsAround is_below front part back
-      → (IsTrue below_first ↔ (IsTrue is_first × (front ≡ []))) → below_next ≡ first_key next back
-      → IsChangedWithin is_below Gives below_first below_next part now
-      → IsChangedWithin is_below Gives is_first next (front ++ (part ++ back)) (front ++ (now ++ back))
-  within_around is_below Gives is_first below_first next below_next around first_is next_is c =
-      let P = λ (x : Item). is_below x.key ≡ true in
-      record {
+-- No item stands before those of a child if it is the first one.
+none_at : {N : ℕ} (a : Arena (Node N)) (least lower : ℕ) (es : List Entry) (i : ℕ) → AreChildren a least lower es
+    → i < length es → items_of a lower (take i es) ≡ [] → i ≡ 0
+none_at a least lower [] i right within none = absurd (omega (arith, within))
+none_at a least lower (e ∷ es) zero right within none = refl
+none_at a least lower (e ∷ es) (suc i) right within none =
+    let t = (All-head (IsRight a least lower) e es right).tells in
+    let empty = both_empty (items_in a lower e.child) (items_of a lower (take i es)) none in
+    absurd (cc (t.items_are, empty.0))
+
+module _ {N : ℕ} {a : Arena (Node N)} {height lower slot : ℕ} {is_below : ℕ → Bool} {i x : ℕ}
+    (at : IsAt a height lower slot is_below i x) where
+  abbrev es : List Entry
+  es = entries_at a slot
+
+  abbrev front : List Item
+  front = items_of a lower (take i es)
+
+  abbrev part : List Item
+  part = items_in a lower x
+
+  abbrev back : List Item
+  back = items_of a lower (drop (i + 1) es)
+
+  -- A leaf of the child is changed.
+  pub within_at : (Gives : Bool → Option ℕ → List Item → List Item → Type 0) (is_first below_first : Bool)
+      (key below_key : Option ℕ) (now all : List Item) → IsPartitioned (λ x. is_below x.key) (items_in a height slot)
+      → (IsTrue below_first ↔ (IsTrue is_first × (i ≡ 0)))
+      → below_key ≡ first_key key (map item_of (drop (i + 1) es)) → all ≡ front ++ (now ++ back)
+      → IsChangedWithin is_below Gives below_first below_key part now
+      → IsChangedWithin is_below Gives is_first key (items_in a height slot) all
+  within_at Gives is_first below_first key below_key now all partitioned first_is key_is all_is c =
+      let Passes = λ (x : Item). is_below x.key ≡ true in
+      let Fails = λ (x : Item). is_below x.key ≡ false in
+      let Told = λ (e : Entry). Tells e (items_in a lower e.child) in
+      let w = way a (least_of N) lower slot is_below at.subtree (rw (← at.next) at partitioned) in
+      let child : x ≡ w.entry.child = x_at at ∙ ap (child_at es) at.index ∙ sym w.child in
+      let found : IsFoundAmong is_below front part = elim (none_or_some (length (filter (λ (e : Entry). is_below e.key) es))) [
+        | inl none ↦ (let zero_is : i ≡ 0 = omega (arith, at.index) in inl (ap (λ n. items_of a lower (take n es)) zero_is))
+        | inr some ↦
+            let passed = index_passes (λ (e : Entry). is_below e.key) es w.entry w.entries some w.is in
+            let t = w.kept.tells in
+            inr (rw (child, t.items_are) (Any-first Passes t.first t.others (rw t.key at passed)))
+      ] in
+      let below_is : below_key ≡ first_key key back = key_is ∙ first_key-children (λ (e : Entry). items_in a lower e.child) key
+      (drop (i + 1) es) (All-drop Told (i + 1) es (λ k d within. (at.subtree.2 k d within).tells)) in
+      rw (items_split at, all_is) record {
         before = front ++ c.before;
         leaf = c.leaf;
         changed = c.changed;
         behind = c.behind ++ back;
-        was_is = ap (λ xs. front ++ (xs ++ back)) c.was_is ∙ regroup front c.before c.leaf c.behind back;
-        now_is = ap (λ xs. front ++ (xs ++ back)) c.now_is ∙ regroup front c.before c.changed c.behind back;
-        items_below = All-append P front c.before around.pass c.items_below;
-        failing = All-append (λ (x : Item). is_below x.key ≡ false) c.behind back c.failing around.fail;
+        was_is = simp (c.was_is, append_assoc);
+        now_is = simp (c.now_is, append_assoc);
+        items_below = All-append Passes front c.before (rw (← at.index) at w.before) c.items_below;
+        failing = All-append Fails c.behind back c.failing (rw (← at.index) at w.behind);
         found = elim c.found [
-          | inl none ↦ elim around.found [
+          | inl none ↦ elim found [
             | inl first ↦ inl (ap₂ (λ xs ys. xs ++ ys) first none)
-            | inr there ↦ inr (in_leaf is_below c.before c.leaf c.behind none c.was_is c.failing there)
+            | inr there ↦ elim (Any-parts Passes c.leaf c.behind (rw (c.was_is, none) at there)) [
+              | inl here ↦ inr here
+              | inr later ↦ absurd (not_both _ later.4 (rw later.3 at (c.failing later.0 later.1 later.2)))
+            ]
           ]
           | inr there ↦ inr there
         ];
         first = c.first;
         first_is = (
-          λ h. (let b = c.first_is.0 h in let f = first_is.0 b.0 in (f.0, ap₂ (λ xs ys. xs ++ ys) f.1 b.1)),
-          λ h. c.first_is.1 (first_is.1 (h.0, no_front front c.before h.1), no_back front c.before h.1),
+          λ h. (let b = c.first_is.0 h in let f = first_is.0 b.0 in
+              (f.0, ap₂ (λ n ys. items_of a lower (take n es) ++ ys) f.1 b.1)),
+          λ h. (let none = both_empty front c.before h.1 in
+              c.first_is.1 (first_is.1 (h.0, none_at a (least_of N) lower es i at.subtree.2 at.within none.0), none.1)),
         );
         gives = subst (λ k. Gives c.first k c.leaf c.changed)
-            (ap (λ k. first_key k c.behind) next_is ∙ sym (first_key-append next c.behind back)) c.gives;
+            (ap (λ k. first_key k c.behind) below_is ∙ sym (first_key-append key c.behind back)) c.gives;
       }
-    where
-      regroup : (a b m h r : List Item) → a ++ ((b ++ (m ++ h)) ++ r) ≡ (a ++ b) ++ (m ++ (h ++ r))
-      regroup a b m h r = simp append_assoc
 
-      in_leaf : (is_below : ℕ → Bool) (before leaf behind : List Item) → before ≡ [] → part ≡ before ++ (leaf ++ behind)
-          → All (λ x. is_below x.key ≡ false) behind → Any (λ x. is_below x.key ≡ true) part
-          → Any (λ x. is_below x.key ≡ true) leaf
-      in_leaf is_below before leaf behind none is fail there =
-          let all : part ≡ leaf ++ behind = is ∙ ap (λ xs. xs ++ (leaf ++ behind)) none in
-          elim (Any-parts (λ (x : Item). is_below x.key ≡ true) leaf behind (subst (Any (λ (x : Item). is_below x.key ≡ true)) all there)) [
-            | inl here ↦ here
-            | inr later ↦ absurd (none_among is_below behind fail later)
-          ]
-
-  -- An item of this version came into the part.
-  pub raised_around : (version : ℤ) → IsRaised version part now
-      → IsRaised version (front ++ (part ++ back)) (front ++ (now ++ back))
-  raised_around version r =
+  -- An item of this version came into the child.
+  pub raised_above : (version : ℤ) (now all : List Item) → all ≡ front ++ (now ++ back) → IsRaised version part now
+      → IsRaised version (items_in a height slot) all
+  raised_above version now all all_is r =
       let Same = λ (x w : Item). x.version ≡ w.version in
       let Is = λ (x : Item). (x.version ≡ version) ⊎ Any (Same x) (front ++ (part ++ back)) in
       let in_front : All Is front =
@@ -131,118 +165,25 @@ module _ (front part back now : List Item) where
         | inr there ↦
             inr (Any-right (Same (get_or now k d)) front (part ++ back) (Any-left (Same (get_or now k d)) part back there))
       ] in
-      record {
-        first = first_key-append None front (now ++ back)
-            ∙ ap (λ k. first_key k front)
-            (first_key-append None now back ∙ same_first (first_key None back) now part r.first
-            ∙ sym (first_key-append None part back))
-            ∙ sym (first_key-append None front (part ++ back));
+      rw (items_split at, all_is) record {
+        first = cc (
+          first_key-append None front (now ++ back),
+          first_key-append None now back,
+          same_first (first_key None back) now part r.first,
+          first_key-append None part back,
+          first_key-append None front (part ++ back),
+        );
         there = Any-right (λ (x : Item). x.version ≡ version) front (now ++ back)
             (Any-left (λ (x : Item). x.version ≡ version) now back r.there);
         others = All-append Is front (now ++ back) in_front (All-append Is now back inside behind);
       }
 
--- The entry that told the items tells what they are now, once it has the version of what came in, unless it has a greater one.
-tells_raised : (e : Entry) (version : ℤ) (was now : List Item) → Tells e was → IsRaised version was now
-    → e.version ≤ℤ version → Tells (record e { version = version }) now
-tells_raised e version was now tells raised le = by_items now refl
-  where
-    bound : All (λ x. x.version ≤ℤ version) now
-    bound k d within = elim (raised.others k d within) [
-      | inl same ↦ omega (arith, ints, same)
-      | inr there ↦
-          let least = rw there.3 at (tells.greatest.bound there.0 there.1 there.2) in
-          omega (arith, ints, there.4, least, le)
-    ]
-
-    by_items : (xs : List Item) → now ≡ xs → Tells (record e { version = version }) now
-    by_items [] none =
-        absurd (Any-none (λ (x : Item). x.version ≡ version) (rw none at raised.there))
-    by_items (x ∷ xs) is =
-        let same : Some x.key ≡ Some tells.first.key =
-        ap (first_key None) (sym is) ∙ raised.first ∙ ap (first_key None) tells.items_are in
-        let key : tells.first.key ≡ x.key = cc in
-        record {
-          first = x;
-          others = xs;
-          items_are = is;
-          key = tells.key ∙ key;
-          greatest = record { bound = bound; reached = raised.there };
-        }
-
--- No item stands before those of a child if it is the first one.
-none_at : {N : ℕ} (a : Arena (Node N)) (least lower : ℕ) (es : List Entry) (i : ℕ) → AreChildren a least lower es
-    → i < length es → items_of a lower (take i es) ≡ [] → i ≡ 0
-none_at a least lower [] i right within none = absurd (omega (arith, within))
-none_at a least lower (e ∷ es) zero right within none = refl
-none_at a least lower (e ∷ es) (suc i) right within none =
-    let t = (All-head (IsRight a least lower) e es right).tells in
-    let both : t.first ∷ t.others ++ items_of a lower (take i es) ≡ [] =
-    sym (ap (λ xs. xs ++ items_of a lower (take i es)) t.items_are) ∙ none in
-    absurd (cc)
-
-module _ {N : ℕ} {a : Arena (Node N)} {least height lower slot : ℕ} {is_below : ℕ → Bool} {es : List Entry} {i x : ℕ}
-    (at : IsAt a least height lower slot is_below es i x) where
-  -- The child is the part of the items of the node in which the search goes on.
-  around_at : IsPartitioned (λ x. is_below x.key) (items_in a height slot)
-      → IsAround is_below (items_of a lower (take i es)) (items_in a lower x) (items_of a lower (drop (i + 1) es))
-  around_at partitioned =
-      let all = entries_at a slot in
-      let w = way a least lower slot is_below (rw (← at.next) at at.subtree) (rw (← at.next) at partitioned) in
-      record {
-        pass = rw (← at.index, at.read) at w.before;
-        fail = rw (← at.index, at.read) at w.behind;
-        found = elim (none_or_some (length (filter (λ (e : Entry). is_below e.key) all))) [
-          | inl none ↦
-              let zero_is : index_in is_below all ≡ 0 = omega arith in
-              inl (ap (λ n. items_of a lower (take n es)) (at.index ∙ zero_is))
-          | inr some ↦
-              let passed = index_passes (λ (e : Entry). is_below e.key) all w.entry w.entries some w.is in
-              let t = w.kept.tells in
-              let first = Any-first (λ (x : Item). is_below x.key ≡ true) t.first t.others (rw t.key at passed) in
-              inr (rw (at.child ∙ sym w.child, t.items_are) first)
-        ];
-      }
-
-  -- A leaf of the child is changed.
-  pub within_at : (Gives : Bool → Option ℕ → List Item → List Item → Type 0) (is_first below_first : Bool)
-      (key below_key : Option ℕ) (now all : List Item) → IsPartitioned (λ x. is_below x.key) (items_in a height slot)
-      → (IsTrue below_first ↔ (IsTrue is_first × (i ≡ 0)))
-      → below_key ≡ first_key key (map item_of (drop (i + 1) es))
-      → all ≡ items_of a lower (take i es) ++ (now ++ items_of a lower (drop (i + 1) es))
-      → IsChangedWithin is_below Gives below_first below_key (items_in a lower x) now
-      → IsChangedWithin is_below Gives is_first key (items_in a height slot) all
-  within_at Gives is_first below_first key below_key now all partitioned first_is key_is all_is c =
-      let tell : All (λ e. Tells e (items_in a lower e.child)) (drop (i + 1) es) =
-      All-drop (λ (e : Entry). Tells e (items_in a lower e.child)) (i + 1) es
-      (All-weaker (IsRight a least lower) (λ (e : Entry). Tells e (items_in a lower e.child)) (λ e k. k.tells) es at.right) in
-      let below_is : below_key ≡ first_key key (items_of a lower (drop (i + 1) es)) =
-      key_is ∙ first_key-children (λ (e : Entry). items_in a lower e.child) key (drop (i + 1) es) tell in
-      let first : IsTrue below_first ↔ (IsTrue is_first × (items_of a lower (take i es) ≡ [])) = (
-        λ h. (let b = first_is.0 h in (b.0, ap (λ n. items_of a lower (take n es)) b.1)),
-        λ h. first_is.1 (h.0, none_at a least lower es i at.right at.within h.1),
-      ) in
-      rw (items_split at, all_is) (within_around (items_of a lower (take i es)) (items_in a lower x)
-      (items_of a lower (drop (i + 1) es)) now is_below Gives is_first below_first key below_key (around_at partitioned)
-      first below_is c)
-
-  -- An item of this version came into the child.
-  pub raised_above : (version : ℤ) (now all : List Item)
-      → all ≡ items_of a lower (take i es) ++ (now ++ items_of a lower (drop (i + 1) es))
-      → IsRaised version (items_in a lower x) now → IsRaised version (items_in a height slot) all
-  raised_above version now all all_is raised =
-      rw (items_split at, all_is) (raised_around (items_of a lower (take i es)) (items_in a lower x)
-      (items_of a lower (drop (i + 1) es)) now version raised)
-
   -- The child's entry would be right with that version, unless it has a greater one.
-  pub raised_at : (b : Arena (Node N)) (version : ℤ) → entries_at b slot ≡ es
+  pub raised_at : (b : Arena (Node N)) (version : ℤ) → entries_at b slot ≡ entries_at a slot
       → IsRaised version (items_in a lower x) (items_in b lower x) → TellsWritten b lower slot i version
   raised_at b version read raised e here le =
-      let there : slice_get es i ≡ Some e = subst (λ l. slice_get l i ≡ Some e) read here in
-      let same : get_or es i at.d ≡ e = get_or_from_slice_get es i e at.d there in
-      let child : x ≡ e.child = at.x_is ∙ ap (λ (e : Entry). e.child) same in
-      let right : Tells e (items_in a lower e.child) =
-      subst (λ e. Tells e (items_in a lower e.child)) same (at.right i at.d at.within).tells in
-      let tells : Tells e (items_in a lower x) = rw child right in
+      let same = get_or_from_slice_get es i e at.d (rw read at here) in
+      let child : x ≡ e.child = rw same at at.x_is in
+      let tells : Tells e part = rw child (rw same at (child_right at).tells) in
       subst (λ s. Tells (record e { version = version }) (items_in b lower s)) child
-      (tells_raised e version (items_in a lower x) (items_in b lower x) tells raised le)
+      (tells_raised e version part (items_in b lower x) tells raised le)

@@ -1,8 +1,7 @@
-use Rattle.std.proofs.Common.{◌≡◌, ◌+◌, ℕ, [], ◌∷◌, ◌++◌, List, take, drop, refl, sym, ap, get_or, subst, ◌∙◌, arith}
+use Rattle.std.proofs.Common.{◌≡◌, ◌+◌, [], ◌∷◌, ◌++◌, List, take, drop, refl, sym, ap, get_or, ◌∙◌, arith}
 use Rattle.arena.specs.Arena.{with_header}
 use Rattle.tree.specs.declared.entry.Entry.{Entry}
-use Rattle.tree.specs.Item.{Tells}
-use Rattle.tree.specs.Subtree.{entries_at, items_in, IsSubtree}
+use Rattle.tree.specs.Subtree.{entries_at}
 use Rattle.tree.specs.Replace.{child_at}
 use Rattle.tree.proofs.Changing.{changes_if_moves}
 use Rattle.tree.proofs.KnownKeys.{headed_header}
@@ -10,46 +9,40 @@ use Rattle.tree.proofs.Placing.{entries_from_header, put_entries, put_live, put_
 use Rattle.tree.proofs.Sharing.{child_is}
 use Rattle.tree.proofs.replace.insert_child.Goals as goal
 
-pub returns-clause-linked : goal.returns-clause-linked
-returns-clause-linked g c =
+pub returns : goal.returns
+returns g c =
     let a = c.args.nodes.now in
     let slot = c.args.slot in
     let i = c.args.index in
     let now = c.splice_with_heads.new.self in
-    let t = c.entry_for.result in
-    let u = c.entry_for-2.result in
-    let es = entries_at a slot in
-    let d = c.index-entries-index.result in
-    let listed : c.entries.result.now ≡ es =
-    c.entries.ensures.entries ∙ sym (entries_from_header a slot c.header_ref-node.result.now c.header_ref-node.ensures.header) in
-    let x_is : (get_or c.entries.result.now i d).child ≡ child_at es i =
-    ap (λ (l : List Entry). (get_or l i d).child) listed ∙ sym (child_is es i d c.requires.can_insert.within) in
-    record {
-      first = t;
-      second = u;
-      entries = put_entries a (with_header a slot now) slot now refl ∙ c.splice_with_heads.ensures.entries
-          ∙ ap (λ l. take i l ++ (t ∷ u ∷ drop (i + 1) l))
-          (sym (entries_from_header a slot c.header_mut.result.now c.header_mut.ensures.header));
-      first_child = c.entry_for.ensures.child ∙ x_is;
-      first_tells = subst (λ z. (height least : ℕ) → IsSubtree a least height z → Tells t (items_in a height z)) x_is c.entry_for.ensures.tells;
-      second_child = c.entry_for-2.ensures.child;
-      second_tells = c.entry_for-2.ensures.tells;
-    }
-
-pub returns-clause-stored : goal.returns-clause-stored
-returns-clause-stored g c =
-    let a = c.args.nodes.now in
-    let slot = c.args.slot in
-    let now = c.splice_with_heads.new.self in
     let b = with_header a slot now in
     let can = c.requires.can_insert in
-    let put = put_moves a b slot now refl can.live can.keyless in
-    let changes = changes_if_moves a b (slot ∷ []) (slot ∷ []) put in
+    let t = c.entry_for.result in
+    let u = c.entry_for-2.result in
+    let d = c.index-entries-index.result in
+    let listed = c.entries.ensures.entries
+    ∙ sym (entries_from_header a slot c.header_ref-node.result.now c.header_ref-node.ensures.header) in
+    let x_is : (get_or c.entries.result.now i d).child ≡ child_at (entries_at a slot) i =
+    ap (λ (l : List Entry). (get_or l i d).child) listed ∙ sym (child_is _ i d can.within) in
+    let changes = changes_if_moves a b (slot ∷ []) (slot ∷ []) (put_moves a b slot now refl can.live can.keyless) in
     record {
-      live = put_live a b slot now refl;
-      live_added = tt;
-      changes = changes;
-      taken = omega (arith, changes.live, changes.spare);
-      filled = tt;
-      headed = headed_header (g.P.Bound.bytes c.args.bound.now) a b slot now refl can.headed c.splice_with_heads.ensures.headed;
+      linked = record {
+        first = t;
+        second = u;
+        entries = put_entries a b slot now refl ∙ c.splice_with_heads.ensures.entries
+            ∙ ap (λ l. take i l ++ (t ∷ u ∷ drop (i + 1) l))
+            (sym (entries_from_header a slot c.header_mut.result.now c.header_mut.ensures.header));
+        first_child = c.entry_for.ensures.child ∙ x_is;
+        first_tells = rw x_is at c.entry_for.ensures.tells;
+        second_child = c.entry_for-2.ensures.child;
+        second_tells = c.entry_for-2.ensures.tells;
+      };
+      stored = record {
+        live = put_live a b slot now refl;
+        live_added = tt;
+        changes = changes;
+        taken = omega (arith, changes.live, changes.spare);
+        filled = tt;
+        headed = headed_header (g.P.Bound.bytes c.args.bound.now) a b slot now refl can.headed c.splice_with_heads.ensures.headed;
+      };
     }

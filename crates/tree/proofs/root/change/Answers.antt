@@ -1,45 +1,38 @@
 use Rattle.std.proofs.Common.{rules, ◌∙◌, arith}
 use Rattle.tree.specs.Tree.{least_of}
+use Rattle.tree.specs.Walk.{CanChange}
 use Rattle.tree.proofs.Rebalancing.{live_subtree}
 use Rattle.tree.proofs.root.change.Goals as goal
 
 pub common_prefix_len_at-requires : goal.common_prefix_len_at-requires
 common_prefix_len_at-requires g c =
-    let can = c.requires.can_change.changeable in (
-      search rules,
-      (
-        live_subtree c.args.nodes.now (least_of g.row.N) c.args.root.now.height c.args.root.now.slot can.rooted.subtree,
-        (
-          can.some,
-          rw c.leaf_bound.ensures.leaf_bound c.requires.can_change.headed,
-        ),
-      ),
-    )
+    let can = c.requires.can_change in
+    let live = live_subtree _ (least_of g.row.N) c.args.root.now.height c.args.root.now.slot can.changeable.rooted.subtree in
+    (search rules, (live, (can.changeable.some, rw c.leaf_bound.ensures.leaf_bound can.headed)))
 
 pub change_leaf-requires : goal.change_leaf-requires
 change_leaf-requires g c =
-    let can = c.requires.can_change.changeable in (
+    let can = c.requires.can_change in
+    let tree = can.changeable in
+    let known = rw c.leaf_bound.ensures.leaf_bound at c.common_prefix_len_at.ensures.known in
+    let changeable : CanChange c.args.nodes.now c.args.root.now.height c.args.root.now.slot = record {
+      fan_out = tree.fan_out;
+      few = tree.few;
+      subtree = tree.rooted.subtree;
+      some = tree.some;
+      branches = tree.rooted.branches;
+      distinct = tree.rooted.distinct;
+      keyless = tree.rooted.keyless;
+      room = omega (arith, tree.room);
+    } in (
       search rules,
       (
         search rules,
         record {
-          changeable = record {
-            fan_out = can.fan_out;
-            few = can.few;
-            subtree = can.rooted.subtree;
-            some = can.some;
-            branches = can.rooted.branches;
-            distinct = can.rooted.distinct;
-            keyless = can.rooted.keyless;
-            room = omega (arith, can.room);
-          };
-          searched = record {
-            partitioned = c.requires.can_change.partitioned;
-            headed = c.requires.can_change.headed;
-            known = rw c.leaf_bound.ensures.leaf_bound at c.common_prefix_len_at.ensures.known;
-          };
-          wanted = c.requires.can_change.wanted;
-          none_taken = c.requires.can_change.none_taken;
+          changeable = changeable;
+          searched = record { partitioned = can.partitioned; headed = can.headed; known = known };
+          wanted = can.wanted;
+          none_taken = can.none_taken;
         },
       ),
     )
@@ -77,25 +70,18 @@ shrink-requires g c =
       },
     )
 
-pub returns-in-Some-clause-items : goal.returns-in-Some-clause-items
-returns-in-Some-clause-items g c =
-    rw c.grow.ensures.items (rw (← c.in-Some.ensures.added) at c.change_leaf.ensures.items)
+pub returns-in-Some : goal.returns-in-Some
+returns-in-Some g c = record {
+  items = rw c.grow.ensures.items (rw (← c.in-Some.ensures.added) at c.change_leaf.ensures.items);
+  rooted = c.grow.ensures.rooted;
+  spare = c.grow.ensures.spare ∙ c.change_leaf.ensures.changed.changes.spare;
+  headed = rw (c.leaf_bound-in-Some.ensures.leaf_bound ∙ c.change_leaf.ensures.leaf_bound) at c.grow.ensures.headed;
+}
 
-pub returns-in-Some-clause-spare : goal.returns-in-Some-clause-spare
-returns-in-Some-clause-spare g c = c.grow.ensures.spare ∙ c.change_leaf.ensures.changed.changes.spare
-
-pub returns-in-Some-clause-headed : goal.returns-in-Some-clause-headed
-returns-in-Some-clause-headed g c =
-    rw (c.leaf_bound-in-Some.ensures.leaf_bound ∙ c.change_leaf.ensures.leaf_bound) at c.grow.ensures.headed
-
-pub returns-in-None-clause-items : goal.returns-in-None-clause-items
-returns-in-None-clause-items g c =
-    rw c.shrink.ensures.items (rw (← c.in-None.ensures.added) at c.change_leaf.ensures.items)
-
-pub returns-in-None-clause-spare : goal.returns-in-None-clause-spare
-returns-in-None-clause-spare g c = c.shrink.ensures.spare ∙ c.change_leaf.ensures.changed.changes.spare
-
-pub returns-in-None-clause-headed : goal.returns-in-None-clause-headed
-returns-in-None-clause-headed g c =
-    c.shrink.ensures.headed (g.C.LeafBound.Bound.bytes (g.C.LeafChange.bound_of c.args.change.now))
-    c.change_leaf.ensures.changed.headed
+pub returns-in-None : goal.returns-in-None
+returns-in-None g c = record {
+  items = rw c.shrink.ensures.items (rw (← c.in-None.ensures.added) at c.change_leaf.ensures.items);
+  rooted = c.shrink.ensures.rooted;
+  spare = c.shrink.ensures.spare ∙ c.change_leaf.ensures.changed.changes.spare;
+  headed = c.shrink.ensures.headed _ c.change_leaf.ensures.changed.headed;
+}

@@ -1,19 +1,17 @@
-use Rattle.std.proofs.Common.{arith, add-one, rules, ◌≡◌, suc, List, [], ◌∷◌, ◌++◌, ◌∙◌, ap, sym, subst, length, take, drop}
+use Rattle.std.proofs.Common.{arith, add-one, rules, ◌≡◌, List, [], ◌∷◌, ◌++◌, ◌∙◌, ap, sym, length}
 use Rattle.std.specs.List.{All}
 use Rattle.std.proofs.lemmas.List.{append-nil}
 use Rattle.std.proofs.lemmas.List.Elements.{All-nil, All-cons}
 use Rattle.tree.specs.declared.entry.Entry.{Entry}
 use Rattle.tree.specs.Heads.{IsKnown}
 use Rattle.tree.specs.Node.{entries_of, keys_of}
-use Rattle.tree.specs.Subtree.{items_in, slots_in}
-use Rattle.tree.specs.Replace.{AreChildren, items_of, slots_of}
+use Rattle.tree.specs.Subtree.{slots_in}
+use Rattle.tree.specs.Replace.{slots_of}
 use Rattle.tree.specs.Tree.{least_of}
-use Rattle.tree.proofs.Frames.{IsRight}
 use Rattle.tree.proofs.Changing.{moves_if_changes}
-use Rattle.tree.proofs.Rooting.{Rooted, right_entry, grown}
-use Rattle.tree.proofs.root.grow.Given.{Over}
+use Rattle.tree.proofs.Replacing.{both_right}
+use Rattle.tree.proofs.Rooting.{grown}
 use Rattle.tree.proofs.root.grow.Goals as goal
-use Rattle.tree.proofs.root.grow.Goals.{After-place}
 
 pub compute_heads-requires : goal.compute_heads-requires
 compute_heads-requires g c =
@@ -21,48 +19,33 @@ compute_heads-requires g c =
     let first = c.entry_for.result in
     let second = c.entry_for-2.result in
     let es : List Entry = first ∷ second ∷ [] in
-    let node : entries_of c.splice.new.self ≡ es =
-    c.splice.ensures.entries ∙ ap (λ l. take 1 l ++ (second ∷ [] ++ drop 1 l)) c.of-node.ensures.entries in
-    let known : All (IsKnown bytes) (keys_of es) =
-    All-cons (IsKnown bytes) first.key (second.key ∷ []) (c.entry_for.ensures.known bytes c.requires.can_grow.headed)
-    (All-cons (IsKnown bytes) second.key [] (c.entry_for-2.ensures.known bytes c.requires.can_grow.headed) (All-nil (IsKnown bytes))) in (search rules, subst (λ l. All (IsKnown bytes) (keys_of l)) (sym node) known)
+    let node : entries_of c.splice.new.self ≡ es = rw c.of-node.ensures.entries at c.splice.ensures.entries in
+    let headed = c.requires.can_grow.headed in
+    let Known = IsKnown bytes in
+    let known : All Known (keys_of es) = All-cons Known first.key (second.key ∷ []) (c.entry_for.ensures.known bytes headed)
+    (All-cons Known second.key [] (c.entry_for-2.ensures.known bytes headed) (All-nil Known)) in
+    (search rules, rw node known)
 
--- the new root
-grown_root : (g : Over) (c : After-place g) → Rooted c.place.new.nodes (suc c.args.root.height) c.place.result
-    (items_in c.args.nodes.now c.args.root.height c.args.root.slot ++ items_in c.args.nodes.now c.args.root.height c.args.added)
-grown_root g c =
+pub returns : goal.returns
+returns g c =
     let a = c.args.nodes.now in
-    let b = c.place.new.nodes in
     let h = c.args.root.height in
-    let first = c.entry_for.result in
-    let second = c.entry_for-2.result in
-    let least = least_of g.row.N in
-    let es : List Entry = first ∷ second ∷ [] in
+    let first = c.entry_for in
+    let second = c.entry_for-2 in
+    let can = c.requires.can_grow in
+    let es : List Entry = first.result ∷ second.result ∷ [] in
     let node : entries_of c.compute_heads.new.self ≡ es =
-    c.compute_heads.ensures.entries ∙ c.splice.ensures.entries ∙ ap (λ l. take 1 l ++ (second ∷ [] ++ drop 1 l)) c.of-node.ensures.entries in
-    let right : AreChildren a least h es =
-    All-cons (IsRight a least h) first (second ∷ [])
-    (right_entry a least h c.args.root.slot first c.entry_for.ensures.child c.requires.can_grow.first c.requires.can_grow.filled.0
-    (c.entry_for.ensures.tells h least c.requires.can_grow.first))
-    (All-cons (IsRight a least h) second []
-    (right_entry a least h c.args.added second c.entry_for-2.ensures.child c.requires.can_grow.second c.requires.can_grow.filled.1
-    (c.entry_for-2.ensures.tells h least c.requires.can_grow.second))
-    (All-nil (IsRight a least h))) in
+    c.compute_heads.ensures.entries ∙ (rw c.of-node.ensures.entries at c.splice.ensures.entries) in
+    let right = both_right a (least_of g.row.N) h c.args.root.slot c.args.added first.result second.result first.ensures.child
+    second.ensures.child can.first can.second can.filled first.ensures.tells second.ensures.tells in
     let slots : slots_of a h es ≡ slots_in a h c.args.root.slot ++ slots_in a h c.args.added =
-    simp (c.entry_for.ensures.child, c.entry_for-2.ensures.child, append-nil) in
-    let items : items_of a h es ≡ items_in a h c.args.root.slot ++ items_in a h c.args.added =
-    simp (c.entry_for.ensures.child, c.entry_for-2.ensures.child, append-nil) in
-    let moves = moves_if_changes a b [] (c.place.result ∷ []) c.place.ensures.changes in
-    subst (Rooted b (suc h) c.place.result) items
-    (grown a b h c.place.result es moves c.place.ensures.live (c.place.ensures.entries ∙ node) (omega arith) right
-    (rw slots c.requires.can_grow.distinct) (c.requires.can_grow.linked ∙ ap length (sym slots)))
-
-pub returns-clause-items : goal.returns-clause-items
-returns-clause-items g c = rw add-one (grown_root g (goal.at.returns-clause-items g c).After-place).items_are
-
-pub returns-clause-rooted : goal.returns-clause-rooted
-returns-clause-rooted g c = rw add-one (grown_root g (goal.at.returns-clause-rooted g c).After-place).rooted
-
-pub returns-clause-headed : goal.returns-clause-headed
-returns-clause-headed g c =
-    c.place.ensures.headed (g.P.Bound.bytes c.args.bound.now) c.compute_heads.ensures.headed c.requires.can_grow.headed
+    simp (first.ensures.child, second.ensures.child, append-nil) in
+    let moves = moves_if_changes _ _ [] (c.place.result ∷ []) c.place.ensures.changes in
+    let root = grown a c.place.new.nodes h c.place.result es moves c.place.ensures.live (c.place.ensures.entries ∙ node)
+    (omega arith) right (rw slots can.distinct) (can.linked ∙ ap length (sym slots)) in
+    record {
+      items = rw add-one (simp (first.ensures.child, second.ensures.child, append-nil) at root.0);
+      rooted = rw add-one root.1;
+      spare = c.place.ensures.changes.spare;
+      headed = c.place.ensures.headed (g.P.Bound.bytes c.args.bound.now) c.compute_heads.ensures.headed can.headed;
+    }
