@@ -1,5 +1,5 @@
 -- A change to the items of a tree, and the last of a list.
-use Rattle.std.proofs.Common.{◌≡◌, ◌≢◌, ℕ, ◌+◌, ◌-◌, ◌*◌, ◌≤◌, Bool, not, List, [], ◌∷◌, ◌++◌, length, refl, ap, ◌∙◌, subst, arith}
+use Rattle.std.proofs.Common.{◌≡◌, ◌≢◌, ℕ, ◌+◌, ◌-◌, ◌*◌, ◌≤◌, ◌<◌, ◌^◌, Bool, not, List, [], ◌∷◌, ◌++◌, length, refl, ap, ◌∙◌, subst, arith}
 use Rattle.std.proofs.Common.{length-append}
 use Rattle.std.specs.FinMap as finite
 use Rattle.std.proofs.lemmas.List.Filters.{length-filter_both}
@@ -8,15 +8,32 @@ use Rattle.tree.specs.declared.node.Node.{Node}
 use Rattle.tree.specs.Item.{Item}
 use Rattle.tree.specs.Path.{items_below, behind}
 use Rattle.tree.specs.Subtree.{items_in}
+use Rattle.tree.specs.Walk.{CanChangeTree}
+use Rattle.tree.proofs.Counting.{low, enough_spare}
+use Rattle.tree.proofs.LeafChange.{root_some}
 use Rattle.tree.specs.Tree.{IsTree, IsRooted, least_of, way}
 
 module _ {N : ℕ} where
+  -- A tree can be changed.
+  pub can_change : (nodes : Arena (Node N)) (root height len room : ℕ) → IsTree nodes root height len room → len < 2 ^ 64
+      → CanChangeTree nodes root height
+  can_change nodes root height len room t fits =
+      let height_is = low nodes root height len room t fits in
+      record {
+        fan_out = t.fan_out;
+        few = t.few;
+        low = height_is;
+        rooted = t.rooted;
+        some = root_some nodes root height len room t;
+        room = omega (arith, height_is, enough_spare nodes root height len room t);
+      }
+
   -- the tree after a change that puts other items in its nodes
   pub tree_put : (a b : Arena (Node N)) (root height slot above len now room : ℕ) → IsTree a root height len room → IsRooted b slot above
       → spare_of b 0 + finite.len b.records ≡ spare_of a 0 + finite.len a.records → now ≡ length (items_in b above slot)
       → 1 ≤ now → now ≤ room → IsTree b slot above now room
   tree_put a b root height slot above len now room t rooted spare counted some within =
-      let same : finite.len a.records + spare_of a 0 ≡ finite.len b.records + spare_of b 0 = omega (arith, spare) in
+      let same : finite.len a.records + spare_of a 0 ≡ finite.len b.records + spare_of b 0 = omega arith in
       record {
         fan_out = t.fan_out;
         few = t.few;
@@ -24,7 +41,7 @@ module _ {N : ℕ} where
         counted = counted;
         some = some;
         within = within;
-        reserved = subst (λ m. room + (least_of N - 1) * way ≤ (least_of N - 1) * m) same t.reserved;
+        reserved = rw same at t.reserved;
       }
 
 -- those that pass and those that don't are all
@@ -37,10 +54,9 @@ same_ends [] [] x y e = (refl, cc)
 same_ends [] (b ∷ ys) x y e = absurd (omega (arith, ap length e, length-append ys (y ∷ [])))
 same_ends (a ∷ xs) [] x y e = absurd (omega (arith, ap length e, length-append xs (x ∷ [])))
 same_ends (a ∷ xs) (b ∷ ys) x y e =
+    let r = same_ends xs ys x y (cc) in
     let head : a ≡ b = cc in
-    let rest : xs ++ x ∷ [] ≡ ys ++ y ∷ [] = cc in
-    let r = same_ends xs ys x y rest in
-    (ap (λ c. c ∷ xs) head ∙ ap (λ l. b ∷ l) r.0, r.1)
+    (cc, r.1)
 
 -- a list that isn't empty ends with an element
 pub record Ended {X : Type 0} (xs : List X) : Type 0 where
