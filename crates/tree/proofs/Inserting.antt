@@ -1,5 +1,5 @@
 -- A change to the items of a tree, and the last of a list.
-use Rattle.std.proofs.Common.{◌≡◌, ◌≢◌, ℕ, ◌+◌, ◌-◌, ◌*◌, ◌≤◌, ◌<◌, ◌^◌, Bool, not, List, [], ◌∷◌, ◌++◌, length, refl, ap, ◌∙◌, subst, arith}
+use Rattle.std.proofs.Common.{◌≡◌, ◌≢◌, ℕ, ◌+◌, ◌≤◌, ◌<◌, ◌^◌, Bool, not, List, [], ◌∷◌, ◌++◌, length, refl, ap, arith}
 use Rattle.std.proofs.Common.{length-append}
 use Rattle.std.specs.FinMap as finite
 use Rattle.std.proofs.lemmas.List.Filters.{length-filter_both}
@@ -11,7 +11,7 @@ use Rattle.tree.specs.Subtree.{items_in}
 use Rattle.tree.specs.Walk.{CanChangeTree}
 use Rattle.tree.proofs.Counting.{low, enough_spare}
 use Rattle.tree.proofs.LeafChange.{root_some}
-use Rattle.tree.specs.Tree.{IsTree, IsRooted, least_of, way}
+use Rattle.tree.specs.Tree.{IsTree, IsRooted}
 
 module _ {N : ℕ} where
   -- A tree can be changed.

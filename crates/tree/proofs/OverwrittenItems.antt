@@ -1,6 +1,6 @@
 -- How many items there are once a run is written over, and what tells whether the run was ended.
 use Rattle.std.proofs.Common.{◌≡◌, ◌≢◌, ℕ, ℤ, ◌+◌, ◌≤◌, inl, inr, Bool, true, false, List}
-use Rattle.std.proofs.Common.{[], ◌∷◌, ◌++◌, Option, Some, None, IsTrue, MatchOption, length, refl, unwrap_or}
+use Rattle.std.proofs.Common.{[], ◌∷◌, ◌++◌, Option, Some, None, IsTrue, length, refl, unwrap_or}
 use Rattle.std.proofs.Common.{ap, arith, length-append}
 use Rattle.std.proofs.lemmas.Bool.{cases_Bool}
 use Rattle.tree.specs.declared.overwrite.Written.{Written}
@@ -36,12 +36,8 @@ module _ (p q r : ℕ → Bool) (nested : (key : ℕ) → p key ≡ true → q k
   length-between (x ∷ items) =
       let rest = length-between items in
       elim (cases_Bool (p x.key)) [
-        | inl t ↦ let u = nested x.key t in rw (t, u) (omega (arith, rest))
-        | inr f ↦
-            elim (cases_Bool (q x.key)) [
-              | inl t ↦ rw (f, t) (omega (arith, rest))
-              | inr n ↦ rw (f, n) (omega (arith, rest))
-            ]
+        | inl t ↦ rw (t, nested x.key t) (omega arith)
+        | inr f ↦ elim (cases_Bool (q x.key)) [ inl t ↦ rw (f, t) (omega arith) | inr n ↦ rw (f, n) (omega arith) ]
       ]
 
   -- as many more are there as were put in place of the run, and one at least
@@ -69,12 +65,5 @@ pub told_by_first : (q r : ℕ → Bool) (items : List Item) (ended : Bool) → 
     → IsPartitioned (λ x. r x.key) items → ended ≡ first_is_below r (first_key None (behind q items))
     → (IsTrue ended → between (Some q) (Some r) items ≢ []) × (between (Some q) (Some r) items ≢ [] → IsTrue ended)
 told_by_first q r items ended first second is =
-    let p = λ (x : Item). r x.key in
-    let key = first_key None (behind q items) in
-    let parts = IsPartitioned-parts p (items_below q items) (behind q items) (rw first at second) in
-    let told = first_tells r (behind q items) key (λ k. ended ≡ r k) ended parts.1 refl (tested key is) (λ k same. same) in
-    rw (between_is q r items) told
-  where
-    tested : (key : Option ℕ) → ended ≡ first_is_below r key → MatchOption key (ended ≡ false) (λ k. ended ≡ r k)
-    tested None is = is
-    tested (Some k) is = is
+    let parts = IsPartitioned-parts (λ (x : Item). r x.key) (items_below q items) (behind q items) (rw first at second) in
+    rw (between_is q r items, is) (first_tells r (behind q items) parts.1)

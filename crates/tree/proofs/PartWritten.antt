@@ -1,5 +1,5 @@
 -- Items of which those of one leaf are written over: what is said of the leaf's is said of all of them.
-use Rattle.std.proofs.Common.{◌≡◌, ◌≢◌, ℕ, ℤ, inl, inr, Bool, true, false, not, List, [], ◌∷◌, ◌++◌, Option, None, Some, unwrap_or}
+use Rattle.std.proofs.Common.{◌≡◌, ◌≢◌, ℕ, ℤ, inl, inr, Bool, true, false, not, List, [], ◌∷◌, ◌++◌, Option, None, Some}
 use Rattle.std.proofs.Common.{IsTrue, All, Any, refl, sym, ◌∙◌, ap, subst, append_assoc, append-nil}
 use Rattle.std.proofs.lemmas.List.Elements.{All-nil, All-filter, filter-append}
 use Rattle.tree.specs.declared.overwrite.Written.{Written}
@@ -7,7 +7,6 @@ use Rattle.tree.specs.declared.overwrite.Written.TheVariants.{Partly, Whole}
 use Rattle.tree.specs.Item.{Item}
 use Rattle.tree.specs.Overwrite.{IsOverwritten, GivesPart, GivesWritten, OverwritesPart, Overwrites}
 use Rattle.tree.specs.Path.{IsPartitioned, items_below, behind, between, first_key}
-use Rattle.tree.specs.Tree.{ended_by}
 use Rattle.tree.specs.Walk.{IsChangedWithin, IsFoundAmong}
 use Rattle.tree.proofs.callers.Partitions.{All-front, none_pass, none_passed, not_both, IsPartitioned-parts}
 use Rattle.tree.proofs.Inserting.{ended_some, same_ends}
@@ -19,11 +18,7 @@ use Rattle.tree.proofs.Told.{filter_around, none_of_fewer}
 -- where an item passes, the list of those that pass isn't empty
 some_pass : (q : ℕ → Bool) (xs : List Item) → Any (λ x. q x.key ≡ true) xs → items_below q xs ≢ []
 some_pass q xs any none =
-    let fails = none_passed (λ (x : Item). q x.key) xs none in
-    not_both (q any.1.key) any.4 (subst (λ (y : Item). q y.key ≡ false) any.3 (fails any.0 any.1 any.2))
-
-regroup : (a b e h r : List Item) (x : Item) → a ++ ((b ++ (x ∷ e ++ h)) ++ r) ≡ (a ++ b) ++ (x ∷ e ++ (h ++ r))
-regroup a b e h r x = simp append_assoc
+    not_both (q any.1.key) any.4 (rw any.3 at (none_passed (λ (x : Item). q x.key) xs none any.0 any.1 any.2))
 
 -- Items in three parts: all of the first are below the second bound, and none of the last does.
 module _ (p q : ℕ → Bool) (nested : (key : ℕ) → p key ≡ true → q key ≡ true) (front part back : List Item)
@@ -41,7 +36,7 @@ module _ (p q : ℕ → Bool) (nested : (key : ℕ) → p key ≡ true → q key
   pub some_here : IsFoundAmong q front part → items_below q (front ++ (part ++ back)) ≢ [] → items_below q part ≢ []
   some_here found some none =
       elim found [
-        | inl empty ↦ some (passing_too ∙ ap (λ xs. front ++ xs) none ∙ ap (λ xs. xs ++ []) empty)
+        | inl empty ↦ some (rw (passing_too, none, empty))
         | inr any ↦ some_pass q part any none
       ]
 
@@ -62,12 +57,11 @@ module _ (p q : ℕ → Bool) (nested : (key : ℕ) → p key ≡ true → q key
         → IsOverwritten p q first second given is_ended (front ++ (part ++ back)) (front ++ (now ++ back))
     written_part first second given is_ended now some written last last_is =
         let end = ended_some (items_below q part) some in
-        let ends_with = λ (x : Item). ended_by is_ended (record { key = second; version = unwrap_or given x.version }) in
         let ends : (front ++ end.front) ++ end.last ∷ [] ≡ last_is.0 ++ last ∷ [] =
         append_assoc front end.front (end.last ∷ []) ∙ (cc (end.is, passing_too, last_is.1)) in
         let same = (same_ends (front ++ end.front) last_is.0 end.last last ends).1 in
         rw (written end.last (end.front, end.is), passing_part, behind_too, ← same)
-        (regroup front (items_below p part) (ends_with end.last) (behind q part) back first)
+        (simp append_assoc)
 
   -- All items are partitioned.
   module _ (partitioned : IsPartitioned (λ x. p x.key) (front ++ (part ++ back))) where

@@ -2,9 +2,9 @@
 use Rattle.std.proofs.Common.{◌≡◌, ◌≢◌, ◌⊎◌, inl, inr, ℕ, ℤ, ◌-◌, ◌<◌, ◌≤◌, Bool, true, false, not, List, [], ◌∷◌, ◌++◌, Option}
 use Rattle.std.proofs.Common.{Bor, Some, None, MatchOption, length, get_or, slice_get, take, drop, filter, map, All, Any, refl, sym}
 use Rattle.std.proofs.Common.{◌∙◌, ap, arith, length-append}
-use Rattle.std.proofs.lemmas.List.{append-nil, map-append, length-map, length-take-le, take-append-drop, drop_at, at_drop_more, at_drop_all}
+use Rattle.std.proofs.lemmas.List.{append-nil, map-append, length-map, length-take-le, take-append-drop, drop_at, drop_more, drop_all}
 use Rattle.std.proofs.lemmas.List.Elements.{All-nil, All-cons, All-head, All-append, All-filter, All-weaker, Contains-get_or, filter-append, filter_passes}
-use Rattle.std.proofs.lemmas.Option.{slice_get-get_or}
+use Rattle.std.proofs.lemmas.Option.{slice_get_cases}
 use Rattle.std.specs.Prelude.{option_copied}
 use Rattle.keys.proofs.callers.SomeElement.{Any-first, Any-right}
 use Rattle.tree.specs.declared.entry.Entry.{Entry}
@@ -19,20 +19,11 @@ use Rattle.tree.proofs.LeafChange.{parted}
 use Rattle.tree.proofs.Leaves.{IsLeaf, filter-items, last_passing}
 use Rattle.tree.proofs.Overwriting.{between_is}
 
--- The items of a leaf stand alone.
-pub leaf_alone : (p : ℕ → Bool) (es : List Entry) → IsLeaf p (map item_of es) [] [] es
-leaf_alone p es = record {
-  items_are = sym (append-nil (map item_of es));
-  pass = All-nil (λ (x : Item). p x.key ≡ true);
-  fail = All-nil (λ (x : Item). p x.key ≡ false);
-  none = λ _. refl;
-}
-
 -- A part of items that are partitioned is partitioned.
 pub part_partitioned : (p : ℕ → Bool) (items : List Item) → IsPartOfPartitioned p items → IsPartitioned (λ x. p x.key) items
 part_partitioned p items part =
-    let here = λ (x : Item). p x.key in
-    (IsPartitioned-parts here items part.1 (IsPartitioned-parts here part.0 (items ++ part.1) part.2).1).0
+    let back = (IsPartitioned-parts (λ (x : Item). p x.key) part.0 (items ++ part.1) part.2).1 in
+    (IsPartitioned-parts (λ (x : Item). p x.key) items part.1 back).0
 
 -- Where so many entries are below the bound, some item does.
 pub some_item : (p : ℕ → Bool) (es : List Entry) (n : ℕ) → 1 ≤ n → n ≡ length (filter (λ e. p e.key) es)
@@ -58,30 +49,39 @@ module _ (p q : ℕ → Bool) (nested : (key : ℕ) → p key ≡ true → q key
   run_here : filter (λ e. q e.key) (drop begin es) ≡ drop begin (take end es)
   run_here =
       let there = λ (e : Entry). q e.key in
-      let front = take begin es in
-      let rest = drop begin es in
       let from = (parted p es begin first_bound begins).0 in
-      let to = (parted q es end second_bound ends).0 in
-      let pass : All (λ (e : Entry). q e.key ≡ true) front =
-      rw from
-      (All-weaker (λ (e : Entry). p e.key ≡ true) (λ (e : Entry). q e.key ≡ true) (λ e. nested e.key)
-      (filter (λ (e : Entry). p e.key) es) (filter_passes (λ (e : Entry). p e.key) es)) in
-      let all : take end es ≡ front ++ filter there rest =
-      cc (to, take-append-drop begin es, filter-append there front rest, (none_fail there front pass).0) in
-      sym (ap (drop begin) all ∙ drop_at front (filter there rest) begin (length-take-le begin es within))
+      let pass : All (λ (e : Entry). q e.key ≡ true) (take begin es) =
+      rw from (All-weaker _ _ (λ e. nested e.key) _ (filter_passes (λ (e : Entry). p e.key) es)) in
+      let all : take end es ≡ take begin es ++ filter there (drop begin es) =
+      cc (
+        (parted q es end second_bound ends).0,
+        take-append-drop begin es,
+        filter-append there (take begin es) (drop begin es),
+        (none_fail there (take begin es) pass).0,
+      ) in
+      rw (all, drop_at (take begin es) _ begin (length-take-le begin es within))
 
   -- and the items
   pub between_entries : between (Some p) (Some q) (map item_of es) ≡ map item_of (drop begin (take end es))
   between_entries =
-      between_is p q (map item_of es) ∙ ap (items_below q) (items_parted p es begin first_bound begins).1
-      ∙ filter-items q (drop begin es) ∙ ap (map item_of) run_here
+      cc (
+        between_is p q (map item_of es),
+        (items_parted p es begin first_bound begins).1,
+        filter-items q (drop begin es),
+        run_here,
+      )
 
   -- what becomes of the items where entries are put in place of those between the bounds
   pub replaced : (new now : List Entry) → now ≡ take begin es ++ (new ++ drop end es)
       → map item_of now ≡ items_below p (map item_of es) ++ (map item_of new ++ behind q (map item_of es))
   replaced new now now_is =
-      rw (now_is, map-append item_of (take begin es) (new ++ drop end es), map-append item_of new (drop end es))
-      (rw ((items_parted p es begin first_bound begins).0, (items_parted q es end second_bound ends).1))
+      rw (
+        now_is,
+        map-append item_of (take begin es) (new ++ drop end es),
+        map-append item_of new (drop end es),
+        (items_parted p es begin first_bound begins).0,
+        (items_parted q es end second_bound ends).1,
+      )
 
 -- The last entry below the bound, where it is lent, has the version of the last such item.
 pub last_version : (q : ℕ → Bool) (es passed : List Entry) (lent : Option (Bor Entry)) (version otherwise : ℤ)
@@ -90,7 +90,9 @@ pub last_version : (q : ℕ → Bool) (es passed : List Entry) (lent : Option (B
     → ((e : Bor Entry) → post e → version ≡ e.now.version) → (x : Item) → IsLast x (items_below q (map item_of es))
     → version ≡ x.version
 last_version q es passed lent version otherwise post same is told says x ends =
-    by_last lent told (last_passing q (map item_of es) [] [] es passed (option_copied lent) (leaf_alone q es) same is)
+    let alone : IsLeaf q (map item_of es) [] [] es =
+    record { items_are = sym (append-nil (map item_of es)); pass = All-nil _; fail = All-nil _; none = λ _. refl } in
+    by_last lent told (last_passing q (map item_of es) [] [] es passed (option_copied lent) alone same is)
   where
     by_last : (lent : Option (Bor Entry)) → MatchOption lent (version ≡ otherwise) post
         → MatchOption (option_copied lent) (items_below q (map item_of es) ≡ [])
@@ -149,26 +151,16 @@ module _ (q r : ℕ → Bool) (es : List Entry) (end : ℕ) (others : drop end e
   -- The next entry of the leaf tells whether the first key behind the second bound passes.
   pub ended_in_leaf : end < length es → ((e : Entry) → slice_get es end ≡ Some e → ended ≡ r e.key)
       → ended ≡ first_is_below r (first_key otherwise (behind q (map item_of es)))
-  ended_in_leaf within tells = by_entries es within refl
-    where
-      by_entries : (xs : List Entry) → end < length xs → xs ≡ es
-          → ended ≡ first_is_below r (first_key otherwise (behind q (map item_of es)))
-      by_entries [] lt same = absurd (omega arith)
-      by_entries (d ∷ xs) lt same =
-          let e = get_or es end d in
-          let key : first_key otherwise (behind q (map item_of es)) ≡ Some e.key =
-          ap (first_key otherwise) behind_end
-          ∙ at_drop_more (λ ys. first_key otherwise (map item_of ys)) es end d within in
-          tells e (slice_get-get_or es end d within) ∙ sym (ap (first_is_below r) key)
+  ended_in_leaf within tells = elim (slice_get_cases es end).1 [
+    | inl at ↦ rw (behind_end, drop_more es end at.0 within, at.3) (tells at.0 at.2)
+    | inr none ↦ absurd (omega (arith, none.0))
+  ]
 
   -- Where there is none, the key behind the leaf does.
   pub ended_behind : length es ≤ end → (post : ℕ → Type 0) → MatchOption otherwise (ended ≡ false) post
       → ((key : ℕ) → post key → ended ≡ r key)
       → ended ≡ first_is_below r (first_key otherwise (behind q (map item_of es)))
-  ended_behind all post tested says =
-      let key : first_key otherwise (behind q (map item_of es)) ≡ otherwise =
-      ap (first_key otherwise) behind_end ∙ at_drop_all (λ ys. first_key otherwise (map item_of ys)) es end all in
-      by_key otherwise tested ∙ sym (ap (first_is_below r) key)
+  ended_behind all post tested says = rw (behind_end, drop_all end es all) (by_key otherwise tested)
     where
       by_key : (key : Option ℕ) → MatchOption key (ended ≡ false) post → ended ≡ first_is_below r key
       by_key None none = none

@@ -1,8 +1,6 @@
-use Rattle.std.proofs.Common.{rules, ◌≡◌, ◌≢◌, ◌∙◌, ◌+◌, ◌&&◌, int_lt, [], drop, map, ap, sym, refl, true, false, SFits, w64, to_z, of_z, arith}
+use Rattle.std.proofs.Common.{rules, ◌≡◌, ◌∙◌, ◌&&◌, int_lt, refl, false, SFits, w64, to_z, of_z, arith}
 use Rattle.std.proofs.lemmas.Int.{to_z-of_z}
 use Rattle.std.proofs.lemmas.List.{drop_all}
-use Rattle.tree.specs.Item.{item_of}
-use Rattle.tree.specs.Tree.{expired}
 use Rattle.tree.proofs.Removing.{one_found, one_passed, one_not_below}
 use Rattle.tree.proofs.expiring.has_expired.Goals as goal
 use Rattle.tree.proofs.expiring.has_expired.Goals.{After-loop-entry, else-last-edge-via-then-last-edge+else-entry-edge, else-last-edge-via-else-last-edge}

@@ -1,9 +1,6 @@
-use Rattle.std.proofs.Common.{rules, map, sym, subst, to_z, of_z, w64, SFits}
+use Rattle.std.proofs.Common.{rules, w64, SFits}
 use Rattle.std.proofs.lemmas.Int.{to_z-of_z}
-use Rattle.tree.specs.declared.entry.Entry.{Entry}
-use Rattle.tree.specs.Item.{version_of}
-use Rattle.tree.specs.Tree.{IsLast}
-use Rattle.tree.proofs.Removing.{run, last_at}
+use Rattle.tree.proofs.Removing.{last_at}
 use Rattle.tree.proofs.expiring.look_at.Goals as goal
 
 pub returns-clause-last : goal.returns-clause-last

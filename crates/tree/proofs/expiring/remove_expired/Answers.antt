@@ -1,9 +1,7 @@
-use Rattle.std.proofs.Common.{rules, ◌≡◌, ◌<◌, ◌++◌, ◌∷◌, [], map, get_or, set, ◌+◌, ◌∙◌, ap, sym, true, false, List, w64, to_z, of_z, SFits, ◌&&◌, int_lt, int_le, arith, refl, length}
+use Rattle.std.proofs.Common.{rules, ◌≡◌, ◌<◌, ◌∙◌, sym, true, false, w64, to_z, of_z, SFits, ◌&&◌, int_lt, arith, refl, length}
 use Rattle.std.proofs.lemmas.Int.{to_z-of_z}
 use Rattle.std.proofs.lemmas.List.{length-map, map-append}
 use Rattle.std.proofs.lemmas.Option.{slice_get_read}
-use Rattle.arrayvec.specs.ArrayVec.{ArrayVec}
-use Rattle.tree.specs.declared.entry.Entry.{Entry}
 use Rattle.tree.specs.Item.{item_of}
 use Rattle.tree.specs.Node.{entries_of}
 use Rattle.tree.proofs.Removing.{one_stays, one_goes, not_below, is_below, one_not_below, all_kept, all_expired}

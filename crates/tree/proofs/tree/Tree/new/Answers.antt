@@ -1,6 +1,5 @@
-use Rattle.std.proofs.Common.{arith, sym, ◌≡◌, ◌+◌, ◌≤◌, ◌∙◌, ap, cond}
+use Rattle.std.proofs.Common.{arith, ◌≡◌, ◌∙◌, ap}
 use Rattle.tree.proofs.Placing.{placed_spare}
-use Rattle.arena.specs.Arena.{spare_of, slots_of}
 use Rattle.tree.proofs.Trees.{tree_of_one}
 use Rattle.tree.specs.Item.{Item}
 use Rattle.tree.proofs.LeafChange.{headed_alone}

@@ -1,15 +1,12 @@
-use Rattle.std.proofs.Common.{rules, ◌≡◌, ◌≤◌, ◌+◌, ◌-◌, ◌∙◌, length, sym, subst, arith}
+use Rattle.std.proofs.Common.{rules, ◌≡◌, ◌≤◌, ◌+◌, length, arith}
 use Rattle.std.proofs.Common.{List, [], map, Fits, w64}
 use Rattle.std.proofs.lemmas.List.{append-nil, length-map}
 use Rattle.tree.specs.Item.{Item, item_of}
 use Rattle.tree.specs.Overwrite.{Overwrites, put_of}
 use Rattle.tree.specs.Subtree.{items_in}
-use Rattle.tree.specs.Tree.{Items}
-use Rattle.tree.proofs.Counting.{low, enough_spare}
 use Rattle.tree.proofs.HeadList.{headed_from_list, headed_in_list}
 use Rattle.tree.proofs.Inserting.{can_change, tree_put}
 use Rattle.tree.proofs.KnownItems.{know_items}
-use Rattle.tree.proofs.LeafChange.{root_some}
 use Rattle.tree.proofs.OverwrittenItems.{length-overwritten, put_most}
 use Rattle.tree.proofs.PartWritten.{overwritten}
 use Rattle.tree.proofs.tree.Tree.overwrite.Given as given

@@ -1,15 +1,13 @@
-use Rattle.std.proofs.Common.{◌≡◌, ◌≤◌, ◌+◌, ◌-◌, ◌∙◌, None, length, sym, arith, to_z, of_z, w64}
+use Rattle.std.proofs.Common.{◌≡◌, ◌≤◌, ◌+◌, None, length, arith, w64}
 use Rattle.std.proofs.Common.{List, map}
 use Rattle.std.proofs.lemmas.Int.{to_z-of_z}
 use Rattle.std.proofs.lemmas.List.{length-map}
 use Rattle.tree.specs.Item.{Item, item_of}
 use Rattle.tree.specs.Subtree.{items_in}
 use Rattle.tree.specs.Expire.{RemovesExpired}
-use Rattle.tree.proofs.Counting.{low, enough_spare}
 use Rattle.tree.proofs.HeadList.{headed_from_list, headed_in_list}
 use Rattle.tree.proofs.Inserting.{can_change, tree_put}
 use Rattle.tree.proofs.KnownItems.{know_items}
-use Rattle.tree.proofs.LeafChange.{root_some}
 use Rattle.tree.proofs.PartUnexpired.{unexpired_all, length-unexpired}
 use Rattle.tree.proofs.tree.Tree.remove_expired.Given as given
 use Rattle.tree.proofs.tree.Tree.remove_expired.Goals as goal
