@@ -5,27 +5,33 @@ use Rattle.std.specs.FinMap as finite
 use Rattle.std.proofs.lemmas.List.Filters.{length-filter_both}
 use Rattle.arena.specs.Arena.{Arena, spare_of}
 use Rattle.tree.specs.declared.node.Node.{Node}
+use Rattle.tree.specs.declared.entry.Entry.{Entry}
+use Rattle.tree.specs.Heads.{KeyBytes, AllAreHeads}
+use Rattle.tree.specs.Node.{all_heads_of}
 use Rattle.tree.specs.Item.{Item}
-use Rattle.tree.specs.Path.{items_below, behind}
+use Rattle.tree.specs.Path.{IsPartitioned, items_below, behind}
 use Rattle.tree.specs.Subtree.{items_in}
-use Rattle.tree.specs.Walk.{CanChangeTree}
+use Rattle.tree.specs.Walk.{CanChangeBy}
 use Rattle.tree.proofs.Counting.{low, enough_spare}
 use Rattle.tree.proofs.LeafChange.{root_some}
 use Rattle.tree.specs.Tree.{IsTree, IsRooted}
 
 module _ {N : ℕ} where
   -- A tree can be changed.
-  pub can_change : (nodes : Arena (Node N)) (root height len room : ℕ) → IsTree nodes root height len room → len < 2 ^ 64
-      → CanChangeTree nodes root height
-  can_change nodes root height len room t fits =
-      let height_is = low nodes root height len room t fits in
+  pub can_change : {bytes : KeyBytes} {is_below : ℕ → Bool} {Wants : List Item → Type 0} {nodes : Arena (Node N)}
+      {root height len room : ℕ} {taken : List Entry} → IsTree nodes root height len room → len < 2 ^ 64
+      → IsPartitioned (λ x. is_below x.key) (items_in nodes height root) → AllAreHeads bytes (all_heads_of nodes)
+      → Wants (items_in nodes height root) → taken ≡ [] → CanChangeBy bytes is_below Wants nodes root height taken
+  can_change {bytes} {is_below} {Wants} {nodes} {root} {height} {len} {room} {taken} t fits partitioned headed wanted none =
+      let low_is = low nodes root height len room t fits in
+      let room_is : height + 1 < spare_of nodes 0 = omega (arith, enough_spare nodes root height len room t) in
+      let some = root_some nodes root height len room t in
       record {
-        fan_out = t.fan_out;
-        few = t.few;
-        low = height_is;
-        rooted = t.rooted;
-        some = root_some nodes root height len room t;
-        room = omega (arith, height_is, enough_spare nodes root height len room t);
+        changeable = record { fan_out = t.fan_out; few = t.few; low = low_is; rooted = t.rooted; some = some; room = room_is };
+        partitioned = partitioned;
+        headed = headed;
+        wanted = wanted;
+        none_taken = none;
       }
 
   -- the tree after a change that puts other items in its nodes

@@ -1,6 +1,6 @@
 -- Items of which those of one leaf are written over: what is said of the leaf's is said of all of them.
 use Rattle.std.proofs.Common.{◌≡◌, ◌≢◌, ℕ, ℤ, inl, inr, Bool, true, false, not, List, [], ◌∷◌, ◌++◌, Option, None, Some}
-use Rattle.std.proofs.Common.{IsTrue, All, Any, refl, sym, ◌∙◌, ap, subst, append_assoc, append-nil}
+use Rattle.std.proofs.Common.{IsTrue, All, Any, refl, sym, ◌∙◌, append_assoc, append-nil}
 use Rattle.std.proofs.lemmas.List.Elements.{All-nil, All-filter, filter-append}
 use Rattle.tree.specs.declared.overwrite.Written.{Written}
 use Rattle.tree.specs.declared.overwrite.Written.TheVariants.{Partly, Whole}
@@ -48,8 +48,7 @@ module _ (p q : ℕ → Bool) (nested : (key : ℕ) → p key ≡ true → q key
     between_part : between (Some p) (Some q) (front ++ (part ++ back)) ≡ between (Some p) (Some q) part
     between_part =
         rw (between_is p q (front ++ (part ++ back)), between_is p q part, behind-parts p front part back opens fail_first)
-        (rw (filter-append (λ (x : Item). q x.key) (behind p part) back, (none_pass (λ (x : Item). q x.key) back fail).0)
-        (append-nil (items_below q (behind p part))))
+        (rw (filter-append, (none_pass (λ (x : Item). q x.key) back fail).0) (append-nil (items_below q (behind p part))))
 
     -- Where the middle part is written over, all items are.
     written_part : (first : Item) (second : ℕ) (given : Option ℤ) (is_ended : Bool) (now : List Item)
@@ -58,7 +57,7 @@ module _ (p q : ℕ → Bool) (nested : (key : ℕ) → p key ≡ true → q key
     written_part first second given is_ended now some written last last_is =
         let end = ended_some (items_below q part) some in
         let ends : (front ++ end.front) ++ end.last ∷ [] ≡ last_is.0 ++ last ∷ [] =
-        append_assoc front end.front (end.last ∷ []) ∙ (cc (end.is, passing_too, last_is.1)) in
+        cc (append_assoc front end.front (end.last ∷ []), end.is, passing_too, last_is.1) in
         let same = (same_ends (front ++ end.front) last_is.0 end.last last ends).1 in
         rw (written end.last (end.front, end.is), passing_part, behind_too, ← same)
         (simp append_assoc)
@@ -90,17 +89,15 @@ module _ (p q : ℕ → Bool) (nested : (key : ℕ) → p key ≡ true → q key
         let filled : front ≢ [] = λ none. some (gives.some (first none)) in
         let stays = All-filter fails_here (λ (x : Item). q x.key ≡ true) front pass in
         let passing_all : items_below p all ≡ items_below p front =
-        rw (filter-append here front (part ++ back), filter-append here part back, gives.none, (none_pass here back fail_first).0)
-        (append-nil (items_below p front)) in
+        rw (filter-append, filter-append, gives.none, (none_pass here back fail_first).0) (append-nil (items_below p front)) in
         record {
           kept = kept;
           some = λ none. some (sym gives.run_is ∙ none);
           run_is = rw (between_is p q all, filter-append fails_here front (part ++ back), filter-append fails_here part back)
-              (rw (fails.1, (none_pass here back fail_first).1, filter_around (λ (x : Item). q x.key) kept part back stays fail)
-              (ap (λ xs. kept ++ xs) (sym gives.run_is)));
+              (rw (fails.1, (none_pass here back fail_first).1, filter_around (λ x. q x.key) kept part back stays fail, gives.run_is));
           last_is = gives.last_is;
           now_is = cc (gives.rest, behind_too, front_is, passing_all, append_assoc (items_below p front) kept (behind q all));
-          first = λ none. filled (front_is ∙ ap (λ xs. xs ++ kept) (sym passing_all) ∙ none);
+          first = λ none. filled (front_is ∙ (rw passing_all at none));
         }
 
   -- What becomes of all items where those of the middle part are written over.
@@ -114,7 +111,7 @@ module _ (p q : ℕ → Bool) (nested : (key : ℕ) → p key ≡ true → q key
       let opens : All (λ x. p x.key ≡ true) front =
       elim gives.there [
         | inl one ↦ opens_front first_bound one
-        | inr is ↦ subst (All (λ (x : Item). p x.key ≡ true)) (sym (before is)) (All-nil (λ (x : Item). p x.key ≡ true))
+        | inr is ↦ rw (before is) (All-nil (λ (x : Item). p x.key ≡ true))
       ] in
       record {
         run_is = gives.run_is ∙ sym (between_part opens);

@@ -50,38 +50,27 @@ module _ (p q : ℕ → Bool) (nested : (key : ℕ) → p key ≡ true → q key
   run_here =
       let there = λ (e : Entry). q e.key in
       let from = (parted p es begin first_bound begins).0 in
+      let to = (parted q es end second_bound ends).0 in
       let pass : All (λ (e : Entry). q e.key ≡ true) (take begin es) =
       rw from (All-weaker _ _ (λ e. nested e.key) _ (filter_passes (λ (e : Entry). p e.key) es)) in
+      let split = filter-append there (take begin es) (drop begin es) in
       let all : take end es ≡ take begin es ++ filter there (drop begin es) =
-      cc (
-        (parted q es end second_bound ends).0,
-        take-append-drop begin es,
-        filter-append there (take begin es) (drop begin es),
-        (none_fail there (take begin es) pass).0,
-      ) in
+      cc (to, take-append-drop begin es, split, (none_fail there (take begin es) pass).0) in
       rw (all, drop_at (take begin es) _ begin (length-take-le begin es within))
 
   -- and the items
   pub between_entries : between (Some p) (Some q) (map item_of es) ≡ map item_of (drop begin (take end es))
   between_entries =
-      cc (
-        between_is p q (map item_of es),
-        (items_parted p es begin first_bound begins).1,
-        filter-items q (drop begin es),
-        run_here,
-      )
+      let rest = (items_parted p es begin first_bound begins).1 in
+      cc (between_is p q (map item_of es), rest, filter-items q (drop begin es), run_here)
 
   -- what becomes of the items where entries are put in place of those between the bounds
   pub replaced : (new now : List Entry) → now ≡ take begin es ++ (new ++ drop end es)
       → map item_of now ≡ items_below p (map item_of es) ++ (map item_of new ++ behind q (map item_of es))
   replaced new now now_is =
-      rw (
-        now_is,
-        map-append item_of (take begin es) (new ++ drop end es),
-        map-append item_of new (drop end es),
-        (items_parted p es begin first_bound begins).0,
-        (items_parted q es end second_bound ends).1,
-      )
+      let front = (items_parted p es begin first_bound begins).0 in
+      let back = (items_parted q es end second_bound ends).1 in
+      rw (now_is, map-append, map-append, front, back)
 
 -- The last entry below the bound, where it is lent, has the version of the last such item.
 pub last_version : (q : ℕ → Bool) (es passed : List Entry) (lent : Option (Bor Entry)) (version otherwise : ℤ)

@@ -1,4 +1,4 @@
-use Rattle.std.proofs.Common.{rules, ◌≡◌, ◌∙◌, ◌&&◌, int_lt, refl, false, SFits, w64, to_z, of_z, arith}
+use Rattle.std.proofs.Common.{rules, ◌≡◌, ◌∙◌, ◌&&◌, int_lt, refl, false, w64, to_z, of_z, arith}
 use Rattle.std.proofs.lemmas.Int.{to_z-of_z}
 use Rattle.std.proofs.lemmas.List.{drop_all}
 use Rattle.tree.proofs.Removing.{one_found, one_passed, one_not_below}
@@ -11,8 +11,7 @@ loop-entry-init c = refl
 pub returns-then-entry-edge : goal.returns-then-entry-edge
 returns-then-entry-edge c =
     let e = c.entry-item.result in
-    let fits : SFits w64 e.version = search rules in
-    let below = rw (to_z-of_z w64 e.version fits) at c.if-entry-edge.true in
+    let below = rw (to_z-of_z w64 e.version (search rules)) at c.if-entry-edge.true in
     let edge = to_z-of_z w64 c.args.edge c.ranges.edge in
     let before = to_z-of_z w64 c.args.before c.ranges.before in
     let found = one_found (to_z w64 (of_z w64 c.args.edge)) (to_z w64 c.loop-entry.last-bits) _ _ e c.loop-entry-test.true
@@ -24,13 +23,13 @@ loop-entry-preserved c =
     let e = c.entry-item.result in
     let edge = to_z w64 (of_z w64 c.args.edge) in
     let last = to_z w64 c.loop-entry.last-bits in
-    let fits : SFits w64 e.version = search rules in
+    let same = to_z-of_z w64 e.version (search rules) in
     let both : (int_lt last edge && int_lt e.version edge) ≡ false = elim c.else-last-edge.branch [
       | else-last-edge-via-then-last-edge+else-entry-edge w ↦
-          one_not_below (int_lt last edge) _ (rw (to_z-of_z w64 e.version fits) at w.if-entry-edge.false)
+          one_not_below (int_lt last edge) _ (rw same at w.if-entry-edge.false)
       | else-last-edge-via-else-last-edge w ↦ rw w.if-last-edge.false refl
     ] in
-    rw (to_z-of_z w64 e.version fits) (c.loop-entry.invariant ∙ one_passed edge last _ _ e c.loop-entry-test.true c.entry-item.is both)
+    rw same (c.loop-entry.invariant ∙ one_passed edge last _ _ e c.loop-entry-test.true c.entry-item.is both)
 
 pub returns : goal.returns
 returns c =

@@ -1,4 +1,4 @@
-use Rattle.std.proofs.Common.{rules, w64, SFits}
+use Rattle.std.proofs.Common.{rules, w64}
 use Rattle.std.proofs.lemmas.Int.{to_z-of_z}
 use Rattle.tree.proofs.Removing.{last_at}
 use Rattle.tree.proofs.expiring.look_at.Goals as goal
@@ -6,6 +6,5 @@ use Rattle.tree.proofs.expiring.look_at.Goals as goal
 pub returns-clause-last : goal.returns-clause-last
 returns-clause-last c =
     let e = c.index-entries-to.result in
-    let fits : SFits w64 e.version = search rules in
-    rw (← c.index-entries-to.is, to_z-of_z w64 e.version fits)
+    rw (← c.index-entries-to.is, to_z-of_z w64 e.version (search rules))
     (last_at c.args.entries.now c.args.from c.args.to e c.requires.some c.requires.within c.index-entries-to.is)

@@ -1,4 +1,4 @@
-use Rattle.std.proofs.Common.{rules, ◌≡◌, ◌<◌, ◌∙◌, sym, true, false, w64, to_z, of_z, SFits, ◌&&◌, int_lt, arith, refl, length}
+use Rattle.std.proofs.Common.{rules, ◌≡◌, ◌<◌, ◌∙◌, sym, true, false, w64, to_z, of_z, ◌&&◌, int_lt, arith, refl, length}
 use Rattle.std.proofs.lemmas.Int.{to_z-of_z}
 use Rattle.std.proofs.lemmas.List.{length-map, map-append}
 use Rattle.std.proofs.lemmas.Option.{slice_get_read}
@@ -26,8 +26,7 @@ loop-index-preserved g c =
     let edge = to_z w64 (of_z w64 c.args.edge) in
     let last = to_z w64 c.loop-index.last-bits in
     let e = c.index-entries-index.result in
-    let fits : SFits w64 e.version = search rules in
-    let same = to_z-of_z w64 e.version fits in
+    let same = to_z-of_z w64 e.version (search rules) in
     let is = rw c.entries.ensures.entries at c.index-entries-index.is in
     let inv = c.loop-index.invariant in
     elim c.if-version-edge.branch [

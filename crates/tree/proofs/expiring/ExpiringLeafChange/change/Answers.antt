@@ -1,4 +1,4 @@
-use Rattle.std.proofs.Common.{rules, Bool, false, IsTrue, ◌∷◌, ℕ, ℤ, ◌≡◌, ◌≢◌, ◌≤◌, ◌<◌, ◌+◌, ◌-◌, ◌∙◌, ◌++◌, ap, sym, refl, List, [], length, take, drop, map, arith, w64}
+use Rattle.std.proofs.Common.{rules, Bool, false, IsTrue, ◌∷◌, ℕ, ◌≡◌, ◌≢◌, ◌≤◌, ◌<◌, ◌+◌, ◌-◌, ◌∙◌, ◌++◌, ap, sym, refl, List, [], length, take, drop, map, arith, w64}
 use Rattle.std.proofs.lemmas.Int.{to_z-of_z}
 use Rattle.arena.specs.Arena.{with_header}
 use Rattle.tree.specs.declared.entry.Entry.{Entry}
@@ -40,6 +40,8 @@ none_goes (x ∷ out) told some said = absurd (let t = some (λ e. absurd (cc)) 
 
 -- where the run stands that is looked at
 module _ (g : given.Over) (c : After-has_expired g) where
+  open c use {args.{self.{now.{bound, count, edge, before}}, nodes.{now as nodes}, slot, place}, header_ref-leaf.{ensures.{header}}}
+
   abbrev es : List Entry
   es = entries_of c.header_ref-leaf.result.now
 
@@ -52,14 +54,8 @@ module _ (g : given.Over) (c : After-has_expired g) where
   abbrev looked : List Item
   looked = map item_of (run es begin end)
 
-  abbrev edge : ℤ
-  edge = c.args.self.now.edge
-
-  abbrev before : ℤ
-  before = c.args.self.now.before
-
-  read : entries_at c.args.nodes.now c.args.slot ≡ es
-  read = entries_from_header c.args.nodes.now c.args.slot c.header_ref-leaf.result.now c.header_ref-leaf.ensures.header
+  read : entries_at nodes slot ≡ es
+  read = entries_from_header nodes slot c.header_ref-leaf.result.now header
 
   some_looked : begin < end
   some_looked = omega (arith, c.min.ensures, c.args.self.now.some, c.len.ensures.len, c.lower_bound-below.ensures.count.within, c.if-below-eq0.false)
@@ -71,17 +67,17 @@ module _ (g : given.Over) (c : After-has_expired g) where
   swept : (now out : List Item)
       → now ≡ map item_of (take begin es) ++ (unexpired edge before looked ++ map item_of (drop end es))
       → out ≡ expired edge before looked
-      → GivesUnexpired (g.P.Bound.below c.args.self.now.bound.now) c.args.self.now.count edge before c.look_at-self.result out
-      c.args.place.behind (map item_of (entries_at c.args.nodes.now c.args.slot)) now
+      → GivesUnexpired (g.P.Bound.below bound.now) count edge before c.look_at-self.result out
+      place.behind (map item_of (entries_at nodes slot)) now
   swept now out now_is out_is =
-      let p = g.P.Bound.below c.args.self.now.bound.now in
-      let can = leaf_can_step c.requires.can_change c.header_ref-leaf.ensures.header in
-      let count = c.lower_bound-below.ensures.count.count_is in
+      let p = g.P.Bound.below bound.now in
+      let can = leaf_can_step c.requires.can_change header in
+      let count_is = c.lower_bound-below.ensures.count.count_is in
       let told = c.look_at-self.ensures in
       rw read (
-        λ none. absurd (some_item p es c.lower_bound-below.result (omega (arith, c.if-below-eq0.false)) count none),
-        λ _. leaf_unexpired es begin end some_looked within p can.can_find.partitioned (omega (arith, count, c.if-below-eq0.false))
-            _ edge before c.look_at-self.result out c.args.place.behind now (omega (arith, c.min.ensures)) told.looked_at
+        λ none. absurd (some_item p es c.lower_bound-below.result (omega (arith, c.if-below-eq0.false)) count_is none),
+        λ _. leaf_unexpired es begin end some_looked within p can.can_find.partitioned (omega (arith, count_is, c.if-below-eq0.false))
+            _ edge before c.look_at-self.result out place.behind now (omega (arith, c.min.ensures)) told.looked_at
             (rw c.entries.ensures.entries at told.last) now_is out_is (rw c.entries.ensures.entries at told.next),
       )
 
@@ -93,12 +89,12 @@ returns-then-not-has_expired-clause-changed g c =
 pub returns-then-not-has_expired-clause-items : goal.returns-then-not-has_expired-clause-items
 returns-then-not-has_expired-clause-items g c =
     let t = (goal.at.returns-then-not-has_expired-clause-items g c).After-has_expired in
-    let edge_is = to_z-of_z w64 (edge g t) (search rules) in
-    let before_is = to_z-of_z w64 (before g t) (search rules) in
+    let edge_is = to_z-of_z w64 c.args.self.now.edge (search rules) in
+    let before_is = to_z-of_z w64 c.args.self.now.before (search rules) in
     let none = rw (edge_is, before_is, c.entries-2.ensures.entries) at
     (none_goes _ c.has_expired.result c.has_expired.ensures.expired.1 c.if-not-has_expired.true) in
     swept g t _ _ (ap (map item_of) (read g t)
-    ∙ untouched (es g t) (begin g t) (end g t) (some_looked g t) (within g t) (edge g t) (before g t) none)
+    ∙ untouched (es g t) (begin g t) (end g t) (some_looked g t) (within g t) c.args.self.now.edge c.args.self.now.before none)
     (rw (none, c.requires.can_change.none_taken) refl)
 
 pub lengthen_prefix-requires : goal.lengthen_prefix-requires
@@ -116,8 +112,8 @@ returns-clause-items g c =
     let t = (goal.at.returns-clause-items g c).After-has_expired in
     let old = c.args.nodes.now in
     let node = c.lengthen_prefix.new.self in
-    let edge_is = to_z-of_z w64 (edge g t) (search rules) in
-    let before_is = to_z-of_z w64 (before g t) (search rules) in
+    let edge_is = to_z-of_z w64 c.args.self.now.edge (search rules) in
+    let before_is = to_z-of_z w64 c.args.self.now.before (search rules) in
     let there = sym (entries_from_header old c.args.slot c.header_mut-leaf.result.now c.header_mut-leaf.ensures.header) ∙ read g t in
     let after = put_entries old (with_header old c.args.slot node) c.args.slot node refl ∙ c.lengthen_prefix.ensures.entries in
     swept g t _ _ (ap (map item_of) after ∙ (rw (edge_is, before_is, there) at c.remove_expired.ensures.kept))

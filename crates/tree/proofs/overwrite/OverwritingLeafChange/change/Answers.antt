@@ -1,6 +1,6 @@
 use Rattle.std.proofs.Common.{rules, ℕ, ◌+◌, ◌-◌, ◌≡◌, ◌≤◌, ◌∙◌, ap, sym, refl, Bool, List, [], ◌∷◌}
 use Rattle.std.proofs.Common.{true, false, is_some, None, Option, Some, ◌++◌, length, take, drop, map, arith}
-use Rattle.std.proofs.Common.{ℤ, SFits, w64, inl, inr, ◌⊎◌, IsTrue, unwrap_or}
+use Rattle.std.proofs.Common.{ℤ, w64, inl, inr, ◌⊎◌, IsTrue, unwrap_or}
 use Rattle.arena.specs.Arena.{Arena, header_at, with_header}
 use Rattle.std.specs.Prelude.{slice_range, Result, Ok, OnOk}
 use Rattle.std.specs.List.{All}
@@ -34,14 +34,15 @@ use Rattle.tree.proofs.overwrite.OverwritingLeafChange.change.Goals as goal
 
 -- what is known of the leaf before the change, for the second bound and for the first
 module _ (g : given.Over) (c : After-header_ref-leaf g) where
-  open c use {args.{self.{now.{new.{now as new}}}}, header_ref-leaf.{result.{now as leaf}, ensures.{header}}, requires.{can_change}}
+  open c use {args.{self.{now.{new.{now as new}}}, nodes.{now as nodes}, slot, place}, requires.{can_change}}
+  open c use {header_ref-leaf.{result.{now as leaf}, ensures.{header}}}
 
   leaf_known : CanStep (g.Q.Bound.bytes new.to.now) (g.Q.Bound.below new.to.now) (g.Q.Bound.target new.to.now) leaf
-      c.args.place.common_prefix_len
+      place.common_prefix_len
   leaf_known = leaf_can_step can_change header
 
   from_known : CanFind (g.P.Bound.bytes new.from.now) (g.P.Bound.below new.from.now) leaf
-  from_known = leaf_can_find c.args.nodes.now c.args.slot leaf_known.can_find _ _ new.bytes header can_change.wanted
+  from_known = leaf_can_find nodes slot leaf_known.can_find _ _ new.bytes header can_change.wanted
 
 pub head_for-to_head-requires : goal.head_for-to_head-requires
 head_for-to_head-requires g c =
@@ -118,7 +119,10 @@ taken_out now es begin end done put none same in_order =
 
 -- what is written over the run
 module _ (g : given.Over) (c : Joined-is_some-2 g) where
-  open c use {args.{self.{now.{new.{now as new}}}, nodes.{now as nodes}, slot, place}, requires.{can_change}, header_ref-leaf.{result.{now as leaf}}, lower_bound_back-begin.{result as begin, ensures.{count.{count_is as begins}}}, lower_bound_with-end.{result as end, ensures.{count.{count_is as ends, within}}}, if-ended.{entries.{now as put}}, if-end-len.{ended}, item.{result as other}}
+  open c use {args.{self.{now.{new.{now as new}}}, nodes.{now as nodes}, slot, place}, requires.{can_change}, if-end-len.{ended}}
+  open c use {lower_bound_back-begin.{result as begin, ensures.{count.{count_is as begins}}}, if-ended.{entries.{now as put}}}
+  open c use {lower_bound_with-end.{result as end, ensures.{count.{count_is as ends}}}, item.{result as other}}
+  open c use {header_ref-leaf.{result.{now as leaf}, ensures.{header}}}
 
   abbrev p : ℕ → Bool
   p = g.P.Bound.below new.from.now
@@ -137,7 +141,7 @@ module _ (g : given.Over) (c : Joined-is_some-2 g) where
   put_heads = take (length put) (c.unwrap_or-2.result ∷ c.unwrap_or-3.result ∷ [])
 
   known : CanStep bytes q (g.Q.Bound.target new.to.now) leaf place.common_prefix_len
-  known = leaf_can_step can_change c.header_ref-leaf.ensures.header
+  known = leaf_can_step can_change header
 
   in_order : begin ≤ end
   in_order = omega (arith, no_more p q new.nested es)
@@ -207,37 +211,28 @@ module _ (g : given.Over) (c : Joined-is_some-2 g) where
       → GivesWhole p q (g.R.Bound.below new.past.now) (item_of new.first) new.second new.last ended
       (map item_of c.try_extend_from_slice.new.self.items) place.is_first place.behind (map item_of (entries_at nodes slot))
       (map item_of now)
-  whole now = rw (entries_from_header nodes slot leaf c.header_ref-leaf.ensures.header) (λ now_is.
-      let first_bound = (leaf_can_find nodes slot known.can_find _ p new.bytes c.header_ref-leaf.ensures.header can_change.wanted).partitioned in
+  whole now = rw (entries_from_header nodes slot leaf header) (λ now_is.
+      let first_bound = (leaf_can_find nodes slot known.can_find _ p new.bytes header can_change.wanted).partitioned in
       let second_bound = known.can_find.partitioned in
-      let begin_within : begin ≤ length es = omega (arith, in_order) in
+      let within : begin ≤ length es = omega (arith, in_order, c.lower_bound_with-end.ensures.count.within) in
       let some : 1 ≤ end = elim entered [ inl some ↦ omega (arith, some, in_order) | inr first ↦ first.1 ] in
+      let run = between_entries p q new.nested es begin end first_bound second_bound within begins ends in
       record {
         there = elim entered [ inl some ↦ inl (some_item p es begin some begins) | inr first ↦ inr first.0 ];
         some = some_item q es end some ends;
-        run_is = taken_out _ es begin end c.unwrap.ensures c.try_extend_from_slice.ensures.ok can_change.none_taken
-            c.entries.ensures.entries in_order
-            ∙ sym (between_entries p q new.nested es begin end first_bound second_bound begin_within begins ends);
+        run_is = rw run (taken_out _ es begin end c.unwrap.ensures c.try_extend_from_slice.ensures.ok can_change.none_taken
+            c.entries.ensures.entries in_order);
         ended_is = told;
         written = λ last is_last.
-            let fits : SFits w64 c.unwrap_or.result = search rules in
-            let last_fits : SFits w64 c.map_or-last.result = search rules in
+            let kept = to_z-of_z w64 c.unwrap_or.result (search rules) in
+            let last_kept = to_z-of_z w64 c.map_or-last.result (search rules) in
             let last_is = last_version q es (take end c.entries-2.result.now) c.last.result c.map_or-last.result _ _
-            (ap (take end) c.entries-2.ensures.entries ∙ (parted q es end second_bound ends).0) c.last.ensures.value c.map_or-last.ensures
-            (λ e h. search rules) last is_last in
+            (ap (take end) c.entries-2.ensures.entries ∙ (parted q es end second_bound ends).0) c.last.ensures.value
+            c.map_or-last.ensures (λ e h. search rules) last is_last in
             let second : item_of other ≡ record { key = new.second; version = unwrap_or new.last last.version } =
-            rw (
-              c.item.ensures.item,
-              to_z-of_z w64 c.unwrap_or.result fits,
-              c.unwrap_or.ensures,
-              to_z-of_z w64 c.map_or-last.result last_fits,
-              last_is,
-            ) in
-            cc (
-              replaced p q new.nested es begin end first_bound second_bound begin_within begins ends put now now_is,
-              put_is,
-              items_put ended new.first other _ (behind q (map item_of es)) second,
-            );
+            rw (c.item.ensures.item, kept, c.unwrap_or.ensures, last_kept, last_is) in
+            let items = replaced p q new.nested es begin end first_bound second_bound within begins ends put now now_is in
+            cc (items, put_is, items_put ended new.first other _ (behind q (map item_of es)) second);
       })
 
 pub overflow_add-begin : goal.overflow_add-begin
@@ -316,15 +311,13 @@ returns-then-not-place-clause-items g c =
     let run_is = taken_out _ es c.lower_bound_back-begin.result end c.unwrap.ensures c.try_extend_from_slice.ensures.ok
     c.requires.can_change.none_taken c.entries.ensures.entries (omega (arith, no_more p q new.nested es))
     ∙ ap (λ n. map item_of (drop n (take end es))) c.if-begin-eq0.true ∙ sym parts.0 in
-    let fits : SFits w64 c.map_or-last.result = search rules in
+    let kept = to_z-of_z w64 c.map_or-last.result (search rules) in
     rw read
     (record {
       none = (items_parted p es 0 (from_known g h).partitioned (omega (arith, c.if-begin-eq0.true))).0;
       run_is = run_is;
       rest = rw (left, read, parts.1);
-      last_is = λ x last.
-          to_z-of_z w64 c.map_or-last.result fits
-          ∙ last_version q es (take end c.entries-2.result.now) c.last.result c.map_or-last.result _ _
+      last_is = λ x last. kept ∙ last_version q es (take end c.entries-2.result.now) c.last.result c.map_or-last.result _ _
           (ap (take end) c.entries-2.ensures.entries ∙ (parted q es end second_bound ends).0) c.last.ensures.value
           c.map_or-last.ensures (λ e h. search rules) x (rw run_is at last);
       some = λ is_first. elim c.if-end-eq0.branch [
@@ -392,10 +385,10 @@ returns-clause-changed g c =
     let first_stays = raised (p g j) (q g j) new.nested (item_of new.first) new.second c.if-end-len.ended _ _
     (part_partitioned (p g j) _ c.requires.can_change.wanted)
     (rw (entries_from_header c.args.nodes.now slot _ c.header_ref-leaf.ensures.header) some) gives.some (rw none at gives.written) in
-    let fits : SFits w64 new.first.version = search rules in
+    let kept = to_z-of_z w64 new.first.version (search rules) in
     leaf_put _ c.args.nodes.now _ slot c.splice_with_heads.new.self _ refl c.requires.can_change.changeable
     c.requires.can_change.searched.headed c.splice_with_heads.ensures.headed refl (λ e. absurd (cc))
-    (λ told e. let same : new.first.version ≡ told = cc (to_z-of_z w64 new.first.version fits) in rw same at first_stays)
+    (λ told e. let same : new.first.version ≡ told = cc (kept) in rw same at first_stays)
 
 pub returns-clause-leaf_bound : goal.returns-clause-leaf_bound
 returns-clause-leaf_bound g c = refl

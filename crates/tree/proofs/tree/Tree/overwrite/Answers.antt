@@ -15,42 +15,33 @@ use Rattle.tree.proofs.tree.Tree.overwrite.Goals.{After-len}
 
 pub change-requires : goal.change-requires
 change-requires g c =
-    let t = c.self.inside in
-    let can = rw (← c.self.view_is) at c.requires.can_overwrite in (
-      omega (arith, c.self.invariant.few),
-      (
-        omega (arith, c.self.invariant.few),
-        record {
-          changeable = can_change t.nodes t.root.slot t.root.height t.len t.room c.self.invariant (omega arith);
-          partitioned = can.to;
-          headed = headed_from_list (g.Q.Bound.bytes c.args.new.now.to.now) t.nodes can.headed;
-          wanted = ([], [], rw append-nil can.from);
-          none_taken = can.none_taken;
-        },
-      ),
-    )
+    let can = rw (← c.self.view_is) at c.requires.can_overwrite in
+    let headed = headed_from_list (g.Q.Bound.bytes c.args.new.now.to.now) c.self.inside.nodes can.headed in
+    let t = c.self.invariant in
+    (omega arith, (omega arith, can_change t (omega arith) can.to headed ([], [], rw append-nil can.from) can.none_taken))
 
 module _ (g : given.Over) (c : After-len g) where
+  open c use {args.{new.{now as new}}, self.{inside as old}, change.{new.{nodes, root, change, taken}}}
+
   abbrev was : List Item
-  was = items_in c.self.inside.nodes c.self.inside.root.height c.self.inside.root.slot
+  was = items_in old.nodes old.root.height old.root.slot
 
   abbrev now : List Item
-  now = items_in c.change.new.nodes c.change.new.root.height c.change.new.root.slot
+  now = items_in nodes root.height root.slot
 
   -- what became of the items
-  done : Overwrites (g.P.Bound.below c.args.new.now.from.now) (g.Q.Bound.below c.args.new.now.to.now)
-      (g.R.Bound.below c.args.new.now.past.now) (item_of c.args.new.now.first) c.args.new.now.second c.args.new.now.last
-      c.change.new.change.written (map item_of c.change.new.taken.items) was now
+  done : Overwrites (g.P.Bound.below new.from.now) (g.Q.Bound.below new.to.now) (g.R.Bound.below new.past.now)
+      (item_of new.first) new.second new.last change.written (map item_of taken.items) was now
   done =
       let can = rw (← c.self.view_is) at c.requires.can_overwrite in
-      overwritten _ _ _ c.args.new.now.nested _ _ _ _ _ was now c.change.ensures.items can.from can.to can.past can.some
+      overwritten _ _ _ new.nested _ _ _ _ _ was now c.change.ensures.items can.from can.to can.past can.some
 
   -- how many items there are
-  counted : (length now + c.len.result ≡ length was + put_of c.change.new.change.written) × (1 ≤ length now)
+  counted : (length now + c.len.result ≡ length was + put_of change.written) × (1 ≤ length now)
   counted =
       let can = rw (← c.self.view_is) at c.requires.can_overwrite in
-      rw (length-map, ← c.len.ensures.value) at
-      (length-overwritten _ _ _ c.args.new.now.nested _ _ _ _ _ was now can.some done)
+      let count = length-overwritten _ _ _ new.nested _ _ _ _ _ was now can.some done in
+      rw (length-map, ← c.len.ensures.value) at count
 
 pub overflow_add-self : goal.overflow_add-self
 overflow_add-self g c =

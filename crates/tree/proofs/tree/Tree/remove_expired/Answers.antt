@@ -15,35 +15,27 @@ use Rattle.tree.proofs.tree.Tree.remove_expired.Goals.{After-len}
 
 pub change-requires : goal.change-requires
 change-requires g c =
-    let t = c.self.inside in
-    let can = rw (← c.self.view_is) at c.requires.can_remove in (
-      omega (arith, c.self.invariant.few),
-      (
-        omega (arith, c.self.invariant.few),
-        record {
-          changeable = can_change t.nodes t.root.slot t.root.height t.len t.room c.self.invariant (omega arith);
-          partitioned = can.partitioned;
-          headed = headed_from_list (g.P.Bound.bytes c.args.bound.now) t.nodes can.headed;
-          wanted = tt;
-          none_taken = can.none_taken;
-        },
-      ),
-    )
+    let can = rw (← c.self.view_is) at c.requires.can_remove in
+    let headed = headed_from_list (g.P.Bound.bytes c.args.bound.now) c.self.inside.nodes can.headed in
+    let t = c.self.invariant in
+    (omega arith, (omega arith, can_change t (omega arith) can.partitioned headed tt can.none_taken))
 
 module _ (g : given.Over) (c : After-len g) where
+  open c use {args.{bound, count, edge, before}, self.{inside as old}, change.{new.{nodes, root, change, taken}}}
+
   abbrev was : List Item
-  was = items_in c.self.inside.nodes c.self.inside.root.height c.self.inside.root.slot
+  was = items_in old.nodes old.root.height old.root.slot
 
   abbrev now : List Item
-  now = items_in c.change.new.nodes c.change.new.root.height c.change.new.root.slot
+  now = items_in nodes root.height root.slot
 
   -- what became of the items
-  done : RemovesExpired (g.P.Bound.below c.args.bound.now) c.args.count c.args.edge c.args.before c.change.new.change.removal
-      (map item_of c.change.new.taken.items) None was now
+  done : RemovesExpired (g.P.Bound.below bound.now) count edge before change.removal (map item_of taken.items) None was now
   done =
       let can = rw (← c.self.view_is) at c.requires.can_remove in
-      unexpired_all _ _ _ _ _ _ was now
-      (rw (to_z-of_z w64 c.args.edge c.ranges.edge, to_z-of_z w64 c.args.before c.ranges.before) at c.change.ensures.items) can.some
+      let edge_is = to_z-of_z w64 edge c.ranges.edge in
+      let before_is = to_z-of_z w64 before c.ranges.before in
+      unexpired_all _ _ _ _ _ _ was now (rw (edge_is, before_is) at c.change.ensures.items) can.some
 
   -- how many items there are
   counted : (length now + c.len.result ≡ length was) × (1 ≤ length now)
