@@ -21,7 +21,7 @@ pub unexpired_all : (p : ℕ → Bool) (count : ℕ) (edge before : ℤ) (remova
     → items_below p was ≢ [] → RemovesExpired p count edge before removal run None was now
 unexpired_all p count edge before removal run was now c some =
     let pass = filter_around (λ (x : Item). p x.key) c.before c.leaf c.behind c.items_below c.failing in
-    let h = c.gives.1 (some_here p p (λ key t. t) c.before c.leaf c.behind c.items_below c.failing c.found (rw c.was_is at some)) in
+    let h = c.gives.1 (some_here p p (λ key t. t) c some) in
     rw (c.was_is, c.now_is) record {
       front = c.before ++ h.front;
       first = h.first;
@@ -32,7 +32,7 @@ unexpired_all p count edge before removal run was now c some =
       looked_at = h.looked_at;
       some = h.some;
       few = h.few;
-      now_is = rw h.now_is (simp append_assoc);
+      now_is = ap (λ xs. c.before ++ (xs ++ c.behind)) h.now_is ∙ (simp append_assoc);
       run_is = h.run_is;
       last = h.last;
       next_is = h.next_is ∙ sym (first_key-append None h.rest c.behind);

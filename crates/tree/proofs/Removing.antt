@@ -1,7 +1,7 @@
 -- The removal of the expired items of a run, entry by entry.
-use Rattle.std.proofs.Common.{add-one, ◌≡◌, ◌≢◌, ℕ, suc, ◌+◌, ◌-◌, ◌<◌, ◌≤◌, ℤ, int_lt, int_le, ◌&&◌, Bool, true, false, List, [], ◌∷◌, ◌++◌, length, get_or, map, take, drop, set, refl, sym, ◌∙◌, ap, arith, inl, inr, length-append, length-drop, drop-cons, append_assoc}
+use Rattle.std.proofs.Common.{◌≡◌, ◌≢◌, ℕ, suc, ◌+◌, ◌-◌, ◌<◌, ◌≤◌, ℤ, int_lt, int_le, ◌&&◌, Bool, true, false, List, [], ◌∷◌, ◌++◌, length, get_or, map, take, drop, set, refl, ◌∙◌, ap, arith, inl, inr, length-append, length-drop, append_assoc}
 use Rattle.std.proofs.lemmas.Int.{ints}
-use Rattle.std.proofs.lemmas.List.{append-nil, get_or-drop, map-append, take_more, take_more_set, drop-set-lt, drop-drop}
+use Rattle.std.proofs.lemmas.List.{append-nil, get_or-drop, map-append, take_more, take_more_set, drop-set-lt, drop-drop, drop_more}
 use Rattle.std.proofs.Math.ListN.{length-set}
 use Rattle.std.proofs.lemmas.Bool.{cases_Bool}
 use Rattle.tree.specs.declared.entry.Entry.{Entry}
@@ -13,20 +13,17 @@ abbrev pub run : List Entry → ℕ → ℕ → List Entry
 run es from to = take (to - from) (drop from es)
 
 -- each goes or stays
-pub expired_or_kept : (edge before : ℤ) (xs : List Item) → length (unexpired edge before xs) + length (expired edge before xs) ≡ length xs
+pub expired_or_kept : (edge before : ℤ) (xs : List Item)
+    → length (unexpired edge before xs) + length (expired edge before xs) ≡ length xs
 expired_or_kept edge before [] = omega arith
 expired_or_kept edge before (x ∷ xs) =
     let i = expired_or_kept edge x.version xs in
-    elim (cases_Bool (int_lt before edge && int_lt x.version edge)) [
-      | inl t ↦ rw t (omega arith)
-      | inr f ↦ rw f (omega arith)
-    ]
+    elim (cases_Bool (int_lt before edge && int_lt x.version edge)) [ inl t ↦ rw t (omega arith) | inr f ↦ rw f (omega arith) ]
 
 -- the entries from an index on
 from_index : (es : List Entry) (index : ℕ) (e : Entry) → index < length es → e ≡ get_or es index e
     → drop index es ≡ e ∷ drop (index + 1) es
-from_index es index e inside is =
-    rw add-one (drop-cons es index e inside ∙ ap (λ x. x ∷ drop (suc index) es) (sym is))
+from_index es index e inside is = rw is (drop_more es index e inside)
 
 -- where none goes, all stay
 pub all_stay : (edge before : ℤ) (xs : List Item) → expired edge before xs ≡ [] → unexpired edge before xs ≡ xs
@@ -117,7 +114,8 @@ module _ {edge before last : ℤ} {es now : List Entry} {out : List Item} {from 
 
     -- at the end of the run
     pub all_kept : (after : List Entry) → after ≡ take kept now ++ drop to now
-        → map item_of after ≡ map item_of (take from es) ++ (unexpired edge before (map item_of (run es from to)) ++ map item_of (drop to es))
+        → map item_of after
+        ≡ map item_of (take from es) ++ (unexpired edge before (map item_of (run es from to)) ++ map item_of (drop to es))
     all_kept after is = rw (is, map-append, rw (none_ahead, append-nil) at t.stayed, rw end at t.ahead, append_assoc) refl
 
     -- Those that went are all that go.

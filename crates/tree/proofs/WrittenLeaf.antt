@@ -96,11 +96,6 @@ first_of_front : (xs ys zs : List Item) → xs ≢ [] → first_key None (xs ++ 
 first_of_front [] ys zs some = absurd (some refl)
 first_of_front (x ∷ xs) ys zs some = refl
 
--- each item has a version that is there
-own_version : (items : List Item) → All (λ (x : Item). Any (λ (w : Item). x.version ≡ w.version) items) items
-own_version items k d within =
-    let c = Contains-get_or items k d within in (c.0, get_or items k d, c.1, c.2, refl)
-
 -- Where a run is written over that has an item before it, the first key stays, and the version of the first new item comes in.
 pub raised : (p q : ℕ → Bool) → ((key : ℕ) → p key ≡ true → q key ≡ true) → (first : Item) (second : ℕ) (ended : Bool)
     (was now : List Item) → IsPartitioned (λ x. p x.key) was → items_below p was ≢ [] → items_below q was ≢ []
@@ -112,10 +107,13 @@ raised p q nested first second ended was now partitioned some some_second writte
     let now_is : now ≡ items_below p was ++ rest = written end.last (end.front, end.is) in
     let Known : Item → Type 0 = λ x. Any (λ (w : Item). x.version ≡ w.version) was in
     let P : Item → Type 0 = λ x. (x.version ≡ first.version) ⊎ Known x in
-    let own : All P was = All-weaker Known P (λ x k. inr k) was (own_version was) in
+    let known : All Known was = λ k d within. let c = Contains-get_or was k d within in (c.0, get_or was k d, c.1, c.2, refl) in
+    let own : All P was = All-weaker Known P (λ x k. inr k) was known in
     let last : Known end.last =
     All-head Known end.last [] (All-back Known end.front (end.last ∷ [])
-    (rw end.is at (All-filter (λ (x : Item). q x.key) Known was (own_version was)))) in
+    (rw end.is at (All-filter (λ (x : Item). q x.key) Known was known))) in
+    let ends : All P (ended_by ended x) =
+    (elim ended as (λ b. All P (ended_by b x)) [ true ↦ All-nil P | false ↦ All-cons P x [] (inr last) (All-nil P) ]) in
     record {
       first = ap (first_key None) now_is ∙ first_of_front (items_below p was) rest (behind p was) some
           ∙ ap (first_key None) (sym partitioned);
@@ -123,14 +121,8 @@ raised p q nested first second ended was now partitioned some some_second writte
       others = rw now_is
           (All-append P (items_below p was) rest (All-filter (λ (x : Item). p x.key) P was own)
           (All-cons P first _ (inl refl)
-          (All-append P _ (behind q was) (All-ended_by P ended x (inr last))
-          (All-filter (λ (x : Item). not (q x.key)) P was own))));
+          (All-append P _ (behind q was) ends (All-filter (λ (x : Item). not (q x.key)) P was own))));
     }
-  where
-    -- what holds of an item holds of one that ends a run, if there is one
-    All-ended_by : (P : Item → Type 0) (is_ended : Bool) (x : Item) → P x → All P (ended_by is_ended x)
-    All-ended_by P true x holds = All-nil P
-    All-ended_by P false x holds = All-cons P x [] holds (All-nil P)
 
 module _ (q r : ℕ → Bool) (es : List Entry) (end : ℕ) (others : drop end es ≡ filter (λ e. not (q e.key)) es)
     (otherwise : Option ℕ) (ended : Bool) where

@@ -1,7 +1,6 @@
 use Rattle.std.proofs.Common.{rules, ℕ, ◌+◌, ◌-◌, ◌≡◌, ◌≤◌, ◌∙◌, ap, sym, refl, Bool, List, [], ◌∷◌}
 use Rattle.std.proofs.Common.{true, false, is_some, None, Option, Some, ◌++◌, length, take, drop, map, arith}
 use Rattle.std.proofs.Common.{ℤ, w64, inl, inr, ◌⊎◌, IsTrue, unwrap_or}
-use Rattle.arena.specs.Arena.{Arena, header_at, with_header}
 use Rattle.std.specs.Prelude.{slice_range, Result, Ok, OnOk}
 use Rattle.std.specs.List.{All}
 use Rattle.std.proofs.lemmas.Bool.{leb-true, not-false}
@@ -281,13 +280,6 @@ splice_with_heads-requires g c =
       ),
     )
 
--- the entries of a leaf that was read, and of what is put there
-spliced : {N : ℕ} (old : Arena (Node N)) (slot : ℕ) (leaf node : Node N) (Spliced : List Entry → List Entry)
-    → header_at old slot ≡ Some leaf → entries_of node ≡ Spliced (entries_of leaf)
-    → entries_at (with_header old slot node) slot ≡ Spliced (entries_at old slot)
-spliced old slot leaf node Spliced header is =
-    cc (put_entries old (with_header old slot node) slot node refl, entries_from_header old slot leaf header)
-
 -- Where no item before the run is in the leaf, what the leaf has of the run is taken out.
 pub returns-then-not-place-clause-changed : goal.returns-then-not-place-clause-changed
 returns-then-not-place-clause-changed g c =
@@ -306,8 +298,8 @@ returns-then-not-place-clause-items g c =
     let second_bound = (leaf_known g h).can_find.partitioned in
     let ends = c.lower_bound_with-end.ensures.count.count_is in
     let parts = items_parted q es end second_bound ends in
-    let left = spliced c.args.nodes.now c.args.slot c.header_mut.result.now c.remove.new.self (drop end)
-    c.header_mut.ensures.header c.remove.ensures.entries in
+    let put = put_entries c.args.nodes.now _ c.args.slot c.remove.new.self refl in
+    let there : c.header_mut.result.now ≡ c.header_ref-leaf.result.now = cc in
     let run_is = taken_out _ es c.lower_bound_back-begin.result end c.unwrap.ensures c.try_extend_from_slice.ensures.ok
     c.requires.can_change.none_taken c.entries.ensures.entries (omega (arith, no_more p q new.nested es))
     ∙ ap (λ n. map item_of (drop n (take end es))) c.if-begin-eq0.true ∙ sym parts.0 in
@@ -316,7 +308,7 @@ returns-then-not-place-clause-items g c =
     (record {
       none = (items_parted p es 0 (from_known g h).partitioned (omega (arith, c.if-begin-eq0.true))).0;
       run_is = run_is;
-      rest = rw (left, read, parts.1);
+      rest = cc (put, c.remove.ensures.entries, parts.1);
       last_is = λ x last. kept ∙ last_version q es (take end c.entries-2.result.now) c.last.result c.map_or-last.result _ _
           (ap (take end) c.entries-2.ensures.entries ∙ (parted q es end second_bound ends).0) c.last.ensures.value
           c.map_or-last.ensures (λ e h. search rules) x (rw run_is at last);
@@ -357,9 +349,9 @@ returns-then-begin-eq0-2-clause-changed g c =
 pub returns-then-begin-eq0-2-clause-items : goal.returns-then-begin-eq0-2-clause-items
 returns-then-begin-eq0-2-clause-items g c =
     let j = (goal.at.returns-then-begin-eq0-2-clause-items g c).Joined-is_some-2 in
-    whole g j _ (spliced c.args.nodes.now c.args.slot c.header_mut-leaf.result.now c.splice_with_heads.new.self
-    (λ es. take c.lower_bound_back-begin.result es ++ (c.if-ended.entries.now ++ drop c.lower_bound_with-end.result es)) c.header_mut-leaf.ensures.header
-    c.splice_with_heads.ensures.entries)
+    let put = put_entries c.args.nodes.now _ c.args.slot c.splice_with_heads.new.self refl in
+    let read = entries_from_header c.args.nodes.now c.args.slot _ c.header_mut-leaf.ensures.header in
+    whole g j _ (cc (c.splice_with_heads.ensures.entries))
 
 none_if : (o : Option ℤ) → is_some o ≡ false → o ≡ None
 none_if None f = refl
@@ -368,9 +360,9 @@ none_if (Some v) f = absurd (cc)
 pub returns-clause-items : goal.returns-clause-items
 returns-clause-items g c =
     let j = (goal.at.returns-clause-items g c).Joined-is_some-2 in
-    whole g j _ (spliced c.args.nodes.now c.args.slot c.header_mut-leaf.result.now c.splice_with_heads.new.self
-    (λ es. take c.lower_bound_back-begin.result es ++ (c.if-ended.entries.now ++ drop c.lower_bound_with-end.result es)) c.header_mut-leaf.ensures.header
-    c.splice_with_heads.ensures.entries)
+    let put = put_entries c.args.nodes.now _ c.args.slot c.splice_with_heads.new.self refl in
+    let read = entries_from_header c.args.nodes.now c.args.slot _ c.header_mut-leaf.ensures.header in
+    whole g j _ (cc (c.splice_with_heads.ensures.entries))
 
 -- Where the leaf has an item before the run, and no version is given, the first key stays.
 pub returns-clause-changed : goal.returns-clause-changed
@@ -382,9 +374,9 @@ returns-clause-changed g c =
     let none = none_if new.last (sym c.is_some-else-begin-eq0-2.ensures ∙ c.if-is_some-3.false) in
     let some = some_item (p g j) (es g j) c.lower_bound_back-begin.result (omega (arith, c.if-begin-eq0-2.false))
     c.lower_bound_back-begin.ensures.count.count_is in
+    let read = entries_from_header c.args.nodes.now slot _ c.header_ref-leaf.ensures.header in
     let first_stays = raised (p g j) (q g j) new.nested (item_of new.first) new.second c.if-end-len.ended _ _
-    (part_partitioned (p g j) _ c.requires.can_change.wanted)
-    (rw (entries_from_header c.args.nodes.now slot _ c.header_ref-leaf.ensures.header) some) gives.some (rw none at gives.written) in
+    (part_partitioned (p g j) _ c.requires.can_change.wanted) (rw read some) gives.some (rw none at gives.written) in
     let kept = to_z-of_z w64 new.first.version (search rules) in
     leaf_put _ c.args.nodes.now _ slot c.splice_with_heads.new.self _ refl c.requires.can_change.changeable
     c.requires.can_change.searched.headed c.splice_with_heads.ensures.headed refl (λ e. absurd (cc))
