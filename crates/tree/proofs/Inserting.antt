@@ -1,6 +1,5 @@
 -- A change to the items of a tree, and the last of a list.
 use Rattle.std.proofs.Common.{◌≡◌, ◌≢◌, ℕ, ◌+◌, ◌≤◌, ◌<◌, ◌^◌, Bool, not, List, [], ◌∷◌, ◌++◌, length, refl, ap, arith}
-use Rattle.std.proofs.Common.{length-append}
 use Rattle.std.specs.FinMap as finite
 use Rattle.std.proofs.lemmas.List.Filters.{length-filter_both}
 use Rattle.arena.specs.Arena.{Arena, spare_of}
@@ -35,8 +34,8 @@ module _ {N : ℕ} where
       }
 
   -- the tree after a change that puts other items in its nodes
-  pub tree_put : (a b : Arena (Node N)) (root height slot above len now room : ℕ) → IsTree a root height len room → IsRooted b slot above
-      → spare_of b 0 + finite.len b.records ≡ spare_of a 0 + finite.len a.records → now ≡ length (items_in b above slot)
+  pub tree_put : (a b : Arena (Node N)) (root height slot above len now room : ℕ)
+      → IsTree a root height len room → IsRooted b slot above → spare_of b 0 + finite.len b.records ≡ spare_of a 0 + finite.len a.records → now ≡ length (items_in b above slot)
       → 1 ≤ now → now ≤ room → IsTree b slot above now room
   tree_put a b root height slot above len now room t rooted spare counted some within =
       let same : finite.len a.records + spare_of a 0 ≡ finite.len b.records + spare_of b 0 = omega arith in
@@ -51,18 +50,10 @@ module _ {N : ℕ} where
       }
 
 -- those that pass and those that don't are all
-pub length-partitioned : (is_below : ℕ → Bool) (items : List Item) → length (items_below is_below items) + length (behind is_below items) ≡ length items
-length-partitioned is_below items = length-filter_both (λ (x : Item). is_below x.key) (λ (x : Item). not (is_below x.key)) (λ x. refl) items
-
--- lists with one element behind them that are the same
-pub same_ends : {X : Type 0} (xs ys : List X) (x y : X) → xs ++ x ∷ [] ≡ ys ++ y ∷ [] → (xs ≡ ys) × (x ≡ y)
-same_ends [] [] x y e = (refl, cc)
-same_ends [] (b ∷ ys) x y e = absurd (omega (arith, ap length e, length-append ys (y ∷ [])))
-same_ends (a ∷ xs) [] x y e = absurd (omega (arith, ap length e, length-append xs (x ∷ [])))
-same_ends (a ∷ xs) (b ∷ ys) x y e =
-    let r = same_ends xs ys x y (cc) in
-    let head : a ≡ b = cc in
-    (cc, r.1)
+pub length-partitioned : (is_below : ℕ → Bool) (items : List Item)
+    → length (items_below is_below items) + length (behind is_below items) ≡ length items
+length-partitioned is_below items =
+    length-filter_both (λ (x : Item). is_below x.key) (λ (x : Item). not (is_below x.key)) (λ x. refl) items
 
 -- a list that isn't empty ends with an element
 pub record Ended {X : Type 0} (xs : List X) : Type 0 where
@@ -70,11 +61,10 @@ pub record Ended {X : Type 0} (xs : List X) : Type 0 where
   pub last : X
   pub is : xs ≡ front ++ last ∷ []
 
-ended : {X : Type 0} (x : X) (xs : List X) → Ended (x ∷ xs)
-ended x [] = record { front = []; last = x; is = refl }
-ended x (y ∷ ys) = let r = ended y ys in record { front = x ∷ r.front; last = r.last; is = ap (λ l. x ∷ l) r.is }
-
 -- which is there where the list isn't empty
 pub ended_some : {X : Type 0} (xs : List X) → xs ≢ [] → Ended xs
 ended_some [] some = absurd (some refl)
-ended_some (x ∷ xs) some = ended x xs
+ended_some (x ∷ []) some = record { front = []; last = x; is = refl }
+ended_some (x ∷ y ∷ ys) some =
+    let r = ended_some (y ∷ ys) (λ none. absurd (cc)) in
+    record { front = x ∷ r.front; last = r.last; is = ap (λ l. x ∷ l) r.is }

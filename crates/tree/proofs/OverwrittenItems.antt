@@ -3,6 +3,7 @@ use Rattle.std.proofs.Common.{◌≡◌, ◌≢◌, ℕ, ℤ, ◌+◌, ◌≤◌
 use Rattle.std.proofs.Common.{[], ◌∷◌, ◌++◌, Option, Some, None, IsTrue, length, refl, unwrap_or}
 use Rattle.std.proofs.Common.{ap, arith, length-append}
 use Rattle.std.proofs.lemmas.Bool.{cases_Bool}
+use Rattle.std.proofs.lemmas.List.{nil_from_length}
 use Rattle.tree.specs.declared.overwrite.Written.{Written}
 use Rattle.tree.specs.declared.overwrite.Written.TheVariants.{Partly, Whole}
 use Rattle.tree.specs.Item.{Item}
@@ -23,10 +24,6 @@ put_most (Whole false) = omega arith
 length-put : (ended : Bool) (x : Item) → 1 + length (ended_by ended x) ≡ put_of (Whole ended)
 length-put true x = refl
 length-put false x = refl
-
-some_left : (xs : List Item) → xs ≢ [] → 1 ≤ length xs
-some_left [] some = absurd (some refl)
-some_left (x ∷ xs) some = omega arith
 
 module _ (p q r : ℕ → Bool) (nested : (key : ℕ) → p key ≡ true → q key ≡ true) where
   -- Each item is below the first bound, or stands between the two, or fails the second.
@@ -55,7 +52,7 @@ module _ (p q r : ℕ → Bool) (nested : (key : ℕ) → p key ≡ true → q k
       )
   length-overwritten first second given (Partly last) run was now some h =
       let now_is = ap length h.now_is in
-      let left = some_left (items_below p was ++ h.kept) h.first in (
+      let left : length (items_below p was ++ h.kept) ≢ 0 = λ none. h.first (nil_from_length _ none) in (
         omega (arith, length-between was, ap length h.run_is, now_is, length-append {A = Item}),
         omega (arith, now_is, left, length-append {A = Item}),
       )

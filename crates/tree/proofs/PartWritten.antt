@@ -1,6 +1,7 @@
 -- Items of which those of one leaf are written over: what is said of the leaf's is said of all of them.
 use Rattle.std.proofs.Common.{◌≡◌, ◌≢◌, ℕ, ℤ, inl, inr, Bool, true, false, not, List, [], ◌∷◌, ◌++◌, Option, None, Some}
 use Rattle.std.proofs.Common.{ap, All, Any, refl, sym, ◌∙◌, append_assoc, append-nil}
+use Rattle.std.proofs.lemmas.List.{same_from_push}
 use Rattle.std.proofs.lemmas.List.Elements.{All-nil, All-filter, filter-append}
 use Rattle.tree.specs.declared.overwrite.Written.{Written}
 use Rattle.tree.specs.declared.overwrite.Written.TheVariants.{Partly, Whole}
@@ -9,7 +10,7 @@ use Rattle.tree.specs.Overwrite.{IsOverwritten, GivesPart, GivesWritten, Overwri
 use Rattle.tree.specs.Path.{IsPartitioned, items_below, behind, between}
 use Rattle.tree.specs.Walk.{IsChangedWithin}
 use Rattle.tree.proofs.callers.Partitions.{All-front, none_pass, none_passed, not_both, IsPartitioned-parts}
-use Rattle.tree.proofs.Inserting.{ended_some, same_ends}
+use Rattle.tree.proofs.Inserting.{ended_some}
 use Rattle.tree.proofs.Keys.{behind-parts, first_key-append}
 use Rattle.tree.proofs.Overwriting.{between_is}
 use Rattle.tree.proofs.OverwrittenItems.{told_by_first}
@@ -49,7 +50,7 @@ module _ (p q : ℕ → Bool) (nested : (key : ℕ) → p key ≡ true → q key
 
     between_part : between (Some p) (Some q) was ≡ between (Some p) (Some q) part
     between_part =
-        let rest : behind p was ≡ behind p part ++ back = ap (behind p) c.was_is ∙ behind-parts p front part back opens fail_first in
+        let rest = ap (behind p) c.was_is ∙ behind-parts p front part back opens fail_first in
         let none = (none_pass (λ (x : Item). q x.key) back fail).0 in
         rw (between_is p q was, between_is p q part, rest, filter-append, none) (append-nil (items_below q (behind p part)))
 
@@ -60,7 +61,7 @@ module _ (p q : ℕ → Bool) (nested : (key : ℕ) → p key ≡ true → q key
         let end = ended_some (items_below q part) some in
         let ends : (front ++ end.front) ++ end.last ∷ [] ≡ last_is.0 ++ last ∷ [] =
         cc (append_assoc front end.front (end.last ∷ []), end.is, passing_too, last_is.1) in
-        let same = (same_ends (front ++ end.front) last_is.0 end.last last ends).1 in
+        let same = (same_from_push (front ++ end.front) last_is.0 end.last last ends).1 in
         c.now_is ∙ (rw (written end.last (end.front, end.is), passing_part, behind_too, ← same) (simp append_assoc))
 
   -- All items are partitioned.
@@ -86,7 +87,7 @@ module _ (p q : ℕ → Bool) (nested : (key : ℕ) → p key ≡ true → q key
         let filled : front ≢ [] = λ none. some (gives.some (c.first_is.1 (refl, none))) in
         let stays = All-filter (λ (x : Item). not (p x.key)) (λ (x : Item). q x.key ≡ true) front pass in
         let passing_all : items_below p was ≡ items_below p front =
-        ap (items_below p) c.was_is ∙ (rw (filter-append, filter-append, gives.none, fails_back.0) (append-nil (items_below p front))) in
+        ap (items_below p) c.was_is ∙ (rw (filter-append, filter-append, gives.none, fails_back.0) (append-nil _)) in
         let rest : behind p was ≡ kept ++ (part ++ back) =
         ap (behind p) c.was_is ∙ (rw (filter-append, filter-append, fails.1, fails_back.1)) in
         record {
@@ -94,7 +95,7 @@ module _ (p q : ℕ → Bool) (nested : (key : ℕ) → p key ≡ true → q key
           some = λ none. some (sym gives.run_is ∙ none);
           run_is = rw (between_is p q was, rest, filter_around (λ (x : Item). q x.key) kept part back stays fail, gives.run_is);
           last_is = gives.last_is;
-          now_is = cc (c.now_is, gives.rest, behind_too, front_is, passing_all, append_assoc (items_below p front) kept (behind q was));
+          now_is = cc (c.now_is, gives.rest, behind_too, passing_all, append_assoc (items_below p front) kept (behind q was));
           first = λ none. filled (front_is ∙ (rw passing_all at none));
         }
 

@@ -1,7 +1,8 @@
 -- The removal of the expired items of a run, entry by entry.
-use Rattle.std.proofs.Common.{◌≡◌, ◌≢◌, ℕ, suc, ◌+◌, ◌-◌, ◌<◌, ◌≤◌, ℤ, int_lt, int_le, ◌&&◌, Bool, true, false, List, [], ◌∷◌, ◌++◌, length, get_or, map, take, drop, set, refl, ◌∙◌, ap, arith, inl, inr, length-append, length-drop, append_assoc}
+use Rattle.std.proofs.Common.{◌≡◌, ◌≢◌, ℕ, suc, ◌+◌, ◌-◌, ◌<◌, ◌≤◌, ℤ, int_lt, int_le, ◌&&◌, true, false, List, [], ◌∷◌, ◌++◌, length, get_or, map, take, drop, set, refl, ◌∙◌, ap, arith, inl, inr, length-append, length-drop, append_assoc}
+use Rattle.std.proofs.lemmas.Grind.{drop_more_same}
 use Rattle.std.proofs.lemmas.Int.{ints}
-use Rattle.std.proofs.lemmas.List.{append-nil, get_or-drop, map-append, take_more, take_more_set, drop-set-lt, drop-drop, drop_more}
+use Rattle.std.proofs.lemmas.List.{append-nil, get_or-drop, map-append, take_more, take_more_set, drop-set-lt, drop_more}
 use Rattle.std.proofs.Math.ListN.{length-set}
 use Rattle.std.proofs.lemmas.Bool.{cases_Bool}
 use Rattle.tree.specs.declared.entry.Entry.{Entry}
@@ -62,10 +63,6 @@ not_below edge v h = grind (arith, ints)
 pub is_below : (edge v : ℤ) → int_le edge v ≡ false → int_lt v edge ≡ true
 is_below edge v h = grind (arith, ints)
 
-pub one_not_below : (a b : Bool) → b ≡ false → (a && b) ≡ false
-one_not_below true b f = f
-one_not_below false b f = refl
-
 -- the entries of a node that is swept of expired items, up to an index: those that stay, those that go, and those ahead
 pub record RemovesExpired (edge before last : ℤ) (es now : List Entry) (out : List Item) (from to index kept : ℕ) : Type 0 where
   pub counted : kept + length out ≡ index
@@ -81,7 +78,7 @@ module _ {edge before last : ℤ} {es now : List Entry} {out : List Item} {from 
     -- the next entry
     next : (run es index to ≡ e ∷ run es (index + 1) to) × (drop (index + 1) now ≡ drop (index + 1) es)
     next =
-        let ahead : drop (index + 1) now ≡ drop (index + 1) es = cc (drop-drop 1 index now, drop-drop 1 index es, t.ahead) in
+        let ahead = drop_more_same now es index t.ahead in
         let count : to - index ≡ suc (to - (index + 1)) = omega arith in
         (rw (count, ← t.ahead, from_index now index e (omega (arith, t.same_length)) is, ahead), ahead)
 

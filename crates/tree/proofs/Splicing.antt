@@ -19,14 +19,15 @@ put_taken ys others from n within room =
     let end = from + length others in
     let front = take from ys ++ others in
     let sum : end + (n - end) ≡ n = omega arith in
-    let count : n ≡ length front + (n - end) = omega (arith, length-append (take from ys) others, length-take-le from ys within) in
+    let size = length-append (take from ys) others in
+    let count : n ≡ length front + (n - end) = omega (arith, length-take-le from ys within) in
     let same : from + (end - from) ≡ end = omega arith in
     let rest = drop-drop (end - from) from ys in
     let before = append_assoc (take from ys) others (drop (end - from) (drop from ys)) in
     let after = append_assoc (take from ys) others (take (n - end) (drop end ys)) in
     cc (take-append-add front (drop end ys) (n - end), take-take from n ys (omega arith), drop-take end (n - end) ys)
 
--- The entries behind a run are moved to the end of the new ones, and these are written before them. Behind them anything may stand.
+-- The entries behind a run are moved to the end of the new ones, and these are written before them. Anything may stand behind.
 pub take-spliced_before : {X : Type 0} (xs ys others : List X) (len from to : ℕ) → len ≤ length xs → from ≤ to → to ≤ len
     → from + length others + (len - to) ≤ length xs → from ≤ length ys
     → take (from + length others + (len - to)) ys

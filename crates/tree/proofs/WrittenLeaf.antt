@@ -2,7 +2,7 @@
 use Rattle.std.proofs.Common.{◌≡◌, ◌≢◌, ◌⊎◌, inl, inr, ℕ, ℤ, ◌-◌, ◌<◌, ◌≤◌, Bool, true, false, not, List, [], ◌∷◌, ◌++◌, Option}
 use Rattle.std.proofs.Common.{Bor, Some, None, MatchOption, length, get_or, slice_get, take, drop, filter, map, All, Any, refl, sym}
 use Rattle.std.proofs.Common.{◌∙◌, ap, arith, length-append}
-use Rattle.std.proofs.lemmas.List.{append-nil, map-append, length-map, length-take-le, take-append-drop, drop_at, drop_more, drop_all}
+use Rattle.std.proofs.lemmas.List.{same_from_push, append-nil, map-append, length-map, length-take-le, take-append-drop, drop_at, drop_more, drop_all}
 use Rattle.std.proofs.lemmas.List.Elements.{All-nil, All-cons, All-head, All-append, All-filter, All-weaker, Contains-get_or, filter-append, filter_passes}
 use Rattle.std.proofs.lemmas.Option.{slice_get_cases}
 use Rattle.std.specs.Prelude.{option_copied}
@@ -14,7 +14,7 @@ use Rattle.tree.specs.Path.{IsPartitioned, items_below, behind, between, first_k
 use Rattle.tree.specs.Tree.{IsLast, ended_by}
 use Rattle.tree.specs.Walk.{IsRaised}
 use Rattle.tree.proofs.callers.Partitions.{All-back, none_fail, IsPartitioned-parts}
-use Rattle.tree.proofs.Inserting.{ended_some, same_ends}
+use Rattle.tree.proofs.Inserting.{ended_some}
 use Rattle.tree.proofs.LeafChange.{parted}
 use Rattle.tree.proofs.Leaves.{IsLeaf, filter-items, last_passing}
 use Rattle.tree.proofs.Overwriting.{between_is}
@@ -89,7 +89,7 @@ last_version q es passed lent version otherwise post same is told says x ends =
     by_last None told none = absurd (omega (arith, length-append ends.0 (x ∷ []), ap length (sym ends.1 ∙ none)))
     by_last (Some e) told there =
         says e told
-        ∙ ap (λ (x : Item). x.version) (same_ends there.0 ends.0 (item_of e.now) x (sym there.1 ∙ ends.1)).1
+        ∙ ap (λ (x : Item). x.version) (same_from_push there.0 ends.0 (item_of e.now) x (sym there.1 ∙ ends.1)).1
 
 -- the first key is that of the items in front
 first_of_front : (xs ys zs : List Item) → xs ≢ [] → first_key None (xs ++ ys) ≡ first_key None (xs ++ zs)

@@ -1,7 +1,8 @@
 use Rattle.std.proofs.Common.{rules, ◌≡◌, ◌∙◌, ◌&&◌, int_lt, refl, false, w64, to_z, of_z, arith}
+use Rattle.std.proofs.Math.Bool.{and-false}
 use Rattle.std.proofs.lemmas.Int.{to_z-of_z}
 use Rattle.std.proofs.lemmas.List.{drop_all}
-use Rattle.tree.proofs.Removing.{one_found, one_passed, one_not_below}
+use Rattle.tree.proofs.Removing.{one_found, one_passed}
 use Rattle.tree.proofs.expiring.has_expired.Goals as goal
 use Rattle.tree.proofs.expiring.has_expired.Goals.{After-loop-entry, else-last-edge-via-then-last-edge+else-entry-edge, else-last-edge-via-else-last-edge}
 
@@ -26,7 +27,7 @@ loop-entry-preserved c =
     let same = to_z-of_z w64 e.version (search rules) in
     let both : (int_lt last edge && int_lt e.version edge) ≡ false = elim c.else-last-edge.branch [
       | else-last-edge-via-then-last-edge+else-entry-edge w ↦
-          one_not_below (int_lt last edge) _ (rw same at w.if-entry-edge.false)
+          rw (rw same at w.if-entry-edge.false) (and-false (int_lt last edge))
       | else-last-edge-via-else-last-edge w ↦ rw w.if-last-edge.false refl
     ] in
     rw same (c.loop-entry.invariant ∙ one_passed edge last _ _ e c.loop-entry-test.true c.entry-item.is both)

@@ -1,10 +1,11 @@
 use Rattle.std.proofs.Common.{rules, ◌≡◌, ◌<◌, ◌∙◌, sym, true, false, w64, to_z, of_z, ◌&&◌, int_lt, arith, refl, length}
+use Rattle.std.proofs.Math.Bool.{and-false}
 use Rattle.std.proofs.lemmas.Int.{to_z-of_z}
 use Rattle.std.proofs.lemmas.List.{length-map, map-append}
 use Rattle.std.proofs.lemmas.Option.{slice_get_read}
 use Rattle.tree.specs.Item.{item_of}
 use Rattle.tree.specs.Node.{entries_of}
-use Rattle.tree.proofs.Removing.{one_stays, one_goes, not_below, is_below, one_not_below, all_kept, all_expired}
+use Rattle.tree.proofs.Removing.{one_stays, one_goes, not_below, is_below, all_kept, all_expired}
 use Rattle.tree.proofs.expiring.remove_expired.Goals as goal
 use Rattle.tree.proofs.expiring.remove_expired.Goals.{then-last-edge, else-last-edge, then-version-edge, else-version-edge}
 
@@ -16,7 +17,8 @@ push-requires g c =
 
 pub loop-index-init : goal.loop-index-init
 loop-index-init g c = record {
-  removal = rw c.requires.none_taken record { counted = omega arith; same_length = refl; ahead = refl; stayed = refl; went = refl };
+  removal = rw c.requires.none_taken
+      record { counted = omega arith; same_length = refl; ahead = refl; stayed = refl; went = refl };
   headed = λ bytes h. h;
 }
 
@@ -37,7 +39,7 @@ loop-index-preserved g c =
           let both : (int_lt last edge && int_lt e.version edge) ≡ false = elim c.if-last-edge.branch [
             | then-last-edge u ↦ rw (not_below edge last u.if-last-edge.true) refl
             | else-last-edge u ↦
-                one_not_below _ _ (not_below edge e.version (rw same at (sym u.value-is ∙ w.if-version-edge.true)))
+                rw (not_below edge e.version (rw same at (sym u.value-is ∙ w.if-version-edge.true))) (and-false _)
           ] in
           record {
             removal = rw (w.node-is, nodes, w.taken-is, w.kept-is, same)

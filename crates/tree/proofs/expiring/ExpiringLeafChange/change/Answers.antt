@@ -1,4 +1,4 @@
-use Rattle.std.proofs.Common.{rules, Bool, false, IsTrue, ◌∷◌, ℕ, ◌≡◌, ◌≢◌, ◌≤◌, ◌<◌, ◌+◌, ◌-◌, ◌∙◌, ◌++◌, ap, sym, refl, List, [], length, take, drop, map, arith, w64}
+use Rattle.std.proofs.Common.{rules, Bool, false, IsTrue, ◌∷◌, ℕ, ◌≡◌, ◌≢◌, ◌≤◌, ◌<◌, ◌+◌, ◌-◌, ◌∙◌, ◌++◌, ap, sym, refl, List, [], length, filter, take, drop, map, arith, w64}
 use Rattle.std.proofs.lemmas.Int.{to_z-of_z}
 use Rattle.arena.specs.Arena.{with_header}
 use Rattle.tree.specs.declared.entry.Entry.{Entry}
@@ -40,13 +40,14 @@ none_goes (x ∷ out) told some said = absurd (let t = some (λ e. absurd (cc)) 
 
 -- where the run stands that is looked at
 module _ (g : given.Over) (c : After-has_expired g) where
-  open c use {args.{self.{now.{bound, count, edge, before}}, nodes.{now as nodes}, slot, place}, header_ref-leaf.{ensures.{header}}}
+  open c use {args.{self.{now.{bound, count, edge, before}}, nodes.{now as nodes}, slot, place}, min}
+  open c use {header_ref-leaf.{result.{now as leaf}, ensures.{header}}, lower_bound-below.{result as below, ensures.{count as counts}}}
 
   abbrev es : List Entry
-  es = entries_of c.header_ref-leaf.result.now
+  es = entries_of leaf
 
   abbrev begin : ℕ
-  begin = c.lower_bound-below.result - 1
+  begin = below - 1
 
   abbrev end : ℕ
   end = begin + c.min.result
@@ -55,13 +56,13 @@ module _ (g : given.Over) (c : After-has_expired g) where
   looked = map item_of (run es begin end)
 
   read : entries_at nodes slot ≡ es
-  read = entries_from_header nodes slot c.header_ref-leaf.result.now header
+  read = entries_from_header nodes slot leaf header
 
   some_looked : begin < end
-  some_looked = omega (arith, c.min.ensures, c.args.self.now.some, c.len.ensures.len, c.lower_bound-below.ensures.count.within, c.if-below-eq0.false)
+  some_looked = omega (arith, min.ensures, c.args.self.now.some, c.len.ensures.len, counts.within, c.if-below-eq0.false)
 
   within : end ≤ length es
-  within = omega (arith, c.min.ensures, c.len.ensures.len, c.lower_bound-below.ensures.count.within)
+  within = omega (arith, min.ensures, c.len.ensures.len, counts.within)
 
   -- what becomes of the items of the leaf
   swept : (now out : List Item)
@@ -71,14 +72,14 @@ module _ (g : given.Over) (c : After-has_expired g) where
       place.behind (map item_of (entries_at nodes slot)) now
   swept now out now_is out_is =
       let p = g.P.Bound.below bound.now in
-      let can = leaf_can_step c.requires.can_change header in
-      let count_is = c.lower_bound-below.ensures.count.count_is in
+      let partitioned = (leaf_can_step c.requires.can_change header).can_find.partitioned in
       let told = c.look_at-self.ensures in
+      let first_is : begin + 1 ≡ length (filter (λ (e : Entry). p e.key) es) = omega (arith, counts.count_is, c.if-below-eq0.false) in
       rw read (
-        λ none. absurd (some_item p es c.lower_bound-below.result (omega (arith, c.if-below-eq0.false)) count_is none),
-        λ _. leaf_unexpired es begin end some_looked within p can.can_find.partitioned (omega (arith, count_is, c.if-below-eq0.false))
-            _ edge before c.look_at-self.result out place.behind now (omega (arith, c.min.ensures)) told.looked_at
-            (rw c.entries.ensures.entries at told.last) now_is out_is (rw c.entries.ensures.entries at told.next),
+        λ none. absurd (some_item p es below (omega (arith, c.if-below-eq0.false)) counts.count_is none),
+        λ _. leaf_unexpired es begin end some_looked within p partitioned first_is _ edge before c.look_at-self.result out
+            place.behind now (omega (arith, min.ensures)) told.looked_at (rw c.entries.ensures.entries at told.last) now_is
+            out_is (rw c.entries.ensures.entries at told.next),
       )
 
 pub returns-then-not-has_expired-clause-changed : goal.returns-then-not-has_expired-clause-changed
@@ -114,7 +115,7 @@ returns-clause-items g c =
     let node = c.lengthen_prefix.new.self in
     let edge_is = to_z-of_z w64 c.args.self.now.edge (search rules) in
     let before_is = to_z-of_z w64 c.args.self.now.before (search rules) in
-    let there = sym (entries_from_header old c.args.slot c.header_mut-leaf.result.now c.header_mut-leaf.ensures.header) ∙ read g t in
+    let there = sym (entries_from_header old c.args.slot _ c.header_mut-leaf.ensures.header) ∙ read g t in
     let after = put_entries old (with_header old c.args.slot node) c.args.slot node refl ∙ c.lengthen_prefix.ensures.entries in
     swept g t _ _ (ap (map item_of) after ∙ (rw (edge_is, before_is, there) at c.remove_expired.ensures.kept))
     (rw (edge_is, before_is, there) at c.remove_expired.ensures.taken)

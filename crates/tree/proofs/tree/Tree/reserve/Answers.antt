@@ -21,7 +21,8 @@ invariant_of-self-2 g c =
     let nodes = c.reserve_slots.new.self in
     let k = least_of g.row.N - 1 in
     let same : c.args.room / (c.least.result - 1) ≡ c.args.room / k = rw c.least.ensures.least in
+    let reserved = c.in_ok-reserve_slots.ensures.room in
     let total : c.args.room / k + 67 ≤ finite.len t.nodes.records + spare_of nodes 0 =
-    omega (arith, c.in-Some.ensures.1, c.saturating_sub-missing.ensures, c.live.ensures.count, c.in_ok-reserve_slots.ensures.room) in
+    omega (arith, c.in-Some.ensures.1, c.saturating_sub-missing.ensures, c.live.ensures.count) in
     tree_stays t.nodes nodes _ _ _ _ _ c.reserve_slots.ensures.records c.self.invariant (omega arith)
     (enough_nodes k c.args.room (finite.len t.nodes.records + spare_of nodes 0) (omega arith) total)
