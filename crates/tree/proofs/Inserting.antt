@@ -35,8 +35,9 @@ module _ {N : ℕ} where
 
   -- the tree after a change that puts other items in its nodes
   pub tree_put : (a b : Arena (Node N)) (root height slot above len now room : ℕ)
-      → IsTree a root height len room → IsRooted b slot above → spare_of b 0 + finite.len b.records ≡ spare_of a 0 + finite.len a.records → now ≡ length (items_in b above slot)
-      → 1 ≤ now → now ≤ room → IsTree b slot above now room
+      → IsTree a root height len room → IsRooted b slot above
+      → spare_of b 0 + finite.len b.records ≡ spare_of a 0 + finite.len a.records
+      → now ≡ length (items_in b above slot) → 1 ≤ now → now ≤ room → IsTree b slot above now room
   tree_put a b root height slot above len now room t rooted spare counted some within =
       let same : finite.len a.records + spare_of a 0 ≡ finite.len b.records + spare_of b 0 = omega arith in
       record {

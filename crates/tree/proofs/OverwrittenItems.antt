@@ -46,16 +46,12 @@ module _ (p q r : ℕ → Bool) (nested : (key : ℕ) → p key ≡ true → q k
       let x : Item = record { key = second; version = unwrap_or given end.last.version } in
       let now_is = ap length (h.written end.last (end.front, end.is)) in
       let all = length-append (items_below p was) (first ∷ ended_by ended x ++ behind q was) in
-      let new = length-append (ended_by ended x) (behind q was) in (
-        omega (arith, length-between was, ap length h.run_is, now_is, all, new, length-put ended x),
-        omega (arith, now_is, all),
-      )
+      let new = length-append (ended_by ended x) (behind q was) in
+      (omega (arith, length-between was, ap length h.run_is, length-put ended x), omega arith)
   length-overwritten first second given (Partly last) run was now some h =
       let now_is = ap length h.now_is in
-      let left : length (items_below p was ++ h.kept) ≢ 0 = λ none. h.first (nil_from_length _ none) in (
-        omega (arith, length-between was, ap length h.run_is, now_is, length-append {A = Item}),
-        omega (arith, now_is, left, length-append {A = Item}),
-      )
+      let left : length (items_below p was ++ h.kept) ≢ 0 = λ none. h.first (nil_from_length _ none) in
+      (omega (arith, length-between was, ap length h.run_is, length-append {A = Item}), omega (arith, length-append {A = Item}))
 
 -- Whether the first key behind a bound is below another one tells whether an item stands between the two.
 pub told_by_first : (q r : ℕ → Bool) (items : List Item) (ended : Bool) → IsPartitioned (λ x. q x.key) items

@@ -52,11 +52,10 @@ pub length-unexpired : (p : ℕ → Bool) (count : ℕ) (edge before : ℤ) (rem
 length-unexpired p count edge before removal run was now next h first =
     let now_is = simp length-append at (ap length h.now_is) in
     let looked = simp length-append at (ap length h.looked_is) in
-    let is_below = simp length-append at (ap length h.front_is) in (
-      omega (arith, now_is, is_below, looked, ap length h.run_is, expired_or_kept edge before h.looked, length-partitioned p was),
-      elim (none_or_some (length h.front)) [
-        | inl none ↦
-            omega (arith, now_is, first_stays edge before h.looked (omega arith) (first (omega (arith, is_below, none))))
-        | inr filled ↦ omega (arith, now_is)
-      ],
-    )
+    let is_below = simp length-append at (ap length h.front_is) in
+    let kept = expired_or_kept edge before h.looked in
+    let some : 1 ≤ length now = elim (none_or_some (length h.front)) [
+      | inl none ↦ omega (arith, first_stays edge before h.looked (omega arith) (first (omega (arith, is_below, none))))
+      | inr filled ↦ omega arith
+    ] in
+    (omega (arith, ap length h.run_is, length-partitioned p was), some)

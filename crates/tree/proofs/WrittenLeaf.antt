@@ -141,8 +141,6 @@ module _ (q r : ℕ → Bool) (es : List Entry) (end : ℕ) (others : drop end e
   pub ended_behind : length es ≤ end → (post : ℕ → Type 0) → MatchOption otherwise (ended ≡ false) post
       → ((key : ℕ) → post key → ended ≡ r key)
       → ended ≡ first_is_below r (first_key otherwise (behind q (map item_of es)))
-  ended_behind all post tested says = rw (behind_end, drop_all end es all) (by_key otherwise tested)
-    where
-      by_key : (key : Option ℕ) → MatchOption key (ended ≡ false) post → ended ≡ first_is_below r key
-      by_key None none = none
-      by_key (Some key) there = says key there
+  ended_behind all post tested says =
+      let Tells = λ (key : Option ℕ). MatchOption key (ended ≡ false) post → ended ≡ first_is_below r key in
+      rw (behind_end, drop_all end es all) ((elim otherwise as Tells [ None ↦ λ none. none | Some key ↦ says key ]) tested)

@@ -1,4 +1,4 @@
-use Rattle.std.proofs.Common.{rules, ◌≡◌, ◌<◌, ◌∙◌, sym, true, false, w64, to_z, of_z, ◌&&◌, int_lt, arith, refl, length}
+use Rattle.std.proofs.Common.{rules, ◌≡◌, ◌∙◌, sym, true, false, w64, to_z, of_z, ◌&&◌, int_lt, arith, refl, length}
 use Rattle.std.proofs.Math.Bool.{and-false}
 use Rattle.std.proofs.lemmas.Int.{to_z-of_z}
 use Rattle.std.proofs.lemmas.List.{length-map, map-append}
@@ -33,9 +33,8 @@ loop-index-preserved g c =
     let inv = c.loop-index.invariant in
     elim c.if-version-edge.branch [
       | then-version-edge w ↦
-          let inside : c.loop-index.index < length now =
-          omega (arith, inv.removal.same_length, c.requires.within, c.loop-index-test.true) in
-          let nodes = w.copy.ensures.entries e (slice_get_read now (length now) _ e refl inside is) in
+          let nodes = w.copy.ensures.entries e (slice_get_read now (length now) _ e refl
+          (omega (arith, inv.removal.same_length, c.requires.within, c.loop-index-test.true)) is) in
           let both : (int_lt last edge && int_lt e.version edge) ≡ false = elim c.if-last-edge.branch [
             | then-last-edge u ↦ rw (not_below edge last u.if-last-edge.true) refl
             | else-last-edge u ↦

@@ -41,7 +41,8 @@ none_goes (x ∷ out) told some said = absurd (let t = some (λ e. absurd (cc)) 
 -- where the run stands that is looked at
 module _ (g : given.Over) (c : After-has_expired g) where
   open c use {args.{self.{now.{bound, count, edge, before}}, nodes.{now as nodes}, slot, place}, min}
-  open c use {header_ref-leaf.{result.{now as leaf}, ensures.{header}}, lower_bound-below.{result as below, ensures.{count as counts}}}
+  open c use {header_ref-leaf.{result.{now as leaf}, ensures.{header}}}
+  open c use {lower_bound-below.{result as below, ensures.{count as counts}}}
 
   abbrev es : List Entry
   es = entries_of leaf
@@ -74,7 +75,7 @@ module _ (g : given.Over) (c : After-has_expired g) where
       let p = g.P.Bound.below bound.now in
       let partitioned = (leaf_can_step c.requires.can_change header).can_find.partitioned in
       let told = c.look_at-self.ensures in
-      let first_is : begin + 1 ≡ length (filter (λ (e : Entry). p e.key) es) = omega (arith, counts.count_is, c.if-below-eq0.false) in
+      let first_is : begin + 1 ≡ length (filter (λ (e : Entry). p e.key) es) = omega (arith, counts, c.if-below-eq0.false) in
       rw read (
         λ none. absurd (some_item p es below (omega (arith, c.if-below-eq0.false)) counts.count_is none),
         λ _. leaf_unexpired es begin end some_looked within p partitioned first_is _ edge before c.look_at-self.result out

@@ -1,7 +1,7 @@
 use Rattle.std.proofs.Common.{rules, ℕ, ◌+◌, ◌-◌, ◌≡◌, ◌≤◌, ◌∙◌, ap, sym, refl, Bool, List, [], ◌∷◌}
 use Rattle.std.proofs.Common.{true, false, is_some, None, Option, Some, ◌++◌, length, take, drop, map, arith}
 use Rattle.std.proofs.Common.{ℤ, w64, inl, inr, ◌⊎◌, IsTrue, unwrap_or}
-use Rattle.std.specs.Prelude.{slice_range, Result, Ok, OnOk}
+use Rattle.std.specs.Prelude.{slice_range}
 use Rattle.std.specs.List.{All}
 use Rattle.std.proofs.lemmas.Bool.{leb-true, not-false}
 use Rattle.std.proofs.lemmas.Int.{to_z-of_z}
@@ -51,13 +51,10 @@ head_for-to_head-requires g c =
     (omega (arith, c.requires.can_change.changeable.few), (known.can_find.headed, (known.can_find.some, begins)))
 
 pub lower_bound_with-end-requires : goal.lower_bound_with-end-requires
-lower_bound_with-end-requires g c = (
-  omega (arith, c.requires.can_change.changeable.few),
-  record {
-    can_step = leaf_known g (goal.at.lower_bound_with-end-requires g c).After-header_ref-leaf;
-    head = rw (← c.unwrap_or-alike.ensures) c.head_for-to_head.ensures.head;
-  },
-)
+lower_bound_with-end-requires g c =
+    let known = leaf_known g (goal.at.lower_bound_with-end-requires g c).After-header_ref-leaf in
+    let own = rw c.unwrap_or-alike.ensures at c.head_for-to_head.ensures.head in
+    (omega (arith, c.requires.can_change.changeable.few), record { can_step = known; head = own })
 
 -- The target of the first bound begins as all keys do, where that is told.
 told_alike : (g : given.Over) (c : Joined-is_some g) → c.if-is_some.begin_alike ≡ true
@@ -109,12 +106,11 @@ slice_bounds-try_extend_from_slice-start g c =
     omega (arith, no_more _ _ c.args.self.now.new.now.nested (entries_of c.header_ref-leaf.result.now))
 
 -- the items that are taken out
-taken_out : {X E : Type 0} {r : Result X E} {x : X} {taken out : List Entry} (now es : List Entry) (begin end : ℕ) → r ≡ Ok x
-    → OnOk r (now ≡ taken ++ slice_range out begin end) → taken ≡ [] → out ≡ es → begin ≤ end
-    → map item_of now ≡ map item_of (drop begin (take end es))
-taken_out now es begin end done put none same in_order =
+taken_out : {taken out : List Entry} (now es : List Entry) (begin end : ℕ) → now ≡ taken ++ slice_range out begin end
+    → taken ≡ [] → out ≡ es → begin ≤ end → map item_of now ≡ map item_of (drop begin (take end es))
+taken_out now es begin end put none same in_order =
     let all : begin + (end - begin) ≡ end = omega arith in
-    rw (rw done at put, none, same, ← drop-take begin (end - begin) es, all)
+    rw (put, none, same, ← drop-take begin (end - begin) es, all)
 
 -- what is written over the run
 module _ (g : given.Over) (c : Joined-is_some-2 g) where
@@ -219,8 +215,8 @@ module _ (g : given.Over) (c : Joined-is_some-2 g) where
       record {
         there = elim entered [ inl some ↦ inl (some_item p es begin some begins) | inr first ↦ inr first.0 ];
         some = some_item q es end some ends;
-        run_is = rw run (taken_out _ es begin end c.unwrap.ensures c.try_extend_from_slice.ensures.ok can_change.none_taken
-            c.entries.ensures.entries in_order);
+        run_is = rw run (taken_out _ es begin end (rw c.unwrap.ensures at c.try_extend_from_slice.ensures.ok)
+            can_change.none_taken c.entries.ensures.entries in_order);
         ended_is = told;
         written = λ last is_last.
             let kept = to_z-of_z w64 c.unwrap_or.result (search rules) in
@@ -300,9 +296,8 @@ returns-then-not-place-clause-items g c =
     let parts = items_parted q es end second_bound ends in
     let put = put_entries c.args.nodes.now _ c.args.slot c.remove.new.self refl in
     let there : c.header_mut.result.now ≡ c.header_ref-leaf.result.now = cc in
-    let run_is = taken_out _ es c.lower_bound_back-begin.result end c.unwrap.ensures c.try_extend_from_slice.ensures.ok
-    c.requires.can_change.none_taken c.entries.ensures.entries (omega (arith, no_more p q new.nested es))
-    ∙ ap (λ n. map item_of (drop n (take end es))) c.if-begin-eq0.true ∙ sym parts.0 in
+    let out = rw (c.unwrap.ensures, c.if-begin-eq0.true) at c.try_extend_from_slice.ensures.ok in
+    let run_is = taken_out _ es 0 end out c.requires.can_change.none_taken c.entries.ensures.entries (omega arith) ∙ sym parts.0 in
     let kept = to_z-of_z w64 c.map_or-last.result (search rules) in
     rw read
     (record {
