@@ -115,8 +115,7 @@ raised p q nested first second ended was now partitioned some some_second writte
     let ends : All P (ended_by ended x) =
     (elim ended as (λ b. All P (ended_by b x)) [ true ↦ All-nil P | false ↦ All-cons P x [] (inr last) (All-nil P) ]) in
     record {
-      first = ap (first_key None) now_is ∙ first_of_front (items_below p was) rest (behind p was) some
-          ∙ ap (first_key None) (sym partitioned);
+      first = cc (now_is, first_of_front (items_below p was) rest (behind p was) some, partitioned);
       there = rw now_is (Any-right (λ (x : Item). x.version ≡ first.version) (items_below p was) rest (Any-first _ first _ refl));
       others = rw now_is
           (All-append P (items_below p was) rest (All-filter (λ (x : Item). p x.key) P was own)

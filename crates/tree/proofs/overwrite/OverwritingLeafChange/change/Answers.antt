@@ -9,7 +9,7 @@ use Rattle.std.proofs.lemmas.List.{drop-take, length-take-le, map-append}
 use Rattle.std.proofs.lemmas.Option.{IfSome_then}
 use Rattle.tree.specs.declared.entry.Entry.{Entry}
 use Rattle.tree.specs.declared.node.Node.{Node}
-use Rattle.tree.specs.Finding.{CanFind, CanStep}
+use Rattle.tree.specs.Finding.{CanFind}
 use Rattle.tree.specs.Heads.{KeyBytes, AreHeadsBeside, IsHeadBeside, IsKnown, HasPrefix}
 use Rattle.tree.specs.Item.{Item, item_of}
 use Rattle.tree.specs.Node.{entries_of, key_heads_of, keys_of}
@@ -31,28 +31,25 @@ use Rattle.tree.proofs.overwrite.OverwritingLeafChange.change.Goals.{else-begin-
 use Rattle.tree.proofs.overwrite.OverwritingLeafChange.change.Given as given
 use Rattle.tree.proofs.overwrite.OverwritingLeafChange.change.Goals as goal
 
--- what is known of the leaf before the change, for the second bound and for the first
-module _ (g : given.Over) (c : After-header_ref-leaf g) where
-  open c use {args.{self.{now.{new.{now as new}}}, nodes.{now as nodes}, slot, place}, requires.{can_change}}
-  open c use {header_ref-leaf.{result.{now as leaf}, ensures.{header}}}
-
-  leaf_known : CanStep (g.Q.Bound.bytes new.to.now) (g.Q.Bound.below new.to.now) (g.Q.Bound.target new.to.now) leaf
-      place.common_prefix_len
-  leaf_known = leaf_can_step can_change header
-
-  from_known : CanFind (g.P.Bound.bytes new.from.now) (g.P.Bound.below new.from.now) leaf
-  from_known = leaf_can_find nodes slot leaf_known.can_find _ _ new.bytes header can_change.wanted
+-- what is known of the leaf before the change, for the first bound
+from_known : (g : given.Over) (c : After-header_ref-leaf g)
+    → CanFind (g.P.Bound.bytes c.args.self.now.new.now.from.now) (g.P.Bound.below c.args.self.now.new.now.from.now)
+    c.header_ref-leaf.result.now
+from_known g c =
+    let known = leaf_can_step c.requires.can_change c.header_ref-leaf.ensures.header in
+    leaf_can_find c.args.nodes.now c.args.slot known.can_find _ _ c.args.self.now.new.now.bytes c.header_ref-leaf.ensures.header
+    c.requires.can_change.wanted
 
 pub head_for-to_head-requires : goal.head_for-to_head-requires
 head_for-to_head-requires g c =
-    let known = leaf_known g (goal.at.head_for-to_head-requires g c).After-header_ref-leaf in
+    let known = leaf_can_step c.requires.can_change c.header_ref-leaf.ensures.header in
     let begins = begin_alike _ _ _ _ _ _ c.args.place.common_prefix_len c.unwrap_or-alike.result known.known
     (omega (arith, c.unwrap_or-alike.ensures)) refl (λ key. refl) in
     (omega (arith, c.requires.can_change.changeable.few), (known.can_find.headed, (known.can_find.some, begins)))
 
 pub lower_bound_with-end-requires : goal.lower_bound_with-end-requires
 lower_bound_with-end-requires g c =
-    let known = leaf_known g (goal.at.lower_bound_with-end-requires g c).After-header_ref-leaf in
+    let known = leaf_can_step c.requires.can_change c.header_ref-leaf.ensures.header in
     let own = rw c.unwrap_or-alike.ensures at c.head_for-to_head.ensures.head in
     (omega (arith, c.requires.can_change.changeable.few), record { can_step = known; head = own })
 
@@ -74,9 +71,10 @@ pub head_given-head-requires : goal.head_given-head-requires
 head_given-head-requires g c =
     let at = goal.at.head_given-head-requires g c in
     let from = from_known g at.After-header_ref-leaf in
+    let known = leaf_can_step c.requires.can_change c.header_ref-leaf.ensures.header in
     let new = c.args.self.now.new.now in
     let alike = fewer_alike c.min.result new.targets_prefix_len _ _ (omega (arith, c.min.ensures)) new.begin_alike in
-    let begins = begin_alike _ _ _ _ _ _ c.args.place.common_prefix_len c.min.result (leaf_known g at.After-header_ref-leaf).known
+    let begins = begin_alike _ _ _ _ _ _ c.args.place.common_prefix_len c.min.result known.known
     (omega (arith, c.min.ensures, c.unwrap_or-alike.ensures)) alike new.bytes in
     (omega (arith, c.requires.can_change.changeable.few), (from.headed, (from.some, (told_alike g at.Joined-is_some, begins))))
 
@@ -89,7 +87,7 @@ lower_bound_back-begin-requires g c =
 
 pub is_below_at-ended-requires : goal.is_below_at-ended-requires
 is_below_at-ended-requires g c =
-    let headed = (leaf_known g (goal.at.is_below_at-ended-requires g c).After-header_ref-leaf).can_find.headed in
+    let headed = (leaf_can_step c.requires.can_change c.header_ref-leaf.ensures.header).can_find.headed in
     let new = c.args.self.now.new.now in
     let past = key_heads_kept _ _ (λ key text is. new.past_bytes key ∙ is) _ headed in
     let own = IfSome_then c.head_for-to_head.result c.head_for-to_head.ensures.head.head
@@ -132,12 +130,6 @@ module _ (g : given.Over) (c : Joined-is_some-2 g) where
   abbrev es : List Entry
   es = entries_of leaf
 
-  abbrev put_heads : List ℕ
-  put_heads = take (length put) (c.unwrap_or-2.result ∷ c.unwrap_or-3.result ∷ [])
-
-  known : CanStep bytes q (g.Q.Bound.target new.to.now) leaf place.common_prefix_len
-  known = leaf_can_step can_change header
-
   in_order : begin ≤ end
   in_order = omega (arith, no_more p q new.nested es)
 
@@ -161,9 +153,6 @@ module _ (g : given.Over) (c : Joined-is_some-2 g) where
   few_put : length put ≤ 2
   few_put = rw put_is (at_most_two ended new.first other)
 
-  same_len : length put_heads ≡ length put
-  same_len = length-take-le (length put) _ few_put
-
   second_is : bytes other.key ≡ Some (g.Q.Bound.target new.to.now)
   second_is = ap (λ (x : Item). bytes x.key) c.item.ensures.item ∙ new.second_is
 
@@ -175,7 +164,8 @@ module _ (g : given.Over) (c : Joined-is_some-2 g) where
       (record { text = g.Q.Bound.target new.to.now; known = second_is; are_bytes = new.to_bytes }))
 
   -- The heads are those of the new keys, where both targets begin as all keys do.
-  heads_beside : c.if-is_some-2.alike ≡ true → AreHeadsBeside bytes (key_heads_of leaf) (keys_of put) put_heads
+  heads_beside : c.if-is_some-2.alike ≡ true → AreHeadsBeside bytes (key_heads_of leaf) (keys_of put)
+      (take (length put) (c.unwrap_or-2.result ∷ c.unwrap_or-3.result ∷ []))
   heads_beside alike = elim c.if-is_some-2.branch [
     | then-is_some-2 w ↦
         let keys = key_heads_of leaf in
@@ -191,7 +181,7 @@ module _ (g : given.Over) (c : Joined-is_some-2 g) where
   -- whether an item of the leaf, or behind it, has the second key
   told : ended ≡ first_is_below (g.R.Bound.below new.past.now) (first_key place.behind (behind q (map item_of es)))
   told =
-      let others = (parted q es end known.can_find.partitioned ends).1 in
+      let others = (parted q es end (leaf_can_step can_change header).can_find.partitioned ends).1 in
       elim c.if-end-len.branch [
         | then-end-len w ↦
             w.ended-is ∙ ended_in_leaf q _ es end others place.behind w.is_below_at-ended.result
@@ -207,6 +197,7 @@ module _ (g : given.Over) (c : Joined-is_some-2 g) where
       (map item_of c.try_extend_from_slice.new.self.items) place.is_first place.behind (map item_of (entries_at nodes slot))
       (map item_of now)
   whole now = rw (entries_from_header nodes slot leaf header) (λ now_is.
+      let known = leaf_can_step can_change header in
       let first_bound = (leaf_can_find nodes slot known.can_find _ p new.bytes header can_change.wanted).partitioned in
       let second_bound = known.can_find.partitioned in
       let within : begin ≤ length es = omega (arith, in_order, c.lower_bound_with-end.ensures.count.within) in
@@ -252,7 +243,7 @@ split-added-requires g c =
         many = omega (arith, same, c.if-begin-entries.true);
         headed = c.requires.can_change.searched.headed;
         known = put_known g j;
-        same_len = same_len g j;
+        same_len = length-take-le _ _ (few_put g j);
         beside = λ alike. rw c.header_ref-leaf.ensures.header (heads_beside g j alike);
       },
     )
@@ -267,8 +258,8 @@ splice_with_heads-requires g c =
         record {
           ordered = in_order g j;
           within = omega (arith, size, c.lower_bound_with-end.ensures.count.within);
-          same_len = same_len g j;
-          headed = rw same (known g j).can_find.headed;
+          same_len = length-take-le _ _ (few_put g j);
+          headed = rw same (leaf_can_step c.requires.can_change c.header_ref-leaf.ensures.header).can_find.headed;
           known = put_known g j;
           beside = λ alike. rw same (heads_beside g j alike);
         },
@@ -291,13 +282,14 @@ returns-then-not-place-clause-items g c =
     let read = entries_from_header c.args.nodes.now c.args.slot c.header_ref-leaf.result.now c.header_ref-leaf.ensures.header in
     let es = entries_of c.header_ref-leaf.result.now in
     let end = c.lower_bound_with-end.result in
-    let second_bound = (leaf_known g h).can_find.partitioned in
+    let second_bound = (leaf_can_step c.requires.can_change c.header_ref-leaf.ensures.header).can_find.partitioned in
     let ends = c.lower_bound_with-end.ensures.count.count_is in
     let parts = items_parted q es end second_bound ends in
     let put = put_entries c.args.nodes.now _ c.args.slot c.remove.new.self refl in
     let there : c.header_mut.result.now ≡ c.header_ref-leaf.result.now = cc in
     let out = rw (c.unwrap.ensures, c.if-begin-eq0.true) at c.try_extend_from_slice.ensures.ok in
-    let run_is = taken_out _ es 0 end out c.requires.can_change.none_taken c.entries.ensures.entries (omega arith) ∙ sym parts.0 in
+    let none_taken = c.requires.can_change.none_taken in
+    let run_is = taken_out _ es 0 end out none_taken c.entries.ensures.entries (omega arith) ∙ sym parts.0 in
     let kept = to_z-of_z w64 c.map_or-last.result (search rules) in
     rw read
     (record {
