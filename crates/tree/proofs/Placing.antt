@@ -21,9 +21,8 @@ module _ {N : ℕ} where
 
   pub live_if_some : (a : Arena (Node N)) (slot : ℕ) → 1 ≤ length (entries_at a slot) → IsLive a slot
   live_if_some a slot some =
-      let Live = λ (o : Option (Record (Node N))). 1 ≤ length (unwrap_or (option_map entries_of (option_map (λ r. r.header) o)) [])
-      → IsSome o in
-      (elim (record_at a slot) as Live [ None ↦ λ h. absurd (omega arith) | Some r ↦ λ h. refl ]) some
+      let size = λ (o : Option (Record (Node N))). length (unwrap_or (option_map entries_of (option_map (λ r. r.header) o)) []) in
+      (elim (record_at a slot) as (λ o. 1 ≤ size o → IsSome o) [ None ↦ λ h. absurd (omega arith) | Some r ↦ λ h. refl ]) some
 
   pub live_one : (a : Arena (Node N)) (slot : ℕ) → IsLive a slot → (s : ℕ) → 1 ≤ times s (slot ∷ []) → IsLive a s
   live_one a slot live s some = elim (once_cases s slot) [
