@@ -1,6 +1,6 @@
 -- Items of which those of one leaf are written over: what is said of the leaf's is said of all of them.
 use Rattle.std.proofs.Common.{◌≡◌, ◌≢◌, ℕ, ℤ, inl, inr, Bool, true, false, not, List, [], ◌∷◌, ◌++◌, Option, None, Some}
-use Rattle.std.proofs.Common.{ap, All, Any, refl, sym, ◌∙◌, append_assoc, append-nil}
+use Rattle.std.proofs.Common.{ap, All, refl, sym, ◌∙◌, append_assoc, append-nil}
 use Rattle.std.proofs.lemmas.List.{same_from_push}
 use Rattle.std.proofs.lemmas.List.Elements.{All-nil, All-filter, filter-append}
 use Rattle.tree.specs.declared.overwrite.Written.{Written}
@@ -15,11 +15,6 @@ use Rattle.tree.proofs.Keys.{behind-parts, first_key-append}
 use Rattle.tree.proofs.Overwriting.{between_is}
 use Rattle.tree.proofs.OverwrittenItems.{told_by_first}
 use Rattle.tree.proofs.Told.{filter_around, none_of_fewer}
-
--- where an item passes, the list of those that pass isn't empty
-some_pass : (q : ℕ → Bool) (xs : List Item) → Any (λ x. q x.key ≡ true) xs → items_below q xs ≢ []
-some_pass q xs any none =
-    not_both (q any.1.key) any.4 (rw any.3 at (none_passed (λ (x : Item). q x.key) xs none any.0 any.1 any.2))
 
 -- Items of which those of one leaf are changed: all before them are below the second bound, and none behind them does.
 module _ (p q : ℕ → Bool) (nested : (key : ℕ) → p key ≡ true → q key ≡ true)
@@ -40,7 +35,8 @@ module _ (p q : ℕ → Bool) (nested : (key : ℕ) → p key ≡ true → q key
   pub some_here : items_below q was ≢ [] → items_below q part ≢ []
   some_here some none = elim c.found [
     | inl empty ↦ some (rw (passing_too, none, empty))
-    | inr any ↦ some_pass q part any none
+    | inr any ↦
+        not_both (q any.1.key) any.4 (rw any.3 at (none_passed (λ (x : Item). q x.key) part none any.0 any.1 any.2))
   ]
 
   -- All before the leaf's are below the first bound too.

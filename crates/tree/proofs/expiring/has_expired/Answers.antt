@@ -4,7 +4,7 @@ use Rattle.std.proofs.lemmas.Int.{to_z-of_z}
 use Rattle.std.proofs.lemmas.List.{drop_all}
 use Rattle.tree.proofs.Removing.{one_found, one_passed}
 use Rattle.tree.proofs.expiring.has_expired.Goals as goal
-use Rattle.tree.proofs.expiring.has_expired.Goals.{After-loop-entry, else-last-edge-via-then-last-edge+else-entry-edge, else-last-edge-via-else-last-edge}
+use Rattle.tree.proofs.expiring.has_expired.Goals.{else-last-edge-via-then-last-edge+else-entry-edge, else-last-edge-via-else-last-edge}
 
 pub loop-entry-init : goal.loop-entry-init
 loop-entry-init c = refl
