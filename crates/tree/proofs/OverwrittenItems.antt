@@ -1,8 +1,9 @@
 -- How many items there are once a run is written over, and what tells whether the run was ended.
 use Rattle.std.proofs.Common.{◌≡◌, ◌≢◌, ℕ, ℤ, ◌+◌, ◌≤◌, inl, inr, Bool, true, false, List}
-use Rattle.std.proofs.Common.{[], ◌∷◌, ◌++◌, Option, Some, None, IsTrue, MatchOption, length, refl, unwrap_or}
+use Rattle.std.proofs.Common.{[], ◌∷◌, ◌++◌, Option, Some, None, IsTrue, length, refl, unwrap_or}
 use Rattle.std.proofs.Common.{ap, arith, length-append}
 use Rattle.std.proofs.lemmas.Bool.{cases_Bool}
+use Rattle.std.proofs.lemmas.List.{nil_from_length}
 use Rattle.tree.specs.declared.overwrite.Written.{Written}
 use Rattle.tree.specs.declared.overwrite.Written.TheVariants.{Partly, Whole}
 use Rattle.tree.specs.Item.{Item}
@@ -24,10 +25,6 @@ length-put : (ended : Bool) (x : Item) → 1 + length (ended_by ended x) ≡ put
 length-put true x = refl
 length-put false x = refl
 
-some_left : (xs : List Item) → xs ≢ [] → 1 ≤ length xs
-some_left [] some = absurd (some refl)
-some_left (x ∷ xs) some = omega arith
-
 module _ (p q r : ℕ → Bool) (nested : (key : ℕ) → p key ≡ true → q key ≡ true) where
   -- Each item is below the first bound, or stands between the two, or fails the second.
   length-between : (items : List Item)
@@ -36,12 +33,8 @@ module _ (p q r : ℕ → Bool) (nested : (key : ℕ) → p key ≡ true → q k
   length-between (x ∷ items) =
       let rest = length-between items in
       elim (cases_Bool (p x.key)) [
-        | inl t ↦ let u = nested x.key t in rw (t, u) (omega (arith, rest))
-        | inr f ↦
-            elim (cases_Bool (q x.key)) [
-              | inl t ↦ rw (f, t) (omega (arith, rest))
-              | inr n ↦ rw (f, n) (omega (arith, rest))
-            ]
+        | inl t ↦ rw (t, nested x.key t) (omega arith)
+        | inr f ↦ elim (cases_Bool (q x.key)) [ inl t ↦ rw (f, t) (omega arith) | inr n ↦ rw (f, n) (omega arith) ]
       ]
 
   -- as many more are there as were put in place of the run, and one at least
@@ -53,28 +46,17 @@ module _ (p q r : ℕ → Bool) (nested : (key : ℕ) → p key ≡ true → q k
       let x : Item = record { key = second; version = unwrap_or given end.last.version } in
       let now_is = ap length (h.written end.last (end.front, end.is)) in
       let all = length-append (items_below p was) (first ∷ ended_by ended x ++ behind q was) in
-      let new = length-append (ended_by ended x) (behind q was) in (
-        omega (arith, length-between was, ap length h.run_is, now_is, all, new, length-put ended x),
-        omega (arith, now_is, all),
-      )
+      let new = length-append (ended_by ended x) (behind q was) in
+      (omega (arith, length-between was, ap length h.run_is, length-put ended x), omega arith)
   length-overwritten first second given (Partly last) run was now some h =
       let now_is = ap length h.now_is in
-      let left = some_left (items_below p was ++ h.kept) h.first in (
-        omega (arith, length-between was, ap length h.run_is, now_is, length-append {A = Item}),
-        omega (arith, now_is, left, length-append {A = Item}),
-      )
+      let left : length (items_below p was ++ h.kept) ≢ 0 = λ none. h.first (nil_from_length _ none) in
+      (omega (arith, length-between was, ap length h.run_is, length-append {A = Item}), omega (arith, length-append {A = Item}))
 
 -- Whether the first key behind a bound is below another one tells whether an item stands between the two.
 pub told_by_first : (q r : ℕ → Bool) (items : List Item) (ended : Bool) → IsPartitioned (λ x. q x.key) items
     → IsPartitioned (λ x. r x.key) items → ended ≡ first_is_below r (first_key None (behind q items))
     → (IsTrue ended → between (Some q) (Some r) items ≢ []) × (between (Some q) (Some r) items ≢ [] → IsTrue ended)
 told_by_first q r items ended first second is =
-    let p = λ (x : Item). r x.key in
-    let key = first_key None (behind q items) in
-    let parts = IsPartitioned-parts p (items_below q items) (behind q items) (rw first at second) in
-    let told = first_tells r (behind q items) key (λ k. ended ≡ r k) ended parts.1 refl (tested key is) (λ k same. same) in
-    rw (between_is q r items) told
-  where
-    tested : (key : Option ℕ) → ended ≡ first_is_below r key → MatchOption key (ended ≡ false) (λ k. ended ≡ r k)
-    tested None is = is
-    tested (Some k) is = is
+    let parts = IsPartitioned-parts (λ (x : Item). r x.key) (items_below q items) (behind q items) (rw first at second) in
+    rw (between_is q r items, is) (first_tells r (behind q items) parts.1)

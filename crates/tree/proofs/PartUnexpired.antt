@@ -1,6 +1,6 @@
 -- Items of which a run is swept of expired items: what is said of a leaf's is said of all of them, and how many stay.
-use Rattle.std.proofs.Common.{◌≡◌, ◌≢◌, ℕ, ℤ, ◌+◌, ◌≤◌, ◌≤ℤ◌, int_lt, ◌&&◌, Bool, true, false, inl, inr, List, [], ◌∷◌, ◌++◌, Option, None}
-use Rattle.std.proofs.Common.{length, sym, ◌∙◌, ap, arith, append_assoc, length-append, refl}
+use Rattle.std.proofs.Common.{◌≡◌, ◌≢◌, ℕ, ℤ, ◌+◌, ◌≤◌, ◌≤ℤ◌, int_lt, Bool, true, false, inl, inr, List, [], ◌∷◌, ◌++◌, Option, None}
+use Rattle.std.proofs.Common.{length, sym, ◌∙◌, ap, arith, append_assoc, length-append}
 use Rattle.std.proofs.lemmas.Int.{ints}
 use Rattle.tree.specs.declared.expiring.Removal.{Removal}
 use Rattle.tree.specs.Item.{Item}
@@ -12,11 +12,8 @@ use Rattle.tree.proofs.callers.Times.{none_or_some}
 use Rattle.tree.proofs.Inserting.{length-partitioned}
 use Rattle.tree.proofs.Keys.{behind-parts, first_key-append}
 use Rattle.tree.proofs.PartWritten.{some_here}
-use Rattle.tree.proofs.Removing.{stays, expired_or_kept}
+use Rattle.tree.proofs.Removing.{expired_or_kept}
 use Rattle.tree.proofs.Told.{filter_around}
-
-regroup : (a f t r b : List Item) → a ++ ((f ++ (t ++ r)) ++ b) ≡ (a ++ f) ++ (t ++ (r ++ b))
-regroup a f t r b = simp append_assoc
 
 -- What becomes of all items where those of one leaf are swept of expired items.
 pub unexpired_all : (p : ℕ → Bool) (count : ℕ) (edge before : ℤ) (removal : Removal) (run was now : List Item)
@@ -24,38 +21,29 @@ pub unexpired_all : (p : ℕ → Bool) (count : ℕ) (edge before : ℤ) (remova
     → items_below p was ≢ [] → RemovesExpired p count edge before removal run None was now
 unexpired_all p count edge before removal run was now c some =
     let pass = filter_around (λ (x : Item). p x.key) c.before c.leaf c.behind c.items_below c.failing in
-    let here : items_below p c.leaf ≢ [] =
-    some_here p p (λ key t. t) c.before c.leaf c.behind c.items_below c.failing c.found
-    (λ none. some (ap (items_below p) c.was_is ∙ none)) in
-    let h = c.gives.1 here in
+    let h = c.gives.1 (some_here p p (λ key t. t) c some) in
     rw (c.was_is, c.now_is) record {
       front = c.before ++ h.front;
       first = h.first;
       looked = h.looked;
       rest = h.rest ++ c.behind;
-      front_is = pass ∙ ap (λ xs. c.before ++ xs) h.front_is ∙ sym (append_assoc c.before h.front (h.first ∷ []));
-      looked_is = ap (λ xs. h.first ∷ xs) (behind-parts p c.before c.leaf c.behind c.items_below c.failing)
-          ∙ ap (λ xs. xs ++ c.behind) h.looked_is ∙ append_assoc h.looked h.rest c.behind;
+      front_is = cc (pass, h.front_is, append_assoc c.before h.front (h.first ∷ []));
+      looked_is = cc (behind-parts p c.before c.leaf c.behind c.items_below c.failing, append_assoc h.looked h.rest c.behind);
       looked_at = h.looked_at;
       some = h.some;
       few = h.few;
-      now_is = ap (λ xs. c.before ++ (xs ++ c.behind)) h.now_is
-          ∙ regroup c.before h.front (unexpired edge before h.looked) h.rest c.behind;
+      now_is = ap (λ xs. c.before ++ (xs ++ c.behind)) h.now_is ∙ (simp append_assoc);
       run_is = h.run_is;
       last = h.last;
       next_is = h.next_is ∙ sym (first_key-append None h.rest c.behind);
     }
 
-not_under : (edge before : ℤ) → edge ≤ℤ before → int_lt before edge ≡ false
-not_under edge before h = grind (arith, ints)
-
 -- The first of a run stays behind a version that isn't below the edge.
 first_stays : (edge before : ℤ) (xs : List Item) → 1 ≤ length xs → edge ≤ℤ before → 1 ≤ length (unexpired edge before xs)
 first_stays edge before [] some h = absurd (omega arith)
 first_stays edge before (x ∷ xs) some h =
-    let f = not_under edge before h in
-    let one : (int_lt before edge && int_lt x.version edge) ≡ false = rw f refl in
-    omega (arith, ap length (stays edge before x xs one).0)
+    let not_under : int_lt before edge ≡ false = grind (arith, ints) in
+    rw not_under (omega arith)
 
 -- Each item stays or goes, and one stays.
 pub length-unexpired : (p : ℕ → Bool) (count : ℕ) (edge before : ℤ) (removal : Removal) (run was now : List Item)
@@ -64,13 +52,10 @@ pub length-unexpired : (p : ℕ → Bool) (count : ℕ) (edge before : ℤ) (rem
 length-unexpired p count edge before removal run was now next h first =
     let now_is = simp length-append at (ap length h.now_is) in
     let looked = simp length-append at (ap length h.looked_is) in
-    let is_below = simp length-append at (ap length h.front_is) in (
-      omega (arith, now_is, is_below, looked, ap length h.run_is, expired_or_kept edge before h.looked, length-partitioned p was),
-      elim (none_or_some (length h.front)) [
-        | inl none ↦
-            let first_is = first_stays edge before h.looked (omega (arith, h.looked_at, h.some))
-            (first (omega (arith, is_below, none))) in
-            omega (arith, now_is, first_is)
-        | inr filled ↦ omega (arith, now_is)
-      ],
-    )
+    let is_below = simp length-append at (ap length h.front_is) in
+    let kept = expired_or_kept edge before h.looked in
+    let some : 1 ≤ length now = elim (none_or_some (length h.front)) [
+      | inl none ↦ omega (arith, first_stays edge before h.looked (omega arith) (first (omega (arith, is_below, none))))
+      | inr filled ↦ omega arith
+    ] in
+    (omega (arith, ap length h.run_is, length-partitioned p was), some)

@@ -1,145 +1,117 @@
 -- Items of which those of one leaf are written over: what is said of the leaf's is said of all of them.
-use Rattle.std.proofs.Common.{◌≡◌, ◌≢◌, ℕ, ℤ, inl, inr, Bool, true, false, not, List, [], ◌∷◌, ◌++◌, Option, None, Some, unwrap_or}
-use Rattle.std.proofs.Common.{IsTrue, All, Any, refl, sym, ◌∙◌, ap, subst, append_assoc, append-nil}
+use Rattle.std.proofs.Common.{◌≡◌, ◌≢◌, ℕ, ℤ, inl, inr, Bool, true, false, not, List, [], ◌∷◌, ◌++◌, Option, None, Some}
+use Rattle.std.proofs.Common.{ap, All, refl, sym, ◌∙◌, append_assoc, append-nil}
+use Rattle.std.proofs.lemmas.List.{same_from_push}
 use Rattle.std.proofs.lemmas.List.Elements.{All-nil, All-filter, filter-append}
 use Rattle.tree.specs.declared.overwrite.Written.{Written}
 use Rattle.tree.specs.declared.overwrite.Written.TheVariants.{Partly, Whole}
 use Rattle.tree.specs.Item.{Item}
 use Rattle.tree.specs.Overwrite.{IsOverwritten, GivesPart, GivesWritten, OverwritesPart, Overwrites}
-use Rattle.tree.specs.Path.{IsPartitioned, items_below, behind, between, first_key}
-use Rattle.tree.specs.Tree.{ended_by}
-use Rattle.tree.specs.Walk.{IsChangedWithin, IsFoundAmong}
+use Rattle.tree.specs.Path.{IsPartitioned, items_below, behind, between}
+use Rattle.tree.specs.Walk.{IsChangedWithin}
 use Rattle.tree.proofs.callers.Partitions.{All-front, none_pass, none_passed, not_both, IsPartitioned-parts}
-use Rattle.tree.proofs.Inserting.{ended_some, same_ends}
+use Rattle.tree.proofs.Inserting.{ended_some}
 use Rattle.tree.proofs.Keys.{behind-parts, first_key-append}
 use Rattle.tree.proofs.Overwriting.{between_is}
 use Rattle.tree.proofs.OverwrittenItems.{told_by_first}
 use Rattle.tree.proofs.Told.{filter_around, none_of_fewer}
 
--- where an item passes, the list of those that pass isn't empty
-some_pass : (q : ℕ → Bool) (xs : List Item) → Any (λ x. q x.key ≡ true) xs → items_below q xs ≢ []
-some_pass q xs any none =
-    let fails = none_passed (λ (x : Item). q x.key) xs none in
-    not_both (q any.1.key) any.4 (subst (λ (y : Item). q y.key ≡ false) any.3 (fails any.0 any.1 any.2))
+-- Items of which those of one leaf are changed: all before them are below the second bound, and none behind them does.
+module _ (p q : ℕ → Bool) (nested : (key : ℕ) → p key ≡ true → q key ≡ true)
+    {Gives : Bool → Option ℕ → List Item → List Item → Type 0} {was now : List Item}
+    (c : IsChangedWithin q Gives true None was now) where
+  open c use {before as front, leaf as part, behind as back, items_below as pass, failing as fail}
 
-regroup : (a b e h r : List Item) (x : Item) → a ++ ((b ++ (x ∷ e ++ h)) ++ r) ≡ (a ++ b) ++ (x ∷ e ++ (h ++ r))
-regroup a b e h r x = simp append_assoc
+  passing_too : items_below q was ≡ front ++ items_below q part
+  passing_too = ap (items_below q) c.was_is ∙ filter_around (λ (x : Item). q x.key) front part back pass fail
 
--- Items in three parts: all of the first are below the second bound, and none of the last does.
-module _ (p q : ℕ → Bool) (nested : (key : ℕ) → p key ≡ true → q key ≡ true) (front part back : List Item)
-    (pass : All (λ x. q x.key ≡ true) front) (fail : All (λ x. q x.key ≡ false) back) where
-  passing_too : items_below q (front ++ (part ++ back)) ≡ front ++ items_below q part
-  passing_too = filter_around (λ (x : Item). q x.key) front part back pass fail
-
-  behind_too : behind q (front ++ (part ++ back)) ≡ behind q part ++ back
-  behind_too = behind-parts q front part back pass fail
+  behind_too : behind q was ≡ behind q part ++ back
+  behind_too = ap (behind q) c.was_is ∙ behind-parts q front part back pass fail
 
   fail_first : All (λ x. p x.key ≡ false) back
   fail_first = none_of_fewer (λ (x : Item). p x.key) (λ (x : Item). q x.key) (λ x. nested x.key) back fail
 
-  -- where an item is below the second bound, one of the middle part does
-  pub some_here : IsFoundAmong q front part → items_below q (front ++ (part ++ back)) ≢ [] → items_below q part ≢ []
-  some_here found some none =
-      elim found [
-        | inl empty ↦ some (passing_too ∙ ap (λ xs. front ++ xs) none ∙ ap (λ xs. xs ++ []) empty)
-        | inr any ↦ some_pass q part any none
-      ]
+  -- where an item is below the second bound, one of the leaf's does
+  pub some_here : items_below q was ≢ [] → items_below q part ≢ []
+  some_here some none = elim c.found [
+    | inl empty ↦ some (rw (passing_too, none, empty))
+    | inr any ↦
+        not_both (q any.1.key) any.4 (rw any.3 at (none_passed (λ (x : Item). q x.key) part none any.0 any.1 any.2))
+  ]
 
-  -- All of the first part are below the first bound too.
+  -- All before the leaf's are below the first bound too.
   module _ (opens : All (λ x. p x.key ≡ true) front) where
-    passing_part : items_below p (front ++ (part ++ back)) ≡ front ++ items_below p part
-    passing_part = filter_around (λ (x : Item). p x.key) front part back opens fail_first
+    passing_part : items_below p was ≡ front ++ items_below p part
+    passing_part = ap (items_below p) c.was_is ∙ filter_around (λ (x : Item). p x.key) front part back opens fail_first
 
-    between_part : between (Some p) (Some q) (front ++ (part ++ back)) ≡ between (Some p) (Some q) part
+    between_part : between (Some p) (Some q) was ≡ between (Some p) (Some q) part
     between_part =
-        rw (between_is p q (front ++ (part ++ back)), between_is p q part, behind-parts p front part back opens fail_first)
-        (rw (filter-append (λ (x : Item). q x.key) (behind p part) back, (none_pass (λ (x : Item). q x.key) back fail).0)
-        (append-nil (items_below q (behind p part))))
+        let rest = ap (behind p) c.was_is ∙ behind-parts p front part back opens fail_first in
+        let none = (none_pass (λ (x : Item). q x.key) back fail).0 in
+        rw (between_is p q was, between_is p q part, rest, filter-append, none) (append-nil (items_below q (behind p part)))
 
-    -- Where the middle part is written over, all items are.
-    written_part : (first : Item) (second : ℕ) (given : Option ℤ) (is_ended : Bool) (now : List Item)
-        → items_below q part ≢ [] → IsOverwritten p q first second given is_ended part now
-        → IsOverwritten p q first second given is_ended (front ++ (part ++ back)) (front ++ (now ++ back))
-    written_part first second given is_ended now some written last last_is =
+    -- Where those of the leaf are written over, all items are.
+    written_part : (first : Item) (second : ℕ) (given : Option ℤ) (is_ended : Bool) → items_below q part ≢ []
+        → IsOverwritten p q first second given is_ended part c.changed → IsOverwritten p q first second given is_ended was now
+    written_part first second given is_ended some written last last_is =
         let end = ended_some (items_below q part) some in
-        let ends_with = λ (x : Item). ended_by is_ended (record { key = second; version = unwrap_or given x.version }) in
         let ends : (front ++ end.front) ++ end.last ∷ [] ≡ last_is.0 ++ last ∷ [] =
-        append_assoc front end.front (end.last ∷ []) ∙ (cc (end.is, passing_too, last_is.1)) in
-        let same = (same_ends (front ++ end.front) last_is.0 end.last last ends).1 in
-        rw (written end.last (end.front, end.is), passing_part, behind_too, ← same)
-        (regroup front (items_below p part) (ends_with end.last) (behind q part) back first)
+        cc (append_assoc front end.front (end.last ∷ []), end.is, passing_too, last_is.1) in
+        let same = (same_from_push (front ++ end.front) last_is.0 end.last last ends).1 in
+        c.now_is ∙ (rw (written end.last (end.front, end.is), passing_part, behind_too, ← same) (simp append_assoc))
 
   -- All items are partitioned.
-  module _ (partitioned : IsPartitioned (λ x. p x.key) (front ++ (part ++ back))) where
-    -- All of the first part are below the first bound, where one of the middle part does.
+  module _ (partitioned : IsPartitioned (λ x. p x.key) was) where
+    abbrev here : Item → Bool
+    here x = p x.key
+
+    -- All before the leaf's are below the first bound, where one of the leaf's does.
     opens_front : items_below p part ≢ [] → All (λ x. p x.key ≡ true) front
-    opens_front some =
-        let here = λ (x : Item). p x.key in
-        elim (IsPartitioned-parts here front (part ++ back) partitioned).2 [
-          | inl all ↦ all
-          | inr none ↦ absurd (some (none_pass here part (All-front (λ (x : Item). p x.key ≡ false) part back none)).0)
-        ]
+    opens_front some = elim (IsPartitioned-parts here front (part ++ back) (rw c.was_is at partitioned)).2 [
+      | inl all ↦ all
+      | inr none ↦ absurd (some (none_pass here part (All-front (λ (x : Item). p x.key ≡ false) part back none)).0)
+    ]
 
-    front_is : front ≡ items_below p front ++ behind p front
-    front_is = (IsPartitioned-parts (λ (x : Item). p x.key) front (part ++ back) partitioned).0
-
-    -- Where the middle part has none that is below the first bound, those that pass the second are taken out.
-    part_taken : (last : ℤ) (run : List Item) (is_first : Bool) (now : List Item)
-        → GivesPart p q last run is_first part now → (front ≡ [] → IsTrue is_first) → items_below q part ≢ []
-        → OverwritesPart p q last run (front ++ (part ++ back)) (front ++ (now ++ back))
-    part_taken last run is_first now gives first some =
-        let here = λ (x : Item). p x.key in
-        let fails_here = λ (x : Item). not (p x.key) in
+    -- Where the leaf has none that is below the first bound, those that pass the second are taken out.
+    part_taken : (last : ℤ) (run : List Item) → GivesPart p q last run c.first part c.changed → items_below q part ≢ []
+        → OverwritesPart p q last run was now
+    part_taken last run gives some =
+        let front_is = (IsPartitioned-parts here front (part ++ back) (rw c.was_is at partitioned)).0 in
         let kept = behind p front in
-        let all = front ++ (part ++ back) in
         let fails = none_pass here part (none_passed here part gives.none) in
-        let filled : front ≢ [] = λ none. some (gives.some (first none)) in
-        let stays = All-filter fails_here (λ (x : Item). q x.key ≡ true) front pass in
-        let passing_all : items_below p all ≡ items_below p front =
-        rw (filter-append here front (part ++ back), filter-append here part back, gives.none, (none_pass here back fail_first).0)
-        (append-nil (items_below p front)) in
+        let fails_back = none_pass here back fail_first in
+        let filled : front ≢ [] = λ none. some (gives.some (c.first_is.1 (refl, none))) in
+        let stays = All-filter (λ (x : Item). not (p x.key)) (λ (x : Item). q x.key ≡ true) front pass in
+        let passing_all : items_below p was ≡ items_below p front =
+        ap (items_below p) c.was_is ∙ (rw (filter-append, filter-append, gives.none, fails_back.0) (append-nil _)) in
+        let rest : behind p was ≡ kept ++ (part ++ back) =
+        ap (behind p) c.was_is ∙ (rw (filter-append, filter-append, fails.1, fails_back.1)) in
         record {
           kept = kept;
           some = λ none. some (sym gives.run_is ∙ none);
-          run_is = rw (between_is p q all, filter-append fails_here front (part ++ back), filter-append fails_here part back)
-              (rw (fails.1, (none_pass here back fail_first).1, filter_around (λ (x : Item). q x.key) kept part back stays fail)
-              (ap (λ xs. kept ++ xs) (sym gives.run_is)));
+          run_is = rw (between_is p q was, rest, filter_around (λ (x : Item). q x.key) kept part back stays fail, gives.run_is);
           last_is = gives.last_is;
-          now_is = cc (gives.rest, behind_too, front_is, passing_all, append_assoc (items_below p front) kept (behind q all));
-          first = λ none. filled (front_is ∙ ap (λ xs. xs ++ kept) (sym passing_all) ∙ none);
+          now_is = cc (c.now_is, gives.rest, behind_too, passing_all, append_assoc (items_below p front) kept (behind q was));
+          first = λ none. filled (front_is ∙ (rw passing_all at none));
         }
 
-  -- What becomes of all items where those of the middle part are written over.
-  all_written : (r : ℕ → Bool) (first : Item) (second : ℕ) (given : Option ℤ) (written : Written) (run now : List Item)
-      (is_first : Bool) → IsPartitioned (λ x. p x.key) (front ++ (part ++ back))
-      → IsPartitioned (λ x. q x.key) (front ++ (part ++ back)) → IsPartitioned (λ x. r x.key) (front ++ (part ++ back))
-      → (IsTrue is_first → front ≡ []) → (front ≡ [] → IsTrue is_first)
-      → items_below q part ≢ [] → GivesWritten p q r first second given written run is_first (first_key None back) part now
-      → Overwrites p q r first second given written run (front ++ (part ++ back)) (front ++ (now ++ back))
-  all_written r first second given (Whole ended) run now is_first first_bound second_bound third_bound before told some gives =
-      let opens : All (λ x. p x.key ≡ true) front =
-      elim gives.there [
-        | inl one ↦ opens_front first_bound one
-        | inr is ↦ subst (All (λ (x : Item). p x.key ≡ true)) (sym (before is)) (All-nil (λ (x : Item). p x.key ≡ true))
-      ] in
-      record {
-        run_is = gives.run_is ∙ sym (between_part opens);
-        ended_is = told_by_first q r (front ++ (part ++ back)) ended second_bound third_bound
-            (rw behind_too (rw (first_key-append None (behind q part) back) gives.ended_is));
-        written = written_part opens first second given ended now gives.some gives.written;
-      }
-  all_written r first second given (Partly last) run now is_first first_bound second_bound third_bound before told some gives =
-      part_taken first_bound last run is_first now gives told some
-
 -- What becomes of all items where those of one leaf are written over.
-pub overwritten : (p q r : ℕ → Bool) → ((key : ℕ) → p key ≡ true → q key ≡ true)
-    → (first : Item) (second : ℕ) (given : Option ℤ) (written : Written) (run was now : List Item)
+pub overwritten : (p q r : ℕ → Bool) (nested : (key : ℕ) → p key ≡ true → q key ≡ true)
+    (first : Item) (second : ℕ) (given : Option ℤ) (written : Written) (run was now : List Item)
     → IsChangedWithin q (GivesWritten p q r first second given written run) true None was now
-    → IsPartitioned (λ x. p x.key) was → IsPartitioned (λ x. q x.key) was → IsPartitioned (λ x. r x.key) was → items_below q was ≢ []
-    → Overwrites p q r first second given written run was now
-overwritten p q r nested first second given written run was now c first_bound second_bound third_bound some =
-    let here = some_here p q nested c.before c.leaf c.behind c.items_below c.failing c.found (rw c.was_is at some) in
-    rw (c.was_is, c.now_is)
-    (all_written p q nested c.before c.leaf c.behind c.items_below c.failing r first second given written run c.changed c.first
-    (rw c.was_is at first_bound) (rw c.was_is at second_bound) (rw c.was_is at third_bound) (λ is. (c.first_is.0 is).1)
-    (λ none. c.first_is.1 (refl, none)) here c.gives)
+    → IsPartitioned (λ x. p x.key) was → IsPartitioned (λ x. q x.key) was → IsPartitioned (λ x. r x.key) was
+    → items_below q was ≢ [] → Overwrites p q r first second given written run was now
+overwritten p q r nested first second given (Whole ended) run was now c first_bound second_bound third_bound some =
+    let opens : All (λ x. p x.key ≡ true) c.before =
+    elim c.gives.there [
+      | inl one ↦ opens_front p q nested c first_bound one
+      | inr is ↦ rw (c.first_is.0 is).1 (All-nil (λ (x : Item). p x.key ≡ true))
+    ] in
+    record {
+      run_is = c.gives.run_is ∙ sym (between_part p q nested c opens);
+      ended_is = told_by_first q r was ended second_bound third_bound
+          (rw (behind_too p q nested c, first_key-append None (behind q c.leaf) c.behind) c.gives.ended_is);
+      written = written_part p q nested c opens first second given ended c.gives.some c.gives.written;
+    }
+overwritten p q r nested first second given (Partly last) run was now c first_bound second_bound third_bound some =
+    part_taken p q nested c first_bound last run c.gives (some_here p q nested c some)

@@ -12,16 +12,7 @@ use Rattle.tree.proofs.Changing.{Moves, moves_beside, moves_header, record_put, 
 
 -- slots that differ stand once in the list of both
 pub pair_once : (x y : ℕ) → x ≢ y → (s : ℕ) → times s (x ∷ y ∷ []) ≤ 1
-pair_once x y apart s = elim (once_cases s x) [
-  | inl same ↦ elim (once_cases s y) [
-    | inl both ↦ absurd (apart (same.0 ∙ sym both.0))
-    | inr other ↦ omega (arith, same.1, other.1)
-  ]
-  | inr one ↦ elim (once_cases s y) [
-    | inl same ↦ omega (arith, one.1, same.1)
-    | inr other ↦ omega (arith, one.1, other.1)
-  ]
-]
+pair_once x y apart s = grind (arith, once_cases s x, once_cases s y)
 
 module _ {N : ℕ} where
   pub entries_from_header : (a : Arena (Node N)) (slot : ℕ) (node : Node N) → header_at a slot ≡ Some node
@@ -29,12 +20,9 @@ module _ {N : ℕ} where
   entries_from_header a slot node e = ap (λ o. unwrap_or (option_map entries_of o) []) e
 
   pub live_if_some : (a : Arena (Node N)) (slot : ℕ) → 1 ≤ length (entries_at a slot) → IsLive a slot
-  live_if_some a slot some = by_record (record_at a slot) some
-    where
-      by_record : (o : Option (Record (Node N)))
-          → 1 ≤ length (unwrap_or (option_map entries_of (option_map (λ r. r.header) o)) []) → IsSome o
-      by_record None h = absurd (omega arith)
-      by_record (Some r) h = refl
+  live_if_some a slot some =
+      let size = λ (o : Option (Record (Node N))). length (unwrap_or (option_map entries_of (option_map (λ r. r.header) o)) []) in
+      (elim (record_at a slot) as (λ o. 1 ≤ size o → IsSome o) [ None ↦ λ h. absurd (omega arith) | Some r ↦ λ h. refl ]) some
 
   pub live_one : (a : Arena (Node N)) (slot : ℕ) → IsLive a slot → (s : ℕ) → 1 ≤ times s (slot ∷ []) → IsLive a s
   live_one a slot live s some = elim (once_cases s slot) [
@@ -60,22 +48,16 @@ module _ {N : ℕ} where
     put_moves live keyless = subst (λ z. Moves a z (slot ∷ []) (slot ∷ [])) (sym e) (moves_header a slot node live keyless)
 
   -- the spare slots after a release
-  more_spare : (a b : Arena (Node N)) (o : Option (List ℕ)) → IsSome o → IfSome o (λ key. key ≡ [])
-      → IfSome o (λ key. spare_of b (size_of (length key)) ≡ spare_of a (size_of (length key)) + 1)
-      → spare_of b 0 ≡ spare_of a 0 + 1
-  more_spare a b None live empty h = absurd (cc)
-  more_spare a b (Some key) live empty h =
-      subst (λ key. spare_of b (size_of (length key)) ≡ spare_of a (size_of (length key)) + 1) empty h
-
-  key_if_live : (o : Option (Record (Node N))) → IsSome o → IsSome (option_map (λ r. r.key) o)
-  key_if_live None live = live
-  key_if_live (Some r) live = refl
-
   pub released_spare : (a b : Arena (Node N)) (slot : ℕ) → IsLive a slot → IsKeyless a
       → IfSome (key_at a slot) (λ key. spare_of b (size_of (length key)) ≡ spare_of a (size_of (length key)) + 1)
       → spare_of b 0 ≡ spare_of a 0 + 1
-  released_spare a b slot live keyless h =
-      more_spare a b (key_at a slot) (key_if_live (record_at a slot) live) (keyless slot) h
+  released_spare a b slot live keyless h = by_record (record_at a slot) live (keyless slot) h
+    where
+      by_record : (o : Option (Record (Node N))) → IsSome o → IfSome (option_map (λ r. r.key) o) (λ key. key ≡ [])
+          → IfSome (option_map (λ r. r.key) o) (λ key. spare_of b (size_of (length key)) ≡ spare_of a (size_of (length key)) + 1)
+          → spare_of b 0 ≡ spare_of a 0 + 1
+      by_record None live empty h = absurd (cc)
+      by_record (Some r) live empty h = rw empty at h
 
   pub placed_spare : (a b : Arena (Node N)) → 0 < spare_of a 0
       → spare_of b 0 + 1 ≡ cond (nat_eq (spare_of a 0) 0) (slots_of 0) (spare_of a 0) → spare_of b 0 + 1 ≡ spare_of a 0

@@ -1,8 +1,8 @@
 -- Entries of a node in whose place others are put.
-use Rattle.std.proofs.Common.{◌≡◌, ℕ, ◌+◌, ◌-◌, ◌≤◌, List, [], ◌++◌, length, take, drop, sym, ◌∙◌, ap, arith, length-append, length-drop, append_assoc, refl}
+use Rattle.std.proofs.Common.{◌≡◌, ℕ, ◌+◌, ◌-◌, ◌≤◌, List, [], ◌++◌, length, take, drop, ap, arith, length-append, length-drop, append_assoc}
 use Rattle.std.specs.List.{copy_within}
 use Rattle.std.proofs.Math.Seq.{take-append-add}
-use Rattle.std.proofs.lemmas.List.{length-take, length-take-le, append-nil, drop_all, take-append-drop, take-take, take-append-le, take_at, drop_at, drop-drop, drop-take}
+use Rattle.std.proofs.lemmas.List.{length-take-le, append-nil, drop_all, take-append-drop, take-take, take-append-le, take_at, drop_at, drop-drop, drop-take}
 
 -- Elements that are moved to where they are stay.
 pub not_moved : {X : Type 0} (xs : List X) (from end to : ℕ) → from ≡ to → xs ≡ copy_within xs from end to
@@ -10,33 +10,6 @@ not_moved xs from end to same =
     let moved = end - from in
     let part = take-append-drop from (take (from + moved) xs) in
     cc (take-append-drop (from + moved) xs, part, take-take from (from + moved) xs (omega arith), drop-take from moved xs)
-
--- The entries behind a run are moved to the end of the new ones, and these are written before them.
-pub take-spliced : {X : Type 0} (xs ys others : List X) (len from to : ℕ) → len ≤ length xs → from ≤ to → to ≤ len
-    → from + length others + (len - to) ≤ length xs → ys ≡ copy_within xs to len (from + length others)
-    → take (from + length others + (len - to)) (take from ys ++ (others ++ drop (from + length others - from) (drop from ys)))
-    ≡ take from (take len xs) ++ (others ++ drop to (take len xs))
-take-spliced xs ys others len from to within ordered most room after =
-    let end = from + length others in
-    let head = take end xs in
-    let moved = take (len - to) (drop to xs) in
-    let rest = drop (end + (len - to)) xs in
-    let head_len : length head ≡ end = length-take-le end xs (omega arith) in
-    let moved_len : length moved ≡ len - to = length-take-le (len - to) (drop to xs) (omega (arith, length-drop to xs)) in
-    let front_len : length (take from xs) ≡ from = length-take-le from xs (omega arith) in
-    let ys_is : ys ≡ head ++ (moved ++ rest) = after ∙ append_assoc head moved rest in
-    let kept = take-take from end xs (omega arith) in
-    let front : take from ys ≡ take from xs = cc (kept, take-append-le from head (moved ++ rest) (omega arith)) in
-    let back : drop (end - from) (drop from ys) ≡ moved ++ rest =
-    drop-drop (end - from) from ys ∙ ap (λ n. drop n ys) (omega arith) ∙ ap (drop end) ys_is ∙ drop_at head (moved ++ rest) end head_len in
-    let whole : take from ys ++ (others ++ drop (end - from) (drop from ys)) ≡ (take from xs ++ (others ++ moved)) ++ rest =
-    cc (front, back, append_assoc others moved rest, append_assoc (take from xs) (others ++ moved) rest) in
-    let new_len : length (take from xs ++ (others ++ moved)) ≡ end + (len - to) =
-    omega (arith, length-append (take from xs) (others ++ moved), length-append others moved) in
-    let add : to + (len - to) ≡ len = omega arith in
-    let part : moved ≡ drop to (take len xs) = sym (drop-take to (len - to) xs) ∙ ap (λ n. drop to (take n xs)) add in
-    let all = take_at (take from xs ++ (others ++ moved)) rest (end + (len - to)) new_len in
-    cc (whole, all, take-take from len xs (omega arith), part)
 
 -- What others are written over matters as far as elements are taken.
 put_taken : {X : Type 0} (ys others : List X) (from n : ℕ) → from ≤ length ys → from + length others ≤ n
@@ -46,25 +19,49 @@ put_taken ys others from n within room =
     let end = from + length others in
     let front = take from ys ++ others in
     let sum : end + (n - end) ≡ n = omega arith in
-    let count : n ≡ length front + (n - end) = omega (arith, length-append (take from ys) others, length-take-le from ys within) in
-    let rest : drop (end - from) (drop from ys) ≡ drop end ys = drop-drop (end - from) from ys ∙ ap (λ i. drop i ys) (omega arith) in
+    let size = length-append (take from ys) others in
+    let count : n ≡ length front + (n - end) = omega (arith, length-take-le from ys within) in
+    let same : from + (end - from) ≡ end = omega arith in
+    let rest = drop-drop (end - from) from ys in
     let before = append_assoc (take from ys) others (drop (end - from) (drop from ys)) in
     let after = append_assoc (take from ys) others (take (n - end) (drop end ys)) in
     cc (take-append-add front (drop end ys) (n - end), take-take from n ys (omega arith), drop-take end (n - end) ys)
 
--- Elements are moved and written as above, but behind them anything may stand.
+-- The entries behind a run are moved to the end of the new ones, and these are written before them. Anything may stand behind.
 pub take-spliced_before : {X : Type 0} (xs ys others : List X) (len from to : ℕ) → len ≤ length xs → from ≤ to → to ≤ len
     → from + length others + (len - to) ≤ length xs → from ≤ length ys
-    → take (from + length others + (len - to)) ys ≡ take (from + length others + (len - to)) (copy_within xs to len (from + length others))
+    → take (from + length others + (len - to)) ys
+    ≡ take (from + length others + (len - to)) (copy_within xs to len (from + length others))
     → take (from + length others + (len - to)) (take from ys ++ (others ++ drop (from + length others - from) (drop from ys)))
     ≡ take from (take len xs) ++ (others ++ drop to (take len xs))
 take-spliced_before xs ys others len from to within ordered most room inside after =
     let end = from + length others in
     let n = end + (len - to) in
-    let moved = copy_within xs to len end in
-    put_taken ys others from n inside (omega arith) ∙ ap (λ zs. take from zs ++ (others ++ drop end zs)) after
-    ∙ sym (put_taken moved others from n (omega (arith, inside, ap length after, length-take n ys, length-take n moved)) (omega arith))
-    ∙ take-spliced xs moved others len from to within ordered most room refl
+    let zs = copy_within xs to len end in
+    let head = take end xs in
+    let moved = take (len - to) (drop to xs) in
+    let zs_is : zs ≡ head ++ (moved ++ drop n xs) = append_assoc head moved (drop n xs) in
+    let head_len = length-take-le end xs (omega arith) in
+    let kept = take-append-le from head (moved ++ drop n xs) (omega arith) in
+    let front : take from (take n zs) ≡ take from (take len xs) =
+    cc (kept, take-take from n zs (omega arith), take-take from end xs (omega arith), take-take from len xs (omega arith)) in
+    let moved_len = length-take-le (len - to) (drop to xs) (omega (arith, length-drop to xs)) in
+    let behind = drop_at head (moved ++ drop n xs) end head_len in
+    let add : to + (len - to) ≡ len = omega arith in
+    let back : drop end (take n zs) ≡ drop to (take len xs) =
+    cc (behind, drop-take end (len - to) zs, take_at moved (drop n xs) (len - to) moved_len, drop-take to (len - to) xs) in
+    rw (put_taken ys others from n inside (omega arith), after, front, back)
+
+-- likewise where the elements behind them are known
+pub take-spliced : {X : Type 0} (xs ys others : List X) (len from to : ℕ) → len ≤ length xs → from ≤ to → to ≤ len
+    → from + length others + (len - to) ≤ length xs → ys ≡ copy_within xs to len (from + length others)
+    → take (from + length others + (len - to)) (take from ys ++ (others ++ drop (from + length others - from) (drop from ys)))
+    ≡ take from (take len xs) ++ (others ++ drop to (take len xs))
+take-spliced xs ys others len from to within ordered most room after =
+    let end = from + length others in
+    let size = simp length-append at (ap length after) in
+    let inside : from ≤ length ys = omega (arith, size, length-take-le end xs (omega arith)) in
+    take-spliced_before xs ys others len from to within ordered most room inside (ap (take (end + (len - to))) after)
 
 -- Elements are taken apart in two, and those at the end of the first part are written over.
 pub apart_spliced : {X : Type 0} (xs new : List X) (from to : ℕ) → from ≤ to → to ≤ length xs

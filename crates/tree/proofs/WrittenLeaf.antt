@@ -2,9 +2,9 @@
 use Rattle.std.proofs.Common.{◌≡◌, ◌≢◌, ◌⊎◌, inl, inr, ℕ, ℤ, ◌-◌, ◌<◌, ◌≤◌, Bool, true, false, not, List, [], ◌∷◌, ◌++◌, Option}
 use Rattle.std.proofs.Common.{Bor, Some, None, MatchOption, length, get_or, slice_get, take, drop, filter, map, All, Any, refl, sym}
 use Rattle.std.proofs.Common.{◌∙◌, ap, arith, length-append}
-use Rattle.std.proofs.lemmas.List.{append-nil, map-append, length-map, length-take-le, take-append-drop, drop_at, at_drop_more, at_drop_all}
+use Rattle.std.proofs.lemmas.List.{same_from_push, append-nil, map-append, length-map, length-take-le, take-append-drop, drop_at, drop_more, drop_all}
 use Rattle.std.proofs.lemmas.List.Elements.{All-nil, All-cons, All-head, All-append, All-filter, All-weaker, Contains-get_or, filter-append, filter_passes}
-use Rattle.std.proofs.lemmas.Option.{slice_get-get_or}
+use Rattle.std.proofs.lemmas.Option.{slice_get_cases}
 use Rattle.std.specs.Prelude.{option_copied}
 use Rattle.keys.proofs.callers.SomeElement.{Any-first, Any-right}
 use Rattle.tree.specs.declared.entry.Entry.{Entry}
@@ -14,25 +14,16 @@ use Rattle.tree.specs.Path.{IsPartitioned, items_below, behind, between, first_k
 use Rattle.tree.specs.Tree.{IsLast, ended_by}
 use Rattle.tree.specs.Walk.{IsRaised}
 use Rattle.tree.proofs.callers.Partitions.{All-back, none_fail, IsPartitioned-parts}
-use Rattle.tree.proofs.Inserting.{ended_some, same_ends}
+use Rattle.tree.proofs.Inserting.{ended_some}
 use Rattle.tree.proofs.LeafChange.{parted}
 use Rattle.tree.proofs.Leaves.{IsLeaf, filter-items, last_passing}
 use Rattle.tree.proofs.Overwriting.{between_is}
 
--- The items of a leaf stand alone.
-pub leaf_alone : (p : ℕ → Bool) (es : List Entry) → IsLeaf p (map item_of es) [] [] es
-leaf_alone p es = record {
-  items_are = sym (append-nil (map item_of es));
-  pass = All-nil (λ (x : Item). p x.key ≡ true);
-  fail = All-nil (λ (x : Item). p x.key ≡ false);
-  none = λ _. refl;
-}
-
 -- A part of items that are partitioned is partitioned.
 pub part_partitioned : (p : ℕ → Bool) (items : List Item) → IsPartOfPartitioned p items → IsPartitioned (λ x. p x.key) items
 part_partitioned p items part =
-    let here = λ (x : Item). p x.key in
-    (IsPartitioned-parts here items part.1 (IsPartitioned-parts here part.0 (items ++ part.1) part.2).1).0
+    let back = (IsPartitioned-parts (λ (x : Item). p x.key) part.0 (items ++ part.1) part.2).1 in
+    (IsPartitioned-parts (λ (x : Item). p x.key) items part.1 back).0
 
 -- Where so many entries are below the bound, some item does.
 pub some_item : (p : ℕ → Bool) (es : List Entry) (n : ℕ) → 1 ≤ n → n ≡ length (filter (λ e. p e.key) es)
@@ -58,30 +49,28 @@ module _ (p q : ℕ → Bool) (nested : (key : ℕ) → p key ≡ true → q key
   run_here : filter (λ e. q e.key) (drop begin es) ≡ drop begin (take end es)
   run_here =
       let there = λ (e : Entry). q e.key in
-      let front = take begin es in
-      let rest = drop begin es in
       let from = (parted p es begin first_bound begins).0 in
       let to = (parted q es end second_bound ends).0 in
-      let pass : All (λ (e : Entry). q e.key ≡ true) front =
-      rw from
-      (All-weaker (λ (e : Entry). p e.key ≡ true) (λ (e : Entry). q e.key ≡ true) (λ e. nested e.key)
-      (filter (λ (e : Entry). p e.key) es) (filter_passes (λ (e : Entry). p e.key) es)) in
-      let all : take end es ≡ front ++ filter there rest =
-      cc (to, take-append-drop begin es, filter-append there front rest, (none_fail there front pass).0) in
-      sym (ap (drop begin) all ∙ drop_at front (filter there rest) begin (length-take-le begin es within))
+      let pass : All (λ (e : Entry). q e.key ≡ true) (take begin es) =
+      rw from (All-weaker _ _ (λ e. nested e.key) _ (filter_passes (λ (e : Entry). p e.key) es)) in
+      let split = filter-append there (take begin es) (drop begin es) in
+      let all : take end es ≡ take begin es ++ filter there (drop begin es) =
+      cc (to, take-append-drop begin es, split, (none_fail there (take begin es) pass).0) in
+      rw (all, drop_at (take begin es) _ begin (length-take-le begin es within))
 
   -- and the items
   pub between_entries : between (Some p) (Some q) (map item_of es) ≡ map item_of (drop begin (take end es))
   between_entries =
-      between_is p q (map item_of es) ∙ ap (items_below q) (items_parted p es begin first_bound begins).1
-      ∙ filter-items q (drop begin es) ∙ ap (map item_of) run_here
+      let rest = (items_parted p es begin first_bound begins).1 in
+      cc (between_is p q (map item_of es), rest, filter-items q (drop begin es), run_here)
 
   -- what becomes of the items where entries are put in place of those between the bounds
   pub replaced : (new now : List Entry) → now ≡ take begin es ++ (new ++ drop end es)
       → map item_of now ≡ items_below p (map item_of es) ++ (map item_of new ++ behind q (map item_of es))
   replaced new now now_is =
-      rw (now_is, map-append item_of (take begin es) (new ++ drop end es), map-append item_of new (drop end es))
-      (rw ((items_parted p es begin first_bound begins).0, (items_parted q es end second_bound ends).1))
+      let front = (items_parted p es begin first_bound begins).0 in
+      let back = (items_parted q es end second_bound ends).1 in
+      rw (now_is, map-append, map-append, front, back)
 
 -- The last entry below the bound, where it is lent, has the version of the last such item.
 pub last_version : (q : ℕ → Bool) (es passed : List Entry) (lent : Option (Bor Entry)) (version otherwise : ℤ)
@@ -90,7 +79,9 @@ pub last_version : (q : ℕ → Bool) (es passed : List Entry) (lent : Option (B
     → ((e : Bor Entry) → post e → version ≡ e.now.version) → (x : Item) → IsLast x (items_below q (map item_of es))
     → version ≡ x.version
 last_version q es passed lent version otherwise post same is told says x ends =
-    by_last lent told (last_passing q (map item_of es) [] [] es passed (option_copied lent) (leaf_alone q es) same is)
+    let alone : IsLeaf q (map item_of es) [] [] es =
+    record { items_are = sym (append-nil (map item_of es)); pass = All-nil _; fail = All-nil _; none = λ _. refl } in
+    by_last lent told (last_passing q (map item_of es) [] [] es passed (option_copied lent) alone same is)
   where
     by_last : (lent : Option (Bor Entry)) → MatchOption lent (version ≡ otherwise) post
         → MatchOption (option_copied lent) (items_below q (map item_of es) ≡ [])
@@ -98,17 +89,12 @@ last_version q es passed lent version otherwise post same is told says x ends =
     by_last None told none = absurd (omega (arith, length-append ends.0 (x ∷ []), ap length (sym ends.1 ∙ none)))
     by_last (Some e) told there =
         says e told
-        ∙ ap (λ (x : Item). x.version) (same_ends there.0 ends.0 (item_of e.now) x (sym there.1 ∙ ends.1)).1
+        ∙ ap (λ (x : Item). x.version) (same_from_push there.0 ends.0 (item_of e.now) x (sym there.1 ∙ ends.1)).1
 
 -- the first key is that of the items in front
 first_of_front : (xs ys zs : List Item) → xs ≢ [] → first_key None (xs ++ ys) ≡ first_key None (xs ++ zs)
 first_of_front [] ys zs some = absurd (some refl)
 first_of_front (x ∷ xs) ys zs some = refl
-
--- each item has a version that is there
-own_version : (items : List Item) → All (λ (x : Item). Any (λ (w : Item). x.version ≡ w.version) items) items
-own_version items k d within =
-    let c = Contains-get_or items k d within in (c.0, get_or items k d, c.1, c.2, refl)
 
 -- Where a run is written over that has an item before it, the first key stays, and the version of the first new item comes in.
 pub raised : (p q : ℕ → Bool) → ((key : ℕ) → p key ≡ true → q key ≡ true) → (first : Item) (second : ℕ) (ended : Bool)
@@ -121,25 +107,21 @@ raised p q nested first second ended was now partitioned some some_second writte
     let now_is : now ≡ items_below p was ++ rest = written end.last (end.front, end.is) in
     let Known : Item → Type 0 = λ x. Any (λ (w : Item). x.version ≡ w.version) was in
     let P : Item → Type 0 = λ x. (x.version ≡ first.version) ⊎ Known x in
-    let own : All P was = All-weaker Known P (λ x k. inr k) was (own_version was) in
+    let known : All Known was = λ k d within. let c = Contains-get_or was k d within in (c.0, get_or was k d, c.1, c.2, refl) in
+    let own : All P was = All-weaker Known P (λ x k. inr k) was known in
     let last : Known end.last =
     All-head Known end.last [] (All-back Known end.front (end.last ∷ [])
-    (rw end.is at (All-filter (λ (x : Item). q x.key) Known was (own_version was)))) in
+    (rw end.is at (All-filter (λ (x : Item). q x.key) Known was known))) in
+    let ends : All P (ended_by ended x) =
+    (elim ended as (λ b. All P (ended_by b x)) [ true ↦ All-nil P | false ↦ All-cons P x [] (inr last) (All-nil P) ]) in
     record {
-      first = ap (first_key None) now_is ∙ first_of_front (items_below p was) rest (behind p was) some
-          ∙ ap (first_key None) (sym partitioned);
+      first = cc (now_is, first_of_front (items_below p was) rest (behind p was) some, partitioned);
       there = rw now_is (Any-right (λ (x : Item). x.version ≡ first.version) (items_below p was) rest (Any-first _ first _ refl));
       others = rw now_is
           (All-append P (items_below p was) rest (All-filter (λ (x : Item). p x.key) P was own)
           (All-cons P first _ (inl refl)
-          (All-append P _ (behind q was) (All-ended_by P ended x (inr last))
-          (All-filter (λ (x : Item). not (q x.key)) P was own))));
+          (All-append P _ (behind q was) ends (All-filter (λ (x : Item). not (q x.key)) P was own))));
     }
-  where
-    -- what holds of an item holds of one that ends a run, if there is one
-    All-ended_by : (P : Item → Type 0) (is_ended : Bool) (x : Item) → P x → All P (ended_by is_ended x)
-    All-ended_by P true x holds = All-nil P
-    All-ended_by P false x holds = All-cons P x [] holds (All-nil P)
 
 module _ (q r : ℕ → Bool) (es : List Entry) (end : ℕ) (others : drop end es ≡ filter (λ e. not (q e.key)) es)
     (otherwise : Option ℕ) (ended : Bool) where
@@ -149,27 +131,15 @@ module _ (q r : ℕ → Bool) (es : List Entry) (end : ℕ) (others : drop end e
   -- The next entry of the leaf tells whether the first key behind the second bound passes.
   pub ended_in_leaf : end < length es → ((e : Entry) → slice_get es end ≡ Some e → ended ≡ r e.key)
       → ended ≡ first_is_below r (first_key otherwise (behind q (map item_of es)))
-  ended_in_leaf within tells = by_entries es within refl
-    where
-      by_entries : (xs : List Entry) → end < length xs → xs ≡ es
-          → ended ≡ first_is_below r (first_key otherwise (behind q (map item_of es)))
-      by_entries [] lt same = absurd (omega arith)
-      by_entries (d ∷ xs) lt same =
-          let e = get_or es end d in
-          let key : first_key otherwise (behind q (map item_of es)) ≡ Some e.key =
-          ap (first_key otherwise) behind_end
-          ∙ at_drop_more (λ ys. first_key otherwise (map item_of ys)) es end d within in
-          tells e (slice_get-get_or es end d within) ∙ sym (ap (first_is_below r) key)
+  ended_in_leaf within tells = elim (slice_get_cases es end).1 [
+    | inl at ↦ rw (behind_end, drop_more es end at.0 within, at.3) (tells at.0 at.2)
+    | inr none ↦ absurd (omega (arith, none.0))
+  ]
 
   -- Where there is none, the key behind the leaf does.
   pub ended_behind : length es ≤ end → (post : ℕ → Type 0) → MatchOption otherwise (ended ≡ false) post
       → ((key : ℕ) → post key → ended ≡ r key)
       → ended ≡ first_is_below r (first_key otherwise (behind q (map item_of es)))
   ended_behind all post tested says =
-      let key : first_key otherwise (behind q (map item_of es)) ≡ otherwise =
-      ap (first_key otherwise) behind_end ∙ at_drop_all (λ ys. first_key otherwise (map item_of ys)) es end all in
-      by_key otherwise tested ∙ sym (ap (first_is_below r) key)
-    where
-      by_key : (key : Option ℕ) → MatchOption key (ended ≡ false) post → ended ≡ first_is_below r key
-      by_key None none = none
-      by_key (Some key) there = says key there
+      let Tells = λ (key : Option ℕ). MatchOption key (ended ≡ false) post → ended ≡ first_is_below r key in
+      rw (behind_end, drop_all end es all) ((elim otherwise as Tells [ None ↦ λ none. none | Some key ↦ says key ]) tested)

@@ -1,16 +1,10 @@
-use Rattle.std.proofs.Common.{rules, map, sym, subst, to_z, of_z, w64, SFits}
+use Rattle.std.proofs.Common.{rules, w64}
 use Rattle.std.proofs.lemmas.Int.{to_z-of_z}
-use Rattle.tree.specs.declared.entry.Entry.{Entry}
-use Rattle.tree.specs.Item.{version_of}
-use Rattle.tree.specs.Tree.{IsLast}
-use Rattle.tree.proofs.Removing.{run, last_at}
+use Rattle.tree.proofs.Removing.{last_at}
 use Rattle.tree.proofs.expiring.look_at.Goals as goal
 
 pub returns-clause-last : goal.returns-clause-last
 returns-clause-last c =
     let e = c.index-entries-to.result in
-    let versions = map version_of (run c.args.entries.now c.args.from c.args.to) in
-    let fits : SFits w64 e.version = search rules in
-    subst (λ (x : Entry). IsLast (to_z w64 (of_z w64 x.version)) versions) c.index-entries-to.is
-    (subst (λ v. IsLast v versions) (sym (to_z-of_z w64 e.version fits))
-    (last_at c.args.entries.now c.args.from c.args.to e c.requires.some c.requires.within c.index-entries-to.is))
+    rw (← c.index-entries-to.is, to_z-of_z w64 e.version (search rules))
+    (last_at c.args.entries.now c.args.from c.args.to e c.requires.some c.requires.within c.index-entries-to.is)

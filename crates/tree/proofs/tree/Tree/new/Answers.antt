@@ -1,6 +1,5 @@
-use Rattle.std.proofs.Common.{arith, sym, ◌≡◌, ◌+◌, ◌≤◌, ◌∙◌, ap, cond}
-use Rattle.std.proofs.lemmas.Bool.{ne_eqb}
-use Rattle.arena.specs.Arena.{spare_of, slots_of}
+use Rattle.std.proofs.Common.{arith, ◌≡◌, ◌∙◌, ap}
+use Rattle.tree.proofs.Placing.{placed_spare}
 use Rattle.tree.proofs.Trees.{tree_of_one}
 use Rattle.tree.specs.Item.{Item}
 use Rattle.tree.proofs.LeafChange.{headed_alone}
@@ -14,22 +13,17 @@ pub invariant_of-result : goal.invariant_of-result
 invariant_of-result g c =
     let a = c.reserve_slots.new.self in
     let b = c.place.new.self in
-    let slot = c.in_ok-slot.slot in
-    let enough : 67 ≤ spare_of a 0 = c.in_ok-reserve_slots.ensures.room in
-    let spare : spare_of b 0 + 1 ≡ spare_of a 0 =
-    c.in_ok-slot.ensures.spare ∙ ap (λ t. cond t (slots_of 0) (spare_of a 0)) (ne_eqb (spare_of a 0) 0 (omega arith)) in
-    tree_of_one a b slot c.of.result c.item.result c.requires.fan_out c.requires.few
+    let enough = c.in_ok-reserve_slots.ensures.room in
+    let spare = placed_spare a b (omega arith) c.in_ok-slot.ensures.spare in
+    tree_of_one a b _ c.of.result c.item.result c.requires.fan_out c.requires.few
     (c.reserve_slots.ensures.records ∙ c.new-nodes.ensures.empty) enough c.in_ok-slot.ensures.was_free c.in_ok-slot.ensures.placed
     c.in_ok-slot.ensures.record c.in_ok-slot.ensures.others spare c.of.ensures.entries
 
 pub returns-clause-headed : goal.returns-clause-headed
-returns-clause-headed g c =
+returns-clause-headed g c bytes empty =
     let a = c.reserve_slots.new.self in
     let b = c.place.new.self in
-    let e = c.item.result in
-    let key : c.args.key ≡ e.key = sym (ap (λ (x : Item). x.key) c.item.ensures.item) in
-    λ bytes empty.
+    let key : c.item.result.key ≡ c.args.key = ap (λ (x : Item). x.key) c.item.ensures.item in
     headed_in_list bytes b
-    (headed_alone bytes a b c.in_ok-slot.slot c.of.result e.key (c.reserve_slots.ensures.records ∙ c.new-nodes.ensures.empty)
-    c.in_ok-slot.ensures.record c.in_ok-slot.ensures.others c.of.ensures.key_heads
-    (ap bytes (sym key) ∙ empty))
+    (headed_alone bytes a b _ c.of.result c.item.result.key (c.reserve_slots.ensures.records ∙ c.new-nodes.ensures.empty)
+    c.in_ok-slot.ensures.record c.in_ok-slot.ensures.others c.of.ensures.key_heads (rw key empty))

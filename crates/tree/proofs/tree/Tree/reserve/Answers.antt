@@ -1,4 +1,4 @@
-use Rattle.std.proofs.Common.{arith, ◌≡◌, ◌+◌, ◌-◌, ◌/◌, ◌≤◌, ap}
+use Rattle.std.proofs.Common.{arith, ◌≡◌, ◌+◌, ◌-◌, ◌/◌, ◌≤◌}
 use Rattle.std.specs.FinMap as finite
 use Rattle.std.proofs.Math.Nat.{mul-le-mul_left}
 use Rattle.arena.specs.Arena.{spare_of}
@@ -10,26 +10,19 @@ pub invariant_of-self : goal.invariant_of-self
 invariant_of-self g c =
     let t = c.self.inside in
     let nodes = c.reserve_slots.new.self in
-    let k = least_of g.row.N - 1 in
     let more : finite.len t.nodes.records + spare_of t.nodes 0 ≤ finite.len t.nodes.records + spare_of nodes 0 =
     omega (arith, c.reserve_slots.ensures.spare_stays) in
-    tree_stays t.nodes nodes t.root.slot t.root.height t.len t.room t.room c.reserve_slots.ensures.records c.self.invariant (omega arith)
-    (omega (arith, mul-le-mul_left k more, c.self.invariant.reserved))
+    tree_stays t.nodes nodes _ _ _ _ _ c.reserve_slots.ensures.records c.self.invariant (omega arith)
+    (omega (arith, mul-le-mul_left (least_of g.row.N - 1) more, c.self.invariant.reserved))
 
 pub invariant_of-self-2 : goal.invariant_of-self-2
 invariant_of-self-2 g c =
     let t = c.self.inside in
     let nodes = c.reserve_slots.new.self in
     let k = least_of g.row.N - 1 in
-    let same : c.args.room / (c.least.result - 1) ≡ c.args.room / k = ap (λ n. c.args.room / (n - 1)) c.least.ensures.least in
+    let same : c.args.room / (c.least.result - 1) ≡ c.args.room / k = rw c.least.ensures.least in
+    let reserved = c.in_ok-reserve_slots.ensures.room in
     let total : c.args.room / k + 67 ≤ finite.len t.nodes.records + spare_of nodes 0 =
-    omega (
-      arith,
-      same,
-      c.in-Some.ensures.1,
-      c.saturating_sub-missing.ensures,
-      c.live.ensures.count,
-      c.in_ok-reserve_slots.ensures.room,
-    ) in
-    tree_stays t.nodes nodes t.root.slot t.root.height t.len t.room c.args.room c.reserve_slots.ensures.records c.self.invariant (omega arith)
+    omega (arith, c.in-Some.ensures.1, c.saturating_sub-missing.ensures, c.live.ensures.count) in
+    tree_stays t.nodes nodes _ _ _ _ _ c.reserve_slots.ensures.records c.self.invariant (omega arith)
     (enough_nodes k c.args.room (finite.len t.nodes.records + spare_of nodes 0) (omega arith) total)
