@@ -2,6 +2,7 @@
 use Rattle.std.proofs.Common.{◌≡◌, ℕ, zero, suc, ◌-◌, ◌≤◌, ◌<◌, Bool, List, [], ◌∷◌, ◌++◌, Some, length, get_or, map, slice_get, flat_map, All, refl, sym, ◌∙◌, ap, subst, arith}
 use Rattle.std.specs.Prelude.{◌≤ℤ◌, Option}
 use Rattle.std.proofs.lemmas.Int.{ints}
+use Rattle.std.proofs.lemmas.List.Concat.{flat_map_single}
 use Rattle.std.proofs.lemmas.List.Elements.{All-cons, All-nil, All-head, All-weaker}
 use Rattle.arena.specs.Arena.{Arena, header_at}
 use Rattle.tree.specs.declared.entry.Entry.{Entry}
@@ -28,10 +29,6 @@ abbrev pub items_under : {N : ℕ} → Arena (Node N) → ℕ → Entry → List
 items_under nodes zero e = item_of e ∷ []
 items_under nodes (suc height) e = items_in nodes height e.child
 
-one_each : (es : List Entry) → map item_of es ≡ flat_map (λ e. item_of e ∷ []) es
-one_each [] = refl
-one_each (e ∷ es) = ap (λ xs. item_of e ∷ xs) (one_each es)
-
 item_tells : (e : Entry) → Tells e (item_of e ∷ [])
 item_tells e = record {
   first = item_of e;
@@ -39,8 +36,7 @@ item_tells e = record {
   items_are = refl;
   key = refl;
   greatest = record {
-    bound = All-cons (λ (x : Item). x.version ≤ℤ e.version) (item_of e) [] (omega (arith, ints))
-        (All-nil (λ (x : Item). x.version ≤ℤ e.version));
+    bound = All-cons (λ (x : Item). x.version ≤ℤ e.version) (item_of e) [] (omega (arith, ints)) (All-nil _);
     reached = Any-first (λ (x : Item). x.version ≡ e.version) (item_of e) [] refl;
   };
 }
@@ -48,15 +44,13 @@ item_tells e = record {
 module _ {N : ℕ} (nodes : Arena (Node N)) (least : ℕ) where
   pub node_items : (height slot : ℕ)
       → items_in nodes height slot ≡ flat_map (items_under nodes height) (entries_at nodes slot)
-  node_items zero slot = one_each (entries_at nodes slot)
+  node_items zero slot = sym (flat_map_single item_of (entries_at nodes slot))
   node_items (suc height) slot = refl
 
   pub node_tells : (height slot : ℕ) → IsSubtree nodes least height slot
       → All (λ e. Tells e (items_under nodes height e)) (entries_at nodes slot)
   node_tells zero slot s = λ i d lt. item_tells (get_or (entries_at nodes slot) i d)
-  node_tells (suc height) slot s =
-      All-weaker (IsChild nodes least height (IsSubtree nodes least height))
-      (λ (e : Entry). Tells e (items_in nodes height e.child)) (λ e k. k.tells) (entries_at nodes slot) s.2
+  node_tells (suc height) slot s = λ i d lt. (s.2 i d lt).tells
 
   -- The first entry of an entry's child has the entry's key.
   pub first_key_is : (height : ℕ) (e first : Entry) → IsChild nodes least height (IsSubtree nodes least height) e
@@ -70,18 +64,17 @@ module _ {N : ℕ} (nodes : Arena (Node N)) (least : ℕ) where
       → IsSubtree nodes least height slot → entries_at nodes slot ≡ es → i < length es → e ≡ get_or es i e
       → IsChild nodes least (height - 1) (IsSubtree nodes least (height - 1)) e
   child_at height slot es i e some s read inside is =
-      let lower : suc (height - 1) ≡ height = omega arith in
-      let node = subst (λ n. IsSubtree nodes least n slot) (sym lower) s in
-      let all = subst (All (IsChild nodes least (height - 1) (IsSubtree nodes least (height - 1)))) read node.2 in
-      subst (IsChild nodes least (height - 1) (IsSubtree nodes least (height - 1))) (sym is) (all i e inside)
+      let lower : height ≡ suc (height - 1) = omega arith in
+      let node = subst (λ n. IsSubtree nodes least n slot) lower s in
+      rw is ((rw read at node.2) i e inside)
 
   -- What is known of the key of an entry is known of that of its child's first entry.
   pub knows_child : (height : ℕ) (e : Entry) (child : ℕ) (bytes : KeyBytes) (is_below : ℕ → Bool) (target : List ℕ)
       (known : Option ℕ) → IsChild nodes least height (IsSubtree nodes least height) e → child ≡ e.child
       → IsPrefixLen bytes is_below target known e.key → IsPrefixLenAt bytes is_below target known (entries_at nodes child) 0
   knows_child height e child bytes is_below target known right same knows first at =
-      let here = subst (λ s. slice_get (entries_at nodes s) 0 ≡ Some first) same at in
-      subst (IsPrefixLen bytes is_below target known) (sym (first_key_is height e first right here)) knows
+      let here = rw same at at in
+      rw (first_key_is height e first right here) knows
 
 -- What a search finds out at an entry holds of the first key of the child at which it goes on.
 module _ {N : ℕ} (nodes : Arena (Node N)) (least height slot : ℕ) (is_below : ℕ → Bool) (child : ℕ)
@@ -91,8 +84,7 @@ module _ {N : ℕ} (nodes : Arena (Node N)) (least height slot : ℕ) (is_below 
       → IsPrefixLenAt bytes is_below target known (entries_of header) index → IsPrefixLenAt bytes is_below target known (entries_at nodes child) 0
   known_below bytes target known header index h i k =
       let e = f.way.entry in
-      let read : entries_at nodes slot ≡ entries_of header = entries_read nodes slot header (entries_of header) h refl in
-      let at : slice_get (entries_of header) index ≡ Some e = cc (i, f.way.is) in
+      let at : slice_get (entries_of header) index ≡ Some e = cc (i, f.way.is, entries_read nodes slot header _ h refl) in
       knows_child nodes least (height - 1) e child bytes is_below target known f.way.kept f.is (k e at)
 
   pub some_below : 1 ≤ least → 1 ≤ length (entries_at nodes child)
