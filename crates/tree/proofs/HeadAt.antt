@@ -1,6 +1,7 @@
 -- What a node's heads tells of the key at an index.
 use Rattle.std.proofs.Common.{◌≡◌, ◌≢◌, ◌⊎◌, ℕ, ◌+◌, ◌-◌, ◌<◌, ◌≤◌, Bool, true, false, nat_lt, List, [], ◌∷◌, length, filter, get_or, take, slice_get, slice_index, option_map, Option, None, Some, All, refl, sym, ap, subst, ◌∙◌, inl, inr, arith, length-take, get_or-take, lt-ltb, le-ltb, ltb-true}
 use Rattle.std.specs.Int.{w64, to_be_bytes}
+use Rattle.std.specs.List.{Contains}
 use Rattle.std.proofs.lemmas.Bool.{cases_lt}
 use Rattle.std.proofs.lemmas.List.{get_or_default, get_or-map, length-take-le}
 use Rattle.std.proofs.lemmas.Option.{get_or_from_slice_get, slice_get_within, slice_get-get_or, slice_get-map}
@@ -15,7 +16,7 @@ use Rattle.tree.specs.Finding.{CanStep, IsStep}
 use Rattle.tree.proofs.callers.Partitions.{length-items_below, none_fail, not_both}
 use Rattle.tree.proofs.HeadChanges.{heads_count, prefix_begins}
 use Rattle.tree.proofs.HeadCounts.{passing_before, passing_inside}
-use Rattle.tree.proofs.HeadOrder.{empty_head, empty_before, empty_before_too, tells_empty, told_by_heads, before_too, tells_too, common_by_heads}
+use Rattle.tree.proofs.HeadOrder.{empty_head, empty_before, empty_before_too, tells_empty, told_by_heads, too, common_by_heads}
 
 -- an entry, where there are so many
 pub entry_at : (entries : List Entry) (index : ℕ) → index < length entries
@@ -58,31 +59,20 @@ module _ (bytes : KeyBytes) (key_heads : KeyHeads) (h : AreHeads bytes key_heads
       let own = rw read at (h.begins index key inside) in
       let head : head_of index ≡ head_behind n own.text =
       cc (own.known, get_or-map (head_at bytes n) key_heads.keys index key 0 inside) in
-      record {
-        text = own.text;
-        known = own.known;
-        are_bytes = own.are_bytes;
-        begins = elim own.begins [
-          | inl empty ↦ inl (empty, cc (empty_head n))
-          | inr same ↦
-              let begins = rw h.prefix_len at same in
-              inr (begins, omega (arith, h.prefix_len, ap length begins, length-take n own.text))
-        ];
-        head = head;
-      }
-
-  -- what is known of its bytes
-  text_at : (index key : ℕ) (there : slice_get key_heads.keys index ≡ Some key) (text : List ℕ) → bytes key ≡ Some text
-      → (key_at index key there).text ≡ text
-  text_at index key there text known = cc ((key_at index key there).known)
+      let begins : ((own.text ≡ []) × (head_of index ≡ 0)) ⊎ ((take n own.text ≡ h.beginning) × (n ≤ length own.text)) =
+      elim own.begins [
+        | inl empty ↦ inl (empty, cc (empty_head n))
+        | inr same ↦
+            let begins = rw h.prefix_len at same in
+            inr (begins, omega (arith, h.prefix_len, ap length begins, length-take n own.text))
+      ] in
+      record { text = own.text; known = own.known; are_bytes = own.are_bytes; begins = begins; head = head }
 
   -- a key whose head isn't zero isn't empty
-  long_at : (index key : ℕ) (there : slice_get key_heads.keys index ≡ Some key) → (n ≡ 0) ⊎ (head_of index ≢ 0)
-      → n ≤ length (key_at index key there).text
-  long_at index key there filled = elim (key_at index key there).begins [
-    | inr long ↦ long.1
-    | inl empty ↦ elim filled [ inl none ↦ omega (arith, none) | inr differ ↦ absurd (differ empty.1) ]
-  ]
+  filled_at : (index key : ℕ) (there : slice_get key_heads.keys index ≡ Some key) → head_of index ≢ 0
+      → (take n (key_at index key there).text ≡ h.beginning) × (n ≤ length (key_at index key there).text)
+  filled_at index key there differ =
+      elim (key_at index key there).begins [ inr long ↦ long | inl empty ↦ absurd (differ empty.1) ]
 
   -- The target begins as all keys do.
   sought_begins : (target : List ℕ) → HasPrefix bytes key_heads target → h.beginning ≡ take n target
@@ -93,15 +83,11 @@ module _ (bytes : KeyBytes) (key_heads : KeyHeads) (h : AreHeads bytes key_heads
       → ((text : List ℕ) → bytes key ≡ Some text → n ≤ length text → take n text ≡ take n target) → HasPrefix bytes key_heads target
   agrees_at index key target there filled alike =
       let k = key_at index key there in
-      let long = long_at index key there filled in
-      record {
-        key = key;
-        text = k.text;
-        there = (index, slice_get_within key_heads.keys index key there, get_or_from_slice_get key_heads.keys index key key there);
-        known = k.known;
-        long = long;
-        same = alike k.text k.known long;
-      }
+      let long : n ≤ length k.text =
+      elim filled [ inl none ↦ omega (arith, none) | inr differ ↦ (filled_at index key there differ).1 ] in
+      let at : Contains key_heads.keys key =
+      (index, slice_get_within key_heads.keys index key there, get_or_from_slice_get key_heads.keys index key key there) in
+      record { key = key; text = k.text; there = at; known = k.known; long = long; same = alike k.text k.known long }
 
   module _ (target : List ℕ) (is_below : ℕ → Bool)
       (order : (key : ℕ) (text : List ℕ) → bytes key ≡ Some text → IsBelowInOrder text target (is_below key)) where
@@ -134,33 +120,30 @@ module _ (bytes : KeyBytes) (key_heads : KeyHeads) (h : AreHeads bytes key_heads
     module _ (shared first : ℕ) (at_first : slice_get key_heads.keys 0 ≡ Some first) (filled : head_of 0 ≢ 0) (less : shared < n)
         (passed : is_below first ≡ true)
         (tells : (text : List ℕ) → bytes first ≡ Some text → IsCommonPrefixLen shared text target) where
-      first_begins : take n (key_at 0 first at_first).text ≡ h.beginning
-      first_begins = elim (key_at 0 first at_first).begins [ inr long ↦ long.0 | inl empty ↦ absurd (filled empty.1) ]
+      -- Their bytes come before the target, and differ from it as those of the first one do.
+      bytes_too : (index key : ℕ) (there : slice_get key_heads.keys index ≡ Some key)
+          → IsBefore (key_at index key there).text target × IsCommonPrefixLen shared (key_at index key there).text target
+      bytes_too index key there =
+          let f = key_at 0 first at_first in
+          let k = key_at index key there in
+          let first_filled = filled_at 0 first at_first filled in
+          let ahead = not_behind first f.text f.known passed in
+          elim k.begins [
+            | inr begins ↦
+                too shared n f.text k.text target less first_filled.1 begins.1 (begins.0 ∙ sym first_filled.0) (tells f.text f.known) ahead
+            | inl empty ↦
+                rw empty.0 (empty_before_too f.text target (omega (arith, first_filled.1, less)) ahead, tells_empty shared target)
+          ]
 
       passes_too : (index key : ℕ) → slice_get key_heads.keys index ≡ Some key → is_below key ≡ true
       passes_too index key there =
-          let f = key_at 0 first at_first in
-          let k = key_at index key there in
-          let long = long_at 0 first at_first (inr filled) in
-          let ahead = not_behind first f.text f.known passed in
-          (order key k.text k.known).before (elim k.begins [
-            | inr begins ↦
-                before_too shared n f.text k.text target less long begins.1 (begins.0 ∙ sym first_begins) (tells f.text f.known) ahead
-            | inl empty ↦ rw empty.0 (empty_before_too f.text target (omega (arith, long, less)) ahead)
-          ])
+          let k = key_at index key there in (order key k.text k.known).before (bytes_too index key there).0
 
-      -- and differ from it as the first one does
       pub differs_too : (index key : ℕ) → slice_get key_heads.keys index ≡ Some key → (text : List ℕ) → bytes key ≡ Some text
           → IsCommonPrefixLen shared text target
       differs_too index key there text known =
-          let f = key_at 0 first at_first in
-          let k = key_at index key there in
-          rw (← text_at index key there text known) (elim k.begins [
-            | inr begins ↦
-                tells_too shared n f.text k.text target less (long_at 0 first at_first (inr filled)) begins.1
-                (begins.0 ∙ sym first_begins) (tells f.text f.known)
-            | inl empty ↦ rw empty.0 (tells_empty shared target)
-          ])
+          let same : (key_at index key there).text ≡ text = cc ((key_at index key there).known) in
+          rw same at (bytes_too index key there).1
 
     -- How far a key below the bound and the target begin alike is told by its head, if that isn't the one of the target.
     pub common_at : (index key head count : ℕ) → slice_get key_heads.keys index ≡ Some key → IsTargetHead bytes key_heads target head
@@ -172,7 +155,8 @@ module _ (bytes : KeyBytes) (key_heads : KeyHeads) (h : AreHeads bytes key_heads
         let k = key_at index key there in
         let own = k.head in
         let other = is.head_is in
-        rw (← text_at index key there text known) (elim k.begins [
+        let same : k.text ≡ text = cc (k.known) in
+        rw (← same) (elim k.begins [
           | inl empty ↦ rw empty.0 (tells_empty (n + count) target)
           | inr begins ↦
               common_by_heads n k.text target k.are_bytes is.are_bytes begins.1 (begins.0 ∙ sought_begins target is.agrees)

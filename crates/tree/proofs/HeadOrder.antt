@@ -43,11 +43,9 @@ tells_empty shared target (suc count) within = absurd (omega arith)
 
 module _ (shared prefix_len : ℕ) (first text target : List ℕ) (less : shared < prefix_len) (first_long : prefix_len ≤ length first)
     (text_long : prefix_len ≤ length text) (same : take prefix_len text ≡ take prefix_len first)
-    (tells : IsCommonPrefixLen shared first target) where
-  -- Where the first key isn't behind the target, and differs from it before all keys' common beginning ends, the other keys come
-  -- before it.
-  pub before_too : (IsBefore target first → ⊥) → IsBefore text target
-  before_too not_behind =
+    (tells : IsCommonPrefixLen shared first target) (not_behind : IsBefore target first → ⊥) where
+  before_too : IsBefore text target
+  before_too =
       let first_same = (tells shared (omega arith)).0 (omega arith) in
       let text_same = take_fewer shared prefix_len text first (omega arith) same in
       let long : shared ≤ length target = as_long shared first target (omega arith) first_same in
@@ -65,17 +63,21 @@ module _ (shared prefix_len : ℕ) (first text target : List ℕ) (less : shared
         ]
       ]
 
-  -- and the target begins as they do just as far
-  pub tells_too : IsCommonPrefixLen shared text target
-  tells_too count within = (
-    (λ le. take_fewer count prefix_len text first (omega arith) same ∙ (tells count (omega arith)).0 le),
-    (λ alike. elim (cases_lt shared count) [
-      | inr le ↦ le
-      | inl more ↦
-          let part = take_fewer (shared + 1) prefix_len first text (omega arith) (sym same)
-          ∙ take_fewer (shared + 1) count text target (omega arith) alike in
-          absurd (omega (arith, (tells (shared + 1) (omega arith)).1 part))
-    ]),
+  -- Where the first key isn't behind the target, and differs from it before all keys' common beginning ends, the other keys come
+  -- before it, and the target begins as they do just as far.
+  pub too : IsBefore text target × IsCommonPrefixLen shared text target
+  too = (
+    before_too,
+    λ count within. (
+      (λ le. take_fewer count prefix_len text first (omega arith) same ∙ (tells count (omega arith)).0 le),
+      (λ alike. elim (cases_lt shared count) [
+        | inr le ↦ le
+        | inl more ↦
+            let part = take_fewer (shared + 1) prefix_len first text (omega arith) (sym same)
+            ∙ take_fewer (shared + 1) count text target (omega arith) alike in
+            absurd (omega (arith, (tells (shared + 1) (omega arith)).1 part))
+      ]),
+    ),
   )
 
 take-first_eight : (n : ℕ) (a : List ℕ) → n ≤ 8 → n ≤ length a → take n (first_eight a) ≡ take n a
