@@ -21,8 +21,7 @@ pub first_tells : (under : Entry → List Item) (es : List Entry) (e : Entry) �
 first_tells under [] e is tell x xs same = absurd (cc)
 first_tells under (d ∷ es) e is tell x xs same =
     let t = All-head (λ e. Tells e (under e)) d es tell in
-    let front : t.first ∷ t.others ++ flat_map under es ≡ x ∷ xs = sym (ap (λ ys. ys ++ flat_map under es) t.items_are) ∙ same in
-    cc (t.key)
+    cc (t.key, rw t.items_are at same)
 
 -- the items of an entry of a node of this height: its own one, or those of its child
 abbrev pub items_under : {N : ℕ} → Arena (Node N) → ℕ → Entry → List Item
@@ -30,16 +29,10 @@ items_under nodes zero e = item_of e ∷ []
 items_under nodes (suc height) e = items_in nodes height e.child
 
 item_tells : (e : Entry) → Tells e (item_of e ∷ [])
-item_tells e = record {
-  first = item_of e;
-  others = [];
-  items_are = refl;
-  key = refl;
-  greatest = record {
-    bound = All-cons (λ (x : Item). x.version ≤ℤ e.version) (item_of e) [] (omega (arith, ints)) (All-nil _);
-    reached = Any-first (λ (x : Item). x.version ≡ e.version) (item_of e) [] refl;
-  };
-}
+item_tells e =
+    let bound = All-cons (λ (x : Item). x.version ≤ℤ e.version) (item_of e) [] (omega (arith, ints)) (All-nil _) in
+    let reached = Any-first (λ (x : Item). x.version ≡ e.version) (item_of e) [] refl in
+    record { first = item_of e; others = []; items_are = refl; key = refl; greatest = record { bound = bound; reached = reached } }
 
 module _ {N : ℕ} (nodes : Arena (Node N)) (least : ℕ) where
   pub node_items : (height slot : ℕ)
@@ -52,13 +45,6 @@ module _ {N : ℕ} (nodes : Arena (Node N)) (least : ℕ) where
   node_tells zero slot s = λ i d lt. item_tells (get_or (entries_at nodes slot) i d)
   node_tells (suc height) slot s = λ i d lt. (s.2 i d lt).tells
 
-  -- The first entry of an entry's child has the entry's key.
-  pub first_key_is : (height : ℕ) (e first : Entry) → IsChild nodes least height (IsSubtree nodes least height) e
-      → slice_get (entries_at nodes e.child) 0 ≡ Some first → first.key ≡ e.key
-  first_key_is height e first k is =
-      first_tells (items_under nodes height) (entries_at nodes e.child) first is (node_tells height e.child k.subtree)
-      k.tells.first k.tells.others (sym (node_items height e.child) ∙ k.tells.items_are) ∙ sym k.tells.key
-
   -- The entries of a node above the leaves have children.
   pub child_at : (height slot : ℕ) (es : List Entry) (i : ℕ) (e : Entry) → (height ≡ 0 → ⊥)
       → IsSubtree nodes least height slot → entries_at nodes slot ≡ es → i < length es → e ≡ get_or es i e
@@ -68,13 +54,15 @@ module _ {N : ℕ} (nodes : Arena (Node N)) (least : ℕ) where
       let node = subst (λ n. IsSubtree nodes least n slot) lower s in
       rw is ((rw read at node.2) i e inside)
 
-  -- What is known of the key of an entry is known of that of its child's first entry.
+  -- What is known of the key of an entry is known of that of its child's first entry, which is the same.
   pub knows_child : (height : ℕ) (e : Entry) (child : ℕ) (bytes : KeyBytes) (is_below : ℕ → Bool) (target : List ℕ)
       (known : Option ℕ) → IsChild nodes least height (IsSubtree nodes least height) e → child ≡ e.child
       → IsPrefixLen bytes is_below target known e.key → IsPrefixLenAt bytes is_below target known (entries_at nodes child) 0
   knows_child height e child bytes is_below target known right same knows first at =
-      let here = rw same at at in
-      rw (first_key_is height e first right here) knows
+      let t = right.tells in
+      let own = first_tells (items_under nodes height) (entries_at nodes e.child) first (rw same at at)
+      (node_tells height e.child right.subtree) t.first t.others (sym (node_items height e.child) ∙ t.items_are) in
+      rw (own, ← t.key) knows
 
 -- What a search finds out at an entry holds of the first key of the child at which it goes on.
 module _ {N : ℕ} (nodes : Arena (Node N)) (least height slot : ℕ) (is_below : ℕ → Bool) (child : ℕ)

@@ -159,11 +159,10 @@ module _ (bytes : KeyBytes) where
   beside_right : (key_heads : KeyHeads) (keys heads : List ℕ) → AllZip (IsHeadBeside bytes key_heads) keys heads
       → (heads ≡ map (head_at bytes key_heads.prefix_len) keys) × All (BeginsAsThese bytes key_heads) keys
   beside_right key_heads [] [] given = (refl, All-nil (BeginsAsThese bytes key_heads))
-  beside_right key_heads [] (head ∷ heads) given = absurd given
-  beside_right key_heads (key ∷ keys) [] given = absurd given
   beside_right key_heads (key ∷ keys) (head ∷ heads) given =
       let rest = beside_right key_heads keys heads given.1 in
       (cc (given.0.head_is, rest.0), All-cons (BeginsAsThese bytes key_heads) key keys given.0.begins rest.1)
+  beside_right key_heads _ _ given = absurd given
 
   -- There are as many heads as entries.
   pub heads_count : (es : List Entry) (key_heads : KeyHeads) → AreHeads bytes key_heads → key_heads.keys ≡ keys_of es

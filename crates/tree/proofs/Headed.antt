@@ -2,6 +2,7 @@
 use Rattle.std.proofs.Common.{rules, ◌≡◌, ◌≢◌, ◌⊎◌, inl, inr, ℕ, ◌≤◌, cond, List, [], ◌∷◌, length, map, take, Option, Some, None, option_map, unwrap_or, refl, sym, ap, ap₂, subst, arith, ◌∙◌}
 use Rattle.std.specs.Prelude.{IfSome}
 use Rattle.std.specs.List.{All}
+use Rattle.std.proofs.lemmas.Option.{IfSome_then}
 use Rattle.std.proofs.lemmas.List.Elements.{All-weaker, All-head, All-tail}
 use Rattle.arena.specs.Arena.{Arena, record_at, header_at}
 use Rattle.tree.specs.declared.node.Node.{Node}
@@ -37,23 +38,16 @@ heads_kept a b prefix_len same (key ∷ keys) known =
 pub key_heads_kept : (a b : KeyBytes) → ((key : ℕ) (text : List ℕ) → a key ≡ Some text → b key ≡ Some text)
     → (key_heads : KeyHeads) → AreHeads a key_heads → AreHeads b key_heads
 key_heads_kept a b same key_heads h =
-    record {
-      beginning = h.beginning;
-      prefix_len = h.prefix_len;
-      begins = λ i d lt.
-          let x = h.begins i d lt in
-          record { text = x.text; known = same _ x.text x.known; are_bytes = x.are_bytes; begins = x.begins };
-      heads = h.heads ∙ heads_kept a b key_heads.prefix_len same key_heads.keys (all_known a key_heads h);
-    }
+    let begins : All (Begins b h.beginning) key_heads.keys = λ i d lt.
+    let x = h.begins i d lt in
+    record { text = x.text; known = same _ x.text x.known; are_bytes = x.are_bytes; begins = x.begins } in
+    let heads = h.heads ∙ heads_kept a b key_heads.prefix_len same key_heads.keys (all_known a key_heads h) in
+    record { beginning = h.beginning; prefix_len = h.prefix_len; begins = begins; heads = heads }
 
 -- What each node knows is right for bytes that are the same of the keys that are known.
 pub headed_kept : (a b : KeyBytes) → ((key : ℕ) (text : List ℕ) → a key ≡ Some text → b key ≡ Some text)
     → (all_heads : ℕ → Option KeyHeads) → AllAreHeads a all_heads → AllAreHeads b all_heads
-headed_kept a b same all_heads all s = by_key_heads (all_heads s) (all s)
-  where
-    by_key_heads : (o : Option KeyHeads) → IfSome o (AreHeads a) → IfSome o (AreHeads b)
-    by_key_heads None h = tt
-    by_key_heads (Some key_heads) h = key_heads_kept a b same key_heads h
+headed_kept a b same all_heads all s = IfSome_then (all_heads s) (all s) (key_heads_kept a b same)
 
 module _ {N : ℕ} where
   -- what the node at a slot knows is right
@@ -75,13 +69,9 @@ module _ {N : ℕ} where
   -- One slot has another node whose knowledge is right, and all others have the same node or none.
   pub headed_put : (bytes : KeyBytes) (old new : Arena (Node N)) (slot : ℕ) (node : Node N) → AllAreHeads bytes (all_heads_of old)
       → header_at new slot ≡ Some node → AreHeads bytes (key_heads_of node)
-      → ((s : ℕ) → s ≢ slot → record_at new s ≡ record_at old s)
-      → AllAreHeads bytes (all_heads_of new)
+      → ((s : ℕ) → s ≢ slot → record_at new s ≡ record_at old s) → AllAreHeads bytes (all_heads_of new)
   headed_put bytes old new slot node all is headed others s =
-      elim (once_cases slot s) [
-        | inl same ↦ rw (same.0, is) headed
-        | inr other ↦ rw (others s other.0) (all s)
-      ]
+      elim (once_cases slot s) [ inl same ↦ rw (same.0, is) headed | inr other ↦ rw (others s other.0) (all s) ]
 
   -- One slot has no node any more, and all others have the same.
   pub headed_released : (bytes : KeyBytes) (old new : Arena (Node N)) (slot : ℕ) → AllAreHeads bytes (all_heads_of old)

@@ -12,17 +12,12 @@ use Rattle.tree.specs.Subtree.{entries_at, items_in}
 use Rattle.tree.proofs.callers.Partitions.{none_pass, none_fail}
 use Rattle.tree.proofs.Found.{IsFound, entries_read}
 
-pub filter-items : (p : Item → Bool) (es : List Entry)
-    → filter p (map item_of es) ≡ map item_of (filter (λ e. p (item_of e)) es)
+pub filter-items : (p : Item → Bool) (es : List Entry) → filter p (map item_of es) ≡ map item_of (filter (λ e. p (item_of e)) es)
 filter-items p [] = refl
 filter-items p (e ∷ es) =
-    elim (cases_Bool (p (item_of e))) [
-      | inl t ↦ rw t (ap (λ xs. item_of e ∷ xs) (filter-items p es))
-      | inr f ↦ rw f (filter-items p es)
-    ]
+    elim (cases_Bool (p (item_of e))) [ inl t ↦ rw (t, filter-items p es) refl | inr f ↦ rw f (filter-items p es) ]
 
-pub first_key-append : (key : Option ℕ) (xs ys : List Item)
-    → first_key key (xs ++ ys) ≡ first_key (first_key key ys) xs
+pub first_key-append : (key : Option ℕ) (xs ys : List Item) → first_key key (xs ++ ys) ≡ first_key (first_key key ys) xs
 first_key-append key [] ys = refl
 first_key-append key (x ∷ xs) ys = refl
 
@@ -32,9 +27,7 @@ pub first_key-children : (below : Entry → List Item) (key : Option ℕ) (es : 
 first_key-children below key [] t = refl
 first_key-children below key (e ∷ es) t =
     let h = All-head (λ e. Tells e (below e)) e es t in
-    let same : below e ++ flat_map below es ≡ h.first ∷ h.others ++ flat_map below es =
-    ap (λ xs. xs ++ flat_map below es) h.items_are in
-    ap Some h.key ∙ ap (first_key key) (sym same)
+    rw h.items_are (ap Some h.key)
 
 -- what stands behind a bound, where all before and none behind a part passes
 pub behind-parts : (is_below : ℕ → Bool) (a c b : List Item) → All (λ x. is_below x.key ≡ true) a
@@ -63,31 +56,29 @@ module _ {N : ℕ} (nodes : Arena (Node N)) (least height slot : ℕ) (is_below 
   abbrev below : List Entry → List Item
   below = flat_map (λ e. items_in nodes (height - 1) e.child)
 
+  abbrev later : List Item
+  later = below (drop (index_in is_below all + 1) all)
+
   -- that of the first item behind the child's
-  key_of_next : next ≡ first_key key (below (drop (index_in is_below all + 1) all))
+  key_of_next : next ≡ first_key key later
   key_of_next =
-      let read = entries_read nodes slot header es h e in
-      let behind = drop (index_in is_below all + 1) all in
-      let same : next ≡ first_key key (map item_of behind) = cc (n, i, read) in
-      same ∙ first_key-children (λ e. items_in nodes (height - 1) e.child) key behind
-      (All-drop (λ e. Tells e (items_in nodes (height - 1) e.child)) (index_in is_below all + 1) all f.way.tell)
+      let from = index_in is_below all + 1 in
+      let tell = All-drop (λ e. Tells e (items_in nodes (height - 1) e.child)) from all f.way.tell in
+      cc (n, i, entries_read nodes slot header es h e, first_key-children (λ e. items_in nodes (height - 1) e.child) key (drop from all) tell)
 
   -- above the leaves: of the child, or else that of the next entry
   pub key_of_child : first_key next (behind is_below (items_in nodes (height - 1) child))
       ≡ first_key key (behind is_below (items_in nodes height slot))
   key_of_child =
       let a = below (take (index_in is_below all) all) in
-      let b = below (drop (index_in is_below all + 1) all) in
       let c = items_in nodes (height - 1) child in
-      let items : items_in nodes height slot ≡ a ++ (c ++ b) =
-      ap (λ n. items_in nodes n slot) (sym f.lower) ∙ f.way.items
-      ∙ ap (λ s. a ++ (items_in nodes (height - 1) s ++ b)) (sym f.is) in
-      rw (items, behind-parts is_below a c b f.way.before f.way.behind, first_key-append, key_of_next) refl
+      let items : items_in nodes height slot ≡ a ++ (c ++ later) =
+      ap (λ n. items_in nodes n slot) (sym f.lower) ∙ (rw (← f.is) at f.way.items) in
+      rw (items, behind-parts is_below a c later f.way.before f.way.behind, first_key-append, key_of_next) refl
 
   -- behind the leaf, above it: of the child, or else that of the next entry
   pub key_behind_child : first_key next (behind_leaf nodes (height - 1) child is_below)
       ≡ first_key key (behind_leaf nodes height slot is_below)
   key_behind_child =
-      let b = below (drop (index_in is_below all + 1) all) in
       subst (λ m. first_key next (behind_leaf nodes (height - 1) child is_below) ≡ first_key key (behind_leaf nodes m slot is_below)) f.lower
       (rw (f.is, f.way.child, first_key-append, key_of_next) refl)

@@ -26,8 +26,7 @@ use Rattle.tree.proofs.callers.Times.{times, once, once_same, once_cases, none_o
 no_other : {X : Type 0} (m : finite.FinMap nat_cmp X) (xs : List ℕ) → ((s : ℕ) → times s xs ≤ 1)
     → ((s : ℕ) → 1 ≤ times s xs → IsSome (finite.get m s)) → finite.len m ≡ length xs
     → (s : ℕ) → IsSome (finite.get m s) → 1 ≤ times s xs
-no_other {X} m [] few live count s is =
-    absurd (cc (finite.empty_of_len m count, finite.get-empty {X = X} nat_cmp s))
+no_other {X} m [] few live count s is = absurd (cc (finite.empty_of_len m count, finite.get-empty {X = X} nat_cmp s))
 no_other {X} m (x ∷ xs) few live count s is =
     elim (once_cases s x) [
       | inl same ↦ omega (arith, same.1)
@@ -62,12 +61,6 @@ module _ {N : ℕ} (a : Arena (Node N)) (least : ℕ) where
       rw map-append (Contains-append_right (keys_in (items_in a height x.child)) (keys_in (items_of a height es)) key
       (key_below height es e (k, omega arith, is) key has))
 
-  own_keys : (height : ℕ) (es : List Entry) → AreChildren a least height es → AreOf (items_of a height es) (keys_of es)
-  own_keys height es all =
-      All-map (Contains (keys_in (items_of a height es))) (λ (e : Entry). e.key) es
-      (λ i d lt. let t = (all i d lt).tells in
-      key_below height es (get_or es i d) (Contains-get_or es i d lt) (get_or es i d).key (rw t.items_are (zero, omega arith, sym t.key)))
-
   -- the entry below which a slot stands
   entry_above : (height s : ℕ) (es : List Entry) → 1 ≤ times s (slots_of a height es)
       → (e : Entry) × Contains es e × (1 ≤ times s (slots_in a height e.child))
@@ -87,7 +80,11 @@ module _ {N : ℕ} (a : Arena (Node N)) (least : ℕ) where
     | inr other ↦ absurd (omega (arith, other.1))
   ]
   keys_known s (suc height) slot h some = elim (once_cases s slot) [
-    | inl same ↦ rw (← same.0) (own_keys height (entries_at a slot) h.2)
+    | inl same ↦
+        let es = entries_at a slot in
+        rw (← same.0) (All-map (Contains (keys_in (items_of a height es))) (λ (e : Entry). e.key) es
+        (λ i d lt. let t = (h.2 i d lt).tells in
+        key_below height es (get_or es i d) (Contains-get_or es i d lt) _ (rw t.items_are (zero, omega arith, sym t.key))))
     | inr other ↦
         let w = entry_above height s (entries_at a slot) (omega (arith, other.1)) in
         let child = All-contains (IsRight a least height) (entries_at a slot) w.0 h.2 w.1 in
@@ -98,19 +95,13 @@ module _ {N : ℕ} (a : Arena (Node N)) (least : ℕ) where
 pub know_items : {N : ℕ} (nodes : Arena (Node N)) (root height room : ℕ) → IsRooted nodes root height
     → KnowItems (record { items = items_in nodes height root; room = room; all_heads = heads_list nodes })
 know_items {N} nodes root height room r s =
-    subst (λ o. IfSome o (λ (key_heads : KeyHeads). AreOf (items_in nodes height root) key_heads.keys)) (sym (read_list nodes s))
-    (by_record (record_at nodes s) refl)
+    rw (read_list nodes s) (by_record (record_at nodes s) refl)
   where
-    slots : List ℕ
-    slots = slots_in nodes height root
-
-    among : IsLive nodes s → 1 ≤ times s slots
-    among live =
-        no_other nodes.records slots (once_if_distinct slots r.distinct)
-        (live_in nodes (least_of N) height root r.subtree) r.linked s live
-
     by_record : (o : Option (Record (Node N))) → record_at nodes s ≡ o
         → IfSome (option_map key_heads_of (option_map (λ r. r.header) o)) (λ key_heads. AreOf (items_in nodes height root) key_heads.keys)
     by_record None e = tt
     by_record (Some record_there) e =
-        rw e at (keys_known nodes (least_of N) s height root r.subtree (among (ap is_some e)))
+        let slots = slots_in nodes height root in
+        let live = live_in nodes (least_of N) height root r.subtree in
+        let among = no_other nodes.records slots (once_if_distinct slots r.distinct) live r.linked s (ap is_some e) in
+        rw e at (keys_known nodes (least_of N) s height root r.subtree among)
