@@ -110,8 +110,7 @@ module _ (bytes : KeyBytes) where
   pub first_more : (first count common i : ℕ) (keys : List ℕ) (key : ℕ) → i < length keys → key ≡ get_or keys i key
       → ((a b : List ℕ) → bytes first ≡ Some a → bytes key ≡ Some b → take common a ≡ take common b)
       → ((a b : List ℕ) → bytes first ≡ Some a → bytes key ≡ Some b → (common ≤ length a) × (common ≤ length b))
-      → All (BeginsAsFirst bytes first count) (take i keys)
-      → All (BeginsAsFirst bytes first (min count common)) (take (i + 1) keys)
+      → All (BeginsAsFirst bytes first count) (take i keys) → All (BeginsAsFirst bytes first (min count common)) (take (i + 1) keys)
   first_more first count common i keys key inside is same within before =
       let less = min count common in
       let here = begin_fewer first common less (omega arith) key (λ a b one other. inr ((within a b one other).0, same a b one other)) in
@@ -127,8 +126,7 @@ module _ (bytes : KeyBytes) where
 
   -- Keys that all begin as one of them does that isn't empty begin with bytes of it.
   pub begin_of_first : (first count : ℕ) (keys : List ℕ) → Contains keys first → All (IsKnown bytes) keys
-      → All (BeginsAsFirst bytes first count) keys
-      → (text : List ℕ) → bytes first ≡ Some text → text ≢ []
+      → All (BeginsAsFirst bytes first count) keys → (text : List ℕ) → bytes first ≡ Some text → text ≢ []
       → (count ≤ length text) × All (Begins bytes (take count text)) keys
   begin_of_first first count keys there known common text is filled =
       elim (All-contains (BeginsAsFirst bytes first count) keys first common there text text is is) [
@@ -280,12 +278,9 @@ module _ (bytes : KeyBytes) where
         let k = All-contains (Begins bytes others.beginning) other.keys key others.begins there in
         let begins = prefix_begins one h k.text (agrees k.text k.known) in
         let lengths : length others.beginning ≡ length h.beginning = cc (h.prefix_len, others.prefix_len) in
-        elim k.begins [
-          | inr same ↦ cc
-          | inl empty ↦
-              let none : length h.beginning ≡ 0 = omega (arith, ap length begins, length-take (length h.beginning) k.text, ap length empty) in
-              cc (nil_from_length others.beginning (lengths ∙ none), nil_from_length h.beginning none)
-        ]
+        let long : length others.beginning ≤ length k.text =
+        omega (arith, ap length begins, length-take (length h.beginning) k.text) in
+        cc (begins, begins_if_long others.beginning k.text k.begins long)
 
     -- Those of the second are put behind those of the first one, with their heads.
     pub headed_joined : (now : KeyHeads) → now.keys ≡ one.keys ++ other.keys → now.prefix_len ≡ one.prefix_len

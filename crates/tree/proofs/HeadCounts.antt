@@ -38,15 +38,13 @@ module _ {X : Type 0} (p : X → Bool) where
 
   -- Of the first ones as many pass as there are, or as do of all.
   among_first : (xs : List X) (n : ℕ) → Falls p xs → length (filter p (take n xs)) ≡ min n (length (filter p xs))
-  among_first [] zero falls = refl
+  among_first xs zero falls = omega arith
   among_first [] (suc n) falls = omega arith
-  among_first (x ∷ xs) zero falls = omega arith
   among_first (x ∷ xs) (suc n) falls = elim falls [
-    | inl h ↦ let t = h.0 in let rest = among_first xs n h.1 in rw t (omega arith)
+    | inl h ↦ rw h.0 (omega (arith, among_first xs n h.1))
     | inr h ↦
-        let f = h.0 in
         let none = (none_pass p (take n xs) (All-take (λ y. p y ≡ false) n xs h.1)).0 in
-        rw (f, none, (none_pass p xs h.1).0) (omega arith)
+        rw (h.0, none, (none_pass p xs h.1).0) (omega arith)
   ]
 
   -- Those that pass are counted between an index up to which all pass and one from which none does.

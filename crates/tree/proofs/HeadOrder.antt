@@ -83,10 +83,6 @@ module _ (shared prefix_len : ℕ) (first text target : List ℕ) (less : shared
 take-first_eight : (n : ℕ) (a : List ℕ) → n ≤ 8 → n ≤ length a → take n (first_eight a) ≡ take n a
 take-first_eight n a few within = cc (take-take n 8 (a ++ replicate 8 0) few, take-append-le n a (replicate 8 0) within)
 
-get_or-first_eight : (i : ℕ) (a : List ℕ) → i < 8 → i < length a → get_or (first_eight a) i 0 ≡ get_or a i 0
-get_or-first_eight i a few within =
-    cc (get_or-take 8 (a ++ replicate 8 0) i 0 few, get_or_append_left a (replicate 8 0) 0 i within)
-
 -- Two byte strings begin alike as far as their first eight bytes do, zeros for those that are missing, if the first one isn't
 -- the later one.
 alike_in_eight : (m : ℕ) (a b : List ℕ) → m < 8 → take m (first_eight a) ≡ take m (first_eight b)
@@ -104,8 +100,9 @@ alike_in_eight m a b few same differ not_behind count within =
         | inr le ↦ le
         | inl more ↦
             let long = as_long count a b within alike in
-            let at = same_at m count a b more alike in
-            absurd (differ (cc (get_or-first_eight m a few (omega arith), get_or-first_eight m b few (omega arith))))
+            let own : (c : List ℕ) → m < length c → get_or (first_eight c) m 0 ≡ get_or c m 0 = λ c in_c.
+            cc (get_or-take 8 (c ++ replicate 8 0) m 0 few, get_or_append_left c (replicate 8 0) 0 m in_c) in
+            absurd (differ (cc (same_at m count a b more alike, own a (omega arith), own b (omega arith))))
       ]),
     )
 
@@ -130,9 +127,6 @@ module _ (prefix_len : ℕ) (text target : List ℕ) (text_bytes : IsBytes text)
   abbrev rest : List ℕ → List ℕ
   rest bytes = drop prefix_len bytes
 
-  rest_bytes : (bytes : List ℕ) → IsBytes bytes → IsBytes (rest bytes)
-  rest_bytes bytes all = All-drop (λ byte. byte < 256) prefix_len bytes all
-
   target_long : prefix_len ≤ length target
   target_long = as_long prefix_len text target long same
 
@@ -140,16 +134,15 @@ module _ (prefix_len : ℕ) (text target : List ℕ) (text_bytes : IsBytes text)
   pub told_by_heads : (is_below : Bool) → IsBelowInOrder text target is_below
       → nat_lt (head_behind prefix_len text) (head_behind prefix_len target) ≡ is_below
   told_by_heads is_below order =
-      let t = rest_bytes text text_bytes in
-      let s = rest_bytes target target_bytes in
+      let t = All-drop (λ byte. byte < 256) prefix_len text text_bytes in
+      let s = All-drop (λ byte. byte < 256) prefix_len target target_bytes in
       elim (cases_order (head_of (rest text)) (head_of (rest target))) [
         | inl e ↦ absurd (apart e)
         | inr (inl less) ↦
             let before = behind_common prefix_len text target long target_long same ∙ head_less (rest text) (rest target) t s less in
             lt-ltb _ _ less ∙ sym (order.before before)
         | inr (inr more) ↦
-            let behind = behind_common prefix_len target text target_long long (sym same)
-            ∙ head_less (rest target) (rest text) s t more in
+            let behind = behind_common prefix_len target text target_long long (sym same) ∙ head_less (rest target) (rest text) s t more in
             le-ltb _ _ (omega arith) ∙ sym (order.behind behind)
       ]
 
@@ -161,8 +154,8 @@ module _ (prefix_len : ℕ) (text target : List ℕ) (text_bytes : IsBytes text)
       → (IsBefore target text → ⊥) → IsCommonPrefixLen (prefix_len + m) text target
   unfolding head_of
   common_by_heads m few alike differ not_behind =
-      let t_is = head_of-bytes (rest text) (rest_bytes text text_bytes) in
-      let s_is = head_of-bytes (rest target) (rest_bytes target target_bytes) in
+      let t_is = head_of-bytes (rest text) (All-drop (λ byte. byte < 256) prefix_len text text_bytes) in
+      let s_is = head_of-bytes (rest target) (All-drop (λ byte. byte < 256) prefix_len target target_bytes) in
       let eight : take m (first_eight (rest text)) ≡ take m (first_eight (rest target)) = cc in
       elim (cases_lt m 8) [
         | inr many ↦

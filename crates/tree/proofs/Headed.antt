@@ -27,34 +27,32 @@ all_known bytes key_heads h i d lt =
     let b = h.begins i d lt in
     record { text = b.text; known = b.known; are_bytes = b.are_bytes }
 
-heads_kept : (a b : KeyBytes) (prefix_len : ℕ) → ((key : ℕ) (text : List ℕ) → a key ≡ Some text → b key ≡ Some text)
-    → (keys : List ℕ) → All (IsKnown a) keys → map (head_at a prefix_len) keys ≡ map (head_at b prefix_len) keys
-heads_kept a b prefix_len same [] known = refl
-heads_kept a b prefix_len same (key ∷ keys) known =
-    let k = All-head (IsKnown a) key keys known in
-    rw (k.known, same key k.text k.known, heads_kept a b prefix_len same keys (All-tail (IsKnown a) key keys known)) refl
+-- bytes that are the same of the keys that are known
+module _ (a b : KeyBytes) (same : (key : ℕ) (text : List ℕ) → a key ≡ Some text → b key ≡ Some text) where
+  heads_kept : (prefix_len : ℕ) (keys : List ℕ) → All (IsKnown a) keys → map (head_at a prefix_len) keys ≡ map (head_at b prefix_len) keys
+  heads_kept prefix_len [] known = refl
+  heads_kept prefix_len (key ∷ keys) known =
+      let k = All-head (IsKnown a) key keys known in
+      rw (k.known, same key k.text k.known, heads_kept prefix_len keys (All-tail (IsKnown a) key keys known)) refl
 
--- what a node knows is right for bytes that are the same of the keys that are known
-pub key_heads_kept : (a b : KeyBytes) → ((key : ℕ) (text : List ℕ) → a key ≡ Some text → b key ≡ Some text)
-    → (key_heads : KeyHeads) → AreHeads a key_heads → AreHeads b key_heads
-key_heads_kept a b same key_heads h =
-    let begins : All (Begins b h.beginning) key_heads.keys = λ i d lt.
-    let x = h.begins i d lt in
-    record { text = x.text; known = same _ x.text x.known; are_bytes = x.are_bytes; begins = x.begins } in
-    let heads = h.heads ∙ heads_kept a b key_heads.prefix_len same key_heads.keys (all_known a key_heads h) in
-    record { beginning = h.beginning; prefix_len = h.prefix_len; begins = begins; heads = heads }
+  -- what a node knows is right
+  pub key_heads_kept : (key_heads : KeyHeads) → AreHeads a key_heads → AreHeads b key_heads
+  key_heads_kept key_heads h =
+      let begins : All (Begins b h.beginning) key_heads.keys = λ i d lt.
+      let x = h.begins i d lt in
+      record { text = x.text; known = same _ x.text x.known; are_bytes = x.are_bytes; begins = x.begins } in
+      let heads = h.heads ∙ heads_kept key_heads.prefix_len key_heads.keys (all_known a key_heads h) in
+      record { beginning = h.beginning; prefix_len = h.prefix_len; begins = begins; heads = heads }
 
--- What each node knows is right for bytes that are the same of the keys that are known.
-pub headed_kept : (a b : KeyBytes) → ((key : ℕ) (text : List ℕ) → a key ≡ Some text → b key ≡ Some text)
-    → (all_heads : ℕ → Option KeyHeads) → AllAreHeads a all_heads → AllAreHeads b all_heads
-headed_kept a b same all_heads all s = IfSome_then (all_heads s) (all s) (key_heads_kept a b same)
+  -- and what each node knows
+  pub headed_kept : (all_heads : ℕ → Option KeyHeads) → AllAreHeads a all_heads → AllAreHeads b all_heads
+  headed_kept all_heads all s = IfSome_then (all_heads s) (all s) key_heads_kept
 
 module _ {N : ℕ} where
   -- what the node at a slot knows is right
   pub headed_at : (bytes : KeyBytes) (nodes : Arena (Node N)) (slot : ℕ) (node : Node N) → AllAreHeads bytes (all_heads_of nodes)
       → header_at nodes slot ≡ Some node → AreHeads bytes (key_heads_of node)
-  headed_at bytes nodes slot node all is =
-      subst (λ o. IfSome (option_map key_heads_of o) (AreHeads bytes)) is (all slot)
+  headed_at bytes nodes slot node all is = rw is at (all slot)
 
   -- the keys of the entries of a node are known
   pub common_prefix_len_at : (bytes : KeyBytes) (nodes : Arena (Node N)) (slot : ℕ) → AllAreHeads bytes (all_heads_of nodes)
