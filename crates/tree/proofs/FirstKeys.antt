@@ -31,8 +31,8 @@ items_under nodes (suc height) e = items_in nodes height e.child
 item_tells : (e : Entry) → Tells e (item_of e ∷ [])
 item_tells e =
     let bound = All-cons (λ (x : Item). x.version ≤ℤ e.version) (item_of e) [] (omega (arith, ints)) (All-nil _) in
-    let reached = Any-first (λ (x : Item). x.version ≡ e.version) (item_of e) [] refl in
-    record { first = item_of e; others = []; items_are = refl; key = refl; greatest = record { bound = bound; reached = reached } }
+    let has = Any-first (λ (x : Item). x.version ≡ e.version) (item_of e) [] refl in
+    record { first = item_of e; others = []; items_are = refl; key = refl; greatest = record { bound = bound; reached = has } }
 
 module _ {N : ℕ} (nodes : Arena (Node N)) (least : ℕ) where
   pub node_items : (height slot : ℕ)
@@ -69,7 +69,8 @@ module _ {N : ℕ} (nodes : Arena (Node N)) (least height slot : ℕ) (is_below 
     (f : IsFound nodes least height slot is_below child) where
   pub known_below : (bytes : KeyBytes) (target : List ℕ) (known : Option ℕ) (header : Node N) (index : ℕ)
       → header_at nodes slot ≡ Some header → index ≡ index_in is_below (entries_of header)
-      → IsPrefixLenAt bytes is_below target known (entries_of header) index → IsPrefixLenAt bytes is_below target known (entries_at nodes child) 0
+      → IsPrefixLenAt bytes is_below target known (entries_of header) index
+      → IsPrefixLenAt bytes is_below target known (entries_at nodes child) 0
   known_below bytes target known header index h i k =
       let e = f.way.entry in
       let at : slice_get (entries_of header) index ≡ Some e = cc (i, f.way.is, entries_read nodes slot header _ h refl) in

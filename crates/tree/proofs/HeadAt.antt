@@ -80,7 +80,8 @@ module _ (bytes : KeyBytes) (key_heads : KeyHeads) (h : AreHeads bytes key_heads
 
   -- It does if it begins as one of them that isn't empty.
   pub agrees_at : (index key : ℕ) (target : List ℕ) → slice_get key_heads.keys index ≡ Some key → (n ≡ 0) ⊎ (head_of index ≢ 0)
-      → ((text : List ℕ) → bytes key ≡ Some text → n ≤ length text → take n text ≡ take n target) → HasPrefix bytes key_heads target
+      → ((text : List ℕ) → bytes key ≡ Some text → n ≤ length text → take n text ≡ take n target)
+      → HasPrefix bytes key_heads target
   agrees_at index key target there filled alike =
       let k = key_at index key there in
       let long : n ≤ length k.text =
@@ -102,8 +103,9 @@ module _ (bytes : KeyBytes) (key_heads : KeyHeads) (h : AreHeads bytes key_heads
         let tells = order key k.text k.known in
         elim k.begins [
           | inr long ↦
-              cc (k.head, is.head_is, told_by_heads n k.text target k.are_bytes is.are_bytes long.1
-              (long.0 ∙ sought_begins target is.agrees) (λ e. differ (cc (is.head_is, k.head))) (is_below key) tells)
+              let told = told_by_heads n k.text target k.are_bytes is.are_bytes long.1 (long.0 ∙ sought_begins target is.agrees)
+              (λ e. differ (cc (is.head_is, k.head))) (is_below key) tells in
+              cc (k.head, is.head_is, told)
           | inl empty ↦
               let before : IsBefore k.text target = rw empty.0 (empty_before n target (λ e. differ (cc (is.head_is, empty.1)))) in
               lt-ltb (head_of index) head (omega (arith, empty.1, differ)) ∙ sym (tells.before before)
@@ -126,13 +128,13 @@ module _ (bytes : KeyBytes) (key_heads : KeyHeads) (h : AreHeads bytes key_heads
       bytes_too index key there =
           let f = key_at 0 first at_first in
           let k = key_at index key there in
-          let first_filled = filled_at 0 first at_first filled in
+          let own = filled_at 0 first at_first filled in
           let ahead = not_behind first f.text f.known passed in
           elim k.begins [
             | inr begins ↦
-                too shared n f.text k.text target less first_filled.1 begins.1 (begins.0 ∙ sym first_filled.0) (tells f.text f.known) ahead
+                too shared n f.text k.text target less own.1 begins.1 (begins.0 ∙ sym own.0) (tells f.text f.known) ahead
             | inl empty ↦
-                rw empty.0 (empty_before_too f.text target (omega (arith, first_filled.1, less)) ahead, tells_empty shared target)
+                rw empty.0 (empty_before_too f.text target (omega (arith, own.1, less)) ahead, tells_empty shared target)
           ]
 
       passes_too : (index key : ℕ) → slice_get key_heads.keys index ≡ Some key → is_below key ≡ true
@@ -146,8 +148,8 @@ module _ (bytes : KeyBytes) (key_heads : KeyHeads) (h : AreHeads bytes key_heads
           rw same at (bytes_too index key there).1
 
     -- How far a key below the bound and the target begin alike is told by its head, if that isn't the one of the target.
-    pub common_at : (index key head count : ℕ) → slice_get key_heads.keys index ≡ Some key → IsTargetHead bytes key_heads target head
-        → is_below key ≡ true → head_of index ≢ head → count ≤ 8
+    pub common_at : (index key head count : ℕ) → slice_get key_heads.keys index ≡ Some key
+        → IsTargetHead bytes key_heads target head → is_below key ≡ true → head_of index ≢ head → count ≤ 8
         → take count (to_be_bytes w64 (head_of index)) ≡ take count (to_be_bytes w64 head)
         → (count < 8 → slice_index (to_be_bytes w64 (head_of index)) count ≢ slice_index (to_be_bytes w64 head) count)
         → (text : List ℕ) → bytes key ≡ Some text → IsCommonPrefixLen (n + count) text target
@@ -170,7 +172,7 @@ pub stay : {N : ℕ} (bytes : KeyBytes) (is_below : ℕ → Bool) (target : List
 stay bytes is_below target node known can none =
     let e = entry_at (entries_of node) 0 can.can_find.some in
     let first = rw none at can.known in
-    let few = passing_before (λ (e : Entry). is_below e.key) (entries_of node) 0 e.0 can.can_find.partitioned e.1 (first e.0 e.1) in
+    let few = passing_before (λ (e : Entry). is_below e.key) _ 0 e.0 can.can_find.partitioned e.1 (first e.0 e.1) in
     record { step = record { index_is = omega (arith, few); within = can.can_find.some; knows = first } }
 
 -- A head that isn't the greatest number is that of an entry.
@@ -184,7 +186,8 @@ filled_within bytes node h size count room filled = elim (cases_lt node.len coun
       absurd (filled (omega (arith, behind)) (none ∙ node.padded last (omega (arith, behind))))
 ]
 
-module _ {N : ℕ} (bytes : KeyBytes) (node : Node N) (h : AreHeads bytes (key_heads_of node)) (target : List ℕ) (is_below : ℕ → Bool)
+module _ {N : ℕ} (bytes : KeyBytes) (node : Node N) (h : AreHeads bytes (key_heads_of node)) (target : List ℕ)
+    (is_below : ℕ → Bool)
     (order : (key : ℕ) (text : List ℕ) → bytes key ≡ Some text → IsBelowInOrder text target (is_below key)) where
   abbrev es : List Entry
   es = entries_of node
@@ -195,16 +198,16 @@ module _ {N : ℕ} (bytes : KeyBytes) (node : Node N) (h : AreHeads bytes (key_h
   abbrev own_head : ℕ → ℕ
   own_head index = get_or (key_heads_of node).heads index 0
 
-  -- Where the first key isn't empty and is below the bound, and differs from the target before all keys' common beginning ends, all
-  -- entries are below the bound. That is known of the first one.
+  -- Where the first key isn't empty and is below the bound, and differs from the target before all keys' common beginning ends,
+  -- all entries are below the bound. That is known of the first one.
   pub all_known : (shared : ℕ) → 0 < length es → IsPrefixLenAt bytes is_below target (Some shared) es 0
       → (own_head 0 ≢ 0 → shared < node.prefix_len) → own_head 0 ≢ 0 → length (filter passes es) ≡ length es
   all_known shared some knows less filled =
       let first = entry_at es 0 some in
       let known = knows first.0 first.1 in
-      let all = passes_too bytes (key_heads_of node) h target is_below order shared first.0.key (key_there es 0 first.0 first.1) filled
-      (less filled) known.0 known.1 in
-      ap length (none_fail passes es (λ i d inside. all i (get_or es i d).key (key_there es i _ (slice_get-get_or es i d inside)))).0
+      let all = passes_too bytes (key_heads_of node) h target is_below order shared first.0.key
+      (key_there es 0 first.0 first.1) filled (less filled) known.0 known.1 in
+      ap length (none_fail passes es (λ i d inside. all i _ (key_there es i _ (slice_get-get_or es i d inside)))).0
 
   module _ (head : ℕ) (is : IsTargetHead bytes (key_heads_of node) target head) (partitioned : IsPartitioned passes es) where
     -- An entry passes if its head is below that of the target.

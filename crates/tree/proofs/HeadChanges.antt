@@ -78,12 +78,12 @@ module _ (es : List Entry) (len i : ℕ) (e : Entry) (inside : i < len) (most : 
       cc (map-set (λ (x : Entry). x.key) (take len es) i new, key_read, set-get_or (keys_of (take len es)) i e.key)
 
   -- The head of its key, behind so many bytes, is that of its bytes.
-  pub head_read : (bytes : KeyBytes) (prefix_len behind head : ℕ) → behind ≡ prefix_len → All (IsKnown bytes) (keys_of (take len es))
+  pub head_read : (bytes : KeyBytes) (n behind head : ℕ) → behind ≡ n → All (IsKnown bytes) (keys_of (take len es))
       → ((text : List ℕ) → bytes (get_or es i e).key ≡ Some text → head ≡ head_behind behind text)
-      → head ≡ head_at bytes prefix_len e.key
-  head_read bytes prefix_len behind head same known right =
+      → head ≡ head_at bytes n e.key
+  head_read bytes n behind head same known right =
       let own = All-contains (IsKnown bytes) (keys_of (take len es)) e.key known key_there in
-      head_known bytes prefix_len e.key head own (rw (← is, same) at right)
+      head_known bytes n e.key head own (rw (← is, same) at right)
 
 -- A key is empty, or begins as the keys do of which this is known.
 abbrev pub BeginsAsThese : KeyBytes → KeyHeads → ℕ → Type 0
@@ -103,17 +103,17 @@ module _ (bytes : KeyBytes) where
   -- a key that begins as the first one does for fewer bytes, too
   begin_fewer : (first count less : ℕ) → less ≤ count → (key : ℕ) → BeginsAsFirst bytes first count key
       → BeginsAsFirst bytes first less key
-  begin_fewer first count less fewer key begins a b one other =
-      elim (begins a b one other) [ inl empty ↦ inl empty | inr h ↦ inr (omega (arith, h.0), take_fewer less count a b fewer h.1) ]
+  begin_fewer first count less le key begins a b one other =
+      elim (begins a b one other) [ inl empty ↦ inl empty | inr h ↦ inr (omega (arith, h.0), take_fewer less count a b le h.1) ]
 
   -- one key more that begins as the first one does, for fewer bytes perhaps
-  pub first_more : (first count common i : ℕ) (keys : List ℕ) (key : ℕ) → i < length keys → key ≡ get_or keys i key
-      → ((a b : List ℕ) → bytes first ≡ Some a → bytes key ≡ Some b → take common a ≡ take common b)
-      → ((a b : List ℕ) → bytes first ≡ Some a → bytes key ≡ Some b → (common ≤ length a) × (common ≤ length b))
-      → All (BeginsAsFirst bytes first count) (take i keys) → All (BeginsAsFirst bytes first (min count common)) (take (i + 1) keys)
-  first_more first count common i keys key inside is same within before =
-      let less = min count common in
-      let here = begin_fewer first common less (omega arith) key (λ a b one other. inr ((within a b one other).0, same a b one other)) in
+  pub first_more : (first count n i : ℕ) (keys : List ℕ) (key : ℕ) → i < length keys → key ≡ get_or keys i key
+      → ((a b : List ℕ) → bytes first ≡ Some a → bytes key ≡ Some b → take n a ≡ take n b)
+      → ((a b : List ℕ) → bytes first ≡ Some a → bytes key ≡ Some b → (n ≤ length a) × (n ≤ length b))
+      → All (BeginsAsFirst bytes first count) (take i keys) → All (BeginsAsFirst bytes first (min count n)) (take (i + 1) keys)
+  first_more first count n i keys key inside is same within before =
+      let less = min count n in
+      let here = begin_fewer first n less (omega arith) _ (λ a b one other. inr ((within a b one other).0, same a b one other)) in
       All-more (BeginsAsFirst bytes first less) keys i key inside
       (λ j d lt. begin_fewer first count less (omega arith) _ (before j d lt)) (rw (← is) here)
 
@@ -260,7 +260,7 @@ module _ (bytes : KeyBytes) where
       let P = Begins bytes h.beginning in
       let n = length front.keys in
       let begins = rw (← keys) at h.begins in
-      let mapped : front.heads ++ back.heads ≡ map f front.keys ++ map f back.keys = cc (h.heads, map-append f front.keys back.keys) in
+      let mapped = map-append f front.keys back.keys in
       let len = length-map front.keys f in (
         headed_alike all h front front_len (All-front P front.keys back.keys begins)
             (cc (take_at front.heads back.heads n count, take_at (map f front.keys) (map f back.keys) n len)),

@@ -31,7 +31,8 @@ module _ {X : Type 0} (p : X → Bool) where
     | inr le ↦
         let n = length (filter p xs) in
         let rest = filter (λ y. not (p y)) xs in
-        let inside : i - n < length rest = omega (arith, slice_get_within xs i x there, ap length partitioned, length-append (filter p xs) rest) in
+        let inside : i - n < length rest =
+        omega (arith, slice_get_within xs i x there, ap length partitioned, length-append (filter p xs) rest) in
         let fails = failed p xs (i - n) x inside in
         absurd (cc (passes, fails, get_or_from_slice_get xs i x x there, get_or-append_right (filter p xs) rest n i x refl le))
   ]

@@ -41,13 +41,13 @@ pub tells_empty : (shared : ℕ) (target : List ℕ) → IsCommonPrefixLen share
 tells_empty shared target zero within = ((λ le. refl), (λ alike. omega arith))
 tells_empty shared target (suc count) within = absurd (omega arith)
 
-module _ (shared prefix_len : ℕ) (first text target : List ℕ) (less : shared < prefix_len) (first_long : prefix_len ≤ length first)
-    (text_long : prefix_len ≤ length text) (same : take prefix_len text ≡ take prefix_len first)
+module _ (shared n : ℕ) (first text target : List ℕ) (less : shared < n) (first_long : n ≤ length first)
+    (text_long : n ≤ length text) (same : take n text ≡ take n first)
     (tells : IsCommonPrefixLen shared first target) (not_behind : IsBefore target first → ⊥) where
   before_too : IsBefore text target
   before_too =
       let first_same = (tells shared (omega arith)).0 (omega arith) in
-      let text_same = take_fewer shared prefix_len text first (omega arith) same in
+      let text_same = take_fewer shared n text first (omega arith) same in
       let long : shared ≤ length target = as_long shared first target (omega arith) first_same in
       elim (cases_lt shared (length target)) [
         | inr short ↦ absurd (not_behind (behind_shorter shared target first (omega arith) (omega arith) (sym first_same)))
@@ -57,7 +57,7 @@ module _ (shared prefix_len : ℕ) (first text target : List ℕ) (less : shared
               absurd (omega (arith, (tells (shared + 1) (omega arith)).1 more))
           | inr (inl before) ↦
               behind_differing shared text target (omega arith) inside (text_same ∙ first_same)
-              (omega (arith, before, same_at shared prefix_len text first less same))
+              (omega (arith, before, same_at shared n text first less same))
           | inr (inr behind) ↦
               absurd (not_behind (behind_differing shared target first inside (omega arith) (sym first_same) behind))
         ]
@@ -69,11 +69,11 @@ module _ (shared prefix_len : ℕ) (first text target : List ℕ) (less : shared
   too = (
     before_too,
     λ count within. (
-      (λ le. take_fewer count prefix_len text first (omega arith) same ∙ (tells count (omega arith)).0 le),
+      (λ le. take_fewer count n text first (omega arith) same ∙ (tells count (omega arith)).0 le),
       (λ alike. elim (cases_lt shared count) [
         | inr le ↦ le
         | inl more ↦
-            let part = take_fewer (shared + 1) prefix_len first text (omega arith) (sym same)
+            let part = take_fewer (shared + 1) n first text (omega arith) (sym same)
             ∙ take_fewer (shared + 1) count text target (omega arith) alike in
             absurd (omega (arith, (tells (shared + 1) (omega arith)).1 part))
       ]),
@@ -89,7 +89,7 @@ alike_in_eight : (m : ℕ) (a b : List ℕ) → m < 8 → take m (first_eight a)
     → get_or (first_eight a) m 0 ≢ get_or (first_eight b) m 0 → (IsBefore b a → ⊥) → IsCommonPrefixLen m a b
 alike_in_eight m a b few same differ not_behind count within =
     let both : (n : ℕ) → n ≤ m → n ≤ length a → n ≤ length b → take n a ≡ take n b = λ n le in_a in_b.
-    cc (take_fewer n m (first_eight a) (first_eight b) le same, take-first_eight n a (omega arith) in_a, take-first_eight n b (omega arith) in_b) in (
+    cc (take_fewer n m _ _ le same, take-first_eight n a (omega arith) in_a, take-first_eight n b (omega arith) in_b) in (
       (λ le. elim (cases_lt (length b) count) [
         | inl short ↦
             let part = both (length b) (omega arith) (omega arith) (omega arith) in
@@ -121,41 +121,41 @@ common_with_behind prefix_len m a b long same tells count within = elim (cases_l
 ]
 
 -- a key and the target that begin alike, but have other heads behind that
-module _ (prefix_len : ℕ) (text target : List ℕ) (text_bytes : IsBytes text) (target_bytes : IsBytes target)
-    (long : prefix_len ≤ length text) (same : take prefix_len text ≡ take prefix_len target)
-    (apart : head_behind prefix_len text ≢ head_behind prefix_len target) where
+module _ (n : ℕ) (text target : List ℕ) (text_bytes : IsBytes text) (target_bytes : IsBytes target)
+    (long : n ≤ length text) (same : take n text ≡ take n target)
+    (apart : head_behind n text ≢ head_behind n target) where
   abbrev rest : List ℕ → List ℕ
-  rest bytes = drop prefix_len bytes
+  rest bytes = drop n bytes
 
-  target_long : prefix_len ≤ length target
-  target_long = as_long prefix_len text target long same
+  target_long : n ≤ length target
+  target_long = as_long n text target long same
 
   -- the heads tell whether the key is below the bound
   pub told_by_heads : (is_below : Bool) → IsBelowInOrder text target is_below
-      → nat_lt (head_behind prefix_len text) (head_behind prefix_len target) ≡ is_below
+      → nat_lt (head_behind n text) (head_behind n target) ≡ is_below
   told_by_heads is_below order =
-      let t = All-drop (λ byte. byte < 256) prefix_len text text_bytes in
-      let s = All-drop (λ byte. byte < 256) prefix_len target target_bytes in
+      let t = All-drop (λ byte. byte < 256) n text text_bytes in
+      let s = All-drop (λ byte. byte < 256) n target target_bytes in
       elim (cases_order (head_of (rest text)) (head_of (rest target))) [
         | inl e ↦ absurd (apart e)
         | inr (inl less) ↦
-            let before = behind_common prefix_len text target long target_long same ∙ head_less (rest text) (rest target) t s less in
+            let before = behind_common n text target long target_long same ∙ head_less (rest text) (rest target) t s less in
             lt-ltb _ _ less ∙ sym (order.before before)
         | inr (inr more) ↦
-            let behind = behind_common prefix_len target text target_long long (sym same) ∙ head_less (rest target) (rest text) s t more in
+            let behind = behind_common n target text target_long long (sym same) ∙ head_less (rest target) (rest text) s t more in
             le-ltb _ _ (omega arith) ∙ sym (order.behind behind)
       ]
 
   -- If the key isn't behind the target, the two begin alike as far as the bytes of the heads do.
   pub common_by_heads : (m : ℕ) → m ≤ 8
-      → take m (to_be_bytes w64 (head_behind prefix_len text)) ≡ take m (to_be_bytes w64 (head_behind prefix_len target))
+      → take m (to_be_bytes w64 (head_behind n text)) ≡ take m (to_be_bytes w64 (head_behind n target))
       → (m < 8
-      → slice_index (to_be_bytes w64 (head_behind prefix_len text)) m ≢ slice_index (to_be_bytes w64 (head_behind prefix_len target)) m)
-      → (IsBefore target text → ⊥) → IsCommonPrefixLen (prefix_len + m) text target
+      → slice_index (to_be_bytes w64 (head_behind n text)) m ≢ slice_index (to_be_bytes w64 (head_behind n target)) m)
+      → (IsBefore target text → ⊥) → IsCommonPrefixLen (n + m) text target
   unfolding head_of
   common_by_heads m few alike differ not_behind =
-      let t_is = head_of-bytes (rest text) (All-drop (λ byte. byte < 256) prefix_len text text_bytes) in
-      let s_is = head_of-bytes (rest target) (All-drop (λ byte. byte < 256) prefix_len target target_bytes) in
+      let t_is = head_of-bytes (rest text) (All-drop (λ byte. byte < 256) n text text_bytes) in
+      let s_is = head_of-bytes (rest target) (All-drop (λ byte. byte < 256) n target target_bytes) in
       let eight : take m (first_eight (rest text)) ≡ take m (first_eight (rest target)) = cc in
       elim (cases_lt m 8) [
         | inr many ↦
@@ -163,7 +163,7 @@ module _ (prefix_len : ℕ) (text target : List ℕ) (text_bytes : IsBytes text)
             take_all m (first_eight a) (omega (arith, length-take 8 (a ++ replicate 8 0))) in
             absurd (apart (cc (all (rest text), all (rest target))))
         | inl less ↦
-            common_with_behind prefix_len m text target long same
+            common_with_behind n m text target long same
             (alike_in_eight m (rest text) (rest target) less eight (λ e. differ less (cc))
-            (λ before. not_behind (behind_common prefix_len target text target_long long (sym same) ∙ before)))
+            (λ before. not_behind (behind_common n target text target_long long (sym same) ∙ before)))
       ]

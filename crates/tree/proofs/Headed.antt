@@ -29,11 +29,11 @@ all_known bytes key_heads h i d lt =
 
 -- bytes that are the same of the keys that are known
 module _ (a b : KeyBytes) (same : (key : ℕ) (text : List ℕ) → a key ≡ Some text → b key ≡ Some text) where
-  heads_kept : (prefix_len : ℕ) (keys : List ℕ) → All (IsKnown a) keys → map (head_at a prefix_len) keys ≡ map (head_at b prefix_len) keys
-  heads_kept prefix_len [] known = refl
-  heads_kept prefix_len (key ∷ keys) known =
+  heads_kept : (n : ℕ) (keys : List ℕ) → All (IsKnown a) keys → map (head_at a n) keys ≡ map (head_at b n) keys
+  heads_kept n [] known = refl
+  heads_kept n (key ∷ keys) known =
       let k = All-head (IsKnown a) key keys known in
-      rw (k.known, same key k.text k.known, heads_kept prefix_len keys (All-tail (IsKnown a) key keys known)) refl
+      rw (k.known, same key k.text k.known, heads_kept n keys (All-tail (IsKnown a) key keys known)) refl
 
   -- what a node knows is right
   pub key_heads_kept : (key_heads : KeyHeads) → AreHeads a key_heads → AreHeads b key_heads

@@ -64,7 +64,8 @@ module _ {N : ℕ} (nodes : Arena (Node N)) (least height slot : ℕ) (is_below 
   key_of_next =
       let from = index_in is_below all + 1 in
       let tell = All-drop (λ e. Tells e (items_in nodes (height - 1) e.child)) from all f.way.tell in
-      cc (n, i, entries_read nodes slot header es h e, first_key-children (λ e. items_in nodes (height - 1) e.child) key (drop from all) tell)
+      let same = first_key-children (λ e. items_in nodes (height - 1) e.child) key (drop from all) tell in
+      cc (n, i, entries_read nodes slot header es h e, same)
 
   -- above the leaves: of the child, or else that of the next entry
   pub key_of_child : first_key next (behind is_below (items_in nodes (height - 1) child))
@@ -80,5 +81,5 @@ module _ {N : ℕ} (nodes : Arena (Node N)) (least height slot : ℕ) (is_below 
   pub key_behind_child : first_key next (behind_leaf nodes (height - 1) child is_below)
       ≡ first_key key (behind_leaf nodes height slot is_below)
   key_behind_child =
-      subst (λ m. first_key next (behind_leaf nodes (height - 1) child is_below) ≡ first_key key (behind_leaf nodes m slot is_below)) f.lower
-      (rw (f.is, f.way.child, first_key-append, key_of_next) refl)
+      let own = ap (λ m. behind_leaf nodes m slot is_below) f.lower in
+      rw (← own, f.is, f.way.child, first_key-append, key_of_next) refl

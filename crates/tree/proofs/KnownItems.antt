@@ -36,7 +36,8 @@ no_other {X} m (x ∷ xs) few live count s is =
           λ t apart. rw (finite.get-remove nat_cmp_total m x t, other_number t x apart) refl in
           let here : finite.contains_key m x ≡ true = live x (omega (arith, once_same x)) in
           let fewer = rw here at (finite.len-remove nat_cmp_total m x) in
-          let apart : (t : ℕ) → 1 ≤ times t xs → t ≢ x = λ t some same. absurd (omega (arith, few t, ap (once t) same, once_same t)) in
+          let apart : (t : ℕ) → 1 ≤ times t xs → t ≢ x =
+          λ t some same. absurd (omega (arith, few t, ap (once t) same, once_same t)) in
           let i = no_other rest xs (λ t. omega (arith, few t)) (λ t some. rw (kept t (apart t some)) (live t (omega arith)))
           (omega (arith, count)) s (rw (kept s (λ same. other.0 (sym same))) is) in
           omega (arith, i)
@@ -98,7 +99,7 @@ know_items {N} nodes root height room r s =
     rw (read_list nodes s) (by_record (record_at nodes s) refl)
   where
     by_record : (o : Option (Record (Node N))) → record_at nodes s ≡ o
-        → IfSome (option_map key_heads_of (option_map (λ r. r.header) o)) (λ key_heads. AreOf (items_in nodes height root) key_heads.keys)
+        → IfSome (option_map key_heads_of (option_map (λ r. r.header) o)) (λ h. AreOf (items_in nodes height root) h.keys)
     by_record None e = tt
     by_record (Some record_there) e =
         let slots = slots_in nodes height root in
