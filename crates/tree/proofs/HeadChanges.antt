@@ -51,18 +51,14 @@ head_known bytes prefix_len key head k d = rw k.known (d k.text k.known)
 module _ (es : List Entry) (len i : ℕ) (e : Entry) (inside : i < len) (most : len ≤ length es) (is : e ≡ get_or es i e) where
   -- its key
   key_read : e.key ≡ get_or (keys_of (take len es)) i e.key
-  key_read =
-      let mapped = get_or-map (λ (x : Entry). x.key) (take len es) i e e.key (omega (arith, length-take-le len es most)) in
-      cc (mapped, get_or-take len es i e inside)
+  key_read = grind (arith, get_or-map, get_or-take, length-take)
 
   pub key_there : Contains (keys_of (take len es)) e.key
   key_there = (i, omega (arith, keys_count es len most), sym key_read)
 
   -- its head
   pub head_there : (f : ℕ → ℕ) (heads : List ℕ) → take len heads ≡ map f (keys_of (take len es)) → get_or heads i 0 ≡ f e.key
-  head_there f heads right =
-      let mapped = get_or-map f (keys_of (take len es)) i e.key 0 (omega (arith, keys_count es len most)) in
-      cc (get_or-take len heads i 0 inside, mapped, key_read)
+  head_there f heads right = grind (arith, get_or-map, get_or-take, keys_count, key_read)
 
   -- with its head one more is right
   pub head_next : (f : ℕ → ℕ) (heads : List ℕ) (head : ℕ) → i < length heads → head ≡ f e.key
@@ -74,8 +70,7 @@ module _ (es : List Entry) (len i : ℕ) (e : Entry) (inside : i < len) (most : 
 
   -- another entry of the same key in its place changes no key
   pub key_stays : (new : Entry) → e.key ≡ new.key → keys_of (slice_set (take len es) i new) ≡ keys_of (take len es)
-  key_stays new same =
-      cc (map-set (λ (x : Entry). x.key) (take len es) i new, key_read, set-get_or (keys_of (take len es)) i e.key)
+  key_stays new same = grind (arith, map-set, key_read, set-get_or)
 
   -- The head of its key, behind so many bytes, is that of its bytes.
   pub head_read : (bytes : KeyBytes) (n behind head : ℕ) → behind ≡ n → All (IsKnown bytes) (keys_of (take len es))

@@ -1,42 +1,13 @@
 -- Where those of a list stand that pass, if they come first.
-use Rattle.std.proofs.Common.{◌≡◌, ℕ, zero, suc, ◌+◌, ◌-◌, ◌<◌, ◌≤◌, min, Bool, true, false, not, List, [], ◌∷◌, ◌++◌, length, take, drop, filter, slice_get, Some, refl, ap, inl, inr, arith, length-append, take-add}
-use Rattle.std.proofs.lemmas.Bool.{cases_lt}
-use Rattle.std.proofs.lemmas.List.{get_or_append_left, get_or-append_right}
+use Rattle.std.proofs.Common.{◌≡◌, ℕ, zero, suc, ◌+◌, ◌-◌, ◌<◌, ◌≤◌, min, Bool, true, false, cond, List, [], ◌∷◌, length, take, drop, filter, slice_get, Some, inl, inr, arith, length-append, take-add}
+use Rattle.std.proofs.lemmas.Bool.{cases_Bool}
+use Rattle.std.proofs.lemmas.List.Filters.{length-filter_more}
 use Rattle.std.proofs.lemmas.List.Elements.{All-take, filter-append}
 use Rattle.std.proofs.lemmas.Option.{get_or_from_slice_get, slice_get_within}
 use Rattle.tree.specs.Path.{IsPartitioned}
-use Rattle.tree.proofs.callers.Partitions.{Falls, Falls-below_from, failed, none_pass, not_both, passed}
+use Rattle.tree.proofs.callers.Partitions.{Falls, Falls-below_from, none_pass}
 
 module _ {X : Type 0} (p : X → Bool) where
-  -- Each of those up to as many as pass does so.
-  pub passing_at : (xs : List X) (i : ℕ) (x : X) → IsPartitioned p xs → slice_get xs i ≡ Some x → i < length (filter p xs)
-      → p x ≡ true
-  passing_at xs i x partitioned there inside =
-      let rest = filter (λ y. not (p y)) xs in
-      cc (passed p xs i x inside, get_or_from_slice_get xs i x x there, get_or_append_left (filter p xs) rest x i inside)
-
-  -- Those that pass stand before one that fails.
-  pub passing_before : (xs : List X) (i : ℕ) (x : X) → IsPartitioned p xs → slice_get xs i ≡ Some x → p x ≡ false
-      → length (filter p xs) ≤ i
-  passing_before xs i x partitioned there fails = elim (cases_lt i (length (filter p xs))) [
-    | inl less ↦ absurd (not_both (p x) (passing_at xs i x partitioned there less) fails)
-    | inr le ↦ le
-  ]
-
-  -- One that passes stands among as many as pass.
-  pub passing_inside : (xs : List X) (i : ℕ) (x : X) → IsPartitioned p xs → slice_get xs i ≡ Some x → p x ≡ true
-      → i < length (filter p xs)
-  passing_inside xs i x partitioned there passes = elim (cases_lt i (length (filter p xs))) [
-    | inl less ↦ less
-    | inr le ↦
-        let n = length (filter p xs) in
-        let rest = filter (λ y. not (p y)) xs in
-        let inside : i - n < length rest =
-        omega (arith, slice_get_within xs i x there, ap length partitioned, length-append (filter p xs) rest) in
-        let fails = failed p xs (i - n) x inside in
-        absurd (cc (passes, fails, get_or_from_slice_get xs i x x there, get_or-append_right (filter p xs) rest n i x refl le))
-  ]
-
   -- Of the first ones as many pass as there are, or as do of all.
   among_first : (xs : List X) (n : ℕ) → Falls p xs → length (filter p (take n xs)) ≡ min n (length (filter p xs))
   among_first xs zero falls = omega arith
@@ -47,6 +18,26 @@ module _ {X : Type 0} (p : X → Bool) where
         let none = (none_pass p (take n xs) (All-take (λ y. p y ≡ false) n xs h.1)).0 in
         rw (h.0, none, (none_pass p xs h.1).0) (omega arith)
   ]
+
+  -- a list in which those that pass come first, and an element of it
+  module _ (xs : List X) (i : ℕ) (x : X) (partitioned : IsPartitioned p xs) (there : slice_get xs i ≡ Some x) where
+    counted : min (i + 1) (length (filter p xs)) ≡ min i (length (filter p xs)) + cond (p x) 1 0
+    counted =
+        let falls = Falls-below_from p xs partitioned in
+        let more = length-filter_more p xs i x (slice_get_within xs i x there) in
+        cc (more, among_first xs i falls, among_first xs (i + 1) falls, get_or_from_slice_get xs i x x there)
+
+    -- Those that pass stand before one that fails.
+    pub passing_before : p x ≡ false → length (filter p xs) ≤ i
+    passing_before fails = omega (arith, rw fails at counted)
+
+    -- One that passes stands among as many as pass.
+    pub passing_inside : p x ≡ true → i < length (filter p xs)
+    passing_inside passes = omega (arith, rw passes at counted)
+
+    -- And each of these does.
+    pub passing_at : i < length (filter p xs) → p x ≡ true
+    passing_at inside = elim (cases_Bool (p x)) [ inl t ↦ t | inr f ↦ absurd (omega (arith, passing_before f)) ]
 
   -- Those that pass are counted between an index up to which all pass and one from which none does.
   pub count_range : (xs : List X) (from to : ℕ) → IsPartitioned p xs → from ≤ length (filter p xs)
