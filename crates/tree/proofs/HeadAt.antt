@@ -3,6 +3,7 @@ use Rattle.std.proofs.Common.{◌≡◌, ◌≢◌, ◌⊎◌, ℕ, ◌+◌, ◌
 use Rattle.std.specs.Int.{w64, to_be_bytes}
 use Rattle.std.specs.List.{Contains}
 use Rattle.std.proofs.lemmas.Bool.{cases_lt}
+use Rattle.std.proofs.lemmas.Bool.Decides.{nat_tests}
 use Rattle.std.proofs.lemmas.List.{get_or_default, get_or-map, length-take-le}
 use Rattle.std.proofs.lemmas.Option.{get_or_from_slice_get, slice_get_within, slice_get-get_or, slice_get-map}
 use Rattle.keys.specs.Key.{IsBytes, IsBefore}
@@ -177,13 +178,10 @@ stay bytes is_below target node known can none =
 -- A head that isn't the greatest number is that of an entry.
 pub filled_within : {N : ℕ} (bytes : KeyBytes) (node : Node N) → AreHeads bytes (key_heads_of node) → length node.heads ≡ N
     → (count : ℕ) → count ≤ N → (0 < count → get_or node.heads (count - 1) 0 ≢ PADDING) → count ≤ length (entries_of node)
-filled_within bytes node h size count room filled = elim (cases_lt node.len count) [
-  | inr within ↦ omega (arith, node.within, size, heads_count bytes _ (key_heads_of node) h refl, length-take node.len node.heads)
-  | inl behind ↦
-      let last = count - 1 in
-      let none = get_or_default node.heads last 0 PADDING (omega (arith, behind, room, size)) in
-      absurd (filled (omega (arith, behind)) (none ∙ node.padded last (omega (arith, behind))))
-]
+filled_within bytes node h size count room filled =
+    let all = heads_count bytes _ (key_heads_of node) h refl in
+    let last = count - 1 in
+    grind (arith, all, length-take node.len node.heads, get_or_default node.heads last 0 PADDING, node.padded last)
 
 module _ {N : ℕ} (bytes : KeyBytes) (node : Node N) (h : AreHeads bytes (key_heads_of node)) (target : List ℕ)
     (is_below : ℕ → Bool)
@@ -219,12 +217,9 @@ module _ {N : ℕ} (bytes : KeyBytes) (node : Node N) (h : AreHeads bytes (key_h
     -- Entries behind some that pass do so, too, as far as their heads are below that of the target.
     pub many_pass : (from first : ℕ) → from ≤ length (filter passes es) → first ≤ length es
         → ((index : ℕ) → from ≤ index → index < first → own_head index < head) → first ≤ length (filter passes es)
-    many_pass from first least within below = elim (cases_lt (length (filter passes es)) first) [
-      | inr enough ↦ enough
-      | inl few ↦
-          let count = length (filter passes es) in
-          absurd (omega (arith, one_passes count (omega arith) (below count least few)))
-    ]
+    many_pass from first least within below =
+        let count = length (filter passes es) in
+        grind (arith, one_passes count, below count)
 
     -- No more entries are below the bound than stand before one whose head is above that of the target.
     pub few_pass : (end : ℕ) → (end < length es → head < own_head end) → length (filter passes es) ≤ end
@@ -232,18 +227,13 @@ module _ {N : ℕ} (bytes : KeyBytes) (node : Node N) (h : AreHeads bytes (key_h
       | inr all ↦ omega (arith, length-items_below passes es)
       | inl inside ↦
           let e = entry_at es end inside in
-          let told = told_at bytes (key_heads_of node) h target is_below order end e.0.key head (key_there es end e.0 e.1) is
-          (λ same. absurd (omega (arith, above inside))) in
-          passing_before passes es end e.0 partitioned e.1 (cc (told, le-ltb (own_head end) head (omega (arith, above inside))))
+          let told = told_at bytes (key_heads_of node) h target is_below order end e.0.key head (key_there es end e.0 e.1) is in
+          grind (arith, nat_tests, above inside, told, passing_before passes es end e.0 partitioned e.1)
     ]
 
     -- Entries pass up to one whose head is below that of the target.
     pub few_below : (count : ℕ) → count ≤ length es → (0 < count → get_or node.heads (count - 1) 0 < head)
         → count ≤ length (filter passes es)
-    few_below count within below = elim (cases_lt 0 count) [
-      | inr none ↦ omega arith
-      | inl some ↦
-          let last = count - 1 in
-          let read = get_or-take node.len node.heads last 0 (omega (arith, length-take node.len node.entries)) in
-          omega (arith, one_passes last (omega arith) (omega (arith, read, below some)))
-    ]
+    few_below count within below =
+        let last = count - 1 in
+        grind (arith, one_passes last, get_or-take node.len node.heads last 0, length-take node.len node.entries)

@@ -65,8 +65,7 @@ module _ (es : List Entry) (len i : ℕ) (e : Entry) (inside : i < len) (most : 
       → take i heads ≡ map f (take i (keys_of (take len es)))
       → take (i + 1) (slice_set heads i head) ≡ map f (take (i + 1) (keys_of (take len es)))
   head_next f heads head room right before =
-      let more = map_more f (keys_of (take len es)) i e.key (omega (arith, keys_count es len most)) in
-      cc (take_more_set heads i head room, more, key_read)
+      grind (arith, map_more, take_more_set, keys_count, key_read)
 
   -- another entry of the same key in its place changes no key
   pub key_stays : (new : Entry) → e.key ≡ new.key → keys_of (slice_set (take len es) i new) ≡ keys_of (take len es)
@@ -176,8 +175,7 @@ module _ (bytes : KeyBytes) where
     prefix_begins text a =
         let b = All-contains (Begins bytes h.beginning) key_heads.keys a.key h.begins a.there in
         let texts : b.text ≡ a.text = cc (b.known, a.known) in
-        let long : length h.beginning ≤ length b.text = omega (arith, a.long, h.prefix_len, ap length texts) in
-        cc (h.prefix_len, a.same, begins_if_long h.beginning b.text b.begins long)
+        grind (arith, begins_if_long h.beginning b.text b.begins)
 
     -- A key that begins as all others do for so many bytes begins with these.
     agrees_begins : (key : ℕ) → IsKnown bytes key → BeginsAsThese bytes key_heads key → Begins bytes h.beginning key
@@ -272,10 +270,7 @@ module _ (bytes : KeyBytes) where
     same_beginning =
         let k = All-contains (Begins bytes others.beginning) other.keys key others.begins there in
         let begins = prefix_begins one h k.text (agrees k.text k.known) in
-        let lengths : length others.beginning ≡ length h.beginning = cc (h.prefix_len, others.prefix_len) in
-        let long : length others.beginning ≤ length k.text =
-        omega (arith, ap length begins, length-take (length h.beginning) k.text) in
-        cc (begins, begins_if_long others.beginning k.text k.begins long)
+        grind (arith, length-take (length h.beginning) k.text, begins_if_long others.beginning k.text k.begins)
 
     -- Those of the second are put behind those of the first one, with their heads.
     pub headed_joined : (now : KeyHeads) → now.keys ≡ one.keys ++ other.keys → now.prefix_len ≡ one.prefix_len

@@ -70,13 +70,7 @@ module _ (shared n : ℕ) (first text target : List ℕ) (less : shared < n) (fi
     before_too,
     λ count within. (
       (λ le. take_fewer count n text first (omega arith) same ∙ (tells count (omega arith)).0 le),
-      (λ alike. elim (cases_lt shared count) [
-        | inr le ↦ le
-        | inl more ↦
-            let part = take_fewer (shared + 1) n first text (omega arith) (sym same)
-            ∙ take_fewer (shared + 1) count text target (omega arith) alike in
-            absurd (omega (arith, (tells (shared + 1) (omega arith)).1 part))
-      ]),
+      (λ alike. grind (arith, take_fewer (shared + 1) n first text, take_fewer (shared + 1) count text target, tells (shared + 1))),
     ),
   )
 
@@ -90,12 +84,7 @@ alike_in_eight : (m : ℕ) (a b : List ℕ) → m < 8 → take m (first_eight a)
 alike_in_eight m a b few same differ not_behind count within =
     let both : (n : ℕ) → n ≤ m → n ≤ length a → n ≤ length b → take n a ≡ take n b = λ n le in_a in_b.
     cc (take_fewer n m _ _ le same, take-first_eight n a (omega arith) in_a, take-first_eight n b (omega arith) in_b) in (
-      (λ le. elim (cases_lt (length b) count) [
-        | inl short ↦
-            let part = both (length b) (omega arith) (omega arith) (omega arith) in
-            absurd (not_behind (behind_shorter (length b) b a refl (omega arith) (sym part)))
-        | inr long ↦ both count le within long
-      ]),
+      (λ le. grind (arith, both (length b), both count, behind_shorter (length b) b a refl)),
       (λ alike. elim (cases_lt m count) [
         | inr le ↦ le
         | inl more ↦
@@ -115,8 +104,8 @@ common_with_behind prefix_len m a b long same tells count within = elim (cases_l
       let n = count - prefix_len in
       let sum : prefix_len + n ≡ count = omega arith in
       let told = tells n (omega (arith, length-drop prefix_len a)) in (
-        (λ le. cc (sum, take-add prefix_len n a, told.0 (omega arith), take-add prefix_len n b)),
-        (λ alike. omega (arith, told.1 (cc (sum, alike, drop-take prefix_len n a, drop-take prefix_len n b)))),
+        (λ le. grind (arith, sum, take-add prefix_len n a, told, take-add prefix_len n b)),
+        (λ alike. grind (arith, told, sum, alike, drop-take prefix_len n a, drop-take prefix_len n b)),
       )
 ]
 
