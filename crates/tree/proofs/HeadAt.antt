@@ -2,6 +2,7 @@
 use Rattle.std.proofs.Common.{◌≡◌, ◌≢◌, ◌⊎◌, ℕ, ◌+◌, ◌-◌, ◌<◌, ◌≤◌, Bool, true, false, nat_lt, List, [], ◌∷◌, length, filter, get_or, take, slice_get, slice_index, option_map, Option, None, Some, All, refl, sym, ap, subst, ◌∙◌, inl, inr, arith, length-take, get_or-take, lt-ltb, le-ltb, ltb-true}
 use Rattle.std.specs.Int.{w64, to_be_bytes}
 use Rattle.std.specs.List.{Contains}
+use Rattle.std.proofs.lemmas.List.Elements.{All-contains}
 use Rattle.std.proofs.lemmas.Bool.{cases_lt}
 use Rattle.std.proofs.lemmas.Bool.Decides.{nat_tests}
 use Rattle.std.proofs.lemmas.List.{get_or_default, get_or-map, length-take-le}
@@ -56,16 +57,11 @@ module _ (bytes : KeyBytes) (key_heads : KeyHeads) (h : AreHeads bytes key_heads
   key_at index key there =
       let inside : index < length key_heads.keys = slice_get_within key_heads.keys index key there in
       let read = get_or_from_slice_get key_heads.keys index key key there in
-      let own = rw read at (h.begins index key inside) in
+      let own = All-contains (Begins bytes h.beginning) key_heads.keys key h.begins (index, inside, read) in
       let head : head_of index ≡ head_behind n own.text =
       cc (own.known, get_or-map (head_at bytes n) key_heads.keys index key 0 inside) in
       let begins : ((own.text ≡ []) × (head_of index ≡ 0)) ⊎ ((take n own.text ≡ h.beginning) × (n ≤ length own.text)) =
-      elim own.begins [
-        | inl empty ↦ inl (empty, cc (empty_head n))
-        | inr same ↦
-            let begins = rw h.prefix_len at same in
-            inr (begins, omega (arith, h.prefix_len, ap length begins, length-take n own.text))
-      ] in
+      grind (arith, own.begins, head, h.prefix_len, empty_head n, length-take n own.text) in
       record { text = own.text; known = own.known; are_bytes = own.are_bytes; begins = begins; head = head }
 
   -- a key whose head isn't zero isn't empty
@@ -106,9 +102,7 @@ module _ (bytes : KeyBytes) (key_heads : KeyHeads) (h : AreHeads bytes key_heads
               let told = told_by_heads n k.text target k.are_bytes is.are_bytes long.1 (long.0 ∙ sought_begins target is.agrees)
               (λ e. differ (cc (is.head_is, k.head))) (is_below key) tells in
               cc (k.head, is.head_is, told)
-          | inl empty ↦
-              let before : IsBefore k.text target = rw empty.0 (empty_before n target (λ e. differ (cc (is.head_is, empty.1)))) in
-              lt-ltb (head_of index) head (omega (arith, empty.1, differ)) ∙ sym (tells.before before)
+          | inl empty ↦ grind (arith, nat_tests, is.head_is, empty_before n target, empty.0, empty.1, tells.before)
         ]
 
     -- A key whose head is less passes.

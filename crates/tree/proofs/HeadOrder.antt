@@ -1,7 +1,8 @@
 -- What the bytes with which a key and the target begin, and the heads of what stands behind, tell of the two.
 use Rattle.std.proofs.Common.{◌≡◌, ◌≢◌, ℕ, zero, suc, ◌+◌, ◌-◌, ◌<◌, ◌≤◌, Bool, nat_lt, List, [], ◌∷◌, ◌++◌, length, get_or, take, drop, replicate, slice_index, refl, sym, ap, ◌∙◌, inl, inr, arith, length-take, get_or-take, take-add, lt-ltb, le-ltb}
 use Rattle.std.specs.Int.{w64, to_be_bytes, from_be_bytes}
-use Rattle.std.proofs.lemmas.Bool.{cases_lt, cases_order}
+use Rattle.std.proofs.lemmas.Bool.{cases_lt}
+use Rattle.std.proofs.lemmas.Bool.Decides.{nat_tests}
 use Rattle.std.proofs.lemmas.List.{take-take, take-append-le, take_all, take_more_same, drop-take, length-drop, get_or_append_left}
 use Rattle.std.proofs.lemmas.List.Elements.{All-drop}
 use Rattle.keys.specs.Key.{IsBytes, IsBefore}
@@ -48,20 +49,16 @@ module _ (shared n : ℕ) (first text target : List ℕ) (less : shared < n) (fi
   before_too =
       let first_same = (tells shared (omega arith)).0 (omega arith) in
       let text_same = take_fewer shared n text first (omega arith) same in
-      let long : shared ≤ length target = as_long shared first target (omega arith) first_same in
-      elim (cases_lt shared (length target)) [
-        | inr short ↦ absurd (not_behind (behind_shorter shared target first (omega arith) (omega arith) (sym first_same)))
-        | inl inside ↦ elim (cases_order (get_or first shared 0) (get_or target shared 0)) [
-          | inl e ↦
-              let more = take_more_same first target shared 0 (omega arith) inside first_same e in
-              absurd (omega (arith, (tells (shared + 1) (omega arith)).1 more))
-          | inr (inl before) ↦
-              behind_differing shared text target (omega arith) inside (text_same ∙ first_same)
-              (omega (arith, before, same_at shared n text first less same))
-          | inr (inr behind) ↦
-              absurd (not_behind (behind_differing shared target first inside (omega arith) (sym first_same) behind))
-        ]
-      ]
+      let long = as_long shared first target (omega arith) first_same in
+      grind (
+        arith,
+        same_at shared n text first less same,
+        tells (shared + 1),
+        behind_shorter shared target first,
+        take_more_same first target shared 0,
+        behind_differing shared text target,
+        behind_differing shared target first,
+      )
 
   -- Where the first key isn't behind the target, and differs from it before all keys' common beginning ends, the other keys come
   -- before it, and the target begins as they do just as far.
@@ -85,14 +82,10 @@ alike_in_eight m a b few same differ not_behind count within =
     let both : (n : ℕ) → n ≤ m → n ≤ length a → n ≤ length b → take n a ≡ take n b = λ n le in_a in_b.
     cc (take_fewer n m _ _ le same, take-first_eight n a (omega arith) in_a, take-first_eight n b (omega arith) in_b) in (
       (λ le. grind (arith, both (length b), both count, behind_shorter (length b) b a refl)),
-      (λ alike. elim (cases_lt m count) [
-        | inr le ↦ le
-        | inl more ↦
-            let long = as_long count a b within alike in
-            let own : (c : List ℕ) → m < length c → get_or (first_eight c) m 0 ≡ get_or c m 0 = λ c in_c.
-            cc (get_or-take 8 (c ++ replicate 8 0) m 0 few, get_or_append_left c (replicate 8 0) 0 m in_c) in
-            absurd (differ (cc (same_at m count a b more alike, own a (omega arith), own b (omega arith))))
-      ]),
+      (λ alike.
+          let own : (c : List ℕ) → m < length c → get_or (first_eight c) m 0 ≡ get_or c m 0 = λ c in_c.
+          cc (get_or-take 8 (c ++ replicate 8 0) m 0 few, get_or_append_left c (replicate 8 0) 0 m in_c) in
+          grind (arith, as_long count a b within alike, same_at m count a b, own a, own b)),
     )
 
 -- How far two byte strings begin alike is told by what stands behind a common beginning.
@@ -125,15 +118,9 @@ module _ (n : ℕ) (text target : List ℕ) (text_bytes : IsBytes text) (target_
   told_by_heads is_below order =
       let t = All-drop (λ byte. byte < 256) n text text_bytes in
       let s = All-drop (λ byte. byte < 256) n target target_bytes in
-      elim (cases_order (head_of (rest text)) (head_of (rest target))) [
-        | inl e ↦ absurd (apart e)
-        | inr (inl less) ↦
-            let before = behind_common n text target long target_long same ∙ head_less (rest text) (rest target) t s less in
-            lt-ltb _ _ less ∙ sym (order.before before)
-        | inr (inr more) ↦
-            let behind = behind_common n target text target_long long (sym same) ∙ head_less (rest target) (rest text) s t more in
-            le-ltb _ _ (omega arith) ∙ sym (order.behind behind)
-      ]
+      let before = behind_common n text target long target_long same in
+      let behind = behind_common n target text target_long long (sym same) in
+      grind (arith, nat_tests, head_less (rest text) (rest target) t s, head_less (rest target) (rest text) s t, order)
 
   -- If the key isn't behind the target, the two begin alike as far as the bytes of the heads do.
   pub common_by_heads : (m : ℕ) → m ≤ 8
