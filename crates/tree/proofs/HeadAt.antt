@@ -88,9 +88,6 @@ module _ (bytes : KeyBytes) (key_heads : KeyHeads) (h : AreHeads bytes key_heads
 
   module _ (target : List ℕ) (is_below : ℕ → Bool)
       (order : (key : ℕ) (text : List ℕ) → bytes key ≡ Some text → IsBelowInOrder text target (is_below key)) where
-    not_behind : (key : ℕ) (text : List ℕ) → bytes key ≡ Some text → is_below key ≡ true → IsBefore target text → ⊥
-    not_behind key text known passed behind = not_both (is_below key) passed ((order key text known).behind behind)
-
     -- Whether the key is below the bound is told by its head, if that isn't the one of the target.
     pub told_at : (index key head : ℕ) → slice_get key_heads.keys index ≡ Some key → IsTargetHead bytes key_heads target head
         → head ≢ head_of index → nat_lt (head_of index) head ≡ is_below key
@@ -123,7 +120,7 @@ module _ (bytes : KeyBytes) (key_heads : KeyHeads) (h : AreHeads bytes key_heads
           let f = key_at 0 first at_first in
           let k = key_at index key there in
           let own = filled_at 0 first at_first filled in
-          let ahead = not_behind first f.text f.known passed in
+          let ahead : IsBefore target f.text → ⊥ = λ behind. not_both _ passed ((order first f.text f.known).behind behind) in
           elim k.begins [
             | inr begins ↦
                 too shared n f.text k.text target less own.1 begins.1 (begins.0 ∙ sym own.0) (tells f.text f.known) ahead
@@ -152,11 +149,12 @@ module _ (bytes : KeyBytes) (key_heads : KeyHeads) (h : AreHeads bytes key_heads
         let own = k.head in
         let other = is.head_is in
         let same : k.text ≡ text = cc (k.known) in
+        let ahead : IsBefore target k.text → ⊥ = λ behind. not_both _ passed ((order key k.text k.known).behind behind) in
         rw (← same) (elim k.begins [
           | inl empty ↦ rw empty.0 (tells_empty (n + count) target)
           | inr begins ↦
               common_by_heads n k.text target k.are_bytes is.are_bytes begins.1 (begins.0 ∙ sought_begins target is.agrees)
-              (λ e. apart (cc)) count few (cc) (λ less e. differ less (cc)) (not_behind key k.text k.known passed)
+              (λ e. apart (cc)) count few (cc) (λ less e. differ less (cc)) ahead
         ])
 
 -- Where nothing is known of the first key, it isn't below the bound, and a step stays there.

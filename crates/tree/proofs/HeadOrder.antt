@@ -7,7 +7,7 @@ use Rattle.std.proofs.lemmas.List.{take-take, take-append-le, take_all, take_mor
 use Rattle.std.proofs.lemmas.List.Elements.{All-drop}
 use Rattle.keys.specs.Key.{IsBytes, IsBefore}
 use Rattle.keys.specs.Head.{first_eight, head_of}
-use Rattle.keys.proofs.callers.KeyHeads.{head_less, head_of-bytes, behind_common, behind_shorter, behind_differing}
+use Rattle.keys.proofs.callers.KeyHeads.{head_less, head_of-bytes, length-first_eight, behind_common, behind_shorter, behind_differing}
 use Rattle.tree.specs.Heads.{head_behind, IsBelowInOrder, IsCommonPrefixLen}
 
 pub take_fewer : (m n : ℕ) (a b : List ℕ) → m ≤ n → take n a ≡ take n b → take m a ≡ take m b
@@ -45,31 +45,23 @@ tells_empty shared target (suc count) within = absurd (omega arith)
 module _ (shared n : ℕ) (first text target : List ℕ) (less : shared < n) (first_long : n ≤ length first)
     (text_long : n ≤ length text) (same : take n text ≡ take n first)
     (tells : IsCommonPrefixLen shared first target) (not_behind : IsBefore target first → ⊥) where
-  before_too : IsBefore text target
-  before_too =
-      let first_same = (tells shared (omega arith)).0 (omega arith) in
-      let text_same = take_fewer shared n text first (omega arith) same in
-      let long = as_long shared first target (omega arith) first_same in
-      grind (
-        arith,
-        same_at shared n text first less same,
-        tells (shared + 1),
-        behind_shorter shared target first,
-        take_more_same first target shared 0,
-        behind_differing shared text target,
-        behind_differing shared target first,
-      )
-
   -- Where the first key isn't behind the target, and differs from it before all keys' common beginning ends, the other keys come
   -- before it, and the target begins as they do just as far.
   pub too : IsBefore text target × IsCommonPrefixLen shared text target
-  too = (
-    before_too,
-    λ count within. (
-      (λ le. take_fewer count n text first (omega arith) same ∙ (tells count (omega arith)).0 le),
-      (λ alike. grind (arith, take_fewer (shared + 1) n first text, take_fewer (shared + 1) count text target, tells (shared + 1))),
-    ),
-  )
+  too =
+      let first_same = (tells shared (omega arith)).0 (omega arith) in
+      let text_same = take_fewer shared n text first (omega arith) same in
+      let long = as_long shared first target (omega arith) first_same in
+      let at = same_at shared n text first less same in
+      let before = behind_differing shared text target in
+      let behind = behind_differing shared target first in
+      let more = tells (shared + 1) in (
+        grind (arith, before, behind, more, behind_shorter shared target first, take_more_same first target shared 0),
+        λ count within. (
+          (λ le. grind (arith, take_fewer count n text first, tells count)),
+          (λ alike. grind (arith, take_fewer (shared + 1) n first text, take_fewer (shared + 1) count text target, more)),
+        ),
+      )
 
 take-first_eight : (n : ℕ) (a : List ℕ) → n ≤ 8 → n ≤ length a → take n (first_eight a) ≡ take n a
 take-first_eight n a few within = cc (take-take n 8 (a ++ replicate 8 0) few, take-append-le n a (replicate 8 0) within)
@@ -91,16 +83,12 @@ alike_in_eight m a b few same differ not_behind count within =
 -- How far two byte strings begin alike is told by what stands behind a common beginning.
 common_with_behind : (prefix_len m : ℕ) (a b : List ℕ) → prefix_len ≤ length a → take prefix_len a ≡ take prefix_len b
     → IsCommonPrefixLen m (drop prefix_len a) (drop prefix_len b) → IsCommonPrefixLen (prefix_len + m) a b
-common_with_behind prefix_len m a b long same tells count within = elim (cases_lt prefix_len count) [
-  | inr few ↦ ((λ le. take_fewer count prefix_len a b few same), (λ alike. omega arith))
-  | inl more ↦
-      let n = count - prefix_len in
-      let sum : prefix_len + n ≡ count = omega arith in
-      let told = tells n (omega (arith, length-drop prefix_len a)) in (
-        (λ le. grind (arith, sum, take-add prefix_len n a, told, take-add prefix_len n b)),
-        (λ alike. grind (arith, told, sum, alike, drop-take prefix_len n a, drop-take prefix_len n b)),
-      )
-]
+common_with_behind prefix_len m a b long same tells count within =
+    let n = count - prefix_len in
+    let told = tells n (omega (arith, length-drop prefix_len a)) in (
+      (λ le. grind (arith, told, take_fewer count prefix_len a b, take-add prefix_len n a, take-add prefix_len n b)),
+      (λ alike. grind (arith, told, drop-take prefix_len n a, drop-take prefix_len n b)),
+    )
 
 -- a key and the target that begin alike, but have other heads behind that
 module _ (n : ℕ) (text target : List ℕ) (text_bytes : IsBytes text) (target_bytes : IsBytes target)
@@ -135,8 +123,7 @@ module _ (n : ℕ) (text target : List ℕ) (text_bytes : IsBytes text) (target_
       let eight : take m (first_eight (rest text)) ≡ take m (first_eight (rest target)) = cc in
       elim (cases_lt m 8) [
         | inr many ↦
-            let all : (a : List ℕ) → take m (first_eight a) ≡ first_eight a = λ a.
-            take_all m (first_eight a) (omega (arith, length-take 8 (a ++ replicate 8 0))) in
+            let all = λ (a : List ℕ). take_all m (first_eight a) (omega (arith, length-first_eight a)) in
             absurd (apart (cc (all (rest text), all (rest target))))
         | inl less ↦
             common_with_behind n m text target long same

@@ -36,9 +36,8 @@ no_other {X} m (x ∷ xs) few live count s is =
           λ t apart. rw (finite.get-remove nat_cmp_total m x t, other_number t x apart) refl in
           let here : finite.contains_key m x ≡ true = live x (omega (arith, once_same x)) in
           let fewer = rw here at (finite.len-remove nat_cmp_total m x) in
-          let apart : (t : ℕ) → 1 ≤ times t xs → t ≢ x =
-          λ t some same. absurd (omega (arith, few t, ap (once t) same, once_same t)) in
-          let i = no_other rest xs (λ t. omega (arith, few t)) (λ t some. rw (kept t (apart t some)) (live t (omega arith)))
+          let i = no_other rest xs (λ t. omega (arith, few t))
+          (λ t some. rw (kept t (λ same. absurd (omega (arith, few t, ap (once t) same, once_same t)))) (live t (omega arith)))
           (omega (arith, count)) s (rw (kept s (λ same. other.0 (sym same))) is) in
           omega (arith, i)
     ]
