@@ -94,12 +94,6 @@ module _ (bytes : KeyBytes) where
       → (k.text ≡ []) ⊎ (take (length beginning) k.text ≡ beginning) → Begins bytes beginning key
   begins_with beginning key k begins = record { text = k.text; known = k.known; are_bytes = k.are_bytes; begins = begins }
 
-  -- a key that begins as the first one does for fewer bytes, too
-  begin_fewer : (first count less : ℕ) → less ≤ count → (key : ℕ) → BeginsAsFirst bytes first count key
-      → BeginsAsFirst bytes first less key
-  begin_fewer first count less le key begins a b one other =
-      elim (begins a b one other) [ inl empty ↦ inl empty | inr h ↦ inr (omega (arith, h.0), take_fewer less count a b le h.1) ]
-
   -- one key more that begins as the first one does, for fewer bytes perhaps
   pub first_more : (first count n i : ℕ) (keys : List ℕ) (key : ℕ) → i < length keys → key ≡ get_or keys i key
       → ((a b : List ℕ) → bytes first ≡ Some a → bytes key ≡ Some b → take n a ≡ take n b)
@@ -107,9 +101,10 @@ module _ (bytes : KeyBytes) where
       → All (BeginsAsFirst bytes first count) (take i keys) → All (BeginsAsFirst bytes first (min count n)) (take (i + 1) keys)
   first_more first count n i keys key inside is same within before =
       let less = min count n in
-      let here = begin_fewer first n less (omega arith) _ (λ a b one other. inr ((within a b one other).0, same a b one other)) in
+      let here : BeginsAsFirst bytes first less key = λ a b one other.
+      grind (arith, within a b one other, same a b one other, take_fewer less n a b) in
       All-more (BeginsAsFirst bytes first less) keys i key inside
-      (λ j d lt. begin_fewer first count less (omega arith) _ (before j d lt)) (rw (← is) here)
+      (λ j d lt a b one other. grind (arith, before j d lt a b one other, take_fewer less count a b)) (rw (← is) here)
 
   -- an empty key more
   pub first_empty : (first count i : ℕ) (keys : List ℕ) (key : ℕ) → i < length keys → key ≡ get_or keys i key
@@ -123,17 +118,14 @@ module _ (bytes : KeyBytes) where
       → All (BeginsAsFirst bytes first count) keys → (text : List ℕ) → bytes first ≡ Some text → text ≢ []
       → (count ≤ length text) × All (Begins bytes (take count text)) keys
   begin_of_first first count keys there known common text is filled =
-      elim (All-contains (BeginsAsFirst bytes first count) keys first common there text text is is) [
-        | inl empty ↦ absurd (filled empty)
-        | inr long ↦ (
-          long.0,
-          λ i d inside.
-              let k = known i d inside in
-              let size = length-take-le count text long.0 in
-              begins_with (take count text) (get_or keys i d) k
-              (elim (common i d inside text k.text is k.known) [ inl empty ↦ inl empty | inr h ↦ inr (cc (size, h.1)) ]),
-        )
-      ]
+      let own = All-contains (BeginsAsFirst bytes first count) keys first common there text text is is in
+      let long : count ≤ length text = grind (arith, own, filled) in
+      let size = length-take-le count text long in (
+        long,
+        λ i d inside.
+            let k = known i d inside in
+            begins_with (take count text) (get_or keys i d) k (grind (arith, size, common i d inside text k.text is k.known)),
+      )
 
   -- Where no bytes are asked for, known keys begin with them.
   pub begin_none : (keys : List ℕ) → All (IsKnown bytes) keys
@@ -191,8 +183,7 @@ module _ (bytes : KeyBytes) where
         elim b.begins [
           | inl empty ↦ inl (texts ∙ empty)
           | inr same ↦
-              let long : key_heads.prefix_len ≤ length text =
-              omega (arith, ap length texts, ap length same, h.prefix_len, length-take (length h.beginning) b.text) in
+              let long : key_heads.prefix_len ≤ length text = grind (arith, length-take (length h.beginning) b.text) in
               inr (record { key = key; text = text; there = there; known = known; long = long; same = refl })
         ]
 
