@@ -1,10 +1,10 @@
 -- What nodes know of the bytes of their keys, through changes of these.
-use Rattle.std.proofs.Common.{◌≡◌, ◌≢◌, ◌⊎◌, inl, inr, ℕ, ◌+◌, ◌-◌, ◌<◌, ◌≤◌, min, List, [], ◌∷◌, ◌++◌, Some, length, get_or, take, drop, map, All, refl, sym, ◌∙◌, ap, ap₂, subst, arith}
-use Rattle.std.specs.Prelude.{unwrap_or, slice_get, slice_set}
+use Rattle.std.proofs.Common.{◌≡◌, ◌≢◌, ◌⊎◌, inl, inr, ℕ, ◌+◌, ◌-◌, ◌<◌, ◌≤◌, min, List, [], ◌∷◌, ◌++◌, Some, length, get_or, take, drop, map, All, refl, sym, ◌∙◌, arith}
+use Rattle.std.specs.Prelude.{slice_get, slice_set}
 use Rattle.std.specs.List.{AllZip, Contains}
-use Rattle.std.proofs.lemmas.List.{get_or-map, get_or-take, length-map, length-take, length-take-le, drop_at, map-append, map-set, map_more, nil_from_length, set-get_or, take_all, take_at, take-map, drop-map, take_more_set}
+use Rattle.std.proofs.lemmas.List.{get_or-map, get_or-take, length-map, length-take, length-take-le, drop_at, map-append, map-set, map_more, set-get_or, take_all, take_at, take-map, drop-map, take_more_set}
 use Rattle.std.proofs.lemmas.Option.{slice_get_within, get_or_from_slice_get}
-use Rattle.std.proofs.lemmas.List.Elements.{All-nil, All-cons, All-append, All-contains, All-drop, All-more, All-set, All-take, All-weaker}
+use Rattle.std.proofs.lemmas.List.Elements.{All-nil, All-cons, All-append, All-contains, All-drop, All-more, All-set, All-take}
 use Rattle.tree.specs.declared.entry.Entry.{Entry}
 use Rattle.tree.specs.Heads.{KeyBytes, IsKnown, Begins, KeyHeads, AreHeads, HasPrefix, IsHeadBeside, IsTargetHead, head_behind, head_at}
 use Rattle.tree.specs.Node.{keys_of}
@@ -35,8 +35,7 @@ map_spliced f xs new now from to is = simp (is, map-append, take-map, drop-map)
 -- the key of an entry is one of the keys
 pub keys_there : (es : List Entry) (i : ℕ) (e : Entry) → i < length es → get_or es i e ≡ e → Contains (keys_of es) e.key
 keys_there es i e inside is =
-    let key : Entry → ℕ = λ x. x.key in
-    (i, omega (arith, length-map es key), cc (get_or-map key es i e e.key inside))
+    (i, omega (arith, length-map es (λ (x : Entry). x.key)), cc (get_or-map (λ (x : Entry). x.key) es i e e.key inside))
 
 -- the key of the last one
 pub last_there : (es : List Entry) (e : Entry) → slice_get es (length es - 1) ≡ Some e → Contains (keys_of es) e.key

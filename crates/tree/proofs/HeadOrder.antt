@@ -1,6 +1,6 @@
 -- What the bytes with which a key and the target begin, and the heads of what stands behind, tell of the two.
-use Rattle.std.proofs.Common.{◌≡◌, ◌≢◌, ℕ, zero, suc, ◌+◌, ◌-◌, ◌<◌, ◌≤◌, Bool, nat_lt, List, [], ◌∷◌, ◌++◌, length, get_or, take, drop, replicate, slice_index, refl, sym, ap, ◌∙◌, inl, inr, arith, length-take, get_or-take, take-add, lt-ltb, le-ltb}
-use Rattle.std.specs.Int.{w64, to_be_bytes, from_be_bytes}
+use Rattle.std.proofs.Common.{◌≡◌, ◌≢◌, ℕ, zero, suc, ◌+◌, ◌-◌, ◌<◌, ◌≤◌, Bool, nat_lt, List, [], ◌∷◌, ◌++◌, length, get_or, take, drop, replicate, slice_index, refl, sym, ap, ◌∙◌, inl, inr, arith, length-take, get_or-take, take-add}
+use Rattle.std.specs.Int.{w64, to_be_bytes}
 use Rattle.std.proofs.lemmas.Bool.{cases_lt}
 use Rattle.std.proofs.lemmas.Bool.Decides.{nat_tests}
 use Rattle.std.proofs.lemmas.List.{take-take, take-append-le, take_all, take_more_same, drop-take, length-drop, get_or_append_left}

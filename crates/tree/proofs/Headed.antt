@@ -1,12 +1,12 @@
 -- What nodes know of the bytes of keys, while nodes are put, placed and released.
-use Rattle.std.proofs.Common.{rules, ◌≡◌, ◌≢◌, ◌⊎◌, inl, inr, ℕ, ◌≤◌, cond, List, [], ◌∷◌, length, map, take, Option, Some, None, option_map, unwrap_or, refl, sym, ap, ap₂, subst, arith, ◌∙◌}
+use Rattle.std.proofs.Common.{rules, ◌≡◌, ◌≢◌, ◌⊎◌, inl, inr, ℕ, ◌≤◌, List, [], ◌∷◌, length, map, take, Option, Some, None, option_map, unwrap_or, refl, ap, arith, ◌∙◌}
 use Rattle.std.specs.Prelude.{IfSome}
 use Rattle.std.specs.List.{All}
 use Rattle.std.proofs.lemmas.Option.{IfSome_then}
-use Rattle.std.proofs.lemmas.List.Elements.{All-weaker, All-head, All-tail}
+use Rattle.std.proofs.lemmas.List.Elements.{All-head, All-tail}
 use Rattle.arena.specs.Arena.{Arena, record_at, header_at}
 use Rattle.tree.specs.declared.node.Node.{Node}
-use Rattle.tree.specs.Heads.{KeyBytes, IsKnown, Begins, KeyHeads, AreHeads, AllAreHeads, head_at, head_behind}
+use Rattle.tree.specs.Heads.{KeyBytes, IsKnown, Begins, KeyHeads, AreHeads, AllAreHeads, head_at}
 use Rattle.tree.specs.Node.{entries_of, keys_of, key_heads_of, all_heads_of}
 use Rattle.tree.specs.Subtree.{entries_at}
 use Rattle.std.specs.FinMap as finite

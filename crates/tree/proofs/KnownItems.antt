@@ -1,5 +1,5 @@
 -- Each key of which a node knows is that of an item.
-use Rattle.std.proofs.Common.{◌≡◌, ◌≢◌, inl, inr, ℕ, zero, suc, ◌-◌, ◌≤◌, true, false, cond, List, [], ◌∷◌, ◌++◌, length, get_or, map, Option, Some, None, IsSome, is_some, option_map, unwrap_or, refl, sym, ap, subst, ◌∙◌, arith}
+use Rattle.std.proofs.Common.{◌≡◌, ◌≢◌, inl, inr, ℕ, zero, suc, ◌≤◌, true, List, [], ◌∷◌, length, get_or, map, Option, Some, None, IsSome, is_some, option_map, refl, sym, ap, arith}
 use mathlib.Core.List.{map-map}
 use Rattle.std.specs.Prelude.{IfSome}
 use Rattle.std.specs.List.{All, Contains}
@@ -8,13 +8,12 @@ use Rattle.std.specs.Ordering.{nat_cmp}
 use Rattle.std.specs.Cmp.{nat_cmp_total}
 use Rattle.std.proofs.lemmas.List.{map-append}
 use Rattle.std.proofs.lemmas.List.Elements.{All-contains, All-map, All-contains_itself, Contains-get_or, Contains-append_left, Contains-append_right}
-use Rattle.arena.specs.Arena.{Arena, Record, IsLive, record_at}
+use Rattle.arena.specs.Arena.{Arena, Record, record_at}
 use Rattle.tree.specs.declared.entry.Entry.{Entry}
 use Rattle.tree.specs.declared.node.Node.{Node}
-use Rattle.tree.specs.Item.{Item, item_of}
-use Rattle.tree.specs.Heads.{KeyHeads}
-use Rattle.tree.specs.Node.{entries_of, keys_of, key_heads_of, heads_list}
-use Rattle.tree.specs.Replace.{AreChildren, items_of, slots_of}
+use Rattle.tree.specs.Item.{Item}
+use Rattle.tree.specs.Node.{keys_of, key_heads_of, heads_list}
+use Rattle.tree.specs.Replace.{items_of, slots_of}
 use Rattle.tree.specs.Subtree.{entries_at, items_in, slots_in, IsSubtree}
 use Rattle.tree.specs.Tree.{KnowItems, IsRooted, least_of}
 use Rattle.tree.proofs.Changing.{other_number}
