@@ -35,8 +35,7 @@ item_tells e =
     record { first = item_of e; others = []; items_are = refl; key = refl; greatest = record { bound = bound; reached = has } }
 
 module _ {N : ℕ} (nodes : Arena (Node N)) (least : ℕ) where
-  pub node_items : (height slot : ℕ)
-      → items_in nodes height slot ≡ flat_map (items_under nodes height) (entries_at nodes slot)
+  pub node_items : (height slot : ℕ) → items_in nodes height slot ≡ flat_map (items_under nodes height) (entries_at nodes slot)
   node_items zero slot = sym (flat_map_single item_of (entries_at nodes slot))
   node_items (suc height) slot = refl
 

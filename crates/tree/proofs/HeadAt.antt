@@ -21,8 +21,7 @@ use Rattle.tree.proofs.HeadCounts.{passing_before, passing_inside}
 use Rattle.tree.proofs.HeadOrder.{empty_head, empty_before, empty_before_too, tells_empty, told_by_heads, too, common_by_heads}
 
 -- an entry, where there are so many
-pub entry_at : (entries : List Entry) (index : ℕ) → index < length entries
-    → (e : Entry) × (slice_get entries index ≡ Some e)
+pub entry_at : (entries : List Entry) (index : ℕ) → index < length entries → (e : Entry) × (slice_get entries index ≡ Some e)
 entry_at [] index inside = absurd (omega arith)
 entry_at (e ∷ es) index inside = (get_or (e ∷ es) index e, slice_get-get_or (e ∷ es) index e inside)
 

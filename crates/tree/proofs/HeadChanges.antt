@@ -72,8 +72,7 @@ module _ (es : List Entry) (len i : ℕ) (e : Entry) (inside : i < len) (most : 
 
   -- The head of its key, behind so many bytes, is that of its bytes.
   pub head_read : (bytes : KeyBytes) (n behind head : ℕ) → behind ≡ n → All (IsKnown bytes) (keys_of (take len es))
-      → ((text : List ℕ) → bytes (get_or es i e).key ≡ Some text → head ≡ head_behind behind text)
-      → head ≡ head_at bytes n e.key
+      → ((text : List ℕ) → bytes (get_or es i e).key ≡ Some text → head ≡ head_behind behind text) → head ≡ head_at bytes n e.key
   head_read bytes n behind head same known right =
       let own = All-contains (IsKnown bytes) (keys_of (take len es)) e.key known key_there in
       head_known bytes n e.key head own (rw (← is, same) at right)

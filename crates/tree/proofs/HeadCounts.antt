@@ -14,9 +14,7 @@ module _ {X : Type 0} (p : X → Bool) where
   among_first [] (suc n) falls = omega arith
   among_first (x ∷ xs) (suc n) falls = elim falls [
     | inl h ↦ rw h.0 (omega (arith, among_first xs n h.1))
-    | inr h ↦
-        let none = (none_pass p (take n xs) (All-take (λ y. p y ≡ false) n xs h.1)).0 in
-        rw (h.0, none, (none_pass p xs h.1).0) (omega arith)
+    | inr h ↦ rw (h.0, (none_pass p (take n xs) (All-take (λ y. p y ≡ false) n xs h.1)).0, (none_pass p xs h.1).0) (omega arith)
   ]
 
   -- a list in which those that pass come first, and an element of it
@@ -40,8 +38,7 @@ module _ {X : Type 0} (p : X → Bool) where
     passing_at inside = elim (cases_Bool (p x)) [ inl t ↦ t | inr f ↦ absurd (omega (arith, passing_before f)) ]
 
   -- Those that pass are counted between an index up to which all pass and one from which none does.
-  pub count_range : (xs : List X) (from to : ℕ) → IsPartitioned p xs → from ≤ length (filter p xs)
-      → length (filter p xs) ≤ to
+  pub count_range : (xs : List X) (from to : ℕ) → IsPartitioned p xs → from ≤ length (filter p xs) → length (filter p xs) ≤ to
       → from + length (filter p (take (to - from) (drop from xs))) ≡ length (filter p xs)
   count_range xs from to partitioned least most =
       let falls = Falls-below_from p xs partitioned in

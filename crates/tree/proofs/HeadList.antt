@@ -11,8 +11,7 @@ use Rattle.tree.specs.Heads.{KeyBytes, AreHeads, AllAreHeads}
 use Rattle.tree.specs.Node.{key_heads_of, all_heads_of, heads_list}
 
 module _ {N : ℕ} where
-  found : (s : ℕ) (es : List (ℕ × Record (Node N)))
-      → find nat_cmp s (map (λ e. (e.0, key_heads_of e.1.header)) es)
+  found : (s : ℕ) (es : List (ℕ × Record (Node N))) → find nat_cmp s (map (λ e. (e.0, key_heads_of e.1.header)) es)
       ≡ option_map key_heads_of (option_map (λ r. r.header) (find nat_cmp s es))
   found s [] = refl
   found s (e ∷ es) = elim (cases_Bool (eq_by_cmp nat_cmp s e.0)) [ inl t ↦ rw t refl | inr f ↦ rw f (found s es) ]

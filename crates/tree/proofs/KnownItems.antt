@@ -1,5 +1,5 @@
 -- Each key of which a node knows is that of an item.
-use Rattle.std.proofs.Common.{◌≡◌, ◌≢◌, inl, inr, ℕ, zero, suc, ◌≤◌, true, List, [], ◌∷◌, length, get_or, map, Option, Some, None, IsSome, is_some, option_map, refl, sym, ap, arith}
+use Rattle.std.proofs.Common.{◌≡◌, ◌≢◌, inl, inr, ℕ, zero, suc, ◌≤◌, List, [], ◌∷◌, length, get_or, map, Option, Some, None, IsSome, is_some, option_map, refl, sym, ap, arith}
 use mathlib.Core.List.{map-map}
 use Rattle.std.specs.Prelude.{IfSome}
 use Rattle.std.specs.List.{All, Contains}
@@ -33,8 +33,7 @@ no_other {X} m (x ∷ xs) few live count s is =
           let rest = finite.remove m x in
           let kept : (t : ℕ) → t ≢ x → finite.get rest t ≡ finite.get m t =
           λ t apart. rw (finite.get-remove nat_cmp_total m x t, other_number t x apart) refl in
-          let here : finite.contains_key m x ≡ true = live x (omega (arith, once_same x)) in
-          let fewer = rw here at (finite.len-remove nat_cmp_total m x) in
+          let fewer = rw (live x (omega (arith, once_same x))) at (finite.len-remove nat_cmp_total m x) in
           let i = no_other rest xs (λ t. omega (arith, few t))
           (λ t some. rw (kept t (λ same. absurd (omega (arith, few t, ap (once t) same, once_same t)))) (live t (omega arith)))
           (omega (arith, count)) s (rw (kept s (λ same. other.0 (sym same))) is) in
