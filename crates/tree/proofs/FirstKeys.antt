@@ -1,8 +1,9 @@
 -- The first key of a child's entries is that of its entry.
-use Rattle.std.proofs.Common.{◌≡◌, ℕ, zero, suc, ◌-◌, ◌≤◌, ◌<◌, Bool, List, [], ◌∷◌, ◌++◌, Some, length, get_or, map, slice_get, flat_map, All, refl, sym, ◌∙◌, ap, subst, arith}
+use Rattle.std.proofs.Common.{◌≡◌, ℕ, zero, suc, ◌-◌, ◌≤◌, ◌<◌, Bool, List, [], ◌∷◌, Some, length, get_or, slice_get, flat_map, All, refl, sym, ◌∙◌, ap, subst, arith}
 use Rattle.std.specs.Prelude.{◌≤ℤ◌, Option}
 use Rattle.std.proofs.lemmas.Int.{ints}
-use Rattle.std.proofs.lemmas.List.Elements.{All-cons, All-nil, All-head, All-weaker}
+use Rattle.std.proofs.lemmas.List.Concat.{flat_map_single}
+use Rattle.std.proofs.lemmas.List.Elements.{All-cons, All-nil, All-head}
 use Rattle.arena.specs.Arena.{Arena, header_at}
 use Rattle.tree.specs.declared.entry.Entry.{Entry}
 use Rattle.tree.specs.declared.node.Node.{Node}
@@ -20,79 +21,58 @@ pub first_tells : (under : Entry → List Item) (es : List Entry) (e : Entry) �
 first_tells under [] e is tell x xs same = absurd (cc)
 first_tells under (d ∷ es) e is tell x xs same =
     let t = All-head (λ e. Tells e (under e)) d es tell in
-    let front : t.first ∷ t.others ++ flat_map under es ≡ x ∷ xs = sym (ap (λ ys. ys ++ flat_map under es) t.items_are) ∙ same in
-    cc (t.key)
+    cc (t.key, rw t.items_are at same)
 
 -- the items of an entry of a node of this height: its own one, or those of its child
 abbrev pub items_under : {N : ℕ} → Arena (Node N) → ℕ → Entry → List Item
 items_under nodes zero e = item_of e ∷ []
 items_under nodes (suc height) e = items_in nodes height e.child
 
-one_each : (es : List Entry) → map item_of es ≡ flat_map (λ e. item_of e ∷ []) es
-one_each [] = refl
-one_each (e ∷ es) = ap (λ xs. item_of e ∷ xs) (one_each es)
-
 item_tells : (e : Entry) → Tells e (item_of e ∷ [])
-item_tells e = record {
-  first = item_of e;
-  others = [];
-  items_are = refl;
-  key = refl;
-  greatest = record {
-    bound = All-cons (λ (x : Item). x.version ≤ℤ e.version) (item_of e) [] (omega (arith, ints))
-        (All-nil (λ (x : Item). x.version ≤ℤ e.version));
-    reached = Any-first (λ (x : Item). x.version ≡ e.version) (item_of e) [] refl;
-  };
-}
+item_tells e =
+    let bound = All-cons (λ (x : Item). x.version ≤ℤ e.version) (item_of e) [] (omega (arith, ints)) (All-nil _) in
+    let has = Any-first (λ (x : Item). x.version ≡ e.version) (item_of e) [] refl in
+    record { first = item_of e; others = []; items_are = refl; key = refl; greatest = record { bound = bound; reached = has } }
 
 module _ {N : ℕ} (nodes : Arena (Node N)) (least : ℕ) where
-  pub node_items : (height slot : ℕ)
-      → items_in nodes height slot ≡ flat_map (items_under nodes height) (entries_at nodes slot)
-  node_items zero slot = one_each (entries_at nodes slot)
+  pub node_items : (height slot : ℕ) → items_in nodes height slot ≡ flat_map (items_under nodes height) (entries_at nodes slot)
+  node_items zero slot = sym (flat_map_single item_of (entries_at nodes slot))
   node_items (suc height) slot = refl
 
   pub node_tells : (height slot : ℕ) → IsSubtree nodes least height slot
       → All (λ e. Tells e (items_under nodes height e)) (entries_at nodes slot)
   node_tells zero slot s = λ i d lt. item_tells (get_or (entries_at nodes slot) i d)
-  node_tells (suc height) slot s =
-      All-weaker (IsChild nodes least height (IsSubtree nodes least height))
-      (λ (e : Entry). Tells e (items_in nodes height e.child)) (λ e k. k.tells) (entries_at nodes slot) s.2
-
-  -- The first entry of an entry's child has the entry's key.
-  pub first_key_is : (height : ℕ) (e first : Entry) → IsChild nodes least height (IsSubtree nodes least height) e
-      → slice_get (entries_at nodes e.child) 0 ≡ Some first → first.key ≡ e.key
-  first_key_is height e first k is =
-      first_tells (items_under nodes height) (entries_at nodes e.child) first is (node_tells height e.child k.subtree)
-      k.tells.first k.tells.others (sym (node_items height e.child) ∙ k.tells.items_are) ∙ sym k.tells.key
+  node_tells (suc height) slot s = λ i d lt. (s.2 i d lt).tells
 
   -- The entries of a node above the leaves have children.
   pub child_at : (height slot : ℕ) (es : List Entry) (i : ℕ) (e : Entry) → (height ≡ 0 → ⊥)
       → IsSubtree nodes least height slot → entries_at nodes slot ≡ es → i < length es → e ≡ get_or es i e
       → IsChild nodes least (height - 1) (IsSubtree nodes least (height - 1)) e
   child_at height slot es i e some s read inside is =
-      let lower : suc (height - 1) ≡ height = omega arith in
-      let node = subst (λ n. IsSubtree nodes least n slot) (sym lower) s in
-      let all = subst (All (IsChild nodes least (height - 1) (IsSubtree nodes least (height - 1)))) read node.2 in
-      subst (IsChild nodes least (height - 1) (IsSubtree nodes least (height - 1))) (sym is) (all i e inside)
+      let lower : height ≡ suc (height - 1) = omega arith in
+      let node = subst (λ n. IsSubtree nodes least n slot) lower s in
+      rw is ((rw read at node.2) i e inside)
 
-  -- What is known of the key of an entry is known of that of its child's first entry.
+  -- What is known of the key of an entry is known of that of its child's first entry, which is the same.
   pub knows_child : (height : ℕ) (e : Entry) (child : ℕ) (bytes : KeyBytes) (is_below : ℕ → Bool) (target : List ℕ)
       (known : Option ℕ) → IsChild nodes least height (IsSubtree nodes least height) e → child ≡ e.child
       → IsPrefixLen bytes is_below target known e.key → IsPrefixLenAt bytes is_below target known (entries_at nodes child) 0
   knows_child height e child bytes is_below target known right same knows first at =
-      let here = subst (λ s. slice_get (entries_at nodes s) 0 ≡ Some first) same at in
-      subst (IsPrefixLen bytes is_below target known) (sym (first_key_is height e first right here)) knows
+      let t = right.tells in
+      let own = first_tells (items_under nodes height) (entries_at nodes e.child) first (rw same at at)
+      (node_tells height e.child right.subtree) t.first t.others (sym (node_items height e.child) ∙ t.items_are) in
+      rw (own, ← t.key) knows
 
 -- What a search finds out at an entry holds of the first key of the child at which it goes on.
 module _ {N : ℕ} (nodes : Arena (Node N)) (least height slot : ℕ) (is_below : ℕ → Bool) (child : ℕ)
     (f : IsFound nodes least height slot is_below child) where
   pub known_below : (bytes : KeyBytes) (target : List ℕ) (known : Option ℕ) (header : Node N) (index : ℕ)
       → header_at nodes slot ≡ Some header → index ≡ index_in is_below (entries_of header)
-      → IsPrefixLenAt bytes is_below target known (entries_of header) index → IsPrefixLenAt bytes is_below target known (entries_at nodes child) 0
+      → IsPrefixLenAt bytes is_below target known (entries_of header) index
+      → IsPrefixLenAt bytes is_below target known (entries_at nodes child) 0
   known_below bytes target known header index h i k =
       let e = f.way.entry in
-      let read : entries_at nodes slot ≡ entries_of header = entries_read nodes slot header (entries_of header) h refl in
-      let at : slice_get (entries_of header) index ≡ Some e = cc (i, f.way.is) in
+      let at : slice_get (entries_of header) index ≡ Some e = cc (i, f.way.is, entries_read nodes slot header _ h refl) in
       knows_child nodes least (height - 1) e child bytes is_below target known f.way.kept f.is (k e at)
 
   pub some_below : 1 ≤ least → 1 ≤ length (entries_at nodes child)

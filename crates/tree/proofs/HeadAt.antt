@@ -1,8 +1,11 @@
 -- What a node's heads tells of the key at an index.
-use Rattle.std.proofs.Common.{◌≡◌, ◌≢◌, ◌⊎◌, ℕ, ◌+◌, ◌-◌, ◌<◌, ◌≤◌, Bool, true, false, nat_lt, List, [], ◌∷◌, length, filter, get_or, take, slice_get, slice_index, option_map, Option, None, Some, All, refl, sym, ap, subst, ◌∙◌, inl, inr, arith, length-take, get_or-take, lt-ltb, le-ltb, ltb-true}
+use Rattle.std.proofs.Common.{◌≡◌, ◌≢◌, ◌⊎◌, ℕ, ◌+◌, ◌-◌, ◌<◌, ◌≤◌, Bool, true, nat_lt, List, [], ◌∷◌, length, filter, get_or, take, slice_get, slice_index, Option, None, Some, refl, sym, ap, ◌∙◌, inl, inr, arith, length-take, get_or-take, lt-ltb, ltb-true}
 use Rattle.std.specs.Int.{w64, to_be_bytes}
+use Rattle.std.specs.List.{Contains}
+use Rattle.std.proofs.lemmas.List.Elements.{All-contains}
 use Rattle.std.proofs.lemmas.Bool.{cases_lt}
-use Rattle.std.proofs.lemmas.List.{get_or_default, get_or-map, length-take-le}
+use Rattle.std.proofs.lemmas.Bool.Decides.{nat_tests}
+use Rattle.std.proofs.lemmas.List.{get_or_default, get_or-map}
 use Rattle.std.proofs.lemmas.Option.{get_or_from_slice_get, slice_get_within, slice_get-get_or, slice_get-map}
 use Rattle.keys.specs.Key.{IsBytes, IsBefore}
 use Rattle.tree.specs.declared.entry.Entry.{Entry}
@@ -15,193 +18,142 @@ use Rattle.tree.specs.Finding.{CanStep, IsStep}
 use Rattle.tree.proofs.callers.Partitions.{length-items_below, none_fail, not_both}
 use Rattle.tree.proofs.HeadChanges.{heads_count, prefix_begins}
 use Rattle.tree.proofs.HeadCounts.{passing_before, passing_inside}
-use Rattle.tree.proofs.HeadOrder.{empty_head, empty_before, empty_before_too, tells_empty, told_by_heads, before_too, tells_too, common_by_heads}
+use Rattle.tree.proofs.HeadOrder.{empty_head, empty_before, empty_before_too, tells_empty, told_by_heads, too, common_by_heads}
 
 -- an entry, where there are so many
-pub entry_at : (entries : List Entry) (index : ℕ) → index < length entries
-    → (e : Entry) × (slice_get entries index ≡ Some e)
+pub entry_at : (entries : List Entry) (index : ℕ) → index < length entries → (e : Entry) × (slice_get entries index ≡ Some e)
 entry_at [] index inside = absurd (omega arith)
 entry_at (e ∷ es) index inside = (get_or (e ∷ es) index e, slice_get-get_or (e ∷ es) index e inside)
 
 -- the key of the entry there
 pub key_there : (entries : List Entry) (index : ℕ) (e : Entry) → slice_get entries index ≡ Some e
     → slice_get (keys_of entries) index ≡ Some e.key
-key_there entries index e there =
-    slice_get-map (λ (x : Entry). x.key) entries index ∙ ap (option_map (λ (x : Entry). x.key)) there
+key_there entries index e there = rw (slice_get-map (λ (x : Entry). x.key) entries index, there) refl
 
 -- the entry itself, among all those that the node has room for
 pub entry_there : (room : List Entry) (len index : ℕ) (e d : Entry) → slice_get (take len room) index ≡ Some e
     → get_or room index d ≡ e
 entry_there room len index e d there =
-    let inside : index < len = omega (arith, slice_get_within (take len room) index e there, length-take len room) in
-    sym (get_or-take len room index d inside) ∙ get_or_from_slice_get (take len room) index e d there
+    grind (arith, slice_get_within, length-take, get_or-take, get_or_from_slice_get)
 
 -- what is known of the key at an index
 pub record IsKeyAt (bytes : KeyBytes) (key_heads : KeyHeads) (beginning : List ℕ) (index key : ℕ) : Type 0 where
   pub text : List ℕ
   pub known : bytes key ≡ Some text
   pub are_bytes : IsBytes text
-  pub begins : (text ≡ []) ⊎ ((take key_heads.prefix_len text ≡ beginning) × (key_heads.prefix_len ≤ length text))
+  pub begins : ((text ≡ []) × (get_or key_heads.heads index 0 ≡ 0))
+      ⊎ ((take key_heads.prefix_len text ≡ beginning) × (key_heads.prefix_len ≤ length text))
   pub head : get_or key_heads.heads index 0 ≡ head_behind key_heads.prefix_len text
 
 module _ (bytes : KeyBytes) (key_heads : KeyHeads) (h : AreHeads bytes key_heads) where
+  abbrev n : ℕ
+  n = key_heads.prefix_len
+
+  abbrev head_of : ℕ → ℕ
+  head_of index = get_or key_heads.heads index 0
+
   pub key_at : (index key : ℕ) → slice_get key_heads.keys index ≡ Some key → IsKeyAt bytes key_heads h.beginning index key
   key_at index key there =
       let inside : index < length key_heads.keys = slice_get_within key_heads.keys index key there in
-      let read : get_or key_heads.keys index key ≡ key = get_or_from_slice_get key_heads.keys index key key there in
-      let own : Begins bytes h.beginning key = subst (Begins bytes h.beginning) read (h.begins index key inside) in
-      record {
-        text = own.text;
-        known = own.known;
-        are_bytes = own.are_bytes;
-        begins = elim own.begins [
-          | inl empty ↦ inl empty
-          | inr same ↦
-              let begins : take key_heads.prefix_len own.text ≡ h.beginning = ap (λ n. take n own.text) (sym h.prefix_len) ∙ same in
-              inr (begins, omega (arith, h.prefix_len, ap length begins, length-take key_heads.prefix_len own.text))
-        ];
-        head = cc (get_or-map (head_at bytes key_heads.prefix_len) key_heads.keys index key 0 inside);
-      }
-
-  -- what is known of its bytes
-  text_at : (index key : ℕ) (there : slice_get key_heads.keys index ≡ Some key) (text : List ℕ) → bytes key ≡ Some text
-      → (key_at index key there).text ≡ text
-  text_at index key there text known =
-      let is = (key_at index key there).known in cc
+      let read = get_or_from_slice_get key_heads.keys index key key there in
+      let own = All-contains (Begins bytes h.beginning) key_heads.keys key h.begins (index, inside, read) in
+      let head : head_of index ≡ head_behind n own.text =
+      cc (own.known, get_or-map (head_at bytes n) key_heads.keys index key 0 inside) in
+      let begins : ((own.text ≡ []) × (head_of index ≡ 0)) ⊎ ((take n own.text ≡ h.beginning) × (n ≤ length own.text)) =
+      grind (arith, own.begins, head, h.prefix_len, empty_head n, length-take n own.text) in
+      record { text = own.text; known = own.known; are_bytes = own.are_bytes; begins = begins; head = head }
 
   -- a key whose head isn't zero isn't empty
-  long_at : (index key : ℕ) (there : slice_get key_heads.keys index ≡ Some key)
-      → (key_heads.prefix_len ≡ 0) ⊎ (get_or key_heads.heads index 0 ≢ 0) → key_heads.prefix_len ≤ length (key_at index key there).text
-  long_at index key there filled =
-      let k = key_at index key there in
-      elim k.begins [
-        | inr long ↦ long.1
-        | inl empty ↦ elim filled [
-          | inl none ↦ omega (arith, none)
-          | inr differ ↦
-              absurd (differ (k.head ∙ ap (head_behind key_heads.prefix_len) empty ∙ empty_head key_heads.prefix_len))
-        ]
-      ]
+  filled_at : (index key : ℕ) (there : slice_get key_heads.keys index ≡ Some key) → head_of index ≢ 0
+      → (take n (key_at index key there).text ≡ h.beginning) × (n ≤ length (key_at index key there).text)
+  filled_at index key there differ =
+      elim (key_at index key there).begins [ inr long ↦ long | inl empty ↦ absurd (differ empty.1) ]
 
   -- The target begins as all keys do.
-  sought_begins : (target : List ℕ) → HasPrefix bytes key_heads target → h.beginning ≡ take key_heads.prefix_len target
-  sought_begins target agrees = sym (prefix_begins bytes key_heads h target agrees) ∙ ap (λ n. take n target) h.prefix_len
+  sought_begins : (target : List ℕ) → HasPrefix bytes key_heads target → h.beginning ≡ take n target
+  sought_begins target agrees = rw (← h.prefix_len) (sym (prefix_begins bytes key_heads h target agrees))
 
   -- It does if it begins as one of them that isn't empty.
-  pub agrees_at : (index key : ℕ) (target : List ℕ) → slice_get key_heads.keys index ≡ Some key
-      → (key_heads.prefix_len ≡ 0) ⊎ (get_or key_heads.heads index 0 ≢ 0)
-      → ((text : List ℕ) → bytes key ≡ Some text → key_heads.prefix_len ≤ length text → take key_heads.prefix_len text ≡ take key_heads.prefix_len target)
+  pub agrees_at : (index key : ℕ) (target : List ℕ) → slice_get key_heads.keys index ≡ Some key → (n ≡ 0) ⊎ (head_of index ≢ 0)
+      → ((text : List ℕ) → bytes key ≡ Some text → n ≤ length text → take n text ≡ take n target)
       → HasPrefix bytes key_heads target
   agrees_at index key target there filled alike =
       let k = key_at index key there in
-      let long = long_at index key there filled in
-      record {
-        key = key;
-        text = k.text;
-        there = (index, slice_get_within key_heads.keys index key there, get_or_from_slice_get key_heads.keys index key key there);
-        known = k.known;
-        long = long;
-        same = alike k.text k.known long;
-      }
+      let long : n ≤ length k.text =
+      elim filled [ inl none ↦ omega (arith, none) | inr differ ↦ (filled_at index key there differ).1 ] in
+      let at : Contains key_heads.keys key =
+      (index, slice_get_within key_heads.keys index key there, get_or_from_slice_get key_heads.keys index key key there) in
+      record { key = key; text = k.text; there = at; known = k.known; long = long; same = alike k.text k.known long }
 
   module _ (target : List ℕ) (is_below : ℕ → Bool)
       (order : (key : ℕ) (text : List ℕ) → bytes key ≡ Some text → IsBelowInOrder text target (is_below key)) where
-    not_behind : (key : ℕ) (text : List ℕ) → bytes key ≡ Some text → is_below key ≡ true → IsBefore target text → ⊥
-    not_behind key text known passed behind =
-        not_both (is_below key) passed ((order key text known).behind behind)
-
     -- Whether the key is below the bound is told by its head, if that isn't the one of the target.
     pub told_at : (index key head : ℕ) → slice_get key_heads.keys index ≡ Some key → IsTargetHead bytes key_heads target head
-        → head ≢ get_or key_heads.heads index 0 → nat_lt (get_or key_heads.heads index 0) head ≡ is_below key
+        → head ≢ head_of index → nat_lt (head_of index) head ≡ is_below key
     told_at index key head there is differ =
         let k = key_at index key there in
-        let apart : head_behind key_heads.prefix_len k.text ≢ head_behind key_heads.prefix_len target =
-        λ e. differ (is.head_is ∙ sym e ∙ sym k.head) in
+        let tells = order key k.text k.known in
         elim k.begins [
           | inr long ↦
-              let same : take key_heads.prefix_len k.text ≡ take key_heads.prefix_len target = long.0 ∙ sought_begins target is.agrees in
-              let told = told_by_heads key_heads.prefix_len k.text target (is_below key) k.are_bytes is.are_bytes long.1 same
-              apart (order key k.text k.known) in
-              cc (is.head_is, told)
-          | inl empty ↦
-              let own : get_or key_heads.heads index 0 ≡ 0 =
-              k.head ∙ ap (head_behind key_heads.prefix_len) empty ∙ empty_head key_heads.prefix_len in
-              let before : IsBefore k.text target =
-              subst (λ t. IsBefore t target) (sym empty)
-              (empty_before key_heads.prefix_len target (λ e. differ (is.head_is ∙ e ∙ sym own))) in
-              lt-ltb (get_or key_heads.heads index 0) head (omega (arith, own, differ))
-              ∙ sym ((order key k.text k.known).before before)
+              let told = told_by_heads n k.text target k.are_bytes is.are_bytes long.1 (long.0 ∙ sought_begins target is.agrees)
+              (λ e. differ (cc (is.head_is, k.head))) (is_below key) tells in
+              cc (k.head, is.head_is, told)
+          | inl empty ↦ grind (arith, nat_tests, is.head_is, empty_before n target, empty.0, empty.1, tells.before)
         ]
 
     -- A key whose head is less passes.
     pub less_passes : (index key head : ℕ) → slice_get key_heads.keys index ≡ Some key → IsTargetHead bytes key_heads target head
-        → nat_lt (get_or key_heads.heads index 0) head ≡ true → is_below key ≡ true
+        → nat_lt (head_of index) head ≡ true → is_below key ≡ true
     less_passes index key head there is less =
-        sym (told_at index key head there is (λ e. absurd (omega (arith, ltb-true (get_or key_heads.heads index 0) head less))))
-        ∙ less
+        cc (told_at index key head there is (λ e. absurd (omega (arith, ltb-true (head_of index) head less))))
 
     -- Where the first key isn't empty and is below the bound, and differs from the target before all keys' common beginning ends,
     -- all keys are below the bound.
-    module _ (shared first : ℕ) (at_first : slice_get key_heads.keys 0 ≡ Some first) (filled : get_or key_heads.heads 0 0 ≢ 0)
-        (less : shared < key_heads.prefix_len) (passed : is_below first ≡ true)
+    module _ (shared first : ℕ) (at_first : slice_get key_heads.keys 0 ≡ Some first) (filled : head_of 0 ≢ 0) (less : shared < n)
+        (passed : is_below first ≡ true)
         (tells : (text : List ℕ) → bytes first ≡ Some text → IsCommonPrefixLen shared text target) where
-      first_begins : take key_heads.prefix_len (key_at 0 first at_first).text ≡ h.beginning
-      first_begins =
-          let f = key_at 0 first at_first in
-          elim f.begins [
-            | inr long ↦ long.0
-            | inl empty ↦ absurd (filled (f.head ∙ ap (head_behind key_heads.prefix_len) empty ∙ empty_head key_heads.prefix_len))
-          ]
-
-      pub passes_too : (index key : ℕ) → slice_get key_heads.keys index ≡ Some key → is_below key ≡ true
-      passes_too index key there =
+      -- Their bytes come before the target, and differ from it as those of the first one do.
+      bytes_too : (index key : ℕ) (there : slice_get key_heads.keys index ≡ Some key)
+          → IsBefore (key_at index key there).text target × IsCommonPrefixLen shared (key_at index key there).text target
+      bytes_too index key there =
           let f = key_at 0 first at_first in
           let k = key_at index key there in
-          let long = long_at 0 first at_first (inr filled) in
-          let ahead = not_behind first f.text f.known passed in
-          (order key k.text k.known).before
-          (elim k.begins [
+          let own = filled_at 0 first at_first filled in
+          let ahead : IsBefore target f.text → ⊥ = λ behind. not_both _ passed ((order first f.text f.known).behind behind) in
+          elim k.begins [
             | inr begins ↦
-                before_too shared key_heads.prefix_len f.text k.text target less long begins.1 (begins.0 ∙ sym first_begins)
-                (tells f.text f.known) ahead
+                too shared n f.text k.text target less own.1 begins.1 (begins.0 ∙ sym own.0) (tells f.text f.known) ahead
             | inl empty ↦
-                subst (λ t. IsBefore t target) (sym empty) (empty_before_too f.text target (omega (arith, long, less)) ahead)
-          ])
+                rw empty.0 (empty_before_too f.text target (omega (arith, own.1, less)) ahead, tells_empty shared target)
+          ]
 
-      -- and differ from it as the first one does
+      passes_too : (index key : ℕ) → slice_get key_heads.keys index ≡ Some key → is_below key ≡ true
+      passes_too index key there =
+          let k = key_at index key there in (order key k.text k.known).before (bytes_too index key there).0
+
       pub differs_too : (index key : ℕ) → slice_get key_heads.keys index ≡ Some key → (text : List ℕ) → bytes key ≡ Some text
           → IsCommonPrefixLen shared text target
       differs_too index key there text known =
-          let f = key_at 0 first at_first in
-          let k = key_at index key there in
-          subst (λ t. IsCommonPrefixLen shared t target) (text_at index key there text known)
-          (elim k.begins [
-            | inr begins ↦
-                tells_too shared key_heads.prefix_len f.text k.text target less (long_at 0 first at_first (inr filled)) begins.1
-                (begins.0 ∙ sym first_begins) (tells f.text f.known)
-            | inl empty ↦ subst (λ t. IsCommonPrefixLen shared t target) (sym empty) (tells_empty shared target)
-          ])
+          let same : (key_at index key there).text ≡ text = cc ((key_at index key there).known) in
+          rw same at (bytes_too index key there).1
 
     -- How far a key below the bound and the target begin alike is told by its head, if that isn't the one of the target.
-    pub common_at : (index key head count : ℕ) → slice_get key_heads.keys index ≡ Some key → IsTargetHead bytes key_heads target head
-        → is_below key ≡ true → get_or key_heads.heads index 0 ≢ head → count ≤ 8
-        → take count (to_be_bytes w64 (get_or key_heads.heads index 0)) ≡ take count (to_be_bytes w64 head)
-        → (count < 8
-        → slice_index (to_be_bytes w64 (get_or key_heads.heads index 0)) count ≢ slice_index (to_be_bytes w64 head) count)
-        → (text : List ℕ) → bytes key ≡ Some text → IsCommonPrefixLen (key_heads.prefix_len + count) text target
+    pub common_at : (index key head count : ℕ) → slice_get key_heads.keys index ≡ Some key
+        → IsTargetHead bytes key_heads target head → is_below key ≡ true → head_of index ≢ head → count ≤ 8
+        → take count (to_be_bytes w64 (head_of index)) ≡ take count (to_be_bytes w64 head)
+        → (count < 8 → slice_index (to_be_bytes w64 (head_of index)) count ≢ slice_index (to_be_bytes w64 head) count)
+        → (text : List ℕ) → bytes key ≡ Some text → IsCommonPrefixLen (n + count) text target
     common_at index key head count there is passed apart few alike differ text known =
         let k = key_at index key there in
         let own = k.head in
         let other = is.head_is in
-        subst (λ t. IsCommonPrefixLen (key_heads.prefix_len + count) t target) (text_at index key there text known)
-        (elim k.begins [
-          | inl empty ↦
-              subst (λ t. IsCommonPrefixLen (key_heads.prefix_len + count) t target) (sym empty) (tells_empty (key_heads.prefix_len + count) target)
+        let same : k.text ≡ text = cc (k.known) in
+        let ahead : IsBefore target k.text → ⊥ = λ behind. not_both _ passed ((order key k.text k.known).behind behind) in
+        rw (← same) (elim k.begins [
+          | inl empty ↦ rw empty.0 (tells_empty (n + count) target)
           | inr begins ↦
-              let same : take key_heads.prefix_len k.text ≡ take key_heads.prefix_len target = begins.0 ∙ sought_begins target is.agrees in
-              common_by_heads key_heads.prefix_len count k.text target k.are_bytes is.are_bytes begins.1 same
-              (λ e. apart (own ∙ e ∙ sym other)) few (cc) (λ less e. differ less (cc))
-              (not_behind key k.text k.known passed)
+              common_by_heads n k.text target k.are_bytes is.are_bytes begins.1 (begins.0 ∙ sought_begins target is.agrees)
+              (λ e. apart (cc)) count few (cc) (λ less e. differ less (cc)) ahead
         ])
 
 -- Where nothing is known of the first key, it isn't below the bound, and a step stays there.
@@ -211,103 +163,68 @@ pub stay : {N : ℕ} (bytes : KeyBytes) (is_below : ℕ → Bool) (target : List
 stay bytes is_below target node known can none =
     let e = entry_at (entries_of node) 0 can.can_find.some in
     let first = rw none at can.known in
-    let few =
-    passing_before (λ (e : Entry). is_below e.key) (entries_of node) 0 e.0 can.can_find.partitioned e.1 (first e.0 e.1) in
+    let few = passing_before (λ (e : Entry). is_below e.key) _ 0 e.0 can.can_find.partitioned e.1 (first e.0 e.1) in
     record { step = record { index_is = omega (arith, few); within = can.can_find.some; knows = first } }
 
 -- A head that isn't the greatest number is that of an entry.
 pub filled_within : {N : ℕ} (bytes : KeyBytes) (node : Node N) → AreHeads bytes (key_heads_of node) → length node.heads ≡ N
     → (count : ℕ) → count ≤ N → (0 < count → get_or node.heads (count - 1) 0 ≢ PADDING) → count ≤ length (entries_of node)
 filled_within bytes node h size count room filled =
-    let es = entries_of node in
-    let all : node.len ≡ length es =
-    sym (length-take-le node.len node.heads (omega (arith, node.within, size))) ∙ heads_count bytes es (key_heads_of node) h refl in
-    elim (cases_lt node.len count) [
-      | inr within ↦ omega (arith, within, all)
-      | inl behind ↦
-          let last = count - 1 in
-          absurd (filled (omega (arith, behind))
-          (get_or_default node.heads last 0 PADDING (omega (arith, behind, room, size)) ∙ node.padded last (omega (arith, behind))))
-    ]
+    let all = heads_count bytes _ (key_heads_of node) h refl in
+    let last = count - 1 in
+    grind (arith, all, length-take node.len node.heads, get_or_default node.heads last 0 PADDING, node.padded last)
 
-module _ {N : ℕ} (bytes : KeyBytes) (node : Node N) (h : AreHeads bytes (key_heads_of node)) (target : List ℕ) (is_below : ℕ → Bool)
+module _ {N : ℕ} (bytes : KeyBytes) (node : Node N) (h : AreHeads bytes (key_heads_of node)) (target : List ℕ)
+    (is_below : ℕ → Bool)
     (order : (key : ℕ) (text : List ℕ) → bytes key ≡ Some text → IsBelowInOrder text target (is_below key)) where
-  -- Where the first key isn't empty and is below the bound, and differs from the target before all keys' common beginning ends, all
-  -- entries are below the bound.
-  pub all_pass : (shared : ℕ) (first : Entry) → slice_get (entries_of node) 0 ≡ Some first
-      → get_or (key_heads_of node).heads 0 0 ≢ 0 → shared < node.prefix_len → is_below first.key ≡ true → ((text : List ℕ) → bytes first.key ≡ Some text → IsCommonPrefixLen shared text target)
-      → filter (λ (e : Entry). is_below e.key) (entries_of node) ≡ entries_of node
-  all_pass shared first there filled less passed tells =
-      let es = entries_of node in
-      let all : All (λ (e : Entry). is_below e.key ≡ true) es =
-      λ i d inside.
-      let e = get_or es i d in
-      passes_too bytes (key_heads_of node) h target is_below order shared first.key (key_there es 0 first there) filled less
-      passed tells
-      i e.key (key_there es i e (slice_get-get_or es i d inside)) in
-      (none_fail (λ (e : Entry). is_below e.key) es all).0
+  abbrev es : List Entry
+  es = entries_of node
 
-  -- The same where only that of the first entry is known.
-  pub all_known : (shared : ℕ) → 0 < length (entries_of node) → IsPrefixLenAt bytes is_below target (Some shared) (entries_of node) 0
-      → (get_or (key_heads_of node).heads 0 0 ≢ 0 → shared < node.prefix_len) → get_or (key_heads_of node).heads 0 0 ≢ 0
-      → length (filter (λ (e : Entry). is_below e.key) (entries_of node)) ≡ length (entries_of node)
+  abbrev passes : Entry → Bool
+  passes e = is_below e.key
+
+  abbrev own_head : ℕ → ℕ
+  own_head index = get_or (key_heads_of node).heads index 0
+
+  -- Where the first key isn't empty and is below the bound, and differs from the target before all keys' common beginning ends,
+  -- all entries are below the bound. That is known of the first one.
+  pub all_known : (shared : ℕ) → 0 < length es → IsPrefixLenAt bytes is_below target (Some shared) es 0
+      → (own_head 0 ≢ 0 → shared < node.prefix_len) → own_head 0 ≢ 0 → length (filter passes es) ≡ length es
   all_known shared some knows less filled =
-      let first = entry_at (entries_of node) 0 some in
+      let first = entry_at es 0 some in
       let known = knows first.0 first.1 in
-      ap length (all_pass shared first.0 first.1 filled (less filled) known.0 known.1)
+      let all = passes_too bytes (key_heads_of node) h target is_below order shared first.0.key
+      (key_there es 0 first.0 first.1) filled (less filled) known.0 known.1 in
+      ap length (none_fail passes es (λ i d inside. all i _ (key_there es i _ (slice_get-get_or es i d inside)))).0
 
-  module _ (head : ℕ) (is : IsTargetHead bytes (key_heads_of node) target head)
-      (partitioned : IsPartitioned (λ (e : Entry). is_below e.key) (entries_of node)) where
+  module _ (head : ℕ) (is : IsTargetHead bytes (key_heads_of node) target head) (partitioned : IsPartitioned passes es) where
+    -- An entry passes if its head is below that of the target.
+    one_passes : (index : ℕ) → index < length es → own_head index < head → index < length (filter passes es)
+    one_passes index inside less =
+        let e = entry_at es index inside in
+        passing_inside passes es index e.0 partitioned e.1 (less_passes bytes (key_heads_of node) h target is_below order index
+        e.0.key head (key_there es index e.0 e.1) is (lt-ltb (own_head index) head less))
+
     -- Entries behind some that pass do so, too, as far as their heads are below that of the target.
-    pub many_pass : (from first : ℕ) → from ≤ length (filter (λ (e : Entry). is_below e.key) (entries_of node))
-        → first ≤ length (entries_of node)
-        → ((index : ℕ) → from ≤ index → index < first → get_or (key_heads_of node).heads index 0 < head)
-        → first ≤ length (filter (λ (e : Entry). is_below e.key) (entries_of node))
+    pub many_pass : (from first : ℕ) → from ≤ length (filter passes es) → first ≤ length es
+        → ((index : ℕ) → from ≤ index → index < first → own_head index < head) → first ≤ length (filter passes es)
     many_pass from first least within below =
-        let es = entries_of node in
-        let count = length (filter (λ (e : Entry). is_below e.key) es) in
-        elim (cases_lt count first) [
-          | inr enough ↦ enough
-          | inl few ↦
-              let e = entry_at es count (omega arith) in
-              let less = lt-ltb (get_or (key_heads_of node).heads count 0) head (below count least few) in
-              let passed = less_passes bytes (key_heads_of node) h target is_below order count e.0.key head
-              (key_there es count e.0 e.1) is less in
-              absurd (omega (arith, passing_inside (λ (e : Entry). is_below e.key) es count e.0 partitioned e.1 passed))
-        ]
+        let count = length (filter passes es) in
+        grind (arith, one_passes count, below count)
 
     -- No more entries are below the bound than stand before one whose head is above that of the target.
-    pub few_pass : (end : ℕ) → (end < length (entries_of node) → head < get_or (key_heads_of node).heads end 0)
-        → length (filter (λ (e : Entry). is_below e.key) (entries_of node)) ≤ end
-    few_pass end above =
-        let es = entries_of node in
-        elim (cases_lt end (length es)) [
-          | inr all ↦ omega (arith, length-items_below (λ (e : Entry). is_below e.key) es)
-          | inl inside ↦
-              let own = get_or (key_heads_of node).heads end 0 in
-              let more : head < own = above inside in
-              let e = entry_at es end inside in
-              let fails : is_below e.0.key ≡ false =
-              sym (told_at bytes (key_heads_of node) h target is_below order end e.0.key head (key_there es end e.0 e.1) is
-              (λ same. absurd (omega (arith, same, more))))
-              ∙ le-ltb own head (omega arith) in
-              passing_before (λ (e : Entry). is_below e.key) es end e.0 partitioned e.1 fails
-        ]
+    pub few_pass : (end : ℕ) → (end < length es → head < own_head end) → length (filter passes es) ≤ end
+    few_pass end above = elim (cases_lt end (length es)) [
+      | inr all ↦ omega (arith, length-items_below passes es)
+      | inl inside ↦
+          let e = entry_at es end inside in
+          let told = told_at bytes (key_heads_of node) h target is_below order end e.0.key head (key_there es end e.0 e.1) is in
+          grind (arith, nat_tests, above inside, told, passing_before passes es end e.0 partitioned e.1)
+    ]
 
     -- Entries pass up to one whose head is below that of the target.
-    pub few_below : (count : ℕ) → count ≤ length (entries_of node) → (0 < count → get_or node.heads (count - 1) 0 < head)
-        → count ≤ length (filter (λ (e : Entry). is_below e.key) (entries_of node))
+    pub few_below : (count : ℕ) → count ≤ length es → (0 < count → get_or node.heads (count - 1) 0 < head)
+        → count ≤ length (filter passes es)
     few_below count within below =
-        let es = entries_of node in
-        elim (cases_lt 0 count) [
-          | inr none ↦ omega (arith, none)
-          | inl some ↦
-              let last = count - 1 in
-              let e = entry_at es last (omega arith) in
-              let inside : last < node.len = omega (arith, length-take node.len node.entries) in
-              let less : get_or (key_heads_of node).heads last 0 < head =
-              subst (λ d. d < head) (sym (get_or-take node.len node.heads last 0 inside)) (below some) in
-              let passed = less_passes bytes (key_heads_of node) h target is_below order last e.0.key head (key_there es last e.0 e.1) is
-              (lt-ltb (get_or (key_heads_of node).heads last 0) head less) in
-              omega (arith, passing_inside (λ (e : Entry). is_below e.key) es last e.0 partitioned e.1 passed)
-        ]
+        let last = count - 1 in
+        grind (arith, one_passes last, get_or-take node.len node.heads last 0, length-take node.len node.entries)

@@ -1,10 +1,10 @@
 -- What nodes know of the bytes of their keys, through changes of these.
-use Rattle.std.proofs.Common.{◌≡◌, ◌≢◌, ◌⊎◌, inl, inr, ℕ, ◌+◌, ◌-◌, ◌<◌, ◌≤◌, min, List, [], ◌∷◌, ◌++◌, Some, length, get_or, take, drop, map, All, refl, sym, ◌∙◌, ap, ap₂, subst, arith}
-use Rattle.std.specs.Prelude.{unwrap_or, slice_get, slice_set}
+use Rattle.std.proofs.Common.{◌≡◌, ◌≢◌, ◌⊎◌, inl, inr, ℕ, ◌+◌, ◌-◌, ◌<◌, ◌≤◌, min, List, [], ◌∷◌, ◌++◌, Some, length, get_or, take, drop, map, All, refl, sym, ◌∙◌, arith}
+use Rattle.std.specs.Prelude.{slice_get, slice_set}
 use Rattle.std.specs.List.{AllZip, Contains}
-use Rattle.std.proofs.lemmas.List.{get_or-map, get_or-take, length-map, length-take, length-take-le, drop_at, map-append, map-set, map_more, nil_from_length, set-get_or, take_all, take_at, take-map, drop-map, take_more_set}
+use Rattle.std.proofs.lemmas.List.{get_or-map, get_or-take, length-map, length-take, length-take-le, drop_at, map-append, map-set, map_more, set-get_or, take_all, take_at, take-map, drop-map, take_more_set}
 use Rattle.std.proofs.lemmas.Option.{slice_get_within, get_or_from_slice_get}
-use Rattle.std.proofs.lemmas.List.Elements.{All-nil, All-cons, All-append, All-contains, All-drop, All-more, All-set, All-take, All-weaker}
+use Rattle.std.proofs.lemmas.List.Elements.{All-nil, All-cons, All-append, All-contains, All-drop, All-more, All-set, All-take}
 use Rattle.tree.specs.declared.entry.Entry.{Entry}
 use Rattle.tree.specs.Heads.{KeyBytes, IsKnown, Begins, KeyHeads, AreHeads, HasPrefix, IsHeadBeside, IsTargetHead, head_behind, head_at}
 use Rattle.tree.specs.Node.{keys_of}
@@ -12,23 +12,16 @@ use Rattle.tree.proofs.Headed.{all_known, begins_if_long}
 use Rattle.tree.proofs.HeadOrder.{take_fewer}
 use Rattle.tree.proofs.callers.Partitions.{All-front, All-back}
 
--- One more element of the second list becomes that of the first one.
-pub map_further : {X Y : Type 0} (f : X → Y) (xs : List X) (ys : List Y) (i : ℕ) (x : X) (y : Y)
-    → i < length xs → i < length ys → x ≡ get_or xs i x → y ≡ f x → take i ys ≡ map f (take i xs)
-    → take (i + 1) (slice_set ys i y) ≡ map f (take (i + 1) xs)
-map_further f xs ys i x y inside room is new before = cc (take_more_set ys i y room, map_more f xs i x inside)
-
 -- The second list is that of the first one, whole.
 pub map_whole : {X Y : Type 0} (f : X → Y) (xs : List X) (ys : List Y) (len i : ℕ) → length xs ≡ len → i ≡ len
     → take i ys ≡ map f (take i xs) → take len ys ≡ map f xs
 map_whole f xs ys len i count end is = cc (take_all i xs (omega (arith, count, end)))
 
 -- Elements are put in place of those from one index up to another.
-pub All-spliced : {X : Type 0} (P : X → Type 0) (xs new : List X) (from to : ℕ) → All P xs → All P new
+All-spliced : {X : Type 0} (P : X → Type 0) (xs new : List X) (from to : ℕ) → All P xs → All P new
     → All P (take from xs ++ (new ++ drop to xs))
 All-spliced P xs new from to all more =
-    All-append P (take from xs) (new ++ drop to xs) (All-take P from xs all)
-    (All-append P new (drop to xs) more (All-drop P to xs all))
+    All-append P _ _ (All-take P from xs all) (All-append P new (drop to xs) more (All-drop P to xs all))
 
 -- the keys of so many entries are as many
 pub keys_count : (es : List Entry) (len : ℕ) → len ≤ length es → length (keys_of (take len es)) ≡ len
@@ -42,43 +35,47 @@ map_spliced f xs new now from to is = simp (is, map-append, take-map, drop-map)
 -- the key of an entry is one of the keys
 pub keys_there : (es : List Entry) (i : ℕ) (e : Entry) → i < length es → get_or es i e ≡ e → Contains (keys_of es) e.key
 keys_there es i e inside is =
-    let key : Entry → ℕ = λ x. x.key in
-    (i, omega (arith, length-map es key, inside), get_or-map key es i e e.key inside ∙ ap key is)
+    (i, omega (arith, length-map es (λ (x : Entry). x.key)), cc (get_or-map (λ (x : Entry). x.key) es i e e.key inside))
 
 -- the key of the last one
 pub last_there : (es : List Entry) (e : Entry) → slice_get es (length es - 1) ≡ Some e → Contains (keys_of es) e.key
-last_there es e is =
-    let i = length es - 1 in
-    keys_there es i e (slice_get_within es i e is) (get_or_from_slice_get es i e e is)
+last_there es e is = keys_there es (length es - 1) e (slice_get_within es _ e is) (get_or_from_slice_get es _ e e is)
+
+-- the head of a key is that of its bytes
+pub head_known : (bytes : KeyBytes) (prefix_len key head : ℕ) → IsKnown bytes key
+    → ((text : List ℕ) → bytes key ≡ Some text → head ≡ head_behind prefix_len text) → head ≡ head_at bytes prefix_len key
+head_known bytes prefix_len key head k d = rw k.known (d k.text k.known)
 
 -- Entries of which some are in use, and one of these.
 module _ (es : List Entry) (len i : ℕ) (e : Entry) (inside : i < len) (most : len ≤ length es) (is : e ≡ get_or es i e) where
   -- its key
-  pub key_read : e.key ≡ get_or (keys_of (take len es)) i e.key
-  key_read =
-      let mapped = get_or-map (λ (x : Entry). x.key) (take len es) i e e.key (omega (arith, length-take-le len es most)) in
-      cc (mapped, get_or-take len es i e inside)
+  key_read : e.key ≡ get_or (keys_of (take len es)) i e.key
+  key_read = grind (arith, get_or-map, get_or-take, length-take)
 
   pub key_there : Contains (keys_of (take len es)) e.key
   key_there = (i, omega (arith, keys_count es len most), sym key_read)
 
   -- its head
   pub head_there : (f : ℕ → ℕ) (heads : List ℕ) → take len heads ≡ map f (keys_of (take len es)) → get_or heads i 0 ≡ f e.key
-  head_there f heads right =
-      let mapped = get_or-map f (keys_of (take len es)) i e.key 0 (omega (arith, keys_count es len most)) in
-      cc (get_or-take len heads i 0 inside, mapped, key_read)
+  head_there f heads right = grind (arith, get_or-map, get_or-take, keys_count, key_read)
 
   -- with its head one more is right
   pub head_next : (f : ℕ → ℕ) (heads : List ℕ) (head : ℕ) → i < length heads → head ≡ f e.key
       → take i heads ≡ map f (take i (keys_of (take len es)))
       → take (i + 1) (slice_set heads i head) ≡ map f (take (i + 1) (keys_of (take len es)))
   head_next f heads head room right before =
-      map_further f (keys_of (take len es)) heads i e.key head (omega (arith, keys_count es len most)) room key_read right before
+      grind (arith, map_more, take_more_set, keys_count, key_read)
 
   -- another entry of the same key in its place changes no key
   pub key_stays : (new : Entry) → e.key ≡ new.key → keys_of (slice_set (take len es) i new) ≡ keys_of (take len es)
-  key_stays new same =
-      cc (map-set (λ (x : Entry). x.key) (take len es) i new, key_read, set-get_or (keys_of (take len es)) i e.key)
+  key_stays new same = grind (arith, map-set, key_read, set-get_or)
+
+  -- The head of its key, behind so many bytes, is that of its bytes.
+  pub head_read : (bytes : KeyBytes) (n behind head : ℕ) → behind ≡ n → All (IsKnown bytes) (keys_of (take len es))
+      → ((text : List ℕ) → bytes (get_or es i e).key ≡ Some text → head ≡ head_behind behind text) → head ≡ head_at bytes n e.key
+  head_read bytes n behind head same known right =
+      let own = All-contains (IsKnown bytes) (keys_of (take len es)) e.key known key_there in
+      head_known bytes n e.key head own (rw (← is, same) at right)
 
 -- A key is empty, or begins as the keys do of which this is known.
 abbrev pub BeginsAsThese : KeyBytes → KeyHeads → ℕ → Type 0
@@ -90,65 +87,42 @@ BeginsAsFirst bytes first count key =
     (a b : List ℕ) → bytes first ≡ Some a → bytes key ≡ Some b → (b ≡ []) ⊎ ((count ≤ length a) × (take count a ≡ take count b))
 
 module _ (bytes : KeyBytes) where
-  -- the head of a key is that of its bytes
-  pub head_known : (prefix_len key head : ℕ) → IsKnown bytes key
-      → ((text : List ℕ) → bytes key ≡ Some text → head ≡ head_behind prefix_len text) → head ≡ head_at bytes prefix_len key
-  head_known prefix_len key head k d =
-      d k.text k.known ∙ ap (λ o. head_behind prefix_len (unwrap_or o [])) (sym k.known)
-
   -- a known key whose text is empty or begins with these bytes
   begins_with : (beginning : List ℕ) (key : ℕ) (k : IsKnown bytes key)
       → (k.text ≡ []) ⊎ (take (length beginning) k.text ≡ beginning) → Begins bytes beginning key
   begins_with beginning key k begins = record { text = k.text; known = k.known; are_bytes = k.are_bytes; begins = begins }
 
-  -- a key that begins as the first one does for fewer bytes, too
-  begin_fewer : (first count less : ℕ) → less ≤ count → (key : ℕ) → BeginsAsFirst bytes first count key
-      → BeginsAsFirst bytes first less key
-  begin_fewer first count less fewer key begins a b one other = elim (begins a b one other) [
-    | inl empty ↦ inl empty
-    | inr h ↦ inr (omega (arith, h.0, fewer), take_fewer less count a b fewer h.1)
-  ]
-
   -- one key more that begins as the first one does, for fewer bytes perhaps
-  pub first_more : (first count common i : ℕ) (keys : List ℕ) (key : ℕ) → i < length keys → key ≡ get_or keys i key
-      → ((a b : List ℕ) → bytes first ≡ Some a → bytes key ≡ Some b → take common a ≡ take common b)
-      → ((a b : List ℕ) → bytes first ≡ Some a → bytes key ≡ Some b → (common ≤ length a) × (common ≤ length b))
-      → All (BeginsAsFirst bytes first count) (take i keys)
-      → All (BeginsAsFirst bytes first (min count common)) (take (i + 1) keys)
-  first_more first count common i keys key inside is same within before =
-      let less = min count common in
+  pub first_more : (first count n i : ℕ) (keys : List ℕ) (key : ℕ) → i < length keys → key ≡ get_or keys i key
+      → ((a b : List ℕ) → bytes first ≡ Some a → bytes key ≡ Some b → take n a ≡ take n b)
+      → ((a b : List ℕ) → bytes first ≡ Some a → bytes key ≡ Some b → (n ≤ length a) × (n ≤ length b))
+      → All (BeginsAsFirst bytes first count) (take i keys) → All (BeginsAsFirst bytes first (min count n)) (take (i + 1) keys)
+  first_more first count n i keys key inside is same within before =
+      let less = min count n in
+      let here : BeginsAsFirst bytes first less key = λ a b one other.
+      grind (arith, within a b one other, same a b one other, take_fewer less n a b) in
       All-more (BeginsAsFirst bytes first less) keys i key inside
-      (All-weaker (BeginsAsFirst bytes first count) (BeginsAsFirst bytes first less) (begin_fewer first count less (omega arith))
-      (take i keys) before)
-      (subst (BeginsAsFirst bytes first less) is (begin_fewer first common less (omega arith) key
-      (λ a b one other. inr ((within a b one other).0, same a b one other))))
+      (λ j d lt a b one other. grind (arith, before j d lt a b one other, take_fewer less count a b)) (rw (← is) here)
 
   -- an empty key more
   pub first_empty : (first count i : ℕ) (keys : List ℕ) (key : ℕ) → i < length keys → key ≡ get_or keys i key
       → ((b : List ℕ) → bytes key ≡ Some b → b ≡ [])
       → All (BeginsAsFirst bytes first count) (take i keys) → All (BeginsAsFirst bytes first count) (take (i + 1) keys)
   first_empty first count i keys key inside is empty before =
-      let here : BeginsAsFirst bytes first count key = λ a b one other. inl (empty b other) in
-      All-more (BeginsAsFirst bytes first count) keys i key inside before (subst (BeginsAsFirst bytes first count) is here)
+      All-more (BeginsAsFirst bytes first count) keys i key inside before (rw (← is) (λ a b one other. inl (empty b other)))
 
   -- Keys that all begin as one of them does that isn't empty begin with bytes of it.
   pub begin_of_first : (first count : ℕ) (keys : List ℕ) → Contains keys first → All (IsKnown bytes) keys
-      → All (BeginsAsFirst bytes first count) keys
-      → (text : List ℕ) → bytes first ≡ Some text → text ≢ []
+      → All (BeginsAsFirst bytes first count) keys → (text : List ℕ) → bytes first ≡ Some text → text ≢ []
       → (count ≤ length text) × All (Begins bytes (take count text)) keys
   begin_of_first first count keys there known common text is filled =
-      let long : count ≤ length text =
-      elim (All-contains (BeginsAsFirst bytes first count) keys first common there text text is is) [
-        | inl empty ↦ absurd (filled empty)
-        | inr h ↦ h.0
-      ] in (
+      let own = All-contains (BeginsAsFirst bytes first count) keys first common there text text is is in
+      let long : count ≤ length text = grind (arith, own, filled) in
+      let size = length-take-le count text long in (
         long,
         λ i d inside.
-            let other = known i d inside in
-            begins_with (take count text) (get_or keys i d) other (elim (common i d inside text other.text is other.known) [
-              | inl empty ↦ inl empty
-              | inr h ↦ inr (ap (λ n. take n other.text) (length-take-le count text long) ∙ sym h.1)
-            ]),
+            let k = known i d inside in
+            begins_with (take count text) (get_or keys i d) k (grind (arith, size, common i d inside text k.text is k.known)),
       )
 
   -- Where no bytes are asked for, known keys begin with them.
@@ -159,22 +133,18 @@ module _ (bytes : KeyBytes) where
   -- The head of a target is that of a key with its bytes.
   pub target_beside : (key_heads : KeyHeads) (key head : ℕ) → IsKnown bytes key
       → ((text : List ℕ) → bytes key ≡ Some text → IsTargetHead bytes key_heads text head) → IsHeadBeside bytes key_heads key head
-  target_beside key_heads key head known given = record {
-    begins = λ text is. inr ((given text is).agrees);
-    head_is = head_known key_heads.prefix_len key head known (λ text is. (given text is).head_is);
-  }
+  target_beside key_heads key head known given =
+      let head_is = head_known bytes key_heads.prefix_len key head known (λ text is. (given text is).head_is) in
+      record { begins = λ text is. inr ((given text is).agrees); head_is = head_is }
 
   -- The heads of keys beside those of a node are theirs, and the keys begin as all others do.
   beside_right : (key_heads : KeyHeads) (keys heads : List ℕ) → AllZip (IsHeadBeside bytes key_heads) keys heads
       → (heads ≡ map (head_at bytes key_heads.prefix_len) keys) × All (BeginsAsThese bytes key_heads) keys
   beside_right key_heads [] [] given = (refl, All-nil (BeginsAsThese bytes key_heads))
-  beside_right key_heads [] (head ∷ heads) given = absurd given
-  beside_right key_heads (key ∷ keys) [] given = absurd given
   beside_right key_heads (key ∷ keys) (head ∷ heads) given =
-      let rest = beside_right key_heads keys heads given.1 in (
-        ap₂ (λ d ds. d ∷ ds) given.0.head_is rest.0,
-        All-cons (BeginsAsThese bytes key_heads) key keys given.0.begins rest.1,
-      )
+      let rest = beside_right key_heads keys heads given.1 in
+      (cc (given.0.head_is, rest.0), All-cons (BeginsAsThese bytes key_heads) key keys given.0.begins rest.1)
+  beside_right key_heads _ _ given = absurd given
 
   -- There are as many heads as entries.
   pub heads_count : (es : List Entry) (key_heads : KeyHeads) → AreHeads bytes key_heads → key_heads.keys ≡ keys_of es
@@ -182,47 +152,26 @@ module _ (bytes : KeyBytes) where
   heads_count es key_heads h is =
       cc (h.heads, length-map key_heads.keys (head_at bytes key_heads.prefix_len), length-map es (λ (e : Entry). e.key))
 
-  -- Heads that are right of all keys are right of those in front, and of those behind.
-  pub headed_apart : (all front back : KeyHeads) → AreHeads bytes all
-      → front.keys ++ back.keys ≡ all.keys → front.heads ++ back.heads ≡ all.heads → length front.heads ≡ length front.keys
-      → front.prefix_len ≡ all.prefix_len → back.prefix_len ≡ all.prefix_len → AreHeads bytes front × AreHeads bytes back
-  headed_apart all front back h keys heads count front_len back_len =
-      let f = head_at bytes all.prefix_len in
-      let P = Begins bytes h.beginning in
-      let n = length front.keys in
-      let begins : All P (front.keys ++ back.keys) = subst (All P) (sym keys) h.begins in
-      let mapped = map-append f front.keys back.keys in
-      let len = length-map front.keys f in (
-        record {
-          beginning = h.beginning;
-          prefix_len = h.prefix_len ∙ sym front_len;
-          begins = All-front P front.keys back.keys begins;
-          heads = cc (take_at front.heads back.heads n count, take_at (map f front.keys) (map f back.keys) n len);
-        },
-        record {
-          beginning = h.beginning;
-          prefix_len = h.prefix_len ∙ sym back_len;
-          begins = All-back P front.keys back.keys begins;
-          heads = cc (drop_at front.heads back.heads n count, drop_at (map f front.keys) (map f back.keys) n len);
-        },
-      )
-
   -- a node that knows its keys' bytes
   module _ (key_heads : KeyHeads) (h : AreHeads bytes key_heads) where
+    -- one whose keys begin with the same bytes
+    headed_alike : (new : KeyHeads) → new.prefix_len ≡ key_heads.prefix_len → All (Begins bytes h.beginning) new.keys
+        → new.heads ≡ map (head_at bytes key_heads.prefix_len) new.keys → AreHeads bytes new
+    headed_alike new same begins heads =
+        record { beginning = h.beginning; prefix_len = h.prefix_len ∙ sym same; begins = begins; heads = rw same heads }
+
     -- A text that begins as all keys do begins with these bytes.
     pub prefix_begins : (text : List ℕ) → HasPrefix bytes key_heads text → take (length h.beginning) text ≡ h.beginning
     prefix_begins text a =
         let b = All-contains (Begins bytes h.beginning) key_heads.keys a.key h.begins a.there in
         let texts : b.text ≡ a.text = cc (b.known, a.known) in
-        let long : length h.beginning ≤ length b.text = omega (arith, a.long, h.prefix_len, ap length texts) in
-        cc (h.prefix_len, a.same, begins_if_long h.beginning b.text b.begins long)
+        grind (arith, begins_if_long h.beginning b.text b.begins)
 
     -- A key that begins as all others do for so many bytes begins with these.
     agrees_begins : (key : ℕ) → IsKnown bytes key → BeginsAsThese bytes key_heads key → Begins bytes h.beginning key
-    agrees_begins key k agrees = begins_with h.beginning key k (elim (agrees k.text k.known) [
-      | inl empty ↦ inl empty
-      | inr a ↦ inr (prefix_begins k.text a)
-    ])
+    agrees_begins key k agrees =
+        begins_with h.beginning key k
+        (elim (agrees k.text k.known) [ inl empty ↦ inl empty | inr a ↦ inr (prefix_begins k.text a) ])
 
     -- a key of the node itself does
     pub key_agrees : (key : ℕ) → Contains key_heads.keys key → BeginsAsThese bytes key_heads key
@@ -231,14 +180,9 @@ module _ (bytes : KeyBytes) where
         let texts : text ≡ b.text = cc (b.known) in
         elim b.begins [
           | inl empty ↦ inl (texts ∙ empty)
-          | inr same ↦ inr (record {
-            key = key;
-            text = text;
-            there = there;
-            known = known;
-            long = omega (arith, ap length texts, ap length same, h.prefix_len, length-take (length h.beginning) b.text);
-            same = refl;
-          })
+          | inr same ↦
+              let long : key_heads.prefix_len ≤ length text = grind (arith, length-take (length h.beginning) b.text) in
+              inr (record { key = key; text = text; there = there; known = known; long = long; same = refl })
         ]
 
     -- and a key that begins as one of them for so many bytes does
@@ -248,25 +192,18 @@ module _ (bytes : KeyBytes) where
         → (text : List ℕ) → bytes key ≡ Some text → HasPrefix bytes key_heads text
     common_agrees first key count there enough same within text known =
         let b = All-contains (Begins bytes h.beginning) key_heads.keys first h.begins there in
-        record {
-          key = first;
-          text = b.text;
-          there = there;
-          known = b.known;
-          long = omega (arith, enough, (within b.text text b.known known).0);
-          same = take_fewer key_heads.prefix_len count b.text text enough (same b.text text b.known known);
-        }
+        let long : key_heads.prefix_len ≤ length b.text = omega (arith, (within b.text text b.known known).0) in
+        let alike = take_fewer key_heads.prefix_len count b.text text enough (same b.text text b.known known) in
+        record { key = first; text = b.text; there = there; known = b.known; long = long; same = alike }
 
     -- Another key that begins alike is set.
     pub headed_set : (new : KeyHeads) (i key head : ℕ) → IsKnown bytes key → BeginsAsThese bytes key_heads key
         → head ≡ head_at bytes key_heads.prefix_len key → new.keys ≡ slice_set key_heads.keys i key
         → new.prefix_len ≡ key_heads.prefix_len → new.heads ≡ slice_set key_heads.heads i head → AreHeads bytes new
-    headed_set new i key head k agrees right keys prefix_len heads = record {
-      beginning = h.beginning;
-      prefix_len = h.prefix_len ∙ sym prefix_len;
-      begins = rw keys (All-set (Begins bytes h.beginning) key_heads.keys i key (agrees_begins key k agrees) h.begins);
-      heads = cc (map-set (head_at bytes key_heads.prefix_len) key_heads.keys i key);
-    }
+    headed_set new i key head k agrees right keys prefix_len heads =
+        headed_alike new prefix_len
+        (rw keys (All-set (Begins bytes h.beginning) key_heads.keys i key (agrees_begins key k agrees) h.begins))
+        (cc (h.heads, map-set (head_at bytes key_heads.prefix_len) key_heads.keys i key))
 
     -- then the keys are known
     pub known_set : (i key : ℕ) → IsKnown bytes key → (keys : List ℕ) → keys ≡ slice_set key_heads.keys i key
@@ -286,20 +223,32 @@ module _ (bytes : KeyBytes) where
         → now.heads ≡ take from key_heads.heads ++ (heads ++ drop to key_heads.heads) → AreHeads bytes now
     headed_spliced now new heads from to known given keys_are prefix_len heads_are =
         let right = beside_right key_heads new heads given in
-        let begin = λ (i d : ℕ) (inside : i < length new).
-        agrees_begins (get_or new i d) (known i d inside) (right.1 i d inside) in
-        record {
-          beginning = h.beginning;
-          prefix_len = h.prefix_len ∙ sym prefix_len;
-          begins = rw keys_are (All-spliced (Begins bytes h.beginning) key_heads.keys new from to h.begins begin);
-          heads = cc (right.0, map_spliced (head_at bytes key_heads.prefix_len) key_heads.keys new now.keys from to keys_are);
-        }
+        headed_alike now prefix_len (rw keys_are (All-spliced (Begins bytes h.beginning) key_heads.keys new from to h.begins
+        (λ i d inside. agrees_begins (get_or new i d) (known i d inside) (right.1 i d inside))))
+        (cc (h.heads, right.0, map_spliced (head_at bytes key_heads.prefix_len) key_heads.keys new now.keys from to keys_are))
 
     -- Those from one index up to another are taken out, with their heads.
     pub headed_removed : (new : KeyHeads) (from to : ℕ) → new.keys ≡ take from key_heads.keys ++ drop to key_heads.keys
         → new.prefix_len ≡ key_heads.prefix_len → new.heads ≡ take from key_heads.heads ++ drop to key_heads.heads
         → AreHeads bytes new
     headed_removed new from to = headed_spliced new [] [] from to (All-nil (IsKnown bytes)) tt
+
+  -- Heads that are right of all keys are right of those in front, and of those behind.
+  pub headed_apart : (all front back : KeyHeads) → AreHeads bytes all
+      → front.keys ++ back.keys ≡ all.keys → front.heads ++ back.heads ≡ all.heads → length front.heads ≡ length front.keys
+      → front.prefix_len ≡ all.prefix_len → back.prefix_len ≡ all.prefix_len → AreHeads bytes front × AreHeads bytes back
+  headed_apart all front back h keys heads count front_len back_len =
+      let f = head_at bytes all.prefix_len in
+      let P = Begins bytes h.beginning in
+      let n = length front.keys in
+      let begins = rw (← keys) at h.begins in
+      let mapped = map-append f front.keys back.keys in
+      let len = length-map front.keys f in (
+        headed_alike all h front front_len (All-front P front.keys back.keys begins)
+            (cc (take_at front.heads back.heads n count, take_at (map f front.keys) (map f back.keys) n len)),
+        headed_alike all h back back_len (All-back P front.keys back.keys begins)
+            (cc (drop_at front.heads back.heads n count, drop_at (map f front.keys) (map f back.keys) n len)),
+      )
 
   -- two nodes, where one key of the second begins as the keys of the first do, and as many bytes are known
   module _ (one other : KeyHeads) (h : AreHeads bytes one) (others : AreHeads bytes other) (key : ℕ)
@@ -309,25 +258,16 @@ module _ (bytes : KeyBytes) where
     same_beginning : others.beginning ≡ h.beginning
     same_beginning =
         let k = All-contains (Begins bytes others.beginning) other.keys key others.begins there in
-        let begins : take (length h.beginning) k.text ≡ h.beginning = prefix_begins one h k.text (agrees k.text k.known) in
-        let lengths : length others.beginning ≡ length h.beginning = cc (h.prefix_len, others.prefix_len) in
-        elim k.begins [
-          | inr same ↦ cc
-          | inl empty ↦
-              let none : length h.beginning ≡ 0 =
-              omega (arith, ap length begins, length-take (length h.beginning) k.text, ap length empty) in
-              nil_from_length others.beginning (lengths ∙ none) ∙ sym (nil_from_length h.beginning none)
-        ]
+        let begins = prefix_begins one h k.text (agrees k.text k.known) in
+        grind (arith, length-take (length h.beginning) k.text, begins_if_long others.beginning k.text k.begins)
 
     -- Those of the second are put behind those of the first one, with their heads.
     pub headed_joined : (now : KeyHeads) → now.keys ≡ one.keys ++ other.keys → now.prefix_len ≡ one.prefix_len
         → now.heads ≡ one.heads ++ other.heads → AreHeads bytes now
-    headed_joined now keys prefix_len heads = record {
-      beginning = h.beginning;
-      prefix_len = h.prefix_len ∙ sym prefix_len;
-      begins = rw keys (All-append (Begins bytes h.beginning) one.keys other.keys h.begins (rw same_beginning at others.begins));
-      heads = cc (map-append (head_at bytes one.prefix_len) one.keys other.keys);
-    }
+    headed_joined now keys prefix_len heads =
+        headed_alike one h now prefix_len
+        (rw keys (All-append (Begins bytes h.beginning) one.keys other.keys h.begins (rw same_beginning at others.begins)))
+        (cc (h.heads, others.heads, map-append (head_at bytes one.prefix_len) one.keys other.keys))
 
     -- Two neighbours whose keys all begin alike share them, with their heads.
     pub headed_shared : (left right : KeyHeads) → left.keys ++ right.keys ≡ one.keys ++ other.keys
@@ -337,13 +277,3 @@ module _ (bytes : KeyBytes) where
         let all : KeyHeads =
         record { keys = one.keys ++ other.keys; prefix_len = one.prefix_len; heads = one.heads ++ other.heads } in
         headed_apart all left right (headed_joined all refl refl refl) keys heads count left_len (right_len ∙ sym as_many)
-
--- The head of the key of an entry, behind so many bytes, is that of its bytes.
-pub head_read : (es : List Entry) (len i : ℕ) (e : Entry) → i < len → len ≤ length es → e ≡ get_or es i e
-    → (bytes : KeyBytes) (prefix_len behind head : ℕ) → behind ≡ prefix_len → All (IsKnown bytes) (keys_of (take len es))
-    → ((text : List ℕ) → bytes (get_or es i e).key ≡ Some text → head ≡ head_behind behind text)
-    → head ≡ head_at bytes prefix_len e.key
-head_read es len i e inside most is bytes prefix_len behind head same known right =
-    head_known bytes prefix_len e.key head
-    (All-contains (IsKnown bytes) (keys_of (take len es)) e.key known (key_there es len i e inside most is))
-    (λ text k. right text (ap (λ (x : Entry). bytes x.key) (sym is) ∙ k) ∙ ap (λ n. head_behind n text) same)

@@ -1,32 +1,24 @@
 -- What the nodes of a tree know, as a list and by their slots.
-use Rattle.std.proofs.Common.{◌≡◌, ℕ, true, false, cond, List, [], ◌∷◌, map, Some, option_map, refl, sym, ap, subst, ◌∙◌}
+use Rattle.std.proofs.Common.{◌≡◌, ℕ, List, [], ◌∷◌, map, option_map, refl, sym, subst, inl, inr}
 use Rattle.std.specs.Prelude.{IfSome}
 use Rattle.std.specs.FinMap as finite
 use Rattle.std.specs.FinMap.{find}
 use Rattle.std.specs.Ordering.{nat_cmp, eq_by_cmp}
 use Rattle.arena.specs.Arena.{Arena, Record}
+use Rattle.std.proofs.lemmas.Bool.{cases_Bool}
 use Rattle.tree.specs.declared.node.Node.{Node}
 use Rattle.tree.specs.Heads.{KeyBytes, AreHeads, AllAreHeads}
 use Rattle.tree.specs.Node.{key_heads_of, all_heads_of, heads_list}
 
 module _ {N : ℕ} where
-  found : (s : ℕ) (es : List (ℕ × Record (Node N)))
-      → find nat_cmp s (map (λ e. (e.0, key_heads_of e.1.header)) es)
+  found : (s : ℕ) (es : List (ℕ × Record (Node N))) → find nat_cmp s (map (λ e. (e.0, key_heads_of e.1.header)) es)
       ≡ option_map key_heads_of (option_map (λ r. r.header) (find nat_cmp s es))
   found s [] = refl
-  found s (e ∷ es) =
-      elim (eq_by_cmp nat_cmp s e.0) as (λ b. cond b (Some (key_heads_of e.1.header))
-      (find nat_cmp s (map (λ x. (x.0, key_heads_of x.1.header)) es))
-      ≡ option_map key_heads_of (option_map (λ r. r.header) (cond b (Some e.1) (find nat_cmp s es)))) [
-        | true ↦ refl
-        | false ↦ found s es
-      ]
+  found s (e ∷ es) = elim (cases_Bool (eq_by_cmp nat_cmp s e.0)) [ inl t ↦ rw t refl | inr f ↦ rw f (found s es) ]
 
   -- what the list has of a slot
   pub read_list : (nodes : Arena (Node N)) (s : ℕ) → find nat_cmp s (heads_list nodes) ≡ all_heads_of nodes s
-  read_list nodes s =
-      found s (finite.entries nodes.records)
-      ∙ ap (λ o. option_map key_heads_of (option_map (λ r. r.header) o)) (sym (finite.get-entries nodes.records s))
+  read_list nodes s = rw finite.get-entries (found s (finite.entries nodes.records))
 
   pub headed_from_list : (bytes : KeyBytes) (nodes : Arena (Node N)) → AllAreHeads bytes (λ s. find nat_cmp s (heads_list nodes))
       → AllAreHeads bytes (all_heads_of nodes)

@@ -1,16 +1,14 @@
 -- What the bytes with which a key and the target begin, and the heads of what stands behind, tell of the two.
-use Rattle.std.proofs.Common.{◌≡◌, ◌≢◌, ℕ, zero, suc, ◌+◌, ◌-◌, ◌<◌, ◌≤◌, Bool, nat_lt, List, [], ◌∷◌, ◌++◌, length, get_or, take, drop, replicate, slice_index, refl, sym, ap, subst, ◌∙◌, inl, inr, arith, length-take, get_or-take, take-add, lt-ltb, le-ltb}
-use Rattle.std.specs.Int.{w64, to_be_bytes, from_be_bytes}
-use Rattle.std.proofs.lemmas.Bool.{cases_lt, cases_order}
-use Rattle.std.proofs.lemmas.List.{take-take, take-append-le, take_more_same, length-take-le, drop-take, length-drop, get_or_append_left}
+use Rattle.std.proofs.Common.{◌≡◌, ◌≢◌, ℕ, zero, suc, ◌+◌, ◌-◌, ◌<◌, ◌≤◌, Bool, nat_lt, List, [], ◌∷◌, ◌++◌, length, get_or, take, drop, replicate, slice_index, refl, sym, ap, ◌∙◌, inl, inr, arith, length-take, get_or-take, take-add}
+use Rattle.std.specs.Int.{w64, to_be_bytes}
+use Rattle.std.proofs.lemmas.Bool.{cases_lt}
+use Rattle.std.proofs.lemmas.Bool.Decides.{nat_tests}
+use Rattle.std.proofs.lemmas.List.{take-take, take-append-le, take_all, take_more_same, drop-take, length-drop, get_or_append_left}
 use Rattle.std.proofs.lemmas.List.Elements.{All-drop}
 use Rattle.keys.specs.Key.{IsBytes, IsBefore}
 use Rattle.keys.specs.Head.{first_eight, head_of}
-use Rattle.keys.proofs.callers.KeyHeads.{head_less, head_of-bytes, behind_common, behind_shorter, behind_differing}
+use Rattle.keys.proofs.callers.KeyHeads.{head_less, head_of-bytes, length-first_eight, behind_common, behind_shorter, behind_differing}
 use Rattle.tree.specs.Heads.{head_behind, IsBelowInOrder, IsCommonPrefixLen}
-
-abbrev IsByte : ℕ → Type 0
-IsByte byte = byte < 256
 
 pub take_fewer : (m n : ℕ) (a b : List ℕ) → m ≤ n → take n a ≡ take n b → take m a ≡ take m b
 take_fewer m n a b le same = cc (take-take m n a le, take-take m n b le)
@@ -19,10 +17,8 @@ same_at : (i n : ℕ) (a b : List ℕ) → i < n → take n a ≡ take n b → g
 same_at i n a b less same = cc (get_or-take n a i 0 less, get_or-take n b i 0 less)
 
 -- The second one has as many bytes.
-pub as_long : (n : ℕ) (a b : List ℕ) → n ≤ length a → take n a ≡ take n b → n ≤ length b
-as_long n a b long same =
-    let equal : length (take n a) ≡ length (take n b) = ap length same in
-    omega (arith, equal, length-take-le n a long, length-take n b)
+as_long : (n : ℕ) (a b : List ℕ) → n ≤ length a → take n a ≡ take n b → n ≤ length b
+as_long n a b long same = omega (arith, ap length same, length-take n a, length-take n b)
 
 -- the head of the empty key
 pub empty_head : (prefix_len : ℕ) → head_behind prefix_len [] ≡ 0
@@ -46,156 +42,91 @@ pub tells_empty : (shared : ℕ) (target : List ℕ) → IsCommonPrefixLen share
 tells_empty shared target zero within = ((λ le. refl), (λ alike. omega arith))
 tells_empty shared target (suc count) within = absurd (omega arith)
 
--- Where the heads behind a common beginning differ, they tell whether the key is below the bound.
-pub told_by_heads : (prefix_len : ℕ) (text target : List ℕ) (is_below : Bool) → IsBytes text → IsBytes target
-    → prefix_len ≤ length text → take prefix_len text ≡ take prefix_len target → head_behind prefix_len text ≢ head_behind prefix_len target
-    → IsBelowInOrder text target is_below → nat_lt (head_behind prefix_len text) (head_behind prefix_len target) ≡ is_below
-told_by_heads prefix_len text target is_below text_bytes sought_bytes long same differ order =
-    let sought_long = as_long prefix_len text target long same in
-    let t = drop prefix_len text in
-    let s = drop prefix_len target in
-    let t_bytes = All-drop IsByte prefix_len text text_bytes in
-    let s_bytes = All-drop IsByte prefix_len target sought_bytes in
-    elim (cases_order (head_of t) (head_of s)) [
-      | inl e ↦ absurd (differ e)
-      | inr apart ↦ elim apart [
-        | inl less ↦
-            lt-ltb (head_of t) (head_of s) less
-            ∙ sym (order.before (behind_common prefix_len text target long sought_long same
-            ∙ head_less t s t_bytes s_bytes less))
-        | inr more ↦
-            le-ltb (head_of t) (head_of s) (omega arith)
-            ∙ sym (order.behind (behind_common prefix_len target text sought_long long (sym same)
-            ∙ head_less s t s_bytes t_bytes more))
-      ]
-    ]
-
-module _ (shared prefix_len : ℕ) (first text target : List ℕ) (less : shared < prefix_len) (first_long : prefix_len ≤ length first)
-    (text_long : prefix_len ≤ length text) (same : take prefix_len text ≡ take prefix_len first)
-    (tells : IsCommonPrefixLen shared first target) where
+module _ (shared n : ℕ) (first text target : List ℕ) (less : shared < n) (first_long : n ≤ length first)
+    (text_long : n ≤ length text) (same : take n text ≡ take n first)
+    (tells : IsCommonPrefixLen shared first target) (not_behind : IsBefore target first → ⊥) where
   -- Where the first key isn't behind the target, and differs from it before all keys' common beginning ends, the other keys come
-  -- before it.
-  pub before_too : (IsBefore target first → ⊥) → IsBefore text target
-  before_too not_behind =
-      let first_same : take shared first ≡ take shared target = (tells shared (omega arith)).0 (omega arith) in
-      let text_same : take shared text ≡ take shared first = take_fewer shared prefix_len text first (omega arith) same in
-      let long : shared ≤ length target = as_long shared first target (omega arith) first_same in
-      elim (cases_lt shared (length target)) [
-        | inr short ↦
-            absurd (not_behind (behind_shorter shared target first (omega arith) (omega arith) (sym first_same)))
-        | inl inside ↦ elim (cases_order (get_or first shared 0) (get_or target shared 0)) [
-          | inl e ↦
-              let more = take_more_same first target shared 0 (omega arith) inside first_same e in
-              let le : shared + 1 ≤ shared = (tells (shared + 1) (omega arith)).1 more in
-              absurd (omega arith)
-          | inr apart ↦ elim apart [
-            | inl before ↦
-                let byte : get_or text shared 0 ≡ get_or first shared 0 = same_at shared prefix_len text first less same in
-                behind_differing shared text target (omega arith) inside (text_same ∙ first_same)
-                (subst (λ b. b < get_or target shared 0) (sym byte) before)
-            | inr behind ↦
-                absurd (not_behind (behind_differing shared target first inside (omega arith) (sym first_same) behind))
-          ]
-        ]
-      ]
-
-  -- and the target begins as they do just as far
-  pub tells_too : IsCommonPrefixLen shared text target
-  tells_too count within = (
-    (λ le. take_fewer count prefix_len text first (omega arith) same ∙ (tells count (omega arith)).0 le),
-    (λ alike. elim (cases_lt shared count) [
-      | inr le ↦ le
-      | inl more ↦
-          let part : take (shared + 1) first ≡ take (shared + 1) target =
-          take_fewer (shared + 1) prefix_len first text (omega arith) (sym same)
-          ∙ take_fewer (shared + 1) count text target (omega arith) alike in
-          let le : shared + 1 ≤ shared = (tells (shared + 1) (omega arith)).1 part in
-          absurd (omega arith)
-    ]),
-  )
+  -- before it, and the target begins as they do just as far.
+  pub too : IsBefore text target × IsCommonPrefixLen shared text target
+  too =
+      let first_same = (tells shared (omega arith)).0 (omega arith) in
+      let text_same = take_fewer shared n text first (omega arith) same in
+      let long = as_long shared first target (omega arith) first_same in
+      let at = same_at shared n text first less same in
+      let before = behind_differing shared text target in
+      let behind = behind_differing shared target first in
+      let more = tells (shared + 1) in (
+        grind (arith, before, behind, more, behind_shorter shared target first, take_more_same first target shared 0),
+        λ count within. (
+          (λ le. grind (arith, take_fewer count n text first, tells count)),
+          (λ alike. grind (arith, take_fewer (shared + 1) n first text, take_fewer (shared + 1) count text target, more)),
+        ),
+      )
 
 take-first_eight : (n : ℕ) (a : List ℕ) → n ≤ 8 → n ≤ length a → take n (first_eight a) ≡ take n a
 take-first_eight n a few within = cc (take-take n 8 (a ++ replicate 8 0) few, take-append-le n a (replicate 8 0) within)
-
-get_or-first_eight : (i : ℕ) (a : List ℕ) → i < 8 → i < length a → get_or (first_eight a) i 0 ≡ get_or a i 0
-get_or-first_eight i a few within =
-    cc (get_or-take 8 (a ++ replicate 8 0) i 0 few, get_or_append_left a (replicate 8 0) 0 i within)
 
 -- Two byte strings begin alike as far as their first eight bytes do, zeros for those that are missing, if the first one isn't
 -- the later one.
 alike_in_eight : (m : ℕ) (a b : List ℕ) → m < 8 → take m (first_eight a) ≡ take m (first_eight b)
     → get_or (first_eight a) m 0 ≢ get_or (first_eight b) m 0 → (IsBefore b a → ⊥) → IsCommonPrefixLen m a b
-alike_in_eight m a b few same differ not_behind count within = (
-  (λ le. elim (cases_lt (length b) count) [
-    | inl short ↦
-        let n = length b in
-        let fewer = take_fewer n m (first_eight a) (first_eight b) (omega arith) same in
-        let part : take n b ≡ take n a =
-        cc (take-first_eight n b (omega arith) (omega arith), take-first_eight n a (omega arith) (omega arith)) in
-        absurd (not_behind (behind_shorter n b a refl (omega arith) part))
-    | inr long ↦
-        let fewer = take_fewer count m (first_eight a) (first_eight b) le same in
-        cc (take-first_eight count a (omega arith) within, take-first_eight count b (omega arith) long)
-  ]),
-  (λ alike. elim (cases_lt m count) [
-    | inr le ↦ le
-    | inl more ↦
-        let long = as_long count a b within alike in
-        let same = same_at m count a b more alike in
-        absurd (differ (cc (get_or-first_eight m a few (omega arith), get_or-first_eight m b few (omega arith))))
-  ]),
-)
+alike_in_eight m a b few same differ not_behind count within =
+    let both : (n : ℕ) → n ≤ m → n ≤ length a → n ≤ length b → take n a ≡ take n b = λ n le in_a in_b.
+    cc (take_fewer n m _ _ le same, take-first_eight n a (omega arith) in_a, take-first_eight n b (omega arith) in_b) in (
+      (λ le. grind (arith, both (length b), both count, behind_shorter (length b) b a refl)),
+      (λ alike.
+          let own : (c : List ℕ) → m < length c → get_or (first_eight c) m 0 ≡ get_or c m 0 = λ c in_c.
+          cc (get_or-take 8 (c ++ replicate 8 0) m 0 few, get_or_append_left c (replicate 8 0) 0 m in_c) in
+          grind (arith, as_long count a b within alike, same_at m count a b, own a, own b)),
+    )
 
 -- How far two byte strings begin alike is told by what stands behind a common beginning.
 common_with_behind : (prefix_len m : ℕ) (a b : List ℕ) → prefix_len ≤ length a → take prefix_len a ≡ take prefix_len b
     → IsCommonPrefixLen m (drop prefix_len a) (drop prefix_len b) → IsCommonPrefixLen (prefix_len + m) a b
 common_with_behind prefix_len m a b long same tells count within =
-    elim (cases_lt prefix_len count) [
-      | inr few ↦ ((λ le. take_fewer count prefix_len a b few same), (λ alike. omega arith))
-      | inl more ↦
-          let n = count - prefix_len in
-          let sum : prefix_len + n ≡ count = omega arith in
-          let inside : n ≤ length (drop prefix_len a) = omega (arith, length-drop prefix_len a) in (
-            (λ le. cc (sum, take-add prefix_len n a, (tells n inside).0 (omega arith), take-add prefix_len n b)),
-            (λ alike.
-                let rest : take n (drop prefix_len a) ≡ take n (drop prefix_len b) =
-                cc (sum, alike, drop-take prefix_len n a, drop-take prefix_len n b) in
-                let le : n ≤ m = (tells n inside).1 rest in
-                omega arith),
-          )
-    ]
+    let n = count - prefix_len in
+    let told = tells n (omega (arith, length-drop prefix_len a)) in (
+      (λ le. grind (arith, told, take_fewer count prefix_len a b, take-add prefix_len n a, take-add prefix_len n b)),
+      (λ alike. grind (arith, told, drop-take prefix_len n a, drop-take prefix_len n b)),
+    )
 
-same_head : (a b : List ℕ) → first_eight a ≡ first_eight b → head_of a ≡ head_of b
-unfolding head_of
-same_head a b same = ap (from_be_bytes w64) same
+-- a key and the target that begin alike, but have other heads behind that
+module _ (n : ℕ) (text target : List ℕ) (text_bytes : IsBytes text) (target_bytes : IsBytes target)
+    (long : n ≤ length text) (same : take n text ≡ take n target)
+    (apart : head_behind n text ≢ head_behind n target) where
+  abbrev rest : List ℕ → List ℕ
+  rest bytes = drop n bytes
 
--- all eight
-whole_eight : (m : ℕ) (a b : List ℕ) → 8 ≤ m → m ≤ 8 → take m (first_eight a) ≡ take m (first_eight b)
-    → first_eight a ≡ first_eight b
-whole_eight m a b many few same =
-    let all : m ≡ 8 = omega arith in
-    cc (all, take-take 8 8 (a ++ replicate 8 0) (omega arith), take-take 8 8 (b ++ replicate 8 0) (omega arith))
+  target_long : n ≤ length target
+  target_long = as_long n text target long same
 
--- Where the heads behind a common beginning differ, and the key isn't behind the target, the two begin alike as far as the bytes of
--- the heads do.
-pub common_by_heads : (prefix_len m : ℕ) (text target : List ℕ) → IsBytes text → IsBytes target → prefix_len ≤ length text
-    → take prefix_len text ≡ take prefix_len target → head_behind prefix_len text ≢ head_behind prefix_len target → m ≤ 8
-    → take m (to_be_bytes w64 (head_behind prefix_len text)) ≡ take m (to_be_bytes w64 (head_behind prefix_len target))
-    → (m < 8
-    → slice_index (to_be_bytes w64 (head_behind prefix_len text)) m ≢ slice_index (to_be_bytes w64 (head_behind prefix_len target)) m)
-    → (IsBefore target text → ⊥) → IsCommonPrefixLen (prefix_len + m) text target
-common_by_heads prefix_len m text target text_bytes sought_bytes long same apart few alike differ not_behind =
-    let sought_long = as_long prefix_len text target long same in
-    let t = drop prefix_len text in
-    let s = drop prefix_len target in
-    let t_is = head_of-bytes t (All-drop IsByte prefix_len text text_bytes) in
-    let s_is = head_of-bytes s (All-drop IsByte prefix_len target sought_bytes) in
-    let eight : take m (first_eight t) ≡ take m (first_eight s) = cc in
-    elim (cases_lt m 8) [
-      | inr many ↦ absurd (apart (same_head t s (whole_eight m t s many few eight)))
-      | inl less ↦
-          let next : get_or (first_eight t) m 0 ≢ get_or (first_eight s) m 0 = λ e. differ less (cc) in
-          common_with_behind prefix_len m text target long same
-          (alike_in_eight m t s less eight next
-          (λ before. not_behind (behind_common prefix_len target text sought_long long (sym same) ∙ before)))
-    ]
+  -- the heads tell whether the key is below the bound
+  pub told_by_heads : (is_below : Bool) → IsBelowInOrder text target is_below
+      → nat_lt (head_behind n text) (head_behind n target) ≡ is_below
+  told_by_heads is_below order =
+      let t = All-drop (λ byte. byte < 256) n text text_bytes in
+      let s = All-drop (λ byte. byte < 256) n target target_bytes in
+      let before = behind_common n text target long target_long same in
+      let behind = behind_common n target text target_long long (sym same) in
+      grind (arith, nat_tests, head_less (rest text) (rest target) t s, head_less (rest target) (rest text) s t, order)
+
+  -- If the key isn't behind the target, the two begin alike as far as the bytes of the heads do.
+  pub common_by_heads : (m : ℕ) → m ≤ 8
+      → take m (to_be_bytes w64 (head_behind n text)) ≡ take m (to_be_bytes w64 (head_behind n target))
+      → (m < 8
+      → slice_index (to_be_bytes w64 (head_behind n text)) m ≢ slice_index (to_be_bytes w64 (head_behind n target)) m)
+      → (IsBefore target text → ⊥) → IsCommonPrefixLen (n + m) text target
+  unfolding head_of
+  common_by_heads m few alike differ not_behind =
+      let t_is = head_of-bytes (rest text) (All-drop (λ byte. byte < 256) n text text_bytes) in
+      let s_is = head_of-bytes (rest target) (All-drop (λ byte. byte < 256) n target target_bytes) in
+      let eight : take m (first_eight (rest text)) ≡ take m (first_eight (rest target)) = cc in
+      elim (cases_lt m 8) [
+        | inr many ↦
+            let all = λ (a : List ℕ). take_all m (first_eight a) (omega (arith, length-first_eight a)) in
+            absurd (apart (cc (all (rest text), all (rest target))))
+        | inl less ↦
+            common_with_behind n m text target long same
+            (alike_in_eight m (rest text) (rest target) less eight (λ e. differ less (cc))
+            (λ before. not_behind (behind_common n target text target_long long (sym same) ∙ before)))
+      ]

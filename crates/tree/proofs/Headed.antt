@@ -1,11 +1,12 @@
 -- What nodes know of the bytes of keys, while nodes are put, placed and released.
-use Rattle.std.proofs.Common.{rules, ◌≡◌, ◌≢◌, ◌⊎◌, inl, inr, ℕ, ◌≤◌, cond, List, [], ◌∷◌, length, map, take, Option, Some, None, option_map, unwrap_or, refl, sym, ap, ap₂, subst, arith, ◌∙◌}
+use Rattle.std.proofs.Common.{rules, ◌≡◌, ◌≢◌, ◌⊎◌, inl, inr, ℕ, ◌≤◌, List, [], ◌∷◌, length, map, take, Option, Some, None, option_map, unwrap_or, refl, ap, arith, ◌∙◌}
 use Rattle.std.specs.Prelude.{IfSome}
 use Rattle.std.specs.List.{All}
-use Rattle.std.proofs.lemmas.List.Elements.{All-weaker, All-head, All-tail}
+use Rattle.std.proofs.lemmas.Option.{IfSome_then}
+use Rattle.std.proofs.lemmas.List.Elements.{All-head, All-tail}
 use Rattle.arena.specs.Arena.{Arena, record_at, header_at}
 use Rattle.tree.specs.declared.node.Node.{Node}
-use Rattle.tree.specs.Heads.{KeyBytes, IsKnown, Begins, KeyHeads, AreHeads, AllAreHeads, head_at, head_behind}
+use Rattle.tree.specs.Heads.{KeyBytes, IsKnown, Begins, KeyHeads, AreHeads, AllAreHeads, head_at}
 use Rattle.tree.specs.Node.{entries_of, keys_of, key_heads_of, all_heads_of}
 use Rattle.tree.specs.Subtree.{entries_at}
 use Rattle.std.specs.FinMap as finite
@@ -13,69 +14,45 @@ use Rattle.std.specs.Cmp.{nat_cmp_total}
 use Rattle.tree.proofs.Changing.{same_number}
 use Rattle.tree.proofs.callers.Times.{once_cases}
 
--- a key that begins with some bytes is known
-pub known_if_begins : (bytes : KeyBytes) (beginning : List ℕ) (key : ℕ) → Begins bytes beginning key → IsKnown bytes key
-known_if_begins bytes beginning key b = record { text = b.text; known = b.known; are_bytes = b.are_bytes }
-
 -- a text that isn't too short for it begins with these bytes
 pub begins_if_long : (beginning text : List ℕ) → (text ≡ []) ⊎ (take (length beginning) text ≡ beginning)
     → length beginning ≤ length text → take (length beginning) text ≡ beginning
-begins_if_long [] text begins long = refl
-begins_if_long (x ∷ xs) text begins long =
-    elim begins [
-      | inl empty ↦ absurd (omega (arith, long, ap length empty))
-      | inr same ↦ same
-    ]
+begins_if_long beginning text (inr same) long = same
+begins_if_long [] text (inl empty) long = refl
+begins_if_long (x ∷ xs) text (inl empty) long = absurd (omega (arith, ap length empty))
 
 -- each key of which a node knows is known
 pub all_known : (bytes : KeyBytes) (key_heads : KeyHeads) → AreHeads bytes key_heads → All (IsKnown bytes) key_heads.keys
-all_known bytes key_heads h =
-    All-weaker (Begins bytes h.beginning) (IsKnown bytes) (λ key b. known_if_begins bytes h.beginning key b) key_heads.keys h.begins
+all_known bytes key_heads h i d lt =
+    let b = h.begins i d lt in
+    record { text = b.text; known = b.known; are_bytes = b.are_bytes }
 
--- a slot is another one or the same
-same_or_other : (s slot : ℕ) → (slot ≡ s) ⊎ (s ≢ slot)
-same_or_other s slot =
-    elim (once_cases s slot) [
-      | inl same ↦ inl same.0
-      | inr other ↦ inr (λ same. other.0 (sym same))
-    ]
+-- bytes that are the same of the keys that are known
+module _ (a b : KeyBytes) (same : (key : ℕ) (text : List ℕ) → a key ≡ Some text → b key ≡ Some text) where
+  heads_kept : (n : ℕ) (keys : List ℕ) → All (IsKnown a) keys → map (head_at a n) keys ≡ map (head_at b n) keys
+  heads_kept n [] known = refl
+  heads_kept n (key ∷ keys) known =
+      let k = All-head (IsKnown a) key keys known in
+      rw (k.known, same key k.text k.known, heads_kept n keys (All-tail (IsKnown a) key keys known)) refl
 
-heads_kept : (a b : KeyBytes) (prefix_len : ℕ) → ((key : ℕ) (text : List ℕ) → a key ≡ Some text → b key ≡ Some text)
-    → (keys : List ℕ) → All (IsKnown a) keys → map (head_at a prefix_len) keys ≡ map (head_at b prefix_len) keys
-heads_kept a b prefix_len same [] known = refl
-heads_kept a b prefix_len same (key ∷ keys) known =
-    let k = All-head (IsKnown a) key keys known in
-    ap₂ (λ x xs. x ∷ xs) (ap (λ o. head_behind prefix_len (unwrap_or o [])) (k.known ∙ sym (same key k.text k.known)))
-    (heads_kept a b prefix_len same keys (All-tail (IsKnown a) key keys known))
+  -- what a node knows is right
+  pub key_heads_kept : (key_heads : KeyHeads) → AreHeads a key_heads → AreHeads b key_heads
+  key_heads_kept key_heads h =
+      let begins : All (Begins b h.beginning) key_heads.keys = λ i d lt.
+      let x = h.begins i d lt in
+      record { text = x.text; known = same _ x.text x.known; are_bytes = x.are_bytes; begins = x.begins } in
+      let heads = h.heads ∙ heads_kept key_heads.prefix_len key_heads.keys (all_known a key_heads h) in
+      record { beginning = h.beginning; prefix_len = h.prefix_len; begins = begins; heads = heads }
 
--- what a node knows is right for bytes that are the same of the keys that are known
-pub key_heads_kept : (a b : KeyBytes) → ((key : ℕ) (text : List ℕ) → a key ≡ Some text → b key ≡ Some text)
-    → (key_heads : KeyHeads) → AreHeads a key_heads → AreHeads b key_heads
-key_heads_kept a b same key_heads h =
-    record {
-      beginning = h.beginning;
-      prefix_len = h.prefix_len;
-      begins = All-weaker (Begins a h.beginning) (Begins b h.beginning)
-          (λ key x. record { text = x.text; known = same key x.text x.known; are_bytes = x.are_bytes; begins = x.begins })
-          key_heads.keys h.begins;
-      heads = h.heads ∙ heads_kept a b key_heads.prefix_len same key_heads.keys (all_known a key_heads h);
-    }
-
--- What each node knows is right for bytes that are the same of the keys that are known.
-pub headed_kept : (a b : KeyBytes) → ((key : ℕ) (text : List ℕ) → a key ≡ Some text → b key ≡ Some text)
-    → (all_heads : ℕ → Option KeyHeads) → AllAreHeads a all_heads → AllAreHeads b all_heads
-headed_kept a b same all_heads all s = by_key_heads (all_heads s) (all s)
-  where
-    by_key_heads : (o : Option KeyHeads) → IfSome o (AreHeads a) → IfSome o (AreHeads b)
-    by_key_heads None h = tt
-    by_key_heads (Some key_heads) h = key_heads_kept a b same key_heads h
+  -- and what each node knows
+  pub headed_kept : (all_heads : ℕ → Option KeyHeads) → AllAreHeads a all_heads → AllAreHeads b all_heads
+  headed_kept all_heads all s = IfSome_then (all_heads s) (all s) key_heads_kept
 
 module _ {N : ℕ} where
   -- what the node at a slot knows is right
   pub headed_at : (bytes : KeyBytes) (nodes : Arena (Node N)) (slot : ℕ) (node : Node N) → AllAreHeads bytes (all_heads_of nodes)
       → header_at nodes slot ≡ Some node → AreHeads bytes (key_heads_of node)
-  headed_at bytes nodes slot node all is =
-      subst (λ o. IfSome (option_map key_heads_of o) (AreHeads bytes)) is (all slot)
+  headed_at bytes nodes slot node all is = rw is at (all slot)
 
   -- the keys of the entries of a node are known
   pub common_prefix_len_at : (bytes : KeyBytes) (nodes : Arena (Node N)) (slot : ℕ) → AllAreHeads bytes (all_heads_of nodes)
@@ -90,23 +67,16 @@ module _ {N : ℕ} where
   -- One slot has another node whose knowledge is right, and all others have the same node or none.
   pub headed_put : (bytes : KeyBytes) (old new : Arena (Node N)) (slot : ℕ) (node : Node N) → AllAreHeads bytes (all_heads_of old)
       → header_at new slot ≡ Some node → AreHeads bytes (key_heads_of node)
-      → ((s : ℕ) → s ≢ slot → record_at new s ≡ record_at old s)
-      → AllAreHeads bytes (all_heads_of new)
+      → ((s : ℕ) → s ≢ slot → record_at new s ≡ record_at old s) → AllAreHeads bytes (all_heads_of new)
   headed_put bytes old new slot node all is headed others s =
-      elim (same_or_other s slot) [
-        | inl same ↦ subst (λ o. IfSome (option_map key_heads_of o) (AreHeads bytes)) (sym is ∙ ap (header_at new) same) headed
-        | inr other ↦ rw (others s other) (all s)
-      ]
+      elim (once_cases slot s) [ inl same ↦ rw (same.0, is) headed | inr other ↦ rw (others s other.0) (all s) ]
 
   -- One slot has no node any more, and all others have the same.
   pub headed_released : (bytes : KeyBytes) (old new : Arena (Node N)) (slot : ℕ) → AllAreHeads bytes (all_heads_of old)
       → new.records ≡ finite.remove old.records slot → ((s : ℕ) → s ≢ slot → record_at new s ≡ record_at old s)
       → AllAreHeads bytes (all_heads_of new)
   headed_released bytes old new slot all released others s =
-      let none : record_at new slot ≡ None =
-      ap (λ m. finite.get m slot) released ∙ finite.get-remove nat_cmp_total old.records slot slot
-      ∙ ap (λ b. cond b None (finite.get old.records slot)) (same_number slot slot refl) in
-      elim (same_or_other s slot) [
-        | inl same ↦ rw (← same, none) tt
-        | inr other ↦ rw (others s other) (all s)
+      elim (once_cases slot s) [
+        | inl same ↦ rw (same.0, released, finite.get-remove nat_cmp_total old.records slot slot, same_number slot slot refl) tt
+        | inr other ↦ rw (others s other.0) (all s)
       ]

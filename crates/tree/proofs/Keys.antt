@@ -1,5 +1,5 @@
 -- The key of the first item that isn't below the bound.
-use Rattle.std.proofs.Common.{◌≡◌, ℕ, ◌+◌, ◌-◌, Bool, true, false, not, List, [], ◌∷◌, ◌++◌, Option, Some, map, take, drop, filter, flat_map, All, refl, sym, ◌∙◌, ap, subst, inl, inr}
+use Rattle.std.proofs.Common.{◌≡◌, ℕ, ◌+◌, ◌-◌, Bool, true, false, not, List, [], ◌∷◌, ◌++◌, Option, Some, map, take, drop, filter, flat_map, All, refl, sym, ◌∙◌, ap, inl, inr}
 use Rattle.std.proofs.lemmas.Bool.{cases_Bool}
 use Rattle.std.proofs.lemmas.List.Elements.{All-head, All-drop, filter-append}
 use Rattle.arena.specs.Arena.{Arena, header_at}
@@ -7,22 +7,17 @@ use Rattle.tree.specs.declared.entry.Entry.{Entry}
 use Rattle.tree.specs.declared.node.Node.{Node}
 use Rattle.tree.specs.Item.{Item, Tells, item_of}
 use Rattle.tree.specs.Node.{entries_of}
-use Rattle.tree.specs.Path.{index_in, child_in, behind, behind_leaf, first_key}
+use Rattle.tree.specs.Path.{index_in, behind, behind_leaf, first_key}
 use Rattle.tree.specs.Subtree.{entries_at, items_in}
 use Rattle.tree.proofs.callers.Partitions.{none_pass, none_fail}
 use Rattle.tree.proofs.Found.{IsFound, entries_read}
 
-pub filter-items : (p : Item → Bool) (es : List Entry)
-    → filter p (map item_of es) ≡ map item_of (filter (λ e. p (item_of e)) es)
+pub filter-items : (p : Item → Bool) (es : List Entry) → filter p (map item_of es) ≡ map item_of (filter (λ e. p (item_of e)) es)
 filter-items p [] = refl
 filter-items p (e ∷ es) =
-    elim (cases_Bool (p (item_of e))) [
-      | inl t ↦ rw t (ap (λ xs. item_of e ∷ xs) (filter-items p es))
-      | inr f ↦ rw f (filter-items p es)
-    ]
+    elim (cases_Bool (p (item_of e))) [ inl t ↦ rw (t, filter-items p es) refl | inr f ↦ rw f (filter-items p es) ]
 
-pub first_key-append : (key : Option ℕ) (xs ys : List Item)
-    → first_key key (xs ++ ys) ≡ first_key (first_key key ys) xs
+pub first_key-append : (key : Option ℕ) (xs ys : List Item) → first_key key (xs ++ ys) ≡ first_key (first_key key ys) xs
 first_key-append key [] ys = refl
 first_key-append key (x ∷ xs) ys = refl
 
@@ -32,20 +27,15 @@ pub first_key-children : (below : Entry → List Item) (key : Option ℕ) (es : 
 first_key-children below key [] t = refl
 first_key-children below key (e ∷ es) t =
     let h = All-head (λ e. Tells e (below e)) e es t in
-    let same : below e ++ flat_map below es ≡ h.first ∷ h.others ++ flat_map below es =
-    ap (λ xs. xs ++ flat_map below es) h.items_are in
-    ap Some h.key ∙ ap (first_key key) (sym same)
+    rw h.items_are (ap Some h.key)
 
 -- what stands behind a bound, where all before and none behind a part passes
 pub behind-parts : (is_below : ℕ → Bool) (a c b : List Item) → All (λ x. is_below x.key ≡ true) a
     → All (λ x. is_below x.key ≡ false) b → behind is_below (a ++ (c ++ b)) ≡ behind is_below c ++ b
 behind-parts is_below a c b p f =
-    let n = none_fail (λ (x : Item). is_below x.key) a p in
-    let m = none_pass (λ (x : Item). is_below x.key) b f in
-    filter-append (λ (x : Item). not (is_below x.key)) a (c ++ b)
-    ∙ ap (λ xs. xs ++ behind is_below (c ++ b)) n.1
-    ∙ filter-append (λ (x : Item). not (is_below x.key)) c b
-    ∙ ap (λ xs. behind is_below c ++ xs) m.1
+    let n = (none_fail (λ (x : Item). is_below x.key) a p).1 in
+    let m = (none_pass (λ (x : Item). is_below x.key) b f).1 in
+    simp (filter-append, n, m)
 
 -- at a leaf
 pub key_of_leaf : {N : ℕ} (nodes : Arena (Node N)) (height slot : ℕ) (is_below : ℕ → Bool) (header : Node N)
@@ -53,63 +43,43 @@ pub key_of_leaf : {N : ℕ} (nodes : Arena (Node N)) (height slot : ℕ) (is_bel
     → es ≡ entries_of header → rest ≡ filter (λ e. not (is_below e.key)) es
     → first_key key (map item_of rest) ≡ first_key key (behind is_below (items_in nodes height slot))
 key_of_leaf nodes height slot is_below header es rest key z h e r =
-    subst (λ n. first_key key (map item_of rest) ≡ first_key key (behind is_below (items_in nodes n slot))) (sym z)
-    (ap (λ xs. first_key key (map item_of xs)) r
-    ∙ ap (first_key key) (sym (filter-items (λ (x : Item). not (is_below x.key)) es))
-    ∙ ap (λ xs. first_key key (behind is_below (map item_of xs))) (sym (entries_read nodes slot header es h e)))
+    rw (z, entries_read nodes slot header es h e, filter-items (λ (x : Item). not (is_below x.key)) es, r) refl
 
--- that of the entry behind the child is that of the first item behind the child's
-key_of_next : {N : ℕ} (nodes : Arena (Node N)) (least height slot : ℕ) (is_below : ℕ → Bool) (child : ℕ)
-    → IsFound nodes least height slot is_below child → (header : Node N) (es : List Entry) (index : ℕ)
-    (key next : Option ℕ) → header_at nodes slot ≡ Some header → es ≡ entries_of header
-    → index ≡ index_in is_below es → next ≡ first_key key (map item_of (drop (index + 1) es))
-    → next ≡ first_key key (flat_map (λ e. items_in nodes (height - 1) e.child)
-    (drop (index_in is_below (entries_at nodes slot) + 1) (entries_at nodes slot)))
-key_of_next nodes least height slot is_below child f header es index key next h e i n =
-    let below = λ (e : Entry). items_in nodes (height - 1) e.child in
-    let all = entries_at nodes slot in
-    let read = entries_read nodes slot header es h e in
-    n ∙ ap (λ k. first_key key (map item_of (drop (k + 1) es))) i
-    ∙ ap (λ xs. first_key key (map item_of (drop (index_in is_below xs + 1) xs))) (sym read)
-    ∙ first_key-children below key (drop (index_in is_below all + 1) all)
-    (All-drop (λ e. Tells e (below e)) (index_in is_below all + 1) all f.way.tell)
+-- At the entry behind the child that the bound finds, the next key is that of the entries behind it, or else the key given.
+module _ {N : ℕ} (nodes : Arena (Node N)) (least height slot : ℕ) (is_below : ℕ → Bool) (child : ℕ)
+    (f : IsFound nodes least height slot is_below child) (header : Node N) (es : List Entry) (index : ℕ) (key next : Option ℕ)
+    (h : header_at nodes slot ≡ Some header) (e : es ≡ entries_of header) (i : index ≡ index_in is_below es)
+    (n : next ≡ first_key key (map item_of (drop (index + 1) es))) where
+  abbrev all : List Entry
+  all = entries_at nodes slot
 
--- above the leaves: of the child, or else that of the next entry
-pub key_of_child : {N : ℕ} (nodes : Arena (Node N)) (least height slot : ℕ) (is_below : ℕ → Bool) (child : ℕ)
-    → IsFound nodes least height slot is_below child → (header : Node N) (es : List Entry) (index : ℕ)
-    (key next : Option ℕ) → header_at nodes slot ≡ Some header → es ≡ entries_of header
-    → index ≡ index_in is_below es → next ≡ first_key key (map item_of (drop (index + 1) es))
-    → first_key next (behind is_below (items_in nodes (height - 1) child))
-    ≡ first_key key (behind is_below (items_in nodes height slot))
-key_of_child nodes least height slot is_below child f header es index key next h e i n =
-    let below = λ (e : Entry). items_in nodes (height - 1) e.child in
-    let all = entries_at nodes slot in
-    let a = flat_map below (take (index_in is_below all) all) in
-    let b = flat_map below (drop (index_in is_below all + 1) all) in
-    let c = items_in nodes (height - 1) child in
-    let later : next ≡ first_key key b =
-    key_of_next nodes least height slot is_below child f header es index key next h e i n in
-    let items : items_in nodes height slot ≡ a ++ (c ++ b) =
-    ap (λ n. items_in nodes n slot) (sym f.lower) ∙ f.way.items
-    ∙ ap (λ s. a ++ (items_in nodes (height - 1) s ++ b)) (sym f.is) in
-    ap (λ k. first_key k (behind is_below c)) later
-    ∙ sym (first_key-append key (behind is_below c) b)
-    ∙ ap (first_key key) (sym (behind-parts is_below a c b f.way.before f.way.behind))
-    ∙ ap (λ xs. first_key key (behind is_below xs)) (sym items)
+  abbrev below : List Entry → List Item
+  below = flat_map (λ e. items_in nodes (height - 1) e.child)
 
--- behind the leaf, above it: of the child, or else that of the next entry
-pub key_behind_child : {N : ℕ} (nodes : Arena (Node N)) (least height slot : ℕ) (is_below : ℕ → Bool) (child : ℕ)
-    → IsFound nodes least height slot is_below child → (header : Node N) (es : List Entry) (index : ℕ)
-    (key next : Option ℕ) → header_at nodes slot ≡ Some header → es ≡ entries_of header
-    → index ≡ index_in is_below es → next ≡ first_key key (map item_of (drop (index + 1) es))
-    → first_key next (behind_leaf nodes (height - 1) child is_below)
-    ≡ first_key key (behind_leaf nodes height slot is_below)
-key_behind_child nodes least height slot is_below child f header es index key next h e i n =
-    let all = entries_at nodes slot in
-    let b = flat_map (λ (e : Entry). items_in nodes (height - 1) e.child) (drop (index_in is_below all + 1) all) in
-    let c = behind_leaf nodes (height - 1) (child_in is_below all) is_below in
-    let later : next ≡ first_key key b =
-    key_of_next nodes least height slot is_below child f header es index key next h e i n in
-    subst (λ m. first_key next (behind_leaf nodes (height - 1) child is_below) ≡ first_key key (behind_leaf nodes m slot is_below)) f.lower
-    (ap (λ s. first_key next (behind_leaf nodes (height - 1) s is_below)) (f.is ∙ f.way.child)
-    ∙ ap (λ k. first_key k c) later ∙ sym (first_key-append key c b))
+  abbrev later : List Item
+  later = below (drop (index_in is_below all + 1) all)
+
+  -- that of the first item behind the child's
+  key_of_next : next ≡ first_key key later
+  key_of_next =
+      let from = index_in is_below all + 1 in
+      let tell = All-drop (λ e. Tells e (items_in nodes (height - 1) e.child)) from all f.way.tell in
+      let same = first_key-children (λ e. items_in nodes (height - 1) e.child) key (drop from all) tell in
+      cc (n, i, entries_read nodes slot header es h e, same)
+
+  -- above the leaves: of the child, or else that of the next entry
+  pub key_of_child : first_key next (behind is_below (items_in nodes (height - 1) child))
+      ≡ first_key key (behind is_below (items_in nodes height slot))
+  key_of_child =
+      let a = below (take (index_in is_below all) all) in
+      let c = items_in nodes (height - 1) child in
+      let items : items_in nodes height slot ≡ a ++ (c ++ later) =
+      ap (λ n. items_in nodes n slot) (sym f.lower) ∙ (rw (← f.is) at f.way.items) in
+      rw (items, behind-parts is_below a c later f.way.before f.way.behind, first_key-append, key_of_next) refl
+
+  -- behind the leaf, above it: of the child, or else that of the next entry
+  pub key_behind_child : first_key next (behind_leaf nodes (height - 1) child is_below)
+      ≡ first_key key (behind_leaf nodes height slot is_below)
+  key_behind_child =
+      let own = ap (λ m. behind_leaf nodes m slot is_below) f.lower in
+      rw (← own, f.is, f.way.child, first_key-append, key_of_next) refl

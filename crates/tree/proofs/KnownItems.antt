@@ -1,19 +1,19 @@
 -- Each key of which a node knows is that of an item.
-use Rattle.std.proofs.Common.{◌≡◌, ◌≢◌, inl, inr, ℕ, zero, suc, ◌-◌, ◌≤◌, true, false, cond, List, [], ◌∷◌, ◌++◌, length, map, Option, Some, None, IsSome, is_some, option_map, unwrap_or, refl, sym, ap, subst, ◌∙◌, arith}
+use Rattle.std.proofs.Common.{◌≡◌, ◌≢◌, inl, inr, ℕ, zero, suc, ◌≤◌, List, [], ◌∷◌, length, get_or, map, Option, Some, None, IsSome, is_some, option_map, refl, sym, ap, arith}
+use mathlib.Core.List.{map-map}
 use Rattle.std.specs.Prelude.{IfSome}
-use Rattle.std.specs.List.{All, Contains, flat_map}
+use Rattle.std.specs.List.{All, Contains}
 use Rattle.std.specs.FinMap as finite
 use Rattle.std.specs.Ordering.{nat_cmp}
 use Rattle.std.specs.Cmp.{nat_cmp_total}
 use Rattle.std.proofs.lemmas.List.{map-append}
-use Rattle.std.proofs.lemmas.List.Elements.{All-nil, All-cons, All-head, All-tail, All-weaker, All-contains_itself, Contains-append_left, Contains-append_right}
-use Rattle.arena.specs.Arena.{Arena, Record, IsLive, record_at}
+use Rattle.std.proofs.lemmas.List.Elements.{All-contains, All-map, All-contains_itself, Contains-get_or, Contains-append_left, Contains-append_right}
+use Rattle.arena.specs.Arena.{Arena, Record, record_at}
 use Rattle.tree.specs.declared.entry.Entry.{Entry}
 use Rattle.tree.specs.declared.node.Node.{Node}
-use Rattle.tree.specs.Item.{Item, item_of}
-use Rattle.tree.specs.Heads.{KeyHeads}
-use Rattle.tree.specs.Node.{entries_of, keys_of, key_heads_of, heads_list}
-use Rattle.tree.specs.Replace.{AreChildren, slots_of}
+use Rattle.tree.specs.Item.{Item}
+use Rattle.tree.specs.Node.{keys_of, key_heads_of, heads_list}
+use Rattle.tree.specs.Replace.{items_of, slots_of}
 use Rattle.tree.specs.Subtree.{entries_at, items_in, slots_in, IsSubtree}
 use Rattle.tree.specs.Tree.{KnowItems, IsRooted, least_of}
 use Rattle.tree.proofs.Changing.{other_number}
@@ -25,35 +25,20 @@ use Rattle.tree.proofs.callers.Times.{times, once, once_same, once_cases, none_o
 no_other : {X : Type 0} (m : finite.FinMap nat_cmp X) (xs : List ℕ) → ((s : ℕ) → times s xs ≤ 1)
     → ((s : ℕ) → 1 ≤ times s xs → IsSome (finite.get m s)) → finite.len m ≡ length xs
     → (s : ℕ) → IsSome (finite.get m s) → 1 ≤ times s xs
-no_other m [] few live count s is =
-    let none : finite.get m s ≡ None =
-    ap (λ n. finite.get n s) (finite.empty_of_len m count) ∙ finite.get-empty nat_cmp s in
-    absurd (let e : is_some (finite.get m s) ≡ false = ap is_some none in cc)
+no_other {X} m [] few live count s is = absurd (cc (finite.empty_of_len m count, finite.get-empty {X = X} nat_cmp s))
 no_other {X} m (x ∷ xs) few live count s is =
     elim (once_cases s x) [
       | inl same ↦ omega (arith, same.1)
       | inr other ↦
           let rest = finite.remove m x in
-          let kept : (t : ℕ) → t ≢ x → finite.get rest t ≡ finite.get m t = λ t apart.
-          finite.get-remove nat_cmp_total m x t
-          ∙ ap (λ b. cond b None (finite.get m t)) (other_number t x apart) in
-          let here : finite.contains_key m x ≡ true =
-          live x (omega (arith, once_same x)) in
-          let fewer : finite.len rest ≡ finite.len m - 1 =
-          finite.len-remove nat_cmp_total m x ∙ ap (λ b. cond b (finite.len m - 1) (finite.len m)) here in
-          let apart : (t : ℕ) → 1 ≤ times t xs → t ≢ x = λ t some same.
-          let e : once t x ≡ 1 = ap (once t) (sym same) ∙ once_same t in
-          absurd (omega (arith, few t)) in
+          let kept : (t : ℕ) → t ≢ x → finite.get rest t ≡ finite.get m t =
+          λ t apart. rw (finite.get-remove nat_cmp_total m x t, other_number t x apart) refl in
+          let fewer = rw (live x (omega (arith, once_same x))) at (finite.len-remove nat_cmp_total m x) in
           let i = no_other rest xs (λ t. omega (arith, few t))
-          (λ t some. ap is_some (kept t (apart t some)) ∙ live t (omega arith)) (omega (arith, count)) s
-          (ap is_some (kept s (λ same. other.0 (sym same))) ∙ is) in
+          (λ t some. rw (kept t (λ same. absurd (omega (arith, few t, ap (once t) same, once_same t)))) (live t (omega arith)))
+          (omega (arith, count)) s (rw (kept s (λ same. other.0 (sym same))) is) in
           omega (arith, i)
     ]
-
--- items have the keys of their entries
-keys_of_items : (es : List Entry) → map (λ (x : Item). x.key) (map item_of es) ≡ keys_of es
-keys_of_items [] = refl
-keys_of_items (e ∷ es) = ap (λ xs. e.key ∷ xs) (keys_of_items es)
 
 -- the keys of items
 abbrev keys_in : List Item → List ℕ
@@ -63,88 +48,58 @@ keys_in items = map (λ x. x.key) items
 abbrev AreOf : List Item → List ℕ → Type 0
 AreOf items keys = All (Contains (keys_in items)) keys
 
-in_front : (xs ys : List Item) (keys : List ℕ) → AreOf xs keys → AreOf (xs ++ ys) keys
-in_front xs ys keys all =
-    subst (λ zs. All (Contains zs) keys) (sym (map-append (λ (x : Item). x.key) xs ys))
-    (All-weaker (Contains (keys_in xs)) (Contains (keys_in xs ++ keys_in ys))
-    (λ key. Contains-append_left (keys_in xs) (keys_in ys) key) keys all)
+module _ {N : ℕ} (a : Arena (Node N)) (least : ℕ) where
+  -- those of the items below an entry are among those below all entries
+  key_below : (height : ℕ) (es : List Entry) (e : Entry) → Contains es e → (key : ℕ)
+      → Contains (keys_in (items_in a height e.child)) key → Contains (keys_in (items_of a height es)) key
+  key_below height [] e (k, lt, is) key has = absurd (omega arith)
+  key_below height (x ∷ es) e (zero, lt, is) key has =
+      rw (map-append, is) (Contains-append_left (keys_in (items_in a height e.child)) (keys_in (items_of a height es)) key has)
+  key_below height (x ∷ es) e (suc k, lt, is) key has =
+      rw map-append (Contains-append_right (keys_in (items_in a height x.child)) (keys_in (items_of a height es)) key
+      (key_below height es e (k, omega arith, is) key has))
 
-at_back : (xs ys : List Item) (keys : List ℕ) → AreOf ys keys → AreOf (xs ++ ys) keys
-at_back xs ys keys all =
-    subst (λ zs. All (Contains zs) keys) (sym (map-append (λ (x : Item). x.key) xs ys))
-    (All-weaker (Contains (keys_in ys)) (Contains (keys_in xs ++ keys_in ys))
-    (λ key. Contains-append_right (keys_in xs) (keys_in ys) key) keys all)
-
-module _ {N : ℕ} where
-  -- the items below entries
-  abbrev items_of : Arena (Node N) → ℕ → List Entry → List Item
-  items_of a height es = flat_map (λ e. items_in a height e.child) es
-
-  own_keys : (a : Arena (Node N)) (least height : ℕ) (es : List Entry) → AreChildren a least height es
-      → AreOf (items_of a height es) (keys_of es)
-  own_keys a least height [] all = All-nil (Contains (keys_in (items_of a height [])))
-  own_keys a least height (e ∷ es) all =
-      let t = (All-head (IsRight a least height) e es all).tells in
-      let later = own_keys a least height es (All-tail (IsRight a least height) e es all) in
-      All-cons (Contains (keys_in (items_of a height (e ∷ es)))) e.key (keys_of es)
-      (subst (λ xs. Contains (keys_in (xs ++ items_of a height es)) e.key) (sym t.items_are) (zero, omega arith, sym t.key))
-      (at_back (items_in a height e.child) (items_of a height es) (keys_of es) later)
-
-  keys_below : (a : Arena (Node N)) (least height s : ℕ)
-      → ((slot : ℕ) → IsSubtree a least height slot → 1 ≤ times s (slots_in a height slot)
-      → AreOf (items_in a height slot) (keys_of (entries_at a s)))
-      → (es : List Entry) → AreChildren a least height es → 1 ≤ times s (slots_of a height es)
-      → AreOf (items_of a height es) (keys_of (entries_at a s))
-  keys_below a least height s each [] all some = absurd (omega arith)
-  keys_below a least height s each (e ∷ es) all some =
-      let keys = keys_of (entries_at a s) in
-      elim (none_or_some (times s (slots_in a height e.child))) [
-        | inl none ↦
-            at_back (items_in a height e.child) (items_of a height es) keys
-            (keys_below a least height s each es (All-tail (IsRight a least height) e es all)
-            (omega (arith, times-append s (slots_in a height e.child) (slots_of a height es))))
-        | inr here ↦
-            in_front (items_in a height e.child) (items_of a height es) keys
-            (each e.child (All-head (IsRight a least height) e es all).subtree here)
-      ]
+  -- the entry below which a slot stands
+  entry_above : (height s : ℕ) (es : List Entry) → 1 ≤ times s (slots_of a height es)
+      → (e : Entry) × Contains es e × (1 ≤ times s (slots_in a height e.child))
+  entry_above height s [] some = absurd (omega arith)
+  entry_above height s (e ∷ es) some = elim (none_or_some (times s (slots_in a height e.child))) [
+    | inr here ↦ (e, (zero, omega arith, refl), here)
+    | inl none ↦
+        let w = entry_above height s es (omega (arith, times-append s (slots_in a height e.child) (slots_of a height es))) in
+        (w.0, (suc w.1.0, omega (arith, w.1.1), w.1.2), w.2)
+  ]
 
   -- the keys of a node of a subtree are those of items of the subtree
-  pub keys_known : (a : Arena (Node N)) (least s height slot : ℕ) → IsSubtree a least height slot
-      → 1 ≤ times s (slots_in a height slot) → AreOf (items_in a height slot) (keys_of (entries_at a s))
-  keys_known a least s zero slot h some = elim (once_cases s slot) [
-    | inl same ↦
-        let own = keys_of (entries_at a slot) in
-        subst (λ t. AreOf (items_in a zero slot) (keys_of (entries_at a t))) same.0
-        (subst (λ xs. All (Contains xs) own) (sym (keys_of_items (entries_at a slot))) (All-contains_itself own))
+  keys_known : (s height slot : ℕ) → IsSubtree a least height slot → 1 ≤ times s (slots_in a height slot)
+      → AreOf (items_in a height slot) (keys_of (entries_at a s))
+  keys_known s zero slot h some = elim (once_cases s slot) [
+    | inl same ↦ rw (← same.0, map-map) (All-contains_itself (keys_of (entries_at a slot)))
     | inr other ↦ absurd (omega (arith, other.1))
   ]
-  keys_known a least s (suc height) slot h some = elim (once_cases s slot) [
+  keys_known s (suc height) slot h some = elim (once_cases s slot) [
     | inl same ↦
-        subst (λ t. AreOf (items_in a (suc height) slot) (keys_of (entries_at a t))) same.0
-        (own_keys a least height (entries_at a slot) h.2)
+        let es = entries_at a slot in
+        rw (← same.0) (All-map (Contains (keys_in (items_of a height es))) (λ (e : Entry). e.key) es
+        (λ i d lt. let t = (h.2 i d lt).tells in
+        key_below height es (get_or es i d) (Contains-get_or es i d lt) _ (rw t.items_are (zero, omega arith, sym t.key))))
     | inr other ↦
-        keys_below a least height s (keys_known a least s height) (entries_at a slot) h.2 (omega (arith, other.1))
+        let w = entry_above height s (entries_at a slot) (omega (arith, other.1)) in
+        let child = All-contains (IsRight a least height) (entries_at a slot) w.0 h.2 w.1 in
+        λ i d lt. key_below height (entries_at a slot) w.0 w.1 _ (keys_known s height w.0.child child.subtree w.2 i d lt)
   ]
 
-  -- Each key in each node of a tree is that of an item.
-  pub know_items : (nodes : Arena (Node N)) (root height room : ℕ) → IsRooted nodes root height
-      → KnowItems (record { items = items_in nodes height root; room = room; all_heads = heads_list nodes })
-  know_items nodes root height room r s =
-      subst (λ o. IfSome o (λ (key_heads : KeyHeads). AreOf (items_in nodes height root) key_heads.keys)) (sym (read_list nodes s))
-      (by_record (record_at nodes s) refl)
-    where
-      slots : List ℕ
-      slots = slots_in nodes height root
-
-      among : IsLive nodes s → 1 ≤ times s slots
-      among live =
-          no_other nodes.records slots (once_if_distinct slots r.distinct)
-          (live_in nodes (least_of N) height root r.subtree) r.linked s live
-
-      by_record : (o : Option (Record (Node N))) → record_at nodes s ≡ o
-          → IfSome (option_map key_heads_of (option_map (λ r. r.header) o)) (λ key_heads. AreOf (items_in nodes height root) key_heads.keys)
-      by_record None e = tt
-      by_record (Some record_there) e =
-          let all = keys_known nodes (least_of N) s height root r.subtree (among (ap is_some e)) in
-          subst (λ o. AreOf (items_in nodes height root) (keys_of (unwrap_or (option_map entries_of (option_map (λ r. r.header) o)) [])))
-          e all
+-- Each key in each node of a tree is that of an item.
+pub know_items : {N : ℕ} (nodes : Arena (Node N)) (root height room : ℕ) → IsRooted nodes root height
+    → KnowItems (record { items = items_in nodes height root; room = room; all_heads = heads_list nodes })
+know_items {N} nodes root height room r s =
+    rw (read_list nodes s) (by_record (record_at nodes s) refl)
+  where
+    by_record : (o : Option (Record (Node N))) → record_at nodes s ≡ o
+        → IfSome (option_map key_heads_of (option_map (λ r. r.header) o)) (λ h. AreOf (items_in nodes height root) h.keys)
+    by_record None e = tt
+    by_record (Some record_there) e =
+        let slots = slots_in nodes height root in
+        let live = live_in nodes (least_of N) height root r.subtree in
+        let among = no_other nodes.records slots (once_if_distinct slots r.distinct) live r.linked s (ap is_some e) in
+        rw e at (keys_known nodes (least_of N) s height root r.subtree among)
