@@ -32,42 +32,31 @@ module _ {X : Type 0} where
 
 pub returns-then-self-half-clause-entries : goal.returns-then-self-half-clause-entries
 returns-then-self-half-clause-entries g c =
-    let left = c.args.self.now in
-    let half = (left.len + c.args.right.now.len) / 2 in
-    let new = c.move_tail.new.self in
-    (moved_right left.entries new.entries c.entries.result.now (entries_of c.prepend.new.self) (entries_of c.args.right.now)
-    left.len half new.len (omega arith) (omega (arith, c.if-self-half.true)) (omega (arith, c.move_tail.ensures.len))
-    c.move_tail.ensures.entries c.entries.ensures.entries c.prepend.ensures.entries).1
+    (moved_right _ _ _ _ _ c.args.self.now.len _ _ (omega arith) (omega (arith, c.if-self-half.true))
+    (omega (arith, c.move_tail.ensures.len)) c.move_tail.ensures.entries c.entries.ensures.entries c.prepend.ensures.entries).1
 
 pub returns-then-self-half-clause-heads : goal.returns-then-self-half-clause-heads
 returns-then-self-half-clause-heads g c =
     let left = c.args.self.now in
-    let right = c.args.right.now in
-    let half = (left.len + right.len) / 2 in
-    let new = c.move_tail.new.self in
+    let half = (left.len + c.args.right.now.len) / 2 in
+    let move = c.move_tail.ensures in
     let within : half ≤ left.len = omega (arith, c.if-self-half.true) in
-    let len : new.len ≡ half = omega (arith, c.move_tail.ensures.len) in
-    let entries = moved_right left.entries new.entries c.entries.result.now (entries_of c.prepend.new.self) (entries_of right)
-    left.len half new.len (omega arith) within len c.move_tail.ensures.entries
+    let len : c.move_tail.new.self.len ≡ half = omega (arith, move.len) in
+    let entries = moved_right _ _ _ _ _ left.len half _ (omega arith) within len move.entries
     c.entries.ensures.entries c.prepend.ensures.entries in
-    let heads = moved_right left.heads (copy_within left.heads left.len left.len half) c.heads.result.now
-    (key_heads_of c.prepend.new.self).heads (key_heads_of right).heads left.len half
-    new.len (omega arith) within len refl c.heads.ensures.heads c.prepend.ensures.heads.heads_are in
+    let heads = moved_right left.heads (copy_within left.heads left.len left.len half) _ _ _ left.len half _ (omega arith)
+    within len refl c.heads.ensures.heads c.prepend.ensures.heads.heads_are in
     record {
-      prefix_len = c.move_tail.ensures.prefix_len;
+      prefix_len = move.prefix_len;
       right_prefix_len = c.prepend.ensures.heads.prefix_len;
-      heads_are = cc (heads.1, c.move_tail.ensures.heads);
-      count = cc (heads.0, entries.0, c.move_tail.ensures.heads);
+      heads_are = cc (heads.1, move.heads);
+      count = cc (heads.0, entries.0, move.heads);
     }
 
 pub returns-else-self-half-clause-entries : goal.returns-else-self-half-clause-entries
 returns-else-self-half-clause-entries g c =
-    let left = c.args.self.now in
-    let right = c.args.right.now in
-    let new = c.move_tail-else-self-half.new.self in
-    (moved_left (entries_of left) right.entries new.entries c.entries-else-self-half.result.now (entries_of c.append.new.self)
-    right.len ((left.len + right.len) / 2 - left.len) new.len (omega arith) (omega arith)
-    (omega (arith, c.move_tail-else-self-half.ensures.len)) c.move_tail-else-self-half.ensures.entries
+    let move = c.move_tail-else-self-half.ensures in
+    (moved_left _ _ _ _ _ c.args.right.now.len _ _ (omega arith) (omega arith) (omega (arith, move.len)) move.entries
     c.entries-else-self-half.ensures.entries c.append.ensures.entries).1
 
 pub returns-else-self-half-clause-heads : goal.returns-else-self-half-clause-heads
@@ -75,19 +64,17 @@ returns-else-self-half-clause-heads g c =
     let left = c.args.self.now in
     let right = c.args.right.now in
     let more = (left.len + right.len) / 2 - left.len in
-    let new = c.move_tail-else-self-half.new.self in
-    let len : new.len ≡ right.len - (more - 0) = omega (arith, c.move_tail-else-self-half.ensures.len) in
-    let entries = moved_left (entries_of left) right.entries new.entries c.entries-else-self-half.result.now
-    (entries_of c.append.new.self) right.len more new.len (omega arith) (omega arith) len
-    c.move_tail-else-self-half.ensures.entries c.entries-else-self-half.ensures.entries c.append.ensures.entries in
-    let heads = moved_left (key_heads_of left).heads right.heads (copy_within right.heads more right.len 0)
-    c.heads-else-self-half.result.now (key_heads_of c.append.new.self).heads right.len more new.len (omega arith) (omega arith)
-    len refl c.heads-else-self-half.ensures.heads c.append.ensures.heads.heads_are in
+    let move = c.move_tail-else-self-half.ensures in
+    let len : c.move_tail-else-self-half.new.self.len ≡ right.len - (more - 0) = omega (arith, move.len) in
+    let entries = moved_left _ _ _ _ _ right.len more _ (omega arith) (omega arith) len move.entries
+    c.entries-else-self-half.ensures.entries c.append.ensures.entries in
+    let heads = moved_left _ right.heads (copy_within right.heads more right.len 0) _ _ right.len more _ (omega arith)
+    (omega arith) len refl c.heads-else-self-half.ensures.heads c.append.ensures.heads.heads_are in
     let left_heads = length-take-le left.len left.heads (omega arith) in
     let left_entries = length-take-le left.len left.entries (omega arith) in
     record {
       prefix_len = c.append.ensures.heads.prefix_len;
-      right_prefix_len = c.move_tail-else-self-half.ensures.prefix_len;
-      heads_are = cc (heads.1, c.move_tail-else-self-half.ensures.heads);
+      right_prefix_len = move.prefix_len;
+      heads_are = cc (heads.1, move.heads);
       count = omega (arith, heads.0, entries.0, left_heads, left_entries);
     }
