@@ -1,4 +1,4 @@
-use Rattle.std.proofs.Common.{[], ◌∷◌, length, sym, ap, arith, rules}
+use Rattle.std.proofs.Common.{[], length, sym, ap, arith, rules}
 use Rattle.tree.proofs.Frames.{entries_same, live_same}
 use Rattle.tree.proofs.Changing.{changes_if_moves, moves_trans, moves_released}
 use Rattle.tree.proofs.Placing.{entries_from_header, put_entries, put_live, put_others, put_moves, moves_first, moves_second, released_spare}

@@ -1,4 +1,4 @@
-use Rattle.std.proofs.Common.{◌≡◌, ◌≤◌, ◌<◌, ◌+◌, ◌++◌, ℕ, List, [], ◌∷◌, All, append-nil, length, length-append, length-drop, length-set, length-take, get_or, set, take, drop, ap, ◌∙◌, sym, arith, rules}
+use Rattle.std.proofs.Common.{◌≡◌, ◌≤◌, ◌+◌, ℕ, List, [], ◌∷◌, append-nil, length, length-append, length-drop, length-set, length-take, get_or, set, ap, ◌∙◌, sym, arith, rules}
 use Rattle.tree.specs.declared.entry.Entry.{Entry}
 use Rattle.tree.specs.Node.{entries_of}
 use Rattle.tree.specs.Rebalancing.{AreTwo}
@@ -68,19 +68,17 @@ header_ref-requires-2 g c = record { live = (two g (goal.at.header_ref-requires-
 
 pub merge-requires : goal.merge-requires
 merge-requires g c =
-    let a = c.args.nodes.now in
     let s = (goal.at.merge-requires g c).After-index-entries-index-2 in
-    let first_len = ap length (entries_from_header a (first g s) c.header_ref.result.now c.header_ref.ensures.header) in
-    let second_len = ap length (entries_from_header a (second g s) c.header_ref-2.result.now c.header_ref-2.ensures.header) in
-    (search rules, (two g s, omega (arith, first_len, second_len, c.len.ensures.len, c.len-2.ensures.len, c.if-count.true)))
+    let first_was = entries_from_header c.args.nodes.now (first g s) _ c.header_ref.ensures.header in
+    let second_was = entries_from_header c.args.nodes.now (second g s) _ c.header_ref-2.ensures.header in
+    (search rules, (two g s, rw (first_was, second_was) (omega arith)))
 
 pub redistribute-requires : goal.redistribute-requires
 redistribute-requires g c =
-    let a = c.args.nodes.now in
     let s = (goal.at.redistribute-requires g c).After-index-entries-index-2 in
-    let first_len = ap length (entries_from_header a (first g s) c.header_ref.result.now c.header_ref.ensures.header) in
-    let second_len = ap length (entries_from_header a (second g s) c.header_ref-2.result.now c.header_ref-2.ensures.header) in
-    (search rules, (two g s, omega (arith, first_len, second_len, c.len.ensures.len, c.len-2.ensures.len, c.if-count.false)))
+    let first_was = entries_from_header c.args.nodes.now (first g s) _ c.header_ref.ensures.header in
+    let second_was = entries_from_header c.args.nodes.now (second g s) _ c.header_ref-2.ensures.header in
+    (search rules, (two g s, rw (first_was, second_was) (omega arith)))
 
 pub entry_for-requires : goal.entry_for-requires
 entry_for-requires g c =

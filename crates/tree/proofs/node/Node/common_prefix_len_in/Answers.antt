@@ -1,4 +1,4 @@
-use Rattle.std.proofs.Common.{◌≡◌, ◌≢◌, ◌∙◌, sym, get_or, get_or-take, arith, length-take}
+use Rattle.std.proofs.Common.{◌≢◌, ◌∙◌, sym, get_or, get_or-take, arith, length-take}
 use Rattle.tree.specs.Node.{entries_of, key_heads_of}
 use Rattle.tree.proofs.HeadAt.{entry_at, entry_there, key_there, common_at, differs_too}
 use Rattle.tree.proofs.node.Node.common_prefix_len_in.Goals as goal

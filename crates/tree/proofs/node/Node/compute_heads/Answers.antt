@@ -1,4 +1,4 @@
-use Rattle.std.proofs.Common.{◌≡◌, ◌<◌, ◌≤◌, ◌∙◌, length, take, refl, ap, sym, arith}
+use Rattle.std.proofs.Common.{◌<◌, ◌≤◌, ◌∙◌, length, refl, ap, sym, arith}
 use Rattle.std.proofs.lemmas.List.{length-set}
 use Rattle.tree.specs.Heads.{head_at}
 use Rattle.tree.specs.Node.{entries_of, keys_of}

@@ -1,4 +1,4 @@
-use Rattle.std.proofs.Common.{arith, refl, ◌≡◌, ◌<◌, ◌≤◌, ◌∙◌, ap, length, get_or}
+use Rattle.std.proofs.Common.{arith, refl, ◌<◌, ◌≤◌, ap, length, get_or}
 use Rattle.std.proofs.lemmas.List.{length-take-le, map-set}
 use Rattle.std.proofs.lemmas.List.Elements.{All-contains}
 use Rattle.std.proofs.Math.Seq.{take-set-lt}

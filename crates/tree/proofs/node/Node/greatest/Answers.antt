@@ -1,4 +1,4 @@
-use Rattle.std.proofs.Common.{rules, ◌+◌, sym, subst, take, ℤ, SFits, w64}
+use Rattle.std.proofs.Common.{rules, SFits, w64}
 use Rattle.std.proofs.lemmas.Int.{to_z-of_z}
 use Rattle.tree.proofs.Greatest.{greatest-next}
 use Rattle.tree.specs.Item.{version_of}

@@ -1,4 +1,4 @@
-use Rattle.std.proofs.Common.{◌<◌, ◌≤◌, ◌-◌, ◌∙◌, inr, sym, ap, get_or-take, length, length-take, arith}
+use Rattle.std.proofs.Common.{◌<◌, ◌-◌, ◌∙◌, inr, sym, get_or-take, length, length-take, arith}
 use Rattle.std.proofs.lemmas.Bool.{leb-true}
 use Rattle.tree.specs.Node.{entries_of}
 use Rattle.tree.proofs.HeadAt.{entry_at, entry_there, key_there, agrees_at}

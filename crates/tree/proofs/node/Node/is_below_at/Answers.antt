@@ -1,4 +1,4 @@
-use Rattle.std.proofs.Common.{◌≡◌, ◌<◌, ◌∙◌, sym, get_or-take, length-take, arith}
+use Rattle.std.proofs.Common.{◌<◌, ◌∙◌, get_or-take, length-take, arith}
 use Rattle.tree.specs.Node.{entries_of}
 use Rattle.tree.proofs.HeadAt.{entry_there, key_there, told_at}
 use Rattle.tree.proofs.node.Node.is_below_at.Goals as goal

@@ -1,4 +1,4 @@
-use Rattle.std.proofs.Common.{◌<◌, ◌-◌, ◌∙◌, sym, length, arith}
+use Rattle.std.proofs.Common.{◌-◌, ◌∙◌, sym, arith}
 use Rattle.tree.specs.declared.entry.Entry.{Entry}
 use Rattle.tree.specs.Node.{entries_of}
 use Rattle.tree.proofs.HeadAt.{entry_at}
@@ -17,6 +17,5 @@ returns-else-not-is_below_at g c =
     let i = c.loop-count.count - 1 in
     let e = entry_at (entries_of c.args.self.now) i (omega (arith, c.loop-count-test.true, c.loop-count.invariant.0)) in
     let passes = sym (c.is_below_at.ensures.is_below e.0 e.1) ∙ c.if-not-is_below_at.false in
-    let is_below = λ (e : Entry). g.P.Bound.below c.args.bound.now e.key in
-    let more = passing_inside is_below _ i e.0 c.requires.can_find.partitioned e.1 passes in
+    let more = passing_inside _ _ i e.0 c.requires.can_find.partitioned e.1 passes in
     record { count = record { within = c.loop-count.invariant.0; count_is = omega (arith, more, c.loop-count.invariant.1) } }

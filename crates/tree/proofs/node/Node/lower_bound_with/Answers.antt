@@ -11,8 +11,7 @@ returns-in-None g c =
     let es = entries_of c.args.self.now in
     let e = entry_at es 0 can.can_find.some in
     let fails = rw c.in-None.is at can.known in
-    let is_below = λ (e : Entry). g.P.Bound.below c.args.bound.now e.key in
-    let none = passing_before is_below es 0 e.0 can.can_find.partitioned e.1 (fails e.0 e.1) in
+    let none = passing_before _ es 0 e.0 can.can_find.partitioned e.1 (fails e.0 e.1) in
     record { count = record { within = omega arith; count_is = omega (arith, none) } }
 
 pub lower_bound_by_head-requires : goal.lower_bound_by_head-requires

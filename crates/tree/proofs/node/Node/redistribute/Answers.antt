@@ -1,7 +1,7 @@
 use Rattle.std.proofs.Common.{arith, refl, ◌≡◌, ◌≤◌, ℕ, ◌/◌, ◌+◌, ◌-◌, List, ◌++◌, ap, append_assoc, length, length-append, length-drop, take, drop}
 use Rattle.std.specs.List.{copy_within}
+use Rattle.std.proofs.lemmas.Grind.{common_steps}
 use Rattle.std.proofs.lemmas.List.{take-append-drop, take_all, length-take-le}
-use Rattle.tree.specs.Node.{entries_of, key_heads_of}
 use Rattle.tree.proofs.Entries.{take-cut, take-removed}
 use Rattle.tree.proofs.node.Node.redistribute.Goals as goal
 
@@ -30,13 +30,8 @@ module _ {X : Type 0} where
         cc (take-append-drop more rest, append_assoc all (take more rest) (drop more rest)),
       )
 
-pub returns-then-self-half-clause-entries : goal.returns-then-self-half-clause-entries
-returns-then-self-half-clause-entries g c =
-    (moved_right _ _ _ _ _ c.args.self.now.len _ _ (omega arith) (omega (arith, c.if-self-half.true))
-    (omega (arith, c.move_tail.ensures.len)) c.move_tail.ensures.entries c.entries.ensures.entries c.prepend.ensures.entries).1
-
-pub returns-then-self-half-clause-heads : goal.returns-then-self-half-clause-heads
-returns-then-self-half-clause-heads g c =
+pub returns-then-self-half : goal.returns-then-self-half
+returns-then-self-half g c =
     let left = c.args.self.now in
     let half = (left.len + c.args.right.now.len) / 2 in
     let move = c.move_tail.ensures in
@@ -47,20 +42,18 @@ returns-then-self-half-clause-heads g c =
     let heads = moved_right left.heads (copy_within left.heads left.len left.len half) _ _ _ left.len half _ (omega arith)
     within len refl c.heads.ensures.heads c.prepend.ensures.heads.heads_are in
     record {
-      prefix_len = move.prefix_len;
-      right_prefix_len = c.prepend.ensures.heads.prefix_len;
-      heads_are = cc (heads.1, move.heads);
-      count = cc (heads.0, entries.0, move.heads);
+      entries = entries.1;
+      heads = record {
+        prefix_len = move.prefix_len;
+        right_prefix_len = c.prepend.ensures.heads.prefix_len;
+        heads_are = cc (heads.1, move.heads);
+        count = cc (heads.0, entries.0, move.heads);
+      };
+      filled = grind (arith, common_steps);
     }
 
-pub returns-else-self-half-clause-entries : goal.returns-else-self-half-clause-entries
-returns-else-self-half-clause-entries g c =
-    let move = c.move_tail-else-self-half.ensures in
-    (moved_left _ _ _ _ _ c.args.right.now.len _ _ (omega arith) (omega arith) (omega (arith, move.len)) move.entries
-    c.entries-else-self-half.ensures.entries c.append.ensures.entries).1
-
-pub returns-else-self-half-clause-heads : goal.returns-else-self-half-clause-heads
-returns-else-self-half-clause-heads g c =
+pub returns-else-self-half : goal.returns-else-self-half
+returns-else-self-half g c =
     let left = c.args.self.now in
     let right = c.args.right.now in
     let more = (left.len + right.len) / 2 - left.len in
@@ -73,8 +66,12 @@ returns-else-self-half-clause-heads g c =
     let left_heads = length-take-le left.len left.heads (omega arith) in
     let left_entries = length-take-le left.len left.entries (omega arith) in
     record {
-      prefix_len = c.append.ensures.heads.prefix_len;
-      right_prefix_len = move.prefix_len;
-      heads_are = cc (heads.1, move.heads);
-      count = omega (arith, heads.0, entries.0, left_heads, left_entries);
+      entries = entries.1;
+      heads = record {
+        prefix_len = c.append.ensures.heads.prefix_len;
+        right_prefix_len = move.prefix_len;
+        heads_are = cc (heads.1, move.heads);
+        count = omega (arith, heads.0, entries.0, left_heads, left_entries);
+      };
+      filled = grind (arith, common_steps);
     }

@@ -1,9 +1,8 @@
-use Rattle.std.proofs.Common.{rules, ◌≡◌, ◌<◌, ◌≤◌, ◌∙◌, inr, length, slice_index_or, take, slice_set, ap, sym, arith}
+use Rattle.std.proofs.Common.{rules, ◌≡◌, ◌<◌, ◌≤◌, ◌∙◌, inr, length, slice_index_or, slice_set, ap, sym, arith}
 use Rattle.std.proofs.lemmas.Bool.{eqb-true}
 use Rattle.std.proofs.lemmas.List.{length-set, length-take-le, map-set}
 use Rattle.std.proofs.Math.Seq.{take-set-lt}
-use Rattle.tree.specs.declared.entry.Entry.{Entry}
-use Rattle.tree.specs.Heads.{KeyHeads, AreHeads, head_at}
+use Rattle.tree.specs.Heads.{KeyHeads}
 use Rattle.tree.specs.Node.{entries_of, key_heads_of, keys_of}
 use Rattle.tree.proofs.HeadChanges.{head_known, headed_set, key_stays, known_set}
 use Rattle.tree.proofs.node.Node.set_with_head.Goals as goal

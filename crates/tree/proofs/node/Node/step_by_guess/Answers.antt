@@ -47,7 +47,7 @@ returns g c =
     let e = entry_at es guess (tells.within refl) in
     let less = lt-ltb (get_or (key_heads_of node).heads guess 0) own (tells.behind refl) in
     let passed = less_passes _ _ find.headed _ _ order guess e.0.key own (key_there es guess e.0 e.1) is less in
-    let many = passing_inside (λ (e : Entry). g.P.Bound.below c.args.bound.now e.key) es guess e.0 find.partitioned e.1 passed in
+    let many = passing_inside _ es guess e.0 find.partitioned e.1 passed in
     let few = few_pass _ node find.headed _ _ order own is find.partitioned (guess + 1) (tells.before refl) in
     let knows = c.common_prefix_len_in-known.ensures.known in
     record { step = record { index_is = omega (arith, many, few); within = tells.within refl; knows = knows } }
