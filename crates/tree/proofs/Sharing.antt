@@ -1,5 +1,5 @@
 -- Two neighbours that are merged or merge_or_redistribute their entries, and the entries of the node above.
-use Rattle.std.proofs.Common.{◌≡◌, ℕ, zero, suc, ◌+◌, ◌<◌, ◌≤◌, List, [], ◌∷◌, ◌++◌, length, length-append, get_or, set, take, drop, map, option_map, unwrap_or, refl, sym, ap, ap₂, subst, ◌∙◌, arith, append_assoc}
+use Rattle.std.proofs.Common.{◌≡◌, ℕ, zero, suc, ◌+◌, add-one, ◌<◌, ◌≤◌, List, [], ◌∷◌, ◌++◌, length, length-append, get_or, set, take, drop, map, option_map, unwrap_or, refl, sym, ap, ap₂, subst, ◌∙◌, arith, append_assoc}
 use Rattle.std.proofs.lemmas.List.{map-append, take-append-drop, drop_more, set_split, take_more_set, drop-set-lt, length-set}
 use Rattle.std.specs.List.{All, flat_map}
 use Rattle.std.proofs.lemmas.List.Elements.{All-nil, All-cons, All-head, All-tail, All-append}
@@ -41,17 +41,14 @@ set_removed es i t within =
 pub set_both : (es : List Entry) (i : ℕ) (t u : Entry) → i + 1 < length es
     → set (set es i t) (i + 1) u ≡ take i es ++ (t ∷ u ∷ [] ++ drop (i + 2) es)
 set_both es i t u within =
-    let len : length (set es i t) ≡ length es = length-set es i t in
     let next : suc (i + 1) ≡ i + 2 = omega arith in
-    let parts = append_assoc (take i es) (t ∷ []) (u ∷ drop (i + 2) es) in
+    let whole = set_split (set es i t) (i + 1) u (omega (arith, length-set es i t)) in
     let back = drop-set-lt (i + 2) es i t (omega arith) in
-    cc (set_split (set es i t) (i + 1) u (omega arith), take_more_set es i t (omega arith), back, parts)
+    cc (take_more_set es i t (omega arith), append_assoc (take i es) (t ∷ []) (u ∷ drop (i + 2) es))
 
 pub set_one : (es : List Entry) (i : ℕ) (t : Entry) → i < length es
     → set es i t ≡ take i es ++ (t ∷ [] ++ drop (i + 1) es)
-set_one es i t within =
-    let next : suc i ≡ i + 1 = omega arith in
-    set_split es i t within ∙ ap (λ n. take i es ++ t ∷ drop n es) next
+set_one es i t within = rw add-one (set_split es i t within)
 
 -- what is computed of all parts is what is computed of each
 flat_map-parts : {X Y Z : Type 0} (f : X → List Y) (g : List Y → List Z) → g [] ≡ []

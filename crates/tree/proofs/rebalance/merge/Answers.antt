@@ -14,32 +14,6 @@ release-requires g c =
     let kept = put_others a b c.args.first _ c.set_header.ensures.replaced c.args.second (λ same. two.apart (sym same)) in
     record { live = live_same a b c.args.second kept two.live_second }
 
-pub returns-clause-entries : goal.returns-clause-entries
-returns-clause-entries g c =
-    let a = c.args.nodes.now in
-    let first_was = entries_from_header a c.args.first _ c.header-merged.ensures.header in
-    let second_was = entries_from_header a c.args.second _ c.header_ref.ensures.header in
-    let b = c.set_header.new.self in
-    let put = put_entries a b c.args.first c.append_with_heads.new.self c.set_header.ensures.replaced in
-    let kept = entries_same b c.release.new.self c.args.first (c.release.ensures.others c.args.first c.requires.two.apart) in
-    cc
-
-pub returns-clause-changes : goal.returns-clause-changes
-returns-clause-changes g c =
-    let a = c.args.nodes.now in
-    let b = c.set_header.new.self in
-    let x = c.args.first in
-    let y = c.args.second in
-    let two = c.requires.two in
-    let replaced = c.set_header.ensures.replaced in
-    let release = c.release.ensures in
-    let put = put_moves a b x _ replaced two.live_first two.keyless in
-    let live_y = live_same a b y (put_others a b x _ replaced y (λ same. two.apart (sym same))) two.live_second in
-    let expired = moves_released b c.release.new.self y put.keyless live_y release.released release.others
-    (released_spare b c.release.new.self y live_y put.keyless release.spare) in
-    changes_if_moves a _ _ _ (moves_trans a b _ _ _ _ (moves_first a b x y two.apart two.live_second put)
-    (moves_second b _ x y [] two.apart (put_live a b x _ replaced) expired))
-
 pub append_with_heads-requires : goal.append_with_heads-requires
 append_with_heads-requires g c =
     let a = c.args.nodes.now in
@@ -50,9 +24,29 @@ append_with_heads-requires g c =
     let second = headed_at _ a c.args.second _ two.headed c.header_ref.ensures.header in
     (search rules, (omega (arith, c.requires.room, first_was, second_was), (first, second)))
 
-pub returns-clause-headed : goal.returns-clause-headed
-returns-clause-headed g c =
+pub returns : goal.returns
+returns g c =
+    let a = c.args.nodes.now in
     let b = c.set_header.new.self in
-    let put = headed_header _ c.args.nodes.now b c.args.first _ c.set_header.ensures.replaced c.requires.two.headed
-    c.append_with_heads.ensures.headed in
-    headed_released _ b c.release.new.self c.args.second put c.release.ensures.released c.release.ensures.others
+    let d = c.release.new.self in
+    let x = c.args.first in
+    let y = c.args.second in
+    let two = c.requires.two in
+    let merged = c.append_with_heads.new.self in
+    let replaced = c.set_header.ensures.replaced in
+    let release = c.release.ensures in
+    let first_was = entries_from_header a x _ c.header-merged.ensures.header in
+    let second_was = entries_from_header a y _ c.header_ref.ensures.header in
+    let first_is = put_entries a b x merged replaced in
+    let kept = entries_same b d x (release.others x two.apart) in
+    let put = put_moves a b x merged replaced two.live_first two.keyless in
+    let live_y = live_same a b y (put_others a b x merged replaced y (λ same. two.apart (sym same))) two.live_second in
+    let expired = moves_released b d y put.keyless live_y release.released release.others
+    (released_spare b d y live_y put.keyless release.spare) in
+    let headed = headed_header _ a b x merged replaced two.headed c.append_with_heads.ensures.headed in
+    record {
+      entries = cc;
+      changes = changes_if_moves a d _ _ (moves_trans a b d _ _ _ (moves_first a b x y two.apart two.live_second put)
+          (moves_second b d x y [] two.apart (put_live a b x merged replaced) expired));
+      headed = headed_released _ b d y headed release.released release.others;
+    }

@@ -41,13 +41,11 @@ module _ (g : given.Over) (c : After-index-entries-index-2 g) where
       let can = c.requires.can_merge in
       let f = can.family in
       let live = live_subtree c.args.nodes.now (least_of g.row.N) f.0 in
-      let below = f.1.below c.args.index c.index-entries-index.result (omega arith) in
-      let below_next = f.1.below (c.args.index + 1) c.index-entries-index-2.result can.within in
       let apart = apart_pair c.args.nodes.now (least_of g.row.N) f.0 es c.args.index c.index-entries-index.result
       c.index-entries-index-2.result can.within f.1 in
       record {
-        live_first = live first (rw first_is below);
-        live_second = live second (rw second_is below_next);
+        live_first = live first (rw first_is (f.1.below c.args.index c.index-entries-index.result (omega arith)));
+        live_second = live second (rw second_is (f.1.below (c.args.index + 1) c.index-entries-index-2.result can.within));
         apart = λ same. apart (sym first_is ∙ same ∙ second_is);
         keyless = can.keyless;
         headed = can.headed;
@@ -89,14 +87,10 @@ entry_for-requires g c =
     (search rules, (live_if_some b (first g s) some, some))
 
 pub entry_for-requires-2 : goal.entry_for-requires-2
-entry_for-requires-2 g c =
-    let x = first g (goal.at.entry_for-requires-2 g c).After-index-entries-index-2 in
-    (search rules, (live_if_some c.redistribute.new.nodes x (omega arith), omega arith))
+entry_for-requires-2 g c = (search rules, (live_if_some c.redistribute.new.nodes _ (omega arith), omega arith))
 
 pub entry_for-requires-3 : goal.entry_for-requires-3
-entry_for-requires-3 g c =
-    let y = second g (goal.at.entry_for-requires-3 g c).After-index-entries-index-2 in
-    (search rules, (live_if_some c.redistribute.new.nodes y (omega arith), omega arith))
+entry_for-requires-3 g c = (search rules, (live_if_some c.redistribute.new.nodes _ (omega arith), omega arith))
 
 pub returns-then-count-clause-rebalanced : goal.returns-then-count-clause-rebalanced
 returns-then-count-clause-rebalanced g c height family =

@@ -16,11 +16,10 @@ loop-index-preserved g c =
     let i = c.loop-index.index in
     let e = c.index-self-index.result in
     let is = c.index-self-index.is in
-    let known = rw (← inv.len, ← inv.entries) at c.requires.known in
     let inside : i < node.len = omega (arith, inv.len) in
     let most : node.len ≤ length node.entries = omega (arith, inv.len, ap length inv.entries) in
     let right = head_read node.entries node.len i e inside most is bytes node.prefix_len c.prefix_len.result c.head_of.result
-    c.prefix_len.ensures.prefix_len known c.head_of.ensures.head in
+    c.prefix_len.ensures.prefix_len (rw (← inv.len, ← inv.entries) at c.requires.known) c.head_of.ensures.head in
     record {
       len = inv.len;
       entries = inv.entries;

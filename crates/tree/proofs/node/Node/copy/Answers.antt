@@ -9,18 +9,8 @@ use Rattle.tree.proofs.HeadChanges.{head_there, headed_set, key_agrees, key_ther
 use Rattle.tree.proofs.Headed.{all_known}
 use Rattle.tree.proofs.node.Node.copy.Goals as goal
 
-pub returns-clause-entries : goal.returns-clause-entries
-returns-clause-entries g c e there =
-    let node = c.args.self.now in
-    let read = c.index-self-from.result in
-    let len = length-take-le node.len node.entries (omega arith) in
-    cc (
-      take-set-lt node.len node.entries c.args.to (get_or node.entries c.args.from read) (omega (arith, c.requires.to, len)),
-      entry_there node.entries node.len c.args.from e read there,
-    )
-
-pub returns-clause-headed : goal.returns-clause-headed
-returns-clause-headed g c bytes h =
+pub returns : goal.returns
+returns g c =
     let node = c.args.self.now in
     let from = c.args.from in
     let to = c.args.to in
@@ -30,11 +20,13 @@ returns-clause-headed g c bytes h =
     let len = length-take-le node.len node.entries most in
     let from_inside : from < node.len = omega (arith, c.requires.from, len) in
     let to_inside : to < node.len = omega (arith, c.requires.to, len) in
-    let there = key_there node.entries node.len from e from_inside most is in
-    let known = All-contains (IsKnown bytes) (keys_of (entries_of node)) e.key (all_known bytes (key_heads_of node) h) there in
     let set = take-set-lt node.len node.entries to (get_or node.entries from e) to_inside in
-    headed_set bytes (key_heads_of node) h _ to e.key (get_or node.heads from 0) known
-    (key_agrees bytes (key_heads_of node) h e.key there)
-    (head_there node.entries node.len from e from_inside most is (head_at bytes node.prefix_len) node.heads h.heads)
-    (cc (simp map-set at (ap keys_of set))) refl
-    (take-set-lt node.len node.heads to (get_or node.heads from 0) to_inside)
+    let there = key_there node.entries node.len from e from_inside most is in
+    record {
+      entries = λ d at. cc (set, entry_there node.entries node.len from d e at);
+      headed = λ bytes h. headed_set bytes (key_heads_of node) h _ to e.key (get_or node.heads from 0)
+          (All-contains (IsKnown bytes) (keys_of (entries_of node)) e.key (all_known bytes (key_heads_of node) h) there)
+          (key_agrees bytes (key_heads_of node) h e.key there)
+          (head_there node.entries node.len from e from_inside most is (head_at bytes node.prefix_len) node.heads h.heads)
+          (cc (simp map-set at (ap keys_of set))) refl (take-set-lt node.len node.heads to (get_or node.heads from 0) to_inside);
+    }

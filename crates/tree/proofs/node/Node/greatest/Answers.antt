@@ -10,8 +10,7 @@ loop-entry-preserved g c =
     let e = c.entry-item.result in
     let new = c.max-greatest.result in
     let fits : SFits w64 e.version = search rules in
-    let fits_new : SFits w64 new = search rules in
     let max = simp to_z-of_z at c.max-greatest.ensures in
-    rw (to_z-of_z w64 new fits_new) (greatest-next version_of (entries_of c.args.self.now) c.entries.result.now
+    rw (to_z-of_z w64 new (search rules)) (greatest-next version_of (entries_of c.args.self.now) c.entries.result.now
     c.loop-entry.entry-index e _ new c.entries.ensures.entries c.loop-entry-test.true c.entry-item.is c.loop-entry.invariant
     max.value max.self_bound max.other_bound)

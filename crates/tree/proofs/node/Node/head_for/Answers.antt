@@ -3,12 +3,7 @@ use Rattle.std.proofs.lemmas.Bool.{leb-true}
 use Rattle.tree.specs.Heads.{HasPrefix}
 use Rattle.tree.specs.Node.{entries_of, key_heads_of}
 use Rattle.tree.proofs.HeadAt.{entry_at, key_there, agrees_at}
-use Rattle.tree.proofs.node.Node.head_for.Goals.{
-  then-self-eq0+then-self-gt0,
-  else-self-eq0,
-  else-self-eq0-via-then-self-eq0+else-self-gt0,
-  else-self-eq0-via-else-self-eq0,
-}
+use Rattle.tree.proofs.node.Node.head_for.Goals.{then-self-eq0+then-self-gt0, else-self-eq0, else-self-eq0-via-then-self-eq0+else-self-gt0, else-self-eq0-via-else-self-eq0}
 use Rattle.tree.proofs.node.Node.head_for.Goals as goal
 
 pub returns : goal.returns

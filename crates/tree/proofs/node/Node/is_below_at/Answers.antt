@@ -1,4 +1,4 @@
-use Rattle.std.proofs.Common.{◌<◌, ◌∙◌, get_or-take, length-take, arith}
+use Rattle.std.proofs.Common.{◌∙◌, get_or-take, length-take, arith}
 use Rattle.tree.specs.Node.{entries_of}
 use Rattle.tree.proofs.HeadAt.{entry_there, key_there, told_at}
 use Rattle.tree.proofs.node.Node.is_below_at.Goals as goal
@@ -8,8 +8,7 @@ returns-in-Some g c = record {
   is_below = λ e there.
       let node = c.args.self.now in
       let i = c.args.index in
-      let inside : i < node.len = omega (arith, c.requires.within, length-take node.len node.entries) in
-      let own = get_or-take node.len node.heads i 0 inside in
+      let own = get_or-take node.len node.heads i 0 (omega (arith, c.requires.within, length-take node.len node.entries)) in
       rw (← own) (told_at _ _ c.requires.headed _ _ (g.met.P.Bound.order c.args.bound.now) i e.key c.in-Some.head
       (key_there (entries_of node) i e there) (rw c.in-Some.is at c.requires.head) (λ same. c.if-head-own.true (same ∙ own)));
 }

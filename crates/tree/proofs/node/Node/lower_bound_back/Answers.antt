@@ -1,5 +1,4 @@
 use Rattle.std.proofs.Common.{◌-◌, ◌∙◌, sym, arith}
-use Rattle.tree.specs.declared.entry.Entry.{Entry}
 use Rattle.tree.specs.Node.{entries_of}
 use Rattle.tree.proofs.HeadAt.{entry_at}
 use Rattle.tree.proofs.HeadCounts.{passing_before, passing_inside}

@@ -1,5 +1,4 @@
 use Rattle.std.proofs.Common.{rules, arith}
-use Rattle.tree.specs.declared.entry.Entry.{Entry}
 use Rattle.tree.specs.Node.{entries_of}
 use Rattle.tree.proofs.HeadAt.{entry_at, all_known}
 use Rattle.tree.proofs.HeadCounts.{passing_before}
@@ -10,8 +9,7 @@ returns-in-None g c =
     let can = c.requires.can_step.can_step in
     let es = entries_of c.args.self.now in
     let e = entry_at es 0 can.can_find.some in
-    let fails = rw c.in-None.is at can.known in
-    let none = passing_before _ es 0 e.0 can.can_find.partitioned e.1 (fails e.0 e.1) in
+    let none = passing_before _ es 0 e.0 can.can_find.partitioned e.1 ((rw c.in-None.is at can.known) e.0 e.1) in
     record { count = record { within = omega arith; count_is = omega (arith, none) } }
 
 pub lower_bound_by_head-requires : goal.lower_bound_by_head-requires

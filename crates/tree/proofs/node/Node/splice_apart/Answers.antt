@@ -1,4 +1,4 @@
-use Rattle.std.proofs.Common.{rules, ◌≡◌, ◌≤◌, List, ◌++◌, ◌∙◌, true, length, take, drop, refl, sym, arith}
+use Rattle.std.proofs.Common.{rules, ◌≡◌, ◌≤◌, ◌++◌, ◌∙◌, true, length, take, drop, refl, sym, arith}
 use Rattle.std.specs.List.{All}
 use Rattle.std.proofs.lemmas.List.{length-map, map-append}
 use Rattle.tree.specs.declared.entry.Entry.{Entry}
@@ -15,9 +15,6 @@ module _ (g : given.Over) (c : After-redistribute g) where
   abbrev bytes : KeyBytes
   bytes = g.P.Bound.bytes c.args.bound.now
 
-  abbrev es : List Entry
-  es = entries_of c.args.self.now
-
   abbrev node : KeyHeads
   node = key_heads_of c.args.self.now
 
@@ -30,7 +27,7 @@ module _ (g : given.Over) (c : After-redistribute g) where
   -- what both halves have, before entries are moved between them and then
   record AreBoth : Type 0 where
     entries : entries_of c.redistribute.new.self ++ entries_of c.redistribute.new.right
-        ≡ take c.args.from es ++ (c.args.new.now ++ drop c.args.to es)
+        ≡ take c.args.from (entries_of c.args.self.now) ++ (c.args.new.now ++ drop c.args.to (entries_of c.args.self.now))
     heads : left.heads ++ right.heads ≡ take c.args.from node.heads ++ (c.args.heads.now ++ drop c.args.to node.heads)
     prefix_len : left.prefix_len ≡ node.prefix_len
     right_prefix_len : right.prefix_len ≡ node.prefix_len
@@ -38,6 +35,7 @@ module _ (g : given.Over) (c : After-redistribute g) where
   both : AreBoth
   both =
       let can = c.requires.can_splice in
+      let es = entries_of c.args.self.now in
       let within : c.args.to ≤ length node.heads = omega (arith, can.within, heads_count bytes es node can.headed refl) in
       let split = c.split_off-right in
       elim c.if-from-new.branch [
@@ -54,7 +52,7 @@ module _ (g : given.Over) (c : After-redistribute g) where
   -- the keys of both halves
   keys : left.keys ++ right.keys ≡ take c.args.from node.keys ++ (keys_of c.args.new.now ++ drop c.args.to node.keys)
   keys = sym (map-append _ (entries_of c.redistribute.new.self) (entries_of c.redistribute.new.right))
-      ∙ map_spliced (λ (e : Entry). e.key) es c.args.new.now _ c.args.from c.args.to both.entries
+      ∙ map_spliced (λ (e : Entry). e.key) (entries_of c.args.self.now) c.args.new.now _ c.args.from c.args.to both.entries
 
   -- the heads of both are right where the new keys begin as all others do
   both_headed : c.args.alike ≡ true → AreHeads bytes left × AreHeads bytes right

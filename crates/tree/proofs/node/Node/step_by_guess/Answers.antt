@@ -1,5 +1,4 @@
 use Rattle.std.proofs.Common.{rules, ◌+◌, get_or, lt-ltb, refl, arith}
-use Rattle.tree.specs.declared.entry.Entry.{Entry}
 use Rattle.tree.specs.Node.{entries_of, key_heads_of}
 use Rattle.tree.proofs.HeadAt.{entry_at, few_pass, key_there, less_passes, stay}
 use Rattle.tree.proofs.HeadCounts.{passing_inside}
