@@ -22,7 +22,7 @@ returns g c =
     let greatest = rw (← c.entries.ensures.entries, parts) at c.greatest.ensures.greatest in
     record {
       child = refl;
-      tells = λ height least h. tells_items a least height c.args.child _ e (drop 1 xs) (same ∙ parts) (cc (c.index-entries-0.is))
+      tells = λ height least h. tells_items a least height c.args.child _ e (drop 1 xs) (same ∙ parts) (cc)
           (rw (to_z-of_z w64 c.greatest.result (search rules)) greatest) h;
       known = λ bytes headed. key_of_one (IsKnown bytes) xs 0 _ some
           (rw (← same) (common_prefix_len_at bytes a c.args.child headed));

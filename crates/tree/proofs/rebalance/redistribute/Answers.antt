@@ -5,7 +5,6 @@ use Rattle.tree.proofs.Changing.{changes_if_moves, moves_trans}
 use Rattle.tree.proofs.Placing.{entries_from_header, put_entries, put_live, put_others, put_moves, moves_first, moves_second}
 use Rattle.tree.proofs.Headed.{headed_at}
 use Rattle.tree.proofs.KnownKeys.{headed_header}
-use Rattle.tree.proofs.rebalance.redistribute.Given as given
 use Rattle.tree.proofs.rebalance.redistribute.Goals as goal
 
 pub set_header-requires : goal.set_header-requires

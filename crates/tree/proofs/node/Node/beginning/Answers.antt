@@ -1,4 +1,4 @@
-use Rattle.std.proofs.Common.{take, All, sym, subst}
+use Rattle.std.proofs.Common.{take, All, sym, subst, ◌-◌, length, slice_get}
 use Rattle.std.proofs.lemmas.List.{length-take-le}
 use Rattle.std.proofs.lemmas.List.Elements.{All-contains}
 use Rattle.tree.specs.Heads.{IsKnown, Begins}
@@ -20,7 +20,7 @@ returns g c =
     let last = c.in-Some-Some.last.now in
     let count = c.keys_prefix_len-count.result in
     let entries = c.entries-entries.ensures.entries in
-    let there = rw entries at (last_there xs last (sym c.in-Some-Some.ensures'.value)) in
+    let there = rw entries at (last_there xs last (sym {b = slice_get xs (length xs - 1)} c.in-Some-Some.ensures'.value)) in
     let k = All-contains (IsKnown _) (keys_of (entries_of c.args.self.now)) last.key c.requires.known there in
     let begin = c.keys_prefix_len-count.ensures.begin k.text k.known in
     let begins = subst (λ es. All (Begins (g.P.Bound.bytes c.args.bound.now) (take count k.text)) (keys_of es)) entries begin.1 in
