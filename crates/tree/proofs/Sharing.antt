@@ -1,18 +1,19 @@
 -- Two neighbours that are merged or merge_or_redistribute their entries, and the entries of the node above.
-use Rattle.std.proofs.Common.{◌≡◌, ℕ, zero, suc, ◌+◌, ◌<◌, ◌≤◌, List, [], ◌∷◌, ◌++◌, length, length-append, get_or, set, take, drop, map, option_map, unwrap_or, refl, sym, ap, ap₂, subst, ◌∙◌, arith, append_assoc}
+use Rattle.std.proofs.Common.{◌≡◌, ℕ, zero, suc, ◌+◌, add-one, ◌<◌, ◌≤◌, List, [], ◌∷◌, ◌++◌, length, length-append, get_or, set, take, drop, map, option_map, unwrap_or, refl, sym, ap, ap₂, subst, ◌∙◌, arith, append_assoc}
 use Rattle.std.proofs.lemmas.List.{map-append, take-append-drop, drop_more, set_split, take_more_set, drop-set-lt, length-set}
-use Rattle.std.proofs.lemmas.List.Elements.{All-append}
+use Rattle.std.specs.List.{All, flat_map}
+use Rattle.std.proofs.lemmas.List.Elements.{All-nil, All-cons, All-head, All-tail, All-append}
 use Rattle.std.proofs.lemmas.Option.{slice_get-get_or}
 use Rattle.arena.specs.Arena.{Arena}
 use Rattle.tree.specs.declared.entry.Entry.{Entry}
 use Rattle.tree.specs.declared.node.Node.{Node}
-use Rattle.tree.specs.Item.{item_of}
-use Rattle.tree.specs.Subtree.{entries_at, items_in, slots_in, IsSubtree}
+use Rattle.tree.specs.Item.{item_of, Tells}
+use Rattle.tree.specs.Subtree.{entries_at, items_in, IsSubtree}
 use Rattle.tree.specs.Replace.{child_at, items_of, slots_of, AreChildren, IsFamily, IsRebalanced}
-use Rattle.tree.proofs.callers.Times.{times, once, times-append, once_if_distinct}
-use Rattle.tree.proofs.Frames.{Agree, IsRight}
+use Rattle.tree.proofs.callers.Times.{times, times-append, once_if_distinct}
+use Rattle.tree.proofs.Frames.{IsRight, children_same}
 use Rattle.tree.proofs.Changing.{Moves, moves_beside, moves_agree, changes_if_moves}
-use Rattle.tree.proofs.Families.{items_of-append, times-slots_of, length-slots_of, live_children, replaced, holds}
+use Rattle.tree.proofs.Families.{slots_of-append, slots_of_same, items_of-append, items_of_same, times-slots_of, live_children, replaced}
 use Rattle.tree.proofs.Placing.{live_if_some}
 use Rattle.tree.proofs.callers.Partitions.{All-front, All-back}
 
@@ -40,130 +41,146 @@ set_removed es i t within =
 pub set_both : (es : List Entry) (i : ℕ) (t u : Entry) → i + 1 < length es
     → set (set es i t) (i + 1) u ≡ take i es ++ (t ∷ u ∷ [] ++ drop (i + 2) es)
 set_both es i t u within =
-    let len : length (set es i t) ≡ length es = length-set es i t in
     let next : suc (i + 1) ≡ i + 2 = omega arith in
-    let parts = append_assoc (take i es) (t ∷ []) (u ∷ drop (i + 2) es) in
+    let whole = set_split (set es i t) (i + 1) u (omega (arith, length-set es i t)) in
     let back = drop-set-lt (i + 2) es i t (omega arith) in
-    cc (set_split (set es i t) (i + 1) u (omega arith), take_more_set es i t (omega arith), back, parts)
+    cc (take_more_set es i t (omega arith), append_assoc (take i es) (t ∷ []) (u ∷ drop (i + 2) es))
 
 pub set_one : (es : List Entry) (i : ℕ) (t : Entry) → i < length es
     → set es i t ≡ take i es ++ (t ∷ [] ++ drop (i + 1) es)
-set_one es i t within =
-    let next : suc i ≡ i + 1 = omega arith in
-    set_split es i t within ∙ ap (λ n. take i es ++ t ∷ drop n es) next
+set_one es i t within = rw add-one (set_split es i t within)
+
+-- what is computed of all parts is what is computed of each
+flat_map-parts : {X Y Z : Type 0} (f : X → List Y) (g : List Y → List Z) → g [] ≡ []
+    → ((xs ys : List Y) → g (xs ++ ys) ≡ g xs ++ g ys) → (xs : List X) → flat_map (λ x. g (f x)) xs ≡ g (flat_map f xs)
+flat_map-parts f g none add [] = sym none
+flat_map-parts f g none add (x ∷ xs) = cc (add (f x) (flat_map f xs), flat_map-parts f g none add xs)
 
 module _ {N : ℕ} where
-  -- two neighbours merged
-  pub record Joined (a b : Arena (Node N)) (least height x y : ℕ) : Type 0 where
-    pub subtree : IsSubtree b least height x
-    pub items : items_in b height x ≡ items_in a height x ++ items_in a height y
-    pub moves : Moves a b (slots_in a height x ++ slots_in a height y) (slots_in b height x)
+  -- the entries of the nodes below
+  abbrev pub entries_below : Arena (Node N) → List Entry → List Entry
+  entries_below a es = flat_map (λ e. entries_at a e.child) es
 
-  -- what lies below both stays
-  below_both : (a b : Arena (Node N)) (least height x y : ℕ) (now : List ℕ) (es : List Entry)
-      → Moves a b (x ∷ y ∷ []) now → AreChildren a least height es
-      → ((s : ℕ) → times s (x ∷ y ∷ []) + times s (slots_of a height es) ≤ 1) → Agree a b (slots_of a height es)
-  below_both a b least height x y now es moves right few =
-      moves_agree a b (x ∷ y ∷ []) now (slots_of a height es) moves (live_children a least height es right) few
+  -- Slots are counted apart from those below them.
+  count_below : (a : Arena (Node N)) (height : ℕ) (count : List ℕ → ℕ) → count [] ≡ 0
+      → ((xs ys : List ℕ) → count (xs ++ ys) ≡ count xs + count ys) → (es : List Entry)
+      → count (slots_of a (suc height) es) ≡ count (slots_of a 0 es) + count (slots_of a height (entries_below a es))
+  count_below a height count none add [] = omega (arith, none)
+  count_below a height count none add (e ∷ es) =
+      let own = slots_of a height (entries_at a e.child) in
+      let rest = slots_of a height (entries_below a es) in
+      let parts = ap count (slots_of-append a height (entries_at a e.child) (entries_below a es)) ∙ add own rest in
+      let first = add (e.child ∷ []) own in
+      let all = add (e.child ∷ own) (slots_of a (suc height) es) in
+      omega (arith, count_below a height count none add es, parts, first, all, add (e.child ∷ []) (slots_of a 0 es))
 
-  pub merged : (a b : Arena (Node N)) (least height x y : ℕ) → Moves a b (x ∷ y ∷ []) (x ∷ [])
-      → entries_at b x ≡ entries_at a x ++ entries_at a y → 1 ≤ length (entries_at b x)
-      → IsSubtree a least height x → IsSubtree a least height y
-      → ((s : ℕ) → times s (slots_in a height x ++ slots_in a height y) ≤ 1) → Joined a b least height x y
-  merged a b least zero x y moves here some h k few = record {
-    subtree = live_if_some b x some;
-    items = ap (map item_of) here ∙ map-append item_of (entries_at a x) (entries_at a y);
-    moves = moves;
-  }
-  merged a b least (suc height) x y moves here some h k few =
-      let es = entries_at a x ++ entries_at a y in
-      let xs = slots_of a height (entries_at a x) in
-      let ys = slots_of a height (entries_at a y) in
-      let right : AreChildren a least height es = All-append (IsRight a least height) (entries_at a x) (entries_at a y) h.2 k.2 in
-      let count : (s : ℕ) → times s (slots_of a height es) ≡ times s xs + times s ys = λ (s : ℕ). times-slots_of a height s (entries_at a x) (entries_at a y) in
-      let both : (s : ℕ) → times s (x ∷ xs ++ (y ∷ ys)) ≡ once s x + (times s xs + (once s y + times s ys)) =
-      λ (s : ℕ). ap (λ n. once s x + n) (times-append s xs (y ∷ ys)) in
-      let agree : Agree a b (slots_of a height es) = below_both a b least height x y (x ∷ []) es moves right (λ s. omega (arith, few s, count s, both s)) in
-      let all = holds a b least height x es (live_if_some b x some) here (subst (λ l. 1 ≤ length l) here some) right agree in
+  right_below : (a : Arena (Node N)) (least height : ℕ) (es : List Entry)
+      → All (λ e. IsSubtree a least (suc height) e.child) es → AreChildren a least height (entries_below a es)
+  right_below a least height [] h = All-nil (IsRight a least height)
+  right_below a least height (e ∷ es) h =
+      All-append (IsRight a least height) (entries_at a e.child) (entries_below a es)
+      (All-head (λ e. IsSubtree a least (suc height) e.child) e es h).2
+      (right_below a least height es (All-tail (λ e. IsSubtree a least (suc height) e.child) e es h))
+
+  subtrees_above : (a : Arena (Node N)) (least height : ℕ) (es : List Entry) → All (λ e. 1 ≤ length (entries_at a e.child)) es
+      → AreChildren a least height (entries_below a es) → All (λ e. IsSubtree a least (suc height) e.child) es
+  subtrees_above a least height [] some right = All-nil (λ e. IsSubtree a least (suc height) e.child)
+  subtrees_above a least height (e ∷ es) some right =
+      let P : Entry → Type 0 = λ e. 1 ≤ length (entries_at a e.child) in
+      let here = All-head P e es some in
+      let own = All-front (IsRight a least height) (entries_at a e.child) (entries_below a es) right in
+      let rest = All-back (IsRight a least height) (entries_at a e.child) (entries_below a es) right in
+      All-cons (λ e. IsSubtree a least (suc height) e.child) e es (live_if_some a e.child here, here, own)
+      (subtrees_above a least height es (All-tail P e es some) rest)
+
+  -- children that have the entries of others
+  pub record Regrouped (a b : Arena (Node N)) (least height : ℕ) (old new : List Entry) : Type 0 where
+    pub subtrees : All (λ e. IsSubtree b least height e.child) new
+    pub items : items_of b height new ≡ items_of a height old
+    pub moves : Moves a b (slots_of a height old) (slots_of b height new)
+
+  regrouped : (a b : Arena (Node N)) (least height : ℕ) (old new : List Entry) → Moves a b (slots_of a 0 old) (slots_of b 0 new)
+      → entries_below b new ≡ entries_below a old → All (λ e. 1 ≤ length (entries_at b e.child)) new
+      → All (λ e. IsSubtree a least height e.child) old → ((s : ℕ) → times s (slots_of a height old) ≤ 1)
+      → Regrouped a b least height old new
+  regrouped a b least zero old new moves here some below few =
+      let items = λ (c : Arena (Node N)).
+      flat_map-parts (λ (e : Entry). entries_at c e.child) (map item_of) refl (map-append item_of) in
       record {
-        subtree = all.subtree;
-        items = all.items ∙ items_of-append a height (entries_at a x) (entries_at a y);
-        moves = subst (Moves a b (slots_in a (suc height) x ++ slots_in a (suc height) y)) (sym all.slots)
-            (moves_beside a b (x ∷ y ∷ []) (x ∷ []) (slots_of a height es) (x ∷ xs ++ (y ∷ ys)) (x ∷ slots_of a height es) moves
-            (λ s. omega (arith, count s, both s)) (λ s. omega arith)
-            (omega (arith, length-append xs (y ∷ ys), length-slots_of a height (entries_at a x) (entries_at a y))) (omega arith) few
-            (live_children a least height es right));
+        subtrees = λ i d inside. live_if_some b (get_or new i d).child (some i d inside);
+        items = cc (items a old, items b new);
+        moves = moves;
+      }
+  regrouped a b least (suc height) old new moves here some below few =
+      let es = entries_below a old in
+      let right = right_below a least height old below in
+      let live = live_children a least height es right in
+      let count = λ (s : ℕ). count_below a height (times s) refl (times-append s) old in
+      let agree = moves_agree a b (slots_of a 0 old) (slots_of b 0 new) (slots_of a height es) moves live
+      (λ s. omega (arith, few s, count s)) in
+      let same : slots_of b height (entries_below b new) ≡ slots_of a height es =
+      ap (slots_of b height) here ∙ slots_of_same a b height es agree in
+      let items = λ (c : Arena (Node N)).
+      flat_map-parts (λ (e : Entry). entries_at c e.child) (items_of c height) refl (items_of-append c height) in
+      record {
+        subtrees = subtrees_above b least height new some
+            (subst (AreChildren b least height) (sym here) (children_same a b least height es agree right));
+        items = cc (items a old, items b new, items_of_same a b height es agree);
+        moves = moves_beside a b (slots_of a 0 old) (slots_of b 0 new) (slots_of a height es) _ _ moves count
+            (λ s. rw same at (count_below b height (times s) refl (times-append s) new))
+            (count_below a height length refl length-append old)
+            (rw same at (count_below b height length refl length-append new)) few live;
       }
 
-  -- two neighbours that shared their entries
-  pub record Evened (a b : Arena (Node N)) (least height x y : ℕ) : Type 0 where
-    pub first : IsSubtree b least height x
-    pub second : IsSubtree b least height y
-    pub items : items_in b height x ++ items_in b height y ≡ items_in a height x ++ items_in a height y
-    pub moves : Moves a b (slots_in a height x ++ slots_in a height y) (slots_in b height x ++ slots_in b height y)
+  -- an entry of a child that has entries
+  pub record IsMade (a : Arena (Node N)) (least height : ℕ) (e : Entry) : Type 0 where
+    pub some : 1 ≤ length (entries_at a e.child)
+    pub filled : least ≤ length (entries_at a e.child)
+    pub tells : IsSubtree a least height e.child → Tells e (items_in a height e.child)
 
-  pub evened : (a b : Arena (Node N)) (least height x y : ℕ) → Moves a b (x ∷ y ∷ []) (x ∷ y ∷ [])
-      → entries_at b x ++ entries_at b y ≡ entries_at a x ++ entries_at a y → 1 ≤ length (entries_at b x)
-      → 1 ≤ length (entries_at b y) → IsSubtree a least height x → IsSubtree a least height y
-      → ((s : ℕ) → times s (slots_in a height x ++ slots_in a height y) ≤ 1) → Evened a b least height x y
-  evened a b least zero x y moves here some_x some_y h k few = record {
-    first = live_if_some b x some_x;
-    second = live_if_some b y some_y;
-    items = cc (map-append item_of (entries_at b x) (entries_at b y), map-append item_of (entries_at a x) (entries_at a y));
-    moves = moves;
-  }
-  evened a b least (suc height) x y moves here some_x some_y h k few =
-      let us = entries_at b x in
-      let vs = entries_at b y in
-      let es = entries_at a x ++ entries_at a y in
-      let xs = slots_of a height (entries_at a x) in
-      let ys = slots_of a height (entries_at a y) in
-      let right : AreChildren a least height es = All-append (IsRight a least height) (entries_at a x) (entries_at a y) h.2 k.2 in
-      let then_right : AreChildren a least height (us ++ vs) = subst (AreChildren a least height) (sym here) right in
-      let right_us : AreChildren a least height us = All-front (IsRight a least height) us vs then_right in
-      let right_vs : AreChildren a least height vs = All-back (IsRight a least height) us vs then_right in
-      let count : (s : ℕ) → times s (slots_of a height (us ++ vs)) ≡ times s xs + times s ys =
-      λ (s : ℕ). ap (λ l. times s (slots_of a height l)) here ∙ times-slots_of a height s (entries_at a x) (entries_at a y) in
-      let parts : (s : ℕ) → times s (slots_of a height (us ++ vs)) ≡ times s (slots_of a height us) + times s (slots_of a height vs) =
-      λ (s : ℕ). times-slots_of a height s us vs in
-      let both : (s : ℕ) → times s (x ∷ xs ++ (y ∷ ys)) ≡ once s x + (times s xs + (once s y + times s ys)) =
-      λ (s : ℕ). ap (λ n. once s x + n) (times-append s xs (y ∷ ys)) in
-      let agree : Agree a b (slots_of a height (us ++ vs)) = below_both a b least height x y (x ∷ y ∷ []) (us ++ vs) moves then_right
-      (λ s. omega (arith, few s, count s, both s)) in
-      let all_us = holds a b least height x us (live_if_some b x some_x) refl some_x right_us
-      (λ s some. agree s (omega (arith, parts s))) in
-      let all_vs = holds a b least height y vs (live_if_some b y some_y) refl some_y right_vs
-      (λ s some. agree s (omega (arith, parts s))) in
-      let parts_are = items_of-append a height (entries_at a x) (entries_at a y) in
-      record {
-        first = all_us.subtree;
-        second = all_vs.subtree;
-        items = cc (all_us.items, all_vs.items, items_of-append a height us vs, parts_are);
-        moves = subst (Moves a b (slots_in a (suc height) x ++ slots_in a (suc height) y))
-            (sym (ap₂ (λ l m. l ++ m) all_us.slots all_vs.slots))
-            (moves_beside a b (x ∷ y ∷ []) (x ∷ y ∷ []) (slots_of a height (us ++ vs)) (x ∷ xs ++ (y ∷ ys))
-            (x ∷ slots_of a height us ++ (y ∷ slots_of a height vs)) moves
-            (λ s. omega (arith, count s, both s))
-            (λ s. omega (arith, parts s, times-append s (slots_of a height us) (y ∷ slots_of a height vs)))
-            (omega (arith, length-append xs (y ∷ ys), ap (λ l. length (slots_of a height l)) here, length-slots_of a height (entries_at a x) (entries_at a y)))
-            (omega (arith, length-append (slots_of a height us) (y ∷ slots_of a height vs), length-slots_of a height us vs)) few
-            (live_children a least height (us ++ vs) then_right));
-      }
+  pub made : (a : Arena (Node N)) (least height x : ℕ) (e : Entry) → e.child ≡ x → 1 ≤ length (entries_at a x)
+      → least ≤ length (entries_at a x) → (IsSubtree a least height x → Tells e (items_in a height x)) → IsMade a least height e
+  made a least height x e child some filled tells =
+      let told = subst (λ z. IsSubtree a least height z → Tells e (items_in a height z)) (sym child) tells in
+      record { some = rw child some; filled = rw child filled; tells = told }
 
-  -- entries of which some in the middle are replaced are rebalanced
-  pub rebalanced : (a b : Arena (Node N)) (least height from to : ℕ) (was now middle new : List Entry)
-      → IsFamily a least height was from to → was ≡ take from was ++ (middle ++ drop to was)
-      → now ≡ take from was ++ (new ++ drop to was) → AreChildren b least height new
-      → items_of b height new ≡ items_of a height middle → Moves a b (slots_of a height middle) (slots_of b height new)
-      → IsRebalanced a b least height was now
-  rebalanced a b least height from to was now middle new family was_is now_is right items moves =
-      let few : (s : ℕ) → times s (slots_of a height (take from was ++ (middle ++ drop to was))) ≤ 1 =
-      λ (s : ℕ). subst (λ l. times s (slots_of a height l) ≤ 1) was_is (once_if_distinct (slots_of a height was) family.distinct s) in
-      let h = replaced a b least height (take from was) middle (drop to was) new few family.before family.behind moves right in
-      let rest_are = items_of-append a height middle (drop to was) in
-      record {
-        children = subst (AreChildren b least height) (sym now_is) h.children;
-        items = cc (h.items, rest_are, items_of-append a height (take from was) (middle ++ drop to was));
-        changes = changes_if_moves a b (slots_of a height was) (slots_of b height now)
-            (subst (λ l. Moves a b (slots_of a height l) (slots_of b height now)) (sym was_is) (rw now_is h.moves));
-      }
+  -- entries of which some in the middle are replaced
+  module _ (a : Arena (Node N)) (least height from to : ℕ) (was middle : List Entry)
+      (family : IsFamily a least height was from to) (was_is : was ≡ take from was ++ (middle ++ drop to was)) where
+    pub middle_once : (s : ℕ) → times s (slots_of a height middle) ≤ 1
+    middle_once s =
+        let all = ap (λ l. times s (slots_of a height l)) was_is in
+        let parts = times-slots_of a height s (take from was) (middle ++ drop to was) in
+        let more = times-slots_of a height s middle (drop to was) in
+        omega (arith, once_if_distinct (slots_of a height was) family.distinct s)
+
+    -- They are rebalanced.
+    pub rebalanced : (b : Arena (Node N)) (now new : List Entry) → now ≡ take from was ++ (new ++ drop to was)
+        → AreChildren b least height new → items_of b height new ≡ items_of a height middle
+        → Moves a b (slots_of a height middle) (slots_of b height new) → IsRebalanced a b least height was now
+    rebalanced b now new now_is right items moves =
+        let few = λ (s : ℕ).
+        subst (λ l. times s (slots_of a height l) ≤ 1) was_is (once_if_distinct (slots_of a height was) family.distinct s) in
+        let h = replaced a b least height (take from was) middle (drop to was) new few family.before family.behind moves right in
+        let rest_are = items_of-append a height middle (drop to was) in
+        record {
+          children = rw now_is h.children;
+          items = cc (h.items, rest_are, items_of-append a height (take from was) (middle ++ drop to was));
+          changes = changes_if_moves a b (slots_of a height was) (slots_of b height now)
+              (subst (λ l. Moves a b (slots_of a height l) (slots_of b height now)) (sym was_is) (rw now_is h.moves));
+        }
+
+    -- So they are where the new ones' children have the entries of the others.
+    pub rebalanced_by : (b : Arena (Node N)) (now new : List Entry) → now ≡ take from was ++ (new ++ drop to was)
+        → All (IsMade b least height) new → entries_below b new ≡ entries_below a middle
+        → Moves a b (slots_of a 0 middle) (slots_of b 0 new) → IsRebalanced a b least height was now
+    rebalanced_by b now new now_is made here moves =
+        let P : Entry → Type 0 = λ e. IsSubtree a least height e.child in
+        let all = subst (All P) was_is family.below in
+        let below = All-front P middle (drop to was) (All-back P (take from was) (middle ++ drop to was) all) in
+        let r = regrouped a b least height middle new moves here (λ i d inside. (made i d inside).some) below middle_once in
+        rebalanced b now new now_is (λ i d inside. record {
+          filled = (made i d inside).filled;
+          subtree = r.subtrees i d inside;
+          tells = (made i d inside).tells (r.subtrees i d inside);
+        }) r.items r.moves

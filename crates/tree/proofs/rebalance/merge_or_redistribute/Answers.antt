@@ -1,55 +1,62 @@
-use Rattle.std.proofs.Common.{◌≡◌, ◌≤◌, ◌<◌, ◌+◌, ◌++◌, ℕ, List, length, length-append, length-drop, length-set, length-take-le, get_or, set, take, drop, ap, ◌∙◌, sym, arith, rules}
+use Rattle.std.proofs.Common.{◌≡◌, ◌≤◌, ◌+◌, ℕ, List, [], ◌∷◌, append-nil, length, length-append, length-drop, length-set, length-take, get_or, set, ap, ◌∙◌, sym, arith, rules}
 use Rattle.tree.specs.declared.entry.Entry.{Entry}
 use Rattle.tree.specs.Node.{entries_of}
 use Rattle.tree.specs.Rebalancing.{AreTwo}
 use Rattle.tree.specs.Subtree.{entries_at}
+use Rattle.std.proofs.lemmas.List.Elements.{All-nil, All-cons}
+use Rattle.tree.proofs.Changing.{moves_if_changes}
 use Rattle.tree.specs.Tree.{least_of}
 use Rattle.tree.proofs.Placing.{entries_from_header, live_if_some}
-use Rattle.tree.proofs.Sharing.{child_is, set_removed, set_both}
-use Rattle.tree.proofs.Rebalancing.{pair, rebalanced_by_merge, rebalanced_by_sharing}
+use Rattle.tree.proofs.Sharing.{around_two, child_is, made, rebalanced_by, set_removed, set_both, IsMade}
+use Rattle.tree.proofs.Rebalancing.{apart_pair, live_subtree}
 use Rattle.tree.proofs.rebalance.merge_or_redistribute.Goals.{After-index-entries-index-2}
 use Rattle.tree.proofs.rebalance.merge_or_redistribute.Given as given
 use Rattle.tree.proofs.rebalance.merge_or_redistribute.Goals as goal
 
 -- the children at the index and behind it
 module _ (g : given.Over) (c : After-index-entries-index-2 g) where
+  abbrev es : List Entry
+  es = entries_of c.args.node.now
+
+  abbrev entry : Entry
+  entry = get_or es c.args.index c.index-entries-index.result
+
+  abbrev next : Entry
+  next = get_or es (c.args.index + 1) c.index-entries-index-2.result
+
   abbrev first : ℕ
   first = (get_or c.entries.result.now c.args.index c.index-entries-index.result).child
 
   abbrev second : ℕ
   second = (get_or c.entries-2.result.now (c.args.index + 1) c.index-entries-index-2.result).child
 
-  first_is : first ≡ (get_or (entries_of c.args.node.now) c.args.index c.index-entries-index.result).child
-  first_is = ap (λ (l : List Entry). (get_or l c.args.index c.index-entries-index.result).child) c.entries.ensures.entries
+  first_is : first ≡ entry.child
+  first_is = cc (c.entries.ensures.entries)
 
-  second_is : second ≡ (get_or (entries_of c.args.node.now) (c.args.index + 1) c.index-entries-index-2.result).child
-  second_is =
-      ap (λ (l : List Entry). (get_or l (c.args.index + 1) c.index-entries-index-2.result).child) c.entries-2.ensures.entries
+  second_is : second ≡ next.child
+  second_is = cc (c.entries-2.ensures.entries)
 
   two : AreTwo (g.P.Bound.bytes c.args.bound.now) c.args.nodes.now first second
   two =
       let can = c.requires.can_merge in
-      let p = pair c.args.nodes.now (least_of g.row.N) can.family.0 (entries_of c.args.node.now) c.args.index first second
-      c.index-entries-index.result c.index-entries-index-2.result can.within first_is second_is can.family.1 in
+      let f = can.family in
+      let live = live_subtree c.args.nodes.now (least_of g.row.N) f.0 in
+      let apart = apart_pair c.args.nodes.now (least_of g.row.N) f.0 es c.args.index c.index-entries-index.result
+      c.index-entries-index-2.result can.within f.1 in
       record {
-        live_first = p.live_first;
-        live_second = p.live_second;
-        apart = p.apart;
+        live_first = live first (rw first_is (f.1.below c.args.index c.index-entries-index.result (omega arith)));
+        live_second = live second (rw second_is (f.1.below (c.args.index + 1) c.index-entries-index-2.result can.within));
+        apart = λ same. apart (sym first_is ∙ same ∙ second_is);
         keyless = can.keyless;
         headed = can.headed;
       }
 
   filled : least_of g.row.N ≤ length (entries_at c.args.nodes.now first) + length (entries_at c.args.nodes.now second)
   filled =
-      let count : ℕ → ℕ = λ z. length (entries_at c.args.nodes.now z) in
-      let es = entries_of c.args.node.now in
-      let within = c.requires.can_merge.within in
-      omega (
-        arith,
-        ap count (child_is es c.args.index c.index-entries-index.result (omega (arith, within)) ∙ sym first_is),
-        ap count (child_is es (c.args.index + 1) c.index-entries-index-2.result within ∙ sym second_is),
-        c.requires.can_merge.filled,
-      )
+      let can = c.requires.can_merge in
+      let child = child_is es c.args.index c.index-entries-index.result (omega arith) in
+      let child_next = child_is es (c.args.index + 1) c.index-entries-index-2.result can.within in
+      rw (first_is, second_is, ← child, ← child_next) can.filled
 
 pub header_ref-requires : goal.header_ref-requires
 header_ref-requires g c = record { live = (two g c).live_first }
@@ -59,129 +66,105 @@ header_ref-requires-2 g c = record { live = (two g (goal.at.header_ref-requires-
 
 pub merge-requires : goal.merge-requires
 merge-requires g c =
-    let a = c.args.nodes.now in
     let s = (goal.at.merge-requires g c).After-index-entries-index-2 in
-    let first_len = ap length (entries_from_header a (first g s) c.header_ref.result.now c.header_ref.ensures.header) in
-    let second_len = ap length (entries_from_header a (second g s) c.header_ref-2.result.now c.header_ref-2.ensures.header) in
-    (search rules, (two g s, omega (arith, first_len, second_len, c.len.ensures.len, c.len-2.ensures.len, c.if-count.true)))
+    let first_was = entries_from_header c.args.nodes.now (first g s) _ c.header_ref.ensures.header in
+    let second_was = entries_from_header c.args.nodes.now (second g s) _ c.header_ref-2.ensures.header in
+    (search rules, (two g s, rw (first_was, second_was) (omega arith)))
 
 pub redistribute-requires : goal.redistribute-requires
 redistribute-requires g c =
-    let a = c.args.nodes.now in
     let s = (goal.at.redistribute-requires g c).After-index-entries-index-2 in
-    let first_len = ap length (entries_from_header a (first g s) c.header_ref.result.now c.header_ref.ensures.header) in
-    let second_len = ap length (entries_from_header a (second g s) c.header_ref-2.result.now c.header_ref-2.ensures.header) in
-    (search rules, (two g s, omega (arith, first_len, second_len, c.len.ensures.len, c.len-2.ensures.len, c.if-count.false)))
+    let first_was = entries_from_header c.args.nodes.now (first g s) _ c.header_ref.ensures.header in
+    let second_was = entries_from_header c.args.nodes.now (second g s) _ c.header_ref-2.ensures.header in
+    (search rules, (two g s, rw (first_was, second_was) (omega arith)))
 
 pub entry_for-requires : goal.entry_for-requires
 entry_for-requires g c =
     let s = (goal.at.entry_for-requires g c).After-index-entries-index-2 in
-    let all = ap length c.merge.ensures.entries
-    ∙ length-append (entries_at c.args.nodes.now (first g s)) (entries_at c.args.nodes.now (second g s)) in
-    let some : 0 < length (entries_at c.merge.new.nodes (first g s)) = omega (arith, filled g s, all) in
-    (search rules, (live_if_some c.merge.new.nodes (first g s) some, some))
+    let b = c.merge.new.nodes in
+    let all = simp length-append at (ap length c.merge.ensures.entries) in
+    let some : 1 ≤ length (entries_at b (first g s)) = omega (arith, filled g s, all) in
+    (search rules, (live_if_some b (first g s) some, some))
 
 pub entry_for-requires-2 : goal.entry_for-requires-2
-entry_for-requires-2 g c =
-    let x = first g (goal.at.entry_for-requires-2 g c).After-index-entries-index-2 in
-    let b = c.redistribute.new.nodes in
-    let some : 0 < length (entries_at b x) = omega (arith, c.redistribute.ensures.filled.left, c.requires.can_merge.fan_out) in
-    (search rules, (live_if_some b x some, some))
+entry_for-requires-2 g c = (search rules, (live_if_some c.redistribute.new.nodes _ (omega arith), omega arith))
 
 pub entry_for-requires-3 : goal.entry_for-requires-3
-entry_for-requires-3 g c =
-    let y = second g (goal.at.entry_for-requires-3 g c).After-index-entries-index-2 in
-    let b = c.redistribute.new.nodes in
-    let some : 0 < length (entries_at b y) = omega (arith, c.redistribute.ensures.filled.right, c.requires.can_merge.fan_out) in
-    (search rules, (live_if_some b y some, some))
+entry_for-requires-3 g c = (search rules, (live_if_some c.redistribute.new.nodes _ (omega arith), omega arith))
 
 pub returns-then-count-clause-rebalanced : goal.returns-then-count-clause-rebalanced
 returns-then-count-clause-rebalanced g c height family =
     let a = c.args.nodes.now in
     let b = c.merge.new.nodes in
-    let es = entries_of c.args.node.now in
+    let i = c.args.index in
+    let least = least_of g.row.N in
     let s = (goal.at.returns-then-count-clause-rebalanced g c).After-index-entries-index-2 in
     let x = first g s in
     let y = second g s in
-    let t = c.entry_for.result in
-    let all = ap length c.merge.ensures.entries ∙ length-append (entries_at a x) (entries_at a y) in
-    rebalanced_by_merge a b (least_of g.row.N) height es (entries_of c.remove.new.self) c.args.index x y
-    c.index-entries-index.result c.index-entries-index-2.result c.requires.can_merge.within (first_is g s) (second_is g s)
-    family t c.entry_for.ensures.child (c.entry_for.ensures.tells height (least_of g.row.N))
-    c.merge.ensures.changes c.merge.ensures.entries (omega (arith, filled g s, all)) (omega (arith, filled g s, all))
-    (c.remove.ensures.entries ∙ ap (λ (l : List Entry). take (c.args.index + 1) l ++ drop (c.args.index + 2) l)
-    c.set_with_head.ensures.entries ∙ set_removed es c.args.index t c.requires.can_merge.within)
+    let child = c.entry_for.ensures.child in
+    let within = c.requires.can_merge.within in
+    let merge = c.merge.ensures in
+    let many : least ≤ length (entries_at b x) = omega (arith, filled g s, simp length-append at (ap length merge.entries)) in
+    let is = made b least height x c.entry_for.result child (omega (arith, many)) many (c.entry_for.ensures.tells height least) in
+    let P = IsMade b least height in
+    rebalanced_by a least height i (i + 2) (es g s) (entry g s ∷ next g s ∷ []) family
+    (around_two (es g s) i c.index-entries-index.result c.index-entries-index-2.result within) b _ (c.entry_for.result ∷ [])
+    (rw c.set_with_head.ensures.entries at c.remove.ensures.entries ∙ set_removed (es g s) i c.entry_for.result within)
+    (All-cons P c.entry_for.result [] is (All-nil P))
+    (cc (append-nil (entries_at b x), append-nil (entries_at a y), first_is g s, second_is g s, merge.entries))
+    (rw (← first_is g s, ← second_is g s, child) (moves_if_changes a b (x ∷ y ∷ []) (x ∷ []) merge.changes))
 
 pub returns-clause-rebalanced : goal.returns-clause-rebalanced
 returns-clause-rebalanced g c height family =
-    let es = entries_of c.args.node.now in
+    let a = c.args.nodes.now in
+    let b = c.redistribute.new.nodes in
     let i = c.args.index in
+    let least = least_of g.row.N in
     let s = (goal.at.returns-clause-rebalanced g c).After-index-entries-index-2 in
+    let x = first g s in
+    let y = second g s in
     let t = c.entry_for-2.result in
     let u = c.entry_for-3.result in
+    let t_is = c.entry_for-2.ensures in
+    let u_is = c.entry_for-3.ensures in
     let shared = c.redistribute.ensures in
-    let four = c.requires.can_merge.fan_out in
-    rebalanced_by_sharing c.args.nodes.now c.redistribute.new.nodes (least_of g.row.N) height es
-    (entries_of c.set_with_head-3.new.self) i (first g s) (second g s) c.index-entries-index.result c.index-entries-index-2.result
-    c.requires.can_merge.within (first_is g s) (second_is g s) family t u
-    c.entry_for-2.ensures.child c.entry_for-3.ensures.child (c.entry_for-2.ensures.tells height (least_of g.row.N))
-    (c.entry_for-3.ensures.tells height (least_of g.row.N)) shared.changes shared.entries
-    (omega (arith, shared.filled.left, four)) (omega (arith, shared.filled.right, four))
-    (omega (arith, shared.filled.left, four)) (omega (arith, shared.filled.right, four))
-    (c.set_with_head-3.ensures.entries ∙ ap (λ (l : List Entry). set l (i + 1) u) c.set_with_head-2.ensures.entries
-    ∙ set_both es i t u c.requires.can_merge.within)
+    let within = c.requires.can_merge.within in
+    let P = IsMade b least height in
+    let one = made b least height x t t_is.child (omega arith) (omega (arith, shared.filled.left)) (t_is.tells height least) in
+    let other = made b least height y u u_is.child (omega arith) (omega (arith, shared.filled.right)) (u_is.tells height least) in
+    rebalanced_by a least height i (i + 2) (es g s) (entry g s ∷ next g s ∷ []) family
+    (around_two (es g s) i c.index-entries-index.result c.index-entries-index-2.result within) b _ (t ∷ u ∷ [])
+    (rw c.set_with_head-2.ensures.entries at c.set_with_head-3.ensures.entries ∙ set_both (es g s) i t u within)
+    (All-cons P t (u ∷ []) one (All-cons P u [] other (All-nil P)))
+    (cc (append-nil (entries_at b y), append-nil (entries_at a y), first_is g s, second_is g s, shared.entries))
+    (rw (← first_is g s, ← second_is g s, t_is.child, u_is.child) (moves_if_changes a b (x ∷ y ∷ []) (x ∷ y ∷ []) shared.changes))
 
 pub returns-then-count-clause-rest : goal.returns-then-count-clause-rest
 returns-then-count-clause-rest g c =
-    let es = c.set_with_head.new.self in
-    let within = c.requires.can_merge.within in
-    let same =
-    ap length c.set_with_head.ensures.entries ∙ length-set (entries_of c.args.node.now) c.args.index c.entry_for.result in
+    let set = simp (length-set, length-take) at (ap length c.set_with_head.ensures.entries) in
     record {
-      few_less = omega (
-        arith,
-        within,
-        same,
-        ap length c.remove.ensures.entries,
-        length-append (take (c.args.index + 1) (entries_of es)) (drop (c.args.index + 2) (entries_of es)),
-        length-take-le (c.args.index + 1) (entries_of es) (omega (arith, same, within)),
-        length-drop (c.args.index + 2) (entries_of es),
-      );
+      few_less = simp (c.remove.ensures.entries, length-append, length-take, length-drop) (omega (arith, set));
       spare = omega (arith, c.merge.ensures.changes.live, c.merge.ensures.changes.spare);
       headed = c.merge.ensures.headed;
     }
 
 pub returns-clause-rest : goal.returns-clause-rest
 returns-clause-rest g c = record {
-  few_less = omega (
-    arith,
-    ap length c.set_with_head-3.ensures.entries,
-    length-set (entries_of c.set_with_head-2.new.self) (c.args.index + 1) c.entry_for-3.result,
-    ap length c.set_with_head-2.ensures.entries,
-    length-set (entries_of c.args.node.now) c.args.index c.entry_for-2.result,
-  );
+  few_less = simp (c.set_with_head-3.ensures.entries, c.set_with_head-2.ensures.entries, length-set) (omega arith);
   spare = omega (arith, c.redistribute.ensures.changes.live, c.redistribute.ensures.changes.spare);
   headed = c.redistribute.ensures.headed;
 }
 
 pub set_with_head-requires : goal.set_with_head-requires
 set_with_head-requires g c =
-    let bytes = g.P.Bound.bytes c.args.bound.now in
-    (search rules, (omega arith, (c.requires.headed, c.entry_for.ensures.known bytes c.merge.ensures.headed)))
+    (search rules, (omega arith, (c.requires.headed, c.entry_for.ensures.known _ c.merge.ensures.headed)))
 
 pub set_with_head-requires-2 : goal.set_with_head-requires-2
 set_with_head-requires-2 g c =
-    let bytes = g.P.Bound.bytes c.args.bound.now in
-    (search rules, (omega arith, (c.requires.headed, c.entry_for-2.ensures.known bytes c.redistribute.ensures.headed)))
+    (search rules, (omega arith, (c.requires.headed, c.entry_for-2.ensures.known _ c.redistribute.ensures.headed)))
 
 pub set_with_head-requires-3 : goal.set_with_head-requires-3
 set_with_head-requires-3 g c =
-    let bytes = g.P.Bound.bytes c.args.bound.now in
-    let count =
-    ap length c.set_with_head-2.ensures.entries ∙ length-set (entries_of c.args.node.now) c.args.index c.entry_for-2.result in (
-      search rules,
-      (
-        omega (arith, c.requires.can_merge.within, count),
-        (c.set_with_head-2.ensures.headed, c.entry_for-3.ensures.known bytes c.redistribute.ensures.headed),
-      ),
-    )
+    let known = c.entry_for-3.ensures.known _ c.redistribute.ensures.headed in
+    let count = simp length-set at (ap length c.set_with_head-2.ensures.entries) in
+    (search rules, (omega (arith, c.requires.can_merge.within, count), (c.set_with_head-2.ensures.headed, known)))

@@ -1,4 +1,4 @@
-use Rattle.std.proofs.Common.{◌≡◌, ◌-◌, ℕ, List, Some, length, slice_get, take, All, sym, subst}
+use Rattle.std.proofs.Common.{take, All, sym, subst, ◌-◌, length, slice_get}
 use Rattle.std.proofs.lemmas.List.{length-take-le}
 use Rattle.std.proofs.lemmas.List.Elements.{All-contains}
 use Rattle.tree.specs.Heads.{IsKnown, Begins}
@@ -16,16 +16,12 @@ returns-then-is_empty-2 g c =
 
 pub returns : goal.returns
 returns g c =
-    let bytes = g.P.Bound.bytes c.args.bound.now in
     let xs = c.entries-entries.result.now in
     let last = c.in-Some-Some.last.now in
     let count = c.keys_prefix_len-count.result in
     let entries = c.entries-entries.ensures.entries in
-    let known : All (IsKnown bytes) (keys_of xs) = subst (λ es. All (IsKnown bytes) (keys_of es)) (sym entries) c.requires.known in
-    let get : slice_get xs (length xs - 1) ≡ Some last = sym {b = slice_get xs (length xs - 1)} c.in-Some-Some.ensures'.value in
-    let k = All-contains (IsKnown bytes) (keys_of xs) last.key known (last_there xs last get) in
+    let there = rw entries at (last_there xs last (sym {b = slice_get xs (length xs - 1)} c.in-Some-Some.ensures'.value)) in
+    let k = All-contains (IsKnown _) (keys_of (entries_of c.args.self.now)) last.key c.requires.known there in
     let begin = c.keys_prefix_len-count.ensures.begin k.text k.known in
-    record {
-      begin = subst (λ es. (x : List ℕ) × (length x ≡ count) × All (Begins bytes x) (keys_of es)) entries
-          (take count k.text, length-take-le count k.text begin.0, begin.1);
-    }
+    let begins = subst (λ es. All (Begins (g.P.Bound.bytes c.args.bound.now) (take count k.text)) (keys_of es)) entries begin.1 in
+    record { begin = (take count k.text, length-take-le count k.text begin.0, begins) }

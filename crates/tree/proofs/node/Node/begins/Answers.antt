@@ -1,4 +1,4 @@
-use Rattle.std.proofs.Common.{◌≡◌, ◌≤◌, ◌-◌, length, Some, slice_get, arith}
+use Rattle.std.proofs.Common.{◌≡◌, ◌-◌, length, Some, slice_get, arith}
 use Rattle.std.proofs.lemmas.Bool.{leb-true}
 use Rattle.tree.specs.Node.{entries_of, key_heads_of}
 use Rattle.tree.proofs.HeadChanges.{common_agrees, last_there}
@@ -6,14 +6,13 @@ use Rattle.tree.proofs.node.Node.begins.Goals as goal
 
 pub returns-in-Some : goal.returns-in-Some
 returns-in-Some g c =
-    let node = c.args.self.now in
-    let bytes = g.P.Bound.bytes c.args.bound.now in
+    let es = entries_of c.args.self.now in
     let last = c.in-Some.last.now in
-    let get : slice_get (entries_of node) (length (entries_of node) - 1) ≡ Some last =
-    cc (c.entries.ensures.entries, c.in-Some.ensures.value) in
+    let common = c.common_prefix_len.ensures in
+    let get : slice_get es (length es - 1) ≡ Some last = cc (c.entries.ensures.entries, c.in-Some.ensures.value) in
     record {
-      agrees =
-          λ enough. let least : c.prefix_len.result ≤ c.common_prefix_len.result = leb-true c.prefix_len.result c.common_prefix_len.result enough in
-          common_agrees bytes (key_heads_of node) c.requires.headed last.key c.args.key c.common_prefix_len.result
-          (last_there (entries_of node) last get) (omega (arith, least)) c.common_prefix_len.ensures.same c.common_prefix_len.ensures.within;
+      agrees = λ enough.
+          let least = leb-true c.prefix_len.result c.common_prefix_len.result enough in
+          common_agrees (g.P.Bound.bytes c.args.bound.now) (key_heads_of c.args.self.now) c.requires.headed last.key c.args.key
+          c.common_prefix_len.result (last_there es last get) (omega (arith, least)) common.same common.within;
     }

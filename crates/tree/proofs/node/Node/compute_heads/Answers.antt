@@ -1,7 +1,6 @@
-use Rattle.std.proofs.Common.{◌≡◌, ◌<◌, ◌≤◌, ◌∙◌, List, length, take, All, refl, ap, ap₂, sym, subst, arith}
+use Rattle.std.proofs.Common.{◌<◌, ◌≤◌, ◌∙◌, length, refl, ap, sym, arith}
 use Rattle.std.proofs.lemmas.List.{length-set}
-use Rattle.tree.specs.declared.entry.Entry.{Entry}
-use Rattle.tree.specs.Heads.{IsKnown, Begins, head_at}
+use Rattle.tree.specs.Heads.{head_at}
 use Rattle.tree.specs.Node.{entries_of, keys_of}
 use Rattle.tree.proofs.HeadChanges.{head_next, head_read, keys_count, map_whole}
 use Rattle.tree.proofs.node.Node.compute_heads.Goals as goal
@@ -16,39 +15,33 @@ loop-index-preserved g c =
     let inv = c.loop-index.invariant in
     let i = c.loop-index.index in
     let e = c.index-self-index.result in
-    let same : keys_of (entries_of node) ≡ keys_of (entries_of c.args.self.now) =
-    ap₂ (λ n (es : List Entry). keys_of (take n es)) inv.len inv.entries in
-    let known : All (IsKnown bytes) (keys_of (entries_of node)) = subst (All (IsKnown bytes)) (sym same) c.requires.known in
+    let is = c.index-self-index.is in
     let inside : i < node.len = omega (arith, inv.len) in
     let most : node.len ≤ length node.entries = omega (arith, inv.len, ap length inv.entries) in
-    let right = head_read node.entries node.len i e inside most c.index-self-index.is bytes node.prefix_len c.prefix_len.result c.head_of.result
-    c.prefix_len.ensures.prefix_len known c.head_of.ensures.head in
+    let right = head_read node.entries node.len i e inside most is bytes node.prefix_len c.prefix_len.result c.head_of.result
+    c.prefix_len.ensures.prefix_len (rw (← inv.len, ← inv.entries) at c.requires.known) c.head_of.ensures.head in
     record {
       len = inv.len;
       entries = inv.entries;
       prefix_len = inv.prefix_len;
       room = length-set node.heads i c.head_of.result ∙ inv.room;
-      heads = head_next node.entries node.len i e inside most c.index-self-index.is (head_at bytes node.prefix_len) node.heads
+      heads = head_next node.entries node.len i e inside most is (head_at bytes node.prefix_len) node.heads
           c.head_of.result (omega (arith, inv.room, inside)) right inv.heads;
     }
 
 pub returns-clause-entries : goal.returns-clause-entries
-returns-clause-entries g c =
-    ap₂ (λ n (es : List Entry). take n es) c.loop-index.invariant.len c.loop-index.invariant.entries
+returns-clause-entries g c = rw (c.loop-index.invariant.len, c.loop-index.invariant.entries) refl
 
 pub returns-clause-headed : goal.returns-clause-headed
 returns-clause-headed g c =
-    let bytes = g.P.Bound.bytes c.args.bound.now in
     let node = c.loop-index.self in
     let inv = c.loop-index.invariant in
     let begin = c.beginning-self.ensures.begin in
-    let same : keys_of (entries_of node) ≡ keys_of (entries_of c.args.self.now) =
-    ap₂ (λ n (es : List Entry). keys_of (take n es)) inv.len inv.entries in
     let most : node.len ≤ length node.entries = omega (arith, inv.len, ap length inv.entries) in
     record {
       beginning = begin.0;
       prefix_len = begin.1 ∙ sym inv.prefix_len;
-      begins = subst (All (Begins bytes begin.0)) (sym same) begin.2;
-      heads = map_whole (head_at bytes node.prefix_len) (keys_of (entries_of node)) node.heads node.len c.loop-index.index
-          (keys_count node.entries node.len most) (omega (arith, inv.len)) inv.heads;
+      begins = rw (← inv.len, ← inv.entries) at begin.2;
+      heads = map_whole (head_at (g.P.Bound.bytes c.args.bound.now) node.prefix_len) (keys_of (entries_of node)) node.heads
+          node.len c.loop-index.index (keys_count node.entries node.len most) (omega (arith, inv.len)) inv.heads;
     }

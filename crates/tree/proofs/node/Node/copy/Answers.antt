@@ -1,9 +1,7 @@
-use Rattle.std.proofs.Common.{arith, refl, ◌≡◌, ◌<◌, ◌≤◌, ◌∙◌, ap, sym, length, get_or}
-use Rattle.std.specs.Prelude.{slice_set}
+use Rattle.std.proofs.Common.{arith, refl, ◌<◌, ◌≤◌, ap, length, get_or}
 use Rattle.std.proofs.lemmas.List.{length-take-le, map-set}
 use Rattle.std.proofs.lemmas.List.Elements.{All-contains}
 use Rattle.std.proofs.Math.Seq.{take-set-lt}
-use Rattle.tree.specs.declared.entry.Entry.{Entry}
 use Rattle.tree.specs.Heads.{IsKnown, head_at}
 use Rattle.tree.specs.Node.{entries_of, key_heads_of, keys_of}
 use Rattle.tree.proofs.HeadAt.{entry_there}
@@ -11,36 +9,24 @@ use Rattle.tree.proofs.HeadChanges.{head_there, headed_set, key_agrees, key_ther
 use Rattle.tree.proofs.Headed.{all_known}
 use Rattle.tree.proofs.node.Node.copy.Goals as goal
 
-pub returns-clause-entries : goal.returns-clause-entries
-returns-clause-entries g c e there =
+pub returns : goal.returns
+returns g c =
     let node = c.args.self.now in
-    let from = c.args.from in
-    let to = c.args.to in
-    let read = c.index-self-from.result in
-    let len : length (entries_of node) ≡ node.len = length-take-le node.len node.entries (omega arith) in
-    let to_inside : to < node.len = omega (arith, c.requires.to, len) in
-    take-set-lt node.len node.entries to (get_or node.entries from read) to_inside
-    ∙ ap (slice_set (entries_of node) to) (entry_there node.entries node.len from e read there)
-
-pub returns-clause-headed : goal.returns-clause-headed
-returns-clause-headed g c bytes h =
-    let node = c.args.self.now in
-    let key_heads = key_heads_of node in
     let from = c.args.from in
     let to = c.args.to in
     let e = c.index-self-from.result in
     let is = c.index-self-from.is in
     let most : node.len ≤ length node.entries = omega arith in
-    let len : length (entries_of node) ≡ node.len = length-take-le node.len node.entries most in
+    let len = length-take-le node.len node.entries most in
     let from_inside : from < node.len = omega (arith, c.requires.from, len) in
     let to_inside : to < node.len = omega (arith, c.requires.to, len) in
+    let set = take-set-lt node.len node.entries to (get_or node.entries from e) to_inside in
     let there = key_there node.entries node.len from e from_inside most is in
-    let known = All-contains (IsKnown bytes) key_heads.keys e.key (all_known bytes key_heads h) there in
-    let read = get_or node.entries from e in
-    headed_set bytes key_heads h _ to e.key (get_or node.heads from 0) known (key_agrees bytes key_heads h e.key there)
-    (head_there node.entries node.len from e from_inside most is (head_at bytes node.prefix_len) node.heads h.heads)
-    (ap keys_of (take-set-lt node.len node.entries to read to_inside)
-    ∙ map-set (λ (x : Entry). x.key) (entries_of node) to read
-    ∙ ap (λ (x : Entry). slice_set key_heads.keys to x.key) (sym is))
-    refl
-    (take-set-lt node.len node.heads to (get_or node.heads from 0) to_inside)
+    record {
+      entries = λ d at. cc (set, entry_there node.entries node.len from d e at);
+      headed = λ bytes h. headed_set bytes (key_heads_of node) h _ to e.key (get_or node.heads from 0)
+          (All-contains (IsKnown bytes) (keys_of (entries_of node)) e.key (all_known bytes (key_heads_of node) h) there)
+          (key_agrees bytes (key_heads_of node) h e.key there)
+          (head_there node.entries node.len from e from_inside most is (head_at bytes node.prefix_len) node.heads h.heads)
+          (cc (simp map-set at (ap keys_of set))) refl (take-set-lt node.len node.heads to (get_or node.heads from 0) to_inside);
+    }

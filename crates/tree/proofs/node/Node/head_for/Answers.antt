@@ -1,49 +1,35 @@
-use Rattle.std.proofs.Common.{◌≡◌, ◌≢◌, ◌⊎◌, ◌≤◌, ◌∙◌, inl, inr, sym, ap, get_or, get_or-take, length-take, arith}
+use Rattle.std.proofs.Common.{◌≡◌, ◌≢◌, ◌⊎◌, ◌∙◌, inl, inr, sym, get_or, get_or-take, length-take, arith}
 use Rattle.std.proofs.lemmas.Bool.{leb-true}
-use Rattle.tree.specs.Heads.{HasPrefix, head_behind}
+use Rattle.tree.specs.Heads.{HasPrefix}
 use Rattle.tree.specs.Node.{entries_of, key_heads_of}
 use Rattle.tree.proofs.HeadAt.{entry_at, key_there, agrees_at}
-use Rattle.tree.proofs.node.Node.head_for.Goals.{
-  then-self-eq0+then-self-gt0,
-  else-self-eq0,
-  else-self-eq0-via-then-self-eq0+else-self-gt0,
-  else-self-eq0-via-else-self-eq0,
-}
+use Rattle.tree.proofs.node.Node.head_for.Goals.{then-self-eq0+then-self-gt0, else-self-eq0, else-self-eq0-via-then-self-eq0+else-self-gt0, else-self-eq0-via-else-self-eq0}
 use Rattle.tree.proofs.node.Node.head_for.Goals as goal
 
 pub returns : goal.returns
 returns g c =
     let node = c.args.self.now in
-    let bound = c.args.bound.now in
-    let es = entries_of node in
-    let bytes = g.P.Bound.bytes bound in
-    let target = g.P.Bound.target bound in
-    let agrees : HasPrefix bytes (key_heads_of node) target =
+    let agrees : HasPrefix (g.P.Bound.bytes c.args.bound.now) (key_heads_of node) (g.P.Bound.target c.args.bound.now) =
     elim c.if-self-eq0.branch [
       | then-self-eq0+then-self-gt0 w ↦
           w.has_prefix_of_last-alike.ensures.agrees (sym w.alike-is ∙ c.if-not-alike.false)
       | else-self-eq0 w ↦
-          let first = entry_at es 0 c.requires.some in
-          let enough : w.prefix_len.result ≤ c.args.common_prefix_len =
-          leb-true w.prefix_len.result c.args.common_prefix_len (sym w.alike-is ∙ c.if-not-alike.false) in
-          let own : get_or (key_heads_of node).heads 0 0 ≡ get_or node.heads 0 0 =
-          get_or-take node.len node.heads 0 0 (omega (arith, c.requires.some, length-take node.len node.entries)) in
+          let first = entry_at (entries_of node) 0 c.requires.some in
+          let enough = leb-true w.prefix_len.result c.args.common_prefix_len (sym w.alike-is ∙ c.if-not-alike.false) in
+          let own = get_or-take node.len node.heads 0 0 (omega (arith, c.requires.some, length-take node.len node.entries)) in
           let filled : (node.prefix_len ≡ 0) ⊎ (get_or (key_heads_of node).heads 0 0 ≢ 0) =
           elim w.else-self-eq0.branch [
             | else-self-eq0-via-then-self-eq0+else-self-gt0 v ↦ inl (omega (arith, v.if-self-gt0.false))
             | else-self-eq0-via-else-self-eq0 v ↦ inr (λ zero. v.if-self-eq0.false (sym own ∙ zero))
           ] in
-          agrees_at bytes (key_heads_of node) c.requires.headed 0 first.0.key target (key_there es 0 first.0 first.1) filled
-          (λ text known long.
-          c.requires.shared first.0 text first.1 known node.prefix_len long (omega (arith, enough, w.prefix_len.ensures.prefix_len)))
+          agrees_at _ _ c.requires.headed 0 first.0.key _ (key_there (entries_of node) 0 first.0 first.1) filled
+          (λ text known long. c.requires.shared first.0 text first.1 known node.prefix_len long
+          (omega (arith, enough, w.prefix_len.ensures.prefix_len)))
     ] in
+    let head_is = rw c.prefix_len-2.ensures.prefix_len at c.head.ensures.head in
     record {
       head = record {
-        head = record {
-          agrees = agrees;
-          head_is = c.head.ensures.head ∙ ap (λ n. head_behind n target) c.prefix_len-2.ensures.prefix_len;
-          are_bytes = c.head.ensures.are_bytes;
-        };
+        head = record { agrees = agrees; head_is = head_is; are_bytes = c.head.ensures.are_bytes };
         none = λ none. absurd cc;
       };
     }

@@ -1,9 +1,8 @@
-use Rattle.std.proofs.Common.{◌≡◌, ◌<◌, ◌∙◌, ap, sym, get_or, subst, arith}
+use Rattle.std.proofs.Common.{◌≡◌, ◌<◌, ◌∙◌, sym, arith}
 use Rattle.std.specs.Prelude.{slice_index_or}
 use Rattle.std.proofs.lemmas.Bool.{eqb-true}
 use Rattle.std.proofs.lemmas.List.{length-take-le}
-use Rattle.tree.specs.declared.entry.Entry.{Entry}
-use Rattle.tree.specs.Heads.{head_at, IsHeadBeside}
+use Rattle.tree.specs.Heads.{head_at}
 use Rattle.tree.specs.Node.{key_heads_of}
 use Rattle.tree.proofs.HeadChanges.{key_agrees, key_there, head_there}
 use Rattle.tree.proofs.node.Node.head_of.Goals as goal
@@ -14,15 +13,15 @@ returns-then-eq g c =
     let bytes = g.P.Bound.bytes c.args.bound.now in
     let i = c.args.index in
     let e = c.index-self-index.result in
-    let f = head_at bytes node.prefix_len in
+    let is = c.index-self-index.is in
     let inside : i < node.len = omega (arith, c.requires.within, length-take-le node.len node.entries (omega arith)) in
-    let same : e.key ≡ c.args.key =
-    ap (λ (x : Entry). x.key) c.index-self-index.is
-    ∙ eqb-true (slice_index_or node.entries i e).key c.args.key (sym c.eq.ensures ∙ c.if-eq.true) in
+    let equal = eqb-true (slice_index_or node.entries i e).key c.args.key (sym c.eq.ensures ∙ c.if-eq.true) in
+    let same : e.key ≡ c.args.key = cc in
+    let there = key_there node.entries node.len i e inside (omega arith) is in
     record {
-      head = subst (λ key. IsHeadBeside bytes (key_heads_of node) key (get_or node.heads i 0)) same (record {
-        begins = key_agrees bytes (key_heads_of node) c.requires.headed e.key
-            (key_there node.entries node.len i e inside (omega arith) c.index-self-index.is);
-        head_is = head_there node.entries node.len i e inside (omega arith) c.index-self-index.is f node.heads c.requires.headed.heads;
-      });
+      head = rw (← same) record {
+        begins = key_agrees bytes (key_heads_of node) c.requires.headed e.key there;
+        head_is = head_there node.entries node.len i e inside (omega arith) is (head_at bytes node.prefix_len) node.heads
+            c.requires.headed.heads;
+      };
     }

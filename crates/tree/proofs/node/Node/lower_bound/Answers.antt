@@ -1,31 +1,16 @@
-use Rattle.std.proofs.Common.{rules, refl, subst, arith}
-use Rattle.tree.specs.Finding.{IsOwnHead}
-use Rattle.tree.specs.Node.{entries_of, key_heads_of}
+use Rattle.std.proofs.Common.{rules, refl, arith}
+use Rattle.tree.specs.Node.{entries_of}
 use Rattle.tree.proofs.NearBounds.{begin_alike}
 use Rattle.tree.proofs.node.Node.lower_bound.Goals as goal
 
 pub head_for-head-requires : goal.head_for-head-requires
 head_for-head-requires g c =
-    let bound = c.args.bound.now in (
-      search rules,
-      (
-        c.requires.can_step.can_find.headed,
-        (
-          c.requires.can_step.can_find.some,
-          begin_alike (g.P.Bound.bytes bound) (g.P.Bound.bytes bound) (g.P.Bound.below bound) (g.P.Bound.target bound)
-              (g.P.Bound.target bound) (entries_of c.args.self.now) c.args.common_prefix_len c.unwrap_or.result c.requires.can_step.known
-              (omega (arith, c.unwrap_or.ensures)) refl (λ key. refl),
-        ),
-      ),
-    )
+    let can = c.requires.can_step in
+    let alike = begin_alike _ (g.P.Bound.bytes c.args.bound.now) (g.P.Bound.below c.args.bound.now) _
+    (g.P.Bound.target c.args.bound.now) (entries_of c.args.self.now) c.args.common_prefix_len c.unwrap_or.result can.known
+    (omega (arith, c.unwrap_or.ensures)) refl (λ key. refl) in
+    (search rules, (can.can_find.headed, (can.can_find.some, alike)))
 
 pub lower_bound_with-requires : goal.lower_bound_with-requires
 lower_bound_with-requires g c =
-    let bound = c.args.bound.now in (
-      search rules,
-      record {
-        can_step = c.requires.can_step;
-        head = subst (λ n. IsOwnHead (g.P.Bound.bytes bound) (g.P.Bound.target bound) n c.head_for-head.result (key_heads_of c.args.self.now))
-            c.unwrap_or.ensures c.head_for-head.ensures.head;
-      },
-    )
+    (search rules, record { can_step = c.requires.can_step; head = rw c.unwrap_or.ensures at c.head_for-head.ensures.head })

@@ -1,5 +1,4 @@
-use Rattle.std.proofs.Common.{◌<◌, ◌-◌, ◌∙◌, sym, length, arith}
-use Rattle.tree.specs.declared.entry.Entry.{Entry}
+use Rattle.std.proofs.Common.{◌-◌, ◌∙◌, sym, arith}
 use Rattle.tree.specs.Node.{entries_of}
 use Rattle.tree.proofs.HeadAt.{entry_at}
 use Rattle.tree.proofs.HeadCounts.{passing_before, passing_inside}
@@ -7,20 +6,15 @@ use Rattle.tree.proofs.node.Node.lower_bound_back.Goals as goal
 
 pub loop-count-preserved : goal.loop-count-preserved
 loop-count-preserved g c =
-    let es = entries_of c.args.self.now in
     let i = c.loop-count.count - 1 in
-    let inside : i < length es = omega (arith, c.loop-count-test.true, c.loop-count.invariant.0) in
-    let e = entry_at es i inside in
-    let most = passing_before (λ (e : Entry). g.P.Bound.below c.args.bound.now e.key) es i e.0 c.requires.can_find.partitioned e.1
-    (sym (c.is_below_at.ensures.is_below e.0 e.1) ∙ c.if-not-is_below_at.true) in
-    (omega (arith, c.loop-count.invariant.0), most)
+    let e = entry_at (entries_of c.args.self.now) i (omega (arith, c.loop-count-test.true, c.loop-count.invariant.0)) in
+    let fails = sym (c.is_below_at.ensures.is_below e.0 e.1) ∙ c.if-not-is_below_at.true in
+    (omega (arith, c.loop-count.invariant.0), passing_before _ _ i e.0 c.requires.can_find.partitioned e.1 fails)
 
 pub returns-else-not-is_below_at : goal.returns-else-not-is_below_at
 returns-else-not-is_below_at g c =
-    let es = entries_of c.args.self.now in
     let i = c.loop-count.count - 1 in
-    let inside : i < length es = omega (arith, c.loop-count-test.true, c.loop-count.invariant.0) in
-    let e = entry_at es i inside in
-    let more = passing_inside (λ (e : Entry). g.P.Bound.below c.args.bound.now e.key) es i e.0 c.requires.can_find.partitioned e.1
-    (sym (c.is_below_at.ensures.is_below e.0 e.1) ∙ c.if-not-is_below_at.false) in
+    let e = entry_at (entries_of c.args.self.now) i (omega (arith, c.loop-count-test.true, c.loop-count.invariant.0)) in
+    let passes = sym (c.is_below_at.ensures.is_below e.0 e.1) ∙ c.if-not-is_below_at.false in
+    let more = passing_inside _ _ i e.0 c.requires.can_find.partitioned e.1 passes in
     record { count = record { within = c.loop-count.invariant.0; count_is = omega (arith, more, c.loop-count.invariant.1) } }

@@ -1,5 +1,4 @@
-use Rattle.std.proofs.Common.{arith, ◌≡◌, ◌≤◌, ◌+◌, ◌-◌, length, take}
-use Rattle.std.specs.List.{copy_within}
+use Rattle.std.proofs.Common.{arith, ◌≡◌, ◌≤◌, ◌+◌, ◌-◌, length}
 use Rattle.std.proofs.lemmas.List.{length-take-le}
 use Rattle.tree.proofs.Splicing.{take-spliced_before}
 use Rattle.tree.proofs.node.Node.prepend.Goals as goal
@@ -9,15 +8,13 @@ returns-clause-heads g c =
     let node = c.args.self.now in
     let now = c.move_tail.new.self in
     let heads = c.copy_from_slice-2.new.self in
+    let move = c.move_tail.ensures in
     let more = length c.args.more.now in
     let room : node.len + more ≤ length node.heads =
     omega (arith, c.requires.room, length-take-le node.len node.entries (omega arith)) in
-    let count : 0 + length heads ≡ more =
-    omega (arith, c.copy_from_slice-2.ensures.len, length-take-le (more - 0) now.heads (omega (arith, room, c.move_tail.ensures.size))) in
-    let len : now.len ≡ 0 + length heads + (node.len - 0) = omega (arith, count, c.move_tail.ensures.len) in
-    let before : take (0 + length heads + (node.len - 0)) now.heads
-    ≡ take (0 + length heads + (node.len - 0)) (copy_within node.heads 0 node.len (0 + length heads)) =
-    cc (len, count, c.move_tail.ensures.heads) in
+    let size = length-take-le (more - 0) now.heads (omega (arith, room, move.size)) in
+    let count : 0 + length heads ≡ more = omega (arith, c.copy_from_slice-2.ensures.len, size) in
+    let len : now.len ≡ 0 + length heads + (node.len - 0) = omega (arith, count, move.len) in
     let spliced = take-spliced_before node.heads now.heads heads node.len 0 0 (omega arith) (omega arith) (omega arith)
-    (omega (arith, count, room)) (omega arith) before in
-    record { prefix_len = c.move_tail.ensures.prefix_len; heads_are = cc (c.copy_from_slice-2.ensures.after, spliced) }
+    (omega (arith, count, room)) (omega arith) (cc (len, count, move.heads)) in
+    record { prefix_len = move.prefix_len; heads_are = cc (c.copy_from_slice-2.ensures.after, spliced) }

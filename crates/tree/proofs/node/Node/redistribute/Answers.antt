@@ -1,7 +1,7 @@
-use Rattle.std.proofs.Common.{arith, refl, ◌≡◌, ◌≤◌, ℕ, ◌/◌, ◌+◌, ◌-◌, List, ◌++◌, ap, append_assoc, length, length-append, length-drop, take, drop}
+use Rattle.std.proofs.Common.{arith, refl, ◌≡◌, ◌≤◌, ℕ, ◌/◌, ◌+◌, ◌-◌, List, ◌++◌, append_assoc, length, length-drop, take, drop}
 use Rattle.std.specs.List.{copy_within}
-use Rattle.std.proofs.lemmas.List.{take-append-drop, take_all, length-take-le}
-use Rattle.tree.specs.Node.{entries_of, key_heads_of}
+use Rattle.std.proofs.lemmas.Grind.{common_steps}
+use Rattle.std.proofs.lemmas.List.{take-append-drop, take_all}
 use Rattle.tree.proofs.Entries.{take-cut, take-removed}
 use Rattle.tree.proofs.node.Node.redistribute.Goals as goal
 
@@ -9,85 +9,58 @@ module _ {X : Type 0} where
   -- the end of a list put before another one
   moved_right : (xs ys part right rest : List X) (len half now : ℕ) → len ≤ length xs → half ≤ len → now ≡ half
       → ys ≡ copy_within xs len len half → part ≡ take len xs → right ≡ take (length part - half) (drop half part) ++ rest
-      → (length (take now ys) ≡ half) × (take now ys ++ right ≡ take len xs ++ rest)
+      → take now ys ++ right ≡ take len xs ++ rest
   moved_right xs ys part right rest len half now room within is after same right_is =
-      let front : take now ys ≡ take half (take len xs) = cc (take-cut xs ys len half room within after) in
       let back = take_all (length part - half) (drop half part) (omega (arith, length-drop half part)) in
-      let size = length-take-le len xs room in (
-        omega (arith, ap length front, size, length-take-le half (take len xs) (omega (arith, within, size))),
-        cc (back, take-append-drop half (take len xs), append_assoc (take half (take len xs)) (drop half (take len xs)) rest),
-      )
+      let parts = append_assoc (take half (take len xs)) (drop half (take len xs)) rest in
+      cc (take-cut xs ys len half room within after, back, take-append-drop half (take len xs))
 
   -- the beginning of a list put behind another one
   moved_left : (all xs ys part left : List X) (len more now : ℕ) → len ≤ length xs → more ≤ len → now ≡ len - (more - 0)
       → ys ≡ copy_within xs more len 0 → part ≡ take len xs → left ≡ all ++ take more part
-      → (length left ≡ length all + more) × (left ++ take now ys ≡ all ++ take len xs)
+      → left ++ take now ys ≡ all ++ take len xs
   moved_left all xs ys part left len more now room within is after same left_is =
       let rest = take len xs in
       let back : take now ys ≡ drop more rest = cc (take-removed xs ys len 0 more room (omega arith) within after) in
-      let size = length-take-le more part (omega (arith, ap length same, length-take-le len xs room)) in (
-        omega (arith, ap length left_is, length-append all (take more part), size),
-        cc (take-append-drop more rest, append_assoc all (take more rest) (drop more rest)),
-      )
+      cc (take-append-drop more rest, append_assoc all (take more rest) (drop more rest))
 
-pub returns-then-self-half-clause-entries : goal.returns-then-self-half-clause-entries
-returns-then-self-half-clause-entries g c =
+pub returns-then-self-half : goal.returns-then-self-half
+returns-then-self-half g c =
     let left = c.args.self.now in
     let half = (left.len + c.args.right.now.len) / 2 in
-    let new = c.move_tail.new.self in
-    (moved_right left.entries new.entries c.entries.result.now (entries_of c.prepend.new.self) (entries_of c.args.right.now)
-    left.len half new.len (omega arith) (omega (arith, c.if-self-half.true)) (omega (arith, c.move_tail.ensures.len))
-    c.move_tail.ensures.entries c.entries.ensures.entries c.prepend.ensures.entries).1
-
-pub returns-then-self-half-clause-heads : goal.returns-then-self-half-clause-heads
-returns-then-self-half-clause-heads g c =
-    let left = c.args.self.now in
-    let right = c.args.right.now in
-    let half = (left.len + right.len) / 2 in
-    let new = c.move_tail.new.self in
+    let move = c.move_tail.ensures in
     let within : half ≤ left.len = omega (arith, c.if-self-half.true) in
-    let len : new.len ≡ half = omega (arith, c.move_tail.ensures.len) in
-    let entries = moved_right left.entries new.entries c.entries.result.now (entries_of c.prepend.new.self) (entries_of right)
-    left.len half new.len (omega arith) within len c.move_tail.ensures.entries
-    c.entries.ensures.entries c.prepend.ensures.entries in
-    let heads = moved_right left.heads (copy_within left.heads left.len left.len half) c.heads.result.now
-    (key_heads_of c.prepend.new.self).heads (key_heads_of right).heads left.len half
-    new.len (omega arith) within len refl c.heads.ensures.heads c.prepend.ensures.heads.heads_are in
+    let len : c.move_tail.new.self.len ≡ half = omega (arith, move.len) in
+    let heads = moved_right left.heads (copy_within left.heads left.len left.len half) _ _ _ left.len half _ (omega arith)
+    within len refl c.heads.ensures.heads c.prepend.ensures.heads.heads_are in
     record {
-      prefix_len = c.move_tail.ensures.prefix_len;
-      right_prefix_len = c.prepend.ensures.heads.prefix_len;
-      heads_are = cc (heads.1, c.move_tail.ensures.heads);
-      count = cc (heads.0, entries.0, c.move_tail.ensures.heads);
+      entries = moved_right _ _ _ _ _ left.len half _ (omega arith) within len move.entries
+          c.entries.ensures.entries c.prepend.ensures.entries;
+      heads = record {
+        prefix_len = move.prefix_len;
+        right_prefix_len = c.prepend.ensures.heads.prefix_len;
+        heads_are = cc (move.heads);
+        count = grind (arith, common_steps);
+      };
+      filled = grind (arith, common_steps);
     }
 
-pub returns-else-self-half-clause-entries : goal.returns-else-self-half-clause-entries
-returns-else-self-half-clause-entries g c =
-    let left = c.args.self.now in
+pub returns-else-self-half : goal.returns-else-self-half
+returns-else-self-half g c =
     let right = c.args.right.now in
-    let new = c.move_tail-else-self-half.new.self in
-    (moved_left (entries_of left) right.entries new.entries c.entries-else-self-half.result.now (entries_of c.append.new.self)
-    right.len ((left.len + right.len) / 2 - left.len) new.len (omega arith) (omega arith)
-    (omega (arith, c.move_tail-else-self-half.ensures.len)) c.move_tail-else-self-half.ensures.entries
-    c.entries-else-self-half.ensures.entries c.append.ensures.entries).1
-
-pub returns-else-self-half-clause-heads : goal.returns-else-self-half-clause-heads
-returns-else-self-half-clause-heads g c =
-    let left = c.args.self.now in
-    let right = c.args.right.now in
-    let more = (left.len + right.len) / 2 - left.len in
-    let new = c.move_tail-else-self-half.new.self in
-    let len : new.len ≡ right.len - (more - 0) = omega (arith, c.move_tail-else-self-half.ensures.len) in
-    let entries = moved_left (entries_of left) right.entries new.entries c.entries-else-self-half.result.now
-    (entries_of c.append.new.self) right.len more new.len (omega arith) (omega arith) len
-    c.move_tail-else-self-half.ensures.entries c.entries-else-self-half.ensures.entries c.append.ensures.entries in
-    let heads = moved_left (key_heads_of left).heads right.heads (copy_within right.heads more right.len 0)
-    c.heads-else-self-half.result.now (key_heads_of c.append.new.self).heads right.len more new.len (omega arith) (omega arith)
-    len refl c.heads-else-self-half.ensures.heads c.append.ensures.heads.heads_are in
-    let left_heads = length-take-le left.len left.heads (omega arith) in
-    let left_entries = length-take-le left.len left.entries (omega arith) in
+    let more = (c.args.self.now.len + right.len) / 2 - c.args.self.now.len in
+    let move = c.move_tail-else-self-half.ensures in
+    let len : c.move_tail-else-self-half.new.self.len ≡ right.len - (more - 0) = omega (arith, move.len) in
+    let heads = moved_left _ right.heads (copy_within right.heads more right.len 0) _ _ right.len more _ (omega arith)
+    (omega arith) len refl c.heads-else-self-half.ensures.heads c.append.ensures.heads.heads_are in
     record {
-      prefix_len = c.append.ensures.heads.prefix_len;
-      right_prefix_len = c.move_tail-else-self-half.ensures.prefix_len;
-      heads_are = cc (heads.1, c.move_tail-else-self-half.ensures.heads);
-      count = omega (arith, heads.0, entries.0, left_heads, left_entries);
+      entries = moved_left _ _ _ _ _ right.len more _ (omega arith) (omega arith) len move.entries
+          c.entries-else-self-half.ensures.entries c.append.ensures.entries;
+      heads = record {
+        prefix_len = c.append.ensures.heads.prefix_len;
+        right_prefix_len = move.prefix_len;
+        heads_are = cc (move.heads);
+        count = grind (arith, common_steps);
+      };
+      filled = grind (arith, common_steps);
     }
