@@ -27,11 +27,7 @@ module _ (v : ℤ) where
       let most = rw a.3 at (bound a.0 a.1 a.2) in
       let lt : v <ℤ a.1.version = a.4 in omega (arith, ints, le, most, lt)
 
-  -- what the code answers, where that is the answer for a part
-  pub part_above : (b : Bool) (whole part : List Item) → whole ≡ part → (IsTrue b ↔ IsAbove part)
-      → (IsTrue b ↔ IsAbove whole)
-  part_above b whole part e h = rw e h
-
+  -- what the code answers of entries, where these are the items
   pub leaf_above : (b : Bool) (whole : List Item) (es : List Entry) → whole ≡ map item_of es
       → (IsTrue b ↔ Any (λ e. v <ℤ e.version) es) → (IsTrue b ↔ IsAbove whole)
   leaf_above b whole es e h =

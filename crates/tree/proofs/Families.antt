@@ -14,7 +14,7 @@ pub use Rattle.tree.proofs.Frames.{live_children}
 
 module _ {N : ℕ} where
   module _ (a : Arena (Node N)) (height : ℕ) where
-    slots_of-append : (xs ys : List Entry) → slots_of a height (xs ++ ys) ≡ slots_of a height xs ++ slots_of a height ys
+    pub slots_of-append : (xs ys : List Entry) → slots_of a height (xs ++ ys) ≡ slots_of a height xs ++ slots_of a height ys
     slots_of-append xs ys = flat_map-append (λ (e : Entry). slots_in a height e.child) xs ys
 
     pub items_of-append : (xs ys : List Entry) → items_of a height (xs ++ ys) ≡ items_of a height xs ++ items_of a height ys

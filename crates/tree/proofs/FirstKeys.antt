@@ -44,15 +44,6 @@ module _ {N : ℕ} (nodes : Arena (Node N)) (least : ℕ) where
   node_tells zero slot s = λ i d lt. item_tells (get_or (entries_at nodes slot) i d)
   node_tells (suc height) slot s = λ i d lt. (s.2 i d lt).tells
 
-  -- The entries of a node above the leaves have children.
-  pub child_at : (height slot : ℕ) (es : List Entry) (i : ℕ) (e : Entry) → (height ≡ 0 → ⊥)
-      → IsSubtree nodes least height slot → entries_at nodes slot ≡ es → i < length es → e ≡ get_or es i e
-      → IsChild nodes least (height - 1) (IsSubtree nodes least (height - 1)) e
-  child_at height slot es i e some s read inside is =
-      let lower : height ≡ suc (height - 1) = omega arith in
-      let node = subst (λ n. IsSubtree nodes least n slot) lower s in
-      rw is ((rw read at node.2) i e inside)
-
   -- What is known of the key of an entry is known of that of its child's first entry, which is the same.
   pub knows_child : (height : ℕ) (e : Entry) (child : ℕ) (bytes : KeyBytes) (is_below : ℕ → Bool) (target : List ℕ)
       (known : Option ℕ) → IsChild nodes least height (IsSubtree nodes least height) e → child ≡ e.child

@@ -1,14 +1,12 @@
 -- What holds of all keys of entries, as that they are known.
-use Rattle.std.proofs.Common.{◌≡◌, ℕ, ◌<◌, List, ◌++◌, length, get_or, option_map, ap, arith}
+use Rattle.std.proofs.Common.{◌≡◌, ℕ, ◌<◌, List, length, get_or, option_map, ap, arith}
 use Rattle.std.specs.List.{All}
-use Rattle.std.proofs.lemmas.List.Elements.{All-append}
-use Rattle.std.proofs.lemmas.List.{get_or-map, length-map, map-append}
+use Rattle.std.proofs.lemmas.List.{get_or-map, length-map}
 use Rattle.arena.specs.Arena.{Arena, with_header}
 use Rattle.tree.specs.declared.node.Node.{Node}
 use Rattle.tree.specs.declared.entry.Entry.{Entry}
 use Rattle.tree.specs.Heads.{KeyBytes, AllAreHeads, AreHeads}
 use Rattle.tree.specs.Node.{keys_of, key_heads_of, all_heads_of}
-use Rattle.tree.proofs.callers.Partitions.{All-front, All-back}
 use Rattle.tree.proofs.Headed.{headed_put}
 use Rattle.tree.proofs.Placing.{put_record_is, put_others}
 
@@ -18,16 +16,6 @@ module _ (P : ℕ → Type 0) where
   key_of_one es i d within h =
       let key : Entry → ℕ = λ e. e.key in
       rw (get_or-map key es i d d.key within) at (h i d.key (omega (arith, length-map es key)))
-
-  -- those of two lists
-  pub keys_of_both : (xs ys : List Entry) → All P (keys_of xs) → All P (keys_of ys) → All P (keys_of (xs ++ ys))
-  keys_of_both xs ys h k = rw map-append (All-append P (keys_of xs) (keys_of ys) h k)
-
-  pub keys_in_front : (xs ys : List Entry) → All P (keys_of (xs ++ ys)) → All P (keys_of xs)
-  keys_in_front xs ys h = All-front P (keys_of xs) (keys_of ys) (rw map-append at h)
-
-  pub keys_at_back : (xs ys : List Entry) → All P (keys_of (xs ++ ys)) → All P (keys_of ys)
-  keys_at_back xs ys h = All-back P (keys_of xs) (keys_of ys) (rw map-append at h)
 
 module _ {N : ℕ} where
   -- A header is put whose knowledge is right.

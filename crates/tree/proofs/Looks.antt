@@ -10,7 +10,7 @@ use Rattle.tree.specs.Node.{entries_of}
 use Rattle.tree.specs.Path.{IsPartitioned, below_from, below_to}
 use Rattle.tree.specs.Subtree.{entries_at, items_in, IsChild, IsSubtree}
 use Rattle.tree.proofs.Ways.{children_partitioned, pass_before, fail_behind_index, index_inside}
-use Rattle.tree.proofs.Found.{partitioned-entries, entries_read, leaf_partitioned, read_partitioned}
+use Rattle.tree.proofs.Found.{partitioned-entries, entries_read, read_partitioned}
 use Rattle.tree.proofs.Headed.{headed_at}
 use Rattle.tree.proofs.Placing.{entries_from_header}
 use Rattle.tree.specs.Finding.{CanStep}
@@ -68,7 +68,9 @@ pub look_bound : {N : ℕ} (nodes : Arena (Node N)) (least height slot : ℕ) (i
     (es : List Entry) → IsSubtree nodes least height slot
     → IsPartitioned (λ x. is_below x.key) (items_in nodes height slot) → header_at nodes slot ≡ Some header
     → es ≡ entries_of header → IsPartitioned (λ e. is_below e.key) es
-look_bound nodes least zero slot is_below header es s c h e = leaf_partitioned nodes 0 slot is_below header es refl c h e
+look_bound nodes least zero slot is_below header es s c h e =
+    let mapped : IsPartitioned (λ (x : Item). is_below x.key) (map item_of (entries_at nodes slot)) = c in
+    partitioned-entries (λ (x : Item). is_below x.key) es (rw (entries_read nodes slot header es h e) at mapped)
 look_bound nodes least (suc height) slot is_below header es s c h e =
     read_partitioned nodes least (suc height) slot is_below header es (λ z. omega arith) s c h e
 

@@ -11,9 +11,9 @@ use Rattle.tree.specs.Item.{item_of, Tells}
 use Rattle.tree.specs.Subtree.{entries_at, items_in, IsSubtree}
 use Rattle.tree.specs.Replace.{child_at, items_of, slots_of, AreChildren, IsFamily, IsRebalanced}
 use Rattle.tree.proofs.callers.Times.{times, times-append, once_if_distinct}
-use Rattle.tree.proofs.Frames.{IsRight, children_same}
+use Rattle.tree.proofs.Frames.{IsRight, items_of_same, slots_of_same, children_same}
 use Rattle.tree.proofs.Changing.{Moves, moves_beside, moves_agree, changes_if_moves}
-use Rattle.tree.proofs.Families.{slots_of-append, slots_of_same, items_of-append, items_of_same, times-slots_of, live_children, replaced}
+use Rattle.tree.proofs.Families.{slots_of-append, items_of-append, times-slots_of, live_children, replaced}
 use Rattle.tree.proofs.Placing.{live_if_some}
 use Rattle.tree.proofs.callers.Partitions.{All-front, All-back}
 
@@ -124,7 +124,7 @@ module _ {N : ℕ} where
       flat_map-parts (λ (e : Entry). entries_at c e.child) (items_of c height) refl (items_of-append c height) in
       record {
         subtrees = subtrees_above b least height new some
-            (subst (AreChildren b least height) (sym here) (children_same a b least height es agree right));
+            (subst (AreChildren b least height) (sym here) (children_same a b height es agree least right));
         items = cc (items a old, items b new, items_of_same a b height es agree);
         moves = moves_beside a b (slots_of a 0 old) (slots_of b 0 new) (slots_of a height es) _ _ moves count
             (λ s. rw same at (count_below b height (times s) refl (times-append s) new))
