@@ -1,4 +1,4 @@
-use Rattle.std.proofs.Common.{◌≡◌, ◌≤◌, ◌+◌, ℕ, List, [], ◌∷◌, append-nil, length, length-append, length-drop, length-set, length-take, get_or, set, ap, ◌∙◌, sym, arith, rules}
+use Rattle.std.proofs.Common.{◌≡◌, ◌≤◌, ◌+◌, ℕ, List, [], ◌∷◌, append-nil, length, length-append, length-drop, length-set, length-take, get_or, ap, ◌∙◌, sym, arith, rules}
 use Rattle.tree.specs.declared.entry.Entry.{Entry}
 use Rattle.tree.specs.Node.{entries_of}
 use Rattle.tree.specs.Rebalancing.{AreTwo}
