@@ -1,10 +1,11 @@
-//! The filter: cells of versions that only rise.
+//! The filter: cells, each of which tells the bounds of the keys that fall into it. They only rise.
 
-ghost use Rattle.std.specs.Prelude.{◌≡◌, ℕ, ◌≤◌, ◌*◌, ◌<◌, ◌≤ℤ◌, ◌<ℤ◌, ◌↔◌, negsuc, List, get_or, length, IfOk, OnOk, IsTrue, min};
+ghost use Rattle.std.specs.Prelude.{◌≡◌, ℕ, ◌≤◌, ◌*◌, ◌<◌, ◌≤ℤ◌, ◌<ℤ◌, ◌↔◌, negsuc, List, length, IfOk, OnOk, IsTrue, min};
 ghost use Rattle.std.specs.Int.{int_max};
 ghost use Rattle.filter.specs.Filter.{bound, bound_in, cell_at, each_twice};
 ghost use Rattle.keys.specs.Hash.{hash_of};
 
+use crate::cell::Cell;
 use keys::key_hash;
 use std::alloc::{AllocError, Global};
 use std::marker::Model;
@@ -15,36 +16,37 @@ pub const MAX_CELLS: usize = 134_217_728;
 const _: () = prove!(MAX_CELLS == 134_217_728);
 
 // How many cells there are at first.
-const FIRST_CELLS: usize = 1024;
+const FIRST_CELLS: usize = 256;
 
 // Two to the power of 32: how many hashes there are.
 const HALF: u64 = 0x1_0000_0000;
 
-/// A filter of writes: cells with versions, and the versions of the newest range and the newest key. Contracts see these, and
-/// speak of the bounds of keys.
+/// A filter of writes: cells, and the versions of the newest range and the newest key. Contracts see these, and speak of the bounds
+/// of keys.
 #[derive(Debug, Drop)]
 pub struct Filter {
     alloc: Global,
-    cells: Vec<i64>,
+    cells: Vec<Cell>,
     newest_range: i64,
     newest_key: i64,
 }
 
 impl Model for Filter {
     ghost use Rattle.std.specs.Prelude.{ℕ, get_or, length, negsuc, ◌*◌, ◌<◌, ◌≤◌, ◌≤ℤ◌};
+    ghost use Rattle.filter.specs.Cell.{empty_cell, newest_of};
     ghost use Rattle.filter.specs.Filter.{FilterState};
     ghost use Rattle.filter.specs.declared.filter.TheConstants.{MAX_CELLS};
 
     ghost Value = { FilterState };
 
-    ghost view = { λ f. record { versions = f.cells.items; newest_range = f.newest_range; newest_key = f.newest_key } };
+    ghost view = { λ f. record { cells = f.cells.items; newest_range = f.newest_range; newest_key = f.newest_key } };
 
     ghost invariant = { λ f. (0 < length f.cells.items) × (length f.cells.items ≤ 2 * MAX_CELLS)
-        × ((cell : ℕ) → get_or f.cells.items cell (negsuc 0) ≤ℤ f.newest_key) };
+        × ((index : ℕ) → newest_of (get_or f.cells.items index empty_cell) ≤ℤ f.newest_key) × (negsuc 0 ≤ℤ f.newest_range) };
 }
 
 impl Filter {
-    /// Makes the filter in which nothing is written: all versions are -1.
+    /// Makes the filter in which nothing is written: all bounds are -1.
     pub fn new(alloc: Global) -> Result<Self, AllocError>
         ensures bounds { IfOk result (λ f. (key : List ℕ) → bound f key ≡ negsuc 0) }
         ensures range { IfOk result (λ f. f.newest_range ≡ negsuc 0) }
@@ -52,7 +54,7 @@ impl Filter {
     {
         Ok(Filter {
             alloc,
-            cells: Vec::from_elem(alloc, -1, FIRST_CELLS)?,
+            cells: Vec::from_elem(alloc, Cell::empty(), FIRST_CELLS)?,
             newest_range: -1,
             newest_key: -1,
         })
@@ -62,16 +64,16 @@ impl Filter {
     pub fn bound(&self, key: &[u8]) -> i64
         ensures bound { result ≡ bound self.now key.now }
     {
-        self.bound_at(self.cell(key_hash(key)))
+        self.bound_at(key_hash(key))
     }
 
-    /// Returns the bound of the keys of a cell. Where many keys are asked for, their cells come first and the bounds then, so that the
-    /// memory of all these cells is waited for at once.
-    pub fn bound_at(&self, cell: usize) -> i64
-        requires within { cell < length self.now.versions }
-        ensures bound { result ≡ bound_in self.now cell }
+    /// Returns the bound of the keys of a hash, as [`key_hash`] returns it. It looks at one cell.
+    pub fn bound_at(&self, hash: u32) -> i64
+        ensures bound { result ≡ bound_in self.now hash }
     {
-        self.cells[cell].max(self.newest_range)
+        self.cells[self.cell(hash)]
+            .bound(hash)
+            .max(self.newest_range)
     }
 
     /// Returns the version of the newest range.
@@ -92,14 +94,16 @@ impl Filter {
 
     /// Notes that a key of this hash, as [`key_hash`] returns it, is written at the version. It takes no memory.
     pub fn write_key(&mut self, hash: u32, version: i64)
-        ensures written { (key : List ℕ) → hash ≡ hash_of key → bound self.new key ≡ int_max version (bound self.old key) }
+        ensures written { (key : List ℕ) → hash ≡ hash_of key → version ≤ℤ bound self.new key }
         ensures raised { (other : List ℕ) → bound self.old other ≤ℤ bound self.new other }
-        ensures no_higher { (other : List ℕ) → bound self.new other ≤ℤ int_max version (bound self.old other) }
+        ensures no_higher { (other : List ℕ) → bound self.new other ≤ℤ int_max self.new.newest_key (bound self.old other) }
         ensures range { self.new.newest_range ≡ self.old.newest_range }
         ensures newest { self.new.newest_key ≡ int_max version self.old.newest_key }
     {
-        let cell = self.cell(hash);
-        self.cells[cell] = self.raised(cell, version);
+        let index = self.cell(hash);
+        let mut cell = self.cells[index];
+        cell.write(hash, version);
+        self.cells[index] = cell;
         self.newest_key = self.newest_key.max(version);
     }
 
@@ -120,9 +124,9 @@ impl Filter {
         ensures same { (key : List ℕ) → bound self.new key ≡ bound self.old key }
         ensures range { self.new.newest_range ≡ self.old.newest_range }
         ensures newest { self.new.newest_key ≡ self.old.newest_key }
-        ensures no_fewer { length self.old.versions ≤ length self.new.versions }
+        ensures no_fewer { length self.old.cells ≤ length self.new.cells }
         ensures enough { OnOk result (self.old.newest_range <ℤ self.old.newest_key
-            → min count MAX_CELLS ≤ length self.new.versions) }
+            → min count MAX_CELLS ≤ length self.new.cells) }
     {
         if !self.is_useful() {
             return Ok(());
@@ -133,50 +137,37 @@ impl Filter {
         Ok(())
     }
 
-    // Makes two cells of each, with its version.
+    // Makes two cells of each, which tell the same.
     fn double(&mut self) -> Result<(), AllocError>
-        requires few { length self.old.versions < MAX_CELLS }
+        requires few { length self.old.cells < MAX_CELLS }
         ensures same { (key : List ℕ) → bound self.new key ≡ bound self.old key }
         ensures range { self.new.newest_range ≡ self.old.newest_range }
         ensures newest { self.new.newest_key ≡ self.old.newest_key }
-        ensures no_fewer { length self.old.versions ≤ length self.new.versions }
-        ensures count { OnOk result (length self.new.versions ≡ 2 * length self.old.versions) }
+        ensures no_fewer { length self.old.cells ≤ length self.new.cells }
+        ensures count { OnOk result (length self.new.cells ≡ 2 * length self.old.cells) }
     {
         self.cells = each_twice(self.alloc, &self.cells)?;
         Ok(())
     }
 
-    // Returns the greater of the version and that of the cell. No cell is newer than the newest key: so one that is written at no
-    // lesser version isn't read, and its memory not waited for.
-    fn raised(&self, cell: usize, version: i64) -> i64
-        requires within { cell < length self.now.versions }
-        ensures greater { result ≡ int_max version (get_or self.now.versions cell (negsuc 0)) }
-    {
-        if version < self.newest_key {
-            self.cells[cell].max(version)
-        } else {
-            version
-        }
-    }
-
     /// Returns the cell into which the keys of this hash fall, as [`key_hash`] returns it.
     pub fn cell(&self, hash: u32) -> usize
-        ensures cell { result ≡ cell_at (length self.now.versions) hash }
-        ensures within { result < length self.now.versions }
+        ensures cell { result ≡ cell_at (length self.now.cells) hash }
+        ensures within { result < length self.now.cells }
     {
         let count = self.cells.len() as u64;
         (u64::from(hash) * count / HALF) as usize
     }
 }
 
-// Returns each of the versions twice, in order.
-fn each_twice(alloc: Global, versions: &[i64]) -> Result<Vec<i64>, AllocError>
-    ensures twice { IfOk result (λ twice. twice.items ≡ each_twice versions.now) }
+// Returns each of the cells twice, in order.
+fn each_twice(alloc: Global, cells: &[Cell]) -> Result<Vec<Cell>, AllocError>
+    ensures twice { IfOk result (λ twice. twice.items ≡ each_twice cells.now) }
 {
-    let mut twice = Vec::with_capacity(alloc, versions.len().saturating_mul(2))?;
-    for version in versions {
-        twice.push(*version)?;
-        twice.push(*version)?;
+    let mut twice = Vec::with_capacity(alloc, cells.len().saturating_mul(2))?;
+    for cell in cells {
+        twice.push(*cell)?;
+        twice.push(*cell)?;
     }
     Ok(twice)
 }

@@ -8,6 +8,7 @@
 //! range and the newest key, and say of each call what becomes of the bounds.
 #![tactic(auto)]
 
+mod cell;
 mod filter;
 
 pub use filter::{Filter, MAX_CELLS};

@@ -1,10 +1,11 @@
 //! The bounds that a filter tells of several queries at once.
 //!
-//! The cells of their keys are found first, and read then: so the memory of all these cells is waited for at once.
+//! The hashes of their keys are gathered first, and the cells read then: so the memory of all these cells is waited for at once.
 
-ghost use Rattle.std.specs.Prelude.{◌≡◌, ◌+◌, ◌-◌, ◌<◌, ◌≤◌, All, length, map, take, drop};
+ghost use Rattle.std.specs.Prelude.{◌≡◌, ◌+◌, ◌-◌, ◌≤◌, All, length, map, take, drop};
 ghost use Rattle.std.specs.List.{AllZip};
-ghost use Rattle.filter.specs.Filter.{cell_of, bound_in};
+ghost use Rattle.filter.specs.Filter.{bound_in};
+ghost use Rattle.keys.specs.Hash.{hash_of};
 ghost use Rattle.keys.specs.Range.{IsSingle};
 ghost use Rattle.tree.specs.declared.question.TheConstants.{SIDE};
 
@@ -13,38 +14,31 @@ use arrayvec::ArrayVec;
 use filter::Filter;
 use tree::SIDE;
 
-/// Returns a cell for each of the queries from one index up to another: that into which its key falls, if its range is a single
-/// key. It looks at no key.
-pub fn cells_from<L: QueryList>(
-    filter: &Filter,
-    queries: &L,
-    from: usize,
-    to: usize,
-) -> ArrayVec<usize, SIDE>
+/// Returns a hash for each of the queries from one index up to another: that of its key, if its range is a single key. It looks at no
+/// key.
+pub fn hashes_from<L: QueryList>(queries: &L, from: usize, to: usize) -> ArrayVec<u32, SIDE>
     requires ordered { from ≤ to }
     requires within { to ≤ length (L.queries queries.now) }
     requires few { to ≤ from + SIDE }
-    ensures cells { AllZip (λ q cell. IsSingle q.0 → cell ≡ cell_of (length filter.now.versions) q.0.begin)
+    ensures hashes { AllZip (λ q hash. IsSingle q.0 → hash ≡ hash_of q.0.begin)
         (take (to - from) (drop from (L.queries queries.now))) result.items }
-    ensures inside { All (λ cell. cell < length filter.now.versions) result.items }
     ensures count { length result.items ≡ to - from }
 {
-    let mut cells = ArrayVec::new();
+    let mut hashes = ArrayVec::new();
     for index in from..to {
-        cells.push(filter.cell(queries.hash(index).unwrap_or(0)));
+        hashes.push(queries.hash(index).unwrap_or(0));
     }
-    cells
+    hashes
 }
 
-/// Returns the bounds of the keys of these cells.
-pub fn bounds_at(filter: &Filter, cells: &[usize]) -> ArrayVec<i64, SIDE>
-    requires few { length cells.now ≤ SIDE }
-    requires within { All (λ cell. cell < length filter.now.versions) cells.now }
-    ensures bounds { result.items ≡ map (bound_in filter.now) cells.now }
+/// Returns the bounds of the keys of these hashes.
+pub fn bounds_at(filter: &Filter, hashes: &[u32]) -> ArrayVec<i64, SIDE>
+    requires few { length hashes.now ≤ SIDE }
+    ensures bounds { result.items ≡ map (bound_in filter.now) hashes.now }
 {
     let mut bounds = ArrayVec::new();
-    for cell in cells {
-        bounds.push(filter.bound_at(*cell));
+    for hash in hashes {
+        bounds.push(filter.bound_at(*hash));
     }
     bounds
 }

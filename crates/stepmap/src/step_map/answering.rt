@@ -8,7 +8,7 @@ ghost use Rattle.stepmap.specs.Filtering.{AreMarked, IsBound};
 ghost use Rattle.tree.specs.declared.question.TheConstants.{SIDE};
 
 use super::StepMap;
-use crate::bounding::{bounds_at, cells_from, repeated};
+use crate::bounding::{bounds_at, hashes_from, repeated};
 use crate::left::put_told;
 use crate::query::QueryList;
 use arrayvec::ArrayVec;
@@ -56,7 +56,7 @@ impl StepMap {
         Ok(places)
     }
 
-    // Marks the next queries likewise, at least one and as many as there is room for their places, and adds the places.
+    // Marks the next queries likewise, at least one and up to `SIDE`, as far as there is room for their places, and adds the places.
     fn mark_next<L: QueryList>(
         &self,
         queries: &L,
@@ -106,8 +106,8 @@ impl StepMap {
         if !self.filter.is_useful() {
             return repeated(self.filter.newest_range(), count);
         }
-        let cells = cells_from(&self.filter, queries, from, from + count);
-        bounds_at(&self.filter, cells.as_slice())
+        let hashes = hashes_from(queries, from, from + count);
+        bounds_at(&self.filter, hashes.as_slice())
     }
 
     // Returns whether the query at the index is to be looked up: its range isn't empty, and this bound of it leaves it open. The bound

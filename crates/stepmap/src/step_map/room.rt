@@ -15,8 +15,8 @@ use filter::Filter;
 use std::alloc::AllocError;
 use std::collections::VecDeque;
 
-// So many cells of the filter there are at most while it has more than two for each boundary: one MiB.
-const EARLY_CELLS: usize = 131_072;
+// So many cells of the filter there are at most while it has one for each boundary: 1.5 MiB.
+const EARLY_CELLS: usize = 65_536;
 
 impl StepMap {
     // Returns whether the boundaries, and two for each of so many ranges, are within the limit.
@@ -94,9 +94,8 @@ fn take_memory(
     boundaries.reserve(lengths)
 }
 
-// Returns how many cells the filter is to have for so many boundaries, at least: two for each, and sixteen where these are few. Each
-// time that the cells are doubled, what was written before counts twice; so they are doubled early.
+// Returns how many cells the filter is to have for so many boundaries, at least: one for three of them, and one for each where these
+// are few. A single key that is written makes two boundaries.
 fn cells_for(boundaries: usize) -> usize {
-    let early = boundaries.saturating_mul(16).min(EARLY_CELLS);
-    boundaries.saturating_mul(2).max(early)
+    (boundaries / 3).max(boundaries.min(EARLY_CELLS))
 }

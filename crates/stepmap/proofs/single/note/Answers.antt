@@ -1,6 +1,6 @@
 use Rattle.std.proofs.Common.{ℕ, List, sym, subst, arith}
 use Rattle.std.specs.Prelude.{◌≤ℤ◌}
-use Rattle.std.proofs.lemmas.Int.{ints, clamps}
+use Rattle.std.proofs.lemmas.Int.{ints}
 use Rattle.filter.specs.Filter.{bound}
 use Rattle.stepmap.proofs.SingleKeys.{single_holds}
 use Rattle.stepmap.proofs.single.note.Goals as goal
@@ -10,6 +10,6 @@ returns-in-Some-clause-on_range c = λ key holds.
     let range = c.args.range.now in
     let told = c.in-Some.ensures.hash in
     let f = c.write_key.new.self in
-    let high : c.args.version ≤ℤ bound f range.begin =
-    omega (arith, ints, clamps, c.write_key.ensures.written range.begin told.1) in
+    let low = c.write_key.ensures.written range.begin told.1 in
+    let high : c.args.version ≤ℤ bound f range.begin = omega (arith, ints, low) in
     subst (λ (key : List ℕ). c.args.version ≤ℤ bound f key) (sym (single_holds range key told.0 holds)) high

@@ -1,18 +1,25 @@
-use Rattle.std.proofs.Common.{refl, arith, ap, length}
+use Rattle.std.proofs.Common.{◌≡◌, refl, arith, ap, ◌∙◌, length, replicate}
+use Rattle.std.proofs.lemmas.Int.{ints}
 use Rattle.std.proofs.lemmas.List.{length-replicate}
-use Rattle.std.specs.Prelude.{negsuc}
+use Rattle.keys.specs.Hash.{hash_of}
+use Rattle.filter.specs.Cell.{empty_cell}
 use Rattle.filter.proofs.Bounds.{none_newer, none_written}
 use Rattle.filter.proofs.filter.Filter.new.Goals as goal
+use Rattle.filter.proofs.filter.Filter.new.Goals.{In_ok-from_elem}
+
+filled : (c : In_ok-from_elem) → c.in_ok-from_elem.field-0.items ≡ replicate 256 empty_cell
+filled c =
+    c.in_ok-from_elem.ensures.items_if_clones_equal (λ y same. same)
+    ∙ ap (replicate 256) c.empty.ensures.empty
 
 pub returns-clause-bounds : goal.returns-clause-bounds
-returns-clause-bounds c =
-    none_written _ 1024 (c.in_ok-from_elem.ensures.items_if_clones_equal (λ y same. same)) refl
+returns-clause-bounds c = λ key. none_written _ 256 (filled c) refl (hash_of key)
 
 pub invariant_of-result : goal.invariant_of-result
 invariant_of-result c =
-    let is = c.in_ok-from_elem.ensures.items_if_clones_equal (λ y same. same) in
-    let many = ap length is in (
-      omega (arith, many, length-replicate 1024 (negsuc 0)),
-      omega (arith, many, length-replicate 1024 (negsuc 0)),
-      none_newer _ 1024 is,
+    let many = ap length (filled c) in (
+      omega (arith, many, length-replicate 256 empty_cell),
+      omega (arith, many, length-replicate 256 empty_cell),
+      none_newer _ 256 (filled c),
+      omega (arith, ints),
     )

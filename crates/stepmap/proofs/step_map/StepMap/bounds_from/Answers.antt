@@ -6,7 +6,8 @@ use Rattle.std.proofs.lemmas.List.{length-map, length-take-le}
 use Rattle.std.proofs.lemmas.Slice.Zip.{AllZip-long}
 use mir.Syntax.{w64}
 use mir.Val.{to_z, of_z}
-use Rattle.filter.specs.Filter.{bound, bound_in, cell_of}
+use Rattle.filter.specs.Filter.{bound_in}
+use Rattle.keys.specs.Hash.{hash_of}
 use Rattle.keys.specs.Range.{IsSingle}
 use Rattle.keys.specs.declared.range.Range.{Range}
 use Rattle.stepmap.specs.Filtering.{FilterTells, IsBound}
@@ -38,28 +39,27 @@ returns-then-not-is_useful-clause-bounds g c =
     (length-take-le (length items) rest few) c.repeated.ensures.each
 
 pub returns-clause-bounds : goal.returns-clause-bounds
-unfolding bound bound_in
 returns-clause-bounds g c =
     let m = c.args.self.now in
     let f = c.self.inside.filter in
     let queries = g.L.QueryList.queries c.args.queries.now in
     let rest = drop c.args.from queries in
     let items = c.bounds_at.result.items in
-    let cells = c.cells_from-cells.result.items in
+    let hashes = c.hashes_from-hashes.result.items in
     let tells = subst (FilterTells f) c.self.view_is c.self.invariant.tells in
-    let IsCell = λ (q : Range × ℤ) (cell : ℕ). IsSingle q.0 → cell ≡ cell_of (length f.versions) q.0.begin in
+    let IsHash = λ (q : Range × ℤ) (hash : ℕ). IsSingle q.0 → hash ≡ hash_of q.0.begin in
     let Bounds = λ (q : Range × ℤ) (bound : ℤ). IsBound m q.0 bound in
-    let each : (q : Range × ℤ) (cell : ℕ) → IsCell q cell → Bounds q (bound_in f cell) =
-    λ q cell is single s from low.
-    not_above f m q.0 s tells from single (subst (λ (cell : ℕ). bound_in f cell ≤ℤ s) (is single) low) in
+    let each : (q : Range × ℤ) (hash : ℕ) → IsHash q hash → Bounds q (bound_in f hash) =
+    λ q hash is single s from low.
+    not_above f m q.0 s tells from single (subst (λ (hash : ℕ). bound_in f hash ≤ℤ s) (is single) low) in
     let count = c.min-count.result in
     let n = (c.args.from + count) - c.args.from in
-    let is : items ≡ map (bound_in f) cells = c.bounds_at.ensures.bounds ∙ ap (map (bound_in f)) c.as_slice.ensures.value in
+    let is : items ≡ map (bound_in f) hashes = c.bounds_at.ensures.bounds ∙ ap (map (bound_in f)) c.as_slice.ensures.value in
     let few : n ≤ length rest =
     omega (arith, c.min-count.ensures, c.len.ensures.count, length-drop c.args.from queries) in
     let many : length items ≡ n =
-    ap length is ∙ length-map cells (bound_in f) ∙ AllZip-long IsCell (take n rest) cells c.cells_from-cells.ensures.cells
+    ap length is ∙ length-map hashes (bound_in f) ∙ AllZip-long IsHash (take n rest) hashes c.hashes_from-hashes.ensures.hashes
     ∙ length-take-le n rest few in
     subst (λ k. AllZip Bounds (take k rest) items) (sym many)
     (subst (AllZip Bounds (take n rest)) (sym is)
-    (AllZip-mapped IsCell Bounds (bound_in f) each (take n rest) cells c.cells_from-cells.ensures.cells))
+    (AllZip-mapped IsHash Bounds (bound_in f) each (take n rest) hashes c.hashes_from-hashes.ensures.hashes))

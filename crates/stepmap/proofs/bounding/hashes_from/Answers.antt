@@ -1,14 +1,12 @@
-use Rattle.std.proofs.Common.{◌≡◌, ◌+◌, ◌-◌, ◌<◌, ℕ, ℤ, All, [], ◌∷◌, ◌++◌, length, take, drop, slice_get, Some, ap, sym, subst, ◌∙◌, arith, length-append}
+use Rattle.std.proofs.Common.{◌≡◌, ◌+◌, ◌-◌, ℕ, ℤ, [], ◌∷◌, ◌++◌, length, take, drop, slice_get, Some, ap, sym, subst, ◌∙◌, arith, length-append}
 use Rattle.std.specs.List.{AllZip}
 use Rattle.std.specs.Prelude.{Option, None, IsSomeAnd, unwrap_or}
-use Rattle.std.proofs.lemmas.List.Elements.{All-append, All-cons, All-nil}
 use Rattle.std.proofs.lemmas.Slice.Zip.{all_zipped_more}
-use Rattle.filter.specs.Filter.{cell_at, cell_of}
 use Rattle.keys.specs.Hash.{hash_of, IsHashOf}
 use Rattle.keys.specs.Range.{IsSingle}
 use Rattle.keys.specs.declared.range.Range.{Range}
 use Rattle.keys.proofs.callers.Lists.{part_more, some_at}
-use Rattle.stepmap.proofs.bounding.cells_from.Goals as goal
+use Rattle.stepmap.proofs.bounding.hashes_from.Goals as goal
 
 -- the hash of a single key is there
 found : (q : Range × ℤ) (hash : Option ℕ) → IsHashOf q.0 hash → IsSingle q.0 → unwrap_or hash 0 ≡ hash_of q.0.begin
@@ -23,27 +21,22 @@ loop-index-preserved g c =
     let n = index - from in
     let at = some_at queries index (omega (arith, c.loop-index-test, c.requires.within)) in
     let q = at.0 in
-    let count = length c.args.filter.now.versions in
-    let IsCell = λ (q : Range × ℤ) (cell : ℕ). IsSingle q.0 → cell ≡ cell_of count q.0.begin in
+    let IsHash = λ (q : Range × ℤ) (hash : ℕ). IsSingle q.0 → hash ≡ hash_of q.0.begin in
     let place : from + n ≡ index = omega (arith, c.loop-index.invariant.from) in
     let is : slice_get queries (from + n) ≡ Some q = ap (slice_get queries) place ∙ at.1 in
-    let hash = subst (λ o. IsSomeAnd o (λ q. IsHashOf q.0 c.hash.result)) at.1 c.hash.ensures.hash in
+    let told = subst (λ o. IsSomeAnd o (λ q. IsHashOf q.0 c.hash.result)) at.1 c.hash.ensures.hash in
     let more : (index + 1) - from ≡ n + 1 = omega (arith, c.loop-index.invariant.from) in
     let next = ap (λ k. take k (drop from queries)) more ∙ part_more queries from n q is in
-    let cell : IsCell q c.cell.result =
-    λ single. c.cell.ensures.cell ∙ ap (cell_at count) (c.unwrap_or.ensures ∙ found q c.hash.result hash single) in
-    let Inside = λ (cell : ℕ). cell < count in
+    let hash : IsHash q c.unwrap_or.result = λ single. c.unwrap_or.ensures ∙ found q c.hash.result told single in
     record {
-      cells = subst (λ cells. AllZip IsCell (take ((index + 1) - from) (drop from queries)) cells) (sym c.push.ensures.items)
-          (subst (λ part. AllZip IsCell part (c.loop-index.cells.items ++ c.cell.result ∷ [])) (sym next)
-          (all_zipped_more IsCell (take n (drop from queries)) c.loop-index.cells.items q c.cell.result c.loop-index.invariant.cells cell));
-      inside = subst (All Inside) (sym c.push.ensures.items)
-          (All-append Inside c.loop-index.cells.items (c.cell.result ∷ []) c.loop-index.invariant.inside
-          (All-cons Inside c.cell.result [] c.cell.ensures.within (All-nil Inside)));
+      hashes = subst (λ hashes. AllZip IsHash (take ((index + 1) - from) (drop from queries)) hashes) (sym c.push.ensures.items)
+          (subst (λ part. AllZip IsHash part (c.loop-index.hashes.items ++ c.unwrap_or.result ∷ [])) (sym next)
+          (all_zipped_more IsHash (take n (drop from queries)) c.loop-index.hashes.items q c.unwrap_or.result
+          c.loop-index.invariant.hashes hash));
       count = omega (
         arith,
         ap length c.push.ensures.items,
-        length-append c.loop-index.cells.items (c.cell.result ∷ []),
+        length-append c.loop-index.hashes.items (c.unwrap_or.result ∷ []),
         c.loop-index.invariant.count,
         c.loop-index.invariant.from,
       );
