@@ -42,6 +42,28 @@ fn useful_while_the_newest_is_a_key(rt: HostRuntime) -> Result<(), Fail> {
     Ok(())
 }
 
+// These hashes fall into one cell. Those of one mark are as many apart as there are marks.
+#[test]
+fn keys_of_one_cell(rt: HostRuntime) -> Result<(), Fail> {
+    let mut filter = Filter::new(rt.alloc())?;
+    filter.write_key(0, 100);
+    filter.write_key(1, 200);
+    filter.write_key(1, 300);
+    assert!(rt; filter.bound_at(0) == 100 && filter.bound_at(1) == 300);
+    assert!(rt; filter.bound_at(32) == 100 && filter.bound_at(33) == -1);
+    filter.write_key(2, 150);
+    assert!(rt;
+        filter.bound_at(0) == 150 && filter.bound_at(1) == 300 && filter.bound_at(2) == 150
+    );
+    assert!(rt; filter.bound_at(3) == -1 && filter.bound_at(33) == -1);
+    filter.write_key(3, 400);
+    assert!(rt;
+        filter.bound_at(0) == 300 && filter.bound_at(1) == 300 && filter.bound_at(3) == 400
+    );
+    assert!(rt; filter.bound_at(4) == -1 && filter.bound_at(0x8000_0000) == -1);
+    Ok(())
+}
+
 // Its outcome is the same whichever one growth is refused: the next try succeeds.
 #[test]
 fn filter_with_one_growth_refused(rt: HostRuntime) -> Result<(), Fail> {
