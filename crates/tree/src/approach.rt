@@ -68,8 +68,18 @@ pub fn descend<P: Bound, Q: Bound, const N: usize>(
     let entries = node.entries();
     let own = node.head_for(&question.from, common_prefix_len);
     let step = node.step_by(&question.from, common_prefix_len, own);
-    let clear = is_clear(node, step.index, question, common_prefix_len, own, clear);
     let entry = entries[step.index];
+    // Above the lowest inner node it is looked at only where the subtree tells the answer.
+    let look = height == 1 || entry.version <= question.version;
+    let clear = is_clear(
+        node,
+        step.index,
+        question,
+        common_prefix_len,
+        own,
+        clear,
+        look,
+    );
     if entry.version <= question.version {
         return if clear {
             Approach::Clear
@@ -93,7 +103,7 @@ pub fn descend<P: Bound, Q: Bound, const N: usize>(
 // Returns whether the items behind the child at an index, that of the last entry below the first bound, don't come before the second
 // bound. `common_prefix_len` is how many bytes the first key of the node and the target of the first bound begin with in common, and
 // `own` is the head of that target, if it is known to begin as all keys do. `clear` tells of the items behind the node's what this
-// tells of those behind the child.
+// tells of those behind the child. Unless `look` is set, the entry behind isn't looked at, and may stand before the second bound.
 fn is_clear<P: Bound, Q: Bound, const N: usize>(
     node: &Node<N>,
     index: usize,
@@ -101,6 +111,7 @@ fn is_clear<P: Bound, Q: Bound, const N: usize>(
     common_prefix_len: usize,
     own: Option<u64>,
     clear: bool,
+    look: bool,
 ) -> bool
     requires searched { IsSearched (P.bytes question.now.from) (P.below question.now.from) (P.target question.now.from) node.now
         common_prefix_len own }
@@ -114,6 +125,9 @@ fn is_clear<P: Bound, Q: Bound, const N: usize>(
     // If the question is single, the next entry isn't below the second bound either.
     if question.is_single || next == node.len() {
         return clear;
+    }
+    if !look {
+        return false;
     }
     let head = end_head(node, question, common_prefix_len, own);
     !node.is_below_at(next, &question.to, head)

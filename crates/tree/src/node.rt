@@ -235,12 +235,17 @@ fn move_within<T: Copy>(elements: &mut [T], from: usize, end: usize, to: usize)
     }
 }
 
-// Copies elements, of which there are few, one by one.
+// Copies elements, of which there are mostly one or two.
 fn copy_few<T: Copy>(from: &[T], to: &mut [T])
     requires same_len { length to.old ≡ length from.now }
     ensures copied { to.new ≡ from.now }
 {
-    for index in 0..from.len() {
-        to[index] = from[index];
+    match from.len() {
+        1 => to[0] = from[0],
+        2 => {
+            to[0] = from[0];
+            to[1] = from[1];
+        }
+        _ => to.copy_from_slice(from),
     }
 }

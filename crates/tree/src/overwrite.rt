@@ -1,6 +1,6 @@
 //! A run of items written over: one or two come in its place.
 
-ghost use Rattle.std.specs.Prelude.{◌≡◌, ◌<◌, ◌+◌, ◌-◌, ℕ, true, take, Some};
+ghost use Rattle.std.specs.Prelude.{◌≡◌, ◌≤◌, ◌<◌, ◌+◌, ◌-◌, ◌++◌, ℕ, true, length, take, Some};
 ghost use Rattle.keys.specs.Key.{IsBytes};
 ghost use Rattle.tree.specs.Item.{item_of};
 ghost use Rattle.tree.specs.Overwrite.{GivesWritten, IsPartOfPartitioned, part_of_part, put_of};
@@ -101,9 +101,7 @@ impl<'a, 'b, P: Bound, Q: Bound, R: Bound, const N: usize> LeafChange<N>
         let begin_alike = to_head.is_some() && leaf.prefix_len() <= new.targets_prefix_len;
         let head = leaf.head_given(begin_alike, new.from, alike.min(new.targets_prefix_len));
         let begin = leaf.lower_bound_back(end, new.from, head);
-        taken
-            .try_extend_from_slice(&leaf.entries()[begin..end])
-            .unwrap();
+        put_taken(taken, &leaf.entries()[begin..end]);
         let last = leaf.entries()[..end]
             .last()
             .map_or(0, |entry| entry.version);
@@ -137,4 +135,14 @@ impl<'a, 'b, P: Bound, Q: Bound, R: Bound, const N: usize> LeafChange<N>
     }
 
     ghost part = { λ o. part_of_part (P.below o.new.now.from.now) };
+}
+
+// Puts a run of entries, mostly none or a few, behind those that are taken out.
+fn put_taken<const N: usize>(taken: &mut ArrayVec<Entry, N>, run: &[Entry])
+    requires room { length taken.old.items + length run.now ≤ N }
+    ensures taken { taken.new.items ≡ taken.old.items ++ run.now }
+{
+    for entry in run {
+        taken.push(*entry);
+    }
 }

@@ -98,9 +98,8 @@ fn merge<P: Bound, const N: usize>(nodes: &mut Arena<Node<N>>, first: Slot, seco
     ensures changes { Changes nodes.old nodes.new (first ∷ second ∷ []) (first ∷ []) }
     ensures headed { AllAreHeads (P.bytes bound.now) (all_heads_of nodes.new) }
 {
-    let mut merged = nodes.header(first);
-    merged.append_with_heads(nodes.header_ref(second), bound);
-    nodes.set_header(first, merged);
+    let right = nodes.header(second);
+    nodes.header_mut(first).append_with_heads(&right, bound);
     nodes.release(second);
 }
 

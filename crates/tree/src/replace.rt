@@ -64,9 +64,9 @@ pub fn split<P: Bound, const N: usize>(
         ≡ take from (entries_at nodes.old slot) ++ (new.now ++ drop to (entries_at nodes.old slot)) }
     ensures stored { IsStored (P.bytes bound.now) nodes.old nodes.new slot (Some result) }
 {
-    let mut left = nodes.header(slot);
-    let right = left.splice_apart(from, to, new, heads, alike, bound);
-    nodes.set_header(slot, left);
+    let right = nodes
+        .header_mut(slot)
+        .splice_apart(from, to, new, heads, alike, bound);
     place(nodes, right)
 }
 

@@ -16,7 +16,7 @@ use Rattle.tree.proofs.Told.{clears_behind, told_by_child, told_by_entry}
 use Rattle.tree.proofs.ToldKeys.{some_pass, last_passes}
 use Rattle.tree.proofs.approach.+descend.Given.{Over}
 use Rattle.tree.proofs.approach.+descend.Goals as goal
-use Rattle.tree.proofs.approach.+descend.Goals.{After-entries-entries, After-index-entries-step}
+use Rattle.tree.proofs.approach.+descend.Goals.{After-entries-entries, After-is_clear-clear}
 
 -- what is asked of the search in a node
 asked : (g : Over) (t : ℕ) (c : After-entries-entries g t)
@@ -40,7 +40,7 @@ is_clear-clear-requires g t c =
     search rules
 
 -- the child of the entry at which the search goes on
-module _ (g : Over) (t : ℕ) (c : After-index-entries-step g t) where
+module _ (g : Over) (t : ℕ) (c : After-is_clear-clear g t) where
   abbrev p : ℕ → Bool
   p = g.P.Bound.below c.args.question.now.from
 
@@ -75,7 +75,7 @@ module _ (g : Over) (t : ℕ) (c : After-index-entries-step g t) where
 
 pub descend-requires : goal.descend-requires
 descend-requires g t c κs within_lives =
-    let at = (goal.at.descend-requires g t c).After-index-entries-step in
+    let at = (goal.at.descend-requires g t c).After-is_clear-clear in
     let k = look g t at in
     let node = child g t at in
     let step = c.step_by-step.ensures.step in
@@ -94,12 +94,12 @@ returns-then-height-eq0 g t c =
 
 pub returns : goal.returns
 returns g t c =
-    let wider = told g t (goal.at.returns g t c).After-index-entries-step in
+    let wider = told g t (goal.at.returns g t c).After-is_clear-clear in
     record { approach = approach_wider _ _ _ _ _ _ _ _ _ _ _ _ c.descend.result wider c.descend.ensures.approach }
 
 pub returns-then-clear : goal.returns-then-clear
 returns-then-clear g t c =
-    let at = (goal.at.returns-then-clear g t c).After-index-entries-step in
+    let at = (goal.at.returns-then-clear g t c).After-is_clear-clear in
     let a = asked g t (goal.at.returns-then-clear g t c).After-entries-entries in
     let v = c.args.question.now.version in
     let le = at_most_tested c.index-entries-step.result.version v (search rules) (search rules) c.if-entry-question.true in

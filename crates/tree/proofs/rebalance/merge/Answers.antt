@@ -1,4 +1,5 @@
-use Rattle.std.proofs.Common.{[], length, sym, ap, arith, rules}
+use Rattle.std.proofs.Common.{[], length, refl, sym, ap, arith, rules}
+use Rattle.arena.specs.Arena.{with_header}
 use Rattle.tree.proofs.Frames.{entries_same, live_same}
 use Rattle.tree.proofs.Changing.{changes_if_moves, moves_trans, moves_released}
 use Rattle.tree.proofs.Placing.{entries_from_header, put_entries, put_live, put_others, put_moves, moves_first, moves_second, released_spare}
@@ -9,44 +10,44 @@ use Rattle.tree.proofs.rebalance.merge.Goals as goal
 pub release-requires : goal.release-requires
 release-requires g c =
     let a = c.args.nodes.now in
-    let b = c.set_header.new.self in
+    let merged = c.append_with_heads.new.self in
+    let b = with_header a c.args.first merged in
     let two = c.requires.two in
-    let kept = put_others a b c.args.first _ c.set_header.ensures.replaced c.args.second (λ same. two.apart (sym same)) in
+    let kept = put_others a b c.args.first merged refl c.args.second (λ same. two.apart (sym same)) in
     record { live = live_same a b c.args.second kept two.live_second }
 
 pub append_with_heads-requires : goal.append_with_heads-requires
 append_with_heads-requires g c =
     let a = c.args.nodes.now in
     let two = c.requires.two in
-    let first_was = ap length (entries_from_header a c.args.first _ c.header-merged.ensures.header) in
-    let second_was = ap length (entries_from_header a c.args.second _ c.header_ref.ensures.header) in
-    let first = headed_at _ a c.args.first _ two.headed c.header-merged.ensures.header in
-    let second = headed_at _ a c.args.second _ two.headed c.header_ref.ensures.header in
+    let first_was = ap length (entries_from_header a c.args.first _ c.header_mut.ensures.header) in
+    let second_was = ap length (entries_from_header a c.args.second _ c.header-right.ensures.header) in
+    let first = headed_at _ a c.args.first _ two.headed c.header_mut.ensures.header in
+    let second = headed_at _ a c.args.second _ two.headed c.header-right.ensures.header in
     (search rules, (omega (arith, c.requires.room, first_was, second_was), (first, second)))
 
 pub returns : goal.returns
 returns g c =
     let a = c.args.nodes.now in
-    let b = c.set_header.new.self in
+    let merged = c.append_with_heads.new.self in
+    let b = with_header a c.args.first merged in
     let d = c.release.new.self in
     let x = c.args.first in
     let y = c.args.second in
     let two = c.requires.two in
-    let merged = c.append_with_heads.new.self in
-    let replaced = c.set_header.ensures.replaced in
     let release = c.release.ensures in
-    let first_was = entries_from_header a x _ c.header-merged.ensures.header in
-    let second_was = entries_from_header a y _ c.header_ref.ensures.header in
-    let first_is = put_entries a b x merged replaced in
+    let first_was = entries_from_header a x _ c.header_mut.ensures.header in
+    let second_was = entries_from_header a y _ c.header-right.ensures.header in
+    let first_is = put_entries a b x merged refl in
     let kept = entries_same b d x (release.others x two.apart) in
-    let put = put_moves a b x merged replaced two.live_first two.keyless in
-    let live_y = live_same a b y (put_others a b x merged replaced y (λ same. two.apart (sym same))) two.live_second in
+    let put = put_moves a b x merged refl two.live_first two.keyless in
+    let live_y = live_same a b y (put_others a b x merged refl y (λ same. two.apart (sym same))) two.live_second in
     let expired = moves_released b d y put.keyless live_y release.released release.others
     (released_spare b d y live_y put.keyless release.spare) in
-    let headed = headed_header _ a b x merged replaced two.headed c.append_with_heads.ensures.headed in
+    let headed = headed_header _ a b x merged refl two.headed c.append_with_heads.ensures.headed in
     record {
       entries = cc;
       changes = changes_if_moves a d _ _ (moves_trans a b d _ _ _ (moves_first a b x y two.apart two.live_second put)
-          (moves_second b d x y [] two.apart (put_live a b x merged replaced) expired));
+          (moves_second b d x y [] two.apart (put_live a b x merged refl) expired));
       headed = headed_released _ b d y headed release.released release.others;
     }

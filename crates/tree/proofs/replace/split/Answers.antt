@@ -1,4 +1,5 @@
-use Rattle.std.proofs.Common.{rules, length, ap, arith}
+use Rattle.std.proofs.Common.{rules, length, refl, ap, arith}
+use Rattle.arena.specs.Arena.{with_header}
 use Rattle.tree.proofs.Headed.{headed_at}
 use Rattle.tree.proofs.KnownKeys.{headed_header}
 use Rattle.tree.proofs.Neighbours.{left_entries, left_live, both_changes}
@@ -8,8 +9,8 @@ use Rattle.tree.proofs.replace.split.Goals as goal
 pub splice_apart-right-requires : goal.splice_apart-right-requires
 splice_apart-right-requires g c =
     let can = c.requires.can_split in
-    let node = c.header-left.result in
-    let header = c.header-left.ensures.header in
+    let node = c.header_mut.result.now in
+    let header = c.header_mut.ensures.header in
     let len = ap length (entries_from_header c.args.nodes.now c.args.slot node header) in (
       search rules,
       (
@@ -28,28 +29,28 @@ splice_apart-right-requires g c =
 pub place-requires : goal.place-requires
 place-requires g c =
     let a = c.args.nodes.now in
-    let b = c.set_header.new.self in
-    let put = put_moves a b c.args.slot c.splice_apart-right.new.self c.set_header.ensures.replaced c.requires.can_split.live
+    let now = c.splice_apart-right.new.self in
+    let b = with_header a c.args.slot now in
+    let put = put_moves a b c.args.slot now refl c.requires.can_split.live
     c.requires.can_split.keyless in
     (search rules, (put.keyless, omega (arith, c.requires.can_split.room, put.live, put.spare)))
 
 pub returns : goal.returns
 returns g c =
     let old = c.args.nodes.now in
-    let b = c.set_header.new.self in
     let w = c.place.new.nodes in
     let slot = c.args.slot in
     let split = c.splice_apart-right in
+    let b = with_header old slot split.new.self in
     let can = c.requires.can_split in
-    let put = c.set_header.ensures.replaced in
     let then = c.place.ensures in
-    let changes = both_changes old b w slot c.place.result split.new.self put then.changes can.live can.keyless in
-    let here = left_entries old b w slot c.place.result split.new.self put then.changes in
-    let read = entries_from_header old slot c.header-left.result c.header-left.ensures.header in
+    let changes = both_changes old b w slot c.place.result split.new.self refl then.changes can.live can.keyless in
+    let here = left_entries old b w slot c.place.result split.new.self refl then.changes in
+    let read = entries_from_header old slot c.header_mut.result.now c.header_mut.ensures.header in
     record {
       entries = rw (here, then.entries, read) split.ensures.entries;
       stored = record {
-        live = left_live old b w slot c.place.result split.new.self put then.changes;
+        live = left_live old b w slot c.place.result split.new.self refl then.changes;
         live_added = then.live;
         changes = changes;
         taken = omega (arith, changes.live, changes.spare);
@@ -58,6 +59,6 @@ returns g c =
           right = omega (arith, split.ensures.filled.right, ap length then.entries);
         };
         headed = then.headed (g.P.Bound.bytes c.args.bound.now) split.ensures.headed.right
-            (headed_header _ old b slot split.new.self put can.headed split.ensures.headed.left);
+            (headed_header _ old b slot split.new.self refl can.headed split.ensures.headed.left);
       };
     }

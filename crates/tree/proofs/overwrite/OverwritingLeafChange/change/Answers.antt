@@ -95,12 +95,12 @@ is_below_at-ended-requires g c =
     (sym new.past_target)) in
     (search rules, (past, (search rules, own)))
 
-pub slice_bounds-try_extend_from_slice-count : goal.slice_bounds-try_extend_from_slice-count
-slice_bounds-try_extend_from_slice-count g c =
+pub slice_bounds-put_taken-count : goal.slice_bounds-put_taken-count
+slice_bounds-put_taken-count g c =
     omega (arith, no_more _ _ c.args.self.now.new.now.nested (entries_of c.header_ref-leaf.result.now))
 
-pub slice_bounds-try_extend_from_slice-start : goal.slice_bounds-try_extend_from_slice-start
-slice_bounds-try_extend_from_slice-start g c =
+pub slice_bounds-put_taken-start : goal.slice_bounds-put_taken-start
+slice_bounds-put_taken-start g c =
     omega (arith, no_more _ _ c.args.self.now.new.now.nested (entries_of c.header_ref-leaf.result.now))
 
 -- the items that are taken out
@@ -194,7 +194,7 @@ module _ (g : given.Over) (c : Joined-is_some-2 g) where
   -- the items of the leaf once the run is written over
   whole : (now : List Entry) → now ≡ take begin (entries_at nodes slot) ++ (put ++ drop end (entries_at nodes slot))
       → GivesWhole p q (g.R.Bound.below new.past.now) (item_of new.first) new.second new.last ended
-      (map item_of c.try_extend_from_slice.new.self.items) place.is_first place.behind (map item_of (entries_at nodes slot))
+      (map item_of c.put_taken.new.taken.items) place.is_first place.behind (map item_of (entries_at nodes slot))
       (map item_of now)
   whole now = rw (entries_from_header nodes slot leaf header) (λ now_is.
       let known = leaf_can_step can_change header in
@@ -206,7 +206,7 @@ module _ (g : given.Over) (c : Joined-is_some-2 g) where
       record {
         there = elim entered [ inl some ↦ inl (some_item p es begin some begins) | inr first ↦ inr first.0 ];
         some = some_item q es end some ends;
-        run_is = rw run (taken_out _ es begin end (rw c.unwrap.ensures at c.try_extend_from_slice.ensures.ok)
+        run_is = rw run (taken_out _ es begin end (c.put_taken.ensures.taken)
             can_change.none_taken c.entries.ensures.entries in_order);
         ended_is = told;
         written = λ last is_last.
@@ -287,7 +287,7 @@ returns-then-not-place-clause-items g c =
     let parts = items_parted q es end second_bound ends in
     let put = put_entries c.args.nodes.now _ c.args.slot c.remove.new.self refl in
     let there : c.header_mut.result.now ≡ c.header_ref-leaf.result.now = cc in
-    let out = rw (c.unwrap.ensures, c.if-begin-eq0.true) at c.try_extend_from_slice.ensures.ok in
+    let out = rw c.if-begin-eq0.true at c.put_taken.ensures.taken in
     let none_taken = c.requires.can_change.none_taken in
     let run_is = taken_out _ es 0 end out none_taken c.entries.ensures.entries (omega arith) ∙ sym parts.0 in
     let kept = to_z-of_z w64 c.map_or-last.result (search rules) in
