@@ -11,6 +11,30 @@ not_moved xs from end to same =
     let part = take-append-drop from (take (from + moved) xs) in
     cc (take-append-drop (from + moved) xs, part, take-take from (from + moved) xs (omega arith), drop-take from moved xs)
 
+-- the first elements after a run was moved, up to the end of a part of that run
+first_moved : {X : Type 0} (xs : List X) (from n k to : ℕ) → n ≤ k → from + k ≤ length xs → to + k ≤ length xs
+    → take (to + n) (copy_within xs from (from + k) to) ≡ take to xs ++ take n (drop from xs)
+first_moved xs from n k to part within room =
+    let moved = take (from + k - from) (drop from xs) in
+    let head = take to xs in
+    let rest = drop (to + (from + k - from)) xs in
+    let size : from + k - from ≡ k = omega arith in
+    let whole : copy_within xs from (from + k) to ≡ head ++ (moved ++ rest) = append_assoc head moved rest in
+    let head_len : to + n ≡ length head + n = omega (arith, length-take-le to xs (omega arith)) in
+    let long : n ≤ length moved = omega (arith, length-take-le (from + k - from) (drop from xs) (omega (arith, length-drop from xs))) in
+    cc (whole, head_len, take-append-add head (moved ++ rest) n, take-append-le n moved rest long, take-take n (from + k - from) (drop from xs) (omega arith))
+
+-- Where more elements are moved than there are up to an end, those up to it are the same.
+pub more_moved : {X : Type 0} (xs : List X) (from end more to : ℕ) → from ≤ end → end - from ≤ more → from + more ≤ length xs
+    → to + more ≤ length xs
+    → take (to + (end - from)) (copy_within xs from (from + more) to) ≡ take (to + (end - from)) (copy_within xs from end to)
+more_moved xs from end more to ordered least within room =
+    let n = end - from in
+    let sum : from + n ≡ end = omega arith in
+    let all = first_moved xs from n more to least within room in
+    let part = first_moved xs from n n to (omega arith) (omega arith) (omega arith) in
+    cc
+
 -- What others are written over matters as far as elements are taken.
 put_taken : {X : Type 0} (ys others : List X) (from n : ℕ) → from ≤ length ys → from + length others ≤ n
     → take n (take from ys ++ (others ++ drop (from + length others - from) (drop from ys)))

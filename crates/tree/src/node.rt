@@ -115,12 +115,14 @@ impl<const N: usize> Node<N> {
         ensures len { self.new.len ≡ to + (self.old.len - from) }
         ensures prefix_len { self.new.prefix_len ≡ self.old.prefix_len }
         ensures size { length self.new.heads ≡ N }
-        ensures entries { self.new.entries ≡ copy_within self.old.entries from self.old.len to }
+        ensures entries { take self.new.len self.new.entries ≡ take self.new.len (copy_within self.old.entries from self.old.len to) }
         ensures heads { take self.new.len self.new.heads ≡ take self.new.len (copy_within self.old.heads from self.old.len to) }
     {
         let end = self.len;
-        move_within(&mut self.entries, from, end, to);
-        move_within(&mut self.heads, from, end, to);
+        // What stands behind the last entry is moved along, so that the loops have whole turns.
+        let moved = whole_turns(end - from, N - from.max(to));
+        move_within(&mut self.entries, from, from + moved, to);
+        move_within(&mut self.heads, from, from + moved, to);
         self.len = to + (end - from);
         if self.len < end {
             let heads = &mut self.heads[..];
@@ -221,6 +223,15 @@ impl<const N: usize> Node<N> {
         }
         greatest
     }
+}
+
+// Returns the next multiple of four, but no more than `most`.
+fn whole_turns(count: usize, most: usize) -> usize
+    requires within { count ≤ most }
+    ensures least { count ≤ result }
+    ensures most { result ≤ most }
+{
+    (count.saturating_add(3) / 4 * 4).min(most).max(count)
 }
 
 // Moves the elements from one index up to another, unless they stay.

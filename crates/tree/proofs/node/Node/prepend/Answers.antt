@@ -18,3 +18,19 @@ returns-clause-heads g c =
     let spliced = take-spliced_before node.heads now.heads heads node.len 0 0 (omega arith) (omega arith) (omega arith)
     (omega (arith, count, room)) (omega arith) (cc (len, count, move.heads)) in
     record { prefix_len = move.prefix_len; heads_are = cc (c.copy_from_slice-2.ensures.after, spliced) }
+
+pub returns-clause-entries : goal.returns-clause-entries
+returns-clause-entries g c =
+    let node = c.args.self.now in
+    let now = c.move_tail.new.self in
+    let entries = c.copy_from_slice.new.self in
+    let move = c.move_tail.ensures in
+    let more = length c.args.more.now in
+    let room : node.len + more ≤ length node.entries =
+    omega (arith, c.requires.room, length-take-le node.len node.entries (omega arith)) in
+    let size = length-take-le (more - 0) now.entries (omega (arith, room)) in
+    let count : 0 + length entries ≡ more = omega (arith, c.copy_from_slice.ensures.len, size) in
+    let len : now.len ≡ 0 + length entries + (node.len - 0) = omega (arith, count, move.len) in
+    let spliced = take-spliced_before node.entries now.entries entries node.len 0 0 (omega arith) (omega arith) (omega arith)
+    (omega (arith, count, room)) (omega arith) (cc (len, count, move.entries)) in
+    cc (c.copy_from_slice.ensures.after, spliced)

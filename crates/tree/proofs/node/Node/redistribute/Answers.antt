@@ -33,9 +33,10 @@ returns-then-self-half g c =
     let len : c.move_tail.new.self.len ≡ half = omega (arith, move.len) in
     let heads = moved_right left.heads (copy_within left.heads left.len left.len half) _ _ _ left.len half _ (omega arith)
     within len refl c.heads.ensures.heads c.prepend.ensures.heads.heads_are in
+    let entries = moved_right left.entries (copy_within left.entries left.len left.len half) _ _ _ left.len half _ (omega arith)
+    within len refl c.entries.ensures.entries c.prepend.ensures.entries in
     record {
-      entries = moved_right _ _ _ _ _ left.len half _ (omega arith) within len move.entries
-          c.entries.ensures.entries c.prepend.ensures.entries;
+      entries = cc (move.entries);
       heads = record {
         prefix_len = move.prefix_len;
         right_prefix_len = c.prepend.ensures.heads.prefix_len;
@@ -53,9 +54,10 @@ returns-else-self-half g c =
     let len : c.move_tail-else-self-half.new.self.len ≡ right.len - (more - 0) = omega (arith, move.len) in
     let heads = moved_left _ right.heads (copy_within right.heads more right.len 0) _ _ right.len more _ (omega arith)
     (omega arith) len refl c.heads-else-self-half.ensures.heads c.append.ensures.heads.heads_are in
+    let entries = moved_left _ right.entries (copy_within right.entries more right.len 0) _ _ right.len more _ (omega arith)
+    (omega arith) len refl c.entries-else-self-half.ensures.entries c.append.ensures.entries in
     record {
-      entries = moved_left _ _ _ _ _ right.len more _ (omega arith) (omega arith) len move.entries
-          c.entries-else-self-half.ensures.entries c.append.ensures.entries;
+      entries = cc (move.entries);
       heads = record {
         prefix_len = c.append.ensures.heads.prefix_len;
         right_prefix_len = move.prefix_len;

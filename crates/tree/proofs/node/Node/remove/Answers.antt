@@ -1,4 +1,4 @@
-use Rattle.std.proofs.Common.{arith, refl, ◌≡◌, ◌≤◌, ◌-◌, []}
+use Rattle.std.proofs.Common.{arith, refl, ◌≡◌, ◌∙◌, ◌≤◌, ◌-◌, []}
 use Rattle.std.specs.List.{copy_within}
 use Rattle.std.proofs.lemmas.List.{length-take-le}
 use Rattle.tree.specs.Node.{entries_of, key_heads_of}
@@ -15,10 +15,11 @@ returns g c =
     let move = c.move_tail.ensures in
     let most : to ≤ node.len = omega (arith, c.requires.within, length-take-le node.len node.entries (omega arith)) in
     let left : c.move_tail.new.self.len ≡ node.len - (to - from) = omega (arith, move.len) in
-    let entries = take-removed node.entries _ node.len from to (omega arith) c.requires.ordered most move.entries in
+    let entries = take-removed node.entries (copy_within node.entries to node.len from) node.len from to (omega arith)
+    c.requires.ordered most refl in
     let heads = take-removed node.heads (copy_within node.heads to node.len from) node.len from to (omega arith)
     c.requires.ordered most refl in
-    let entries_are = rw (← left) at entries in
+    let entries_are = move.entries ∙ rw (← left) at entries in
     record {
       entries = entries_are;
       headed = λ bytes h. headed_removed bytes (key_heads_of node) h _ from to

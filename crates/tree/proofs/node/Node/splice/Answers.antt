@@ -1,6 +1,6 @@
 use Rattle.std.proofs.Common.{arith, ◌≡◌, ◌≤◌, ◌+◌, ◌-◌, length}
 use Rattle.std.proofs.lemmas.List.{length-take-le}
-use Rattle.tree.proofs.Splicing.{take-spliced, take-spliced_before}
+use Rattle.tree.proofs.Splicing.{take-spliced_before}
 use Rattle.tree.proofs.node.Node.splice.Goals as goal
 
 pub returns : goal.returns
@@ -16,8 +16,8 @@ returns g c =
     let within : to ≤ node.len = omega (arith, can.within, len) in
     let count : now.len ≡ from + length new + (node.len - to) = c.move_tail.ensures.len in
     let sum : now.len ≡ from + length heads + (node.len - to) = omega (arith, count, can.same_len) in
-    let entries = take-spliced node.entries now.entries new node.len from to (omega arith) can.ordered within
-    (omega (arith, can.room, len)) c.move_tail.ensures.entries in
+    let entries = take-spliced_before node.entries now.entries new node.len from to (omega arith) can.ordered within
+    (omega (arith, can.room, len)) (omega (arith, now.within, count)) (rw count at c.move_tail.ensures.entries) in
     let before = take-spliced_before node.heads now.heads heads node.len from to (omega arith) can.ordered within
     (omega (arith, can.room, len, can.same_len)) (omega (arith, c.move_tail.ensures.size, now.within, count))
     (cc (can.same_len, c.move_tail.ensures.heads)) in

@@ -1,4 +1,4 @@
-use Rattle.std.proofs.Common.{arith, refl, ◌≡◌, ◌≤◌, ◌-◌}
+use Rattle.std.proofs.Common.{arith, refl, ◌≡◌, ◌∙◌, ◌≤◌, ◌-◌}
 use Rattle.std.specs.List.{copy_within}
 use Rattle.std.proofs.lemmas.Grind.{common_steps}
 use Rattle.std.proofs.lemmas.List.{length-take-le}
@@ -16,7 +16,7 @@ returns g c =
     let moved = take-removed node.heads heads node.len 0 at (omega arith) (omega arith) most refl in
     record {
       left = grind (arith, common_steps);
-      right = rw left (take-removed node.entries _ node.len 0 at (omega arith) (omega arith) most move.entries);
+      right = move.entries ∙ rw left (take-removed node.entries (copy_within node.entries at node.len 0) node.len 0 at (omega arith) (omega arith) most refl);
       left_heads = grind (arith, common_steps);
       right_heads = record { prefix_len = move.prefix_len; heads_are = cc (move.heads) };
     }
