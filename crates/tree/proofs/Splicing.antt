@@ -1,5 +1,5 @@
 -- Entries of a node in whose place others are put.
-use Rattle.std.proofs.Common.{◌≡◌, ℕ, ◌+◌, ◌-◌, ◌≤◌, List, [], ◌++◌, length, take, drop, ap, arith, length-append, length-drop, append_assoc}
+use Rattle.std.proofs.Common.{◌≡◌, ℕ, ◌+◌, ◌-◌, ◌≤◌, List, [], ◌++◌, length, take, drop, arith, length-append, length-drop, append_assoc}
 use Rattle.std.specs.List.{copy_within}
 use Rattle.std.proofs.Math.Seq.{take-append-add}
 use Rattle.std.proofs.lemmas.List.{length-take-le, append-nil, drop_all, take-append-drop, take-take, take-append-le, take_at, drop_at, drop-drop, drop-take}
@@ -75,17 +75,6 @@ take-spliced_before xs ys others len from to within ordered most room inside aft
     let back : drop end (take n zs) ≡ drop to (take len xs) =
     cc (behind, drop-take end (len - to) zs, take_at moved (drop n xs) (len - to) moved_len, drop-take to (len - to) xs) in
     rw (put_taken ys others from n inside (omega arith), after, front, back)
-
--- likewise where the elements behind them are known
-pub take-spliced : {X : Type 0} (xs ys others : List X) (len from to : ℕ) → len ≤ length xs → from ≤ to → to ≤ len
-    → from + length others + (len - to) ≤ length xs → ys ≡ copy_within xs to len (from + length others)
-    → take (from + length others + (len - to)) (take from ys ++ (others ++ drop (from + length others - from) (drop from ys)))
-    ≡ take from (take len xs) ++ (others ++ drop to (take len xs))
-take-spliced xs ys others len from to within ordered most room after =
-    let end = from + length others in
-    let size = simp length-append at (ap length after) in
-    let inside : from ≤ length ys = omega (arith, size, length-take-le end xs (omega arith)) in
-    take-spliced_before xs ys others len from to within ordered most room inside (ap (take (end + (len - to))) after)
 
 -- Elements are taken apart in two, and those at the end of the first part are written over.
 pub apart_spliced : {X : Type 0} (xs new : List X) (from to : ℕ) → from ≤ to → to ≤ length xs
