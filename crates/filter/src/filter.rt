@@ -1,6 +1,6 @@
 //! The filter: cells, each of which tells the bounds of the keys that fall into it. They only rise.
 
-ghost use Rattle.std.specs.Prelude.{◌≡◌, ℕ, ◌≤◌, ◌*◌, ◌<◌, ◌≤ℤ◌, ◌<ℤ◌, ◌↔◌, negsuc, List, length, IfOk, OnOk, IsTrue, min};
+ghost use Rattle.std.specs.Prelude.{◌≡◌, ℕ, ◌≤◌, ◌*◌, ◌<◌, ◌≤ℤ◌, ◌<ℤ◌, ◌↔◌, negsuc, List, length, take, IfOk, OnOk, IsTrue, min};
 ghost use Rattle.std.specs.Int.{int_max};
 ghost use Rattle.filter.specs.Filter.{bound, bound_in, cell_at, each_twice};
 ghost use Rattle.keys.specs.Hash.{hash_of};
@@ -25,7 +25,6 @@ const HALF: u64 = 0x1_0000_0000;
 /// of keys.
 #[derive(Debug, Drop)]
 pub struct Filter {
-    alloc: Global,
     cells: Vec<Cell>,
     newest_range: i64,
     newest_key: i64,
@@ -53,7 +52,6 @@ impl Filter {
         ensures key { IfOk result (λ f. f.newest_key ≡ negsuc 0) }
     {
         Ok(Filter {
-            alloc,
             cells: Vec::from_elem(alloc, Cell::empty(), FIRST_CELLS)?,
             newest_range: -1,
             newest_key: -1,
@@ -146,7 +144,9 @@ impl Filter {
         ensures no_fewer { length self.old.cells ≤ length self.new.cells }
         ensures count { OnOk result (length self.new.cells ≡ 2 * length self.old.cells) }
     {
-        self.cells = each_twice(self.alloc, &self.cells)?;
+        let count = self.cells.len();
+        self.cells.resize(2 * count, Cell::empty())?;
+        spread(&mut self.cells, count);
         Ok(())
     }
 
@@ -160,14 +160,15 @@ impl Filter {
     }
 }
 
-// Returns each of the cells twice, in order.
-fn each_twice(alloc: Global, cells: &[Cell]) -> Result<Vec<Cell>, AllocError>
-    ensures twice { IfOk result (λ twice. twice.items ≡ each_twice cells.now) }
+// Makes two cells of each of the first ones, in order, where they lie. It goes from the last of them to the first, so that what it
+// reads is as it was.
+fn spread(cells: &mut [Cell], count: usize)
+    requires room { length cells.old ≡ 2 * count }
+    ensures twice { cells.new ≡ each_twice (take count cells.old) }
 {
-    let mut twice = Vec::with_capacity(alloc, cells.len().saturating_mul(2))?;
-    for cell in cells {
-        twice.push(*cell)?;
-        twice.push(*cell)?;
+    for index in (0..count).rev() {
+        let cell = cells[index];
+        cells[2 * index] = cell;
+        cells[2 * index + 1] = cell;
     }
-    Ok(twice)
 }
