@@ -12,7 +12,7 @@ use Rattle.tree.specs.Item.{Item}
 use Rattle.tree.specs.Overwrite.{IsPartOfPartitioned}
 use Rattle.tree.specs.Replace.{slots_with, Changes}
 use Rattle.tree.specs.Subtree.{entries_at, items_in, slots_in}
-use Rattle.tree.specs.Walk.{CanChange, CanChangeLeaf, IsChanged, IsRaised, added_by}
+use Rattle.tree.specs.Walk.{CanChange, CanChangeLeaf, IsChanged, IsRaisedAt, added_by}
 use Rattle.tree.proofs.callers.Times.{once_if_distinct}
 use Rattle.tree.proofs.Changing.{changes_if_moves, moves_same}
 use Rattle.tree.proofs.Headed.{headed_at, key_heads_kept}
@@ -41,7 +41,7 @@ unchanged bytes nodes height slot can headed = record {
 pub leaf_put : {N : ℕ} (bytes : KeyBytes) (old new : Arena (Node N)) (slot : ℕ) (node : Node N) (outcome : Outcome)
     → new ≡ with_header old slot node → CanChange old 0 slot → AllAreHeads bytes (all_heads_of old)
     → AreHeads bytes (key_heads_of node) → added_by outcome ≡ None → (outcome ≡ Same → new ≡ old)
-    → ((version : ℤ) → outcome ≡ Raised version → IsRaised version (items_in old 0 slot) (items_in new 0 slot))
+    → ((version : ℤ) → outcome ≡ Raised version → IsRaisedAt old new 0 slot version)
     → IsChanged bytes old new 0 slot outcome
 leaf_put {N} bytes old new slot node outcome put can all headed none same raised =
     let changes = changes_if_moves old new (slot ∷ []) (slot ∷ [])

@@ -125,6 +125,20 @@ module _ (bytes : KeyBytes) where
             begins_with (take count text) (get_or keys i d) k (grind (arith, size, common i d inside text k.text is k.known)),
       )
 
+  -- Keys that begin with bytes of a text begin with fewer of them.
+  pub begin_fewer : (fewer count : ℕ) (text keys : List ℕ) → fewer ≤ count → count ≤ length text
+      → All (Begins bytes (take count text)) keys → All (Begins bytes (take fewer text)) keys
+  begin_fewer fewer count text keys less long begins = λ i d inside.
+      let b = begins i d inside in
+      let size = length-take-le count text long in
+      let short = length-take-le fewer text (omega (arith, less, long)) in
+      record {
+        text = b.text;
+        known = b.known;
+        are_bytes = b.are_bytes;
+        begins = grind (arith, less, size, short, b.begins, take_fewer fewer count b.text text);
+      }
+
   -- Where no bytes are asked for, known keys begin with them.
   pub begin_none : (keys : List ℕ) → All (IsKnown bytes) keys
       → (beginning : List ℕ) × (length beginning ≡ 0) × All (Begins bytes beginning) keys

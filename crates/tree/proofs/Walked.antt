@@ -1,5 +1,5 @@
 -- A subtree once a leaf of one of its children was changed, and its node was rebalanced.
-use Rattle.std.proofs.Common.{◌≡◌, inl, ℕ, suc, ◌+◌, ◌*◌, ◌≤◌, Bool, true, false, List, [], ◌∷◌, ◌++◌, Option, Some, None, length, length-append, take, drop, refl, sym, ap, subst, ◌∙◌, arith, append-nil}
+use Rattle.std.proofs.Common.{◌≡◌, inl, inr, ℕ, suc, ◌+◌, ◌*◌, ◌≤◌, Bool, true, false, List, [], ◌∷◌, ◌++◌, Option, Some, None, length, length-append, take, drop, refl, sym, ap, subst, ◌∙◌, arith, append-nil}
 use Rattle.std.specs.Prelude.{ℤ, IfSome}
 use Rattle.std.proofs.lemmas.List.{length-take-le, length-drop}
 use Rattle.std.proofs.lemmas.List.Elements.{All-append, All-cons, All-nil}
@@ -16,12 +16,12 @@ use Rattle.tree.specs.Subtree.{entries_at, items_in, slots_in, IsSubtree}
 use Rattle.tree.specs.Tree.{least_of}
 use Rattle.tree.specs.Walk.{added_by, IsChanged, IsChangedWithin}
 use Rattle.tree.specs.Rebalancing.{CanInsertChild, CanRebalance, IsStored, LosesOneAtMost}
-use Rattle.tree.proofs.callers.Times.{distinct_if_once, once_same, times_if_contains}
+use Rattle.tree.proofs.callers.Times.{distinct_if_once, none_or_some, once_same, times_if_contains}
 use Rattle.tree.proofs.Changing.{Moves, changes_if_moves, moves_if_changes, moves_trans}
 use Rattle.tree.proofs.Families.{Loose}
 use Rattle.tree.proofs.Frames.{IsRight, below_of}
 use Rattle.tree.proofs.Replacing.{both_right, loose_at}
-use Rattle.tree.proofs.Stepping.{IsAt, around, here, live_beside, one_slots, read_beside, split, x_at}
+use Rattle.tree.proofs.Stepping.{IsAt, around, child_right, here, live_beside, one_slots, read_beside, split, x_at}
 use Rattle.tree.proofs.Storing.{Stored, moves_own, stored}
 use Rattle.tree.proofs.Walking.{raised_above, raised_at}
 
@@ -99,7 +99,21 @@ module _ {N : ℕ} {a : Arena (Node N)} {height lower slot : ℕ} {is_below : �
 
     -- The child's entry would be right with the version of what came in.
     pub tells_written : (version : ℤ) → outcome ≡ Raised version → TellsWritten b lower slot i version
-    tells_written version is = raised_at at b version (read_beside at moves) (put.raised version is)
+    tells_written version is = raised_at at b version (read_beside at moves) (put.raised version is).items
+
+    -- The child has enough entries then.
+    pub child_filled : (version : ℤ) → outcome ≡ Raised version
+        → least_of N ≤ length (entries_at b (child_at (entries_at b slot) i))
+    child_filled version is =
+        let told = put.raised version is in
+        let was : least_of N ≤ length (entries_at a x) = rw at.x_is (child_right at).filled in
+        let now : least_of N ≤ length (entries_at b x) =
+        elim (none_or_some lower) [
+          | inl none ↦ told.filled none
+          | inr some ↦ omega (arith, told.no_fewer some, was)
+        ] in
+        let child : x ≡ child_at (entries_at b slot) i = rw (read_beside at moves) (x_at at) in
+        rw child at now
 
     -- The node was rebalanced.
     module _ {w : Arena (Node N)} (rebalanced : IsRebalancedAt b w (least_of N) lower slot) where
@@ -113,16 +127,23 @@ module _ {N : ℕ} {a : Arena (Node N)} {height lower slot : ℕ} {is_below : �
             (moves_if_changes b w _ _ rebalanced.changes));
       }
 
-      pub changed_above : (outcome ≡ Same → ⊥) → LosesOneAtMost bytes b w (entries_at b slot) (entries_at w slot)
-          → IsChanged bytes a w height slot outcome
-      changed_above other rest = record {
+      -- Whatever is told of the node, but that it stayed: that a version came in only where that is told of the child, too.
+      pub changed_above : (told : Outcome) → added_by told ≡ None → (told ≡ Same → ⊥)
+          → ((version : ℤ) → told ≡ Raised version
+          → (outcome ≡ Raised version) × (length (entries_at b slot) ≤ length (entries_at w slot)))
+          → LosesOneAtMost bytes b w (entries_at b slot) (entries_at w slot) → IsChanged bytes a w height slot told
+      changed_above told alone other raised rest = record {
         same = λ is. absurd (other is);
-        raised = λ version is. raised_above at version _ _ step_rebalanced.items_are (put.raised version is);
+        raised = λ version is. record {
+          items = raised_above at version _ _ step_rebalanced.items_are (put.raised version (raised version is).0).items;
+          filled = λ low. absurd (omega (arith, at.next, low));
+          no_fewer = λ above. omega (arith, (raised version is).1, ap length (read_beside at moves));
+        };
         subtree = step_rebalanced.subtree;
-        neighbour = rw whole tt;
-        filled = rw whole tt;
+        neighbour = rw alone tt;
+        filled = rw alone tt;
         few_less = λ above none. omega (arith, rest.few_less, ap length (read_beside at moves));
-        changes = subst (λ o. Changes a w (slots_in a height slot) (slots_with w height slot o)) (sym whole)
+        changes = subst (λ o. Changes a w (slots_in a height slot) (slots_with w height slot o)) (sym alone)
             step_rebalanced.changes;
         taken = omega (arith, put.taken, rest.spare, at.next);
         headed = rest.headed;

@@ -77,11 +77,16 @@ module _ {N : ℕ} where
     pub wanted : Wants (items_in nodes height slot)
     pub none_taken : taken ≡ []
 
+  -- The first key stays, and an item of this version came in. A leaf has as many entries as a node must have, and a node above lost none.
+  pub record IsRaisedAt (old new : Arena (Node N)) (height slot : ℕ) (version : ℤ) : Type 0 where
+    pub items : IsRaised version (items_in old height slot) (items_in new height slot)
+    pub filled : height ≡ 0 → least_of N ≤ length (entries_at new slot)
+    pub no_fewer : 1 ≤ height → length (entries_at old slot) ≤ length (entries_at new slot)
+
   -- A subtree once it was changed, and the right neighbour that it was split from, if it was.
   pub record IsChanged (bytes : KeyBytes) (old new : Arena (Node N)) (height slot : ℕ) (outcome : Outcome) : Type 0 where
     pub same : outcome ≡ Same → new ≡ old
-    pub raised : (version : ℤ) → outcome ≡ Raised version
-        → IsRaised version (items_in old height slot) (items_in new height slot)
+    pub raised : (version : ℤ) → outcome ≡ Raised version → IsRaisedAt old new height slot version
     pub subtree : IsSubtree new (least_of N) height slot
     pub neighbour : IfSome (added_by outcome) (λ added. IsSubtree new (least_of N) height added)
     pub filled : IfSome (added_by outcome) (λ added. (least_of N ≤ length (entries_at new slot))

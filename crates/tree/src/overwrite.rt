@@ -8,6 +8,7 @@ ghost use Rattle.tree.specs.Overwrite.{GivesWritten, IsPartOfPartitioned, part_o
 use crate::bound::Bound;
 use crate::entry::Entry;
 use crate::node::Node;
+use crate::rebalance::least;
 use crate::replace::split;
 use crate::tree::item;
 use crate::walk::{LeafChange, Outcome, Place};
@@ -128,7 +129,8 @@ impl<'a, 'b, P: Bound, Q: Bound, R: Bound, const N: usize> LeafChange<N>
         }
         let leaf = nodes.header_mut(slot);
         leaf.splice_with_heads(begin, end, entries, heads, alike, new.to);
-        if begin == 0 || new.last.is_some() {
+        let is_short = leaf.len() < least(N);
+        if begin == 0 || new.last.is_some() || is_short {
             return Outcome::Changed;
         }
         Outcome::Raised(new.first.version)

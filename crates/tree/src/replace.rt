@@ -1,6 +1,6 @@
 //! A node above a changed child, rebalanced.
 
-ghost use Rattle.std.specs.Prelude.{◌≡◌, ◌<◌, ◌+◌, ◌∷◌, ◌++◌, ℕ, [], take, drop, Some};
+ghost use Rattle.std.specs.Prelude.{◌≡◌, ◌≤◌, ◌<◌, ◌+◌, ◌⊎◌, ◌∷◌, ◌++◌, ℕ, [], length, take, drop, Some};
 ghost use Rattle.arena.specs.Arena.{IsLive, spare_of};
 ghost use Rattle.tree.specs.Heads.{AllAreHeads, AreHeads, KeyBytes};
 ghost use Rattle.tree.specs.Rebalancing.{CanInsertChild, CanRebalance, CanSplit, IsStored, LosesOneAtMost};
@@ -13,6 +13,7 @@ use crate::bound::Bound;
 use crate::entry::Entry;
 use crate::node::Node;
 use crate::rebalance::{entry_for, least, rebalance};
+use crate::walk::Outcome;
 use arena::{Arena, Slot};
 
 /// Makes the entry at an index right in the node at a slot, whose child was split, and puts one for the child's right
@@ -95,27 +96,32 @@ pub fn rebalance_child<P: Bound, const N: usize>(
     nodes.set_header(slot, node);
 }
 
-/// Makes the entry at an index right in the node at a slot, whose child has changed: an item of this version was
-/// written in its subtree.
+/// Makes the entry at an index right in the node at a slot, in the subtree of whose child an item of this version was written. The
+/// child has enough entries. Returns what became of the node.
 pub fn raise_entry<P: Bound, const N: usize>(
     nodes: &mut Arena<Node<N>>,
     slot: Slot,
     index: usize,
     version: i64,
     bound: &P,
-)
+) -> Outcome
     requires can_rebalance { CanRebalance (P.bytes bound.now) nodes.old slot index }
+    requires filled { least_of N ≤ length (entries_at nodes.old (child_at (entries_at nodes.old slot) index)) }
     ensures rebalanced { (height : ℕ) → IsFamilyAt nodes.old (least_of N) height slot index
         → TellsWritten nodes.old height slot index version → IsRebalancedAt nodes.old nodes.new (least_of N) height slot }
     ensures rest { LosesOneAtMost (P.bytes bound.now) nodes.old nodes.new (entries_at nodes.old slot) (entries_at nodes.new slot) }
+    ensures outcome { (result ≡ Outcome.Changed)
+        ⊎ ((result ≡ Outcome.Raised version) × (length (entries_at nodes.old slot) ≤ length (entries_at nodes.new slot))) }
 {
     let entry = nodes.header_ref(slot).entries()[index];
-    if entry.version > version || nodes.header_ref(entry.child).len() < least(N) {
-        return rebalance_child(nodes, slot, index, bound);
+    if entry.version > version {
+        rebalance_child(nodes, slot, index, bound);
+        return Outcome::Changed;
     }
     nodes
         .header_mut(slot)
         .set(index, Entry { version, ..entry });
+    Outcome::Raised(version)
 }
 
 /// Stores a node in a spare slot.

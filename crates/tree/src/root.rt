@@ -20,7 +20,7 @@ use crate::entry::Entry;
 use crate::node::Node;
 use crate::rebalance::entry_for;
 use crate::replace::place;
-use crate::walk::{LeafChange, Place, change_leaf};
+use crate::walk::{LeafChange, Outcome, Place, change_leaf};
 use crate::way::Way;
 use arena::{Arena, Slot};
 use arrayvec::ArrayVec;
@@ -88,9 +88,11 @@ pub fn change<C: LeafChange<N>, const N: usize>(
         behind: None,
         is_first: true,
     };
-    match change_leaf(nodes, root.slot, root.height, change, place, taken, way).added() {
-        Some(added) => *root = grow(nodes, *root, added, change.leaf_bound()),
-        None => *root = shrink(nodes, *root),
+    match change_leaf(nodes, root.slot, root.height, change, place, taken, way) {
+        Outcome::Same => {}
+        Outcome::Raised(_) => {}
+        Outcome::Changed => *root = shrink(nodes, *root),
+        Outcome::Split(added) => *root = grow(nodes, *root, added, change.leaf_bound()),
     }
 }
 

@@ -31,7 +31,8 @@ pub struct Place {
 pub enum Outcome {
     /// It is as it was.
     Same,
-    /// Its first key is as it was, an item of this version came in, and no other version.
+    /// Its first key is as it was, an item of this version came in, and no other version. A leaf has enough entries, and a node above
+    /// lost none.
     Raised(i64),
     /// Its items are others.
     Changed,
@@ -125,8 +126,7 @@ pub fn change_leaf<C: LeafChange<N>, const N: usize>(
     match change_leaf(nodes, child, height - 1, change, below, taken, way) {
         Outcome::Same => Outcome::Same,
         Outcome::Raised(version) => {
-            raise_entry(nodes, slot, step.index, version, change.leaf_bound());
-            Outcome::Raised(version)
+            raise_entry(nodes, slot, step.index, version, change.leaf_bound())
         }
         Outcome::Changed => {
             rebalance_child(nodes, slot, step.index, change.leaf_bound());

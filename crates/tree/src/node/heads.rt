@@ -15,6 +15,9 @@ use keys::same_bytes;
 // Where one key is empty, so few bytes with which the others begin in common don't count.
 const FEW: u16 = 6;
 
+// Of more bytes so many don't count then: a key that is sought before all the others may differ from them there.
+const UNSURE: u16 = 4;
+
 impl<const N: usize> Node<N> {
     /// Returns how many bytes all keys but an empty one begin with in common, or fewer.
     pub fn prefix_len(&self) -> usize
@@ -37,7 +40,7 @@ impl<const N: usize> Node<N> {
     }
 
     // Returns how many bytes all keys but an empty one begin with in common, but no more than fit. Where the first key is
-    // empty, a few bytes aren't worth it.
+    // empty it is a few bytes less, or 0.
     fn beginning<P: Bound>(&self, bound: &P) -> u16
         requires known { All (IsKnown (P.bytes bound.now)) (keys_of (entries_of self.now)) }
         ensures begin { (beginning : List ℕ) × (length beginning ≡ result)
@@ -51,8 +54,8 @@ impl<const N: usize> Node<N> {
             return 0;
         }
         let count = keys_prefix_len(entries, last.key, bound);
-        if count < FEW && bound.is_empty(first.key) {
-            return 0;
+        if bound.is_empty(first.key) {
+            return without_some(count);
         }
         count
     }
@@ -222,6 +225,16 @@ impl<const N: usize> Node<N> {
             _ => false,
         }
     }
+}
+
+// Returns how many of the bytes count with which all keys but an empty one begin in common.
+fn without_some(count: u16) -> u16
+    ensures fewer { result ≤ count }
+{
+    if count < FEW {
+        return 0;
+    }
+    count - UNSURE
 }
 
 // Returns how many bytes the keys but empty ones begin with in common with one that isn't empty, but no more than fit.

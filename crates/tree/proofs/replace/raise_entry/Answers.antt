@@ -1,17 +1,19 @@
-use Rattle.std.proofs.Common.{◌≡◌, ◌≤◌, ◌≤ℤ◌, w64, to_z, of_z, Some, length, get_or, refl, sym, ap, ◌∙◌, arith, rules}
+use Rattle.std.proofs.Common.{◌≡◌, inl, inr, ◌≤◌, ◌≤ℤ◌, w64, to_z, of_z, Some, length, get_or, refl, sym, ap, ◌∙◌, arith, rules}
 use Rattle.std.specs.Prelude.{slice_get}
 use Rattle.std.proofs.lemmas.List.{length-set}
 use Rattle.std.proofs.lemmas.Int.{ints, to_z-of_z}
 use Rattle.std.proofs.lemmas.Option.{slice_get-get_or}
 use Rattle.arena.specs.Arena.{with_header}
 use Rattle.tree.specs.declared.entry.Entry.{Entry}
+use Rattle.tree.specs.declared.walk.Outcome.TheVariants.{Raised}
 use Rattle.tree.specs.Subtree.{entries_at}
 use Rattle.tree.specs.Tree.{least_of}
 use Rattle.tree.proofs.Headed.{headed_at}
 use Rattle.tree.proofs.KnownKeys.{headed_header}
 use Rattle.tree.proofs.LeafChange.{key_heads_stays}
 use Rattle.tree.proofs.Placing.{entries_from_header, put_entries}
-use Rattle.tree.proofs.Storing.{child_live, entry_put}
+use Rattle.tree.proofs.Sharing.{child_is}
+use Rattle.tree.proofs.Storing.{entry_put}
 use Rattle.tree.proofs.replace.raise_entry.Given.{Over}
 use Rattle.tree.proofs.replace.raise_entry.Goals as goal
 use Rattle.tree.proofs.replace.raise_entry.Goals.{After-index-entries-index}
@@ -23,10 +25,13 @@ read_is g c =
     let read = entries_from_header c.args.nodes.now c.args.slot c.header_ref.result.now c.header_ref.ensures.header in
     rw (read, ← c.entries.ensures.entries) c.index-entries-index.is
 
-pub header_ref-requires-else-entry-version : goal.header_ref-requires-else-entry-version
-header_ref-requires-else-entry-version g c =
-    let d_is = read_is g (goal.at.header_ref-requires-else-entry-version g c).After-index-entries-index in
-    record { live = child_live c.index-entries-index.result c.requires.can_rebalance (ap (λ e. e.child) d_is) }
+-- Where a greater version is there, the entry is made right from the child.
+pub returns-then-entry-version : goal.returns-then-entry-version
+returns-then-entry-version g c = record {
+  rebalanced = λ height family tells. c.rebalance_child.ensures.rebalanced height family;
+  rest = c.rebalance_child.ensures.rest;
+  outcome = inl refl;
+}
 
 pub returns : goal.returns
 returns g c =
@@ -36,9 +41,8 @@ returns g c =
     let can = c.requires.can_rebalance in
     let d = c.index-entries-index.result in
     let d_is = read_is g (goal.at.returns g c).After-index-entries-index in
-    let child = c.header_ref-else-entry-version in
-    let len = ap length (entries_from_header a d.child child.result.now child.ensures.header) ∙ sym c.len.ensures.len in
-    let filled : least_of g.row.N ≤ length (entries_at a d.child) = omega (arith, len, c.if-len-least.false) in
+    let child = child_is es c.args.index d can.within ∙ ap (λ e. e.child) (sym d_is) in
+    let filled : least_of g.row.N ≤ length (entries_at a d.child) = rw child at c.requires.filled in
     let below : d.version ≤ℤ c.args.version = grind (arith, ints, c.if-entry-version.false) in
     let there : slice_get es c.args.index ≡ Some d = slice_get-get_or es c.args.index d can.within ∙ ap Some (sym d_is) in
     let old = c.header_mut.result.now in
@@ -57,4 +61,8 @@ returns g c =
         spare = search rules;
         headed = headed_header _ a (with_header a slot node) slot node refl can.headed headed;
       };
+      outcome = inr (
+        ap Raised (to_z-of_z w64 c.args.version c.ranges.version),
+        omega (arith, ap length now_is, ap length here, length-set {A = Entry}),
+      );
     }

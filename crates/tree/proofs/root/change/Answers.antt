@@ -1,4 +1,4 @@
-use Rattle.std.proofs.Common.{rules, ◌∙◌, arith}
+use Rattle.std.proofs.Common.{rules, refl, ◌∙◌, arith}
 use Rattle.tree.specs.Tree.{least_of}
 use Rattle.tree.specs.Walk.{CanChange}
 use Rattle.tree.proofs.Rebalancing.{live_subtree}
@@ -40,48 +40,76 @@ change_leaf-requires g c =
 pub grow-requires : goal.grow-requires
 grow-requires g c =
     let can = c.requires.can_change.changeable in
-    let put = c.change_leaf.ensures.changed in
-    let changes = rw (← c.in-Some.ensures.added) at put.changes in (
+    let put = c.in-Split.ensures.changed in (
       search rules,
       record {
         fan_out = can.fan_out;
         few = can.few;
         low = can.low;
         first = put.subtree;
-        second = rw (← c.in-Some.ensures.added) at put.neighbour;
-        filled = rw (← c.in-Some.ensures.added) at put.filled;
-        distinct = changes.distinct;
-        linked = omega (arith, changes.live, can.rooted.linked);
-        keyless = changes.keyless;
+        second = put.neighbour;
+        filled = put.filled;
+        distinct = put.changes.distinct;
+        linked = omega (arith, put.changes.live, can.rooted.linked);
+        keyless = put.changes.keyless;
         room = omega (arith, put.taken, can.room);
-        headed = rw (c.leaf_bound-in-Some.ensures.leaf_bound ∙ c.change_leaf.ensures.leaf_bound) put.headed;
+        headed = rw (c.leaf_bound-in-Split.ensures.leaf_bound ∙ c.in-Split.ensures.leaf_bound) put.headed;
       },
     )
 
 pub shrink-requires : goal.shrink-requires
 shrink-requires g c =
-    let changes = rw (← c.in-None.ensures.added) at c.change_leaf.ensures.changed.changes in (
+    let put = c.in-Changed.ensures.changed in (
       search rules,
       record {
-        subtree = c.change_leaf.ensures.changed.subtree;
-        distinct = changes.distinct;
-        linked = omega (arith, changes.live, c.requires.can_change.changeable.rooted.linked);
-        keyless = changes.keyless;
+        subtree = put.subtree;
+        distinct = put.changes.distinct;
+        linked = omega (arith, put.changes.live, c.requires.can_change.changeable.rooted.linked);
+        keyless = put.changes.keyless;
       },
     )
 
-pub returns-in-Some : goal.returns-in-Some
-returns-in-Some g c = record {
-  items = rw c.grow.ensures.items (rw (← c.in-Some.ensures.added) at c.change_leaf.ensures.items);
+pub returns-in-Split : goal.returns-in-Split
+returns-in-Split g c = record {
+  items = rw c.grow.ensures.items c.in-Split.ensures.items;
   rooted = c.grow.ensures.rooted;
-  spare = c.grow.ensures.spare ∙ c.change_leaf.ensures.changed.changes.spare;
-  headed = rw (c.leaf_bound-in-Some.ensures.leaf_bound ∙ c.change_leaf.ensures.leaf_bound) at c.grow.ensures.headed;
+  spare = c.grow.ensures.spare ∙ c.in-Split.ensures.changed.changes.spare;
+  headed = rw (c.leaf_bound-in-Split.ensures.leaf_bound ∙ c.in-Split.ensures.leaf_bound) at c.grow.ensures.headed;
 }
 
-pub returns-in-None : goal.returns-in-None
-returns-in-None g c = record {
-  items = rw c.shrink.ensures.items (rw (← c.in-None.ensures.added) at c.change_leaf.ensures.items);
+pub returns-in-Changed : goal.returns-in-Changed
+returns-in-Changed g c = record {
+  items = rw c.shrink.ensures.items c.in-Changed.ensures.items;
   rooted = c.shrink.ensures.rooted;
-  spare = c.shrink.ensures.spare ∙ c.change_leaf.ensures.changed.changes.spare;
-  headed = c.shrink.ensures.headed _ c.change_leaf.ensures.changed.headed;
+  spare = c.shrink.ensures.spare ∙ c.in-Changed.ensures.changed.changes.spare;
+  headed = c.shrink.ensures.headed _ c.in-Changed.ensures.changed.headed;
 }
+
+pub returns-in-Same : goal.returns-in-Same
+returns-in-Same g c =
+    let put = c.in-Same.ensures.changed in
+    let can = c.requires.can_change.changeable in
+    record {
+      items = c.in-Same.ensures.items;
+      rooted = rw (put.same refl) can.rooted;
+      spare = put.changes.spare;
+      headed = put.headed;
+    }
+
+-- A root to whose subtree a version came keeps its entries.
+pub returns-in-Raised : goal.returns-in-Raised
+returns-in-Raised g c =
+    let put = c.in-Raised.ensures.changed in
+    let was = c.requires.can_change.changeable.rooted in
+    record {
+      items = c.in-Raised.ensures.items;
+      rooted = record {
+        subtree = put.subtree;
+        branches = λ above. omega (arith, was.branches above, (put.raised _ refl).no_fewer above);
+        distinct = put.changes.distinct;
+        linked = omega (arith, put.changes.live, was.linked);
+        keyless = put.changes.keyless;
+      };
+      spare = put.changes.spare;
+      headed = put.headed;
+    }

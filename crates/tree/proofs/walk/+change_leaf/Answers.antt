@@ -1,4 +1,4 @@
-use Rattle.std.proofs.Common.{◌≡◌, ◌≤◌, ◌+◌, ◌-◌, ℕ, suc, Bool, List, Option, SFits, ℤ, w64, length, get_or, take, drop, refl, sym, ap, ◌∙◌, arith, rules}
+use Rattle.std.proofs.Common.{◌≡◌, ◌≤◌, ◌+◌, ◌-◌, ℕ, suc, inl, inr, None, Bool, List, Option, SFits, ℤ, w64, length, get_or, take, drop, refl, sym, ap, ◌∙◌, arith, rules}
 use Rattle.std.proofs.lemmas.Int.{to_z-of_z}
 use Rattle.tree.specs.declared.entry.Entry.{Entry}
 use Rattle.tree.specs.Item.{Item}
@@ -8,7 +8,7 @@ use Rattle.tree.specs.Subtree.{entries_at, items_in, slots_in}
 use Rattle.tree.specs.declared.walk.Outcome.TheVariants.{Same, Raised, Changed, Split}
 use Rattle.tree.specs.Tree.{least_of}
 use Rattle.tree.specs.Replace.{items_of}
-use Rattle.tree.specs.Walk.{CanChangeLeaf, IsChangedWithin}
+use Rattle.tree.specs.Walk.{CanChangeLeaf, IsChangedWithin, added_by}
 use Rattle.tree.proofs.callers.Times.{once_if_distinct, distinct_if_once}
 use Rattle.tree.proofs.ChangedLeaf.{unchanged}
 use Rattle.tree.proofs.FirstKeys.{known_below}
@@ -17,7 +17,7 @@ use Rattle.tree.proofs.Placing.{entries_from_header}
 use Rattle.tree.proofs.Found.{read_partitioned, found, found_subtree, found_partitioned}
 use Rattle.tree.proofs.Stepping.{IsAt, around, child_right, child_once, items_split}
 use Rattle.tree.proofs.Walking.{first_if, within_at}
-use Rattle.tree.proofs.Walked.{within_leaf, can_rebalance, can_insert, family, tells_written, step_rebalanced, changed_above, step_linked, linked_above}
+use Rattle.tree.proofs.Walked.{within_leaf, can_rebalance, can_insert, child_filled, family, tells_written, step_rebalanced, changed_above, step_linked, linked_above}
 use Rattle.tree.proofs.walk.+change_leaf.Given.{Over}
 use Rattle.tree.proofs.walk.+change_leaf.Goals as goal
 use Rattle.tree.proofs.walk.+change_leaf.Goals.{After-index-entries-step, After-change_leaf, After-raise_entry, After-rebalance_child}
@@ -151,7 +151,7 @@ pub raise_entry-requires : goal.raise_entry-requires
 raise_entry-requires g t c =
     let at = at_child g t (goal.at.raise_entry-requires g t c).After-index-entries-step in
     rw (c.leaf_bound-in-Raised.ensures.leaf_bound ∙ c.in-Raised.ensures.leaf_bound)
-    (search rules, can_rebalance at c.in-Raised.ensures.changed refl)
+    (search rules, (can_rebalance at c.in-Raised.ensures.changed refl, child_filled at c.in-Raised.ensures.changed refl _ refl))
 
 pub rebalance_child-requires : goal.rebalance_child-requires
 rebalance_child-requires g t c =
@@ -179,6 +179,12 @@ returns-in-Same g t c =
 raised_not_same : (version : ℤ) → Raised version ≡ Same → ⊥
 raised_not_same version is = cc
 
+changed_not_same : Changed ≡ Same → ⊥
+changed_not_same is = cc
+
+changed_not_raised : (version : ℤ) → Changed ≡ Raised version → ⊥
+changed_not_raised version is = cc
+
 pub returns-in-Raised : goal.returns-in-Raised
 returns-in-Raised g t c =
     let here = goal.at.returns-in-Raised g t c in
@@ -189,8 +195,14 @@ returns-in-Raised g t c =
     let made = (rw same at c.raise_entry.ensures.rebalanced) (c.args.height - 1) (family at put refl)
     (tells_written at put refl c.in-Raised.version refl) in
     let rest = rw (c.leaf_bound-in-Raised.ensures.leaf_bound ∙ c.in-Raised.ensures.leaf_bound) at c.raise_entry.ensures.rest in
-    rw same record {
-      changed = changed_above at put refl made (raised_not_same c.in-Raised.version) rest;
+    let told = rw same at c.raise_entry.ensures.outcome in
+    let alone : added_by c.raise_entry.result ≡ None =
+    elim told [ inl is ↦ ap added_by is | inr is ↦ ap added_by is.0 ] in
+    let changed = changed_above at put refl made c.raise_entry.result alone
+    (λ e. elim told [ inl is ↦ changed_not_same (sym is ∙ e) | inr is ↦ raised_not_same c.in-Raised.version (sym is.0 ∙ e) ])
+    (λ version e. elim told [ inl is ↦ absurd (changed_not_raised version (sym is ∙ e)) | inr is ↦ (sym is.0 ∙ e, is.1) ]) rest in
+    rw alone record {
+      changed = changed;
       items = within g t here.After-change_leaf _ _ _ (step_rebalanced at put refl made).items_are c.in-Raised.ensures.items;
       leaf_bound = search rules;
     }
@@ -204,7 +216,7 @@ returns-in-Changed g t c =
     let same = c.leaf_bound-in-Changed.ensures.leaf_bound ∙ c.in-Changed.ensures.leaf_bound in
     let rest = rw same at c.rebalance_child.ensures.rest in
     record {
-      changed = changed_above at put refl made (λ is. absurd (cc)) rest;
+      changed = changed_above at put refl made Changed refl changed_not_same (λ version is. absurd (changed_not_raised version is)) rest;
       items = within g t here.After-change_leaf _ _ _ (step_rebalanced at put refl made).items_are c.in-Changed.ensures.items;
       leaf_bound = search rules;
     }

@@ -338,7 +338,7 @@ returns-then-begin-eq0-2-clause-items g c =
     let j = (goal.at.returns-then-begin-eq0-2-clause-items g c).Joined-is_some-2 in
     let put = put_entries c.args.nodes.now _ c.args.slot c.splice_with_heads.new.self refl in
     let read = entries_from_header c.args.nodes.now c.args.slot _ c.header_mut-leaf.ensures.header in
-    whole g j _ (cc (c.splice_with_heads.ensures.entries))
+    whole g j _ (put ∙ (rw (← read) at c.splice_with_heads.ensures.entries))
 
 none_if : (o : Option ℤ) → is_some o ≡ false → o ≡ None
 none_if None f = refl
@@ -349,7 +349,7 @@ returns-clause-items g c =
     let j = (goal.at.returns-clause-items g c).Joined-is_some-2 in
     let put = put_entries c.args.nodes.now _ c.args.slot c.splice_with_heads.new.self refl in
     let read = entries_from_header c.args.nodes.now c.args.slot _ c.header_mut-leaf.ensures.header in
-    whole g j _ (cc (c.splice_with_heads.ensures.entries))
+    whole g j _ (put ∙ (rw (← read) at c.splice_with_heads.ensures.entries))
 
 -- Where the leaf has an item before the run, and no version is given, the first key stays.
 pub returns-clause-changed : goal.returns-clause-changed
@@ -367,7 +367,11 @@ returns-clause-changed g c =
     let kept = to_z-of_z w64 new.first.version (search rules) in
     leaf_put _ c.args.nodes.now _ slot c.splice_with_heads.new.self _ refl c.requires.can_change.changeable
     c.requires.can_change.searched.headed c.splice_with_heads.ensures.headed refl (λ e. absurd (cc))
-    (λ told e. let same : new.first.version ≡ told = cc (kept) in rw same at first_stays)
+    (λ told e. let same : new.first.version ≡ told = cc (kept) in record {
+      items = rw same at first_stays;
+      filled = λ _. omega (arith, ap length (put_entries c.args.nodes.now _ slot c.splice_with_heads.new.self refl), c.len-2.ensures.len, c.if-is_short.false);
+      no_fewer = λ high. absurd (omega (arith, high));
+    })
 
 pub returns-clause-leaf_bound : goal.returns-clause-leaf_bound
 returns-clause-leaf_bound g c = refl
