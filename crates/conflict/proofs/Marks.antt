@@ -1,7 +1,8 @@
 -- The marks of what a batch writes.
-use Rattle.std.proofs.Common.{◌≡◌, ℕ, zero, suc, ◌+◌, ◌-◌, ◌<◌, ◌≤◌, Bool, true, false, cond, List, [], ◌∷◌, ◌++◌, length, get_or, take, replicate, refl, sym, ap, subst, ◌∙◌, arith}
+use Rattle.std.proofs.Common.{◌≡◌, ℕ, zero, suc, ◌+◌, ◌-◌, ◌<◌, ◌≤◌, Bool, true, false, cond, List, [], ◌∷◌, ◌++◌, length, get_or, take, drop, replicate, refl, sym, ap, subst, ◌∙◌, arith}
 use Rattle.std.specs.List.{AllZip}
-use Rattle.std.proofs.lemmas.List.{flat_map_more, length-append, length-replicate, length-take, take_all, take_more}
+use Rattle.std.proofs.lemmas.List.{append_assoc, drop-drop, drop_at, flat_map_more, length-append, length-drop, length-replicate, length-take, length-take-le, replicate-append-replicate, take-append-drop, take_all, take_at, take_more}
+use Rattle.std.proofs.lemmas.List.Folds.{length-flat_map-take}
 use Rattle.keys.specs.declared.range.Range.{Range}
 use Rattle.keyspace.specs.declared.reply.Verdict.{Verdict}
 use Rattle.keyspace.specs.declared.reply.Verdict.TheVariants.{Conflict, TooOld, Committed}
@@ -44,17 +45,6 @@ counted_if : (verdict : Verdict) (ranges : List Range) → cond (counts verdict)
 counted_if Committed ranges = refl
 counted_if TooOld ranges = refl
 counted_if Conflict ranges = refl
-
--- so many marks more
-pub resized : (old new : List Bool) (mark : Bool) (long kept count more : ℕ) → long ≡ kept → kept ≡ length old
-    → count ≡ more → new ≡ take (long + count) old ++ replicate (long + count - kept) mark
-    → new ≡ old ++ replicate more mark
-resized old new mark long kept count more same as_long is after =
-    let rest : long + count - kept ≡ more = omega (arith, same, is) in
-    let enough : length old ≤ long + count = omega (arith, same, as_long) in
-    after
-    ∙ ap (λ ms. ms ++ replicate (long + count - kept) mark) (take_all (long + count) old enough)
-    ∙ ap (λ n. old ++ replicate n mark) rest
 
 -- the marks of the ranges of one transaction
 abbrev pub own_marks : Txn → Entry → List Bool
@@ -155,3 +145,159 @@ marks_next marks new txns entries i t e inside same at_t at_e is were =
     subst (λ ms. AreMarksOf ms (take (i + 1) txns) (take (i + 1) entries)) (sym is)
     (subst (λ es. AreMarksOf (marks ++ own_marks t e) (take (i + 1) txns) es) es
     (subst (λ ts. AreMarksOf (marks ++ own_marks t e) ts (take i entries ++ e ∷ [])) ts pushed))
+
+-- The marks before an end are those of the ranges of the first transactions, and no range is marked from there on.
+pub record AreMarkedTo (marks : List Bool) (end : ℕ) (txns : List Txn) (entries : List Entry) (i : ℕ) : Type 0 where
+  pub size : length marks ≡ length (ranges_in txns)
+  pub within : end ≤ length marks
+  pub front : AreMarksOf (take end marks) (take i txns) (take i entries)
+  pub rest : drop end marks ≡ replicate (length marks - end) false
+
+-- No range is marked at first.
+pub marked_to-init : (marks : List Bool) (n : ℕ) (txns : List Txn) (entries : List Entry) → marks ≡ replicate n false
+    → n ≡ length (ranges_in txns) → AreMarkedTo marks 0 txns entries 0
+marked_to-init marks n txns entries is count =
+    let size : length marks ≡ n = ap length is ∙ length-replicate n false in
+    let left : n ≡ length marks - 0 = omega (arith, size) in
+    record {
+      size = size ∙ count;
+      within = omega arith;
+      front = record { written = refl; count = refl; tell = tt };
+      rest = is ∙ ap (λ m. replicate m false) left;
+    }
+
+-- The ranges of the next transaction have marks.
+pub marked_to-room : (marks : List Bool) (end : ℕ) (txns : List Txn) (entries : List Entry) (i : ℕ) (t : Txn) → i < length txns
+    → t ≡ get_or txns i t → AreMarkedTo marks end txns entries i
+    → end + length t.reads + length t.writes ≤ length marks
+marked_to-room marks end txns entries i t inside at_t were = omega (
+  arith,
+  length-flat_map-take ranges_of_txn txns i t inside,
+  ap (λ (x : Txn). length (ranges_of_txn x)) at_t,
+  length-append t.reads t.writes,
+  length-take-le end marks were.within,
+  were.front.count,
+  were.size,
+)
+
+-- Marks behind an end, of which none is set, in three parts.
+in_parts : (marks : List Bool) (end reads writes : ℕ) → end + reads + writes ≤ length marks
+    → drop end marks ≡ replicate (length marks - end) false
+    → marks ≡ (take end marks ++ replicate reads false)
+    ++ (replicate writes false ++ replicate (length marks - (end + reads + writes)) false)
+in_parts marks end reads writes room rest =
+    let left = length marks - (end + reads + writes) in
+    let sum : length marks - end ≡ reads + (writes + left) = omega (arith, room) in
+    let behind : drop end marks ≡ replicate reads false ++ (replicate writes false ++ replicate left false) =
+    rest
+    ∙ ap (λ n. replicate n false) sum
+    ∙ sym (replicate-append-replicate reads (writes + left) false)
+    ∙ ap (λ ms. replicate reads false ++ ms) (sym (replicate-append-replicate writes left false)) in
+    sym (take-append-drop end marks)
+    ∙ ap (λ ms. take end marks ++ ms) behind
+    ∙ sym (append_assoc (take end marks) (replicate reads false) (replicate writes false ++ replicate left false))
+
+-- Marks of which a part is set, by the begin and the length of that part.
+pub part_set : (marks part : List Bool) (begin count : ℕ) → begin + count ≤ length marks
+    → part ≡ replicate (length (take (begin + count - begin) (drop begin marks))) true
+    → take begin marks ++ (part ++ drop (begin + count - begin) (drop begin marks))
+    ≡ take begin marks ++ (replicate count true ++ drop (begin + count) marks)
+part_set marks part begin count room is =
+    let own : begin + count - begin ≡ count = omega arith in
+    let long : length (take (begin + count - begin) (drop begin marks)) ≡ count = omega (
+      arith,
+      own,
+      length-take-le (begin + count - begin) (drop begin marks) (omega (arith, own, length-drop begin marks, room)),
+    ) in
+    ap (λ ms. take begin marks ++ (ms ++ drop (begin + count - begin) (drop begin marks))) (is ∙ ap (λ n. replicate n true) long)
+    ∙ ap (λ n. take begin marks ++ (replicate count true ++ drop n (drop begin marks))) own
+    ∙ ap (λ ms. take begin marks ++ (replicate count true ++ ms)) (drop-drop count begin marks)
+
+-- The marks stay so with one transaction more, where those of its write ranges are set if it commits.
+pub marked_to-next : (marks new : List Bool) (end reads writes : ℕ) (txns : List Txn) (entries : List Entry) (i : ℕ) (t : Txn)
+    (e : Entry) → i < length txns → length entries ≡ length txns → t ≡ get_or txns i t → e ≡ get_or entries i e
+    → reads ≡ length t.reads → writes ≡ length t.writes → AreMarkedTo marks end txns entries i
+    → new ≡ cond (counts e.verdict) (take (end + reads) marks
+    ++ (replicate writes true ++ drop (end + reads + writes) marks)) marks
+    → AreMarkedTo new (end + reads + writes) txns entries (i + 1)
+marked_to-next marks new end reads writes txns entries i t e inside same at_t at_e is_reads is_writes were is =
+    let finish = end + reads + writes in
+    let left = length marks - finish in
+    let before = take end marks ++ replicate reads false in
+    let mark = counts e.verdict in
+    let room : finish ≤ length marks =
+    omega (arith, marked_to-room marks end txns entries i t inside at_t were, is_reads, is_writes) in
+    let parts : marks ≡ before ++ (replicate writes false ++ replicate left false) =
+    in_parts marks end reads writes room were.rest in
+    let long : length before ≡ end + reads = omega (
+      arith,
+      length-append (take end marks) (replicate reads false),
+      length-take-le end marks were.within,
+      length-replicate reads false,
+    ) in
+    let longer : length (before ++ replicate writes false) ≡ finish =
+    omega (arith, length-append before (replicate writes false), long, length-replicate writes false) in
+    let at_begin : take (end + reads) marks ≡ before =
+    ap (take (end + reads)) parts ∙ take_at before (replicate writes false ++ replicate left false) (end + reads) long in
+    let at_finish : drop finish marks ≡ replicate left false =
+    ap (drop finish) (parts ∙ sym (append_assoc before (replicate writes false) (replicate left false)))
+    ∙ drop_at (before ++ replicate writes false) (replicate left false) finish longer in
+    let set : take (end + reads) marks ++ (replicate writes true ++ drop finish marks)
+    ≡ before ++ (replicate writes true ++ replicate left false) =
+    ap (λ ms. ms ++ (replicate writes true ++ drop finish marks)) at_begin
+    ∙ ap (λ ms. before ++ (replicate writes true ++ ms)) at_finish in
+    let either : cond mark (take (end + reads) marks ++ (replicate writes true ++ drop finish marks)) marks
+    ≡ before ++ (replicate writes mark ++ replicate left false) = elim mark as (λ b.
+    cond b (take (end + reads) marks ++ (replicate writes true ++ drop finish marks)) marks
+    ≡ before ++ (replicate writes b ++ replicate left false)) [
+      | true ↦ set
+      | false ↦ parts
+    ] in
+    let own : replicate reads false ++ replicate writes mark ≡ own_marks t e =
+    ap (λ n. replicate n false ++ replicate writes mark) is_reads
+    ∙ ap (λ n. replicate (length t.reads) false ++ replicate n mark) is_writes in
+    let now = take end marks ++ own_marks t e in
+    let whole : new ≡ now ++ replicate left false =
+    is
+    ∙ either
+    ∙ sym (append_assoc before (replicate writes mark) (replicate left false))
+    ∙ ap (λ ms. ms ++ replicate left false) (append_assoc (take end marks) (replicate reads false) (replicate writes mark))
+    ∙ ap (λ ms. take end marks ++ ms ++ replicate left false) own in
+    let count : length now ≡ finish = omega (
+      arith,
+      length-append (take end marks) (own_marks t e),
+      length-take-le end marks were.within,
+      own_count t e,
+      length-append t.reads t.writes,
+      is_reads,
+      is_writes,
+    ) in
+    let size : length new ≡ length marks = omega (
+      arith,
+      ap length whole,
+      length-append now (replicate left false),
+      count,
+      length-replicate left false,
+      room,
+    ) in
+    record {
+      size = size ∙ were.size;
+      within = omega (arith, size, room);
+      front = marks_next (take end marks) (take finish new) txns entries i t e inside same at_t at_e
+          (ap (take finish) whole ∙ take_at now (replicate left false) finish count) were.front;
+      rest = ap (drop finish) whole
+          ∙ drop_at now (replicate left false) finish count
+          ∙ ap (λ n. replicate (n - finish) false) (sym size);
+    }
+
+-- In the end all marks are those of the transactions.
+pub marked_to-all : (marks : List Bool) (end : ℕ) (txns : List Txn) (entries : List Entry) (i : ℕ) → length txns ≤ i
+    → length entries ≡ length txns → AreMarkedTo marks end txns entries i → AreMarksOf marks txns entries
+marked_to-all marks end txns entries i past same were =
+    let ts : take i txns ≡ txns = take_all i txns past in
+    let es : take i entries ≡ entries = take_all i entries (omega (arith, past, same)) in
+    let front : AreMarksOf (take end marks) txns entries =
+    subst (λ ts. AreMarksOf (take end marks) ts entries) ts
+    (subst (λ es. AreMarksOf (take end marks) (take i txns) es) es were.front) in
+    let reached : length marks ≤ end = omega (arith, length-take-le end marks were.within, front.count, were.size) in
+    subst (λ ms. AreMarksOf ms txns entries) (take_all end marks reached) front

@@ -1,6 +1,6 @@
 //! Which of the ranges of a batch are written.
 
-ghost use Rattle.std.specs.Prelude.{◌≡◌, ℕ, true, false, length, slice_index_or, OnOk};
+ghost use Rattle.std.specs.Prelude.{◌≡◌, ℕ, true, false, length, replicate, slice_index_or, OnOk};
 ghost use Rattle.keyspace.specs.Writes.{committed};
 ghost use Rattle.keyspace.specs.BatchRanges.{is_write_in, ranges_in};
 ghost use Rattle.conflict.specs.Union.{picked};
@@ -23,11 +23,25 @@ pub fn mark_written(
         → is_write_in batch.now.txns index ≡ true) }
 {
     written.clear();
+    written.resize(batch.txns.ranges().len(), false)?;
+    let marks = &mut written[..];
+    let mut end = 0;
     for index in 0..batch.txns.len() {
         let txn = batch.txns.txn(index);
-        let commits = entries[index].verdict == Verdict::Committed;
-        written.resize(written.len() + txn.reads.len(), false)?;
-        written.resize(written.len() + txn.writes.len(), commits)?;
+        let begin = end + txn.reads.len();
+        end = begin + txn.writes.len();
+        if entries[index].verdict == Verdict::Committed {
+            mark_all(&mut marks[begin..end]);
+        }
     }
     Ok(())
+}
+
+// Sets all marks, of which there are mostly one or two, too few for a call of `fill`.
+fn mark_all(marks: &mut [bool])
+    ensures marked { marks.new ≡ replicate (length marks.old) true }
+{
+    for mark in marks {
+        *mark = true;
+    }
 }

@@ -1,5 +1,6 @@
-use Rattle.std.proofs.Common.{◌≡◌, ◌+◌, ◌-◌, ◌++◌, ◌∙◌, ◌<◌, length, get_or, replicate, refl, sym, ap, subst, arith, append_assoc, false, [], take}
-use Rattle.std.proofs.lemmas.List.{take_all}
+use Rattle.std.proofs.Common.{◌≡◌, ◌+◌, ◌<◌, ◌≤◌, ◌++◌, ◌∙◌, length, take, drop, replicate, cond, true, false, refl, sym, ap, subst, arith}
+use Rattle.std.proofs.lemmas.Grind.{common_steps}
+use Rattle.std.proofs.lemmas.List.{take_at}
 use denote.Enum.Bare.{sameb}
 use Rattle.keyspace.specs.contracts.reply.Verdict.{the_type}
 use Rattle.keyspace.specs.BatchRanges.{write_marks}
@@ -7,7 +8,8 @@ use Rattle.keyspace.specs.declared.reply.Verdict.{Verdict}
 use Rattle.keyspace.specs.declared.reply.Verdict.TheVariants.{Conflict, TooOld, Committed}
 use Rattle.keyspace.specs.declared.txn.Txn.{Txn}
 use Rattle.conflict.proofs.Parts.{lent_at}
-use Rattle.conflict.proofs.Marks.{AreMarksOf, counts, marks_next, resized, told_at}
+use Rattle.conflict.proofs.Marks.{AreMarksOf, counts, marked_to-init, marked_to-room, marked_to-next, marked_to-all, part_set, told_at}
+use Rattle.conflict.proofs.marking.mark_written.Goals.{then-eq, else-eq}
 use Rattle.conflict.proofs.marking.mark_written.Goals as goal
 
 -- what the comparison says
@@ -18,7 +20,28 @@ says Conflict = refl
 
 pub loop-index-init : goal.loop-index-init
 loop-index-init c =
-    subst (λ ms. AreMarksOf ms [] []) (sym c.clear.ensures.items) (record { written = refl; count = refl; tell = tt })
+    let items : c.resize.new.self.items ≡ replicate c.len.result false =
+    c.in_ok-resize.ensures.items ∙ rw (c.clear.ensures.items, c.clear.ensures.len) (grind (arith, common_steps)) in
+    marked_to-init c.deref_mut.result.now c.len.result c.args.batch.now.txns c.args.entries.now
+    (c.deref_mut.ensures.value ∙ items) (c.len.ensures.count ∙ ap length c.ranges-2.ensures.ranges)
+
+pub slice_bounds-mark_all-end : goal.slice_bounds-mark_all-end
+slice_bounds-mark_all-end c =
+    let txns = c.args.batch.now.txns in
+    let i = c.loop-index.index in
+    let t = c.txn-txn.result in
+    let inside : i < length txns = omega (arith, c.loop-index-test.true, c.len-index-end.ensures.count) in
+    let reads : c.len-in-loop-index.result ≡ length t.reads =
+    c.len-in-loop-index.ensures.count ∙ ap (λ (u : Txn). length u.reads) c.txn.view_is in
+    let writes : c.len-in-loop-index-2.result ≡ length t.writes =
+    c.len-in-loop-index-2.ensures.count ∙ ap (λ (u : Txn). length u.writes) c.txn.view_is in
+    omega (
+      arith,
+      marked_to-room c.loop-index.marks c.loop-index.end txns c.args.entries.now i t inside
+          (lent_at txns i t inside c.txn-txn.ensures.txn) c.loop-index.invariant,
+      reads,
+      writes,
+    )
 
 pub loop-index-preserved : goal.loop-index-preserved
 loop-index-preserved c =
@@ -26,38 +49,41 @@ loop-index-preserved c =
     let i = c.loop-index.index in
     let t = c.txn-txn.result in
     let inside : i < length txns = omega (arith, c.loop-index-test.true, c.len-index-end.ensures.count) in
-    let reads : c.txn.inside.reads ≡ t.reads = ap (λ (u : Txn). u.reads) c.txn.view_is in
-    let writes : c.txn.inside.writes ≡ t.writes = ap (λ (u : Txn). u.writes) c.txn.view_is in
+    let reads : c.len-in-loop-index.result ≡ length t.reads =
+    c.len-in-loop-index.ensures.count ∙ ap (λ (u : Txn). length u.reads) c.txn.view_is in
+    let writes : c.len-in-loop-index-2.result ≡ length t.writes =
+    c.len-in-loop-index-2.ensures.count ∙ ap (λ (u : Txn). length u.writes) c.txn.view_is in
     let e = c.index-entries-index.result in
-    let old = c.loop-index.written.items in
-    let mid = c.resize.new.self.items in
-    let new = c.resize-in-loop-index.new.self.items in
-    let is_e : e ≡ get_or c.args.entries.now i e = c.index-entries-index.is in
-    let commits : c.eq-commits.result ≡ counts e.verdict =
-    c.eq-commits.ensures ∙ ap (λ x. sameb the_type x.verdict Committed) (sym is_e) ∙ says e.verdict in
-    let first : mid ≡ old ++ replicate (length t.reads) false =
-    resized old mid false c.len.result c.loop-index.written.len c.len-in-loop-index.result (length t.reads) c.len.ensures
-    c.loop-index.written.ok.0 (c.len-in-loop-index.ensures.count ∙ ap length reads) c.in_ok-resize.ensures.items in
-    let second : new ≡ mid ++ replicate (length t.writes) (counts e.verdict) =
-    resized mid new (counts e.verdict) c.len-in-loop-index-2.result c.resize.new.self.len c.len-in-loop-index-3.result
-    (length t.writes) c.len-in-loop-index-2.ensures c.resize.new.self.ok.0
-    (c.len-in-loop-index-3.ensures.count ∙ ap length writes)
-    (c.in_ok-resize-2.ensures.items ∙ ap (λ m. take (c.len-in-loop-index-2.result + c.len-in-loop-index-3.result) mid
-    ++ replicate (c.len-in-loop-index-2.result + c.len-in-loop-index-3.result - c.resize.new.self.len) m) commits) in
-    marks_next old new txns c.args.entries.now i t e inside c.requires.entries
-    (lent_at txns i t inside c.txn-txn.ensures.txn) is_e
-    (second ∙ ap (λ ms. ms ++ replicate (length t.writes) (counts e.verdict)) first
-    ∙ append_assoc old (replicate (length t.reads) false) (replicate (length t.writes) (counts e.verdict)))
-    c.loop-index.invariant
+    let commits : c.eq.result ≡ counts e.verdict =
+    c.eq.ensures ∙ ap (λ x. sameb the_type x.verdict Committed) (sym c.index-entries-index.is) ∙ says e.verdict in
+    let marks = c.loop-index.marks in
+    let is_next = lent_at txns i t inside c.txn-txn.ensures.txn in
+    let begin = c.loop-index.end + c.len-in-loop-index.result in
+    let room : begin + c.len-in-loop-index-2.result ≤ length marks = omega (
+      arith,
+      marked_to-room marks c.loop-index.end txns
+          c.args.entries.now i t inside is_next c.loop-index.invariant,
+      reads,
+      writes,
+    ) in
+    let set = take begin marks ++ (replicate c.len-in-loop-index-2.result true ++ drop (begin + c.len-in-loop-index-2.result) marks) in
+    marked_to-next marks c.if-eq.marks c.loop-index.end c.len-in-loop-index.result c.len-in-loop-index-2.result txns
+    c.args.entries.now i t e inside c.requires.entries is_next c.index-entries-index.is reads writes c.loop-index.invariant
+    (elim c.if-eq.branch [
+      | then-eq w ↦ w.marks-is
+          ∙ part_set marks w.mark_all.new.marks begin c.len-in-loop-index-2.result room w.mark_all.ensures.marked
+          ∙ ap (λ b. cond b set marks) (sym w.if-eq.true ∙ commits)
+      | else-eq w ↦ w.marks-is ∙ ap (λ b. cond b set marks) (sym w.if-eq.false ∙ commits)
+    ])
 
 pub returns : goal.returns
 returns c =
     let txns = c.args.batch.now.txns in
-    let i = c.loop-index.index in
-    let all : AreMarksOf c.loop-index.written.items txns c.args.entries.now =
-    subst (λ ts. AreMarksOf c.loop-index.written.items ts c.args.entries.now)
-    (take_all i txns (omega (arith, c.loop-index-test.false, c.len-index-end.ensures.count)))
-    (subst (λ es. AreMarksOf c.loop-index.written.items (take i txns) es)
-    (take_all i c.args.entries.now (omega (arith, c.loop-index-test.false, c.len-index-end.ensures.count, c.requires.entries)))
-    c.loop-index.invariant) in
-    record { written = all.written; count = all.count; writes = told_at c.loop-index.written.items (write_marks txns) all.tell }
+    let marks = c.loop-index.marks in
+    let past : length txns ≤ c.loop-index.index = omega (arith, c.loop-index-test.false, c.len-index-end.ensures.count) in
+    let all = marked_to-all marks c.loop-index.end txns c.args.entries.now c.loop-index.index past c.requires.entries
+    c.loop-index.invariant in
+    let size : length marks ≡ c.resize.new.self.len = c.loop-index.auto.marks ∙ c.deref_mut.ensures.len in
+    let now = subst (λ ms. AreMarksOf ms txns c.args.entries.now)
+    (sym (take_at marks (drop (length marks) c.resize.new.self.items) c.resize.new.self.len size)) all in
+    record { written = now.written; count = now.count; writes = told_at _ (write_marks txns) now.tell }
