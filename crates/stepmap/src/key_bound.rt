@@ -58,6 +58,7 @@ impl<'a> Bound for KeyBound<'a> {
     }
 
     // The empty key is most often asked for: that of the first boundary.
+    #[inline(always)]
     fn prefix_len_below(&self, slot: Slot) -> Option<usize> {
         if !self.keys.is_live(slot) {
             return None;

@@ -98,6 +98,7 @@ pub fn rebalance_child<P: Bound, const N: usize>(
 
 /// Makes the entry at an index right in the node at a slot, in the subtree of whose child an item of this version was written. The
 /// child has enough entries. Returns what became of the node.
+#[inline(always)]
 pub fn raise_entry<P: Bound, const N: usize>(
     nodes: &mut Arena<Node<N>>,
     slot: Slot,

@@ -27,6 +27,7 @@ impl Way {
 
     /// Finds the last entry of a node below the bound, or else the first one, as `Node::step` does. It tries the entry that the last
     /// walk went through at this height first, unless the node stands right above the leaves: there it is seldom the same.
+    #[inline(always)]
     pub fn step<P: Bound, const N: usize>(
         &mut self,
         node: &Node<N>,

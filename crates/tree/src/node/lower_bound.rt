@@ -46,6 +46,7 @@ impl<const N: usize> Node<N> {
     }
 
     /// Returns how many of the entries are below the bound. `head` is that of the target, if it begins as all keys do.
+    #[inline(always)]
     pub fn lower_bound_by_head<P: Bound>(&self, bound: &P, head: Option<u64>) -> usize
         requires can_find { CanFind (P.bytes bound.now) (P.below bound.now) self.now }
         requires head { HasHead (P.bytes bound.now) (P.target bound.now) head (key_heads_of self.now) }
@@ -75,6 +76,7 @@ impl<const N: usize> Node<N> {
 
     /// Returns the head of the target behind the bytes that all keys begin with, if it begins with them, too. The first key and the
     /// target begin with `common_prefix_len` bytes in common, at least, unless that key is empty.
+    #[inline(always)]
     pub fn head_for<P: Bound>(&self, bound: &P, common_prefix_len: usize) -> Option<u64>
         requires headed { AreHeads (P.bytes bound.now) (key_heads_of self.now) }
         requires some { 0 < length (entries_of self.now) }
@@ -127,6 +129,7 @@ impl<const N: usize> Node<N> {
     }
 
     /// Returns whether the entry at an index is below the bound. `head` is that of the target, if it begins as all keys do.
+    #[inline(always)]
     pub fn is_below_at<P: Bound>(&self, index: usize, bound: &P, head: Option<u64>) -> bool
         requires headed { AreHeads (P.bytes bound.now) (key_heads_of self.now) }
         requires within { index < length (entries_of self.now) }
@@ -141,6 +144,7 @@ impl<const N: usize> Node<N> {
     }
 
     /// Returns how many of the entries are below the bound, of which at least so many are.
+    #[inline(always)]
     pub fn lower_bound_from<P: Bound>(&self, from: usize, bound: &P, head: Option<u64>) -> usize
         requires can_find { CanFind (P.bytes bound.now) (P.below bound.now) self.now }
         requires head { HasHead (P.bytes bound.now) (P.target bound.now) head (key_heads_of self.now) }

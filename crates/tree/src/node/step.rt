@@ -21,6 +21,7 @@ pub struct Step {
 
 impl<const N: usize> Node<N> {
     /// Returns how many bytes the first key and the target begin with in common, or none if that key isn't below the bound.
+    #[inline(always)]
     pub fn first_prefix_len<P: Bound>(&self, bound: &P) -> Option<usize>
         requires headed { AreHeads (P.bytes bound.now) (key_heads_of self.now) }
         requires some { 0 < length (entries_of self.now) }
@@ -38,6 +39,7 @@ impl<const N: usize> Node<N> {
 
     /// Finds the last entry below the bound, or else the first one. `common_prefix_len` is how many bytes the first key and the
     /// target begin with in common, or none if that key isn't below the bound.
+    #[inline(always)]
     pub fn step<P: Bound>(&self, bound: &P, common_prefix_len: Option<usize>) -> Step
         requires can_step { CanStep (P.bytes bound.now) (P.below bound.now) (P.target bound.now) self.now common_prefix_len }
         ensures step { IsStep (P.bytes bound.now) (P.below bound.now) (P.target bound.now) self.now result }
@@ -57,6 +59,7 @@ impl<const N: usize> Node<N> {
 
     /// Finds the last entry below the bound, or else the first one, as `step` does. It tries the entry at `guess` first, which may be
     /// any number.
+    #[inline(always)]
     pub fn step_by_guess<P: Bound>(
         &self,
         bound: &P,
@@ -102,6 +105,7 @@ impl<const N: usize> Node<N> {
 
     /// Finds the last entry below the bound, where the first one is. `common_prefix_len` is how many bytes the first key and the
     /// target begin with in common. `head` is what `head_for` returns for it.
+    #[inline(always)]
     pub fn step_by<P: Bound>(&self, bound: &P, common_prefix_len: usize, head: Option<u64>) -> Step
         requires can_step { CanStepBy (P.bytes bound.now) (P.below bound.now) (P.target bound.now) self.now
             (Some common_prefix_len) head }
@@ -117,6 +121,7 @@ impl<const N: usize> Node<N> {
 
     // Returns how many bytes the key at an index and the target begin with in common. `common_prefix_len` is the same of the first
     // key. Both are below the bound. `head` is that of the target, if it begins as all keys do.
+    #[inline(always)]
     fn common_prefix_len_in<P: Bound>(
         &self,
         index: usize,
