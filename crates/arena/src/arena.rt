@@ -16,6 +16,9 @@ use std::alloc::{Allocator, Global};
 use std::fmt;
 use std::marker::Model;
 
+// So many spare slots are read ahead at once.
+const AHEAD: usize = 16;
+
 /// Records of a header and key bytes, each in a slot of one of ten sizes. A released slot is given again.
 ///
 /// The key of a slot may have as many bytes as its size tells: 32, 64, 128, and so on to 16,384. A record takes
@@ -28,6 +31,8 @@ pub struct Arena<H: Copy, A: Allocator + Copy = Global> {
     chunks: Vec<Chunk<H, A>, A>,
     spares: Spares<A>,
     live: usize,
+    // What was read ahead of spare slots. It says nothing, and is kept so that the reading isn't left out.
+    read: u16,
 }
 
 impl<H: Copy, A: Allocator + Copy> Model for Arena<H, A> {
@@ -57,6 +62,7 @@ impl<H: Copy, A: Allocator + Copy> Arena<H, A> {
             chunks: Vec::new(alloc),
             spares: Spares::new(alloc),
             live: 0,
+            read: 0,
         }
     }
 
@@ -280,12 +286,27 @@ impl<H: Copy, A: Allocator + Copy> Arena<H, A> {
         ensures spare { spare_of self.new size + 1 ≡ spare_of self.old size }
         ensures other_sizes { (s : ℕ) → s ≢ size → spare_of self.new s ≡ spare_of self.old s }
     {
+        self.read ^= read_ahead(&self.chunks, self.spares.slots(size));
         let slot = self.spares.take(size);
         let chunk = &mut self.chunks[slot.chunk()];
         chunk.fill(slot.index(), header, key);
         self.live += 1;
         slot
     }
+}
+
+// Reads the memory of the slots that are given next, now and then of so many at once: so it is waited for once, and not where each of
+// them is written. The last of the slots is given next. The number that is returned says nothing.
+fn read_ahead<H, A: Allocator>(chunks: &[Chunk<H, A>], slots: &[Slot]) -> u16 {
+    let mut read = 0;
+    if slots.len() % AHEAD == 0 {
+        for slot in &slots[slots.len().saturating_sub(AHEAD)..] {
+            if let Some(chunk) = chunks.get(slot.chunk()) {
+                read ^= chunk.read_ahead(slot.index());
+            }
+        }
+    }
+    read
 }
 
 impl<H: Copy, A: Allocator + Copy> fmt::Debug for Arena<H, A> {

@@ -146,6 +146,15 @@ impl<H, A: Allocator> Chunk<H, A> {
         part(&self.bytes, index * self.width, length)
     }
 
+    /// Reads the memory of a slot. The number that is returned says nothing.
+    pub(crate) fn read_ahead(&self, index: usize) -> u16 {
+        let length = self.lengths.get(index).copied().unwrap_or(FREE);
+        match self.bytes.get(index.saturating_mul(self.width)) {
+            Some(byte) => length ^ u16::from(*byte),
+            None => length,
+        }
+    }
+
     /// Whether the slot at an index is live.
     pub(crate) fn is_live(&self, index: usize) -> bool
         ensures live { result ≡ is_some (held_at self.now.cells index) }

@@ -61,6 +61,11 @@ impl<A: Allocator> SpareSlots<A> {
         Ok(())
     }
 
+    /// Returns the slots. The last is given next.
+    pub(crate) fn slots(&self) -> &[Slot] {
+        &self.slots
+    }
+
     /// Removes the slot that is given next.
     pub(crate) fn take(&mut self) -> Slot
         requires some { 0 < length self.old.slots }

@@ -74,6 +74,14 @@ impl<A: Allocator + Copy> Spares<A> {
         list.add(number, count)
     }
 
+    /// Returns the slots of the size. The last is given next.
+    pub(crate) fn slots(&self, size: usize) -> &[Slot] {
+        match self.lists.get(size) {
+            Some(list) => list.slots(),
+            None => &[],
+        }
+    }
+
     /// Removes a slot of the size, which is given next.
     pub(crate) fn take(&mut self, size: usize) -> Slot
         requires size { size < SIZES }
