@@ -1,7 +1,7 @@
 //! Bounds by keys, through boundaries whose keys lie in an arena.
 
 ghost use Rattle.arena.specs.Arena.{key_at};
-ghost use Rattle.std.specs.Prelude.{◌≡◌};
+ghost use Rattle.std.specs.Prelude.{◌≡◌, take};
 ghost use Rattle.stepmap.specs.Stored.{bytes_at};
 ghost use Rattle.stepmap.specs.KeyBound.{slot_is_below, is_below_in_order};
 
@@ -53,8 +53,14 @@ impl<'a> Bound for KeyBound<'a> {
         common_prefix_len(bytes_of(self.keys, one), bytes_of(self.keys, other))
     }
 
+    #[inline(always)]
     fn common_prefix_len_with(&self, slot: Slot) -> usize {
         common_prefix_len(bytes_of(self.keys, slot), self.key)
+    }
+
+    #[inline(always)]
+    fn begins_as(&self, slot: Slot, count: usize) -> bool {
+        first(bytes_of(self.keys, slot), count) == first(self.key, count)
     }
 
     // The empty key is most often asked for: that of the first boundary.
@@ -83,4 +89,11 @@ fn bytes_of(keys: &Arena<()>, slot: Slot) -> &[u8]
         return &[];
     }
     keys.key(slot)
+}
+
+// Returns the first bytes, so many or all.
+fn first(bytes: &[u8], count: usize) -> &[u8]
+    ensures first { result.now ≡ take count bytes.now }
+{
+    &bytes[..count.min(bytes.len())]
 }

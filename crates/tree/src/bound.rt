@@ -48,6 +48,11 @@ pub trait Bound {
     fn common_prefix_len_with(&self, key: Slot) -> usize
         ensures common { (text : List ℕ) → bytes self.now key ≡ Some text → IsCommonPrefixLen result text (target self.now) };
 
+    /// Returns whether a key and the target have the same first bytes, as far as so many.
+    fn begins_as(&self, key: Slot, count: usize) -> bool
+        ensures same { (text : List ℕ) → bytes self.now key ≡ Some text
+            → IsTrue result ↔ (take count text ≡ take count (target self.now)) };
+
     /// Returns how many bytes a key and the target begin with in common, or none if an item of this key isn't below the bound.
     fn prefix_len_below(&self, key: Slot) -> Option<usize>
         ensures known { IsPrefixLen (bytes self.now) (below self.now) (target self.now) result key };

@@ -25,6 +25,7 @@ pub struct Reached {
 }
 
 /// Returns how many bytes the first key of a node and the target begin with in common, or none if that key isn't below the bound.
+#[inline(always)]
 pub fn common_prefix_len_at<P: Bound, const N: usize>(
     nodes: &Arena<Node<N>>,
     slot: Slot,

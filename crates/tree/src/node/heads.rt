@@ -15,7 +15,7 @@ use keys::same_bytes;
 // Where one key is empty, so few bytes with which the others begin in common don't count.
 const FEW: u16 = 6;
 
-// Of more bytes so many don't count then: a key that is sought before all the others may differ from them there.
+// Of more bytes so many don't count then: a key that is sought may differ from the others there.
 const UNSURE: u16 = 4;
 
 impl<const N: usize> Node<N> {

@@ -29,6 +29,7 @@ impl<const N: usize> Node<N> {
     }
 
     /// Returns how many of the entries are below the bound, as `lower_bound` does. `head` is what `head_for` returns for it.
+    #[inline(always)]
     pub fn lower_bound_with<P: Bound>(
         &self,
         bound: &P,
@@ -97,6 +98,7 @@ impl<const N: usize> Node<N> {
 
     /// Returns the head as `head_for` does. `agrees` tells that the target begins as all keys do, and may be false although it
     /// does.
+    #[inline(always)]
     pub fn head_given<P: Bound>(
         &self,
         agrees: bool,
@@ -124,8 +126,7 @@ impl<const N: usize> Node<N> {
         ensures agrees { IsTrue result → HasPrefix (P.bytes bound.now) (key_heads_of self.now) (P.target bound.now) }
     {
         let last = self.len() - 1;
-        self.heads[last] != 0
-            && bound.common_prefix_len_with(self.entries[last].key) >= self.prefix_len()
+        self.heads[last] != 0 && bound.begins_as(self.entries[last].key, self.prefix_len())
     }
 
     /// Returns whether the entry at an index is below the bound. `head` is that of the target, if it begins as all keys do.

@@ -1,5 +1,4 @@
 use Rattle.std.proofs.Common.{◌<◌, ◌-◌, ◌∙◌, inr, sym, get_or-take, length, length-take, arith}
-use Rattle.std.proofs.lemmas.Bool.{leb-true}
 use Rattle.tree.specs.Node.{entries_of}
 use Rattle.tree.proofs.HeadAt.{entry_at, entry_there, key_there, agrees_at}
 use Rattle.tree.proofs.node.Node.has_prefix_of_last.Goals as goal
@@ -14,9 +13,7 @@ returns-then-self-last-ne0 g c = record {
       let e = entry_at es last inside in
       let same = entry_there node.entries node.len last e.0 c.index-self-last.result e.1 in
       let own = get_or-take node.len node.heads last 0 (omega (arith, inside, length-take node.len node.entries)) in
-      let least = leb-true c.prefix_len.result c.common_prefix_len_with.result enough in
       agrees_at _ _ c.requires.headed last e.0.key _ (key_there es last e.0 e.1)
       (inr (λ zero. c.if-self-last-ne0.true (sym own ∙ zero)))
-      (λ text known long. (c.common_prefix_len_with.ensures.common text (cc) node.prefix_len long).0
-      (omega (arith, least, c.prefix_len.ensures.prefix_len)));
+      (λ text known long. rw (← c.prefix_len.ensures.prefix_len) ((c.begins_as.ensures.same text (cc)).0 enough));
 }
