@@ -146,12 +146,14 @@ impl<H, A: Allocator> Chunk<H, A> {
         part(&self.bytes, index * self.width, length)
     }
 
-    /// Reads the memory of a slot. The number that is returned says nothing.
+    /// Reads the memory of a slot that was given before. The number that is returned says nothing.
     pub(crate) fn read_ahead(&self, index: usize) -> u16 {
-        let length = self.lengths.get(index).copied().unwrap_or(FREE);
-        match self.bytes.get(index.saturating_mul(self.width)) {
-            Some(byte) => length ^ u16::from(*byte),
-            None => length,
+        let Some(length) = self.lengths.get(index) else {
+            return 0;
+        };
+        match self.bytes.get(index.wrapping_mul(self.width)) {
+            Some(byte) => *length ^ u16::from(*byte),
+            None => *length,
         }
     }
 

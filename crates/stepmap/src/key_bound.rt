@@ -1,7 +1,7 @@
 //! Bounds by keys, through boundaries whose keys lie in an arena.
 
 ghost use Rattle.arena.specs.Arena.{key_at};
-ghost use Rattle.std.specs.Prelude.{◌≡◌, take};
+ghost use Rattle.std.specs.Prelude.{◌≡◌, ◌/◌, take};
 ghost use Rattle.stepmap.specs.Stored.{bytes_at};
 ghost use Rattle.stepmap.specs.KeyBound.{slot_is_below, is_below_in_order};
 
@@ -37,12 +37,12 @@ impl<'a> Bound for KeyBound<'a> {
         }
     }
 
-    fn head(&self, prefix_len: usize) -> u64 {
-        head_behind(self.key, prefix_len)
+    fn head(&self, prefix_len: usize) -> u32 {
+        first_four(head_behind(self.key, prefix_len))
     }
 
-    fn head_of(&self, slot: Slot, prefix_len: usize) -> u64 {
-        head_behind(bytes_of(self.keys, slot), prefix_len)
+    fn head_of(&self, slot: Slot, prefix_len: usize) -> u32 {
+        first_four(head_behind(bytes_of(self.keys, slot), prefix_len))
     }
 
     fn is_empty(&self, slot: Slot) -> bool {
@@ -89,6 +89,13 @@ fn bytes_of(keys: &Arena<()>, slot: Slot) -> &[u8]
         return &[];
     }
     keys.key(slot)
+}
+
+// Returns the first four of the eight bytes of a head as one number.
+fn first_four(head: u64) -> u32
+    ensures upper_half { result ≡ head / 4294967296 }
+{
+    (head >> 32) as u32
 }
 
 // Returns the first bytes, so many or all.

@@ -36,7 +36,7 @@ pub const MAX_LIMIT: usize = 16_777_216;
 const _: () = prove!(MAX_LIMIT == 16_777_216);
 
 // How many entries a node of the tree has at most.
-const FAN_OUT: usize = 80;
+const FAN_OUT: usize = 128;
 
 /// How a sweep ended.
 #[derive(Clone, Copy, Debug, PartialEq, Eq, Hash)]

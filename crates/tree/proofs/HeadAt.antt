@@ -1,6 +1,6 @@
 -- What a node's heads tells of the key at an index.
 use Rattle.std.proofs.Common.{◌≡◌, ◌≢◌, ◌⊎◌, ℕ, ◌+◌, ◌-◌, ◌<◌, ◌≤◌, Bool, true, nat_lt, List, [], ◌∷◌, length, filter, get_or, take, slice_get, slice_index, Option, None, Some, refl, sym, ap, ◌∙◌, inl, inr, arith, length-take, get_or-take, lt-ltb, ltb-true}
-use Rattle.std.specs.Int.{w64, to_be_bytes}
+use Rattle.std.specs.Int.{w32, to_be_bytes}
 use Rattle.std.specs.List.{Contains}
 use Rattle.std.proofs.lemmas.List.Elements.{All-contains}
 use Rattle.std.proofs.lemmas.Bool.{cases_lt}
@@ -139,9 +139,9 @@ module _ (bytes : KeyBytes) (key_heads : KeyHeads) (h : AreHeads bytes key_heads
 
     -- How far a key below the bound and the target begin alike is told by its head, if that isn't the one of the target.
     pub common_at : (index key head count : ℕ) → slice_get key_heads.keys index ≡ Some key
-        → IsTargetHead bytes key_heads target head → is_below key ≡ true → head_of index ≢ head → count ≤ 8
-        → take count (to_be_bytes w64 (head_of index)) ≡ take count (to_be_bytes w64 head)
-        → (count < 8 → slice_index (to_be_bytes w64 (head_of index)) count ≢ slice_index (to_be_bytes w64 head) count)
+        → IsTargetHead bytes key_heads target head → is_below key ≡ true → head_of index ≢ head → count ≤ 4
+        → take count (to_be_bytes w32 (head_of index)) ≡ take count (to_be_bytes w32 head)
+        → (count < 4 → slice_index (to_be_bytes w32 (head_of index)) count ≢ slice_index (to_be_bytes w32 head) count)
         → (text : List ℕ) → bytes key ≡ Some text → IsCommonPrefixLen (n + count) text target
     common_at index key head count there is passed apart few alike differ text known =
         let k = key_at index key there in

@@ -1,13 +1,14 @@
 -- What the bytes with which a key and the target begin, and the heads of what stands behind, tell of the two.
-use Rattle.std.proofs.Common.{◌≡◌, ◌≢◌, ℕ, zero, suc, ◌+◌, ◌-◌, ◌<◌, ◌≤◌, Bool, nat_lt, List, [], ◌∷◌, ◌++◌, length, get_or, take, drop, replicate, slice_index, refl, sym, ap, ◌∙◌, inl, inr, arith, length-take, get_or-take, take-add}
-use Rattle.std.specs.Int.{w64, to_be_bytes}
+use Rattle.std.proofs.Common.{◌≡◌, ◌≢◌, ℕ, zero, suc, ◌+◌, ◌-◌, ◌/◌, ◌<◌, ◌≤◌, Bool, nat_lt, List, [], ◌∷◌, ◌++◌, length, get_or, take, drop, replicate, slice_index, refl, sym, ap, ◌∙◌, inl, inr, arith, length-take, get_or-take, take-add}
+use Rattle.std.specs.Int.{w32, to_be_bytes, from_be_bytes}
 use Rattle.std.proofs.lemmas.Bool.{cases_lt}
 use Rattle.std.proofs.lemmas.Bool.Decides.{nat_tests}
-use Rattle.std.proofs.lemmas.List.{take-take, take-append-le, take_all, take_more_same, drop-take, length-drop, get_or_append_left}
-use Rattle.std.proofs.lemmas.List.Elements.{All-drop}
+use Rattle.std.proofs.lemmas.List.{take-take, take-append-le, take_all, take_more_same, drop-take, length-drop, get_or_append_left, get_or_past}
+use Rattle.std.proofs.lemmas.List.Elements.{All-drop, All-take, All-append, All-replicate, All-get_or}
+use Rattle.std.proofs.lemmas.Nat.{be_bytes_4}
 use Rattle.keys.specs.Key.{IsBytes, IsBefore}
 use Rattle.keys.specs.Head.{first_eight, head_of}
-use Rattle.keys.proofs.callers.KeyHeads.{head_less, head_of-bytes, length-first_eight, behind_common, behind_shorter, behind_differing}
+use Rattle.keys.proofs.callers.KeyHeads.{head_less, length-first_eight, behind_common, behind_shorter, behind_differing}
 use Rattle.tree.specs.Heads.{head_behind, IsBelowInOrder, IsCommonPrefixLen}
 
 pub take_fewer : (m n : ℕ) (a b : List ℕ) → m ≤ n → take n a ≡ take n b → take m a ≡ take m b
@@ -63,6 +64,43 @@ module _ (shared n : ℕ) (first text target : List ℕ) (less : shared < n) (fi
         ),
       )
 
+first_eight-bytes : (a : List ℕ) → IsBytes a → (i : ℕ) → get_or (first_eight a) i 0 < 256
+first_eight-bytes a bytes i =
+    let all : IsBytes (first_eight a) =
+    All-take (λ byte. byte < 256) 8 (a ++ replicate 8 0) (All-append (λ byte. byte < 256) a (replicate 8 0) bytes
+    (All-replicate (λ byte. byte < 256) 8 0 (omega arith))) in
+    elim (cases_lt i (length (first_eight a))) [
+      | inl inside ↦ All-get_or (λ byte. byte < 256) (first_eight a) i 0 inside all
+      | inr past ↦ omega (arith, get_or_past (first_eight a) i 0 past)
+    ]
+
+-- The upper half of a head is the number that the first four bytes make, with zeros for those that are missing.
+head_number : (a : List ℕ) → IsBytes a → head_of a / 4294967296 ≡ from_be_bytes w32 (take 4 (first_eight a))
+unfolding head_of
+head_number a bytes =
+    let b = first_eight-bytes a bytes in
+    let same = λ (i : ℕ) (inside : i < 4). get_or-take 4 (first_eight a) i 0 inside in
+    omega (arith, b 0, b 1, b 2, b 3, b 4, b 5, b 6, b 7, same 0 (omega arith), same 1 (omega arith), same 2 (omega arith), same 3 (omega arith))
+
+-- It is written with these bytes,
+head_four : (a : List ℕ) → IsBytes a → to_be_bytes w32 (head_of a / 4294967296) ≡ take 4 (first_eight a)
+head_four a bytes =
+    let b = first_eight-bytes a bytes in
+    be_bytes_4 (take 4 (first_eight a)) (head_of a / 4294967296)
+    (omega (arith, length-take 4 (first_eight a), length-first_eight a))
+    (λ i. elim (cases_lt i 4) [
+      | inl inside ↦ omega (arith, get_or-take 4 (first_eight a) i 0 inside, b i)
+      | inr past ↦ omega (arith, get_or_past (take 4 (first_eight a)) i 0
+          (omega (arith, past, length-take 4 (first_eight a))))
+    ])
+    (head_number a bytes)
+
+-- and is the same where these are.
+same_four : (a b : List ℕ) → IsBytes a → IsBytes b → take 4 (first_eight a) ≡ take 4 (first_eight b)
+    → head_of a / 4294967296 ≡ head_of b / 4294967296
+same_four a b a_bytes b_bytes same =
+    head_number a a_bytes ∙ ap (from_be_bytes w32) same ∙ sym (head_number b b_bytes)
+
 take-first_eight : (n : ℕ) (a : List ℕ) → n ≤ 8 → n ≤ length a → take n (first_eight a) ≡ take n a
 take-first_eight n a few within = cc (take-take n 8 (a ++ replicate 8 0) few, take-append-le n a (replicate 8 0) within)
 
@@ -108,25 +146,36 @@ module _ (n : ℕ) (text target : List ℕ) (text_bytes : IsBytes text) (target_
       let s = All-drop (λ byte. byte < 256) n target target_bytes in
       let before = behind_common n text target long target_long same in
       let behind = behind_common n target text target_long long (sym same) in
-      grind (arith, nat_tests, head_less (rest text) (rest target) t s, head_less (rest target) (rest text) s t, order)
+      let less : head_behind n text < head_behind n target → IsBefore (rest text) (rest target) =
+      λ below. head_less (rest text) (rest target) t s (omega (arith, below)) in
+      let more : head_behind n target < head_behind n text → IsBefore (rest target) (rest text) =
+      λ above. head_less (rest target) (rest text) s t (omega (arith, above)) in
+      grind (arith, nat_tests, less, more, order)
 
   -- If the key isn't behind the target, the two begin alike as far as the bytes of the heads do.
-  pub common_by_heads : (m : ℕ) → m ≤ 8
-      → take m (to_be_bytes w64 (head_behind n text)) ≡ take m (to_be_bytes w64 (head_behind n target))
-      → (m < 8
-      → slice_index (to_be_bytes w64 (head_behind n text)) m ≢ slice_index (to_be_bytes w64 (head_behind n target)) m)
+  pub common_by_heads : (m : ℕ) → m ≤ 4
+      → take m (to_be_bytes w32 (head_behind n text)) ≡ take m (to_be_bytes w32 (head_behind n target))
+      → (m < 4
+      → slice_index (to_be_bytes w32 (head_behind n text)) m ≢ slice_index (to_be_bytes w32 (head_behind n target)) m)
       → (IsBefore target text → ⊥) → IsCommonPrefixLen (n + m) text target
-  unfolding head_of
   common_by_heads m few alike differ not_behind =
-      let t_is = head_of-bytes (rest text) (All-drop (λ byte. byte < 256) n text text_bytes) in
-      let s_is = head_of-bytes (rest target) (All-drop (λ byte. byte < 256) n target target_bytes) in
-      let eight : take m (first_eight (rest text)) ≡ take m (first_eight (rest target)) = cc in
-      elim (cases_lt m 8) [
+      let t = All-drop (λ byte. byte < 256) n text text_bytes in
+      let s = All-drop (λ byte. byte < 256) n target target_bytes in
+      let four : take m (take 4 (first_eight (rest text))) ≡ take m (take 4 (first_eight (rest target))) =
+      ap (take m) (sym (head_four (rest text) t)) ∙ alike ∙ ap (take m) (head_four (rest target) s) in
+      elim (cases_lt m 4) [
         | inr many ↦
-            let all = λ (a : List ℕ). take_all m (first_eight a) (omega (arith, length-first_eight a)) in
-            absurd (apart (cc (all (rest text), all (rest target))))
+            let whole : m ≡ 4 = omega (arith, many, few) in
+            let all = λ (a : List ℕ). take_all m (take 4 (first_eight a)) (omega (arith, length-take 4 (first_eight a))) in
+            absurd (apart (same_four (rest text) (rest target) t s (sym (all (rest text)) ∙ four ∙ all (rest target))))
         | inl less ↦
+            let eight : take m (first_eight (rest text)) ≡ take m (first_eight (rest target)) =
+            sym (take-take m 4 (first_eight (rest text)) few) ∙ four ∙ take-take m 4 (first_eight (rest target)) few in
+            let at : (a : List ℕ) → IsBytes a
+                → slice_index (to_be_bytes w32 (head_of a / 4294967296)) m ≡ get_or (first_eight a) m 0 =
+            λ a a_bytes. ap (λ (l : List ℕ). get_or l m 0) (head_four a a_bytes) ∙ get_or-take 4 (first_eight a) m 0 less in
             common_with_behind n m text target long same
-            (alike_in_eight m (rest text) (rest target) less eight (λ e. differ less (cc))
+            (alike_in_eight m (rest text) (rest target) (omega (arith, less)) eight
+            (λ e. differ less (at (rest text) t ∙ e ∙ sym (at (rest target) s)))
             (λ before. not_behind (behind_common n target text target_long long (sym same) ∙ before)))
       ]

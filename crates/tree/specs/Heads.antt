@@ -1,5 +1,5 @@
 -- What nodes know of the bytes of keys. This project's own.
-use Rattle.std.specs.Prelude.{◌≡◌, ◌⊎◌, ◌≤◌, ◌↔◌, ℕ, Bool, true, false, List, [], length, map, take, drop, Option, Some, slice_get, unwrap_or, IfSome, MatchOption}
+use Rattle.std.specs.Prelude.{◌≡◌, ◌⊎◌, ◌≤◌, ◌↔◌, ◌/◌, ℕ, Bool, true, false, List, [], length, map, take, drop, Option, Some, slice_get, unwrap_or, IfSome, MatchOption}
 use Rattle.std.specs.List.{All, AllZip, Contains}
 use Rattle.keys.specs.Key.{IsBytes, IsBefore}
 use Rattle.keys.specs.Head.{head_of}
@@ -22,9 +22,9 @@ pub record Begins (bytes : KeyBytes) (beginning : List ℕ) (key : ℕ) : Type 0
   pub are_bytes : IsBytes text
   pub begins : (text ≡ []) ⊎ (take (length beginning) text ≡ beginning)
 
--- the head of what stands in a key behind so many bytes
+-- the head of what stands in a key behind so many bytes: its first four bytes as a number, the upper half of a key head
 abbrev pub head_behind : ℕ → List ℕ → ℕ
-head_behind prefix_len text = head_of (drop prefix_len text)
+head_behind prefix_len text = head_of (drop prefix_len text) / 4294967296
 
 -- that of a key
 abbrev pub head_at : KeyBytes → ℕ → ℕ → ℕ

@@ -109,7 +109,7 @@ fn is_clear<P: Bound, Q: Bound, const N: usize>(
     index: usize,
     question: &Question<P, Q>,
     common_prefix_len: usize,
-    own: Option<u64>,
+    own: Option<u32>,
     clear: bool,
     look: bool,
 ) -> bool
@@ -139,8 +139,8 @@ pub fn end_head<P: Bound, Q: Bound, const N: usize>(
     node: &Node<N>,
     question: &Question<P, Q>,
     common_prefix_len: usize,
-    own: Option<u64>,
-) -> Option<u64>
+    own: Option<u32>,
+) -> Option<u32>
     requires searched { IsSearched (P.bytes question.now.from) (P.below question.now.from) (P.target question.now.from) node.now
         common_prefix_len own }
     ensures head { HasHead (Q.bytes question.now.to) (Q.target question.now.to) result (key_heads_of node.now) }

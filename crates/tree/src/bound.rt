@@ -25,12 +25,12 @@ pub trait Bound {
         ensures is_below { result ≡ below self.now key };
 
     /// Returns the head of the target, behind so many bytes.
-    fn head(&self, prefix_len: usize) -> u64
+    fn head(&self, prefix_len: usize) -> u32
         ensures head { result ≡ head_behind prefix_len (target self.now) }
         ensures are_bytes { IsBytes (target self.now) };
 
     /// Returns the head of a key, behind so many bytes.
-    fn head_of(&self, key: Slot, prefix_len: usize) -> u64
+    fn head_of(&self, key: Slot, prefix_len: usize) -> u32
         ensures head { (text : List ℕ) → bytes self.now key ≡ Some text → result ≡ head_behind prefix_len text };
 
     /// Returns whether a key is empty.

@@ -13,7 +13,7 @@ mod step;
 pub use step::Step;
 
 // Stands where there is no head of a key: no head is above it.
-const PADDING: u64 = u64::MAX;
+const PADDING: u32 = u32::MAX;
 
 /// Up to `N` entries. Contracts see them as the list `entries_of`.
 #[derive(Clone, Copy, Debug)]
@@ -23,7 +23,7 @@ pub struct Node<const N: usize> {
     prefix_len: u16,
     // The head of each key, behind these. Behind the heads of the keys stands the greatest number, so that a search need not look
     // at the length.
-    heads: [u64; N],
+    heads: [u32; N],
     entries: [Entry; N],
     ghost within: { len ≤ N },
     ghost padded: { (index : ℕ) → len ≤ index → get_or heads index PADDING ≡ PADDING },
@@ -62,7 +62,7 @@ impl<const N: usize> Node<N> {
     }
 
     // Returns the head of each key, behind what all begin with.
-    fn heads(&self) -> &[u64]
+    fn heads(&self) -> &[u32]
         ensures heads { result.now ≡ (key_heads_of self.now).heads }
     {
         &self.heads[..self.len]
@@ -131,7 +131,7 @@ impl<const N: usize> Node<N> {
     }
 
     /// Puts these entries, with their heads, in place of those from one index up to another.
-    pub fn splice(&mut self, from: usize, to: usize, new: &[Entry], heads: &[u64])
+    pub fn splice(&mut self, from: usize, to: usize, new: &[Entry], heads: &[u32])
         requires ordered { from ≤ to }
         requires within { to ≤ length (entries_of self.old) }
         requires same_len { length heads.now ≡ length new.now }
@@ -149,7 +149,7 @@ impl<const N: usize> Node<N> {
     }
 
     /// Puts entries of another node, with their heads, behind these.
-    pub fn append(&mut self, more: &[Entry], heads: &[u64])
+    pub fn append(&mut self, more: &[Entry], heads: &[u32])
         requires same_len { length heads.now ≡ length more.now }
         requires room { length (entries_of self.old) + length more.now ≤ N }
         ensures entries { (entries_of self.new) ≡ (entries_of self.old) ++ more.now }
@@ -165,7 +165,7 @@ impl<const N: usize> Node<N> {
     }
 
     /// Puts entries of another node, with their heads, before these.
-    pub fn prepend(&mut self, more: &[Entry], heads: &[u64])
+    pub fn prepend(&mut self, more: &[Entry], heads: &[u32])
         requires same_len { length heads.now ≡ length more.now }
         requires room { length (entries_of self.old) + length more.now ≤ N }
         ensures entries { (entries_of self.new) ≡ more.now ++ (entries_of self.old) }

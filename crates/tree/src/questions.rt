@@ -27,7 +27,7 @@ use arrayvec::ArrayVec;
 pub struct Look {
     pub way: Approach,
     /// The head there of the target of the first bound, if it is known to begin as all keys of the leaf do.
-    pub own: Option<u64>,
+    pub own: Option<u32>,
 }
 
 /// Looks at the leaf to which a way leads, for the first time.
@@ -55,7 +55,7 @@ fn leaf_told<P: Bound, Q: Bound, const N: usize>(
     nodes: &Arena<Node<N>>,
     near: Near,
     question: &Question<P, Q>,
-    own: Option<u64>,
+    own: Option<u32>,
 ) -> Option<bool>
     requires asked { IsAsked nodes.now (least_of N) 0 near.leaf (P.bytes question.now.from) (P.below question.now.from)
         (Q.below question.now.to) }
@@ -82,7 +82,7 @@ fn end_in<P: Bound, Q: Bound, const N: usize>(
     begin: usize,
     question: &Question<P, Q>,
     common_prefix_len: usize,
-    own: Option<u64>,
+    own: Option<u32>,
 ) -> usize
     requires searched { IsSearched (P.bytes question.now.from) (P.below question.now.from) (P.target question.now.from) node.now
         common_prefix_len own }

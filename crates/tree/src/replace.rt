@@ -56,7 +56,7 @@ pub fn split<P: Bound, const N: usize>(
     from: usize,
     to: usize,
     new: &[Entry],
-    heads: &[u64],
+    heads: &[u32],
     alike: bool,
     bound: &P,
 ) -> Slot

@@ -1,6 +1,7 @@
 //! The heads of a node's keys, behind the prefix that all of them have in common: how they are computed and kept.
 
-ghost use Rattle.std.specs.Prelude.{◌≡◌, ◌≢◌, ◌<◌, ◌≤◌, ◌+◌, ◌-◌, ◌*◌, ◌++◌, ℕ, List, [], length, take, drop, slice_set, Some, IfSome, IsTrue};
+ghost use Rattle.std.specs.Prelude.{◌≡◌, ◌≢◌, ◌<◌, ◌≤◌, ◌+◌, ◌-◌, ◌*◌, ◌++◌, ℕ, List, [], length, take, drop, slice_index, slice_set, Some, IfSome, IsTrue};
+ghost use Rattle.std.specs.Int.{w32, to_be_bytes};
 ghost use Rattle.std.specs.List.{All, Contains};
 ghost use Rattle.tree.specs.Heads.{HasPrefix, AreHeads, IsHeadBeside, IsKnown, Begins};
 ghost use Rattle.tree.specs.Node.{entries_of, key_heads_of, keys_of};
@@ -12,11 +13,14 @@ use crate::entry::Entry;
 use arena::Slot;
 use keys::same_bytes;
 
+// Where the first and the last head begin with so many bytes in common, heads behind more bytes tell more.
+const NARROW: usize = 3;
+
 // Where one key is empty, so few bytes with which the others begin in common don't count.
-const FEW: u16 = 6;
+const FEW: u16 = 2;
 
 // Of more bytes so many don't count then: a key that is sought may differ from the others there.
-const UNSURE: u16 = 4;
+const UNSURE: u16 = 1;
 
 impl<const N: usize> Node<N> {
     /// Returns how many bytes all keys but an empty one begin with in common, or fewer.
@@ -86,7 +90,7 @@ impl<const N: usize> Node<N> {
         from: usize,
         to: usize,
         new: &[Entry],
-        heads: &[u64],
+        heads: &[u32],
         alike: bool,
         bound: &P,
     )
@@ -108,7 +112,7 @@ impl<const N: usize> Node<N> {
         from: usize,
         to: usize,
         new: &[Entry],
-        heads: &[u64],
+        heads: &[u32],
         alike: bool,
         bound: &P,
     ) -> Node<N>
@@ -190,7 +194,7 @@ impl<const N: usize> Node<N> {
     }
 
     /// Returns the head of a key that is the one at an index, or begins as all keys do.
-    pub fn head_of<P: Bound>(&self, key: Slot, index: usize, bound: &P) -> Option<u64>
+    pub fn head_of<P: Bound>(&self, key: Slot, index: usize, bound: &P) -> Option<u32>
         requires headed { AreHeads (P.bytes bound.now) (key_heads_of self.now) }
         requires within { index < length (entries_of self.now) }
         requires known { IsKnown (P.bytes bound.now) key }
@@ -217,14 +221,22 @@ impl<const N: usize> Node<N> {
         }
     }
 
-    // Returns whether the first and the last head begin with six bytes in common. Heads behind more bytes tell more
-    // then.
+    // Returns whether the first and the last head begin with so many bytes in common that heads behind more bytes tell more.
     fn is_narrow(&self) -> bool {
         match (self.heads.first(), self.heads[..self.len].last()) {
-            (Some(first), Some(last)) => same_bytes(*first, *last) >= 6,
+            (Some(first), Some(last)) => same_head_bytes(*first, *last) >= NARROW,
             _ => false,
         }
     }
+}
+
+/// Returns how many bytes two heads begin with in common.
+pub fn same_head_bytes(a: u32, b: u32) -> usize
+    ensures within { result ≤ 4 }
+    ensures same { take result (to_be_bytes w32 a) ≡ take result (to_be_bytes w32 b) }
+    ensures differ { result < 4 → slice_index (to_be_bytes w32 a) result ≢ slice_index (to_be_bytes w32 b) result }
+{
+    same_bytes(u64::from(a) << 32, u64::from(b) << 32).min(4)
 }
 
 // Returns how many of the bytes count with which all keys but an empty one begin in common.

@@ -10,7 +10,6 @@ use super::Node;
 use crate::bound::Bound;
 use crate::entry::Entry;
 use crate::search::lower_bound;
-use keys::same_bytes;
 
 // How many heads a search looks at side by side.
 const BLOCK: usize = 8;
@@ -34,7 +33,7 @@ impl<const N: usize> Node<N> {
         &self,
         bound: &P,
         common_prefix_len: Option<usize>,
-        head: Option<u64>,
+        head: Option<u32>,
     ) -> usize
         requires can_step { CanStepBy (P.bytes bound.now) (P.below bound.now) (P.target bound.now) self.now
             common_prefix_len head }
@@ -48,7 +47,7 @@ impl<const N: usize> Node<N> {
 
     /// Returns how many of the entries are below the bound. `head` is that of the target, if it begins as all keys do.
     #[inline(always)]
-    pub fn lower_bound_by_head<P: Bound>(&self, bound: &P, head: Option<u64>) -> usize
+    pub fn lower_bound_by_head<P: Bound>(&self, bound: &P, head: Option<u32>) -> usize
         requires can_find { CanFind (P.bytes bound.now) (P.below bound.now) self.now }
         requires head { HasHead (P.bytes bound.now) (P.target bound.now) head (key_heads_of self.now) }
         requires none { head ≡ None → get_or (key_heads_of self.now).heads 0 0 ≢ 0
@@ -78,7 +77,7 @@ impl<const N: usize> Node<N> {
     /// Returns the head of the target behind the bytes that all keys begin with, if it begins with them, too. The first key and the
     /// target begin with `common_prefix_len` bytes in common, at least, unless that key is empty.
     #[inline(always)]
-    pub fn head_for<P: Bound>(&self, bound: &P, common_prefix_len: usize) -> Option<u64>
+    pub fn head_for<P: Bound>(&self, bound: &P, common_prefix_len: usize) -> Option<u32>
         requires headed { AreHeads (P.bytes bound.now) (key_heads_of self.now) }
         requires some { 0 < length (entries_of self.now) }
         requires shared { (e : Entry) (text : List ℕ) → slice_get (entries_of self.now) 0 ≡ Some e
@@ -104,7 +103,7 @@ impl<const N: usize> Node<N> {
         agrees: bool,
         bound: &P,
         common_prefix_len: usize,
-    ) -> Option<u64>
+    ) -> Option<u32>
         requires headed { AreHeads (P.bytes bound.now) (key_heads_of self.now) }
         requires some { 0 < length (entries_of self.now) }
         requires agrees { IsTrue agrees → HasPrefix (P.bytes bound.now) (key_heads_of self.now) (P.target bound.now) }
@@ -131,7 +130,7 @@ impl<const N: usize> Node<N> {
 
     /// Returns whether the entry at an index is below the bound. `head` is that of the target, if it begins as all keys do.
     #[inline(always)]
-    pub fn is_below_at<P: Bound>(&self, index: usize, bound: &P, head: Option<u64>) -> bool
+    pub fn is_below_at<P: Bound>(&self, index: usize, bound: &P, head: Option<u32>) -> bool
         requires headed { AreHeads (P.bytes bound.now) (key_heads_of self.now) }
         requires within { index < length (entries_of self.now) }
         requires head { HasHead (P.bytes bound.now) (P.target bound.now) head (key_heads_of self.now) }
@@ -146,7 +145,7 @@ impl<const N: usize> Node<N> {
 
     /// Returns how many of the entries are below the bound, of which at least so many are.
     #[inline(always)]
-    pub fn lower_bound_from<P: Bound>(&self, from: usize, bound: &P, head: Option<u64>) -> usize
+    pub fn lower_bound_from<P: Bound>(&self, from: usize, bound: &P, head: Option<u32>) -> usize
         requires can_find { CanFind (P.bytes bound.now) (P.below bound.now) self.now }
         requires head { HasHead (P.bytes bound.now) (P.target bound.now) head (key_heads_of self.now) }
         requires least { from ≤ length (filter (λ e. P.below bound.now e.key) (entries_of self.now)) }
@@ -164,7 +163,7 @@ impl<const N: usize> Node<N> {
 
     // Returns the index of the first entry, from this index on, whose head isn't below this one, and that of the
     // first one behind it whose head is above it. So the entries that have this head stand between these two.
-    fn tied(&self, from: usize, head: u64) -> (usize, usize)
+    fn tied(&self, from: usize, head: u32) -> (usize, usize)
         requires from { from ≤ length (entries_of self.now) }
         ensures tied { AreTied self.now head from result.0 result.1 }
     {
@@ -182,7 +181,7 @@ impl<const N: usize> Node<N> {
 
     /// Returns how many of the entries are below the bound, of which at most so many are. It looks at these one by one, from the
     /// last one on.
-    pub fn lower_bound_back<P: Bound>(&self, to: usize, bound: &P, head: Option<u64>) -> usize
+    pub fn lower_bound_back<P: Bound>(&self, to: usize, bound: &P, head: Option<u32>) -> usize
         requires can_find { CanFind (P.bytes bound.now) (P.below bound.now) self.now }
         requires head { HasHead (P.bytes bound.now) (P.target bound.now) head (key_heads_of self.now) }
         requires within { to ≤ length (entries_of self.now) }
@@ -200,7 +199,7 @@ impl<const N: usize> Node<N> {
 // Returns an index behind a head that is below this one, or 0. Where the heads are in order and blocks hold all of them, it is
 // how many are below. It looks at the first head of each block, and then at one block, each time at all of them, and is written
 // without a branch that depends on a head.
-fn heads_below<const N: usize>(heads: &[u64; N], head: u64) -> usize
+fn heads_below<const N: usize>(heads: &[u32; N], head: u32) -> usize
     ensures within { result ≤ N }
     ensures below { 0 < result → get_or heads.now (result - 1) 0 < head }
     ensures filled { 0 < result → get_or heads.now (result - 1) 0 ≢ PADDING }

@@ -6,9 +6,9 @@ ghost use Rattle.tree.specs.Heads.{AreHeads, IsPrefixLenAt};
 ghost use Rattle.tree.specs.Node.{entries_of, key_heads_of};
 
 use super::Node;
+use super::heads::same_head_bytes;
 use crate::bound::Bound;
 use crate::entry::Entry;
-use keys::same_bytes;
 
 /// Where a search goes on in a node.
 #[derive(Clone, Copy, Debug)]
@@ -31,7 +31,7 @@ impl<const N: usize> Node<N> {
         if self.prefix_len == 0 {
             let head = bound.head(0);
             if self.heads[0] < head {
-                return Some(same_bytes(self.heads[0], head));
+                return Some(same_head_bytes(self.heads[0], head));
             }
         }
         bound.prefix_len_below(self.entries[0].key)
@@ -90,7 +90,7 @@ impl<const N: usize> Node<N> {
     }
 
     // Returns whether a head falls behind that of the entry at an index, and before the next one, if there is one.
-    fn falls_behind(&self, index: usize, head: u64) -> bool
+    fn falls_behind(&self, index: usize, head: u32) -> bool
         ensures within { IsTrue result → index < length (entries_of self.now) }
         ensures behind { IsTrue result → get_or (key_heads_of self.now).heads index 0 < head }
         ensures before { IsTrue result → index + 1 < length (entries_of self.now)
@@ -106,7 +106,7 @@ impl<const N: usize> Node<N> {
     /// Finds the last entry below the bound, where the first one is. `common_prefix_len` is how many bytes the first key and the
     /// target begin with in common. `head` is what `head_for` returns for it.
     #[inline(always)]
-    pub fn step_by<P: Bound>(&self, bound: &P, common_prefix_len: usize, head: Option<u64>) -> Step
+    pub fn step_by<P: Bound>(&self, bound: &P, common_prefix_len: usize, head: Option<u32>) -> Step
         requires can_step { CanStepBy (P.bytes bound.now) (P.below bound.now) (P.target bound.now) self.now
             (Some common_prefix_len) head }
         ensures step { IsStep (P.bytes bound.now) (P.below bound.now) (P.target bound.now) self.now result }
@@ -127,7 +127,7 @@ impl<const N: usize> Node<N> {
         index: usize,
         bound: &P,
         common_prefix_len: usize,
-        head: Option<u64>,
+        head: Option<u32>,
     ) -> usize
         requires headed { AreHeads (P.bytes bound.now) (key_heads_of self.now) }
         requires within { index < length (entries_of self.now) }
@@ -151,6 +151,6 @@ impl<const N: usize> Node<N> {
         if self.heads[index] == head {
             return bound.common_prefix_len_with(self.entries[index].key);
         }
-        self.prefix_len() + same_bytes(self.heads[index], head)
+        self.prefix_len() + same_head_bytes(self.heads[index], head)
     }
 }

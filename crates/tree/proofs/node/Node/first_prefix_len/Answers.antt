@@ -21,9 +21,9 @@ returns-then-self-head g c = record {
       let own = get_or-take node.len node.heads 0 0 (omega (arith, c.requires.some, length-take node.len node.entries)) in
       let less : get_or (key_heads_of node).heads 0 0 < head = omega (arith, own, c.if-self-head.true) in
       let passed = less_passes _ _ h _ _ order 0 e.key head at is (lt-ltb (get_or (key_heads_of node).heads 0 0) head less) in
-      let same = c.same_bytes.ensures in
-      let common = common_at _ _ h _ _ order 0 e.key head c.same_bytes.result at is passed
+      let same = c.same_head_bytes.ensures in
+      let common = common_at _ _ h _ _ order 0 e.key head c.same_head_bytes.result at is passed
       (λ same. absurd (omega (arith, same, less))) same.within (rw own same.same) (λ few e. same.differ few (cc)) in
-      let sum : node.prefix_len + c.same_bytes.result ≡ c.same_bytes.result = omega (arith, none) in
+      let sum : node.prefix_len + c.same_head_bytes.result ≡ c.same_head_bytes.result = omega (arith, none) in
       (passed, rw sum at common);
 }
