@@ -62,7 +62,9 @@ impl<A: Allocator> SpareSlots<A> {
     }
 
     /// Returns the slots. The last is given next.
-    pub(crate) fn slots(&self) -> &[Slot] {
+    pub(crate) fn slots(&self) -> &[Slot]
+        ensures slots { result.now ≡ self.now.slots }
+    {
         &self.slots
     }
 

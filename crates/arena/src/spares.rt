@@ -75,7 +75,10 @@ impl<A: Allocator + Copy> Spares<A> {
     }
 
     /// Returns the slots of the size. The last is given next.
-    pub(crate) fn slots(&self, size: usize) -> &[Slot] {
+    pub(crate) fn slots(&self, size: usize) -> &[Slot]
+        requires size { size < SIZES }
+        ensures slots { result.now ≡ (spare_at self.now size).slots }
+    {
         match self.lists.get(size) {
             Some(list) => list.slots(),
             None => &[],
