@@ -90,8 +90,11 @@ head_four a bytes =
     (omega (arith, length-take 4 (first_eight a), length-first_eight a))
     (λ i. elim (cases_lt i 4) [
       | inl inside ↦ omega (arith, get_or-take 4 (first_eight a) i 0 inside, b i)
-      | inr past ↦ omega (arith, get_or_past (take 4 (first_eight a)) i 0
-          (omega (arith, past, length-take 4 (first_eight a))))
+      | inr past ↦ omega (
+        arith,
+        get_or_past (take 4 (first_eight a)) i 0
+            (omega (arith, past, length-take 4 (first_eight a))),
+      )
     ])
     (head_number a bytes)
 
@@ -172,7 +175,7 @@ module _ (n : ℕ) (text target : List ℕ) (text_bytes : IsBytes text) (target_
             let eight : take m (first_eight (rest text)) ≡ take m (first_eight (rest target)) =
             sym (take-take m 4 (first_eight (rest text)) few) ∙ four ∙ take-take m 4 (first_eight (rest target)) few in
             let at : (a : List ℕ) → IsBytes a
-                → slice_index (to_be_bytes w32 (head_of a / 4294967296)) m ≡ get_or (first_eight a) m 0 =
+            → slice_index (to_be_bytes w32 (head_of a / 4294967296)) m ≡ get_or (first_eight a) m 0 =
             λ a a_bytes. ap (λ (l : List ℕ). get_or l m 0) (head_four a a_bytes) ∙ get_or-take 4 (first_eight a) m 0 less in
             common_with_behind n m text target long same
             (alike_in_eight m (rest text) (rest target) (omega (arith, less)) eight

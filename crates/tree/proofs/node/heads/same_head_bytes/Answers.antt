@@ -31,8 +31,8 @@ returns c =
       differ = λ less e.
           let all : m ≡ r = omega (arith, c.min.ensures, less) in
           let at = λ (h : ℕ). ap (λ (l : List ℕ). get_or l m 0) (upper_half h)
-              ∙ get_or-take 4 (to_be_bytes w64 (h * 4294967296)) m 0 less
-              ∙ ap (λ k. get_or (to_be_bytes w64 (h * 4294967296)) k 0) all in
+          ∙ get_or-take 4 (to_be_bytes w64 (h * 4294967296)) m 0 less
+          ∙ ap (λ k. get_or (to_be_bytes w64 (h * 4294967296)) k 0) all in
           c.same_bytes.ensures.differ (omega (arith, all, less))
           (ap (λ x. get_or (to_be_bytes w64 x) r 0) a_is ∙ sym (at a) ∙ e ∙ at b
           ∙ sym (ap (λ x. get_or (to_be_bytes w64 x) r 0) b_is));
