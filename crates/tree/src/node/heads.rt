@@ -14,7 +14,7 @@ use arena::Slot;
 use keys::same_bytes;
 
 // Where the first and the last head begin with so many bytes in common, heads behind more bytes tell more.
-const NARROW: usize = 3;
+const NARROW: usize = 2;
 
 // Where one key is empty, so few bytes with which the others begin in common don't count.
 const FEW: u16 = 2;
