@@ -1,16 +1,19 @@
 -- A subtree that stays as it is, and a leaf that is changed where it lies.
-use Rattle.std.proofs.Common.{◌≡◌, ℕ, ℤ, ◌∙◌, Bool, List, [], ◌∷◌, Option, None, Some, refl, sym, subst, arith}
-use Rattle.arena.specs.Arena.{Arena, header_at, with_header}
+use Rattle.std.proofs.Common.{◌≡◌, ℕ, ◌∙◌, Bool, List, [], ◌∷◌, Option, None, Some, refl, arith}
+use Rattle.std.proofs.lemmas.Option.{IfSome_then}
+use Rattle.arena.specs.Arena.{Arena, IsLive, header_at, with_header}
 use Rattle.tree.specs.declared.entry.Entry.{Entry}
 use Rattle.tree.specs.declared.node.Node.{Node}
 use Rattle.tree.specs.declared.walk.Outcome.{Outcome}
+use Rattle.tree.specs.declared.walk.RaisedLeaf.{RaisedLeaf}
 use Rattle.tree.specs.declared.walk.Outcome.TheVariants.{Same, Raised, Changed}
 use Rattle.tree.specs.Finding.{CanFind, CanStep}
 use Rattle.tree.specs.Heads.{KeyBytes, AllAreHeads, AreHeads}
 use Rattle.tree.specs.Node.{key_heads_of, all_heads_of}
 use Rattle.tree.specs.Item.{Item}
 use Rattle.tree.specs.Overwrite.{IsPartOfPartitioned}
-use Rattle.tree.specs.Replace.{slots_with, Changes}
+use Rattle.tree.specs.Rebalancing.{IsStored}
+use Rattle.tree.specs.Replace.{slot_taken, slots_with, Changes, IsKeyless}
 use Rattle.tree.specs.Subtree.{entries_at, items_in, slots_in}
 use Rattle.tree.specs.Walk.{CanChange, CanChangeLeaf, IsChanged, IsRaisedAt, added_by}
 use Rattle.tree.proofs.callers.Times.{once_if_distinct}
@@ -26,7 +29,7 @@ pub unchanged : {N : ℕ} (bytes : KeyBytes) (nodes : Arena (Node N)) (height sl
     → AllAreHeads bytes (all_heads_of nodes) → IsChanged bytes nodes nodes height slot Same
 unchanged bytes nodes height slot can headed = record {
   same = λ _. refl;
-  raised = λ version e. absurd (cc);
+  raised = λ leaf e. absurd (cc);
   subtree = can.subtree;
   neighbour = tt;
   filled = tt;
@@ -37,35 +40,49 @@ unchanged bytes nodes height slot can headed = record {
   headed = headed;
 }
 
--- A leaf that is changed where it lies.
-pub leaf_put : {N : ℕ} (bytes : KeyBytes) (old new : Arena (Node N)) (slot : ℕ) (node : Node N) (outcome : Outcome)
-    → new ≡ with_header old slot node → CanChange old 0 slot → AllAreHeads bytes (all_heads_of old)
-    → AreHeads bytes (key_heads_of node) → added_by outcome ≡ None → (outcome ≡ Same → new ≡ old)
-    → ((version : ℤ) → outcome ≡ Raised version → IsRaisedAt old new 0 slot version)
-    → IsChanged bytes old new 0 slot outcome
-leaf_put {N} bytes old new slot node outcome put can all headed none same raised =
-    let changes = changes_if_moves old new (slot ∷ []) (slot ∷ [])
-    (put_moves old new slot node put can.subtree can.keyless) in
+-- A node whose header is put is stored.
+pub put_stored : {N : ℕ} {bytes : KeyBytes} (old : Arena (Node N)) (slot : ℕ) (node : Node N) → IsLive old slot → IsKeyless old
+    → AllAreHeads bytes (all_heads_of old) → AreHeads bytes (key_heads_of node)
+    → IsStored bytes old (with_header old slot node) slot None
+put_stored {N} {bytes} old slot node live keyless all headed =
+    let new = with_header old slot node in
+    let changes = changes_if_moves old new (slot ∷ []) (slot ∷ []) (put_moves old new slot node refl live keyless) in
     record {
-      same = same;
-      raised = raised;
-      subtree = put_live old new slot node put;
-      neighbour = rw none tt;
-      filled = rw none tt;
-      few_less = λ high. absurd (omega (arith, high));
-      changes = subst (λ o. Changes old new (slot ∷ []) (slots_with new 0 slot o)) (sym none) changes;
+      live = put_live old new slot node refl;
+      live_added = tt;
+      changes = changes;
       taken = omega (arith, changes.live, changes.spare);
-      headed = headed_header bytes old new slot node put all headed;
+      filled = tt;
+      headed = headed_header bytes old new slot node refl all headed;
     }
 
--- likewise where nothing is told of its first key
+-- A leaf that is stored, and its right neighbour if it is split.
+pub leaf_stored : {N : ℕ} {bytes : KeyBytes} {old new : Arena (Node N)} {slot : ℕ} (outcome : Outcome) → CanChange old 0 slot
+    → IsStored bytes old new slot (added_by outcome) → (outcome ≡ Same → new ≡ old)
+    → ((leaf : RaisedLeaf) → outcome ≡ Raised leaf → IsRaisedAt old new 0 slot leaf) → IsChanged bytes old new 0 slot outcome
+leaf_stored {N} {bytes} {old} {new} {slot} outcome can stored same raised = record {
+  same = same;
+  raised = raised;
+  subtree = stored.live;
+  neighbour = stored.live_added;
+  filled = IfSome_then (added_by outcome) stored.filled
+      (λ s half. (omega (arith, half.left, can.fan_out), omega (arith, half.right, can.fan_out)));
+  few_less = λ high. absurd (omega (arith, high));
+  changes = (elim (added_by outcome) as (λ o. Changes old new (slot ∷ []) (slot ∷ slot_taken o)
+      → Changes old new (slot ∷ []) (slots_with new 0 slot o)) [ None ↦ λ c. c | Some s ↦ λ c. c ]) stored.changes;
+  taken = omega (arith, stored.taken);
+  headed = stored.headed;
+}
+
+-- A leaf that is changed where it lies, where nothing is told of its first key.
 pub leaf_changed : {N : ℕ} {bytes : KeyBytes} {is_below : ℕ → Bool} {target : List ℕ} {Wants : List Item → Type 0}
     {nodes : Arena (Node N)} {slot : ℕ} {shared : Option ℕ} {taken : List Entry} (node : Node N)
     → CanChangeLeaf bytes is_below target Wants nodes 0 slot shared taken → AreHeads bytes (key_heads_of node)
     → IsChanged bytes nodes (with_header nodes slot node) 0 slot Changed
 leaf_changed node can headed =
-    leaf_put _ _ _ _ node Changed refl can.changeable can.searched.headed headed refl (λ e. absurd (cc))
-    (λ version e. absurd (cc))
+    leaf_stored Changed can.changeable
+    (put_stored _ _ node can.changeable.subtree can.changeable.keyless can.searched.headed headed) (λ e. absurd (cc))
+    (λ leaf e. absurd (cc))
 
 -- In a leaf that may be changed, and that was read, the bound can be sought.
 pub leaf_can_step : {N : ℕ} {bytes : KeyBytes} {is_below : ℕ → Bool} {target : List ℕ} {Wants : List Item → Type 0}

@@ -5,9 +5,11 @@ use Rattle.std.proofs.lemmas.List.Elements.{All-nil, All-cons, All-head, All-tai
 use Rattle.arena.specs.Arena.{Arena, IsLive, record_at}
 use Rattle.tree.specs.declared.entry.Entry.{Entry}
 use Rattle.tree.specs.declared.node.Node.{Node}
+use Rattle.tree.specs.declared.walk.RaisedLeaf.{RaisedLeaf}
 use Rattle.tree.specs.Item.{item_of}
 use Rattle.tree.specs.Subtree.{entries_at, items_in, slots_in, IsChild, IsSubtree}
 use Rattle.tree.specs.Replace.{AreChildren, items_of, slots_of}
+use Rattle.tree.specs.Walk.{IsRaisedIn}
 use Rattle.tree.proofs.callers.Times.{none_or_some, once_cases, times, once_same, times-append}
 
 module _ {N : ℕ} where
@@ -63,6 +65,13 @@ module _ {N : ℕ} where
     slots_same (suc height) slot agree =
         let below = each_same height _ _ (slots_same height) _ (agree_below height slot agree) in
         rw (agree_own (suc height) slot agree) (ap (λ xs. slot ∷ xs) below)
+
+    pub raised_same : (leaf : RaisedLeaf) (height slot : ℕ) → Agree a b (slots_in a height slot) → IsRaisedIn a leaf height slot
+        → IsRaisedIn b leaf height slot
+    raised_same leaf zero slot agree there = there
+    raised_same leaf (suc height) slot agree (k, e, within, is, h) =
+        let below = rw is at (agree_below height slot agree k e within) in
+        rw (agree_own (suc height) slot agree) (k, e, within, is, (h.0, raised_same leaf height e.child below h.1))
 
     pub live_same : (slot : ℕ) → record_at b slot ≡ record_at a slot → IsLive a slot → IsLive b slot
     live_same slot e live = ap is_some e ∙ live

@@ -42,12 +42,14 @@ pub mod Placing
 pub mod Reaching
 pub mod Replacing
 pub mod Rooting
+pub mod RunWritten
 pub mod Sharing
 pub mod Spans
 pub mod Splicing
 pub mod Stepping
 pub mod Storing
 pub mod Telling
+pub mod RaisedLeaves
 pub mod Removing
 pub mod Told
 pub mod ToldKeys

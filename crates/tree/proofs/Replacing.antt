@@ -1,5 +1,5 @@
 -- The entries of a node once a child was changed or split.
-use Rattle.std.proofs.Common.{◌≡◌, ℕ, ◌+◌, ◌≤◌, Bool, List, [], ◌∷◌, length, take, drop, arith}
+use Rattle.std.proofs.Common.{◌≡◌, ℕ, ◌+◌, ◌≤◌, List, [], ◌∷◌, length, take, drop, arith}
 use Rattle.std.proofs.lemmas.List.Elements.{All-nil, All-cons, All-take, All-drop}
 use Rattle.arena.specs.Arena.{Arena}
 use Rattle.tree.specs.declared.entry.Entry.{Entry}
@@ -29,10 +29,9 @@ module _ {N : ℕ} where
       All-cons Right t (u ∷ []) first (All-cons Right u [] second (All-nil Right))
 
   -- Others stand in place of the child's entry.
-  pub loose_at : {a b : Arena (Node N)} {height lower slot : ℕ} {is_below : ℕ → Bool} {i x : ℕ}
-      (at : IsAt a height lower slot is_below i x) (new : List Entry) → Moves a b (slots_in a lower x) (slots_of b lower new)
+  pub loose_at : {a b : Arena (Node N)} {height lower slot i x : ℕ} (at : IsAt a height lower slot i x) (new : List Entry) → Moves a b (slots_in a lower x) (slots_of b lower new)
       → Loose a b (least_of N) lower (take i (entries_at a slot)) (here at ∷ []) (drop (i + 1) (entries_at a slot)) new
-  loose_at {a} {b} {height} {lower} {slot} {is_below} {i} at new moves =
+  loose_at {a} {b} {height} {lower} {slot} {i} at new moves =
       let Right = IsRight a (least_of N) lower in
       let es = entries_at a slot in
       loose a b (least_of N) lower (take i es) (here at ∷ []) (drop (i + 1) es) new

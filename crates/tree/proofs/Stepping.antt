@@ -1,23 +1,22 @@
--- A node above the leaves, and the child at which a bound goes on.
-use Rattle.std.proofs.Common.{◌≡◌, ℕ, suc, ◌+◌, ◌<◌, ◌≤◌, Bool, List, [], ◌∷◌, ◌++◌, length, append-nil, get_or, take, drop, sym, ap, ◌∙◌, arith}
+-- A node above the leaves, and one of its children.
+use Rattle.std.proofs.Common.{◌≡◌, ℕ, suc, ◌+◌, ◌<◌, ◌≤◌, List, [], ◌∷◌, ◌++◌, length, append-nil, get_or, take, drop, sym, ap, ◌∙◌, arith}
 use Rattle.arena.specs.Arena.{Arena, IsLive, record_at}
 use Rattle.tree.specs.declared.entry.Entry.{Entry}
 use Rattle.tree.specs.declared.node.Node.{Node}
 use Rattle.tree.specs.Item.{Item}
-use Rattle.tree.specs.Path.{index_in}
 use Rattle.tree.specs.Subtree.{entries_at, items_in, slots_in, IsSubtree}
 use Rattle.tree.specs.Tree.{least_of}
 use Rattle.tree.specs.Walk.{CanChange}
 use Rattle.tree.specs.Replace.{child_at, items_of, slots_of}
-use Rattle.tree.proofs.callers.Times.{times, once, once_same}
+use Rattle.tree.proofs.callers.Times.{times, once, once_same, distinct_if_once}
 use Rattle.tree.proofs.Frames.{IsRight, entries_same, live_same}
 use Rattle.tree.proofs.Changing.{Moves}
 use Rattle.tree.proofs.Families.{items_of-append, times-slots_of}
 use Rattle.tree.proofs.Sharing.{child_is, around_one}
 
 module _ {N : ℕ} where
-  -- the node at a slot, and the child at an index, at which a bound goes on
-  pub record IsAt (a : Arena (Node N)) (height lower slot : ℕ) (is_below : ℕ → Bool) (i x : ℕ) : Type 0 where
+  -- the node at a slot, and the child at an index
+  pub record IsAt (a : Arena (Node N)) (height lower slot i x : ℕ) : Type 0 where
     pub can : CanChange a height slot
     pub next : suc lower ≡ height
     pub subtree : IsSubtree a (least_of N) (suc lower) slot
@@ -25,10 +24,8 @@ module _ {N : ℕ} where
     pub within : i < length (entries_at a slot)
     pub d : Entry
     pub x_is : x ≡ (get_or (entries_at a slot) i d).child
-    pub index : i ≡ index_in is_below (entries_at a slot)
 
-  module _ {a : Arena (Node N)} {height lower slot : ℕ} {is_below : ℕ → Bool} {i x : ℕ}
-      (at : IsAt a height lower slot is_below i x) where
+  module _ {a : Arena (Node N)} {height lower slot i x : ℕ} (at : IsAt a height lower slot i x) where
     abbrev es : List Entry
     es = entries_at a slot
 
@@ -53,6 +50,22 @@ module _ {N : ℕ} where
         let parts = times-slots_of a lower s (take i es) (here ∷ [] ++ drop (i + 1) es) in
         let more = times-slots_of a lower s (here ∷ []) (drop (i + 1) es) in
         omega (arith, at.few s, ap (times s) (one_slots a))
+
+    -- The child can be changed.
+    pub child_can : CanChange a lower x
+    child_can =
+        let right = child_right in
+        let filled : least_of N ≤ length (entries_at a x) = rw at.x_is right.filled in
+        record {
+          fan_out = at.can.fan_out;
+          few = at.can.few;
+          subtree = rw at.x_is right.subtree;
+          some = omega (arith, filled, at.can.fan_out);
+          branches = λ _. omega (arith, filled, at.can.fan_out);
+          distinct = distinct_if_once (slots_in a lower x) (λ s. omega (arith, child_once s));
+          keyless = at.can.keyless;
+          room = omega (arith, at.can.room, at.next);
+        }
 
     -- the items of the node, with these in place of the child's
     abbrev pub around : List Item → List Item

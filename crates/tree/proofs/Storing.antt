@@ -91,7 +91,7 @@ module _ {N : ℕ} where
       }
 
   -- the slots below a node and its own stand there once
-  family_apart : (a : Arena (Node N)) (least height slot index : ℕ) → IsFamilyAt a least height slot index
+  pub family_apart : (a : Arena (Node N)) (least height slot index : ℕ) → IsFamilyAt a least height slot index
       → (s : ℕ) → times s (slots_in a (suc height) slot) ≤ 1
   family_apart a least height slot index at s =
       let zs = slots_of a height (entries_at a slot) in

@@ -1,16 +1,18 @@
 -- A tree of one node, and more spare nodes.
-use Rattle.std.proofs.Common.{◌≡◌, ◌≢◌, ℕ, ◌+◌, ◌-◌, ◌*◌, ◌/◌, ◌≤◌, [], ◌∷◌, Some, None, is_some, refl, ap, ◌∙◌, arith}
+use Rattle.std.proofs.Common.{◌≡◌, ◌≢◌, ℕ, ◌+◌, ◌-◌, ◌*◌, ◌/◌, ◌≤◌, [], ◌∷◌, Option, Some, None, is_some, refl, ap, ◌∙◌, arith}
 use Rattle.std.specs.FinMap as finite
 use Rattle.std.specs.Ordering.{nat_cmp}
 use Rattle.std.proofs.Math.Nat.{mul-le-mul_left}
 use Rattle.arena.specs.Arena.{Arena, Record, record_at, spare_of}
 use Rattle.tree.specs.declared.entry.Entry.{Entry}
 use Rattle.tree.specs.declared.node.Node.{Node}
+use Rattle.tree.specs.declared.walk.RaisedLeaf.{RaisedLeaf}
 use Rattle.tree.specs.Node.{entries_of}
 use Rattle.tree.specs.Subtree.{slots_in}
 use Rattle.tree.specs.Tree.{IsTree, least_of, way}
+use Rattle.tree.specs.Walk.{IsRaisedInTree}
 use Rattle.tree.proofs.callers.Times.{distinct_if_once}
-use Rattle.tree.proofs.Frames.{Agree, agree_own, items_same, slots_same, subtree_same}
+use Rattle.tree.proofs.Frames.{Agree, agree_own, items_same, raised_same, slots_same, subtree_same}
 use Rattle.tree.proofs.Changing.{moves_placed}
 
 -- so many nodes are enough for the items and a change
@@ -45,6 +47,12 @@ module _ {N : ℕ} where
         within = omega arith;
         reserved = omega (arith, mul-le-mul_left (least_of N - 1) total);
       }
+
+  -- the leaf of the last write, in the same nodes
+  pub raised_stays : (a b : Arena (Node N)) (root height : ℕ) (raised : Option RaisedLeaf) → b.records ≡ a.records
+      → IsRaisedInTree a root height raised → IsRaisedInTree b root height raised
+  raised_stays a b root height None same there = tt
+  raised_stays a b root height (Some leaf) same there = raised_same a b leaf height root (λ s some. rw same refl) there
 
   -- the same nodes, with other spare ones
   pub tree_stays : (a b : Arena (Node N)) (root height len room more : ℕ) → b.records ≡ a.records → IsTree a root height len room

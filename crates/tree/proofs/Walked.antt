@@ -1,27 +1,29 @@
 -- A subtree once a leaf of one of its children was changed, and its node was rebalanced.
-use Rattle.std.proofs.Common.{◌≡◌, inl, inr, ℕ, suc, ◌+◌, ◌*◌, ◌≤◌, Bool, true, false, List, [], ◌∷◌, ◌++◌, Option, Some, None, length, length-append, take, drop, refl, sym, ap, subst, ◌∙◌, arith, append-nil}
-use Rattle.std.specs.Prelude.{ℤ, IfSome}
-use Rattle.std.proofs.lemmas.List.{length-take-le, length-drop}
+use Rattle.std.proofs.Common.{◌≡◌, inl, inr, ℕ, suc, ◌+◌, ◌*◌, ◌≤◌, Bool, true, false, List, [], ◌∷◌, ◌++◌, Option, Some, None, is_some, length, length-append, set, take, drop, refl, sym, ap, subst, ◌∙◌, arith, append-nil}
+use Rattle.std.specs.Prelude.{◌≢◌, ℤ, IfSome}
+use Rattle.std.proofs.lemmas.List.{get_or-set_same, length-drop, length-set, length-take-le}
 use Rattle.std.proofs.lemmas.List.Elements.{All-append, All-cons, All-nil}
-use Rattle.arena.specs.Arena.{Arena}
+use Rattle.std.proofs.lemmas.Option.{slice_get-get_or}
+use Rattle.arena.specs.Arena.{Arena, record_at}
 use Rattle.tree.specs.declared.entry.Entry.{Entry}
 use Rattle.tree.specs.declared.node.Node.{Node}
 use Rattle.tree.specs.declared.walk.Outcome.{Outcome}
 use Rattle.tree.specs.declared.walk.Outcome.TheVariants.{Same, Raised, Split}
+use Rattle.tree.specs.declared.walk.RaisedLeaf.{RaisedLeaf}
 use Rattle.tree.specs.Heads.{KeyBytes}
 use Rattle.tree.specs.Item.{Item}
-use Rattle.tree.specs.Replace.{child_at, entries_at_both, items_of, slots_of, slots_with, Changes, IsFamily, IsFamilyAt, IsLinked, IsRebalancedAt, TellsWritten}
+use Rattle.tree.specs.Replace.{child_at, entries_at_both, items_of, slots_of, slots_with, Changes, HasRaisedEntry, IsFamily, IsFamilyAt, IsLinked, IsRebalancedAt, TellsWritten}
 use Rattle.tree.specs.Splice.{AreHalfFull}
 use Rattle.tree.specs.Subtree.{entries_at, items_in, slots_in, IsSubtree}
 use Rattle.tree.specs.Tree.{least_of}
-use Rattle.tree.specs.Walk.{added_by, IsChanged, IsChangedWithin}
+use Rattle.tree.specs.Walk.{added_by, IsChanged, IsChangedWithin, IsRaisedIn}
 use Rattle.tree.specs.Rebalancing.{CanInsertChild, CanRebalance, IsStored, LosesOneAtMost}
-use Rattle.tree.proofs.callers.Times.{distinct_if_once, none_or_some, once_same, times_if_contains}
+use Rattle.tree.proofs.callers.Times.{distinct_if_once, none_or_some, once_same, times, times_if_contains}
 use Rattle.tree.proofs.Changing.{Moves, changes_if_moves, moves_if_changes, moves_trans}
 use Rattle.tree.proofs.Families.{Loose}
-use Rattle.tree.proofs.Frames.{IsRight, below_of}
+use Rattle.tree.proofs.Frames.{IsRight, below_of, raised_same}
 use Rattle.tree.proofs.Replacing.{both_right, loose_at}
-use Rattle.tree.proofs.Stepping.{IsAt, around, child_right, here, live_beside, one_slots, read_beside, split, x_at}
+use Rattle.tree.proofs.Stepping.{IsAt, around, child_once, child_right, here, live_beside, one_slots, read_beside, split, x_at}
 use Rattle.tree.proofs.Storing.{Stored, moves_own, stored}
 use Rattle.tree.proofs.Walking.{raised_above, raised_at}
 
@@ -51,8 +53,7 @@ both_filled : {N : ℕ} (n : ℕ) (w : Arena (Node N)) (slot : ℕ) (added : Opt
 both_filled n w slot None few half = tt
 both_filled n w slot (Some s) few half = (omega (arith, half.left), omega (arith, half.right))
 
-module _ {N : ℕ} {a : Arena (Node N)} {height lower slot : ℕ} {is_below : ℕ → Bool} {i x : ℕ}
-    (at : IsAt a height lower slot is_below i x) where
+module _ {N : ℕ} {a : Arena (Node N)} {height lower slot i x : ℕ} (at : IsAt a height lower slot i x) where
   abbrev es : List Entry
   es = entries_at a slot
 
@@ -98,14 +99,14 @@ module _ {N : ℕ} {a : Arena (Node N)} {height lower slot : ℕ} {is_below : �
     }
 
     -- The child's entry would be right with the version of what came in.
-    pub tells_written : (version : ℤ) → outcome ≡ Raised version → TellsWritten b lower slot i version
-    tells_written version is = raised_at at b version (read_beside at moves) (put.raised version is).items
+    pub tells_written : (leaf : RaisedLeaf) → outcome ≡ Raised leaf → TellsWritten b lower slot i leaf.version
+    tells_written leaf is = raised_at at b leaf.version (read_beside at moves) (put.raised leaf is).items
 
     -- The child has enough entries then.
-    pub child_filled : (version : ℤ) → outcome ≡ Raised version
+    pub child_filled : (leaf : RaisedLeaf) → outcome ≡ Raised leaf
         → least_of N ≤ length (entries_at b (child_at (entries_at b slot) i))
-    child_filled version is =
-        let told = put.raised version is in
+    child_filled leaf is =
+        let told = put.raised leaf is in
         let was : least_of N ≤ length (entries_at a x) = rw at.x_is (child_right at).filled in
         let now : least_of N ≤ length (entries_at b x) =
         elim (none_or_some lower) [
@@ -114,6 +115,27 @@ module _ {N : ℕ} {a : Arena (Node N)} {height lower slot : ℕ} {is_below : �
         ] in
         let child : x ≡ child_at (entries_at b slot) i = rw (read_beside at moves) (x_at at) in
         rw child at now
+
+    -- The leaf is below the child's entry where that has its version, too.
+    pub raised_below : {w : Arena (Node N)} {version : ℤ} (leaf : RaisedLeaf) → HasRaisedEntry b w slot i version
+        → version ≡ leaf.version → outcome ≡ Raised leaf
+        → (length (entries_at b slot) ≤ length (entries_at w slot)) × IsRaisedIn w leaf (suc lower) slot
+    raised_below {w} {version} leaf raises same is =
+        let read = read_beside at moves in
+        let new = record (here at) { version = leaf.version } in
+        let apart : (s : ℕ) → 1 ≤ times s (slots_in b lower x) → s ≢ slot = λ s some own. (
+        let none = moves.from slot (rw own at some) (omega (arith, child_once at slot, once_same slot)) in
+        let dead : is_some (record_at a slot) ≡ false = ap is_some none in
+        cc (dead, at.subtree.0)) in
+        let there : IsRaisedIn w leaf lower (here at).child = rw at.x_is at (raised_same b w leaf lower x
+        (λ s some. raises.others s (apart s some)) (put.raised leaf is).there) in
+        let now : entries_at w slot ≡ set es i new =
+        rw (read, same) at (raises.entry (here at) (rw read (slice_get-get_or es i at.d at.within))) in
+        let count = length-set es i new in
+        let found = get_or-set_same es i new new at.within in (
+          omega (arith, ap length now, ap length read, count),
+          rw now (i, new, omega (arith, count, at.within), found, (refl, there)),
+        )
 
     -- The node was rebalanced.
     module _ {w : Arena (Node N)} (rebalanced : IsRebalancedAt b w (least_of N) lower slot) where
@@ -127,17 +149,18 @@ module _ {N : ℕ} {a : Arena (Node N)} {height lower slot : ℕ} {is_below : �
             (moves_if_changes b w _ _ rebalanced.changes));
       }
 
-      -- Whatever is told of the node, but that it stayed: that a version came in only where that is told of the child, too.
+      -- Whatever is told of the node, but that it stayed: that an item came into a leaf only where that is told of the child, too.
       pub changed_above : (told : Outcome) → added_by told ≡ None → (told ≡ Same → ⊥)
-          → ((version : ℤ) → told ≡ Raised version
-          → (outcome ≡ Raised version) × (length (entries_at b slot) ≤ length (entries_at w slot)))
+          → ((leaf : RaisedLeaf) → told ≡ Raised leaf → (outcome ≡ Raised leaf)
+          × ((length (entries_at b slot) ≤ length (entries_at w slot)) × IsRaisedIn w leaf (suc lower) slot))
           → LosesOneAtMost bytes b w (entries_at b slot) (entries_at w slot) → IsChanged bytes a w height slot told
       changed_above told alone other raised rest = record {
         same = λ is. absurd (other is);
-        raised = λ version is. record {
-          items = raised_above at version _ _ step_rebalanced.items_are (put.raised version (raised version is).0).items;
+        raised = λ leaf is. let h = raised leaf is in record {
+          there = subst (λ n. IsRaisedIn w leaf n slot) at.next h.1.1;
+          items = raised_above at leaf.version _ _ step_rebalanced.items_are (put.raised leaf h.0).items;
           filled = λ low. absurd (omega (arith, at.next, low));
-          no_fewer = λ above. omega (arith, (raised version is).1, ap length (read_beside at moves));
+          no_fewer = λ above. omega (arith, h.1.0, ap length (read_beside at moves));
         };
         subtree = step_rebalanced.subtree;
         neighbour = rw alone tt;
@@ -203,11 +226,11 @@ module _ {N : ℕ} {a : Arena (Node N)} {height lower slot : ℕ} {is_below : �
           ap (items_of b lower) linked_here.entries ∙ (simp (first, second, append-nil) at l.items) in
           rw (← at.next, ← items) k
 
-      pub linked_above : (outcome ≡ Same → ⊥) → ((version : ℤ) → outcome ≡ Raised version → ⊥)
+      pub linked_above : (outcome ≡ Same → ⊥) → ((leaf : RaisedLeaf) → outcome ≡ Raised leaf → ⊥)
           → IsChanged bytes a w height slot outcome
       linked_above other kept = record {
         same = λ is. absurd (other is);
-        raised = λ version is. absurd (kept version is);
+        raised = λ leaf is. absurd (kept leaf is);
         subtree = step_linked.subtree;
         neighbour = step_linked.neighbour;
         filled = both_filled (least_of N) w slot _ (omega (arith, at.can.fan_out)) stored_at.filled;

@@ -11,7 +11,7 @@ use Rattle.keys.proofs.callers.SomeElement.{Any-first, Any-left, Any-none, Any-p
 use Rattle.tree.specs.declared.entry.Entry.{Entry}
 use Rattle.tree.specs.declared.node.Node.{Node}
 use Rattle.tree.specs.Item.{Item, Tells, item_of}
-use Rattle.tree.specs.Path.{IsPartitioned, first_key}
+use Rattle.tree.specs.Path.{IsPartitioned, first_key, index_in}
 use Rattle.tree.specs.Replace.{child_at, items_of, AreChildren, TellsWritten}
 use Rattle.tree.specs.Subtree.{entries_at, items_in}
 use Rattle.tree.specs.Tree.{least_of}
@@ -84,8 +84,7 @@ none_at a least lower (e ∷ es) (suc i) right within none =
     let empty = both_empty (items_in a lower e.child) (items_of a lower (take i es)) none in
     absurd (cc (t.items_are, empty.0))
 
-module _ {N : ℕ} {a : Arena (Node N)} {height lower slot : ℕ} {is_below : ℕ → Bool} {i x : ℕ}
-    (at : IsAt a height lower slot is_below i x) where
+module _ {N : ℕ} {a : Arena (Node N)} {height lower slot i x : ℕ} (at : IsAt a height lower slot i x) where
   abbrev es : List Entry
   es = entries_at a slot
 
@@ -98,21 +97,21 @@ module _ {N : ℕ} {a : Arena (Node N)} {height lower slot : ℕ} {is_below : �
   abbrev back : List Item
   back = items_of a lower (drop (i + 1) es)
 
-  -- A leaf of the child is changed.
-  pub within_at : (Gives : Bool → Option ℕ → List Item → List Item → Type 0) (is_first below_first : Bool)
+  -- A leaf of the child, at which a bound goes on, is changed.
+  pub within_at : {is_below : ℕ → Bool} → i ≡ index_in is_below es → (Gives : Bool → Option ℕ → List Item → List Item → Type 0) (is_first below_first : Bool)
       (key below_key : Option ℕ) (now all : List Item) → IsPartitioned (λ x. is_below x.key) (items_in a height slot)
       → (IsTrue below_first ↔ (IsTrue is_first × (i ≡ 0)))
       → below_key ≡ first_key key (map item_of (drop (i + 1) es)) → all ≡ front ++ (now ++ back)
       → IsChangedWithin is_below Gives below_first below_key part now
       → IsChangedWithin is_below Gives is_first key (items_in a height slot) all
-  within_at Gives is_first below_first key below_key now all partitioned first_is key_is all_is c =
+  within_at {is_below} index Gives is_first below_first key below_key now all partitioned first_is key_is all_is c =
       let Passes = λ (x : Item). is_below x.key ≡ true in
       let Fails = λ (x : Item). is_below x.key ≡ false in
       let Told = λ (e : Entry). Tells e (items_in a lower e.child) in
       let w = way a (least_of N) lower slot is_below at.subtree (rw (← at.next) at partitioned) in
-      let child : x ≡ w.entry.child = x_at at ∙ ap (child_at es) at.index ∙ sym w.child in
+      let child : x ≡ w.entry.child = x_at at ∙ ap (child_at es) index ∙ sym w.child in
       let found : IsFoundAmong is_below front part = elim (none_or_some (length (filter (λ (e : Entry). is_below e.key) es))) [
-        | inl none ↦ (let zero_is : i ≡ 0 = omega (arith, at.index) in inl (ap (λ n. items_of a lower (take n es)) zero_is))
+        | inl none ↦ (let zero_is : i ≡ 0 = omega (arith, index) in inl (ap (λ n. items_of a lower (take n es)) zero_is))
         | inr some ↦
             let passed = index_passes (λ (e : Entry). is_below e.key) es w.entry w.entries some w.is in
             let t = w.kept.tells in
@@ -127,8 +126,8 @@ module _ {N : ℕ} {a : Arena (Node N)} {height lower slot : ℕ} {is_below : �
         behind = c.behind ++ back;
         was_is = simp (c.was_is, append_assoc);
         now_is = simp (c.now_is, append_assoc);
-        items_below = All-append Passes front c.before (rw (← at.index) at w.before) c.items_below;
-        failing = All-append Fails c.behind back c.failing (rw (← at.index) at w.behind);
+        items_below = All-append Passes front c.before (rw (← index) at w.before) c.items_below;
+        failing = All-append Fails c.behind back c.failing (rw (← index) at w.behind);
         found = elim c.found [
           | inl none ↦ elim found [
             | inl first ↦ inl (ap₂ (λ xs ys. xs ++ ys) first none)

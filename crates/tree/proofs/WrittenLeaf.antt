@@ -1,8 +1,8 @@
 -- The items of a leaf of which a run is written over, and what tells whether the run is ended.
 use Rattle.std.proofs.Common.{◌≡◌, ◌≢◌, ◌⊎◌, inl, inr, ℕ, ℤ, ◌-◌, ◌<◌, ◌≤◌, Bool, true, false, not, List, [], ◌∷◌, ◌++◌, Option}
 use Rattle.std.proofs.Common.{Bor, Some, None, MatchOption, length, get_or, slice_get, take, drop, filter, map, All, Any, refl, sym}
-use Rattle.std.proofs.Common.{◌∙◌, ap, arith, length-append}
-use Rattle.std.proofs.lemmas.List.{same_from_push, append-nil, map-append, length-map, length-take-le, take-append-drop, drop_at, drop_more, drop_all}
+use Rattle.std.proofs.Common.{◌∙◌, ap, arith, is_some, length-append}
+use Rattle.std.proofs.lemmas.List.{same_from_push, append-nil, length-map, length-take-le, take-append-drop, drop_at, drop_more, drop_all}
 use Rattle.std.proofs.lemmas.List.Elements.{All-nil, All-cons, All-head, All-append, All-filter, All-weaker, Contains-get_or, filter-append, filter_passes}
 use Rattle.std.proofs.lemmas.Option.{slice_get_cases}
 use Rattle.std.specs.Prelude.{option_copied}
@@ -42,35 +42,23 @@ items_parted p es n partitioned count =
       filter-items (λ key. not (p key)) es ∙ ap (map item_of) (sym parts.1),
     )
 
-module _ (p q : ℕ → Bool) (nested : (key : ℕ) → p key ≡ true → q key ≡ true) (es : List Entry) (begin end : ℕ)
-    (first_bound : IsPartitioned (λ e. p e.key) es) (second_bound : IsPartitioned (λ e. q e.key) es) (within : begin ≤ length es)
-    (begins : begin ≡ length (filter (λ e. p e.key) es)) (ends : end ≡ length (filter (λ e. q e.key) es)) where
-  -- the entries between two bounds
-  run_here : filter (λ e. q e.key) (drop begin es) ≡ drop begin (take end es)
-  run_here =
-      let there = λ (e : Entry). q e.key in
-      let from = (parted p es begin first_bound begins).0 in
-      let to = (parted q es end second_bound ends).0 in
-      let pass : All (λ (e : Entry). q e.key ≡ true) (take begin es) =
-      rw from (All-weaker _ _ (λ e. nested e.key) _ (filter_passes (λ (e : Entry). p e.key) es)) in
-      let split = filter-append there (take begin es) (drop begin es) in
-      let all : take end es ≡ take begin es ++ filter there (drop begin es) =
-      cc (to, take-append-drop begin es, split, (none_fail there (take begin es) pass).0) in
-      rw (all, drop_at (take begin es) _ begin (length-take-le begin es within))
-
-  -- and the items
-  pub between_entries : between (Some p) (Some q) (map item_of es) ≡ map item_of (drop begin (take end es))
-  between_entries =
-      let rest = (items_parted p es begin first_bound begins).1 in
-      cc (between_is p q (map item_of es), rest, filter-items q (drop begin es), run_here)
-
-  -- what becomes of the items where entries are put in place of those between the bounds
-  pub replaced : (new now : List Entry) → now ≡ take begin es ++ (new ++ drop end es)
-      → map item_of now ≡ items_below p (map item_of es) ++ (map item_of new ++ behind q (map item_of es))
-  replaced new now now_is =
-      let front = (items_parted p es begin first_bound begins).0 in
-      let back = (items_parted q es end second_bound ends).1 in
-      rw (now_is, map-append, map-append, front, back)
+-- the items between two bounds are those of the entries there
+pub between_entries : (p q : ℕ → Bool) → ((key : ℕ) → p key ≡ true → q key ≡ true) → (es : List Entry) (begin end : ℕ)
+    → IsPartitioned (λ e. p e.key) es → IsPartitioned (λ e. q e.key) es → begin ≤ length es
+    → begin ≡ length (filter (λ e. p e.key) es) → end ≡ length (filter (λ e. q e.key) es)
+    → between (Some p) (Some q) (map item_of es) ≡ map item_of (drop begin (take end es))
+between_entries p q nested es begin end first_bound second_bound within begins ends =
+    let there = λ (e : Entry). q e.key in
+    let from = (parted p es begin first_bound begins).0 in
+    let to = (parted q es end second_bound ends).0 in
+    let pass : All (λ (e : Entry). q e.key ≡ true) (take begin es) =
+    rw from (All-weaker _ _ (λ e. nested e.key) _ (filter_passes (λ (e : Entry). p e.key) es)) in
+    let split = filter-append there (take begin es) (drop begin es) in
+    let all : take end es ≡ take begin es ++ filter there (drop begin es) =
+    cc (to, take-append-drop begin es, split, (none_fail there (take begin es) pass).0) in
+    between_is p q (map item_of es) ∙ ap (items_below q) (items_parted p es begin first_bound begins).1
+    ∙ filter-items q (drop begin es)
+    ∙ sym (ap (λ l. map item_of (drop begin l)) all ∙ ap (map item_of) (drop_at (take begin es) _ begin (length-take-le begin es within)))
 
 -- The last entry below the bound, where it is lent, has the version of the last such item.
 pub last_version : (q : ℕ → Bool) (es passed : List Entry) (lent : Option (Bor Entry)) (version otherwise : ℤ)
@@ -143,3 +131,8 @@ module _ (q r : ℕ → Bool) (es : List Entry) (end : ℕ) (others : drop end e
   ended_behind all post tested says =
       let Tells = λ (key : Option ℕ). MatchOption key (ended ≡ false) post → ended ≡ first_is_below r key in
       rw (behind_end, drop_all end es all) ((elim otherwise as Tells [ None ↦ λ none. none | Some key ↦ says key ]) tested)
+
+-- no version is given where there is none
+pub none_if : (o : Option ℤ) → is_some o ≡ false → o ≡ None
+none_if None f = refl
+none_if (Some v) f = absurd (cc)

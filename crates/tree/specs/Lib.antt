@@ -7,6 +7,7 @@ pub mod Subtree
 pub mod Path
 pub mod Finding
 pub mod Reached
+pub mod Run
 pub mod Question
 pub mod Tree
 pub mod Replace

@@ -1,5 +1,5 @@
 -- The replacement of a leaf, and of entries above it. This project's own.
-use Rattle.std.specs.Prelude.{◌≡◌, ℕ, ℤ, ◌≤ℤ◌, suc, ◌+◌, List, [], ◌++◌, ◌⊎◌, length, ◌∷◌, take, drop, nat_eq, slice_get, option_map, unwrap_or, Option, None, Some, IfSome}
+use Rattle.std.specs.Prelude.{◌≡◌, ◌≢◌, ℕ, ℤ, ◌≤ℤ◌, suc, ◌+◌, List, [], ◌++◌, ◌⊎◌, length, ◌∷◌, take, drop, nat_eq, slice_get, slice_set, option_map, unwrap_or, Option, None, Some, IfSome}
 use Rattle.std.specs.List.{All, Contains, IsDistinct, flat_map}
 use Rattle.std.specs.FinMap as map
 use Rattle.arena.specs.Arena.{Arena, IsLive, record_at, key_at, spare_of}
@@ -92,6 +92,12 @@ module _ {N : ℕ} where
     pub subtree : IsSubtree new least (suc height) slot
     pub items : items_in new (suc height) slot ≡ items_in old (suc height) slot
     pub changes : Changes old new (slots_in old (suc height) slot) (slots_in new (suc height) slot)
+
+  -- The entry at an index of the node at a slot has this version now. All others, and all other nodes, stay as they were.
+  pub record HasRaisedEntry (old new : Arena (Node N)) (slot index : ℕ) (version : ℤ) : Type 0 where
+    pub entry : (e : Entry) → slice_get (entries_at old slot) index ≡ Some e
+        → entries_at new slot ≡ slice_set (entries_at old slot) index (record e { version = version })
+    pub others : (s : ℕ) → s ≢ slot → record_at new s ≡ record_at old s
 
   -- The entry at an index would be right with this version, unless it has a greater one.
   abbrev pub TellsWritten : Arena (Node N) → ℕ → ℕ → ℕ → ℤ → Type 0

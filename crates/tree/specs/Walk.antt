@@ -1,10 +1,12 @@
 -- A walk to a leaf, what it changes there, and what it gives. This project's own.
-use Rattle.std.specs.Prelude.{◌≡◌, ◌≤◌, ◌<◌, ◌+◌, ◌⊎◌, ◌↔◌, ◌++◌, ℕ, ℤ, Bool, true, false, List, [], length, nat_eq, Option, None, Some, IfSome, IsTrue}
+use Rattle.std.specs.Prelude.{◌≡◌, ◌≤◌, ◌<◌, ◌+◌, ◌⊎◌, ◌↔◌, ◌++◌, ℕ, zero, suc, ℤ, Bool, true, false, List, [], length, nat_eq, Option, None, Some, IfSome, IsTrue}
 use Rattle.std.specs.List.{All, Any, IsDistinct}
+use Rattle.std.specs.FinMap as map
 use Rattle.arena.specs.Arena.{Arena, spare_of}
 use Rattle.tree.specs.declared.entry.Entry.{Entry}
 use Rattle.tree.specs.declared.node.Node.{Node}
 use Rattle.tree.specs.declared.walk.Outcome.{Outcome}
+use Rattle.tree.specs.declared.walk.RaisedLeaf.{RaisedLeaf}
 use Rattle.tree.specs.declared.walk.Outcome.TheVariants.{Same, Raised, Changed, Split}
 use Rattle.tree.specs.Heads.{KeyBytes, AllAreHeads, IsPrefixLenAt}
 use Rattle.tree.specs.Item.{Item}
@@ -17,7 +19,7 @@ use Rattle.tree.specs.Tree.{least_of, IsRooted}
 -- The slot of the right neighbour that a subtree was split from, if it was.
 abbrev pub added_by : Outcome → Option ℕ
 added_by Same = None
-added_by (Raised version) = None
+added_by (Raised leaf) = None
 added_by Changed = None
 added_by (Split slot) = Some slot
 
@@ -77,16 +79,27 @@ module _ {N : ℕ} where
     pub wanted : Wants (items_in nodes height slot)
     pub none_taken : taken ≡ []
 
-  -- The first key stays, and an item of this version came in. A leaf has as many entries as a node must have, and a node above lost none.
-  pub record IsRaisedAt (old new : Arena (Node N)) (height slot : ℕ) (version : ℤ) : Type 0 where
-    pub items : IsRaised version (items_in old height slot) (items_in new height slot)
+  -- A leaf below the node at a slot, each entry above which has its version.
+  abbrev pub IsRaisedIn : Arena (Node N) → RaisedLeaf → ℕ → ℕ → Type 0
+  IsRaisedIn nodes leaf zero slot = slot ≡ leaf.slot
+  IsRaisedIn nodes leaf (suc height) slot =
+      Any (λ e. (e.version ≡ leaf.version) × IsRaisedIn nodes leaf height e.child) (entries_at nodes slot)
+
+  -- that of a tree, if there is one
+  abbrev pub IsRaisedInTree : Arena (Node N) → ℕ → ℕ → Option RaisedLeaf → Type 0
+  IsRaisedInTree nodes root height raised = IfSome raised (λ leaf. IsRaisedIn nodes leaf height root)
+
+  -- The first key stays, and an item came into this leaf. A leaf has as many entries as a node must have, and a node above lost none.
+  pub record IsRaisedAt (old new : Arena (Node N)) (height slot : ℕ) (leaf : RaisedLeaf) : Type 0 where
+    pub there : IsRaisedIn new leaf height slot
+    pub items : IsRaised leaf.version (items_in old height slot) (items_in new height slot)
     pub filled : height ≡ 0 → least_of N ≤ length (entries_at new slot)
     pub no_fewer : 1 ≤ height → length (entries_at old slot) ≤ length (entries_at new slot)
 
   -- A subtree once it was changed, and the right neighbour that it was split from, if it was.
   pub record IsChanged (bytes : KeyBytes) (old new : Arena (Node N)) (height slot : ℕ) (outcome : Outcome) : Type 0 where
     pub same : outcome ≡ Same → new ≡ old
-    pub raised : (version : ℤ) → outcome ≡ Raised version → IsRaisedAt old new height slot version
+    pub raised : (leaf : RaisedLeaf) → outcome ≡ Raised leaf → IsRaisedAt old new height slot leaf
     pub subtree : IsSubtree new (least_of N) height slot
     pub neighbour : IfSome (added_by outcome) (λ added. IsSubtree new (least_of N) height added)
     pub filled : IfSome (added_by outcome) (λ added. (least_of N ≤ length (entries_at new slot))
@@ -104,6 +117,12 @@ module _ {N : ℕ} where
     pub rooted : IsRooted nodes root height
     pub some : 1 ≤ length (entries_at nodes root)
     pub room : height + 1 < spare_of nodes 0
+
+  -- A tree once it was changed: so many nodes are live and spare as before, and it knows the bytes of keys.
+  pub record IsNewTree (bytes : KeyBytes) (old new : Arena (Node N)) (root height : ℕ) : Type 0 where
+    pub rooted : IsRooted new root height
+    pub spare : spare_of new 0 + map.len new.records ≡ spare_of old 0 + map.len old.records
+    pub headed : AllAreHeads bytes (all_heads_of new)
 
   -- A tree of which a leaf may be changed: the bound goes through the items, which are as is wanted, and none is taken out yet.
   pub record CanChangeBy (bytes : KeyBytes) (is_below : ℕ → Bool) (Wants : List Item → Type 0) (nodes : Arena (Node N))

@@ -9,9 +9,8 @@ use crate::bound::Bound;
 use crate::entry::Entry;
 use crate::node::Node;
 use crate::rebalance::least;
-use crate::replace::split;
-use crate::tree::item;
-use crate::walk::{LeafChange, Outcome, Place};
+use crate::run::{Run, put_taken, write_run};
+use crate::walk::{LeafChange, Outcome, Place, RaisedLeaf};
 use arena::{Arena, Slot};
 use arrayvec::ArrayVec;
 
@@ -117,34 +116,26 @@ impl<'a, 'b, P: Bound, Q: Bound, R: Bound, const N: usize> LeafChange<N>
             place.behind.is_some_and(|key| new.past.is_below(key))
         };
         self.written = Written::Whole { ended };
-        let entries = [new.first, item(new.second, new.last.unwrap_or(last))];
-        let entries = if ended { &entries[..1] } else { &entries[..] };
-        // The keys of both entries have the bytes of the targets, and so their heads.
-        let heads = [head.unwrap_or(0), to_head.unwrap_or(0)];
-        let heads = &heads[..entries.len()];
-        let alike = head.is_some() && to_head.is_some();
-        if begin + entries.len() > N - (leaf.len() - end) {
-            let added = split(nodes, slot, begin, end, entries, heads, alike, new.to);
+        let run = Run {
+            begin,
+            end,
+            begin_head: head,
+            end_head: to_head,
+            ended,
+        };
+        if let Some(added) = write_run(nodes, slot, new, run, last) {
             return Outcome::Split(added);
         }
-        let leaf = nodes.header_mut(slot);
-        leaf.splice_with_heads(begin, end, entries, heads, alike, new.to);
-        let is_short = leaf.len() < least(N);
+        let is_short = nodes.header_ref(slot).len() < least(N);
         if begin == 0 || new.last.is_some() || is_short {
             return Outcome::Changed;
         }
-        Outcome::Raised(new.first.version)
+        Outcome::Raised(RaisedLeaf {
+            slot,
+            version: new.first.version,
+            index: begin,
+        })
     }
 
     ghost part = { λ o. part_of_part (P.below o.new.now.from.now) };
-}
-
-// Puts a run of entries, mostly none or a few, behind those that are taken out.
-fn put_taken<const N: usize>(taken: &mut ArrayVec<Entry, N>, run: &[Entry])
-    requires room { length taken.old.items + length run.now ≤ N }
-    ensures taken { taken.new.items ≡ taken.old.items ++ run.now }
-{
-    for entry in run {
-        taken.push(*entry);
-    }
 }

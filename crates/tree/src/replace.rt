@@ -7,13 +7,13 @@ ghost use Rattle.tree.specs.Rebalancing.{CanInsertChild, CanRebalance, CanSplit,
 ghost use Rattle.tree.specs.Node.{entries_of, key_heads_of, all_heads_of};
 ghost use Rattle.tree.specs.Subtree.{entries_at};
 ghost use Rattle.tree.specs.Tree.{least_of};
-ghost use Rattle.tree.specs.Replace.{child_at, entries_at_both, Changes, IsFamilyAt, IsKeyless, IsLinked, IsRebalancedAt, TellsWritten};
+ghost use Rattle.tree.specs.Replace.{child_at, entries_at_both, Changes, HasRaisedEntry, IsFamilyAt, IsKeyless, IsLinked, IsRebalancedAt, TellsWritten};
 
 use crate::bound::Bound;
 use crate::entry::Entry;
 use crate::node::Node;
 use crate::rebalance::{entry_for, least, rebalance};
-use crate::walk::Outcome;
+use crate::walk::{Outcome, RaisedLeaf};
 use arena::{Arena, Slot};
 
 /// Makes the entry at an index right in the node at a slot, whose child was split, and puts one for the child's right
@@ -96,33 +96,35 @@ pub fn rebalance_child<P: Bound, const N: usize>(
     nodes.set_header(slot, node);
 }
 
-/// Makes the entry at an index right in the node at a slot, in the subtree of whose child an item of this version was written. The
-/// child has enough entries. Returns what became of the node.
+/// Makes the entry at an index right in the node at a slot, in whose child's subtree an item came into this leaf. The child has enough
+/// entries. Returns what became of the node.
 #[inline(always)]
 pub fn raise_entry<P: Bound, const N: usize>(
     nodes: &mut Arena<Node<N>>,
     slot: Slot,
     index: usize,
-    version: i64,
+    leaf: RaisedLeaf,
     bound: &P,
 ) -> Outcome
     requires can_rebalance { CanRebalance (P.bytes bound.now) nodes.old slot index }
     requires filled { least_of N ≤ length (entries_at nodes.old (child_at (entries_at nodes.old slot) index)) }
     ensures rebalanced { (height : ℕ) → IsFamilyAt nodes.old (least_of N) height slot index
-        → TellsWritten nodes.old height slot index version → IsRebalancedAt nodes.old nodes.new (least_of N) height slot }
+        → TellsWritten nodes.old height slot index leaf.version → IsRebalancedAt nodes.old nodes.new (least_of N) height slot }
     ensures rest { LosesOneAtMost (P.bytes bound.now) nodes.old nodes.new (entries_at nodes.old slot) (entries_at nodes.new slot) }
     ensures outcome { (result ≡ Outcome.Changed)
-        ⊎ ((result ≡ Outcome.Raised version) × (length (entries_at nodes.old slot) ≤ length (entries_at nodes.new slot))) }
+        ⊎ ((result ≡ Outcome.Raised leaf) × HasRaisedEntry nodes.old nodes.new slot index leaf.version) }
 {
     let entry = nodes.header_ref(slot).entries()[index];
-    if entry.version > version {
+    if entry.version > leaf.version {
         rebalance_child(nodes, slot, index, bound);
         return Outcome::Changed;
     }
-    nodes
-        .header_mut(slot)
-        .set(index, Entry { version, ..entry });
-    Outcome::Raised(version)
+    let raised = Entry {
+        version: leaf.version,
+        ..entry
+    };
+    nodes.header_mut(slot).set(index, raised);
+    Outcome::Raised(leaf)
 }
 
 /// Stores a node in a spare slot.

@@ -1,26 +1,27 @@
 //! The root of a tree, and what becomes of it where a leaf changes.
 
-ghost use Rattle.std.specs.Prelude.{◌≡◌, ◌+◌, [], map, None, MatchOption, Some, true};
-ghost use Rattle.std.specs.FinMap as map_of;
-ghost use Rattle.arena.specs.Arena.{spare_of};
+ghost use Rattle.std.specs.Prelude.{◌≡◌, [], map, None, MatchOption, Some, true};
 ghost use Rattle.tree.specs.Item.{item_of};
 ghost use Rattle.tree.specs.Heads.{AllAreHeads, KeyBytes};
+ghost use Rattle.tree.specs.Overwrite.{GivesWritten, IsPartOfPartitioned};
 ghost use Rattle.tree.specs.Rebalancing.{CanGrow, CanShrink};
 ghost use Rattle.tree.specs.Node.{all_heads_of};
 ghost use Rattle.tree.specs.Subtree.{items_in};
 ghost use Rattle.tree.specs.Path.{items_below};
 ghost use Rattle.tree.specs.Reached.{CanReach, IsReached};
 ghost use Rattle.tree.specs.Replace.{items_with};
-ghost use Rattle.tree.specs.Tree.{least_of, IsLast, IsRooted};
-ghost use Rattle.tree.specs.Walk.{CanChangeBy, IsChangedWithin};
+ghost use Rattle.tree.specs.Tree.{least_of, IsLast};
+ghost use Rattle.tree.specs.Walk.{CanChangeBy, IsChangedWithin, IsNewTree, IsRaisedInTree};
 
 use crate::bound::Bound;
 use crate::descent::{Reached, common_prefix_len_at, find};
 use crate::entry::Entry;
 use crate::node::Node;
+use crate::overwrite::{Overwrite, Overwriting, Written};
 use crate::rebalance::entry_for;
+use crate::remembered::write_in_leaf;
 use crate::replace::place;
-use crate::walk::{LeafChange, Outcome, Place, change_leaf};
+use crate::walk::{LeafChange, Outcome, Place, RaisedLeaf, change_leaf};
 use crate::way::Way;
 use arena::{Arena, Slot};
 use arrayvec::ArrayVec;
@@ -66,22 +67,21 @@ pub fn last<P: Bound, const N: usize>(
 }
 
 /// Changes a leaf of a tree, and puts the entries that are taken out into `taken`. A root that is split gets one above
-/// it, and one with a single child gives its place to the child.
+/// it, and one with a single child gives its place to the child. Returns the leaf if the next write may go on there.
 pub fn change<C: LeafChange<N>, const N: usize>(
     nodes: &mut Arena<Node<N>>,
     root: &mut Root,
     change: &mut C,
     taken: &mut ArrayVec<Entry, N>,
     way: &mut Way,
-)
+) -> Option<RaisedLeaf>
     requires can_change { CanChangeBy (C.LeafBound.bytes (C.bound_of change.old)) (C.LeafBound.below (C.bound_of change.old))
         (C.wants change.old) nodes.old root.old.slot root.old.height taken.old.items }
     ensures items { IsChangedWithin (C.LeafBound.below (C.bound_of change.old)) (C.gives change.old change.new (map item_of taken.new.items))
         true None
         (items_in nodes.old root.old.height root.old.slot) (items_in nodes.new root.new.height root.new.slot) }
-    ensures rooted { IsRooted nodes.new root.new.slot root.new.height }
-    ensures spare { spare_of nodes.new 0 + map_of.len nodes.new.records ≡ spare_of nodes.old 0 + map_of.len nodes.old.records }
-    ensures headed { AllAreHeads (C.LeafBound.bytes (C.bound_of change.old)) (all_heads_of nodes.new) }
+    ensures tree { IsNewTree (C.LeafBound.bytes (C.bound_of change.old)) nodes.old nodes.new root.new.slot root.new.height }
+    ensures raised { IsRaisedInTree nodes.new root.new.slot root.new.height result }
 {
     let place = Place {
         common_prefix_len: common_prefix_len_at(nodes, root.slot, change.leaf_bound()),
@@ -89,11 +89,49 @@ pub fn change<C: LeafChange<N>, const N: usize>(
         is_first: true,
     };
     match change_leaf(nodes, root.slot, root.height, change, place, taken, way) {
-        Outcome::Same => {}
-        Outcome::Raised(_) => {}
-        Outcome::Changed => *root = shrink(nodes, *root),
-        Outcome::Split(added) => *root = grow(nodes, *root, added, change.leaf_bound()),
+        Outcome::Same => None,
+        Outcome::Raised(leaf) => Some(leaf),
+        Outcome::Changed => {
+            *root = shrink(nodes, *root);
+            None
+        }
+        Outcome::Split(added) => {
+            *root = grow(nodes, *root, added, change.leaf_bound());
+            None
+        }
     }
+}
+
+/// Writes over a run of a tree, and puts the entries that are taken out into `taken`: in the leaf of the last write, if it goes on
+/// there, or else by a walk. `raised` is that leaf, if there is one.
+pub fn overwrite<P: Bound, Q: Bound, R: Bound, const N: usize>(
+    nodes: &mut Arena<Node<N>>,
+    root: &mut Root,
+    raised: &mut Option<RaisedLeaf>,
+    new: &Overwrite<'_, P, Q, R>,
+    taken: &mut ArrayVec<Entry, N>,
+    way: &mut Way,
+) -> Written
+    requires can_change { CanChangeBy (Q.bytes new.now.to.now) (Q.below new.now.to.now) (IsPartOfPartitioned (P.below new.now.from.now))
+        nodes.old root.old.slot root.old.height taken.old.items }
+    requires raised { IsRaisedInTree nodes.old root.old.slot root.old.height raised.old }
+    ensures items { IsChangedWithin (Q.below new.now.to.now) (GivesWritten (P.below new.now.from.now) (Q.below new.now.to.now)
+        (R.below new.now.past.now) (item_of new.now.first) new.now.second new.now.last result (map item_of taken.new.items)) true None
+        (items_in nodes.old root.old.height root.old.slot) (items_in nodes.new root.new.height root.new.slot) }
+    ensures tree { IsNewTree (Q.bytes new.now.to.now) nodes.old nodes.new root.new.slot root.new.height }
+    ensures raised { IsRaisedInTree nodes.new root.new.slot root.new.height raised.new }
+{
+    if let Some(leaf) = *raised {
+        if let Some(ended) = write_in_leaf(nodes, leaf, new, taken) {
+            return Written::Whole { ended };
+        }
+    }
+    let mut overwriting = Overwriting {
+        new,
+        written: Written::Partly { last: 0 },
+    };
+    *raised = change(nodes, root, &mut overwriting, taken, way);
+    overwriting.written
 }
 
 // Puts a new root over the old one and its right neighbour.
@@ -105,9 +143,7 @@ fn grow<P: Bound, const N: usize>(
 ) -> Root
     requires can_grow { CanGrow (P.bytes bound.now) nodes.old root.height root.slot added }
     ensures items { items_in nodes.new result.height result.slot ≡ items_with nodes.old root.height root.slot (Some added) }
-    ensures rooted { IsRooted nodes.new result.slot result.height }
-    ensures spare { spare_of nodes.new 0 + map_of.len nodes.new.records ≡ spare_of nodes.old 0 + map_of.len nodes.old.records }
-    ensures headed { AllAreHeads (P.bytes bound.now) (all_heads_of nodes.new) }
+    ensures tree { IsNewTree (P.bytes bound.now) nodes.old nodes.new result.slot result.height }
 {
     let mut node = Node::of(entry_for(nodes, root.slot));
     node.splice(1, 1, &[entry_for(nodes, added)], &[0]);
@@ -122,9 +158,8 @@ fn grow<P: Bound, const N: usize>(
 fn shrink<const N: usize>(nodes: &mut Arena<Node<N>>, root: Root) -> Root
     requires can_shrink { CanShrink nodes.old root.height root.slot }
     ensures items { items_in nodes.new result.height result.slot ≡ items_in nodes.old root.height root.slot }
-    ensures rooted { IsRooted nodes.new result.slot result.height }
-    ensures spare { spare_of nodes.new 0 + map_of.len nodes.new.records ≡ spare_of nodes.old 0 + map_of.len nodes.old.records }
-    ensures headed { (bytes : KeyBytes) → AllAreHeads bytes (all_heads_of nodes.old) → AllAreHeads bytes (all_heads_of nodes.new) }
+    ensures tree { (bytes : KeyBytes) → AllAreHeads bytes (all_heads_of nodes.old)
+        → IsNewTree bytes nodes.old nodes.new result.slot result.height }
 {
     let entries = nodes.header_ref(root.slot).entries();
     if root.height == 0 || entries.len() > 1 {

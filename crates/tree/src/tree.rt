@@ -15,12 +15,13 @@ use crate::bound::Bound;
 use crate::entry::Entry;
 use crate::expiring::{Expiring, Removal};
 use crate::node::Node;
-use crate::overwrite::{Overwrite, Overwriting, Written};
+use crate::overwrite::{Overwrite, Written};
 use crate::question::{Question, SIDE};
 use crate::questions::{answer_each, descend_each, look_at_each};
 use crate::rebalance::least;
-use crate::root::{Root, change, last};
+use crate::root::{Root, change, last, overwrite};
 use crate::search::{greatest, key_behind};
+use crate::walk::RaisedLeaf;
 use crate::way::Way;
 use arena::{Arena, ArenaError, Slot};
 use arrayvec::ArrayVec;
@@ -41,12 +42,15 @@ pub struct Tree<const N: usize> {
     // for how many items nodes are reserved
     room: usize,
     way: Way,
+    // the leaf of the last write, if the next one may go on there
+    raised: Option<RaisedLeaf>,
 }
 
 impl<const N: usize> Model for Tree<N> {
     ghost use Rattle.tree.specs.Tree.{Items, IsTree};
     ghost use Rattle.tree.specs.Node.{heads_list};
     ghost use Rattle.tree.specs.Subtree.{items_in};
+    ghost use Rattle.tree.specs.Walk.{IsRaisedInTree};
 
     ghost Value = { Items };
 
@@ -56,7 +60,8 @@ impl<const N: usize> Model for Tree<N> {
       all_heads = heads_list t.nodes;
     } };
 
-    ghost invariant = { λ t. IsTree t.nodes t.root.slot t.root.height t.len t.room };
+    ghost invariant = { λ t. IsTree t.nodes t.root.slot t.root.height t.len t.room
+        × IsRaisedInTree t.nodes t.root.slot t.root.height t.raised };
 }
 
 /// Returns the entry of an item.
@@ -89,6 +94,7 @@ impl<const N: usize> Tree<N> {
             len: 1,
             room: 1,
             way: Way::new(),
+            raised: None,
         })
     }
 
@@ -195,18 +201,14 @@ impl<const N: usize> Tree<N> {
         ensures headed { AllAreHeads (Q.bytes new.now.to.now) (tree_heads self.new) }
         ensures known { KnowItems self.new }
     {
-        let mut overwriting = Overwriting {
-            new,
-            written: Written::Partly { last: 0 },
-        };
-        change(
+        let written = overwrite(
             &mut self.nodes,
             &mut self.root,
-            &mut overwriting,
+            &mut self.raised,
+            new,
             taken,
             &mut self.way,
         );
-        let written = overwriting.written;
         self.len = self.len + written.put() - taken.len();
         written
     }
@@ -240,7 +242,7 @@ impl<const N: usize> Tree<N> {
                 next: None,
             },
         };
-        change(
+        self.raised = change(
             &mut self.nodes,
             &mut self.root,
             &mut expiring,

@@ -26,14 +26,23 @@ pub struct Place {
     pub is_first: bool,
 }
 
+/// A leaf that an item of a version came into. Each entry above it has this version, so that another one may come in without a walk.
+#[derive(Clone, Copy, Debug)]
+pub struct RaisedLeaf {
+    pub slot: Slot,
+    pub version: i64,
+    /// Where the item came in. Other items may have moved there since.
+    pub index: usize,
+}
+
 /// What a change made of a subtree.
 #[derive(Clone, Copy, Debug)]
 pub enum Outcome {
     /// It is as it was.
     Same,
-    /// Its first key is as it was, an item of this version came in, and no other version. A leaf has enough entries, and a node above
-    /// lost none.
-    Raised(i64),
+    /// Its first key is as it was, and an item came into this leaf of it, and no other version. A leaf has enough entries, and a node
+    /// above lost none.
+    Raised(RaisedLeaf),
     /// Its items are others.
     Changed,
     /// It was split: this is the slot of its right neighbour.
@@ -125,9 +134,7 @@ pub fn change_leaf<C: LeafChange<N>, const N: usize>(
     };
     match change_leaf(nodes, child, height - 1, change, below, taken, way) {
         Outcome::Same => Outcome::Same,
-        Outcome::Raised(version) => {
-            raise_entry(nodes, slot, step.index, version, change.leaf_bound())
-        }
+        Outcome::Raised(leaf) => raise_entry(nodes, slot, step.index, leaf, change.leaf_bound()),
         Outcome::Changed => {
             rebalance_child(nodes, slot, step.index, change.leaf_bound());
             Outcome::Changed

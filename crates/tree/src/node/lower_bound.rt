@@ -85,7 +85,7 @@ impl<const N: usize> Node<N> {
         ensures head { IsOwnHead (P.bytes bound.now) (P.target bound.now) common_prefix_len result (key_heads_of self.now) }
     {
         let alike = if self.heads[0] == 0 && self.prefix_len > 0 {
-            self.has_prefix_of_last(bound)
+            self.has_prefix_of(self.len() - 1, bound)
         } else {
             common_prefix_len >= self.prefix_len()
         };
@@ -117,15 +117,23 @@ impl<const N: usize> Node<N> {
         self.head_for(bound, common_prefix_len)
     }
 
-    // Returns whether the target begins as the last key does, as far as all keys begin alike. It may be said that it doesn't where
-    // that key may be empty.
-    fn has_prefix_of_last<P: Bound>(&self, bound: &P) -> bool
+    /// Returns whether the target begins as the key at an index does, as far as all keys begin alike. It may be said that it doesn't
+    /// where that key may be empty, and where there is none.
+    pub fn has_prefix_of<P: Bound>(&self, index: usize, bound: &P) -> bool
         requires headed { AreHeads (P.bytes bound.now) (key_heads_of self.now) }
-        requires some { 0 < length (entries_of self.now) }
         ensures agrees { IsTrue result → HasPrefix (P.bytes bound.now) (key_heads_of self.now) (P.target bound.now) }
     {
-        let last = self.len() - 1;
-        self.heads[last] != 0 && bound.begins_as(self.entries[last].key, self.prefix_len())
+        if index >= self.len() || self.heads[index] == 0 {
+            return false;
+        }
+        bound.begins_as(self.entries[index].key, self.prefix_len())
+    }
+
+    /// Returns whether the head of the last key is above this one.
+    pub fn ends_above(&self, head: u32) -> bool {
+        self.heads[..self.len]
+            .last()
+            .is_some_and(|last| *last > head)
     }
 
     /// Returns whether the entry at an index is below the bound. `head` is that of the target, if it begins as all keys do.
@@ -181,6 +189,7 @@ impl<const N: usize> Node<N> {
 
     /// Returns how many of the entries are below the bound, of which at most so many are. It looks at these one by one, from the
     /// last one on.
+    #[inline(always)]
     pub fn lower_bound_back<P: Bound>(&self, to: usize, bound: &P, head: Option<u32>) -> usize
         requires can_find { CanFind (P.bytes bound.now) (P.below bound.now) self.now }
         requires head { HasHead (P.bytes bound.now) (P.target bound.now) head (key_heads_of self.now) }
@@ -199,6 +208,7 @@ impl<const N: usize> Node<N> {
 // Returns an index behind a head that is below this one, or 0. Where the heads are in order and blocks hold all of them, it is
 // how many are below. It looks at the first head of each block, and then at one block, each time at all of them, and is written
 // without a branch that depends on a head.
+#[inline(always)]
 fn heads_below<const N: usize>(heads: &[u32; N], head: u32) -> usize
     ensures within { result ≤ N }
     ensures below { 0 < result → get_or heads.now (result - 1) 0 < head }

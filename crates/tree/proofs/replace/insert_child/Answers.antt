@@ -1,11 +1,10 @@
-use Rattle.std.proofs.Common.{◌≡◌, ◌+◌, [], ◌∷◌, ◌++◌, List, take, drop, refl, sym, ap, get_or, ◌∙◌, arith}
+use Rattle.std.proofs.Common.{◌≡◌, ◌+◌, ◌∷◌, ◌++◌, List, take, drop, refl, sym, ap, get_or, ◌∙◌}
 use Rattle.arena.specs.Arena.{with_header}
 use Rattle.tree.specs.declared.entry.Entry.{Entry}
 use Rattle.tree.specs.Subtree.{entries_at}
 use Rattle.tree.specs.Replace.{child_at}
-use Rattle.tree.proofs.Changing.{changes_if_moves}
-use Rattle.tree.proofs.KnownKeys.{headed_header}
-use Rattle.tree.proofs.Placing.{entries_from_header, put_entries, put_live, put_moves}
+use Rattle.tree.proofs.ChangedLeaf.{put_stored}
+use Rattle.tree.proofs.Placing.{entries_from_header, put_entries}
 use Rattle.tree.proofs.Sharing.{child_is}
 use Rattle.tree.proofs.replace.insert_child.Goals as goal
 
@@ -24,7 +23,6 @@ returns g c =
     ∙ sym (entries_from_header a slot c.header_ref-node.result.now c.header_ref-node.ensures.header) in
     let x_is : (get_or c.entries.result.now i d).child ≡ child_at (entries_at a slot) i =
     ap (λ (l : List Entry). (get_or l i d).child) listed ∙ sym (child_is _ i d can.within) in
-    let changes = changes_if_moves a b (slot ∷ []) (slot ∷ []) (put_moves a b slot now refl can.live can.keyless) in
     record {
       linked = record {
         first = t;
@@ -37,12 +35,5 @@ returns g c =
         second_child = c.entry_for-2.ensures.child;
         second_tells = c.entry_for-2.ensures.tells;
       };
-      stored = record {
-        live = put_live a b slot now refl;
-        live_added = tt;
-        changes = changes;
-        taken = omega (arith, changes.live, changes.spare);
-        filled = tt;
-        headed = headed_header (g.P.Bound.bytes c.args.bound.now) a b slot now refl can.headed c.splice_with_heads.ensures.headed;
-      };
+      stored = put_stored a slot now can.live can.keyless can.headed c.splice_with_heads.ensures.headed;
     }

@@ -1,17 +1,17 @@
-use Rattle.std.proofs.Common.{◌≡◌, inl, inr, ◌≤◌, ◌≤ℤ◌, w64, to_z, of_z, Some, length, get_or, refl, sym, ap, ◌∙◌, arith, rules}
+use Rattle.std.proofs.Common.{◌≡◌, inl, inr, ◌≤◌, ◌≤ℤ◌, w64, to_z, of_z, Some, length, get_or, set, refl, sym, ap, ◌∙◌, arith, rules}
 use Rattle.std.specs.Prelude.{slice_get}
 use Rattle.std.proofs.lemmas.List.{length-set}
 use Rattle.std.proofs.lemmas.Int.{ints, to_z-of_z}
 use Rattle.std.proofs.lemmas.Option.{slice_get-get_or}
 use Rattle.arena.specs.Arena.{with_header}
 use Rattle.tree.specs.declared.entry.Entry.{Entry}
-use Rattle.tree.specs.declared.walk.Outcome.TheVariants.{Raised}
+use Rattle.tree.specs.Node.{entries_of}
 use Rattle.tree.specs.Subtree.{entries_at}
 use Rattle.tree.specs.Tree.{least_of}
 use Rattle.tree.proofs.Headed.{headed_at}
 use Rattle.tree.proofs.KnownKeys.{headed_header}
 use Rattle.tree.proofs.LeafChange.{key_heads_stays}
-use Rattle.tree.proofs.Placing.{entries_from_header, put_entries}
+use Rattle.tree.proofs.Placing.{entries_from_header, put_entries, put_others}
 use Rattle.tree.proofs.Sharing.{child_is}
 use Rattle.tree.proofs.Storing.{entry_put}
 use Rattle.tree.proofs.replace.raise_entry.Given.{Over}
@@ -26,8 +26,8 @@ read_is g c =
     rw (read, ← c.entries.ensures.entries) c.index-entries-index.is
 
 -- Where a greater version is there, the entry is made right from the child.
-pub returns-then-entry-version : goal.returns-then-entry-version
-returns-then-entry-version g c = record {
+pub returns-then-entry-leaf : goal.returns-then-entry-leaf
+returns-then-entry-leaf g c = record {
   rebalanced = λ height family tells. c.rebalance_child.ensures.rebalanced height family;
   rest = c.rebalance_child.ensures.rest;
   outcome = inl refl;
@@ -43,26 +43,32 @@ returns g c =
     let d_is = read_is g (goal.at.returns g c).After-index-entries-index in
     let child = child_is es c.args.index d can.within ∙ ap (λ e. e.child) (sym d_is) in
     let filled : least_of g.row.N ≤ length (entries_at a d.child) = rw child at c.requires.filled in
-    let below : d.version ≤ℤ c.args.version = grind (arith, ints, c.if-entry-version.false) in
+    let below : d.version ≤ℤ c.args.leaf.version = grind (arith, ints, c.if-entry-leaf.false) in
     let there : slice_get es c.args.index ≡ Some d = slice_get-get_or es c.args.index d can.within ∙ ap Some (sym d_is) in
     let old = c.header_mut.result.now in
     let here = entries_from_header a slot old c.header_mut.ensures.header in
     let node = c.set.new.self in
-    let now_is = put_entries a (with_header a slot node) slot node refl ∙ c.set.ensures.entries in
-    let headed = key_heads_stays _ old node c.args.index d (record d { version = to_z w64 (of_z w64 c.args.version) })
+    let version : to_z w64 (of_z w64 c.args.leaf.version) ≡ c.args.leaf.version =
+    to_z-of_z w64 c.args.leaf.version (search rules) in
+    let set_is : entries_of node ≡ set es c.args.index (record d { version = c.args.leaf.version }) =
+    rw (version, ← here) at c.set.ensures.entries in
+    let now_is = put_entries a (with_header a slot node) slot node refl ∙ set_is in
+    let headed = key_heads_stays _ old node c.args.index d (record d { version = to_z w64 (of_z w64 c.args.leaf.version) })
     c.set.ensures.key_heads c.set.ensures.entries (ap (λ e. e.key) (rw here at d_is))
     (headed_at _ a slot old can.headed c.header_mut.ensures.header) in
     record {
-      rebalanced = λ height family tells. entry_put d (record d { version = c.args.version }) node can family
-          (ap (λ e. e.child) d_is) refl (λ subtree. tells d there below) filled
-          (rw (to_z-of_z w64 c.args.version c.ranges.version, ← here) at c.set.ensures.entries);
+      rebalanced = λ height family tells. entry_put d (record d { version = c.args.leaf.version }) node can family
+          (ap (λ e. e.child) d_is) refl (λ subtree. tells d there below) filled set_is;
       rest = record {
-        few_less = omega (arith, ap length now_is, ap length here, length-set {A = Entry});
+        few_less = omega (arith, ap length now_is, length-set {A = Entry});
         spare = search rules;
         headed = headed_header _ a (with_header a slot node) slot node refl can.headed headed;
       };
       outcome = inr (
-        ap Raised (to_z-of_z w64 c.args.version c.ranges.version),
-        omega (arith, ap length now_is, ap length here, length-set {A = Entry}),
+        refl,
+        record {
+          entry = λ e is. let same : d ≡ e = cc (there, is) in rw (← same) now_is;
+          others = put_others a _ slot node refl;
+        },
       );
     }

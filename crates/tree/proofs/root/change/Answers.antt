@@ -70,20 +70,30 @@ shrink-requires g c =
     )
 
 pub returns-in-Split : goal.returns-in-Split
-returns-in-Split g c = record {
-  items = rw c.grow.ensures.items c.in-Split.ensures.items;
-  rooted = c.grow.ensures.rooted;
-  spare = c.grow.ensures.spare ∙ c.in-Split.ensures.changed.changes.spare;
-  headed = rw (c.leaf_bound-in-Split.ensures.leaf_bound ∙ c.in-Split.ensures.leaf_bound) at c.grow.ensures.headed;
-}
+returns-in-Split g c =
+    let tree = c.grow.ensures.tree in
+    record {
+      items = rw c.grow.ensures.items c.in-Split.ensures.items;
+      tree = record {
+        rooted = tree.rooted;
+        spare = tree.spare ∙ c.in-Split.ensures.changed.changes.spare;
+        headed = rw (c.leaf_bound-in-Split.ensures.leaf_bound ∙ c.in-Split.ensures.leaf_bound) at tree.headed;
+      };
+      raised = tt;
+    }
 
 pub returns-in-Changed : goal.returns-in-Changed
-returns-in-Changed g c = record {
-  items = rw c.shrink.ensures.items c.in-Changed.ensures.items;
-  rooted = c.shrink.ensures.rooted;
-  spare = c.shrink.ensures.spare ∙ c.in-Changed.ensures.changed.changes.spare;
-  headed = c.shrink.ensures.headed _ c.in-Changed.ensures.changed.headed;
-}
+returns-in-Changed g c =
+    let tree = c.shrink.ensures.tree _ c.in-Changed.ensures.changed.headed in
+    record {
+      items = rw c.shrink.ensures.items c.in-Changed.ensures.items;
+      tree = record {
+        rooted = tree.rooted;
+        spare = tree.spare ∙ c.in-Changed.ensures.changed.changes.spare;
+        headed = tree.headed;
+      };
+      raised = tt;
+    }
 
 pub returns-in-Same : goal.returns-in-Same
 returns-in-Same g c =
@@ -91,9 +101,8 @@ returns-in-Same g c =
     let can = c.requires.can_change.changeable in
     record {
       items = c.in-Same.ensures.items;
-      rooted = rw (put.same refl) can.rooted;
-      spare = put.changes.spare;
-      headed = put.headed;
+      tree = record { rooted = rw (put.same refl) can.rooted; spare = put.changes.spare; headed = put.headed };
+      raised = tt;
     }
 
 -- A root to whose subtree a version came keeps its entries.
@@ -101,15 +110,19 @@ pub returns-in-Raised : goal.returns-in-Raised
 returns-in-Raised g c =
     let put = c.in-Raised.ensures.changed in
     let was = c.requires.can_change.changeable.rooted in
+    let told = put.raised _ refl in
     record {
       items = c.in-Raised.ensures.items;
-      rooted = record {
-        subtree = put.subtree;
-        branches = λ above. omega (arith, was.branches above, (put.raised _ refl).no_fewer above);
-        distinct = put.changes.distinct;
-        linked = omega (arith, put.changes.live, was.linked);
-        keyless = put.changes.keyless;
+      tree = record {
+        rooted = record {
+          subtree = put.subtree;
+          branches = λ above. omega (arith, was.branches above, told.no_fewer above);
+          distinct = put.changes.distinct;
+          linked = omega (arith, put.changes.live, was.linked);
+          keyless = put.changes.keyless;
+        };
+        spare = put.changes.spare;
+        headed = put.headed;
       };
-      spare = put.changes.spare;
-      headed = put.headed;
+      raised = told.there;
     }

@@ -45,7 +45,9 @@ returns g c =
     (omega arith) right (rw slots can.distinct) (can.linked ∙ ap length (sym slots)) in
     record {
       items = rw add-one (simp (first.ensures.child, second.ensures.child, append-nil) at root.0);
-      rooted = rw add-one root.1;
-      spare = c.place.ensures.changes.spare;
-      headed = c.place.ensures.headed (g.P.Bound.bytes c.args.bound.now) c.compute_heads.ensures.headed can.headed;
+      tree = record {
+        rooted = rw add-one root.1;
+        spare = c.place.ensures.changes.spare;
+        headed = c.place.ensures.headed (g.P.Bound.bytes c.args.bound.now) c.compute_heads.ensures.headed can.headed;
+      };
     }

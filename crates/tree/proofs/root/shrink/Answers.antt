@@ -28,7 +28,9 @@ returns g c =
     (rw (← one) at can.linked) moves in
     record {
       items = root.0 ∙ ap (λ n. items_in a n slot) one;
-      rooted = root.1;
-      spare = omega (arith, moves.live, moves.spare);
-      headed = λ bytes all. headed_released bytes a b slot all free.released free.others;
+      tree = λ bytes all. record {
+        rooted = root.1;
+        spare = omega (arith, moves.live, moves.spare);
+        headed = headed_released bytes a b slot all free.released free.others;
+      };
     }

@@ -1,23 +1,23 @@
-use Rattle.std.proofs.Common.{◌≡◌, ◌≤◌, ◌+◌, ◌-◌, ℕ, suc, inl, inr, None, Bool, List, Option, SFits, ℤ, w64, length, get_or, take, drop, refl, sym, ap, ◌∙◌, arith, rules}
-use Rattle.std.proofs.lemmas.Int.{to_z-of_z}
+use Rattle.std.proofs.Common.{◌≡◌, ◌≤◌, ◌+◌, ◌-◌, ℕ, suc, inl, inr, None, Bool, List, Option, length, get_or, take, drop, refl, sym, ap, ◌∙◌, arith, rules}
 use Rattle.tree.specs.declared.entry.Entry.{Entry}
 use Rattle.tree.specs.Item.{Item}
 use Rattle.tree.specs.Node.{entries_of}
 use Rattle.tree.specs.Path.{index_in}
 use Rattle.tree.specs.Subtree.{entries_at, items_in, slots_in}
 use Rattle.tree.specs.declared.walk.Outcome.TheVariants.{Same, Raised, Changed, Split}
+use Rattle.tree.specs.declared.walk.RaisedLeaf.{RaisedLeaf}
 use Rattle.tree.specs.Tree.{least_of}
 use Rattle.tree.specs.Replace.{items_of}
 use Rattle.tree.specs.Walk.{CanChangeLeaf, IsChangedWithin, added_by}
-use Rattle.tree.proofs.callers.Times.{once_if_distinct, distinct_if_once}
+use Rattle.tree.proofs.callers.Times.{once_if_distinct}
 use Rattle.tree.proofs.ChangedLeaf.{unchanged}
 use Rattle.tree.proofs.FirstKeys.{known_below}
 use Rattle.tree.proofs.Headed.{headed_at}
 use Rattle.tree.proofs.Placing.{entries_from_header}
-use Rattle.tree.proofs.Found.{read_partitioned, found, found_subtree, found_partitioned}
-use Rattle.tree.proofs.Stepping.{IsAt, around, child_right, child_once, items_split}
+use Rattle.tree.proofs.Found.{read_partitioned, found, found_partitioned}
+use Rattle.tree.proofs.Stepping.{IsAt, around, child_can, items_split}
 use Rattle.tree.proofs.Walking.{first_if, within_at}
-use Rattle.tree.proofs.Walked.{within_leaf, can_rebalance, can_insert, child_filled, family, tells_written, step_rebalanced, changed_above, step_linked, linked_above}
+use Rattle.tree.proofs.Walked.{within_leaf, can_rebalance, can_insert, child_filled, family, raised_below, tells_written, step_rebalanced, changed_above, step_linked, linked_above}
 use Rattle.tree.proofs.walk.+change_leaf.Given.{Over}
 use Rattle.tree.proofs.walk.+change_leaf.Goals as goal
 use Rattle.tree.proofs.walk.+change_leaf.Goals.{After-index-entries-step, After-change_leaf, After-raise_entry, After-rebalance_child}
@@ -76,7 +76,7 @@ module _ (g : Over) (t : ℕ) (c : After-index-entries-step g t) where
   index_is : i ≡ index_in is_below (entries_of c.header_ref-node.result.now)
   index_is = rw c.leaf_bound.ensures.leaf_bound at c.step-step.ensures.step.index_is
 
-  at_child : IsAt c.args.nodes.now c.args.height h c.args.slot is_below i x
+  at_child : IsAt c.args.nodes.now c.args.height h c.args.slot i x
   at_child =
       let next : suc h ≡ c.args.height = omega (arith, c.if-height-eq0.false) in
       record {
@@ -87,7 +87,6 @@ module _ (g : Over) (t : ℕ) (c : After-index-entries-step g t) where
         within = omega (arith, c.step-step.ensures.step.within, ap length read);
         d = c.index-entries-step.result;
         x_is = ap (λ l. (get_or l i c.index-entries-step.result).child) (c.entries-entries.ensures.entries ∙ sym read);
-        index = index_is ∙ ap (index_in is_below) (sym read);
       }
 
   -- The child can be changed.
@@ -105,18 +104,8 @@ module _ (g : Over) (t : ℕ) (c : After-index-entries-step g t) where
       let header = c.header_ref-node.ensures.header in
       let f = found a L n c.args.slot is_below node _ i c.index-entries-step.result c.if-height-eq0.false can.changeable.subtree
       can.searched.partitioned header vs_is (index_is ∙ ap (index_in is_below) (sym vs_is)) in
-      let filled : L ≤ length (entries_at a x) = rw at.x_is (child_right at).filled in
       record {
-        changeable = record {
-          fan_out = can.changeable.fan_out;
-          few = can.changeable.few;
-          subtree = found_subtree a L n c.args.slot is_below x f;
-          some = omega (arith, filled);
-          branches = λ _. omega (arith, filled);
-          distinct = distinct_if_once (slots_in a h x) (λ s. omega (arith, child_once at s));
-          keyless = can.changeable.keyless;
-          room = omega (arith, can.changeable.room);
-        };
+        changeable = child_can at;
         searched = record {
           partitioned = found_partitioned a L n c.args.slot is_below x f;
           headed = can.searched.headed;
@@ -138,7 +127,7 @@ within : (g : Over) (t : ℕ) (c : After-change_leaf g t) (Gives : Bool → Opti
     → here (items_in a c.args.height c.args.slot) all)
 within g t c Gives now all all_is changed =
     let k = (goal.at.After-change_leaf g t c).After-index-entries-step in
-    within_at (at_child g t k) Gives _ _ _ _ now all c.requires.can_change.searched.partitioned
+    within_at (at_child g t k) (index_is g t k ∙ ap (index_in (is_below g t k)) (sym (read g t k))) Gives _ _ _ _ now all c.requires.can_change.searched.partitioned
     (first_if _ _ _ c.if-place.below-true c.if-place.below-false)
     (rw (read g t k, ← c.entries-entries.ensures.entries) c.key_at.ensures.key) all_is changed
 
@@ -176,31 +165,31 @@ returns-in-Same g t c =
       leaf_bound = search rules;
     }
 
-raised_not_same : (version : ℤ) → Raised version ≡ Same → ⊥
-raised_not_same version is = cc
+raised_not_same : (leaf : RaisedLeaf) → Raised leaf ≡ Same → ⊥
+raised_not_same leaf is = cc
 
 changed_not_same : Changed ≡ Same → ⊥
 changed_not_same is = cc
 
-changed_not_raised : (version : ℤ) → Changed ≡ Raised version → ⊥
-changed_not_raised version is = cc
+changed_not_raised : (leaf : RaisedLeaf) → Changed ≡ Raised leaf → ⊥
+changed_not_raised leaf is = cc
 
 pub returns-in-Raised : goal.returns-in-Raised
 returns-in-Raised g t c =
     let here = goal.at.returns-in-Raised g t c in
     let at = at_child g t here.After-index-entries-step in
     let put = c.in-Raised.ensures.changed in
-    let fits : SFits w64 c.in-Raised.version = search rules in
-    let same = to_z-of_z w64 c.in-Raised.version fits in
-    let made = (rw same at c.raise_entry.ensures.rebalanced) (c.args.height - 1) (family at put refl)
-    (tells_written at put refl c.in-Raised.version refl) in
+    let made = c.raise_entry.ensures.rebalanced (c.args.height - 1) (family at put refl) (tells_written at put refl _ refl) in
     let rest = rw (c.leaf_bound-in-Raised.ensures.leaf_bound ∙ c.in-Raised.ensures.leaf_bound) at c.raise_entry.ensures.rest in
-    let told = rw same at c.raise_entry.ensures.outcome in
+    let told = c.raise_entry.ensures.outcome in
     let alone : added_by c.raise_entry.result ≡ None =
     elim told [ inl is ↦ ap added_by is | inr is ↦ ap added_by is.0 ] in
     let changed = changed_above at put refl made c.raise_entry.result alone
-    (λ e. elim told [ inl is ↦ changed_not_same (sym is ∙ e) | inr is ↦ raised_not_same c.in-Raised.version (sym is.0 ∙ e) ])
-    (λ version e. elim told [ inl is ↦ absurd (changed_not_raised version (sym is ∙ e)) | inr is ↦ (sym is.0 ∙ e, is.1) ]) rest in
+    (λ e. elim told [ inl is ↦ changed_not_same (sym is ∙ e) | inr is ↦ raised_not_same c.in-Raised.leaf (sym is.0 ∙ e) ])
+    (λ leaf e. elim told [
+      | inl is ↦ absurd (changed_not_raised leaf (sym is ∙ e))
+      | inr is ↦ (let same = sym is.0 ∙ e in (same, raised_below at put refl leaf is.1 (cc (same)) same))
+    ]) rest in
     rw alone record {
       changed = changed;
       items = within g t here.After-change_leaf _ _ _ (step_rebalanced at put refl made).items_are c.in-Raised.ensures.items;
@@ -216,7 +205,7 @@ returns-in-Changed g t c =
     let same = c.leaf_bound-in-Changed.ensures.leaf_bound ∙ c.in-Changed.ensures.leaf_bound in
     let rest = rw same at c.rebalance_child.ensures.rest in
     record {
-      changed = changed_above at put refl made Changed refl changed_not_same (λ version is. absurd (changed_not_raised version is)) rest;
+      changed = changed_above at put refl made Changed refl changed_not_same (λ leaf is. absurd (changed_not_raised leaf is)) rest;
       items = within g t here.After-change_leaf _ _ _ (step_rebalanced at put refl made).items_are c.in-Changed.ensures.items;
       leaf_bound = search rules;
     }
@@ -229,7 +218,7 @@ returns-in-Some g t c =
     let step = step_linked at c.in-Split.ensures.changed (Split c.in-Some.added) c.in-Some.ensures.linked put in
     record {
       changed = linked_above at c.in-Split.ensures.changed (Split c.in-Some.added) c.in-Some.ensures.linked put
-          (λ is. absurd (cc)) (λ version is. absurd (cc));
+          (λ is. absurd (cc)) (λ leaf is. absurd (cc));
       items = within g t here.After-change_leaf _ _ _ step.items_are c.in-Split.ensures.items;
       leaf_bound = search rules;
     }
@@ -242,7 +231,7 @@ returns-in-None g t c =
     let step = step_linked at c.in-Split.ensures.changed Changed c.in-None.ensures.linked put in
     record {
       changed = linked_above at c.in-Split.ensures.changed Changed c.in-None.ensures.linked put (λ is. absurd (cc))
-          (λ version is. absurd (cc));
+          (λ leaf is. absurd (cc));
       items = within g t here.After-change_leaf _ _ _ step.items_are c.in-Split.ensures.items;
       leaf_bound = search rules;
     }

@@ -12,7 +12,7 @@ returns g c =
     let agrees : HasPrefix (g.P.Bound.bytes c.args.bound.now) (key_heads_of node) (g.P.Bound.target c.args.bound.now) =
     elim c.if-self-eq0.branch [
       | then-self-eq0+then-self-gt0 w ↦
-          w.has_prefix_of_last-alike.ensures.agrees (sym w.alike-is ∙ c.if-not-alike.false)
+          w.has_prefix_of-alike.ensures.agrees (sym w.alike-is ∙ c.if-not-alike.false)
       | else-self-eq0 w ↦
           let first = entry_at (entries_of node) 0 c.requires.some in
           let enough = leb-true w.prefix_len.result c.args.common_prefix_len (sym w.alike-is ∙ c.if-not-alike.false) in

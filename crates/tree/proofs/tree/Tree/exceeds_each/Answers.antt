@@ -16,7 +16,7 @@ asked : (g : Over) (c : After-self g)
     → All (λ q. IsAsked c.self.inside.nodes (least_of g.row.N) c.self.inside.root.height c.self.inside.root.slot
     (g.P.Bound.bytes q.from) (g.P.Bound.below q.from) (g.Q.Bound.below q.to)) c.args.questions.now
 asked g c i q within =
-    let some = root_some _ _ _ _ _ c.self.invariant in
+    let some = root_some _ _ _ _ _ c.self.invariant.0 in
     let from = (rw (← c.self.view_is) at c.requires.from) i q within in
     let to = (rw (← c.self.view_is) at c.requires.to) i q within in
     let heads = headed_from_list _ c.self.inside.nodes ((rw (← c.self.view_is) at c.requires.headed) i q within) in

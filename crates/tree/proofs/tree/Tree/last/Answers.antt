@@ -7,7 +7,7 @@ use Rattle.tree.proofs.tree.Tree.last.Goals as goal
 pub last-requires : goal.last-requires
 last-requires g c =
     let t = c.self.inside in
-    let i = c.self.invariant in
+    let i = c.self.invariant.0 in
     let some = root_some t.nodes t.root.slot t.root.height t.len t.room i in
     let headed = headed_from_list (g.P.Bound.bytes c.args.bound.now) t.nodes (rw (← c.self.view_is) at c.requires.headed) in
     search (rules, i.rooted.subtree, some, headed, rw (← c.self.view_is) at c.requires.partitioned)

@@ -15,9 +15,10 @@ invariant_of-result g c =
     let b = c.place.new.self in
     let enough = c.in_ok-reserve_slots.ensures.room in
     let spare = placed_spare a b (omega arith) c.in_ok-slot.ensures.spare in
-    tree_of_one a b _ c.of.result c.item.result c.requires.fan_out c.requires.few
+    let tree = tree_of_one a b _ c.of.result c.item.result c.requires.fan_out c.requires.few
     (c.reserve_slots.ensures.records ∙ c.new-nodes.ensures.empty) enough c.in_ok-slot.ensures.was_free c.in_ok-slot.ensures.placed
-    c.in_ok-slot.ensures.record c.in_ok-slot.ensures.others spare c.of.ensures.entries
+    c.in_ok-slot.ensures.record c.in_ok-slot.ensures.others spare c.of.ensures.entries in
+    (tree, tt)
 
 pub returns-clause-headed : goal.returns-clause-headed
 returns-clause-headed g c bytes empty =

@@ -13,15 +13,16 @@ use Rattle.tree.proofs.tree.Tree.overwrite.Given as given
 use Rattle.tree.proofs.tree.Tree.overwrite.Goals as goal
 use Rattle.tree.proofs.tree.Tree.overwrite.Goals.{After-len}
 
-pub change-requires : goal.change-requires
-change-requires g c =
+pub overwrite-written-requires : goal.overwrite-written-requires
+overwrite-written-requires g c =
     let can = rw (← c.self.view_is) at c.requires.can_overwrite in
     let headed = headed_from_list (g.Q.Bound.bytes c.args.new.now.to.now) c.self.inside.nodes can.headed in
     let t = c.self.invariant in
-    (omega arith, (omega arith, can_change t (omega arith) can.to headed ([], [], rw append-nil can.from) can.none_taken))
+    let known = can_change t.0 (omega arith) can.to headed ([], [], rw append-nil can.from) can.none_taken in
+    (omega arith, (omega arith, (known, t.1)))
 
 module _ (g : given.Over) (c : After-len g) where
-  open c use {args.{new.{now as new}}, self.{inside as old}, change.{new.{nodes, root, change, taken}}}
+  open c use {args.{new.{now as new}}, self.{inside as old}, overwrite-written.{result as written, new.{nodes, root, taken}}}
 
   abbrev was : List Item
   was = items_in old.nodes old.root.height old.root.slot
@@ -31,13 +32,13 @@ module _ (g : given.Over) (c : After-len g) where
 
   -- what became of the items
   done : Overwrites (g.P.Bound.below new.from.now) (g.Q.Bound.below new.to.now) (g.R.Bound.below new.past.now)
-      (item_of new.first) new.second new.last change.written (map item_of taken.items) was now
+      (item_of new.first) new.second new.last written (map item_of taken.items) was now
   done =
       let can = rw (← c.self.view_is) at c.requires.can_overwrite in
-      overwritten _ _ _ new.nested _ _ _ _ _ was now c.change.ensures.items can.from can.to can.past can.some
+      overwritten _ _ _ new.nested _ _ _ _ _ was now c.overwrite-written.ensures.items can.from can.to can.past can.some
 
   -- how many items there are
-  counted : (length now + c.len.result ≡ length was + put_of change.written) × (1 ≤ length now)
+  counted : (length now + c.len.result ≡ length was + put_of written) × (1 ≤ length now)
   counted =
       let can = rw (← c.self.view_is) at c.requires.can_overwrite in
       let count = length-overwritten _ _ _ new.nested _ _ _ _ _ was now can.some done in
@@ -47,27 +48,30 @@ pub overflow_add-self : goal.overflow_add-self
 overflow_add-self g c =
     let fits : Fits w64 c.self.inside.room = search rules in
     let can = rw (← c.self.view_is) at c.requires.can_overwrite in
-    omega (arith, can.room, c.put.ensures.put, put_most c.change.new.change.written, c.self.invariant.counted)
+    omega (arith, can.room, c.put.ensures.put, put_most c.overwrite-written.result, c.self.invariant.0.counted)
 
 pub overflow_sub-self : goal.overflow_sub-self
 overflow_sub-self g c =
-    omega (arith, counted g (goal.at.overflow_sub-self g c).After-len, c.put.ensures.put, c.self.invariant.counted)
+    omega (arith, counted g (goal.at.overflow_sub-self g c).After-len, c.put.ensures.put, c.self.invariant.0.counted)
 
 pub invariant_of-self : goal.invariant_of-self
 invariant_of-self g c =
     let count = counted g (goal.at.invariant_of-self g c).After-len in
     let put = c.put.ensures.put in
     let can = rw (← c.self.view_is) at c.requires.can_overwrite in
-    let most = put_most c.change.new.change.written in
-    tree_put c.self.inside.nodes _ _ _ _ _ _ _ _ c.self.invariant c.change.ensures.rooted c.change.ensures.spare
-    (omega (arith, c.self.invariant.counted)) (omega (arith, c.self.invariant.counted))
-    (omega (arith, can.room, c.self.invariant.counted))
+    let most = put_most c.overwrite-written.result in
+    let was = c.self.invariant.0 in
+    let tree = c.overwrite-written.ensures.tree in (
+      tree_put c.self.inside.nodes _ _ _ _ _ _ _ _ was tree.rooted tree.spare (omega (arith, was.counted))
+          (omega (arith, was.counted)) (omega (arith, can.room, was.counted)),
+      c.overwrite-written.ensures.raised,
+    )
 
 pub returns-clause-items : goal.returns-clause-items
 returns-clause-items g c = rw (← c.self.view_is) (done g (goal.at.returns-clause-items g c).After-len)
 
 pub returns-clause-headed : goal.returns-clause-headed
-returns-clause-headed g c = headed_in_list _ c.change.new.nodes c.change.ensures.headed
+returns-clause-headed g c = headed_in_list _ c.overwrite-written.new.nodes c.overwrite-written.ensures.tree.headed
 
 pub returns-clause-known : goal.returns-clause-known
-returns-clause-known g c = know_items c.change.new.nodes _ _ c.self.inside.room c.change.ensures.rooted
+returns-clause-known g c = know_items c.overwrite-written.new.nodes _ _ c.self.inside.room c.overwrite-written.ensures.tree.rooted

@@ -13,15 +13,15 @@ use Rattle.tree.proofs.tree.Tree.remove_expired.Given as given
 use Rattle.tree.proofs.tree.Tree.remove_expired.Goals as goal
 use Rattle.tree.proofs.tree.Tree.remove_expired.Goals.{After-len}
 
-pub change-requires : goal.change-requires
-change-requires g c =
+pub change-self-inside-requires : goal.change-self-inside-requires
+change-self-inside-requires g c =
     let can = rw (← c.self.view_is) at c.requires.can_remove in
     let headed = headed_from_list (g.P.Bound.bytes c.args.bound.now) c.self.inside.nodes can.headed in
-    let t = c.self.invariant in
+    let t = c.self.invariant.0 in
     (omega arith, (omega arith, can_change t (omega arith) can.partitioned headed tt can.none_taken))
 
 module _ (g : given.Over) (c : After-len g) where
-  open c use {args.{bound, count, edge, before}, self.{inside as old}, change.{new.{nodes, root, change, taken}}}
+  open c use {args.{bound, count, edge, before}, self.{inside as old}, change-self-inside.{new.{nodes, root, change, taken}}}
 
   abbrev was : List Item
   was = items_in old.nodes old.root.height old.root.slot
@@ -35,7 +35,7 @@ module _ (g : given.Over) (c : After-len g) where
       let can = rw (← c.self.view_is) at c.requires.can_remove in
       let edge_is = to_z-of_z w64 edge c.ranges.edge in
       let before_is = to_z-of_z w64 before c.ranges.before in
-      unexpired_all _ _ _ _ _ _ was now (rw (edge_is, before_is) at c.change.ensures.items) can.some
+      unexpired_all _ _ _ _ _ _ was now (rw (edge_is, before_is) at c.change-self-inside.ensures.items) can.some
 
   -- how many items there are
   counted : (length now + c.len.result ≡ length was) × (1 ≤ length now)
@@ -45,20 +45,23 @@ module _ (g : given.Over) (c : After-len g) where
 
 pub overflow_sub-self : goal.overflow_sub-self
 overflow_sub-self g c =
-    omega (arith, counted g (goal.at.overflow_sub-self g c).After-len, c.self.invariant.counted)
+    omega (arith, counted g (goal.at.overflow_sub-self g c).After-len, c.self.invariant.0.counted)
 
 pub invariant_of-self : goal.invariant_of-self
 invariant_of-self g c =
     let count = counted g (goal.at.invariant_of-self g c).After-len in
-    tree_put c.self.inside.nodes _ _ _ _ _ _ _ _ c.self.invariant c.change.ensures.rooted c.change.ensures.spare
-    (omega (arith, c.self.invariant.counted)) (omega (arith, c.self.invariant.counted))
-    (omega (arith, c.self.invariant.counted, c.self.invariant.within))
+    let was = c.self.invariant.0 in
+    let tree = c.change-self-inside.ensures.tree in (
+      tree_put c.self.inside.nodes _ _ _ _ _ _ _ _ was tree.rooted tree.spare (omega (arith, was.counted))
+          (omega (arith, was.counted)) (omega (arith, was.counted, was.within)),
+      c.change-self-inside.ensures.raised,
+    )
 
 pub returns-clause-removal : goal.returns-clause-removal
 returns-clause-removal g c = rw (← c.self.view_is) (done g (goal.at.returns-clause-removal g c).After-len)
 
 pub returns-clause-headed : goal.returns-clause-headed
-returns-clause-headed g c = headed_in_list _ c.change.new.nodes c.change.ensures.headed
+returns-clause-headed g c = headed_in_list _ c.change-self-inside.new.nodes c.change-self-inside.ensures.tree.headed
 
 pub returns-clause-known : goal.returns-clause-known
-returns-clause-known g c = know_items c.change.new.nodes _ _ c.self.inside.room c.change.ensures.rooted
+returns-clause-known g c = know_items c.change-self-inside.new.nodes _ _ c.self.inside.room c.change-self-inside.ensures.tree.rooted

@@ -3,7 +3,7 @@ use Rattle.std.specs.FinMap as finite
 use Rattle.std.proofs.Math.Nat.{mul-le-mul_left}
 use Rattle.arena.specs.Arena.{spare_of}
 use Rattle.tree.specs.Tree.{least_of}
-use Rattle.tree.proofs.Trees.{enough_nodes, tree_stays}
+use Rattle.tree.proofs.Trees.{enough_nodes, raised_stays, tree_stays}
 use Rattle.tree.proofs.tree.Tree.reserve.Goals as goal
 
 pub invariant_of-self : goal.invariant_of-self
@@ -12,8 +12,11 @@ invariant_of-self g c =
     let nodes = c.reserve_slots.new.self in
     let more : finite.len t.nodes.records + spare_of t.nodes 0 ≤ finite.len t.nodes.records + spare_of nodes 0 =
     omega (arith, c.reserve_slots.ensures.spare_stays) in
-    tree_stays t.nodes nodes _ _ _ _ _ c.reserve_slots.ensures.records c.self.invariant (omega arith)
-    (omega (arith, mul-le-mul_left (least_of g.row.N - 1) more, c.self.invariant.reserved))
+    let same = c.reserve_slots.ensures.records in (
+      tree_stays t.nodes nodes _ _ _ _ _ same c.self.invariant.0 (omega arith)
+          (omega (arith, mul-le-mul_left (least_of g.row.N - 1) more, c.self.invariant.0.reserved)),
+      raised_stays t.nodes nodes _ _ _ same c.self.invariant.1,
+    )
 
 pub invariant_of-self-2 : goal.invariant_of-self-2
 invariant_of-self-2 g c =
@@ -24,5 +27,8 @@ invariant_of-self-2 g c =
     let reserved = c.in_ok-reserve_slots.ensures.room in
     let total : c.args.room / k + 67 ≤ finite.len t.nodes.records + spare_of nodes 0 =
     omega (arith, c.in-Some.ensures.1, c.saturating_sub-missing.ensures, c.live.ensures.count) in
-    tree_stays t.nodes nodes _ _ _ _ _ c.reserve_slots.ensures.records c.self.invariant (omega arith)
-    (enough_nodes k c.args.room (finite.len t.nodes.records + spare_of nodes 0) (omega arith) total)
+    let kept = c.reserve_slots.ensures.records in
+    let enough = enough_nodes k c.args.room (finite.len t.nodes.records + spare_of nodes 0) (omega arith) total in (
+      tree_stays t.nodes nodes _ _ _ _ _ kept c.self.invariant.0 (omega arith) enough,
+      raised_stays t.nodes nodes _ _ _ kept c.self.invariant.1,
+    )
