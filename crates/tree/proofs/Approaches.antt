@@ -1,6 +1,5 @@
 -- Where the way of a question leads.
-use Rattle.std.proofs.Common.{rules, ℕ, Bool, false, List, Option, Some}
-use Rattle.std.specs.Prelude.{ℤ}
+use Rattle.std.proofs.Common.{rules, ℕ, Bool, false, List, Option, Some, ℤ}
 use Rattle.arena.specs.Arena.{Arena}
 use Rattle.tree.specs.declared.node.Node.{Node}
 use Rattle.tree.specs.declared.approach.Approach.{Approach}

@@ -1,6 +1,5 @@
 -- The first key of a child's entries is that of its entry.
-use Rattle.std.proofs.Common.{◌≡◌, ℕ, zero, suc, ◌-◌, ◌≤◌, Bool, List, [], ◌∷◌, Some, length, get_or, slice_get, flat_map, All, refl, sym, ◌∙◌, ap, arith}
-use Rattle.std.specs.Prelude.{◌≤ℤ◌, Option}
+use Rattle.std.proofs.Common.{◌≡◌, ℕ, zero, suc, ◌-◌, ◌≤◌, Bool, List, [], ◌∷◌, Some, length, get_or, slice_get, flat_map, All, refl, sym, ◌∙◌, ap, arith, ◌≤ℤ◌, Option}
 use Rattle.std.proofs.lemmas.Int.{ints}
 use Rattle.std.proofs.lemmas.List.Concat.{flat_map_single}
 use Rattle.std.proofs.lemmas.List.Elements.{All-cons, All-nil, All-head}

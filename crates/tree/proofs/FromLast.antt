@@ -1,6 +1,5 @@
 -- The items before a bound, of those before another bound the last alone, in parts.
-use Rattle.std.proofs.Common.{◌≡◌, ℕ, ◌+◌, ◌-◌, ◌≤◌, Bool, true, false, not, List, [], ◌∷◌, ◌++◌, length, drop, filter, map, refl, sym, ◌∙◌, ap, inl, inr, arith}
-use Rattle.std.specs.Prelude.{ℤ, ◌≤ℤ◌, slice_range}
+use Rattle.std.proofs.Common.{◌≡◌, ℕ, ◌+◌, ◌-◌, ◌≤◌, Bool, true, false, not, List, [], ◌∷◌, ◌++◌, length, drop, filter, map, refl, sym, ◌∙◌, ap, inl, inr, arith, ℤ, ◌≤ℤ◌, slice_range}
 use Rattle.std.proofs.lemmas.List.{drop-append-le, drop-take, drop-map, take-map, length-map, take_at}
 use Rattle.std.proofs.lemmas.List.Elements.{All-cons, All-drop, All-filter}
 use Rattle.arena.specs.Arena.{Arena}

@@ -1,6 +1,5 @@
 -- The greatest version of lists in parts.
-use Rattle.std.proofs.Common.{rules, ◌≡◌, List, [], ◌∷◌, Option, Some, None, MatchOption, map, flat_map, All, Any, ap, inl, inr, arith}
-use Rattle.std.specs.Prelude.{ℤ, ◌≤ℤ◌}
+use Rattle.std.proofs.Common.{rules, ◌≡◌, List, [], ◌∷◌, Option, Some, None, MatchOption, map, flat_map, All, Any, ap, inl, inr, arith, ℤ, ◌≤ℤ◌}
 use Rattle.std.proofs.lemmas.Int.{ints}
 use Rattle.std.proofs.lemmas.List.Elements.{All-nil, All-head, All-tail, All-append, All-weaker, All-map}
 use Rattle.tree.specs.declared.entry.Entry.{Entry}

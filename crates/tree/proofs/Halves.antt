@@ -1,7 +1,6 @@
 -- The items from one bound to another below a node that is no leaf: those of the child that the first bound is in, those of the
 -- children between, and those of the child that the second bound is in.
-use Rattle.std.proofs.Common.{◌≡◌, ℕ, ◌+◌, ◌-◌, ◌<◌, ◌≤◌, Bool, true, false, List, ◌++◌, length, get_or, flat_map, All, arith}
-use Rattle.std.specs.Prelude.{slice_range}
+use Rattle.std.proofs.Common.{◌≡◌, ℕ, ◌+◌, ◌-◌, ◌<◌, ◌≤◌, Bool, true, false, List, ◌++◌, length, get_or, flat_map, All, arith, slice_range}
 use Rattle.std.proofs.lemmas.List.Elements.{All-take, All-drop}
 use Rattle.arena.specs.Arena.{Arena}
 use Rattle.tree.specs.declared.entry.Entry.{Entry}

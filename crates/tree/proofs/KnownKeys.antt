@@ -1,6 +1,5 @@
 -- What holds of all keys of entries, as that they are known.
-use Rattle.std.proofs.Common.{◌≡◌, ℕ, ◌<◌, List, length, get_or, option_map, ap, arith}
-use Rattle.std.specs.List.{All}
+use Rattle.std.proofs.Common.{◌≡◌, ℕ, ◌<◌, List, length, get_or, option_map, ap, arith, All}
 use Rattle.std.proofs.lemmas.List.{get_or-map, length-map}
 use Rattle.arena.specs.Arena.{Arena, with_header}
 use Rattle.tree.specs.declared.node.Node.{Node}

@@ -1,10 +1,7 @@
 -- The greatest of a version, which may be missing, and those of items in parts.
-use Rattle.std.proofs.Common.{◌≡◌, Bool, false, List, [], ◌∷◌, ◌++◌, Option, Some, None, IfSome, IsTrue, ◌↔◌, filter, flat_map, All, refl, ap, inl, inr, arith, append-nil, append_assoc}
-use Rattle.std.specs.Prelude.{ℤ, ◌≤ℤ◌, ◌<ℤ◌}
+use Rattle.std.proofs.Common.{◌≡◌, Bool, false, List, [], ◌∷◌, ◌++◌, Option, Some, None, IfSome, IsTrue, ◌↔◌, filter, flat_map, All, refl, ap, inl, inr, arith, append-nil, append_assoc, ℤ, ◌≤ℤ◌, ◌<ℤ◌, w64, SFits, to_z, of_z}
 use Rattle.std.specs.Int.{int_max}
 use Rattle.std.proofs.lemmas.Int.{ints, clamps, to_z-of_z}
-use mir.Syntax.{w64}
-use mir.Val.{SFits, to_z, of_z}
 use Rattle.std.proofs.lemmas.List.Elements.{All-nil, All-append, All-filter}
 use Rattle.keys.proofs.callers.SomeElement.{Any-parts, Any-left, Any-right}
 use Rattle.tree.specs.declared.entry.Entry.{Entry}

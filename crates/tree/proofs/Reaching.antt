@@ -1,8 +1,5 @@
 -- The leaf that a bound finds: the items before it and behind it.
-use Rattle.std.proofs.Common.{rules, ◌≡◌, ℕ, zero, suc, Bool, true, false, ◌++◌}
-use Rattle.std.proofs.Common.{map}
-use Rattle.std.proofs.Common.{All, sym}
-use Rattle.std.proofs.lemmas.List.{append_assoc, append-nil}
+use Rattle.std.proofs.Common.{rules, ◌≡◌, ℕ, zero, suc, Bool, true, false, ◌++◌, map, All, sym, append_assoc, append-nil}
 use Rattle.std.proofs.lemmas.List.Elements.{All-nil, All-append}
 use Rattle.arena.specs.Arena.{Arena}
 use Rattle.tree.specs.declared.node.Node.{Node}

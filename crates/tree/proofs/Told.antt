@@ -1,6 +1,5 @@
 -- What a search by heads tells of the items before a bound, of those before another bound the last alone.
-use Rattle.std.proofs.Common.{◌≡◌, ℕ, zero, suc, ◌+◌, ◌-◌, ◌<◌, ◌≤◌, Bool, true, false, List, [], ◌∷◌, ◌++◌, Option, Some, IsTrue, ◌↔◌, length, get_or, slice_get, take, drop, filter, flat_map, map, All, refl, ◌∙◌, ap, inl, inr, arith, append-nil, append_assoc, length-append}
-use Rattle.std.specs.Prelude.{ℤ, ◌<ℤ◌, ◌≤ℤ◌, slice_range, Any}
+use Rattle.std.proofs.Common.{◌≡◌, ℕ, zero, suc, ◌+◌, ◌-◌, ◌<◌, ◌≤◌, Bool, true, false, List, [], ◌∷◌, ◌++◌, Option, Some, IsTrue, ◌↔◌, length, get_or, slice_get, take, drop, filter, flat_map, map, All, refl, ◌∙◌, ap, inl, inr, arith, append-nil, append_assoc, length-append, ℤ, ◌<ℤ◌, ◌≤ℤ◌, slice_range, Any}
 use Rattle.std.proofs.Math.Seq.{drop-append-add}
 use Rattle.std.proofs.lemmas.Bool.{cases_Bool}
 use Rattle.std.proofs.lemmas.Grind.{flat_map-append}

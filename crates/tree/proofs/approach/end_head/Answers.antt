@@ -1,5 +1,4 @@
-use Rattle.std.proofs.Common.{rules, Some, IsTrue, sym, ◌∙◌, arith}
-use Rattle.std.proofs.lemmas.Bool.{leb-true}
+use Rattle.std.proofs.Common.{rules, Some, IsTrue, sym, ◌∙◌, arith, leb-true}
 use Rattle.tree.specs.Heads.{HasPrefix}
 use Rattle.tree.specs.Node.{key_heads_of}
 use Rattle.tree.proofs.Headed.{key_heads_kept}

@@ -1,5 +1,4 @@
-use Rattle.std.proofs.Common.{Some, IsTrue, length, take}
-use Rattle.std.specs.Prelude.{◌↔◌, ◌<ℤ◌}
+use Rattle.std.proofs.Common.{Some, IsTrue, length, take, ◌↔◌, ◌<ℤ◌}
 use Rattle.std.specs.List.{AllZip, Any}
 use Rattle.tree.specs.Path.{from_last}
 use Rattle.tree.specs.Subtree.{items_in}

@@ -1,5 +1,4 @@
-use Rattle.std.proofs.Common.{◌≡◌, ◌<◌, ◌∷◌, refl, drop-cons, length, drop, sym, ◌∙◌, rules}
-use mir.Syntax.{w64}
+use Rattle.std.proofs.Common.{◌≡◌, ◌<◌, ◌∷◌, refl, drop-cons, length, drop, sym, ◌∙◌, rules, w64}
 use Rattle.std.proofs.lemmas.Int.{to_z-of_z}
 use Rattle.tree.specs.Subtree.{entries_at}
 use Rattle.tree.proofs.Placing.{entries_from_header}

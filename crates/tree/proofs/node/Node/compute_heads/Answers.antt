@@ -1,5 +1,4 @@
-use Rattle.std.proofs.Common.{◌<◌, ◌≤◌, ◌∙◌, length, refl, ap, sym, arith}
-use Rattle.std.proofs.lemmas.List.{length-set}
+use Rattle.std.proofs.Common.{◌<◌, ◌≤◌, ◌∙◌, length, refl, ap, sym, arith, length-set}
 use Rattle.tree.specs.Heads.{head_at}
 use Rattle.tree.specs.Node.{entries_of, keys_of}
 use Rattle.tree.proofs.HeadChanges.{head_next, head_read, keys_count, map_whole}

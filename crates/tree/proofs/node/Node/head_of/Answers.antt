@@ -1,7 +1,4 @@
-use Rattle.std.proofs.Common.{◌≡◌, ◌<◌, ◌∙◌, sym, arith}
-use Rattle.std.specs.Prelude.{slice_index_or}
-use Rattle.std.proofs.lemmas.Bool.{eqb-true}
-use Rattle.std.proofs.lemmas.List.{length-take-le}
+use Rattle.std.proofs.Common.{◌≡◌, ◌<◌, ◌∙◌, sym, arith, slice_index_or, eqb-true, length-take-le}
 use Rattle.tree.specs.Heads.{head_at}
 use Rattle.tree.specs.Node.{key_heads_of}
 use Rattle.tree.proofs.HeadChanges.{key_agrees, key_there, head_there}

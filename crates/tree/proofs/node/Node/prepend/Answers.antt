@@ -1,5 +1,4 @@
-use Rattle.std.proofs.Common.{arith, ◌≡◌, ◌≤◌, ◌+◌, ◌-◌, length}
-use Rattle.std.proofs.lemmas.List.{length-take-le}
+use Rattle.std.proofs.Common.{arith, ◌≡◌, ◌≤◌, ◌+◌, ◌-◌, length, length-take-le}
 use Rattle.tree.proofs.Splicing.{take-spliced_before}
 use Rattle.tree.proofs.node.Node.prepend.Goals as goal
 

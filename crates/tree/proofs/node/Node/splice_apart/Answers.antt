@@ -1,5 +1,4 @@
-use Rattle.std.proofs.Common.{rules, ◌≡◌, ◌≤◌, ◌++◌, ◌∙◌, true, length, take, drop, refl, sym, arith}
-use Rattle.std.specs.List.{All}
+use Rattle.std.proofs.Common.{rules, ◌≡◌, ◌≤◌, ◌++◌, ◌∙◌, true, length, take, drop, refl, sym, arith, All}
 use Rattle.std.proofs.lemmas.List.{length-map, map-append}
 use Rattle.tree.specs.declared.entry.Entry.{Entry}
 use Rattle.tree.specs.Heads.{AreHeads, IsKnown, KeyBytes, KeyHeads}

@@ -1,7 +1,6 @@
-use Rattle.std.proofs.Common.{arith, refl, ◌≡◌, ◌∙◌, ◌≤◌, ◌-◌}
+use Rattle.std.proofs.Common.{arith, refl, ◌≡◌, ◌∙◌, ◌≤◌, ◌-◌, length-take-le}
 use Rattle.std.specs.List.{copy_within}
 use Rattle.std.proofs.lemmas.Grind.{common_steps}
-use Rattle.std.proofs.lemmas.List.{length-take-le}
 use Rattle.tree.proofs.Entries.{take-removed}
 use Rattle.tree.proofs.node.Node.split_off.Goals as goal
 
