@@ -1,8 +1,7 @@
 -- Whether a version is above another, of items and of the entries for them.
 use Rattle.std.proofs.Common.{◌≡◌, Bool, true, false, List, map, IsTrue, ◌↔◌, All, Any, int_le, arith, ℤ, ◌<ℤ◌, ◌≤ℤ◌, w64, SFits, to_z, of_z}
 use Rattle.std.proofs.lemmas.Int.{ints, to_z-of_z}
-use Rattle.tree.specs.declared.entry.Entry.{Entry}
-use Rattle.tree.specs.Item.{Item, item_of}
+use Rattle.tree.proofs.Words.{Entry, Item, item_of}
 use Rattle.tree.proofs.GreatestParts.{Bounds}
 use Rattle.tree.proofs.callers.Partitions.{not_both}
 use Rattle.keys.proofs.callers.SomeElement.{Any-map, Any-unmap}

@@ -4,9 +4,7 @@ use Rattle.std.specs.FinMap as map
 use Rattle.std.specs.Ordering.{nat_cmp, eq_by_cmp}
 use Rattle.std.specs.Cmp.{nat_cmp_total, eq_by_cmp_equiv}
 use Rattle.std.proofs.lemmas.Bool.Decides.{nat_tests, eqb_tells}
-use Rattle.arena.specs.Arena.{Arena, Record, IsLive, record_at, key_at, spare_of, with_header}
-use Rattle.tree.specs.declared.node.Node.{Node}
-use Rattle.tree.specs.Replace.{Changes, IsKeyless}
+use Rattle.tree.proofs.Words.{Arena, Record, IsLive, record_at, key_at, spare_of, with_header, Node, Changes, IsKeyless}
 use Rattle.tree.proofs.callers.Times.{times, once, once_same, once_cases, none_or_some, times_if_contains, contains_if_times, times_unless_contains, once_if_distinct, distinct_if_once}
 use Rattle.tree.proofs.Frames.{Agree}
 

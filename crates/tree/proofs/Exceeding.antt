@@ -3,9 +3,7 @@ use Rattle.std.proofs.Common.{◌≡◌, ℕ, ◌-◌, Bool, true, List, [], ◌
 use Rattle.std.proofs.Math.Seq.{drop-append_seam}
 use Rattle.std.proofs.lemmas.Int.{ints, to_z-of_z}
 use Rattle.keys.proofs.callers.SomeElement.{Any-weaker, Any-first, Any-later, Any-cases}
-use Rattle.tree.specs.Item.{Item, IsMost}
-use Rattle.tree.specs.Path.{IsPartitioned, between, from_last, items_below}
-use Rattle.tree.specs.Tree.{IsLast}
+use Rattle.tree.proofs.Words.{Item, IsMost, IsPartitioned, between, from_last, items_below, IsLast}
 use Rattle.tree.proofs.Above.{IsAbove}
 use Rattle.tree.proofs.FromLast.{last_and_between}
 

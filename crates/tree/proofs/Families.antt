@@ -2,11 +2,7 @@
 use Rattle.std.proofs.Common.{◌≡◌, inl, inr, ℕ, suc, ◌+◌, ◌≤◌, List, ◌∷◌, ◌++◌, length, length-append, ap, ◌∙◌, arith}
 use Rattle.std.proofs.lemmas.List.Concat.{flat_map-append}
 use Rattle.std.proofs.lemmas.List.Elements.{All-append}
-use Rattle.arena.specs.Arena.{Arena, IsLive}
-use Rattle.tree.specs.declared.entry.Entry.{Entry}
-use Rattle.tree.specs.declared.node.Node.{Node}
-use Rattle.tree.specs.Subtree.{entries_at, items_in, slots_in, IsSubtree}
-use Rattle.tree.specs.Replace.{items_of, slots_of, AreChildren}
+use Rattle.tree.proofs.Words.{Arena, IsLive, Entry, Node, entries_at, items_in, slots_in, IsSubtree, items_of, slots_of, AreChildren}
 use Rattle.tree.proofs.callers.Times.{times, none_or_some, times-append}
 use Rattle.tree.proofs.Frames.{Agree, IsRight, items_of_same, slots_of_same, children_same}
 use Rattle.tree.proofs.Changing.{Moves, moves_beside, moves_agree}

@@ -2,8 +2,7 @@
 use Rattle.std.proofs.Common.{rules, ◌≡◌, List, [], ◌∷◌, Option, Some, None, MatchOption, map, flat_map, All, Any, ap, inl, inr, arith, ℤ, ◌≤ℤ◌}
 use Rattle.std.proofs.lemmas.Int.{ints}
 use Rattle.std.proofs.lemmas.List.Elements.{All-nil, All-head, All-tail, All-append, All-weaker, All-map}
-use Rattle.tree.specs.declared.entry.Entry.{Entry}
-use Rattle.tree.specs.Item.{Item, Tells, IsGreatest, item_of, version_of}
+use Rattle.tree.proofs.Words.{Entry, Item, Tells, IsGreatest, item_of, version_of}
 use Rattle.keys.proofs.callers.SomeElement.{Any-none, Any-cases, Any-left, Any-right, Any-map}
 
 -- this is the greatest version of them, or there are none of them

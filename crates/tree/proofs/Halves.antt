@@ -2,12 +2,7 @@
 -- children between, and those of the child that the second bound is in.
 use Rattle.std.proofs.Common.{◌≡◌, ℕ, ◌+◌, ◌-◌, ◌<◌, ◌≤◌, Bool, true, false, List, ◌++◌, length, get_or, flat_map, All, arith, slice_range}
 use Rattle.std.proofs.lemmas.List.Elements.{All-take, All-drop}
-use Rattle.arena.specs.Arena.{Arena}
-use Rattle.tree.specs.declared.entry.Entry.{Entry}
-use Rattle.tree.specs.declared.node.Node.{Node}
-use Rattle.tree.specs.Item.{Item, Tells}
-use Rattle.tree.specs.Path.{IsPartitioned}
-use Rattle.tree.specs.Subtree.{IsSubtree, items_in}
+use Rattle.tree.proofs.Words.{Arena, Entry, Node, Item, Tells, IsPartitioned, IsSubtree, items_in}
 use Rattle.tree.proofs.Spans.{span}
 use Rattle.tree.proofs.Looks.{IsLook, look_apart, look_one, look_two, look_tell, child_subtree, child_tells, child_from, child_to, first_inside, last_inside}
 

@@ -4,9 +4,7 @@ use Rattle.std.specs.List.{AllZip, Contains}
 use Rattle.std.proofs.lemmas.List.{get_or-map, get_or-take, length-map, length-take, length-take-le, drop_at, map-append, map-set, map_more, set-get_or, take_all, take_at, take-map, drop-map, take_more_set}
 use Rattle.std.proofs.lemmas.Option.{slice_get_within, get_or_from_slice_get}
 use Rattle.std.proofs.lemmas.List.Elements.{All-nil, All-cons, All-append, All-contains, All-drop, All-more, All-set, All-take}
-use Rattle.tree.specs.declared.entry.Entry.{Entry}
-use Rattle.tree.specs.Heads.{KeyBytes, IsKnown, Begins, KeyHeads, AreHeads, HasPrefix, IsHeadBeside, IsTargetHead, head_behind, head_at}
-use Rattle.tree.specs.Node.{keys_of}
+use Rattle.tree.proofs.Words.{Entry, KeyBytes, IsKnown, Begins, KeyHeads, AreHeads, HasPrefix, IsHeadBeside, IsTargetHead, head_behind, head_at, keys_of}
 use Rattle.tree.proofs.Headed.{all_known, begins_if_long}
 use Rattle.tree.proofs.HeadOrder.{take_fewer}
 use Rattle.tree.proofs.callers.Partitions.{All-front, All-back}

@@ -2,11 +2,7 @@
 use Rattle.std.proofs.Common.{rules, ◌≡◌, ◌≢◌, ◌⊎◌, inl, inr, ℕ, ◌≤◌, List, [], ◌∷◌, length, map, take, Option, Some, None, option_map, unwrap_or, refl, ap, arith, ◌∙◌, IfSome, All}
 use Rattle.std.proofs.lemmas.Option.{IfSome_then}
 use Rattle.std.proofs.lemmas.List.Elements.{All-head, All-tail}
-use Rattle.arena.specs.Arena.{Arena, record_at, header_at}
-use Rattle.tree.specs.declared.node.Node.{Node}
-use Rattle.tree.specs.Heads.{KeyBytes, IsKnown, Begins, KeyHeads, AreHeads, AllAreHeads, head_at}
-use Rattle.tree.specs.Node.{entries_of, keys_of, key_heads_of, all_heads_of}
-use Rattle.tree.specs.Subtree.{entries_at}
+use Rattle.tree.proofs.Words.{Arena, record_at, header_at, Node, KeyBytes, IsKnown, Begins, KeyHeads, AreHeads, AllAreHeads, head_at, entries_of, keys_of, key_heads_of, all_heads_of, entries_at}
 use Rattle.std.specs.FinMap as finite
 use Rattle.std.specs.Cmp.{nat_cmp_total}
 use Rattle.tree.proofs.Changing.{same_number}

@@ -2,13 +2,7 @@
 use Rattle.std.proofs.Common.{◌≡◌, ℕ, ◌+◌, ◌-◌, Bool, true, false, not, List, [], ◌∷◌, ◌++◌, Option, Some, map, take, drop, filter, flat_map, All, refl, sym, ◌∙◌, ap, inl, inr}
 use Rattle.std.proofs.lemmas.Bool.{cases_Bool}
 use Rattle.std.proofs.lemmas.List.Elements.{All-head, All-drop, filter-append}
-use Rattle.arena.specs.Arena.{Arena, header_at}
-use Rattle.tree.specs.declared.entry.Entry.{Entry}
-use Rattle.tree.specs.declared.node.Node.{Node}
-use Rattle.tree.specs.Item.{Item, Tells, item_of}
-use Rattle.tree.specs.Node.{entries_of}
-use Rattle.tree.specs.Path.{index_in, behind, behind_leaf, first_key}
-use Rattle.tree.specs.Subtree.{entries_at, items_in}
+use Rattle.tree.proofs.Words.{Arena, header_at, Entry, Node, Item, Tells, item_of, entries_of, index_in, behind, behind_leaf, first_key, entries_at, items_in}
 use Rattle.tree.proofs.callers.Partitions.{none_pass, none_fail}
 use Rattle.tree.proofs.Found.{IsFound, entries_read}
 

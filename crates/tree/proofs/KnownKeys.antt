@@ -1,11 +1,7 @@
 -- What holds of all keys of entries, as that they are known.
 use Rattle.std.proofs.Common.{◌≡◌, ℕ, ◌<◌, List, length, get_or, option_map, ap, arith, All}
 use Rattle.std.proofs.lemmas.List.{get_or-map, length-map}
-use Rattle.arena.specs.Arena.{Arena, with_header}
-use Rattle.tree.specs.declared.node.Node.{Node}
-use Rattle.tree.specs.declared.entry.Entry.{Entry}
-use Rattle.tree.specs.Heads.{KeyBytes, AllAreHeads, AreHeads}
-use Rattle.tree.specs.Node.{keys_of, key_heads_of, all_heads_of}
+use Rattle.tree.proofs.Words.{Arena, with_header, Node, Entry, KeyBytes, AllAreHeads, AreHeads, keys_of, key_heads_of, all_heads_of}
 use Rattle.tree.proofs.Headed.{headed_put}
 use Rattle.tree.proofs.Placing.{put_record_is, put_others}
 

@@ -1,12 +1,7 @@
 -- A leaf of which a run is swept of expired items that begins with the last item below the bound.
 use Rattle.std.proofs.Common.{◌≡◌, ℕ, ℤ, ◌+◌, ◌-◌, ◌<◌, ◌≤◌, Bool, List, Option, [], ◌∷◌, ◌++◌, pos, length, get_or, take, drop, filter, map, sym, ◌∙◌, ap, arith, refl, length-drop}
 use Rattle.std.proofs.lemmas.List.{take_more, drop_more, map-append, length-map, length-take-le, take-append-drop, drop-drop}
-use Rattle.tree.specs.declared.entry.Entry.{Entry}
-use Rattle.tree.specs.declared.expiring.Removal.{Removal}
-use Rattle.tree.specs.Item.{Item, item_of, version_of}
-use Rattle.tree.specs.Path.{IsPartitioned, first_key}
-use Rattle.tree.specs.Expire.{RemovesExpired}
-use Rattle.tree.specs.Tree.{IsLast, unexpired, expired}
+use Rattle.tree.proofs.Words.{Entry, Removal, Item, item_of, version_of, IsPartitioned, first_key, RemovesExpired, IsLast, unexpired, expired}
 use Rattle.tree.proofs.Removing.{run, all_stay}
 use Rattle.tree.proofs.WrittenLeaf.{items_parted}
 

@@ -4,13 +4,7 @@ use Rattle.std.proofs.lemmas.Bool.{cases_Bool}
 use Rattle.std.proofs.lemmas.Option.{slice_get-get_or}
 use Rattle.std.proofs.lemmas.List.{drop_all, drop_more, take-append-drop, append-nil, append_assoc, map-append}
 use Rattle.std.proofs.lemmas.List.Elements.{All-head, All-append, All-map, filter-append}
-use Rattle.arena.specs.Arena.{Arena}
-use Rattle.tree.specs.declared.entry.Entry.{Entry}
-use Rattle.tree.specs.declared.node.Node.{Node}
-use Rattle.tree.specs.Item.{Item, item_of}
-use Rattle.tree.specs.Path.{IsPartitioned, index_in, child_in, leaf_in, before_leaf, behind_leaf, items_below}
-use Rattle.tree.specs.Subtree.{entries_at, items_in, IsSubtree}
-use Rattle.tree.specs.Tree.{IsLast}
+use Rattle.tree.proofs.Words.{Arena, Entry, Node, Item, item_of, IsPartitioned, index_in, child_in, leaf_in, before_leaf, behind_leaf, items_below, entries_at, items_in, IsSubtree, IsLast}
 use Rattle.tree.proofs.callers.Times.{none_or_some}
 use Rattle.tree.proofs.callers.Partitions.{not_both, none_pass, none_passed, none_fail, IsPartitioned-parts}
 use Rattle.tree.proofs.HeadCounts.{passing_at}

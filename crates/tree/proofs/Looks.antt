@@ -1,20 +1,11 @@
 -- A look at the items from one bound to another, below a node.
 use Rattle.std.proofs.Common.{rules, ◌≡◌, ℕ, zero, suc, ◌+◌, ◌-◌, ◌<◌, ◌≤◌, Bool, true, false, List, ◌++◌, Option, Some, None, option_map, length, get_or, take, drop, filter, flat_map, map, All, IfSome, sym, refl, not, ◌&&◌, ◌∙◌, ap, subst, arith, slice_range}
 use Rattle.std.proofs.lemmas.List.{get_or_read}
-use Rattle.arena.specs.Arena.{Arena, header_at}
-use Rattle.tree.specs.declared.entry.Entry.{Entry}
-use Rattle.tree.specs.declared.node.Node.{Node}
-use Rattle.tree.specs.Item.{Item, Tells, item_of}
-use Rattle.tree.specs.Node.{entries_of}
-use Rattle.tree.specs.Path.{IsPartitioned, below_from, below_to}
-use Rattle.tree.specs.Subtree.{entries_at, items_in, IsChild, IsSubtree}
+use Rattle.tree.proofs.Words.{Arena, header_at, Entry, Node, Item, Tells, item_of, entries_of, IsPartitioned, below_from, below_to, entries_at, items_in, IsChild, IsSubtree, CanStep, KeyBytes, IsPrefixLenAt, CanReach}
 use Rattle.tree.proofs.Ways.{children_partitioned, pass_before, fail_behind_index, index_inside}
 use Rattle.tree.proofs.Found.{partitioned-entries, entries_read, read_partitioned}
 use Rattle.tree.proofs.Headed.{headed_at}
 use Rattle.tree.proofs.Placing.{entries_from_header}
-use Rattle.tree.specs.Finding.{CanStep}
-use Rattle.tree.specs.Heads.{KeyBytes, IsPrefixLenAt}
-use Rattle.tree.specs.Reached.{CanReach}
 use Rattle.tree.proofs.Keys.{filter-items}
 use Rattle.tree.proofs.Spans.{IsPartitioned-none, IsPartitioned-all, span, span_range, span_of_child, span_of_two, fewer_before}
 

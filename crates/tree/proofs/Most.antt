@@ -4,8 +4,7 @@ use Rattle.std.specs.Int.{int_max}
 use Rattle.std.proofs.lemmas.Int.{ints, clamps, to_z-of_z}
 use Rattle.std.proofs.lemmas.List.Elements.{All-nil, All-append, All-filter}
 use Rattle.keys.proofs.callers.SomeElement.{Any-parts, Any-left, Any-right}
-use Rattle.tree.specs.declared.entry.Entry.{Entry}
-use Rattle.tree.specs.Item.{Item, Tells, IsGreatestWith, greater_of, version_of}
+use Rattle.tree.proofs.Words.{Entry, Item, Tells, IsGreatestWith, greater_of, version_of}
 use Rattle.tree.proofs.callers.Partitions.{All-front, All-back}
 use Rattle.tree.proofs.Greatest.{one_of_both}
 use Rattle.tree.proofs.GreatestParts.{IsPeak, IsPeak-children, Bounds, Reaches, higher}

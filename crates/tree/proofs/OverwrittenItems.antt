@@ -2,12 +2,7 @@
 use Rattle.std.proofs.Common.{◌≡◌, ◌≢◌, ℕ, ℤ, ◌+◌, ◌≤◌, inl, inr, Bool, true, false, List, [], ◌∷◌, ◌++◌, Option, Some, None, IsTrue, length, refl, unwrap_or, ap, arith, length-append}
 use Rattle.std.proofs.lemmas.Bool.{cases_Bool}
 use Rattle.std.proofs.lemmas.List.{nil_from_length}
-use Rattle.tree.specs.declared.overwrite.Written.{Written}
-use Rattle.tree.specs.declared.overwrite.Written.TheVariants.{Partly, Whole}
-use Rattle.tree.specs.Item.{Item}
-use Rattle.tree.specs.Overwrite.{Overwrites, first_is_below, put_of}
-use Rattle.tree.specs.Path.{IsPartitioned, items_below, behind, between, first_key}
-use Rattle.tree.specs.Tree.{ended_by}
+use Rattle.tree.proofs.Words.{Written, Partly, Whole, Item, Overwrites, first_is_below, put_of, IsPartitioned, items_below, behind, between, first_key, ended_by}
 use Rattle.tree.proofs.callers.Partitions.{IsPartitioned-parts}
 use Rattle.tree.proofs.Inserting.{ended_some}
 use Rattle.tree.proofs.Overwriting.{between_is, first_tells}

@@ -1,12 +1,7 @@
 -- Items of which a run is swept of expired items: what is said of a leaf's is said of all of them, and how many stay.
 use Rattle.std.proofs.Common.{◌≡◌, ◌≢◌, ℕ, ℤ, ◌+◌, ◌≤◌, ◌≤ℤ◌, int_lt, Bool, true, false, inl, inr, List, [], ◌∷◌, ◌++◌, Option, None, length, sym, ◌∙◌, ap, arith, append_assoc, length-append}
 use Rattle.std.proofs.lemmas.Int.{ints}
-use Rattle.tree.specs.declared.expiring.Removal.{Removal}
-use Rattle.tree.specs.Item.{Item}
-use Rattle.tree.specs.Path.{items_below}
-use Rattle.tree.specs.Expire.{RemovesExpired, GivesUnexpired}
-use Rattle.tree.specs.Tree.{unexpired}
-use Rattle.tree.specs.Walk.{IsChangedWithin}
+use Rattle.tree.proofs.Words.{Removal, Item, items_below, RemovesExpired, GivesUnexpired, unexpired, IsChangedWithin}
 use Rattle.tree.proofs.callers.Times.{none_or_some}
 use Rattle.tree.proofs.Inserting.{length-partitioned}
 use Rattle.tree.proofs.Keys.{behind-parts, first_key-append}

@@ -4,8 +4,7 @@ use Rattle.std.proofs.lemmas.Bool.{and_right, cases_Bool}
 use Rattle.std.proofs.lemmas.Grind.{flat_map-append}
 use Rattle.std.proofs.lemmas.List.{append_assoc, drop-drop, drop-take, drop_more, take_more}
 use Rattle.std.proofs.lemmas.List.Elements.{All-head, All-tail, All-take, All-drop, filter-append}
-use Rattle.tree.specs.declared.entry.Entry.{Entry}
-use Rattle.tree.specs.Path.{IsPartitioned}
+use Rattle.tree.proofs.Words.{Entry, IsPartitioned}
 use Rattle.tree.proofs.callers.Partitions.{passed, failed, All-front, All-back}
 use Rattle.tree.proofs.Ways.{around_element}
 

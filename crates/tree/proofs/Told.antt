@@ -5,13 +5,7 @@ use Rattle.std.proofs.lemmas.Bool.{cases_Bool}
 use Rattle.std.proofs.lemmas.Grind.{flat_map-append}
 use Rattle.std.proofs.lemmas.List.{length-map}
 use Rattle.std.proofs.lemmas.List.Elements.{All-nil, filter-append}
-use Rattle.arena.specs.Arena.{Arena}
-use Rattle.tree.specs.declared.entry.Entry.{Entry}
-use Rattle.tree.specs.declared.node.Node.{Node}
-use Rattle.tree.specs.Item.{Item, Tells, item_of}
-use Rattle.tree.specs.Path.{IsPartitioned, from_last}
-use Rattle.tree.specs.Question.{IsTold}
-use Rattle.tree.specs.Subtree.{items_in}
+use Rattle.tree.proofs.Words.{Arena, Entry, Node, Item, Tells, item_of, IsPartitioned, from_last, IsTold, items_in}
 use Rattle.tree.proofs.Above.{IsAbove, none_above, leaf_above}
 use Rattle.tree.proofs.callers.Partitions.{All-front, not_both, none_pass, none_fail, IsPartitioned-parts, rest_fails}
 use Rattle.tree.proofs.FromLast.{from_last_of, leaf_from_last, none_told}

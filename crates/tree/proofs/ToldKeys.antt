@@ -1,14 +1,7 @@
 -- What is known of the first keys of nodes, where a search goes on with the last entry below the bound.
 use Rattle.std.proofs.Common.{◌≡◌, ℕ, ◌+◌, ◌-◌, ◌<◌, ◌≤◌, Bool, true, false, List, [], ◌∷◌, Some, None, length, get_or, slice_get, filter, flat_map, All, refl, sym, arith, ◌≢◌, Option, unwrap_or, get_or-drop, get_or-take, length-drop, length-take-le}
 use Rattle.std.proofs.lemmas.Option.{get_or_from_slice_get, slice_get_within}
-use Rattle.arena.specs.Arena.{Arena}
-use Rattle.tree.specs.declared.entry.Entry.{Entry}
-use Rattle.tree.specs.declared.node.Node.{Node}
-use Rattle.tree.specs.Heads.{KeyBytes, IsPrefixLenAt}
-use Rattle.tree.specs.Item.{Item, Tells}
-use Rattle.tree.specs.Reached.{CanReach}
-use Rattle.tree.specs.Path.{IsPartitioned, index_in}
-use Rattle.tree.specs.Subtree.{entries_at, items_in}
+use Rattle.tree.proofs.Words.{Arena, Entry, Node, KeyBytes, IsPrefixLenAt, Item, Tells, CanReach, IsPartitioned, index_in, entries_at, items_in}
 use Rattle.tree.proofs.callers.Partitions.{none_pass, rest_fails, length-items_below}
 use Rattle.tree.proofs.FirstKeys.{first_tells, items_under, node_items, node_tells}
 use Rattle.tree.proofs.Spans.{before_partitioned, behind_partitioned}

@@ -5,13 +5,7 @@ use Rattle.std.proofs.lemmas.Option.{slice_get-get_or}
 use Rattle.std.proofs.lemmas.List.{take-append-drop, drop_more}
 use Rattle.std.proofs.lemmas.Grind.{flat_map-append}
 use Rattle.std.proofs.lemmas.List.Elements.{All-nil, All-cons, All-head, All-tail, All-append}
-use Rattle.arena.specs.Arena.{Arena}
-use Rattle.tree.specs.declared.entry.Entry.{Entry}
-use Rattle.tree.specs.declared.node.Node.{Node}
-use Rattle.tree.specs.Item.{Item, Tells}
-use Rattle.tree.specs.Path.{IsPartitioned, index_in, child_in}
-use Rattle.tree.specs.Replace.{items_of}
-use Rattle.tree.specs.Subtree.{entries_at, items_in, IsChild, IsSubtree}
+use Rattle.tree.proofs.Words.{Arena, Entry, Node, Item, Tells, IsPartitioned, index_in, child_in, items_of, entries_at, items_in, IsChild, IsSubtree}
 use Rattle.tree.proofs.callers.Partitions.{none_pass, IsPartitioned-parts, rest_fails, length-items_below, All-back}
 
 -- an element of a list, between those before it and those behind it

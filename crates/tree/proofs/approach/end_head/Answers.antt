@@ -1,6 +1,5 @@
 use Rattle.std.proofs.Common.{rules, Some, IsTrue, sym, ◌∙◌, arith, leb-true}
-use Rattle.tree.specs.Heads.{HasPrefix}
-use Rattle.tree.specs.Node.{key_heads_of}
+use Rattle.tree.proofs.Words.{HasPrefix, key_heads_of}
 use Rattle.tree.proofs.Headed.{key_heads_kept}
 use Rattle.tree.proofs.NearBounds.{agrees_too, begin_alike, fewer_alike}
 use Rattle.tree.proofs.callers.Partitions.{not_both}

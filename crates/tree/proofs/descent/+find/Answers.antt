@@ -1,7 +1,5 @@
 use Rattle.std.proofs.Common.{length, ◌<◌, rules, ℕ, get_or, ◌≤◌, ◌∙◌, ap, sym, refl, arith}
-use Rattle.tree.specs.Node.{entries_of}
-use Rattle.tree.specs.Path.{index_in}
-use Rattle.tree.specs.Tree.{least_of}
+use Rattle.tree.proofs.Words.{entries_of, index_in, least_of}
 use Rattle.tree.proofs.Found.{IsFound, entries_read, found, found_subtree, found_partitioned, found_leaf}
 use Rattle.tree.proofs.FirstKeys.{known_below, some_below}
 use Rattle.tree.proofs.Headed.{headed_at}

@@ -3,8 +3,7 @@ use Rattle.std.proofs.Math.Bool.{and-false}
 use Rattle.std.proofs.lemmas.Int.{to_z-of_z}
 use Rattle.std.proofs.lemmas.List.{length-map, map-append}
 use Rattle.std.proofs.lemmas.Option.{slice_get_read}
-use Rattle.tree.specs.Item.{item_of}
-use Rattle.tree.specs.Node.{entries_of}
+use Rattle.tree.proofs.Words.{item_of, entries_of}
 use Rattle.tree.proofs.Removing.{one_stays, one_goes, not_below, is_below, all_kept, all_expired}
 use Rattle.tree.proofs.expiring.remove_expired.Goals as goal
 use Rattle.tree.proofs.expiring.remove_expired.Goals.{then-last-edge, else-last-edge, then-version-edge, else-version-edge}

@@ -1,9 +1,8 @@
 use Rattle.std.proofs.Common.{◌≡◌, ◌<◌, ◌∷◌, refl, drop-cons, length, drop, sym, ◌∙◌, rules, w64}
 use Rattle.std.proofs.lemmas.Int.{to_z-of_z}
-use Rattle.tree.specs.Subtree.{entries_at}
+use Rattle.tree.proofs.Words.{entries_at, IsKnown}
 use Rattle.tree.proofs.Placing.{entries_from_header}
 use Rattle.tree.proofs.Telling.{tells_items}
-use Rattle.tree.specs.Heads.{IsKnown}
 use Rattle.tree.proofs.Headed.{common_prefix_len_at}
 use Rattle.tree.proofs.KnownKeys.{key_of_one}
 use Rattle.tree.proofs.rebalance.entry_for.Goals as goal

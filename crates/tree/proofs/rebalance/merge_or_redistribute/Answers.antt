@@ -1,11 +1,7 @@
 use Rattle.std.proofs.Common.{◌≡◌, ◌≤◌, ◌+◌, ℕ, List, [], ◌∷◌, append-nil, length, length-append, length-drop, length-set, length-take, get_or, ap, ◌∙◌, sym, arith, rules}
-use Rattle.tree.specs.declared.entry.Entry.{Entry}
-use Rattle.tree.specs.Node.{entries_of}
-use Rattle.tree.specs.Rebalancing.{AreTwo}
-use Rattle.tree.specs.Subtree.{entries_at}
+use Rattle.tree.proofs.Words.{Entry, entries_of, AreTwo, entries_at, least_of}
 use Rattle.std.proofs.lemmas.List.Elements.{All-nil, All-cons}
 use Rattle.tree.proofs.Changing.{moves_if_changes}
-use Rattle.tree.specs.Tree.{least_of}
 use Rattle.tree.proofs.Placing.{entries_from_header, live_if_some}
 use Rattle.tree.proofs.Sharing.{around_two, child_is, made, rebalanced_by, set_removed, set_both, IsMade}
 use Rattle.tree.proofs.Rebalancing.{apart_pair, live_subtree}

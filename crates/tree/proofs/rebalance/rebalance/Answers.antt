@@ -1,8 +1,5 @@
 use Rattle.std.proofs.Common.{◌≡◌, ◌≤◌, ◌-◌, length, length-set, get_or, ap, ◌∙◌, arith, rules}
-use Rattle.tree.specs.Rebalancing.{CanMerge}
-use Rattle.tree.specs.Node.{entries_of}
-use Rattle.tree.specs.Subtree.{entries_at}
-use Rattle.tree.specs.Tree.{least_of}
+use Rattle.tree.proofs.Words.{CanMerge, entries_of, entries_at, least_of}
 use Rattle.tree.proofs.Placing.{entries_from_header}
 use Rattle.tree.proofs.Sharing.{set_one}
 use Rattle.tree.proofs.Rebalancing.{live_subtree, rebalanced_by_entry, widened, filled_pair}

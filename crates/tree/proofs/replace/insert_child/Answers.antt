@@ -1,8 +1,5 @@
 use Rattle.std.proofs.Common.{◌≡◌, ◌+◌, [], ◌∷◌, ◌++◌, List, take, drop, refl, sym, ap, get_or, ◌∙◌, arith}
-use Rattle.arena.specs.Arena.{with_header}
-use Rattle.tree.specs.declared.entry.Entry.{Entry}
-use Rattle.tree.specs.Subtree.{entries_at}
-use Rattle.tree.specs.Replace.{child_at}
+use Rattle.tree.proofs.Words.{with_header, Entry, entries_at, child_at}
 use Rattle.tree.proofs.Changing.{changes_if_moves}
 use Rattle.tree.proofs.KnownKeys.{headed_header}
 use Rattle.tree.proofs.Placing.{entries_from_header, put_entries, put_live, put_moves}

@@ -1,8 +1,5 @@
 use Rattle.std.proofs.Common.{ℕ, ◌-◌, true, option_map, rules}
-use Rattle.tree.specs.Item.{Item, Tells, IsGreatestWith}
-use Rattle.tree.specs.Path.{below_from, below_to}
-use Rattle.tree.specs.Subtree.{items_in}
-use Rattle.tree.specs.Tree.{least_of}
+use Rattle.tree.proofs.Words.{Item, Tells, IsGreatestWith, below_from, below_to, items_in, least_of}
 use Rattle.tree.proofs.Spans.{span}
 use Rattle.tree.proofs.Looks.{IsLook, look_of, look_bound, from_asked, to_asked, ask_from, ask_to, ask_any, look_ordered, leaf_look}
 use Rattle.tree.proofs.Halves.{AreHalves, left_items, right_items, middle_items, left_span, right_span, left_tells, right_tells, middle_tells, left_subtree, left_from, left_to, right_subtree, right_to, apart, in_one, in_two}

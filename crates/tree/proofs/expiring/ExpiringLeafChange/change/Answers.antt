@@ -1,12 +1,6 @@
 use Rattle.std.proofs.Common.{rules, Bool, false, IsTrue, ◌∷◌, ℕ, ◌≡◌, ◌≢◌, ◌≤◌, ◌<◌, ◌+◌, ◌-◌, ◌∙◌, ◌++◌, ap, sym, refl, List, [], length, filter, take, drop, map, arith, w64}
 use Rattle.std.proofs.lemmas.Int.{to_z-of_z}
-use Rattle.arena.specs.Arena.{with_header}
-use Rattle.tree.specs.declared.entry.Entry.{Entry}
-use Rattle.tree.specs.Item.{Item, item_of}
-use Rattle.tree.specs.Node.{entries_of}
-use Rattle.tree.specs.Subtree.{entries_at}
-use Rattle.tree.specs.Expire.{GivesUnexpired}
-use Rattle.tree.specs.Tree.{unexpired, expired}
+use Rattle.tree.proofs.Words.{with_header, Entry, Item, item_of, entries_of, entries_at, GivesUnexpired, unexpired, expired}
 use Rattle.tree.proofs.ChangedLeaf.{leaf_can_step, leaf_changed, unchanged}
 use Rattle.tree.proofs.Headed.{headed_at}
 use Rattle.tree.proofs.LastRun.{leaf_unexpired, untouched}

@@ -2,8 +2,7 @@ use Rattle.std.proofs.Common.{rules, ◌≡◌, ◌∙◌, ℕ, List, Some, slic
 use Rattle.std.proofs.lemmas.List.{map-append}
 use Rattle.std.proofs.lemmas.List.Elements.{All-append}
 use Rattle.std.proofs.lemmas.Option.{slice_get_within, get_or_from_slice_get}
-use Rattle.tree.specs.Heads.{HasPrefix, IsKnown}
-use Rattle.tree.specs.Node.{key_heads_of, keys_of}
+use Rattle.tree.proofs.Words.{HasPrefix, IsKnown, key_heads_of, keys_of}
 use Rattle.tree.proofs.HeadChanges.{headed_joined, keys_there}
 use Rattle.tree.proofs.Headed.{all_known}
 use Rattle.tree.proofs.node.Node.append_with_heads.Goals.{then-self-other, else-self-other}

@@ -1,7 +1,6 @@
 use Rattle.std.proofs.Common.{◌≡◌, ◌≤◌, ◌-◌, ℕ, List, take, All, sym, subst, length, slice_get, arith, length-take-le}
 use Rattle.std.proofs.lemmas.List.Elements.{All-contains}
-use Rattle.tree.specs.Heads.{IsKnown, Begins}
-use Rattle.tree.specs.Node.{entries_of, keys_of}
+use Rattle.tree.proofs.Words.{IsKnown, Begins, entries_of, keys_of}
 use Rattle.tree.proofs.HeadChanges.{begin_fewer, last_there}
 use Rattle.tree.proofs.node.Node.beginning.Given.{Over}
 use Rattle.tree.proofs.node.Node.beginning.Goals as goal

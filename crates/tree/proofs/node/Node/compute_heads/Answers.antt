@@ -1,6 +1,5 @@
 use Rattle.std.proofs.Common.{◌<◌, ◌≤◌, ◌∙◌, length, refl, ap, sym, arith, length-set}
-use Rattle.tree.specs.Heads.{head_at}
-use Rattle.tree.specs.Node.{entries_of, keys_of}
+use Rattle.tree.proofs.Words.{head_at, entries_of, keys_of}
 use Rattle.tree.proofs.HeadChanges.{head_next, head_read, keys_count, map_whole}
 use Rattle.tree.proofs.node.Node.compute_heads.Goals as goal
 

@@ -1,8 +1,7 @@
 use Rattle.std.proofs.Common.{arith, refl, ◌<◌, ◌≤◌, ap, length, get_or, length-take-le}
 use Rattle.std.proofs.lemmas.List.Elements.{All-contains}
 use Rattle.std.proofs.Math.Seq.{take-set-lt, map-set}
-use Rattle.tree.specs.Heads.{IsKnown, head_at}
-use Rattle.tree.specs.Node.{entries_of, key_heads_of, keys_of}
+use Rattle.tree.proofs.Words.{IsKnown, head_at, entries_of, key_heads_of, keys_of}
 use Rattle.tree.proofs.HeadAt.{entry_there}
 use Rattle.tree.proofs.HeadChanges.{head_there, headed_set, key_agrees, key_there}
 use Rattle.tree.proofs.Headed.{all_known}

@@ -1,6 +1,5 @@
 use Rattle.std.proofs.Common.{◌≡◌, ◌<◌, ◌+◌, inl, get_or, get_or-take, refl, arith, length-take, lt-ltb}
-use Rattle.tree.specs.Heads.{IsTargetHead}
-use Rattle.tree.specs.Node.{entries_of, key_heads_of}
+use Rattle.tree.proofs.Words.{IsTargetHead, entries_of, key_heads_of}
 use Rattle.tree.proofs.HeadAt.{agrees_at, key_there, common_at, less_passes}
 use Rattle.tree.proofs.node.Node.first_prefix_len.Goals as goal
 

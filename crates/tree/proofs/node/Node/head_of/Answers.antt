@@ -1,6 +1,5 @@
 use Rattle.std.proofs.Common.{◌≡◌, ◌<◌, ◌∙◌, sym, arith, slice_index_or, eqb-true, length-take-le}
-use Rattle.tree.specs.Heads.{head_at}
-use Rattle.tree.specs.Node.{key_heads_of}
+use Rattle.tree.proofs.Words.{head_at, key_heads_of}
 use Rattle.tree.proofs.HeadChanges.{key_agrees, key_there, head_there}
 use Rattle.tree.proofs.node.Node.head_of.Goals as goal
 

@@ -1,9 +1,7 @@
 use Rattle.std.proofs.Common.{rules, ◌≡◌, ◌<◌, ◌∙◌, ℕ, List, Some, true, All, ap, sym, arith, eqb-true}
 use Rattle.std.proofs.lemmas.List.{length-map, length-take-le, map-append}
 use Rattle.std.proofs.lemmas.List.Elements.{All-append}
-use Rattle.tree.specs.declared.entry.Entry.{Entry}
-use Rattle.tree.specs.Heads.{AreHeads, HasPrefix, IsKnown, KeyBytes, KeyHeads}
-use Rattle.tree.specs.Node.{entries_of, key_heads_of, keys_of}
+use Rattle.tree.proofs.Words.{Entry, AreHeads, HasPrefix, IsKnown, KeyBytes, KeyHeads, entries_of, key_heads_of, keys_of}
 use Rattle.tree.proofs.callers.Partitions.{All-front, All-back}
 use Rattle.tree.proofs.HeadChanges.{headed_shared, key_there}
 use Rattle.tree.proofs.Headed.{all_known}

@@ -1,7 +1,6 @@
 use Rattle.std.proofs.Common.{arith, refl, ◌≡◌, ◌∙◌, ◌≤◌, ◌-◌, [], length-take-le}
 use Rattle.std.specs.List.{copy_within}
-use Rattle.tree.specs.Node.{entries_of, key_heads_of}
-use Rattle.tree.specs.declared.entry.Entry.{Entry}
+use Rattle.tree.proofs.Words.{entries_of, key_heads_of, Entry}
 use Rattle.tree.proofs.Entries.{take-removed}
 use Rattle.tree.proofs.HeadChanges.{headed_removed, map_spliced}
 use Rattle.tree.proofs.node.Node.remove.Goals as goal

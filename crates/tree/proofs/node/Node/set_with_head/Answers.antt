@@ -1,7 +1,6 @@
 use Rattle.std.proofs.Common.{rules, ◌≡◌, ◌<◌, ◌≤◌, ◌∙◌, inr, length, slice_index_or, slice_set, ap, sym, arith, eqb-true, length-set, length-take-le}
 use Rattle.std.proofs.Math.Seq.{take-set-lt, map-set}
-use Rattle.tree.specs.Heads.{KeyHeads}
-use Rattle.tree.specs.Node.{entries_of, key_heads_of, keys_of}
+use Rattle.tree.proofs.Words.{KeyHeads, entries_of, key_heads_of, keys_of}
 use Rattle.tree.proofs.HeadChanges.{head_known, headed_set, key_stays, known_set}
 use Rattle.tree.proofs.node.Node.set_with_head.Goals as goal
 

@@ -1,8 +1,7 @@
 use Rattle.std.proofs.Common.{◌≡◌, ◌<◌, ℕ, length, get_or, arith}
 use Rattle.std.proofs.Math.Nat.{min-le_left}
 use Rattle.std.proofs.lemmas.List.{get_or-map, length-map, take_all}
-use Rattle.tree.specs.declared.entry.Entry.{Entry}
-use Rattle.tree.specs.Node.{keys_of}
+use Rattle.tree.proofs.Words.{Entry, keys_of}
 use Rattle.tree.proofs.HeadChanges.{begin_of_first, first_empty, first_more}
 use Rattle.tree.proofs.node.heads.keys_prefix_len.Goals as goal
 use Rattle.tree.proofs.node.heads.keys_prefix_len.Goals.{then-not-is_empty, else-not-is_empty}
